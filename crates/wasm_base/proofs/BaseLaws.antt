@@ -1,0 +1,150 @@
+-- The laws of this crate's formats.
+use Rattle.std.proofs.Common.{pos, refl, arith}
+use Rattle.std.specs.Prelude.{IsUtf8}
+use Rattle.wasm_base.specs.Numbers.{wide, unsigned_text, signed_text}
+use Rattle.wasm_base.specs.Formats.{Format, u32, u64, s32, s64, s33, little_endian, byte, any_bytes, vec, frame, name, custom, wasm_module}
+use Rattle.wasm_base.specs.Reading.{UniqueReading, UniqueWholeReading, HasTexts, IsUniqueWide, IsUniqueWholeWide}
+use Rattle.wasm_base.specs.Texts.{vec_text, VecFits, frame_text, FrameFits}
+use Rattle.wasm_base.specs.Laws.{FitsUnsigned, FitsSigned32, FitsSigned64, NameFits}
+use Rattle.wasm_base.proofs.NumberLaws.{unsigned-alone, signed-alone, u32-alone}
+use Rattle.wasm_base.proofs.FormatLaws.{little_endian-alone, byte-alone, any_bytes-whole, pair-whole, vec-alone, frame-alone, such-alone}
+use Rattle.wasm_base.proofs.TextLaws.{u32_spelled, u64_spelled, s32_spelled, s64_spelled, s33_spelled, frame_spelled, name_spelled, vec_spelled}
+use Rattle.wasm_base.proofs.ModuleLaws.{module-whole}
+
+pub unique_wide : {X : Type 0} {F : Format X} → UniqueReading F → IsUniqueWide F
+unique_wide {F = F} f = record { alone = f.alone wide; wider = f.spellings.wider }
+
+pub unique_whole_wide : {X : Type 0} {F : Format X} → UniqueWholeReading F → IsUniqueWholeWide F
+unique_whole_wide {F = F} f = record { whole = f.whole wide; wider = f.spellings.wider }
+
+-- ---- numbers
+
+pub u64-alone : UniqueReading u64
+u64-alone = unsigned-alone 64 (omega arith)
+
+pub s32-alone : UniqueReading s32
+s32-alone = signed-alone 32 (omega arith)
+
+pub s64-alone : UniqueReading s64
+s64-alone = signed-alone 64 (omega arith)
+
+pub s33-alone : UniqueReading s33
+s33-alone =
+    let f = signed-alone 33 (omega arith) in
+    record {
+      alone = λ mode s t r q x y h g e. let a = f.alone mode s t r q (pos x) (pos y) h g e in (cc (a.0), a.1, a.2);
+      spellings = record {
+        one = λ s t x h g. f.spellings.one s t (pos x) h g;
+        wider = λ s x h. f.spellings.wider s (pos x) h;
+        shorter = λ s x h. f.spellings.shorter s (pos x) h;
+      };
+    }
+
+pub u32-texts : HasTexts u32 (FitsUnsigned 32) unsigned_text
+u32-texts = record { spelled = u32_spelled }
+
+pub u64-texts : HasTexts u64 (FitsUnsigned 64) unsigned_text
+u64-texts = record { spelled = u64_spelled }
+
+pub s32-texts : HasTexts s32 FitsSigned32 signed_text
+s32-texts = record { spelled = s32_spelled }
+
+pub s64-texts : HasTexts s64 FitsSigned64 signed_text
+s64-texts = record { spelled = s64_spelled }
+
+pub s33-texts : HasTexts s33 (FitsUnsigned 32) (λ n. signed_text (pos n))
+s33-texts = record { spelled = s33_spelled }
+
+pub ruleset numbers = (u32-alone, u64-alone, s32-alone, s64-alone, s33-alone, u32-texts, u64-texts, s32-texts, s64-texts, s33-texts)
+
+-- ---- fixed bytes, names, vectors, frames, modules
+
+pub fixed_4-alone : UniqueReading (little_endian 4)
+fixed_4-alone = little_endian-alone 4
+
+pub fixed_8-alone : UniqueReading (little_endian 8)
+fixed_8-alone = little_endian-alone 8
+
+pub fixed_16-alone : UniqueReading (little_endian 16)
+fixed_16-alone = little_endian-alone 16
+
+pub frame-bytes-alone : UniqueReading (frame any_bytes)
+frame-bytes-alone = frame-alone any_bytes-whole
+
+pub name-alone : UniqueReading name
+name-alone = such-alone IsUtf8 frame-bytes-alone
+
+pub vec-bytes-alone : UniqueReading (vec byte)
+vec-bytes-alone = vec-alone byte-alone
+
+pub vec-u32-alone : UniqueReading (vec u32)
+vec-u32-alone = vec-alone u32-alone
+
+pub vec-names-alone : UniqueReading (vec name)
+vec-names-alone = vec-alone name-alone
+
+pub custom-alone : UniqueReading custom
+custom-alone = frame-alone (pair-whole name-alone any_bytes-whole)
+
+pub frame-texts : HasTexts (frame any_bytes) FrameFits frame_text
+frame-texts = record { spelled = λ bytes h. frame_spelled any_bytes bytes bytes h refl }
+
+pub name-texts : HasTexts name NameFits frame_text
+name-texts = record { spelled = λ bytes h. name_spelled bytes h.0 h.1 }
+
+pub vec-u32-texts : HasTexts (vec u32) (VecFits (FitsUnsigned 32)) (vec_text unsigned_text)
+vec-u32-texts = record { spelled = vec_spelled u32 (FitsUnsigned 32) unsigned_text u32_spelled }
+
+pub vec-names-texts : HasTexts (vec name) (VecFits NameFits) (vec_text frame_text)
+vec-names-texts = record { spelled = vec_spelled name NameFits frame_text (λ bytes h. name_spelled bytes h.0 h.1) }
+
+pub ruleset frames = (fixed_4-alone, fixed_8-alone, fixed_16-alone, frame-bytes-alone, name-alone, vec-bytes-alone, vec-u32-alone, vec-names-alone, custom-alone, module-whole, frame-texts, name-texts, vec-u32-texts, vec-names-texts)
+
+-- ---- padded numbers
+
+pub wide-u32 : IsUniqueWide u32
+wide-u32 = unique_wide u32-alone
+
+pub wide-u64 : IsUniqueWide u64
+wide-u64 = unique_wide u64-alone
+
+pub wide-s32 : IsUniqueWide s32
+wide-s32 = unique_wide s32-alone
+
+pub wide-s64 : IsUniqueWide s64
+wide-s64 = unique_wide s64-alone
+
+pub wide-s33 : IsUniqueWide s33
+wide-s33 = unique_wide s33-alone
+
+pub wide-fixed_4 : IsUniqueWide (little_endian 4)
+wide-fixed_4 = unique_wide fixed_4-alone
+
+pub wide-fixed_8 : IsUniqueWide (little_endian 8)
+wide-fixed_8 = unique_wide fixed_8-alone
+
+pub wide-fixed_16 : IsUniqueWide (little_endian 16)
+wide-fixed_16 = unique_wide fixed_16-alone
+
+pub wide-name : IsUniqueWide name
+wide-name = unique_wide name-alone
+
+pub wide-vec-bytes : IsUniqueWide (vec byte)
+wide-vec-bytes = unique_wide vec-bytes-alone
+
+pub wide-vec-u32 : IsUniqueWide (vec u32)
+wide-vec-u32 = unique_wide vec-u32-alone
+
+pub wide-vec-names : IsUniqueWide (vec name)
+wide-vec-names = unique_wide vec-names-alone
+
+pub wide-frame : IsUniqueWide (frame any_bytes)
+wide-frame = unique_wide frame-bytes-alone
+
+pub wide-custom : IsUniqueWide custom
+wide-custom = unique_wide custom-alone
+
+pub wide-module : IsUniqueWholeWide wasm_module
+wide-module = unique_whole_wide module-whole
+
+pub ruleset wide_laws = (wide-u32, wide-u64, wide-s32, wide-s64, wide-s33, wide-fixed_4, wide-fixed_8, wide-fixed_16, wide-name, wide-vec-bytes, wide-vec-u32, wide-vec-names, wide-frame, wide-custom, wide-module)

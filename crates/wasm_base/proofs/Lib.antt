@@ -1,0 +1,10 @@
+pub mod NumberLaws
+pub mod FormatLaws
+pub mod NumberTexts
+pub mod TextLaws
+pub mod ModuleLaws
+pub mod BaseLaws
+pub mod Cut
+pub mod Members
+pub mod Outcomes
+pub mod Yielded

@@ -1,0 +1,32 @@
+use Rattle.std.proofs.Common.{◌≡◌, ◌+◌, ◌++◌, ◌∷◌, [], length, ap, arith, rules, length-append}
+use Rattle.wasm_base.proofs.Cut.{cut_push, IsCut_push, length_cut}
+use Rattle.wasm_base.proofs.pieces.Pieces.add.Goals as goal
+
+pub returns-then-len-ge-MOST_ENTRIES : goal.returns-then-len-ge-MOST_ENTRIES
+returns-then-len-ge-MOST_ENTRIES g c = record {
+  ok = search rules;
+  err = search rules;
+  fitted = search rules;
+  counted = search rules;
+  too_long = λ _ more _. omega (arith, more, length_cut 0 c.self.inside.ends.items c.self.inside.bytes.items, ap length c.self.view_is);
+}
+
+pub invariant_of-self-2 : goal.invariant_of-self-2
+invariant_of-self-2 g c =
+    let bytes : c.extend_from_slice.new.self.items ≡ c.self.inside.bytes.items ++ c.args.entry.now = search rules in
+    let ends : c.push_reserved.new.self.items ≡ c.self.inside.ends.items ++ c.len-end.result ∷ [] = search rules in
+    let end : c.len-end.result ≡ length c.self.inside.bytes.items + length c.args.entry.now = search rules in
+    rw (bytes, ends) (IsCut_push _ _ _ _ c.self.invariant.0 end, simp length-append (omega arith))
+
+pub returns : goal.returns
+returns g c =
+    let bytes : c.extend_from_slice.new.self.items ≡ c.self.inside.bytes.items ++ c.args.entry.now = search rules in
+    let ends : c.push_reserved.new.self.items ≡ c.self.inside.ends.items ++ c.len-end.result ∷ [] = search rules in
+    let end : c.len-end.result ≡ length c.self.inside.bytes.items + length c.args.entry.now = search rules in
+    record {
+      ok = rw (bytes, ends, ← c.self.view_is) (cut_push _ _ _ _ c.self.invariant.0 end);
+      err = search rules;
+      fitted = search rules;
+      counted = omega (arith, length_cut 0 c.self.inside.ends.items c.self.inside.bytes.items, ap length c.self.view_is);
+      too_long = search rules;
+    }

@@ -1,0 +1,17 @@
+-- What texts are spelled, for the laws.
+use Rattle.std.specs.Prelude.{ℕ, ◌^◌, ◌<◌, ℤ, pos, neg_ℤ, ◌≤ℤ◌, ◌<ℤ◌, List, IsUtf8}
+use Rattle.wasm_base.specs.Texts.{FrameFits}
+
+-- a number of so many bits
+abbrev pub FitsUnsigned : ℕ → ℕ → Type 0
+FitsUnsigned bits n = n < 2 ^ bits
+
+abbrev pub FitsSigned32 : ℤ → Type 0
+FitsSigned32 v = (neg_ℤ (pos (2 ^ 31)) ≤ℤ v) × (v <ℤ pos (2 ^ 31))
+
+abbrev pub FitsSigned64 : ℤ → Type 0
+FitsSigned64 v = (neg_ℤ (pos (2 ^ 63)) ≤ℤ v) × (v <ℤ pos (2 ^ 63))
+
+-- UTF-8 whose length can be spelled
+abbrev pub NameFits : List ℕ → Type 0
+NameFits bytes = IsUtf8 bytes × FrameFits bytes

@@ -1,0 +1,9 @@
+pub mod Numbers
+pub mod Formats
+pub mod Reading
+pub mod Texts
+pub mod Iterators
+pub mod Pieces
+pub mod Calls
+pub mod SectionId
+pub mod Laws

@@ -1,0 +1,33 @@
+-- The entries of a builder: pieces of bytes that lie one after another.
+use Rattle.std.specs.Prelude.{◌≡◌, ℕ, ◌+◌, ◌-◌, ◌≤◌, List, [], ◌∷◌, ◌++◌, length, take, drop}
+use Rattle.wasm_base.specs.Numbers.{unsigned_text}
+use Rattle.wasm_base.specs.Texts.{longest, frame_text, FrameFits}
+
+-- the pieces, one after another
+abbrev pub joined : List (List ℕ) → List ℕ
+joined [] = []
+joined (p ∷ ps) = p ++ joined ps
+
+-- where each piece ends, if the first begins at `from`
+abbrev pub ends_from : ℕ → List (List ℕ) → List ℕ
+ends_from from [] = []
+ends_from from (p ∷ ps) = (from + length p) ∷ ends_from (from + length p) ps
+
+-- the bytes cut at the ends, if the first byte is at `from`
+abbrev pub cut_from : ℕ → List ℕ → List ℕ → List (List ℕ)
+cut_from from [] bytes = []
+cut_from from (e ∷ es) bytes = take (e - from) bytes ∷ cut_from e es (drop (e - from) bytes)
+
+-- The bytes are the pieces that the ends cut, and no others.
+pub record IsCut (bytes ends : List ℕ) : Type 0 where
+  pub bytes_joined : bytes ≡ joined (cut_from 0 ends bytes)
+  pub ends_placed : ends ≡ ends_from 0 (cut_from 0 ends bytes)
+
+-- a counted section without its id: the frame of the number of its entries and of these
+unfoldable pub section_text : List (List ℕ) → List ℕ
+section_text pieces = frame_text (unsigned_text (length pieces) ++ joined pieces)
+
+-- a section whose count and size can be spelled
+pub record SectionFits (pieces : List (List ℕ)) : Type 0 where
+  pub count : length pieces ≤ longest
+  pub size : FrameFits (unsigned_text (length pieces) ++ joined pieces)

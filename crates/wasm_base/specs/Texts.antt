@@ -1,0 +1,35 @@
+-- text: the bytes that a layout gives for a value.
+use Rattle.std.specs.Prelude.{◌≡◌, ℕ, ◌≤◌, List, ◌++◌, length}
+use Rattle.std.proofs.Common.{sym, ap, subst}
+use Rattle.std.specs.List.{All, flat_map}
+use Rattle.wasm_base.specs.Numbers.{unsigned_text}
+
+-- the largest count, run or length that a layout can spell
+abbrev pub longest : ℕ
+longest = 4294967295
+
+-- vector: a count, and then the members
+abbrev pub vec_text : {T : Type 0} → (T → List ℕ) → List T → List ℕ
+vec_text text xs = unsigned_text (length xs) ++ flat_map text xs
+
+-- a vector whose count can be spelled, of members that fit
+pub record VecFits {T : Type 0} (Fits : T → Type 0) (xs : List T) : Type 0 where
+  pub count : length xs ≤ longest
+  pub members : All Fits xs
+
+-- frame: a size, and then that many bytes
+abbrev pub frame_text : List ℕ → List ℕ
+frame_text bytes = unsigned_text (length bytes) ++ bytes
+
+-- a frame whose size can be spelled
+abbrev pub FrameFits : List ℕ → Type 0
+FrameFits bytes = length bytes ≤ longest
+
+-- The text is the frame of these bytes.
+pub record IsFrameOf (text bytes : List ℕ) : Type 0 where
+  pub is : text ≡ frame_text bytes
+  pub fits : FrameFits bytes
+
+-- a frame of given bytes is one
+pub raw_framed : (given bytes : List ℕ) → FrameFits given → bytes ≡ given → IsFrameOf (frame_text given) bytes
+raw_framed given bytes fits e = record { is = sym (ap frame_text e); fits = subst FrameFits (sym e) fits }

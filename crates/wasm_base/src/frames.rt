@@ -1,0 +1,61 @@
+// Frames: a size, and exactly that many bytes.
+ghost use Rattle.std.specs.Prelude.{◌≡◌, ◌≢◌, ◌+◌, ◌≤◌, ◌++◌, length, vec_len, vec_capacity, OnOk, OnErr, IsOk};
+ghost use Rattle.wasm_base.specs.Calls.{Appends};
+ghost use Rattle.wasm_base.specs.Numbers.{unsigned_text};
+ghost use Rattle.wasm_base.specs.Texts.{longest, frame_text, FrameFits};
+
+use crate::encode::Encode;
+use crate::numbers::encoding_size;
+use crate::refused::{R, Refused};
+use std::alloc::Allocator;
+
+/// Appends the size of a frame, and makes room for the bytes that are to follow.
+pub fn begin_frame<A: Allocator>(sink: &mut Vec<u8, A>, size: usize) -> R<()>
+    ensures ok { OnOk result (sink.new.items ≡ sink.old.items ++ unsigned_text size) }
+    ensures made_room { OnOk result (vec_len sink.new + size ≤ vec_capacity sink.new) }
+    ensures err { OnErr result (sink.new.items ≡ sink.old.items) }
+
+    ensures fitted { OnOk result (size ≤ longest) }
+    ensures too_long { size ≤ longest → result ≢ Err Refused.TooLong }
+
+    ensures room { size ≤ longest
+        → vec_len sink.old + (length (unsigned_text size) + size) ≤ vec_capacity sink.old
+        → IsOk result }
+    ensures capacity { vec_capacity sink.old ≤ vec_capacity sink.new }
+{
+    let Ok(short) = u32::try_from(size) else {
+        return Err(Refused::TooLong);
+    };
+    sink.reserve(encoding_size(short) + size)?;
+    short.encode(sink)
+}
+
+/// Appends the frame of the bytes.
+pub fn encode_frame<A: Allocator>(sink: &mut Vec<u8, A>, bytes: &[u8]) -> R<()>
+    ensures { Appends (frame_text bytes.now) (FrameFits bytes.now) sink.old sink.new result }
+{
+    begin_frame(sink, bytes.len())?;
+    sink.extend_from_slice(bytes).unwrap();
+    Ok(())
+}
+
+/// Appends the frame of the spelled count and the bytes, which are the members of a vector of that length.
+pub fn encode_section<A: Allocator>(sink: &mut Vec<u8, A>, count: u32, bytes: &[u8]) -> R<()>
+    ensures { Appends (frame_text (unsigned_text count ++ bytes.now)) (FrameFits (unsigned_text count ++ bytes.now)) sink.old sink.new result }
+{
+    begin_frame(sink, bytes.len().saturating_add(encoding_size(count)))?;
+    count.encode(sink).unwrap();
+    sink.extend_from_slice(bytes).unwrap();
+    Ok(())
+}
+
+/// A name: the frame of its UTF-8 bytes.
+impl Encode for &str {
+    ghost text = { λ name. frame_text name.now };
+
+    ghost fits = { λ name. FrameFits name.now };
+
+    fn encode<A: Allocator>(&self, sink: &mut Vec<u8, A>) -> R<()> {
+        encode_frame(sink, self.as_bytes())
+    }
+}

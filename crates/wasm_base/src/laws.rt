@@ -1,0 +1,81 @@
+//! What is promised of all lists of bytes, and not of a call: each function does nothing, and its clauses are the promise.
+//!
+//! `UniqueReading F` says that bytes begin with a spelling in the format `F` of one value alone, whatever follows, both with
+//! shortest and with padded numbers, and that a value has one shortest spelling. `HasTexts F fits text` says that the text of each
+//! value that fits is this spelling. No clause ranges over all formats, so vectors and frames are stated for those named here.
+ghost use Rattle.std.specs.Prelude.{pos};
+ghost use Rattle.wasm_base.specs.Formats.{
+  u32 as u32_format,
+  u64 as u64_format,
+  s32,
+  s64,
+  s33,
+  little_endian,
+  byte,
+  any_bytes,
+  vec,
+  frame,
+  name,
+  custom,
+  wasm_module,
+};
+ghost use Rattle.wasm_base.specs.Laws.{FitsUnsigned, FitsSigned32, FitsSigned64, NameFits};
+ghost use Rattle.wasm_base.specs.Numbers.{unsigned_text, signed_text};
+ghost use Rattle.wasm_base.specs.Reading.{UniqueReading, UniqueWholeReading, HasTexts, IsUniqueWide, IsUniqueWholeWide};
+ghost use Rattle.wasm_base.specs.Texts.{vec_text, VecFits, frame_text, FrameFits};
+
+/// Numbers are read uniquely. `s33` is an index, spelled as a signed number.
+#[tactic(auto, using(crate::proofs::BaseLaws::numbers))]
+pub fn numbers()
+    ensures u32 { UniqueReading u32_format }
+    ensures u64 { UniqueReading u64_format }
+    ensures s32 { UniqueReading s32 }
+    ensures s64 { UniqueReading s64 }
+    ensures s33 { UniqueReading s33 }
+
+    ensures u32_texts { HasTexts u32_format (FitsUnsigned 32) unsigned_text }
+    ensures u64_texts { HasTexts u64_format (FitsUnsigned 64) unsigned_text }
+    ensures s32_texts { HasTexts s32 FitsSigned32 signed_text }
+    ensures s64_texts { HasTexts s64 FitsSigned64 signed_text }
+    ensures s33_texts { HasTexts s33 (FitsUnsigned 32) (λ n. signed_text (pos n)) }
+{}
+
+/// Fixed bytes, names, vectors and frames are read uniquely, and so is a module at the level of ids and payloads.
+#[tactic(auto, using(crate::proofs::BaseLaws::frames))]
+pub fn frames()
+    ensures fixed_4 { UniqueReading (little_endian 4) }
+    ensures fixed_8 { UniqueReading (little_endian 8) }
+    ensures fixed_16 { UniqueReading (little_endian 16) }
+    ensures vec_bytes { UniqueReading (vec byte) }
+    ensures vec_u32 { UniqueReading (vec u32_format) }
+    ensures vec_names { UniqueReading (vec name) }
+    ensures frame { UniqueReading (frame any_bytes) }
+    ensures name { UniqueReading name }
+    ensures custom { UniqueReading custom }
+    ensures wasm_module { UniqueWholeReading wasm_module }
+
+    ensures vec_u32_texts { HasTexts (vec u32_format) (VecFits (FitsUnsigned 32)) (vec_text unsigned_text) }
+    ensures vec_names_texts { HasTexts (vec name) (VecFits NameFits) (vec_text frame_text) }
+    ensures frame_texts { HasTexts (frame any_bytes) FrameFits frame_text }
+    ensures name_texts { HasTexts name NameFits frame_text }
+{}
+
+/// With padded numbers, as the standard allows them, bytes are read uniquely too, and what shortest numbers spell is among it.
+#[tactic(auto, using(crate::proofs::BaseLaws::wide_laws))]
+pub fn wide()
+    ensures u32 { IsUniqueWide u32_format }
+    ensures u64 { IsUniqueWide u64_format }
+    ensures s32 { IsUniqueWide s32 }
+    ensures s64 { IsUniqueWide s64 }
+    ensures s33 { IsUniqueWide s33 }
+    ensures fixed_4 { IsUniqueWide (little_endian 4) }
+    ensures fixed_8 { IsUniqueWide (little_endian 8) }
+    ensures fixed_16 { IsUniqueWide (little_endian 16) }
+    ensures vec_bytes { IsUniqueWide (vec byte) }
+    ensures vec_u32 { IsUniqueWide (vec u32_format) }
+    ensures vec_names { IsUniqueWide (vec name) }
+    ensures frame { IsUniqueWide (frame any_bytes) }
+    ensures name { IsUniqueWide name }
+    ensures custom { IsUniqueWide custom }
+    ensures wasm_module { IsUniqueWholeWide wasm_module }
+{}

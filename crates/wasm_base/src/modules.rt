@@ -1,0 +1,74 @@
+// Modules: the header, and sections one after another.
+ghost use Rattle.std.specs.Prelude.{◌≡◌, ◌≢◌, ℕ, List, ◌∷◌, [], ◌++◌, OnOk, OnErr, IfOk};
+ghost use Rattle.wasm_base.specs.Calls.{ReadsOneMore};
+ghost use Rattle.wasm_base.specs.Formats.{header, wasm_module};
+ghost use Rattle.wasm_base.specs.Reading.{ReadsWhole};
+
+use crate::refused::{R, Refused};
+use crate::sections::Section;
+use std::alloc::{Allocator, Global};
+use std::marker::Model;
+
+/// A module, seen as its bytes.
+///
+/// ```rust
+/// let mut module = Module::new(alloc)?;
+/// module.section(&RawSection { id: 1, bytes: &[0] })?;
+/// let bytes = module.finish();
+/// ```
+#[derive(Drop, Debug)]
+pub struct Module<A: Allocator = Global> {
+    bytes: Vec<u8, A>,
+}
+
+impl<A: Allocator> Model for Module<A> {
+    ghost Value = { List ℕ };
+
+    ghost view = { λ m. m.bytes.items };
+}
+
+impl<A: Allocator> Module<A> {
+    /// A module of no sections.
+    #[tactic(auto, using(crate::proofs::ModuleLaws::module_empty))]
+    pub fn new(alloc: A) -> R<Module<A>>
+        ensures bytes { IfOk result (λ m. m ≡ header) }
+        ensures read { IfOk result (λ m. ReadsWhole wasm_module m []) }
+        ensures memory { result ≢ Err Refused.TooLong }
+    {
+        Ok(Module {
+            bytes: Vec::from_slice(alloc, b"\0asm\x01\0\0\0")?,
+        })
+    }
+
+    /// Appends a section. A refused call leaves the module as it was.
+    pub fn section<S: Section>(&mut self, section: &S) -> R<()>
+        ensures ok { OnOk result (self.new ≡ self.old ++ (S.id_of section.now ∷ S.text section.now)) }
+        ensures read { OnOk result (ReadsOneMore (S.payload section.now) (S.id_of section.now) self.old self.new) }
+        ensures err { OnErr result (self.new ≡ self.old) }
+
+        ensures fitted { OnOk result (S.fits section.now) }
+        ensures too_long { S.fits section.now → result ≢ Err Refused.TooLong }
+    {
+        section.append_to(&mut self.bytes)
+    }
+
+    /// A module with the same bytes, in memory of its own.
+    pub fn clone(&self) -> R<Module<A>>
+    where
+        A: Clone,
+        ensures same { IfOk result (λ m. m ≡ self.now) }
+        ensures memory { result ≢ Err Refused.TooLong }
+    {
+        let alloc = self.bytes.allocator().clone()?;
+        Ok(Module {
+            bytes: Vec::from_slice(alloc, self.bytes.as_slice())?,
+        })
+    }
+
+    /// The bytes of the module.
+    pub fn finish(self) -> Vec<u8, A>
+        ensures { result.items ≡ self }
+    {
+        self.bytes
+    }
+}

@@ -1,0 +1,148 @@
+// The entries of a builder.
+ghost use Rattle.std.specs.Prelude.{◌≡◌, ◌≢◌, ℕ, ◌≤◌, List, [], ◌∷◌, ◌++◌, length, IfOk, IsTrue, ◌↔◌, slice_get, slice_index, ⊤};
+ghost use Rattle.std.specs.Option.{option_copied};
+ghost use Rattle.wasm_base.specs.Calls.{Adds};
+ghost use Rattle.wasm_base.specs.Pieces.{joined, cut_from, IsCut, section_text, SectionFits};
+ghost use Rattle.wasm_base.specs.Texts.{longest};
+
+use crate::encode::Encode;
+use crate::frames::encode_section;
+use crate::refused::{R, Refused};
+use std::alloc::{Allocator, Global};
+use std::marker::Model;
+
+/// The entries of a builder, seen as the list of their bytes.
+///
+/// They lie one after another in one buffer; beside it stands where each of them ends.
+#[derive(Drop, Debug)]
+pub struct Pieces<A: Allocator = Global> {
+    bytes: Vec<u8, A>,
+    ends: Vec<usize, A>,
+}
+
+impl<A: Allocator> Model for Pieces<A> {
+    ghost Value = { List (List ℕ) };
+
+    ghost view = { λ p. cut_from 0 p.ends.items p.bytes.items };
+
+    ghost invariant = { λ p. IsCut p.bytes.items p.ends.items × (length p.ends.items ≤ longest) };
+}
+
+/// Where the entry at `index` begins.
+fn start_of(ends: &[usize], index: usize) -> usize
+    requires { index ≤ length ends.now }
+    ensures { result ≡ slice_index (0 ∷ ends.now) index }
+{
+    if index == 0 { 0 } else { ends[index - 1] }
+}
+
+impl<A: Allocator> Pieces<A> {
+    /// How many bytes the entries have together.
+    pub fn raw_len(&self) -> usize
+        ensures { result ≡ length (joined self.now) }
+    {
+        self.bytes.len()
+    }
+
+    /// The number of entries.
+    #[tactic(auto, using(crate::proofs::Cut::length_cut))]
+    pub fn len(&self) -> u32
+        ensures { result ≡ length self.now }
+    {
+        self.ends.len() as u32
+    }
+
+    /// Whether there is no entry.
+    pub fn is_empty(&self) -> bool
+        ensures { IsTrue result ↔ (length self.now ≡ 0) }
+    {
+        self.ends.is_empty()
+    }
+
+    /// The entries, one after another.
+    pub fn bytes(&self) -> &[u8]
+        ensures { result.now ≡ joined self.now }
+    {
+        &self.bytes
+    }
+
+    /// The bytes of the entry at `index`.
+    pub fn get(&self, index: u32) -> Option<&[u8]>
+        ensures { option_copied result ≡ slice_get self.now index }
+    {
+        let index = index as usize;
+        if index >= self.ends.len() {
+            return None;
+        }
+        let start = start_of(&self.ends, index);
+        let end = self.ends[index];
+        Some(&self.bytes[start..end])
+    }
+
+    /// Adds an entry of these bytes.
+    pub fn add(&mut self, entry: &[u8]) -> R<()>
+        ensures { Adds entry.now ⊤ self.old self.new result }
+    {
+        if self.ends.len() >= MOST_ENTRIES {
+            return Err(Refused::TooLong);
+        }
+        self.ends.reserve(1)?;
+        self.bytes.extend_from_slice(entry)?;
+        let end = self.bytes.len();
+        self.ends.push_reserved(end);
+        Ok(())
+    }
+
+    /// Adds an entry that is the text of the item, which is written straight into the buffer.
+    pub fn add_encoded<T: Encode>(&mut self, item: &T) -> R<()>
+        ensures { Adds (T.text item.now) (T.fits item.now) self.old self.new result }
+    {
+        if self.ends.len() >= MOST_ENTRIES {
+            return Err(Refused::TooLong);
+        }
+        self.ends.reserve(1)?;
+        item.encode(&mut self.bytes)?;
+        let end = self.bytes.len();
+        self.ends.push_reserved(end);
+        Ok(())
+    }
+}
+
+/// The largest number of entries.
+const MOST_ENTRIES: usize = 4294967295;
+
+impl<A: Allocator + Copy> Pieces<A> {
+    /// No entries. It takes no memory.
+    pub fn new(alloc: A) -> Self
+        ensures { result ≡ [] }
+    {
+        Pieces {
+            bytes: Vec::new(alloc),
+            ends: Vec::new(alloc),
+        }
+    }
+
+    /// The same entries, in memory of their own.
+    pub fn clone(&self) -> R<Self>
+        ensures same { IfOk result (λ pieces. pieces ≡ self.now) }
+        ensures memory { result ≢ Err Refused.TooLong }
+    {
+        let alloc = *self.bytes.allocator();
+        Ok(Pieces {
+            bytes: Vec::from_slice(alloc, &self.bytes)?,
+            ends: Vec::from_slice(alloc, &self.ends)?,
+        })
+    }
+}
+
+/// A counted section without its id: the frame of the number of the entries and of these.
+impl<A: Allocator> Encode for Pieces<A> {
+    ghost text = { section_text };
+
+    ghost fits = { SectionFits };
+
+    #[tactic(auto, unfolding(crate::specs::Pieces::section_text))]
+    fn encode<B: Allocator>(&self, sink: &mut Vec<u8, B>) -> R<()> {
+        encode_section(sink, self.len(), self.bytes())
+    }
+}

@@ -1,0 +1,97 @@
+// Sections: an id, and a layout that is mostly a frame.
+ghost use Rattle.std.specs.Prelude.{◌≡◌, ℕ, List, ◌∷◌, [], OnOk};
+ghost use Rattle.wasm_base.specs.Calls.{Appends, ReadsBack};
+ghost use Rattle.wasm_base.specs.Formats.{any_bytes, frame};
+ghost use Rattle.wasm_base.specs.Numbers.{Mode};
+ghost use Rattle.wasm_base.specs.Texts.{frame_text, FrameFits, IsFrameOf};
+
+use crate::encode::Encode;
+use crate::frames::encode_frame;
+use crate::refused::R;
+use std::alloc::Allocator;
+
+/// A part of a module: an id, and a text that a reader finds the items of the section in.
+pub trait Section: Encode {
+    ghost use Rattle.wasm_base.specs.Calls.{ReadsBack};
+    ghost use Rattle.wasm_base.specs.Texts.{IsFrameOf};
+
+    /// The id of its kind.
+    ghost id_of: { Self → ℕ };
+
+    /// What such a section can say: its items, or its bytes where it has none.
+    ghost Items: { Type 0 };
+
+    /// How items are spelled.
+    ghost format: { Mode → List ℕ → Items → Type 0 };
+
+    /// The section says these items.
+    ghost says: { Self → Items → Type 0 };
+
+    /// The section's text is the frame of these bytes.
+    ghost payload: { Self → List ℕ → Type 0 };
+
+    /// The number of its kind.
+    fn id(&self) -> u8
+        ensures { result ≡ id_of self.now };
+
+    /// Appends the id and the text. A refused call leaves the bytes of `dst` as they were.
+    fn append_to<A: Allocator>(&self, dst: &mut Vec<u8, A>) -> R<()>
+        ensures appends { Appends (id_of self.now ∷ Self.text self.now) (Self.fits self.now) dst.old dst.new result }
+        ensures read { OnOk result (Self.reading self.now) }
+    {
+        let start = dst.len();
+        dst.push(self.id())?;
+        if let Err(refused) = self.encode(dst) {
+            dst.truncate(start);
+            return Err(refused);
+        }
+        Ok(())
+    }
+
+    /// A payload is what the text frames.
+    ghost framed: { (section : Self) (bytes : List ℕ) → Self.fits section → payload section bytes → IsFrameOf (Self.text section) bytes };
+
+    /// The headline: what `encode` promises to readers is at least this.
+    ghost reads_back: { (section : Self) → Self.reading section → ReadsBack format (says section) (Self.text section) };
+}
+
+/// A section whose data is given: its text is the frame of these bytes.
+#[derive(Clone, Copy, Debug)]
+pub struct RawSection<'a> {
+    pub id: u8,
+    pub bytes: &'a [u8],
+}
+
+impl Encode for RawSection<'_> {
+    ghost text = { λ s. frame_text s.bytes.now };
+
+    ghost fits = { λ s. FrameFits s.bytes.now };
+
+    ghost reading = { λ s. ReadsBack (frame any_bytes) (λ bytes. bytes ≡ s.bytes.now) (frame_text s.bytes.now) };
+
+    fn encode<A: Allocator>(&self, sink: &mut Vec<u8, A>) -> R<()> {
+        encode_frame(sink, self.bytes)
+    }
+}
+
+impl Section for RawSection<'_> {
+    ghost use Rattle.wasm_base.specs.Texts.{raw_framed};
+
+    ghost id_of = { λ s. s.id };
+
+    ghost Items = { List ℕ };
+
+    ghost format = { frame any_bytes };
+
+    ghost says = { λ s bytes. bytes ≡ s.bytes.now };
+
+    ghost payload = { λ s bytes. bytes ≡ s.bytes.now };
+
+    fn id(&self) -> u8 {
+        self.id
+    }
+
+    ghost framed = { λ s bytes fits says. raw_framed s.bytes.now bytes fits says };
+
+    ghost reads_back = { λ s promised. promised };
+}

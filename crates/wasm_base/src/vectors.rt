@@ -1,0 +1,52 @@
+// Vectors: a count, and that many members.
+ghost use Rattle.wasm_base.specs.Iterators.{HasKnownLength, AppendsVec};
+ghost use Rattle.wasm_base.specs.Texts.{vec_text, VecFits};
+
+use crate::encode::Encode;
+use crate::refused::{R, Refused};
+use std::alloc::Allocator;
+
+/// The vector of the members.
+impl<T: Encode> Encode for &[T] {
+    ghost text = { λ s. vec_text T.text s.now };
+
+    ghost fits = { λ s. VecFits T.fits s.now };
+
+    fn encode<A: Allocator>(&self, sink: &mut Vec<u8, A>) -> R<()> {
+        let start = sink.len();
+        self.len().encode(sink)?;
+        for item in self.iter() {
+            if let Err(refused) = item.encode(sink) {
+                sink.truncate(start);
+                return Err(refused);
+            }
+        }
+        Ok(())
+    }
+}
+
+/// Appends the vector of the elements: the length that they tell, and each of them. A refused call leaves the bytes of the
+/// sink as they were; where the length is too long, no element is asked for.
+pub fn encode_vec<T: Encode + Drop, V: IntoIterator<Item = T>, A: Allocator>(
+    elements: V,
+    sink: &mut Vec<u8, A>,
+) -> R<()>
+where
+    V::IntoIter: ExactSizeIterator + Drop,
+    requires { HasKnownLength V.into_iter_gives V.IntoIter.can_next V.IntoIter.next_gives V.IntoIter.remaining elements }
+    ensures { AppendsVec V.into_iter_gives V.IntoIter.next_gives V.IntoIter.remaining T.fits T.text elements sink.old sink.new result }
+{
+    let elements = elements.into_iter();
+    let start = sink.len();
+    let Ok(count) = u32::try_from(elements.len()) else {
+        return Err(Refused::TooLong);
+    };
+    count.encode(sink)?;
+    for element in elements {
+        if let Err(refused) = element.encode(sink) {
+            sink.truncate(start);
+            return Err(refused);
+        }
+    }
+    Ok(())
+}
