@@ -14,6 +14,7 @@ mod refused;
 mod section_id;
 mod sections;
 mod tuples;
+mod types;
 mod vectors;
 
 pub use encode::Encode;
@@ -27,4 +28,5 @@ pub use section_id::{
     CORE_TABLE_SORT, CORE_TAG_SORT, SectionId,
 };
 pub use sections::{RawSection, Section};
+pub use types::{AbstractHeapType, HeapType, RefType, ValType};
 pub use vectors::encode_vec;
