@@ -7,4 +7,5 @@ pub mod Pieces
 pub mod Calls
 pub mod SectionId
 pub mod Types
+pub mod Cow
 pub mod Laws
