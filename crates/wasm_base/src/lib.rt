@@ -6,6 +6,7 @@
 
 mod cow;
 mod encode;
+mod fixed;
 mod frames;
 pub mod laws;
 mod modules;
