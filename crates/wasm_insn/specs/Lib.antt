@@ -1,0 +1,4 @@
+pub mod Immediates
+pub mod Parts
+pub mod Arguments
+pub mod Plain
