@@ -1,1 +1,2 @@
 pub mod FixedBytes
+pub mod ImmediateLaws
