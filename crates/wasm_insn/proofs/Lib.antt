@@ -1,2 +1,4 @@
 pub mod FixedBytes
 pub mod ImmediateLaws
+pub mod VectorBytes
+pub mod TableRuns

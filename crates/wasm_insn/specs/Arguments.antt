@@ -60,13 +60,17 @@ abbrev pub twos_complement : ℕ → ℤ → ℕ
 twos_complement bits (pos n) = n
 twos_complement bits (negsuc n) = 2 ^ bits - suc n
 
+-- the bytes of a vector, the least first
+unfoldable pub vector_text : ℤ → List ℕ
+vector_text v = little_endian_text 16 (twos_complement 128 v)
+
 abbrev pub argument_text : Argument → List ℕ
 argument_text (unsigned n) = unsigned_text n
 argument_text (signed32 v) = signed_text v
 argument_text (signed64 v) = signed_text v
 argument_text (float32 float) = little_endian_text 4 float.bits
 argument_text (float64 float) = little_endian_text 8 float.bits
-argument_text (vector v) = little_endian_text 16 (twos_complement 128 v)
+argument_text (vector v) = vector_text v
 argument_text (memory m) = mem_arg_text m
 argument_text (lane n) = n ∷ []
 argument_text (lanes ns) = ns

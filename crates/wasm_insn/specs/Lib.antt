@@ -2,3 +2,11 @@ pub mod Immediates
 pub mod Parts
 pub mod Arguments
 pub mod Plain
+pub mod Numeric
+pub mod Aggregate
+pub mod PrefixedNumeric
+pub mod Vector
+pub mod VectorImmediate
+pub mod Atomic
+pub mod Instructions
+pub mod Table
