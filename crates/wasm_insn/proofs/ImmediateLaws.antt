@@ -95,7 +95,7 @@ ordering_tells true mode s o h = ap (λ p. where_set (has_ordering p) 1) h.1
 ordering_tells false mode s o h = ap (λ p. where_set (has_ordering p) 1) (sym h.1)
 
 -- the flags of a plain memory argument, as a sum
-abbrev pub flags_of : MemArg → ℕ
+abbrev flags_of : MemArg → ℕ
 flags_of m = m.align + 16 * (where_set (has_ordering m.ordering) 1 + target_flags m.target)
 
 with_tells : (align : ℕ) (ordered array other : Bool) (mode : Mode) (s : List ℕ) (m : MemArg) → mem_arg_with align ordered array other mode s m
@@ -126,10 +126,10 @@ mem_arg-alone =
 
 -- ---- block types
 
-abbrev block_tags : List (ℕ × Format BlockType)
+abbrev pub block_tags : List (ℕ × Format BlockType)
 block_tags = (0x40, fixed [] blocks.Empty) ∷ []
 
-abbrev block_result : ℕ → Format BlockType
+abbrev pub block_result : ℕ → Format BlockType
 block_result b = mapped blocks.Result (choice val_tags val_ref b)
 
 abbrev block_tag : BlockType → ℕ

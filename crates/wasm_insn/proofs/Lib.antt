@@ -1,2 +1,3 @@
 pub mod FixedBytes
 pub mod ImmediateLaws
+pub mod PlainLaws
