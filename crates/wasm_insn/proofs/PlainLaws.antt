@@ -4,16 +4,17 @@ use Rattle.std.proofs.lemmas.Bool.{lt-ltb, ne_eqb}
 use Rattle.std.proofs.lemmas.Nat.{or_shifted, or_comm}
 use Rattle.std.specs.Int.Bits.{or_zero_r}
 use Rattle.std.specs.Int.RustNames.{bit_or}
-use Rattle.std.specs.Prelude.{nat_lt, map}
+use Rattle.std.specs.Prelude.{nat_lt, map, ◌↔◌}
 use Rattle.wasm_base.specs.Numbers.{Mode, shortest, unsigned_text}
 use Rattle.wasm_base.specs.Formats.{Format, u32, u64, byte, mapped, such, when, tagged, pair, Then, optional, choice}
-use Rattle.wasm_base.specs.Reading.{ReadsAlone, UniqueReading}
+use Rattle.wasm_base.specs.Reading.{ReadsAlone, UniqueReading, HasTexts, IsUniqueWide}
 use Rattle.wasm_base.specs.Types.{val_type, val_text, val_tags, val_ref, IsVal}
 use Rattle.wasm_base.specs.declared.types.ValType.{ValType}
 use Rattle.wasm_base.specs.declared.types.ValType.TheVariants.{I32, I64, F32, F64, V128, Ref}
 use Rattle.wasm_base.proofs.FormatLaws.{IsInjective, TellsTag, same_pair, when-alone, mapped-alone, such-alone, fixed-alone, impossible-alone, tagged-alone, byte-alone, little_endian-alone, raw_bytes-alone, pair-alone, Then-alone, vec-alone}
 use Rattle.wasm_base.proofs.NumberLaws.{u32-alone}
-use Rattle.wasm_base.proofs.BaseLaws.{s32-alone, s64-alone}
+use Rattle.wasm_base.proofs.BaseLaws.{s32-alone, s64-alone, unique_wide}
+use Rattle.wasm_base.specs.Texts.{little_endian_text}
 use Rattle.wasm_base.proofs.TypeLaws.{val_bytes, heap-alone, val-alone, heap-texts, val-texts}
 use Rattle.wasm_base.proofs.TextLaws.{reads_alone, u32_spelled, u64_spelled, s32_spelled, s64_spelled, s33_spelled, little_endian_spelled, vec_spelled, tagged_spelled}
 use Rattle.wasm_insn.specs.declared.memory.Ordering.TheVariants.{AcqRel, SeqCst}
@@ -35,7 +36,7 @@ use Rattle.wasm_insn.specs.Immediates.{op_text, ordering_code, mem_ordering_code
 use Rattle.wasm_insn.specs.Parts as parts
 use Rattle.wasm_insn.specs.Parts.{Part, parts_of}
 use Rattle.wasm_insn.specs.Arguments.{Argument, unsigned, signed32, signed64, float32, float64, vector, memory, lane, lanes, block, heap, ordering, labels, catches, types, handles, flag, part_of, twos_complement, argument_text, arguments_text}
-use Rattle.wasm_insn.specs.Plain.{Plain, normal_ordering, normal_order, normal_memory, normal_argument, normal_arguments, normal, IsPlainTarget, IsPlainMemory, IsPlainBlock, IsPlainCatch, IsPlainHandle, IsVector, IsPlainArgument, ArePlain, block_type, mem_ordering, bit, target_of, mem_arg_of, mem_arg_with, after_flags, mem_arg, catch, handle, float32_of, float64_of, part, cons, arguments, is_prefix, IsOpcode, op_after, opcode, Table, shape_of, arguments_after, plain_of, instruction}
+use Rattle.wasm_insn.specs.Plain.{Plain, IsPlain, IsNormalMemory, plain_text, ordering_format, vector_format, normal_ordering, normal_order, normal_memory, normal_argument, normal_arguments, normal, IsPlainTarget, IsPlainMemory, IsPlainBlock, IsPlainCatch, IsPlainHandle, IsVector, IsPlainArgument, ArePlain, block_type, mem_ordering, bit, target_of, mem_arg_of, mem_arg_with, after_flags, mem_arg, catch, handle, float32_of, float64_of, part, cons, arguments, is_prefix, IsOpcode, op_after, opcode, Table, shape_of, arguments_after, plain_of, instruction}
 use Rattle.wasm_insn.proofs.ImmediateLaws.{ordering-alone, mem_arg-alone, block-alone, catch-alone, handle-alone, vector-alone, block_tags, block_result}
 
 -- ---- opcodes
@@ -280,3 +281,63 @@ spelled table i shape is_op row given plain =
       refl,
       record { front = op_text i.op; back = arguments_text i.arguments; joined = refl; first = opcode_spelled i.op is_op; second = there },
     )
+
+pub plain_spelled : (table : Table) (i : Plain) → IsPlain table i → instruction table shortest (plain_text i) (normal i)
+plain_spelled table i h = spelled table i h.shape h.opcode h.row h.parts h.arguments
+
+-- The text of a plain instruction is read as its normal form alone.
+pub plain-alone : (table : Table) (i : Plain) → IsPlain table i → ReadsAlone (instruction table) (plain_text i) (normal i)
+plain-alone table i h = reads_alone {F = instruction table} (instruction-alone table) (plain_spelled table i h)
+
+-- Plain instructions have one text exactly where they have one normal form.
+pub same_text : (table : Table) (i j : Plain) → IsPlain table i → IsPlain table j → (plain_text i ≡ plain_text j) ↔ (normal i ≡ normal j)
+same_text table i j h g =
+    let f = instruction-alone table in
+    let a = plain_spelled table i h in
+    let b = plain_spelled table j g in
+    (
+      (λ e. (f.alone shortest (plain_text i) (plain_text j) [] [] (normal i) (normal j) a b (ap (λ s. s ++ []) e)).0),
+      (λ e. f.spellings.one (plain_text i) (plain_text j) (normal j) (subst (λ x. instruction table shortest (plain_text i) x) e a) b),
+    )
+
+-- ---- for the laws
+
+pub block-texts : HasTexts block_type IsPlainBlock block_text
+block-texts = record { spelled = block_spelled }
+
+pub catch-texts : HasTexts catch IsPlainCatch catch_text
+catch-texts = record { spelled = catch_spelled }
+
+pub handle-texts : HasTexts handle IsPlainHandle handle_text
+handle-texts = record { spelled = handle_spelled }
+
+pub memory-texts : HasTexts mem_arg IsNormalMemory mem_arg_text
+memory-texts = record { spelled = λ m h. subst (λ x. mem_arg shortest (mem_arg_text m) x) h.normal (memory_spelled m h.plain) }
+
+pub vector-texts : HasTexts vector_format IsVector (λ v. little_endian_text 16 (twos_complement 128 v))
+vector-texts = record { spelled = λ v h. (little_endian_spelled 16 (twos_complement 128 v) (vector_low v h), h) }
+
+pub ruleset immediates = (ordering-alone, mem_arg-alone, block-alone, catch-alone, handle-alone, vector-alone, opcode-alone, memory-texts, block-texts, catch-texts, handle-texts, vector-texts)
+
+pub wide-ordering : IsUniqueWide ordering_format
+wide-ordering = unique_wide ordering-alone
+
+pub wide-mem_arg : IsUniqueWide mem_arg
+wide-mem_arg = unique_wide mem_arg-alone
+
+pub wide-block : IsUniqueWide block_type
+wide-block = unique_wide block-alone
+
+pub wide-catch : IsUniqueWide catch
+wide-catch = unique_wide catch-alone
+
+pub wide-handle : IsUniqueWide handle
+wide-handle = unique_wide handle-alone
+
+pub wide-vector : IsUniqueWide vector_format
+wide-vector = unique_wide vector-alone
+
+pub wide-opcode : IsUniqueWide opcode
+wide-opcode = unique_wide opcode-alone
+
+pub ruleset wide_immediates = (wide-ordering, wide-mem_arg, wide-block, wide-catch, wide-handle, wide-vector, wide-opcode)

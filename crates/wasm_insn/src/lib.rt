@@ -4,6 +4,7 @@
 mod block_type;
 mod control;
 mod floats;
+pub mod laws;
 mod memory;
 mod op;
 
