@@ -3,7 +3,7 @@ use Rattle.std.proofs.Common.{◌≡◌, ◌≢◌, ◌⊎◌, ℕ, ◌<◌, ◌
 use Rattle.std.proofs.lemmas.Int.{ints}
 use Rattle.std.proofs.lemmas.Bool.{cases_lt, ne_eqb}
 use Rattle.wasm_base.specs.Numbers.{shortest, signed_sum, unsigned_text}
-use Rattle.wasm_base.specs.Formats.{Format, u32, byte, s33, impossible, fixed, coded, such, mapped, choice, tagged, one_of}
+use Rattle.wasm_base.specs.Formats.{Format, byte, s33, impossible, mapped, choice, tagged, one_of}
 use Rattle.wasm_base.specs.Reading.{UniqueReading, HasTexts, IsUniqueWide, BeginsWith}
 use Rattle.wasm_base.specs.declared.types.AbstractHeapType.{AbstractHeapType}
 use Rattle.wasm_base.specs.declared.types.AbstractHeapType.TheVariants as kinds

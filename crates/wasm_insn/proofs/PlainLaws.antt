@@ -1,16 +1,14 @@
 -- Instructions are read uniquely, whatever the table, and plain ones are spelled by their text.
-use Rattle.std.proofs.Common.{◌≡◌, ◌≢◌, ℕ, zero, suc, ◌+◌, ◌-◌, ◌*◌, ◌/◌, ◌%◌, ◌^◌, ◌<◌, ◌≤◌, List, [], ◌∷◌, ◌++◌, Bool, true, false, eqb, Option, Some, None, refl, sym, ap, ap₂, subst, ◌∙◌, arith, inl, inr, ℤ, pos, negsuc}
+use Rattle.std.proofs.Common.{◌≡◌, ℕ, zero, suc, ◌+◌, ◌*◌, ◌%◌, ◌^◌, ◌<◌, List, [], ◌∷◌, ◌++◌, Bool, true, false, eqb, Option, Some, None, refl, sym, ap, ap₂, subst, ◌∙◌, arith, inl, inr, ℤ, pos, negsuc}
 use Rattle.std.proofs.lemmas.Bool.{lt-ltb, ne_eqb}
 use Rattle.std.proofs.lemmas.Nat.{or_shifted, or_comm}
-use Rattle.std.specs.Int.Bits.{or_zero_r}
 use Rattle.std.specs.Int.RustNames.{bit_or}
 use Rattle.std.specs.Prelude.{nat_lt, map, ◌↔◌}
-use Rattle.wasm_base.specs.Numbers.{Mode, shortest, unsigned_text}
-use Rattle.wasm_base.specs.Formats.{Format, u32, u64, byte, mapped, such, when, tagged, pair, Then, optional, choice}
+use Rattle.wasm_base.specs.Numbers.{shortest, unsigned_text}
+use Rattle.wasm_base.specs.Formats.{u32, byte, mapped, when, tagged, pair, optional, choice}
 use Rattle.wasm_base.specs.Reading.{ReadsAlone, UniqueReading, HasTexts, IsUniqueWide}
 use Rattle.wasm_base.specs.Types.{val_type, val_text, val_tags, val_ref, IsVal}
 use Rattle.wasm_base.specs.declared.types.ValType.{ValType}
-use Rattle.wasm_base.specs.declared.types.ValType.TheVariants.{I32, I64, F32, F64, V128, Ref}
 use Rattle.wasm_base.proofs.FormatLaws.{IsInjective, TellsTag, same_pair, when-alone, mapped-alone, such-alone, fixed-alone, impossible-alone, tagged-alone, byte-alone, little_endian-alone, raw_bytes-alone, pair-alone, Then-alone, vec-alone}
 use Rattle.wasm_base.proofs.NumberLaws.{u32-alone}
 use Rattle.wasm_base.proofs.BaseLaws.{s32-alone, s64-alone, unique_wide}
@@ -32,11 +30,11 @@ use Rattle.wasm_insn.specs.declared.control.Handle.TheVariants.{OnLabel, OnSwitc
 use Rattle.wasm_insn.specs.declared.op.Op.{Op}
 use Rattle.wasm_insn.specs.declared.op.Op.TheVariants.{Byte, Prefixed}
 use Rattle.wasm_insn.specs.declared.op.Shape.{Shape}
-use Rattle.wasm_insn.specs.Immediates.{op_text, ordering_code, mem_ordering_code, index_of, has_ordering, is_array, has_memory, where_set, mem_flags, optional_text, mem_arg_text, block_text, catch_text, handle_text}
+use Rattle.wasm_insn.specs.Immediates.{op_text, mem_ordering_code, index_of, has_ordering, is_array, has_memory, where_set, mem_flags, optional_text, mem_arg_text, block_text, catch_text, handle_text}
 use Rattle.wasm_insn.specs.Parts as parts
 use Rattle.wasm_insn.specs.Parts.{Part, parts_of}
 use Rattle.wasm_insn.specs.Arguments.{Argument, unsigned, signed32, signed64, float32, float64, vector, memory, lane, lanes, block, heap, ordering, labels, catches, types, handles, flag, part_of, twos_complement, argument_text, arguments_text}
-use Rattle.wasm_insn.specs.Plain.{Plain, IsPlain, IsNormalMemory, plain_text, ordering_format, vector_format, normal_ordering, normal_order, normal_memory, normal_argument, normal_arguments, normal, IsPlainTarget, IsPlainMemory, IsPlainBlock, IsPlainCatch, IsPlainHandle, IsVector, IsPlainArgument, ArePlain, block_type, mem_ordering, bit, target_of, mem_arg_of, mem_arg_with, after_flags, mem_arg, catch, handle, float32_of, float64_of, part, cons, arguments, is_prefix, IsOpcode, op_after, opcode, Table, shape_of, arguments_after, plain_of, instruction}
+use Rattle.wasm_insn.specs.Plain.{Plain, IsPlain, IsNormalMemory, plain_text, ordering_format, vector_format, normal_ordering, normal_order, normal_memory, normal_argument, normal_arguments, normal, IsPlainTarget, IsPlainMemory, IsPlainBlock, IsPlainCatch, IsPlainHandle, IsVector, IsPlainArgument, ArePlain, block_type, mem_ordering, bit, target_of, mem_arg_with, after_flags, mem_arg, catch, handle, float32_of, float64_of, part, cons, arguments, is_prefix, IsOpcode, op_after, opcode, Table, shape_of, arguments_after, plain_of, instruction}
 use Rattle.wasm_insn.proofs.ImmediateLaws.{ordering-alone, mem_arg-alone, block-alone, catch-alone, handle-alone, vector-alone, block_tags, block_result}
 
 -- ---- opcodes
@@ -185,8 +183,7 @@ memory_spelled m h =
         second = record { front = order; back = unsigned_text m.offset; joined = refl; first = optional_spelled m.ordering; second = u64_spelled m.offset h.offset };
       },
     ) in
-    let known : after_flags (mem_flags m) shortest back (normal_memory m) = subst (λ f. after_flags f shortest back (normal_memory m)) (sym sum) (flags_spelled m.align a b c back (normal_memory m) h.align after) in
-    (
+    let known : after_flags (mem_flags m) shortest back (normal_memory m) = subst (λ f. after_flags f shortest back (normal_memory m)) (sym sum) (flags_spelled m.align a b c back (normal_memory m) h.align after) in (
       (mem_flags m, normal_memory m),
       refl,
       record {
@@ -203,8 +200,7 @@ memory_spelled m h =
 result_spelled : (s : List ℕ) (t : ValType) → val_type shortest s t → tagged byte (choice block_tags block_result) shortest s (blocks.Result t)
 result_spelled s t h =
     let bytes = val_bytes h.0.0 shortest h.2.back h.0.1 h.2.second in
-    let other : eqb h.0.0 0x40 ≡ false = ne_eqb h.0.0 0x40 (omega (arith, bytes.0)) in
-    (
+    let other : eqb h.0.0 0x40 ≡ false = ne_eqb h.0.0 0x40 (omega (arith, bytes.0)) in (
       (h.0.0, blocks.Result t),
       refl,
       record {
@@ -275,8 +271,7 @@ pub spelled : (table : Table) (i : Plain) (shape : Shape) → IsOpcode i.op → 
 spelled table i shape is_op row given plain =
     let spells = arguments_spelled i.arguments plain in
     let there : arguments_after (shape_of table i.op) shortest (arguments_text i.arguments) (normal_arguments i.arguments) =
-        rw row (subst (λ ps. arguments ps shortest (arguments_text i.arguments) (normal_arguments i.arguments)) given spells) in
-    (
+    rw row (subst (λ ps. arguments ps shortest (arguments_text i.arguments) (normal_arguments i.arguments)) given spells) in (
       (i.op, normal_arguments i.arguments),
       refl,
       record { front = op_text i.op; back = arguments_text i.arguments; joined = refl; first = opcode_spelled i.op is_op; second = there },
@@ -294,8 +289,7 @@ pub same_text : (table : Table) (i j : Plain) → IsPlain table i → IsPlain ta
 same_text table i j h g =
     let f = instruction-alone table in
     let a = plain_spelled table i h in
-    let b = plain_spelled table j g in
-    (
+    let b = plain_spelled table j g in (
       (λ e. (f.alone shortest (plain_text i) (plain_text j) [] [] (normal i) (normal j) a b (ap (λ s. s ++ []) e)).0),
       (λ e. f.spellings.one (plain_text i) (plain_text j) (normal j) (subst (λ x. instruction table shortest (plain_text i) x) e a) b),
     )

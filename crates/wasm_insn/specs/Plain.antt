@@ -1,12 +1,10 @@
 -- Plain instructions: their normal form, and which bytes spell them.
-use Rattle.std.specs.Prelude.{◌≡◌, ℕ, suc, map, ◌++◌, ◌/◌, ◌%◌, ◌^◌, ◌<◌, ℤ, pos, negsuc, List, [], ◌∷◌, length, Bool, true, false, ◌==◌, ◌&&◌, cond, nat_le, nat_lt, Option, Some, None, ⊤}
+use Rattle.std.specs.Prelude.{◌≡◌, ℕ, map, ◌++◌, ◌/◌, ◌%◌, ◌^◌, ◌<◌, ℤ, pos, negsuc, List, [], ◌∷◌, length, Bool, true, false, ◌==◌, ◌&&◌, cond, nat_le, nat_lt, Option, Some, None, ⊤}
 use Rattle.std.specs.List.{AllByRecursion}
 use Rattle.wasm_base.specs.Formats.{Format, u32, u64, s32, s64, s33, byte, raw_bytes, little_endian, fixed, impossible, coded, mapped, such, when, choice, tagged, one_of, pair, Then, vec, optional}
 use Rattle.wasm_base.specs.Laws.{FitsSigned32, FitsSigned64}
 use Rattle.wasm_base.specs.Texts.{VecFits}
 use Rattle.wasm_base.specs.Types.{heap_type, val_type, val_tags, val_ref, IsHeap, IsVal}
-use Rattle.wasm_insn.specs.declared.floats.Ieee32.{Ieee32}
-use Rattle.wasm_insn.specs.declared.floats.Ieee64.{Ieee64}
 use Rattle.wasm_insn.specs.declared.memory.Ordering.{Ordering}
 use Rattle.wasm_insn.specs.declared.memory.Ordering.TheVariants.{AcqRel, SeqCst}
 use Rattle.wasm_insn.specs.declared.memory.MemArgOrdering.{MemArgOrdering}
