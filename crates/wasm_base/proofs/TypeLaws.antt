@@ -3,7 +3,7 @@ use Rattle.std.proofs.Common.{◌≡◌, ◌≢◌, ◌⊎◌, ℕ, ◌<◌, ◌
 use Rattle.std.proofs.lemmas.Int.{ints}
 use Rattle.std.proofs.lemmas.Bool.{cases_lt, ne_eqb}
 use Rattle.wasm_base.specs.Numbers.{shortest, signed_sum, unsigned_text}
-use Rattle.wasm_base.specs.Formats.{Format, u32, byte, s33, impossible, fixed, coded, such, mapped, choice, tagged, one_of}
+use Rattle.wasm_base.specs.Formats.{Format, byte, s33, impossible, mapped, choice, tagged, one_of}
 use Rattle.wasm_base.specs.Reading.{UniqueReading, HasTexts, IsUniqueWide, BeginsWith}
 use Rattle.wasm_base.specs.declared.types.AbstractHeapType.{AbstractHeapType}
 use Rattle.wasm_base.specs.declared.types.AbstractHeapType.TheVariants as kinds
@@ -221,11 +221,18 @@ val_choice-alone = choice-alone val_tags val_ref
 pub val-alone : UniqueReading val_type
 val-alone = tagged-alone val_tag val_tells byte-alone val_choice-alone
 
--- The first byte of a value type is no index's.
+-- the first bytes of value types
+abbrev pub IsValByte : ℕ → Type 0
+IsValByte b = (0x62 < b) × (b < 0x80)
+
+pub val_bytes : (b : ℕ) → AllValues (λ x. IsValByte b) (choice val_tags val_ref b)
+val_bytes b mode s x h =
+    choice_tags IsValByte val_tags val_ref ((omega arith, omega arith), ((omega arith, omega arith), ((omega arith, omega arith), ((omega arith, omega arith), ((omega arith, omega arith), tt)))))
+    (λ b mode s x h. choice_tags IsValByte ref_tags (λ b. impossible) ((omega arith, omega arith), ((omega arith, omega arith), ((omega arith, omega arith), ((omega arith, omega arith), tt)))) (λ b mode s x h. absurd h) b mode s h.0 h.2) b mode s x h
+
+-- none of them is an index's
 pub val_begins : (b : ℕ) → AllValues (λ x. IsTypeByte b) (choice val_tags val_ref b)
-val_begins b mode s x h =
-    choice_tags IsTypeByte val_tags val_ref ((omega arith, omega arith), ((omega arith, omega arith), ((omega arith, omega arith), ((omega arith, omega arith), ((omega arith, omega arith), tt)))))
-    (λ b mode s x h. choice_tags IsTypeByte ref_tags (λ b. impossible) ((omega arith, omega arith), ((omega arith, omega arith), ((omega arith, omega arith), ((omega arith, omega arith), tt)))) (λ b mode s x h. absurd h) b mode s h.0 h.2) b mode s x h
+val_begins b mode s x h = let p = val_bytes b mode s x h in (omega (arith, p.0), p.1)
 
 -- ---- texts
 

@@ -1,8 +1,11 @@
 -- Fixed bytes, as the library writes them.
-use Rattle.std.proofs.Common.{◌≡◌, ℕ, zero, suc, ◌/◌, ◌%◌, ◌^◌, [], ◌∷◌, refl, ap, ap₂, ◌∙◌, arith, subst}
+use Rattle.std.proofs.Common.{◌≡◌, ℕ, zero, suc, ◌/◌, ◌%◌, ◌^◌, ◌∷◌, refl, ap, ap₂, ◌∙◌, arith}
 use Rattle.std.proofs.Math.Nat.{pow-suc, div-div-eq-div-mul}
 use Rattle.std.specs.Int.{w32, w64, w128, to_le_bytes, byte_at, bytes_low_first}
 use Rattle.wasm_base.specs.Texts.{little_endian_text}
+use Rattle.std.proofs.Common.{ℤ, pos, negsuc}
+use Rattle.std.specs.Int.{cast_unsigned}
+use Rattle.wasm_insn.specs.Arguments.{twos_complement, vector_text}
 
 byte_at-is : (i n : ℕ) → byte_at i n ≡ n / 256 ^ i % 256
 byte_at-is zero n = omega arith
@@ -25,3 +28,9 @@ eight_bytes n = from_first 8 n
 
 pub sixteen_bytes : (n : ℕ) → to_le_bytes w128 n ≡ little_endian_text 16 n
 sixteen_bytes n = from_first 16 n
+
+-- a vector's bytes
+pub vector_bytes : (v : ℤ) → to_le_bytes w128 (cast_unsigned w128 v) ≡ vector_text v
+unfolding vector_text
+vector_bytes (pos n) = sixteen_bytes n
+vector_bytes (negsuc n) = sixteen_bytes (twos_complement 128 (negsuc n))

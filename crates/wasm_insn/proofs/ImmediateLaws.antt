@@ -1,12 +1,12 @@
 -- Immediates are read uniquely.
-use Rattle.std.proofs.Common.{◌≡◌, ◌≢◌, ℕ, zero, suc, ◌+◌, ◌-◌, ◌*◌, ◌/◌, ◌%◌, ◌^◌, ◌<◌, ◌≤◌, List, [], ◌∷◌, Bool, true, false, cond, eqb, Option, Some, None, refl, sym, ap, subst, ◌∙◌, arith, ℤ, pos, negsuc}
+use Rattle.std.proofs.Common.{◌≡◌, ◌≢◌, ℕ, zero, suc, ◌+◌, ◌*◌, ◌/◌, ◌%◌, ◌^◌, ◌<◌, List, [], ◌∷◌, Bool, true, false, cond, eqb, Option, refl, sym, ap, ◌∙◌, arith, ℤ, pos, negsuc}
 use Rattle.std.proofs.lemmas.Bool.{eqb-true, eqb-false, ltb-true}
 use Rattle.std.specs.Prelude.{nat_lt}
 use Rattle.wasm_base.specs.Numbers.{Mode}
-use Rattle.wasm_base.specs.Formats.{Format, u32, byte, fixed, impossible, mapped, when, choice, tagged, pair, optional, little_endian}
+use Rattle.wasm_base.specs.Formats.{Format, u32, byte, fixed, impossible, mapped, when, choice, tagged, pair, optional}
 use Rattle.wasm_base.specs.Reading.{UniqueReading, BeginsWith}
 use Rattle.wasm_base.specs.Types.{val_tags, val_ref, IsIndexByte}
-use Rattle.wasm_base.proofs.FormatLaws.{IsInjective, TellsTag, AllTell, AllAlone, when-alone, mapped-alone, such-alone, coded-alone, fixed-alone, impossible-alone, tagged-alone, one_of-alone, byte-alone, little_endian-alone, pair-alone, optional-alone, choice_of, choice-alone, choice_tells, choice_begins, choice_tags, begins_mapped, values_mapped, AllValues, none_in_common, same_pair}
+use Rattle.wasm_base.proofs.FormatLaws.{IsInjective, TellsTag, when-alone, mapped-alone, such-alone, coded-alone, fixed-alone, impossible-alone, tagged-alone, one_of-alone, byte-alone, little_endian-alone, pair-alone, optional-alone, choice_of, choice-alone, choice_tells, choice_begins, choice_tags, begins_mapped, values_mapped, AllValues, none_in_common}
 use Rattle.wasm_base.proofs.NumberLaws.{u32-alone}
 use Rattle.wasm_base.proofs.BaseLaws.{u64-alone, s33-alone}
 use Rattle.wasm_base.proofs.TypeLaws.{val_tag, val_begins, begins_s33, val_choice-alone, val_tells, IsTypeByte, types_apart}
@@ -95,7 +95,7 @@ ordering_tells true mode s o h = ap (λ p. where_set (has_ordering p) 1) h.1
 ordering_tells false mode s o h = ap (λ p. where_set (has_ordering p) 1) (sym h.1)
 
 -- the flags of a plain memory argument, as a sum
-abbrev pub flags_of : MemArg → ℕ
+abbrev flags_of : MemArg → ℕ
 flags_of m = m.align + 16 * (where_set (has_ordering m.ordering) 1 + target_flags m.target)
 
 with_tells : (align : ℕ) (ordered array other : Bool) (mode : Mode) (s : List ℕ) (m : MemArg) → mem_arg_with align ordered array other mode s m
@@ -126,10 +126,10 @@ mem_arg-alone =
 
 -- ---- block types
 
-abbrev block_tags : List (ℕ × Format BlockType)
+abbrev pub block_tags : List (ℕ × Format BlockType)
 block_tags = (0x40, fixed [] blocks.Empty) ∷ []
 
-abbrev block_result : ℕ → Format BlockType
+abbrev pub block_result : ℕ → Format BlockType
 block_result b = mapped blocks.Result (choice val_tags val_ref b)
 
 abbrev block_tag : BlockType → ℕ

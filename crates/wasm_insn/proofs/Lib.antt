@@ -1,4 +1,6 @@
 pub mod FixedBytes
 pub mod ImmediateLaws
-pub mod VectorBytes
 pub mod TableRuns
+pub mod PlainLaws
+pub mod TableRows
+pub mod InstructionLaws

@@ -1,13 +1,14 @@
 -- The rows of all instructions, and their texts.
-use Rattle.std.specs.Prelude.{ℕ, ◌+◌, ◌*◌, List, [], ◌∷◌, ◌++◌, Bool, true, false}
+use Rattle.std.specs.Prelude.{◌≡◌, ◌↔◌, ℕ, ◌+◌, ◌*◌, List, [], ◌∷◌, Bool, true, false}
+use Rattle.wasm_base.specs.Reading.{ReadsAlone}
 use Rattle.wasm_insn.specs.declared.instruction.Instruction.{Instruction}
 use Rattle.wasm_insn.specs.declared.instruction.Instruction.TheVariants.{Unreachable, Nop, Block, Loop, If, Else, Try, Catch, Throw, Rethrow, ThrowRef, End, Br, BrIf, BrTable, Return, Call, CallIndirect, ReturnCall, ReturnCallIndirect, CallRef, ReturnCallRef, Delegate, CatchAll, Drop, Select, TypedSelect, TypedSelectMulti, TryTable, LocalGet, LocalSet, LocalTee, GlobalGet, GlobalSet, TableGet, TableSet, I32Load, I64Load, F32Load, F64Load, I32Load8S, I32Load8U, I32Load16S, I32Load16U, I64Load8S, I64Load8U, I64Load16S, I64Load16U, I64Load32S, I64Load32U, I32Store, I64Store, F32Store, F64Store, I32Store8, I32Store16, I64Store8, I64Store16, I64Store32, MemorySize, MemoryGrow, I32Const, I64Const, F32Const, F64Const, RefNull, RefIsNull, RefFunc, RefEq, RefAsNonNull, BrOnNull, BrOnNonNull, ContNew, ContBind, Suspend, Resume, ResumeThrow, ResumeThrowRef, Switch, StructNew, StructNewDefault, StructGet, StructGetS, StructGetU, StructSet, ArrayNew, ArrayNewDefault, ArrayNewFixed, ArrayNewData, ArrayNewElem, ArrayGet, ArrayGetS, ArrayGetU, ArraySet, ArrayFill, ArrayCopy, ArrayInitData, ArrayInitElem, RefTestNonNull, RefTestNullable, RefCastNonNull, RefCastNullable, BrOnCast, BrOnCastFail, StructNewDesc, StructNewDefaultDesc, RefGetDesc, RefCastDescEqNonNull, RefCastDescEqNullable, BrOnCastDescEq, BrOnCastDescEqFail, MemoryInit, DataDrop, MemoryCopy, MemoryFill, TableInit, ElemDrop, TableCopy, TableGrow, TableSize, TableFill, MemoryDiscard, Numeric, Aggregate, PrefixedNumeric, Vector, VectorImmediate, Atomic}
 use Rattle.wasm_insn.specs.declared.op.Op.TheVariants.{Byte, Prefixed}
 use Rattle.wasm_base.specs.declared.types.RefType.{RefType}
 use Rattle.wasm_base.specs.Cow.{items_of}
-use Rattle.wasm_insn.specs.Arguments.{arguments_text, arguments_fit, unsigned, signed32, signed64, float32, float64, memory, block, heap, labels, catches, types, handles, flag}
-use Rattle.wasm_insn.specs.Immediates.{op_text}
-use Rattle.wasm_insn.specs.Plain.{Plain}
+use Rattle.wasm_insn.specs.Arguments.{arguments_fit, unsigned, signed32, signed64, float32, float64, memory, block, heap, labels, catches, types, handles, flag}
+use Rattle.wasm_insn.specs.Plain.{Plain, plain_text, normal, instruction, ArePlain}
+use Rattle.wasm_insn.specs.Table.{table}
 use Rattle.wasm_insn.specs.Numeric.{numeric_number}
 use Rattle.wasm_insn.specs.Aggregate.{aggregate_number}
 use Rattle.wasm_insn.specs.PrefixedNumeric.{prefixed_numeric_number}
@@ -154,13 +155,22 @@ row_of (Vector i) = record { op = Prefixed 0xFD (vector_number i); arguments = [
 row_of (VectorImmediate i) = vector_immediate_row i
 row_of (Atomic i) = atomic_row i
 
--- the op's text, and the arguments' texts
-abbrev pub plain_text : Plain → List ℕ
-plain_text p = op_text p.op ++ arguments_text p.arguments
-
+-- the op and the arguments, in bytes
 abbrev pub instruction_text : {A : Type 0} → Instruction A → List ℕ
 instruction_text i = plain_text (row_of i)
 
 -- an instruction whose lists can be counted
 abbrev pub InstructionFits : {A : Type 0} → Instruction A → Type 0
 InstructionFits i = arguments_fit (row_of i).arguments
+
+-- Alignments are below 16, and numbers in the range of their types, which every instruction's are that code has made.
+abbrev pub IsPlainInstruction : {A : Type 0} → Instruction A → Type 0
+IsPlainInstruction i = ArePlain (row_of i).arguments
+
+-- Where the instruction is plain, its text is read as its normal form alone.
+pub record ReadsInstruction {A : Type 0} (i : Instruction A) : Type 0 where
+  pub alone : IsPlainInstruction i → ReadsAlone (instruction table) (instruction_text i) (normal (row_of i))
+
+-- Plain instructions have one text exactly where they have one normal form.
+pub record HaveOneText {A : Type 0} (i j : Instruction A) : Type 0 where
+  pub exactly : IsPlainInstruction i → IsPlainInstruction j → (instruction_text i ≡ instruction_text j) ↔ (normal (row_of i) ≡ normal (row_of j))

@@ -2,6 +2,7 @@ pub mod Immediates
 pub mod Parts
 pub mod Arguments
 pub mod Plain
+pub mod Table
 pub mod Numeric
 pub mod Aggregate
 pub mod PrefixedNumeric
@@ -9,4 +10,3 @@ pub mod Vector
 pub mod VectorImmediate
 pub mod Atomic
 pub mod Instructions
-pub mod Table

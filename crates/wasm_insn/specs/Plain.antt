@@ -1,12 +1,10 @@
 -- Plain instructions: their normal form, and which bytes spell them.
-use Rattle.std.specs.Prelude.{◌≡◌, ℕ, suc, ◌/◌, ◌%◌, ◌^◌, ◌<◌, ℤ, pos, negsuc, List, [], ◌∷◌, length, Bool, true, false, ◌==◌, ◌&&◌, cond, nat_le, nat_lt, Option, Some, None, ⊤}
+use Rattle.std.specs.Prelude.{◌≡◌, ℕ, map, ◌++◌, ◌/◌, ◌%◌, ◌^◌, ◌<◌, ℤ, pos, negsuc, List, [], ◌∷◌, length, Bool, true, false, ◌==◌, ◌&&◌, cond, nat_le, nat_lt, Option, Some, None, ⊤}
 use Rattle.std.specs.List.{AllByRecursion}
 use Rattle.wasm_base.specs.Formats.{Format, u32, u64, s32, s64, s33, byte, raw_bytes, little_endian, fixed, impossible, coded, mapped, such, when, choice, tagged, one_of, pair, Then, vec, optional}
 use Rattle.wasm_base.specs.Laws.{FitsSigned32, FitsSigned64}
 use Rattle.wasm_base.specs.Texts.{VecFits}
 use Rattle.wasm_base.specs.Types.{heap_type, val_type, val_tags, val_ref, IsHeap, IsVal}
-use Rattle.wasm_insn.specs.declared.floats.Ieee32.{Ieee32}
-use Rattle.wasm_insn.specs.declared.floats.Ieee64.{Ieee64}
 use Rattle.wasm_insn.specs.declared.memory.Ordering.{Ordering}
 use Rattle.wasm_insn.specs.declared.memory.Ordering.TheVariants.{AcqRel, SeqCst}
 use Rattle.wasm_insn.specs.declared.memory.MemArgOrdering.{MemArgOrdering}
@@ -23,10 +21,10 @@ use Rattle.wasm_insn.specs.declared.control.Handle.TheVariants.{OnLabel, OnSwitc
 use Rattle.wasm_insn.specs.declared.op.Op.{Op}
 use Rattle.wasm_insn.specs.declared.op.Op.TheVariants.{Byte, Prefixed}
 use Rattle.wasm_insn.specs.declared.op.Shape.{Shape}
-use Rattle.wasm_insn.specs.Immediates.{ordering_code}
+use Rattle.wasm_insn.specs.Immediates.{op_text, ordering_code}
 use Rattle.wasm_insn.specs.Parts as parts
 use Rattle.wasm_insn.specs.Parts.{Part, parts_of}
-use Rattle.wasm_insn.specs.Arguments.{Argument, unsigned, signed32, signed64, float32, float64, vector, memory, lane, lanes, block, heap, ordering, labels, catches, types, handles, flag, twos_complement}
+use Rattle.wasm_insn.specs.Arguments.{Argument, unsigned, signed32, signed64, float32, float64, vector, memory, lane, lanes, block, heap, ordering, labels, catches, types, handles, flag, part_of, twos_complement, arguments_text}
 
 -- ---- normal form
 
@@ -258,3 +256,21 @@ plain_of p = record { op = p.0; arguments = p.1 }
 -- instruction in normal form: the opcode, and an argument for each part of its shape
 abbrev pub instruction : Table → Format Plain
 instruction table = mapped plain_of (Then opcode (λ op. arguments_after (shape_of table op)))
+
+-- ---- plain instructions
+
+-- The opcode stands in the table, and there is a plain argument for each part of its shape.
+pub record IsPlain (table : Table) (i : Plain) : Type 0 where
+  pub shape : Shape
+  pub opcode : IsOpcode i.op
+  pub row : shape_of table i.op ≡ Some shape
+  pub parts : map part_of i.arguments ≡ parts_of shape
+  pub arguments : ArePlain i.arguments
+
+abbrev pub plain_text : Plain → List ℕ
+plain_text i = op_text i.op ++ arguments_text i.arguments
+
+-- a plain memory argument in normal form
+pub record IsNormalMemory (m : MemArg) : Type 0 where
+  pub plain : IsPlainMemory m
+  pub normal : normal_memory m ≡ m

@@ -1,6 +1,6 @@
 -- The opcode table: a row for each instruction, in the order of ops: one-byte ops first, then by prefix and number.
-use Rattle.std.specs.Prelude.{◌≡◌, ℕ, ◌+◌, ◌-◌, ◌*◌, ◌^◌, zero, suc, Bool, true, false, not, ◌&&◌, ◌||◌, nat_lt, nat_le, ◌==◌, List, [], ◌∷◌, ◌++◌, Option, Some, None, cond, map, IsTrue, length}
-use Rattle.std.specs.List.{find, flat_map}
+use Rattle.std.specs.Prelude.{◌≡◌, ℕ, ◌+◌, ◌-◌, ◌*◌, ◌^◌, ◌<◌, zero, suc, Bool, true, false, ◌&&◌, nat_le, List, [], ◌∷◌, ◌++◌, Option, Some, None, cond, map, IsTrue, length}
+use Rattle.std.specs.List.{AllByRecursion, find, flat_map}
 use Rattle.std.specs.Option.{option_map}
 use Rattle.wasm_insn.specs.declared.op.Op.{Op}
 use Rattle.wasm_insn.specs.declared.op.Op.TheVariants.{Byte, Prefixed}
@@ -8,7 +8,9 @@ use Rattle.wasm_insn.specs.declared.op.Shape.{Shape}
 use Rattle.wasm_insn.specs.declared.op.Shape.TheVariants.{Nothing, U, Uu, M, Ml, L, B, H, O, Ou, Ouu, C32, C64, F32, F64, V, Ls, Bt, Tt, Ts, K, Uh, Uuh}
 use Rattle.wasm_insn.specs.declared.table.Run.{Run}
 use Rattle.wasm_insn.specs.Immediates.{op_text}
-use Rattle.wasm_insn.specs.Plain.{Table, same_op, is_prefix}
+use Rattle.wasm_insn.specs.Parts.{parts_of}
+use Rattle.wasm_insn.specs.Arguments.{part_of}
+use Rattle.wasm_insn.specs.Plain.{Table, Plain, same_op, is_prefix, shape_of}
 
 -- The ops of the numbers `first` to `last` have one shape.
 abbrev pub run : ℕ → ℕ → Shape → Run
@@ -170,14 +172,9 @@ rank (Byte b) = b
 rank (Prefixed p n) = p * 2 ^ 32 + n
 
 -- a byte that is no prefix, or a prefix with a number of 32 bits
-abbrev pub is_op : Op → Bool
-is_op (Byte b) = nat_lt b 0x100 && not (is_prefix b)
-is_op (Prefixed p n) = is_prefix p && nat_lt n (2 ^ 32)
-
--- Every row's op is one.
-abbrev pub has_ops : Table → Bool
-has_ops [] = true
-has_ops (row ∷ rows) = is_op row.0 && has_ops rows
+abbrev pub IsTableOp : Op → Type 0
+IsTableOp (Byte b) = (b < 0x100) × (is_prefix b ≡ false)
+IsTableOp (Prefixed p n) = (is_prefix p ≡ true) × (n < 2 ^ 32)
 
 -- No row's op comes before that of the row above it.
 abbrev pub ascends : Table → Bool
@@ -191,13 +188,27 @@ shared_ops [] = []
 shared_ops (row ∷ []) = []
 shared_ops (row ∷ next ∷ rows) = cond (same_op row.0 next.0) (row.0 ∷ shared_ops (next ∷ rows)) (shared_ops (next ∷ rows))
 
--- The table has 628 rows of ops in ascending order, and two of its rows, neighbours, share an op, 1C.
+-- the ops of the rows, one for rows that share it
+abbrev pub ops_of : Table → List Op
+ops_of [] = []
+ops_of (row ∷ []) = row.0 ∷ []
+ops_of (row ∷ next ∷ rows) = cond (same_op row.0 next.0) (ops_of (next ∷ rows)) (row.0 ∷ ops_of (next ∷ rows))
+
+-- The table has 628 rows on 627 ops, in ascending order; two neighbours share an op, 1C, and no others do.
 pub record IsOpcodeTable (rows : Table) : Type 0 where
-  pub count : length rows ≡ 628
-  pub ops : IsTrue (has_ops rows)
+  pub row_count : length rows ≡ 628
+  pub op_count : length (ops_of rows) ≡ 627
+  pub ops : AllByRecursion (λ row. IsTableOp row.0) rows
   pub ascending : IsTrue (ascends rows)
   pub shared : shared_ops rows ≡ Byte 0x1C ∷ []
 
 -- No op's bytes begin another's.
 pub record BeginsNoOther : Type 0 where
-  pub for_each : (a b : Op) (x y : List ℕ) → IsTrue (is_op a) → IsTrue (is_op b) → op_text a ++ x ≡ op_text b ++ y → a ≡ b
+  pub for_each : (a b : Op) (x y : List ℕ) → IsTableOp a → IsTableOp b → op_text a ++ x ≡ op_text b ++ y → a ≡ b
+
+-- The op stands in the table, and there is one argument for each part of its shape.
+pub record IsRow (rows : Table) (i : Plain) : Type 0 where
+  pub op : IsTableOp i.op
+  pub shape : Shape
+  pub row : shape_of rows i.op ≡ Some shape
+  pub parts : map part_of i.arguments ≡ parts_of shape

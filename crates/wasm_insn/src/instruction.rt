@@ -2,7 +2,7 @@
 ghost use Rattle.std.specs.Prelude.{◌≡◌, ◌≢◌, IfOk};
 ghost use Rattle.wasm_base.specs.Calls.{Appends};
 ghost use Rattle.wasm_insn.specs.Arguments.{arguments_text, arguments_fit};
-ghost use Rattle.wasm_insn.specs.Instructions.{row_of, instruction_text, InstructionFits, cast_flag_of};
+ghost use Rattle.wasm_insn.specs.Instructions.{row_of, instruction_text, InstructionFits, ReadsInstruction, cast_flag_of};
 
 use crate::aggregate::Aggregate;
 use crate::atomic::Atomic;
@@ -587,6 +587,9 @@ impl<'a, A: Allocator> Encode for Instruction<'a, A> {
 
     ghost fits = { InstructionFits };
 
+    ghost reading = { ReadsInstruction };
+
+    #[tactic(auto, using(crate::proofs::InstructionLaws::reads))]
     fn encode<B: Allocator>(&self, sink: &mut Vec<u8, B>) -> R<()> {
         let start = sink.len();
         self.op().encode(sink)?;

@@ -7,6 +7,7 @@ mod block_type;
 mod control;
 mod floats;
 mod instruction;
+pub mod laws;
 mod memory;
 mod numeric;
 mod op;

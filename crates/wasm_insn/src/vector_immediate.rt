@@ -10,7 +10,7 @@ use std::alloc::Allocator;
 use wasm_base::{Encode, R};
 
 /// The bytes of a vector, the least first.
-#[tactic(auto, using(crate::proofs::VectorBytes::vector_bytes))]
+#[tactic(auto, using(crate::proofs::FixedBytes::vector_bytes))]
 pub(crate) fn vector_bytes(value: i128) -> [u8; 16]
     ensures { result ≡ vector_text value }
 {
