@@ -10,3 +10,4 @@ pub mod Vector
 pub mod VectorImmediate
 pub mod Atomic
 pub mod Instructions
+pub mod Sink
