@@ -7,6 +7,8 @@ mod floats;
 pub mod laws;
 mod memory;
 mod op;
+#[cfg(test)]
+mod tests;
 
 pub use block_type::BlockType;
 pub use control::{Catch, Handle};
