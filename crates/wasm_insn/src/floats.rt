@@ -35,7 +35,8 @@ impl Encode for Ieee32 {
 
     #[tactic(auto, using(crate::proofs::FixedBytes::four_bytes))]
     fn encode<A: Allocator>(&self, sink: &mut Vec<u8, A>) -> R<()> {
-        self.bits.to_le_bytes().encode(sink)
+        let bytes: [u8; 4] = self.bits.to_le_bytes();
+        bytes.encode(sink)
     }
 }
 
@@ -69,6 +70,7 @@ impl Encode for Ieee64 {
 
     #[tactic(auto, using(crate::proofs::FixedBytes::eight_bytes))]
     fn encode<A: Allocator>(&self, sink: &mut Vec<u8, A>) -> R<()> {
-        self.bits.to_le_bytes().encode(sink)
+        let bytes: [u8; 8] = self.bits.to_le_bytes();
+        bytes.encode(sink)
     }
 }

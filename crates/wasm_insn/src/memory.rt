@@ -50,7 +50,7 @@ impl Default for MemArgTarget {
     ghost is_default = { λ target. target ≡ Memory 0 };
 
     fn default() -> Self {
-        MemArgTarget::Memory(0)
+        Self::Memory(0)
     }
 }
 
