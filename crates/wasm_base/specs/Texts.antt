@@ -3,6 +3,7 @@ use Rattle.std.specs.Prelude.{◌≡◌, ℕ, ◌≤◌, List, ◌++◌, length}
 use Rattle.std.proofs.Common.{sym, ap, subst}
 use Rattle.std.specs.List.{All, flat_map}
 use Rattle.wasm_base.specs.Numbers.{unsigned_text}
+use Rattle.wasm_base.specs.Formats.{header}
 
 -- the largest count, run or length that a layout can spell
 abbrev pub longest : ℕ
@@ -24,6 +25,21 @@ frame_text bytes = unsigned_text (length bytes) ++ bytes
 -- a frame whose size can be spelled
 abbrev pub FrameFits : List ℕ → Type 0
 FrameFits bytes = length bytes ≤ longest
+
+-- a section at the level of ids and payloads: its id, and the frame of its payload
+abbrev pub any_section_text : ℕ × List ℕ → List ℕ
+any_section_text section = section.0 ∷ frame_text section.1
+
+abbrev pub AnySectionFits : ℕ × List ℕ → Type 0
+AnySectionFits section = FrameFits section.1
+
+-- module: the header, and the sections one after the other
+unfoldable pub module_text : List (ℕ × List ℕ) → List ℕ
+module_text sections = header ++ flat_map any_section_text sections
+
+-- a module each of whose sections fits
+abbrev pub ModuleFits : List (ℕ × List ℕ) → Type 0
+ModuleFits sections = All AnySectionFits sections
 
 -- The text is the frame of these bytes.
 pub record IsFrameOf (text bytes : List ℕ) : Type 0 where

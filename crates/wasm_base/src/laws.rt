@@ -22,7 +22,7 @@ ghost use Rattle.wasm_base.specs.Formats.{
 ghost use Rattle.wasm_base.specs.Laws.{FitsUnsigned, FitsSigned32, FitsSigned64, NameFits};
 ghost use Rattle.wasm_base.specs.Numbers.{unsigned_text, signed_text};
 ghost use Rattle.wasm_base.specs.Reading.{UniqueReading, UniqueWholeReading, HasTexts, IsUniqueWide, IsUniqueWholeWide};
-ghost use Rattle.wasm_base.specs.Texts.{vec_text, VecFits, frame_text, FrameFits};
+ghost use Rattle.wasm_base.specs.Texts.{vec_text, VecFits, frame_text, FrameFits, module_text, ModuleFits};
 
 /// Numbers are read uniquely. `s33` is an index, spelled as a signed number.
 #[tactic(auto, using(crate::proofs::BaseLaws::numbers))]
@@ -58,6 +58,7 @@ pub fn frames()
     ensures vec_names_texts { HasTexts (vec name) (VecFits NameFits) (vec_text frame_text) }
     ensures frame_texts { HasTexts (frame any_bytes) FrameFits frame_text }
     ensures name_texts { HasTexts name NameFits frame_text }
+    ensures module_texts { HasTexts wasm_module ModuleFits module_text }
 {}
 
 /// With padded numbers, as the standard allows them, bytes are read uniquely too, and what shortest numbers spell is among it.
