@@ -27,14 +27,14 @@ impl Countdown {
     }
 }
 
-/// A reader of a text, which gives it in pieces, and one of whose reads fails.
+/// A reader of a text, which gives it in pieces. One of its reads fails, if a test wants that.
 /// A read that fails takes nothing, and the reads after it go on.
 #[derive(Drop)]
 pub struct FailingReader<'a> {
     text: &'a [u8],
     chunk: usize,
     countdown: Countdown,
-    ghost gives: { 0 < chunk },
+    ghost positive: { 0 < chunk },
 }
 
 impl<'a> FailingReader<'a> {
@@ -59,8 +59,10 @@ impl Read for FailingReader<'_> {
 
     fn read(&mut self, buf: &mut [u8]) -> Result<usize>
         ensures bound { ReadsAtMost result buf.new }
-        ensures bytes { ReadConsumes (Some self.old.text.now) (Some self.new.text.now) result buf.new }
-        ensures count { IfOk result (λ n. n ≡ min (min (length self.old.text.now) self.old.chunk) (length buf.new)) }
+        ensures bytes { ReadConsumes (Some self.old.text.now) (Some self.new.text.now) result
+            buf.new }
+        ensures count { let piece = min (length self.old.text.now) self.old.chunk in
+            IfOk result (λ n. n ≡ min piece (length buf.new)) }
         ensures fails { IsErr result ↔ (self.old.countdown.left ≡ 1) }
         ensures counts { self.new.countdown.left ≡ self.old.countdown.left - 1 }
         ensures chunk { self.new.chunk ≡ self.old.chunk }
@@ -80,6 +82,7 @@ pub struct EndlessReader {
 }
 
 impl EndlessReader {
+    /// No read was made yet.
     pub fn new() -> EndlessReader
         ensures { result.reads ≡ 0 }
     {
@@ -113,7 +116,7 @@ impl Read for EndlessReader {
     }
 }
 
-/// A writer that keeps what it is given, and one of whose writes fails.
+/// A writer that keeps what it is given. One of its writes fails, if a test wants that.
 /// A write that fails takes nothing, and the writes after it go on.
 #[derive(Drop)]
 pub struct FailingWriter<A: Allocator> {
@@ -122,7 +125,8 @@ pub struct FailingWriter<A: Allocator> {
 }
 
 impl<A: Allocator> FailingWriter<A> {
-    /// The write numbered `failing` fails, counted from 1, and at 0 none does.
+    /// It keeps what it is given in memory of `alloc`. A write also fails where there is none, and
+    /// then takes nothing. The one numbered `failing` fails, counted from 1, and at 0 none does.
     pub fn new(alloc: A, failing: u64) -> FailingWriter<A>
         ensures bytes { result.written.items ≡ [] }
         ensures failing { result.countdown.left ≡ failing }
@@ -146,7 +150,8 @@ impl<A: Allocator> Write for FailingWriter<A> {
 
     fn write(&mut self, buf: &[u8]) -> Result<usize>
         ensures bound { WritesAtMost result buf.now }
-        ensures bytes { WriteAppends (Some self.old.written.items) (Some self.new.written.items) result buf.now }
+        ensures bytes { WriteAppends (Some self.old.written.items) (Some self.new.written.items)
+            result buf.now }
         ensures whole { IfOk result (λ n. n ≡ length buf.now) }
         ensures fails { self.old.countdown.left ≡ 1 → IsErr result }
         ensures counts { self.new.countdown.left ≡ self.old.countdown.left - 1 }

@@ -5,7 +5,7 @@ use mathlib.Core.Bool.{Bool}
 use mir.MapTy.{inst_fn}
 use mir.Syntax.{Ty, Args, Fn, a_type, dnil, dcons}
 use mir.Val.{Val, vbool, vint, vptr}
-use base.Fml.{Lft, Share, ftrue, fsep, froom, flft}
+use base.Fml.{Lft, Share, ftrue, flft}
 use base.Logic.{SProp, ent, sep}
 use prog.Memory.{Memory, size, align, capped}
 use prog.Routine.{Routine}
@@ -37,7 +37,7 @@ use denote.Triple.Walked.{Stays, stay_dropped, walk_of, ends_at, walked, Goes-dr
 use Rattle.std.proofs.alloc.Calls.{Al, seen, token, got, Answer, answer_val, Answer-typed, Answer-Ok, Answer-err, takes_key, Takes, at_takes, Answered, Takes-goes, Takes-gives, answers}
 use Rattle.std.proofs.alloc.Shapes.{after}
 use Rattle.test_support.proofs.Parts.{Whole, inner_at, gate_at, gate_seen, parts}
-use Rattle.test_support.proofs.Verdict.{Verdict, asked, asks, Told, tells}
+use Rattle.test_support.proofs.Verdict.{Verdict, asked, asks, tells}
 use Rattle.test_support.proofs.memory.Gate.refuses.Met as refuses_met
 use Rattle.test_support.proofs.memory.Gate.refuses.Symbol as refuses
 use Rattle.test_support.proofs.memory.RefusingAllocator.allocate.Code as code

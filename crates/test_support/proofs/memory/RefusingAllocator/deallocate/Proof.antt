@@ -22,7 +22,7 @@ use denote.Exit.{yes}
 use denote.Param.{bounded}
 use denote.Plain.{uint_vals, uint_Tells}
 use denote.RattleType.{owns}
-use denote.RawPtr.{Ptr, block_ptr, null_ptr, ptr_val, room_for, rawptr_vals, rawptr_Tells}
+use denote.RawPtr.{Ptr, block_ptr, null_ptr, ptr_val, rawptr_vals, rawptr_Tells}
 use denote.Ref.{shr_vals}
 use denote.Signature.{Slot, plain, types_at}
 use denote.Steps.{heard, nothing}
