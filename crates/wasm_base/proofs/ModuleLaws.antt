@@ -4,7 +4,7 @@ use Rattle.std.specs.List.{flat_map}
 use Rattle.wasm_base.specs.Numbers.{Mode, shortest}
 use Rattle.wasm_base.specs.Formats.{Format, byte, any_bytes, frame, members, any_section, wasm_module, header}
 use Rattle.wasm_base.specs.Reading.{ReadsWhole, UniqueReading, UniqueWholeReading, HasTexts, BeginsWith}
-use Rattle.wasm_base.specs.Texts.{IsFrameOf}
+use Rattle.wasm_base.specs.Texts.{frame_text, IsFrameOf, any_section_text, AnySectionFits, module_text, ModuleFits}
 use Rattle.wasm_base.specs.Calls.{ReadsOneMore}
 use Rattle.wasm_base.proofs.FormatLaws.{begins_then, pair-alone, frame-alone, byte-alone, any_bytes-whole, members-whole, prefixed-whole}
 use Rattle.wasm_base.proofs.TextLaws.{reads_whole, frame_spelled, members_spelled}

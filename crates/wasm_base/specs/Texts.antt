@@ -1,5 +1,5 @@
 -- text: the bytes that a layout gives for a value.
-use Rattle.std.specs.Prelude.{◌≡◌, ℕ, ◌≤◌, List, ◌++◌, length}
+use Rattle.std.specs.Prelude.{◌≡◌, ℕ, ◌≤◌, List, ◌∷◌, ◌++◌, length}
 use Rattle.std.proofs.Common.{sym, ap, subst}
 use Rattle.std.specs.List.{All, flat_map}
 use Rattle.wasm_base.specs.Numbers.{unsigned_text}

@@ -1,13 +1,14 @@
-// A library with one function.
+//! Recipes of WebAssembly modules: lines of text that each add an item to a section.
+//!
+//! What a text says is defined in `specs/Recipe.antt`: its lines, their words, the entry or the fault of each line, and the module
+//! of the sections that the entries add to. [`assemble`] gives that module, and [`run`] is the program around it.
 #![tactic(auto)]
 
-ghost use Rattle.std.specs.Prelude.{◌≡◌};
-ghost use Rattle.wasm_tool.specs.Echo.{echo_of};
+mod fault;
+mod program;
+mod recipe;
+mod words;
 
-// The `ensures` clause is the contract: what `echo` returns is `echo_of` of its argument, a definition
-// in `specs/Echo.antt`, which a caller's clause can cite too.
-pub fn echo(x: usize) -> usize
-    ensures { result ≡ echo_of x }
-{
-    x
-}
+pub use fault::{RecipeCause, RecipeFault};
+pub use program::run;
+pub use recipe::assemble;
