@@ -9,7 +9,7 @@ use Rattle.wasm_base.specs.Laws.{FitsUnsigned, FitsBytes, FitsSigned32, FitsSign
 use Rattle.wasm_base.proofs.NumberLaws.{unsigned-alone, signed-alone, u32-alone}
 use Rattle.wasm_base.proofs.FormatLaws.{little_endian-alone, byte-alone, any_bytes-whole, pair-whole, vec-alone, frame-alone, such-alone}
 use Rattle.wasm_base.proofs.TextLaws.{little_endian_spelled, u32_spelled, u64_spelled, s32_spelled, s64_spelled, s33_spelled, frame_spelled, name_spelled, vec_spelled}
-use Rattle.wasm_base.proofs.ModuleLaws.{module-whole}
+use Rattle.wasm_base.proofs.ModuleLaws.{module-whole, module-texts}
 
 pub unique_wide : {X : Type 0} {F : Format X} → UniqueReading F → IsUniqueWide F
 unique_wide {F = F} f = record { alone = f.alone wide; wider = f.spellings.wider }
@@ -107,7 +107,7 @@ vec-u32-texts = record { spelled = vec_spelled u32 (FitsUnsigned 32) unsigned_te
 pub vec-names-texts : HasTexts (vec name) (VecFits NameFits) (vec_text frame_text)
 vec-names-texts = record { spelled = vec_spelled name NameFits frame_text (λ bytes h. name_spelled bytes h.0 h.1) }
 
-pub ruleset frames = (fixed_4-alone, fixed_8-alone, fixed_16-alone, fixed_4-texts, fixed_8-texts, fixed_16-texts, frame-bytes-alone, name-alone, vec-bytes-alone, vec-u32-alone, vec-names-alone, custom-alone, module-whole, frame-texts, name-texts, vec-u32-texts, vec-names-texts)
+pub ruleset frames = (fixed_4-alone, fixed_8-alone, fixed_16-alone, fixed_4-texts, fixed_8-texts, fixed_16-texts, frame-bytes-alone, name-alone, vec-bytes-alone, vec-u32-alone, vec-names-alone, custom-alone, module-whole, module-texts, frame-texts, name-texts, vec-u32-texts, vec-names-texts)
 
 -- ---- padded numbers
 

@@ -1,12 +1,13 @@
 -- A module is read as its sections, at the level of ids and payloads.
 use Rattle.std.proofs.Common.{◌≡◌, ℕ, List, [], ◌∷◌, ◌++◌, refl, sym, ap, subst, ◌∙◌, append_assoc, append-nil}
+use Rattle.std.specs.List.{flat_map}
 use Rattle.wasm_base.specs.Numbers.{Mode, shortest}
 use Rattle.wasm_base.specs.Formats.{Format, byte, any_bytes, frame, members, any_section, wasm_module, header}
-use Rattle.wasm_base.specs.Reading.{ReadsWhole, UniqueReading, UniqueWholeReading, BeginsWith}
-use Rattle.wasm_base.specs.Texts.{IsFrameOf}
+use Rattle.wasm_base.specs.Reading.{ReadsWhole, UniqueReading, UniqueWholeReading, HasTexts, BeginsWith}
+use Rattle.wasm_base.specs.Texts.{frame_text, IsFrameOf, any_section_text, AnySectionFits, module_text, ModuleFits}
 use Rattle.wasm_base.specs.Calls.{ReadsOneMore}
 use Rattle.wasm_base.proofs.FormatLaws.{begins_then, pair-alone, frame-alone, byte-alone, any_bytes-whole, members-whole, prefixed-whole}
-use Rattle.wasm_base.proofs.TextLaws.{reads_whole, frame_spelled}
+use Rattle.wasm_base.proofs.TextLaws.{reads_whole, frame_spelled, members_spelled}
 
 pub section-alone : UniqueReading any_section
 section-alone = pair-alone byte-alone (frame-alone any_bytes-whole)
@@ -56,3 +57,31 @@ one_more_section Payload id text old new e framed = record {
       subst (λ s. ReadsWhole wasm_module s (sections ++ (id, payload) ∷ [])) (sym e)
       (reads_whole {F = wasm_module} module-whole (more_spelled old sections id text payload read.spelled (framed payload pays)));
 }
+
+-- ---- the text of a module
+
+any_section-spelled : (section : ℕ × List ℕ) → AnySectionFits section → any_section shortest (any_section_text section) section
+any_section-spelled section fits = record {
+  front = section.0 ∷ [];
+  back = frame_text section.1;
+  joined = refl;
+  first = refl;
+  second = frame_spelled any_bytes section.1 section.1 fits refl;
+}
+
+pub module_text-spelled : (sections : List (ℕ × List ℕ)) → ModuleFits sections → wasm_module shortest (module_text sections) sections
+unfolding module_text
+module_text-spelled sections fits =
+    ((tt, sections), refl, record {
+      front = header;
+      back = flat_map any_section_text sections;
+      joined = refl;
+      first = (refl, refl);
+      second = members_spelled any_section AnySectionFits any_section_text any_section-spelled sections fits;
+    })
+
+pub module_text-reads : (sections : List (ℕ × List ℕ)) → ModuleFits sections → ReadsWhole wasm_module (module_text sections) sections
+module_text-reads sections fits = reads_whole {F = wasm_module} module-whole (module_text-spelled sections fits)
+
+pub module-texts : HasTexts wasm_module ModuleFits module_text
+module-texts = record { spelled = module_text-spelled }

@@ -1,7 +1,8 @@
 -- The entries of a builder: pieces of bytes that lie one after another.
 use Rattle.std.specs.Prelude.{◌≡◌, ℕ, ◌+◌, ◌-◌, ◌≤◌, List, [], ◌∷◌, ◌++◌, length, take, drop}
 use Rattle.wasm_base.specs.Numbers.{unsigned_text}
-use Rattle.wasm_base.specs.Texts.{longest, frame_text, FrameFits}
+use Rattle.std.proofs.Common.{sym, ap, subst}
+use Rattle.wasm_base.specs.Texts.{longest, frame_text, FrameFits, IsFrameOf}
 
 -- the pieces, one after another
 abbrev pub joined : List (List ℕ) → List ℕ
@@ -31,3 +32,12 @@ section_text pieces = frame_text (unsigned_text (length pieces) ++ joined pieces
 pub record SectionFits (pieces : List (List ℕ)) : Type 0 where
   pub count : length pieces ≤ longest
   pub size : FrameFits (unsigned_text (length pieces) ++ joined pieces)
+
+-- The payload of a counted section is the number of its entries and these.
+abbrev pub SectionPayload : List (List ℕ) → List ℕ → Type 0
+SectionPayload pieces bytes = bytes ≡ unsigned_text (length pieces) ++ joined pieces
+
+-- its text is the frame of that payload
+pub section_framed : (pieces : List (List ℕ)) (bytes : List ℕ) → SectionFits pieces → SectionPayload pieces bytes → IsFrameOf (section_text pieces) bytes
+unfolding section_text
+section_framed pieces bytes fits e = record { is = ap frame_text (sym e); fits = subst FrameFits (sym e) fits.size }

@@ -3,6 +3,7 @@ use Rattle.std.specs.Prelude.{◌≡◌, ℕ, zero, suc, ◌/◌, ◌%◌, ◌�
 use Rattle.std.proofs.Common.{sym, ap, subst}
 use Rattle.std.specs.List.{All, flat_map}
 use Rattle.wasm_base.specs.Numbers.{unsigned_text}
+use Rattle.wasm_base.specs.Formats.{header}
 
 -- the largest count, run or length that a layout can spell
 abbrev pub longest : ℕ
@@ -29,6 +30,21 @@ FrameFits bytes = length bytes ≤ longest
 abbrev pub little_endian_text : ℕ → ℕ → List ℕ
 little_endian_text zero v = []
 little_endian_text (suc n) v = v % 256 ∷ little_endian_text n (v / 256)
+
+-- a section at the level of ids and payloads: its id, and the frame of its payload
+abbrev pub any_section_text : ℕ × List ℕ → List ℕ
+any_section_text section = section.0 ∷ frame_text section.1
+
+abbrev pub AnySectionFits : ℕ × List ℕ → Type 0
+AnySectionFits section = FrameFits section.1
+
+-- module: the header, and the sections one after the other
+unfoldable pub module_text : List (ℕ × List ℕ) → List ℕ
+module_text sections = header ++ flat_map any_section_text sections
+
+-- a module each of whose sections fits
+abbrev pub ModuleFits : List (ℕ × List ℕ) → Type 0
+ModuleFits sections = All AnySectionFits sections
 
 -- The text is the frame of these bytes.
 pub record IsFrameOf (text bytes : List ℕ) : Type 0 where

@@ -23,7 +23,7 @@ ghost use Rattle.wasm_base.specs.Laws.{FitsUnsigned, FitsBytes, FitsSigned32, Fi
 ghost use Rattle.wasm_base.specs.Numbers.{unsigned_text, signed_text};
 ghost use Rattle.wasm_base.specs.Reading.{UniqueReading, UniqueWholeReading, HasTexts, BeginsWith, IsUniqueWide, IsUniqueWholeWide};
 ghost use Rattle.wasm_base.specs.Types.{heap_type, ref_type, val_type, heap_text, ref_text, val_text, IsHeap, IsRef, IsVal, IsIndexByte};
-ghost use Rattle.wasm_base.specs.Texts.{vec_text, VecFits, frame_text, FrameFits, little_endian_text};
+ghost use Rattle.wasm_base.specs.Texts.{vec_text, VecFits, frame_text, FrameFits, module_text, ModuleFits, little_endian_text};
 
 /// Numbers are read uniquely. `s33` is an index, spelled as a signed number.
 #[tactic(auto, using(crate::proofs::BaseLaws::numbers))]
@@ -62,6 +62,7 @@ pub fn frames()
     ensures vec_names_texts { HasTexts (vec name) (VecFits NameFits) (vec_text frame_text) }
     ensures frame_texts { HasTexts (frame any_bytes) FrameFits frame_text }
     ensures name_texts { HasTexts name NameFits frame_text }
+    ensures module_texts { HasTexts wasm_module ModuleFits module_text }
 {}
 
 /// Types are read uniquely: no index begins with a byte of theirs, nor with the 40 of an empty block type (hexadecimal).

@@ -1,0 +1,11 @@
+//! What the tests of other crates share: an allocator that refuses requests, and readers and
+//! writers that fail.
+#![tactic(auto)]
+
+mod memory;
+mod streams;
+#[cfg(test)]
+mod tests;
+
+pub use memory::Refusing;
+pub use streams::{EndlessReader, FailingReader, FailingWriter};

@@ -1,0 +1,141 @@
+// The code section.
+ghost use Rattle.std.specs.Prelude.{◌≡◌, ◌≢◌, ℕ, List, [], length, IfOk, IsTrue, ◌↔◌, slice_get};
+ghost use Rattle.std.specs.Option.{option_copied};
+ghost use Rattle.wasm_base.specs.Calls.{Adds, ReadsBack};
+ghost use Rattle.wasm_base.specs.Pieces.{joined, section_text, SectionFits};
+ghost use Rattle.wasm_base.specs.Texts.{frame_text, FrameFits};
+ghost use Rattle.wasm_base.specs.declared.refused.Refused.TheVariants.{TooLong};
+ghost use Rattle.wasm_code.specs.Code.{raw_code, HoldsBodies};
+
+use std::alloc::{Allocator, Global};
+use std::marker::Model;
+use wasm_base::{Encode, Pieces, R, Section, SectionId, encode_frame};
+
+/// The bodies of a module's functions, seen as the bytes of each entry: the frame of a raw body.
+///
+/// ```rust
+/// let mut code = CodeSection::new(alloc);
+/// code.raw(&[0x00, 0x0B])?;
+/// module.section(&code)?;
+/// ```
+#[derive(Drop, Debug)]
+pub struct CodeSection<A: Allocator = Global> {
+    pieces: Pieces<A>,
+}
+
+impl<A: Allocator> Model for CodeSection<A> {
+    ghost Value = { List (List ℕ) };
+
+    ghost view = { λ s. s.pieces };
+}
+
+/// A raw body that is given as bytes.
+#[derive(Clone, Copy)]
+struct RawBody<'a> {
+    bytes: &'a [u8],
+}
+
+impl Encode for RawBody<'_> {
+    ghost text = { λ body. frame_text body.bytes.now };
+
+    ghost fits = { λ body. FrameFits body.bytes.now };
+
+    fn encode<A: Allocator>(&self, sink: &mut Vec<u8, A>) -> R<()> {
+        encode_frame(sink, self.bytes)
+    }
+}
+
+impl<A: Allocator> CodeSection<A> {
+    /// The number of bodies.
+    pub fn len(&self) -> u32
+        ensures { result ≡ length self.now }
+    {
+        self.pieces.len()
+    }
+
+    /// How many bytes the entries have together, without their number.
+    pub fn byte_len(&self) -> usize
+        ensures { result ≡ length (joined self.now) }
+    {
+        self.pieces.raw_len()
+    }
+
+    /// Whether there is no body.
+    pub fn is_empty(&self) -> bool
+        ensures { IsTrue result ↔ (length self.now ≡ 0) }
+    {
+        self.pieces.is_empty()
+    }
+
+    /// The bytes of the entry at `index`: the frame of a raw body.
+    pub fn piece(&self, index: u32) -> Option<&[u8]>
+        ensures { option_copied result ≡ slice_get self.now index }
+    {
+        self.pieces.get(index)
+    }
+
+    /// Adds a raw body, as `Function::into_raw_body` gives it. A refused call leaves the section as it was.
+    pub fn raw(&mut self, body: &[u8]) -> R<()>
+        ensures { Adds (frame_text body.now) (FrameFits body.now) self.old self.new result }
+    {
+        self.pieces.add_encoded(&RawBody { bytes: body })
+    }
+}
+
+impl<A: Allocator + Copy> CodeSection<A> {
+    /// A section of no bodies. It takes no memory.
+    pub fn new(alloc: A) -> Self
+        ensures { result ≡ [] }
+    {
+        CodeSection {
+            pieces: Pieces::new(alloc),
+        }
+    }
+
+    /// A section of the same bodies, in memory of its own.
+    pub fn clone(&self) -> R<Self>
+        ensures same { IfOk result (λ section. section ≡ self.now) }
+        ensures memory { result ≢ Err TooLong }
+    {
+        Ok(CodeSection {
+            pieces: self.pieces.clone()?,
+        })
+    }
+}
+
+/// The frame of the number of bodies and their frames.
+impl<A: Allocator> Encode for CodeSection<A> {
+    ghost text = { section_text };
+
+    ghost fits = { SectionFits };
+
+    ghost reading = { λ section. ReadsBack raw_code (HoldsBodies section) (section_text section) };
+
+    fn encode<B: Allocator>(&self, sink: &mut Vec<u8, B>) -> R<()> {
+        self.pieces.encode(sink)
+    }
+}
+
+impl<A: Allocator> Section for CodeSection<A> {
+    ghost use Rattle.wasm_base.specs.Pieces.{SectionPayload, section_framed};
+    ghost use Rattle.wasm_base.specs.SectionId.{number_of};
+    ghost use Rattle.wasm_base.specs.declared.section_id.SectionId.TheVariants as ids;
+
+    ghost id_of = { λ _. number_of ids.Code };
+
+    ghost Items = { List (List ℕ) };
+
+    ghost format = { raw_code };
+
+    ghost says = { HoldsBodies };
+
+    ghost payload = { SectionPayload };
+
+    fn id(&self) -> u8 {
+        SectionId::Code.into()
+    }
+
+    ghost framed = { section_framed };
+
+    ghost reads_back = { λ section promised. promised };
+}

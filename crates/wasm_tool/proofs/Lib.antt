@@ -1,0 +1,4 @@
+pub mod LineLemmas
+pub mod SectionLemmas
+pub mod RecipeLemmas
+pub mod Drained

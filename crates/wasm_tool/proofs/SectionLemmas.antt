@@ -1,0 +1,59 @@
+-- What a section that fits says of its items, and its text of its pieces.
+use Rattle.std.proofs.Common.{◌≡◌, ℕ, ◌<◌, ◌≤◌, ◌+◌, List, [], ◌∷◌, ◌++◌, length, false, Result, Ok, Err, ◌≢◌, refl, sym, ap, ◌∙◌, lit<, lit≤, arith, length-append, append-nil}
+use Rattle.std.specs.Prelude.{OnOk}
+use Rattle.std.specs.List.{flat_map}
+use Rattle.wasm_base.specs.Numbers.{unsigned_text}
+use Rattle.wasm_base.specs.Texts.{longest, frame_text, FrameFits, any_section_text}
+use Rattle.wasm_base.specs.Pieces.{joined, section_text, SectionFits}
+use Rattle.wasm_base.proofs.Cut.{joined_push}
+use Rattle.wasm_base.proofs.NumberTexts.{groups_text-last}
+use Rattle.wasm_base.proofs.Outcomes.{on_ok}
+use Rattle.wasm_base.specs.declared.refused.Refused.{Refused}
+use Rattle.wasm_base.specs.declared.refused.Refused.TheVariants.{TooLong}
+use Rattle.wasm_tool.specs.Recipe.{section_of}
+use Rattle.wasm_tool.specs.Steps.{PutsSection}
+
+-- a section with one more item has a number for it
+pub fits_count : (items : List (List ℕ)) (item : List ℕ) → SectionFits (items ++ item ∷ []) → length items < longest
+fits_count items item h = omega (arith, h.count, length-append items (item ∷ []))
+
+-- an item of a section that fits is no longer than a size can say
+pub fits_item : (items : List (List ℕ)) (item : List ℕ) → SectionFits (items ++ item ∷ []) → length item ≤ longest
+fits_item items item h =
+    omega (arith, h.size, length-append (unsigned_text (length (items ++ item ∷ []))) (joined (items ++ item ∷ [])), ap length (joined_push items item), length-append (joined items) item)
+
+-- nor are the bytes in an item that is a frame
+pub fits_frame : (items : List (List ℕ)) (bytes : List ℕ) → SectionFits (items ++ frame_text bytes ∷ []) → FrameFits bytes
+fits_frame items bytes h =
+    omega (arith, fits_item items (frame_text bytes) h, length-append (unsigned_text (length bytes)) bytes)
+
+-- the text of a section that has items, and of one that has none
+pub section_of-some : (id : ℕ) (items : List (List ℕ)) → 0 < length items → flat_map any_section_text (section_of id items) ≡ id ∷ section_text items
+unfolding section_text
+section_of-some id [] h = absurd (omega arith)
+section_of-some id (item ∷ items) h = append-nil (id ∷ frame_text (unsigned_text (length (item ∷ items)) ++ joined (item ∷ items)))
+
+pub section_of-none : (id : ℕ) (items : List (List ℕ)) → length items ≡ 0 → flat_map any_section_text (section_of id items) ≡ []
+section_of-none id [] h = refl
+section_of-none id (item ∷ items) h = absurd (omega arith)
+
+-- ---- putting a section into a module
+
+fits_none : (items : List (List ℕ)) → length items ≡ 0 → SectionFits items
+fits_none [] h = record { count = omega arith; size = simp (groups_text-last false 0x80 0 (lit< tt)) (lit≤ tt) }
+fits_none (item ∷ items) h = absurd (omega arith)
+
+pub puts_none : (id : ℕ) (items : List (List ℕ)) (old : List ℕ) → length items ≡ 0 → PutsSection id items old old (Ok tt)
+puts_none id items old none = record {
+  ok = sym (ap (λ t. old ++ t) (section_of-none id items none) ∙ append-nil old);
+  fitted = fits_none items none;
+  too_long = λ _ e. cc;
+}
+
+pub puts_some : (id : ℕ) (items : List (List ℕ)) (old new : List ℕ) (result : Result (Unit {0}) Refused) → 0 < length items
+    → OnOk result (new ≡ old ++ id ∷ section_text items) → OnOk result (SectionFits items) → (SectionFits items → result ≢ Err TooLong) → PutsSection id items old new result
+puts_some id items old new result some ok fitted too_long = record {
+  ok = on_ok result _ _ ok (λ e. e ∙ ap (λ t. old ++ t) (sym (section_of-some id items some)));
+  fitted = fitted;
+  too_long = too_long;
+}

@@ -1,0 +1,165 @@
+// Recipes: from lines of text to a module.
+ghost use Rattle.std.specs.Prelude.{◌≡◌, ◌≢◌, ◌⊎◌, ◌++◌, ◌∷◌, [], All, IfOk, IfErr, IsErr, OnOk, length};
+ghost use Rattle.std.specs.Str.Lines.{strip_carriage_return};
+ghost use Rattle.hex.specs.Hex.{decode_of};
+ghost use Rattle.wasm_base.specs.Formats.{wasm_module};
+ghost use Rattle.wasm_base.specs.Reading.{ReadsWhole};
+ghost use Rattle.wasm_base.specs.Texts.{module_text};
+ghost use Rattle.wasm_base.specs.declared.refused.Refused.TheVariants as refusals;
+ghost use Rattle.wasm_tool.specs.Lines.{words_of, lines_of};
+ghost use Rattle.wasm_tool.specs.Recipe.{entry_of, type_entry, body_entry, IsGood, entries_of, sections_of, recipe_module, RecipeFits};
+ghost use Rattle.wasm_tool.specs.Steps.{Follows, Explains, IsEmpty, FitsSections, PutsSection, listed};
+
+use crate::fault::{RecipeCause, RecipeFault};
+use crate::words::Words;
+use hex::FromHexError;
+use std::alloc::Allocator;
+use wasm_base::{Encode, Module, Pieces, R, RawSection, SectionId};
+use wasm_code::{CodeSection, Function};
+
+/// The sections to which the lines read so far have added.
+#[derive(Drop)]
+pub(crate) struct Recipe<A: Allocator> {
+    types: Pieces<A>,
+    code: CodeSection<A>,
+}
+
+/// The bytes of a word of hexadecimal digits.
+fn hex_bytes<A: Allocator>(alloc: A, word: &str) -> Result<Vec<u8, A>, RecipeCause>
+    ensures ok { IfOk result (λ bytes. decode_of word.now ≡ Ok bytes.items) }
+    ensures err { IfErr result (λ cause. (cause ≡ RecipeCause.Memory) ⊎ ((cause ≡ RecipeCause.BadHex) × IsErr (decode_of word.now))) }
+{
+    hex::decode(alloc, word).map_err(|e| match e {
+        FromHexError::OutOfMemory => RecipeCause::Memory,
+        _ => RecipeCause::BadHex,
+    })
+}
+
+/// The raw body of a function without locals, of these instructions.
+fn raw_body<A: Allocator>(alloc: A, instructions: Vec<u8, A>) -> R<Vec<u8, A>>
+    ensures ok { IfOk result (λ body. body.items ≡ 0 ∷ instructions.items) }
+    ensures memory { result ≢ Err refusals.TooLong }
+{
+    let mut function = Function::new(alloc)?;
+    function.raw(instructions)?;
+    Ok(function.into_raw_body())
+}
+
+impl<A: Allocator + Copy> Recipe<A> {
+    fn new(alloc: A) -> Self
+        ensures { IsEmpty result }
+    {
+        Recipe {
+            types: Pieces::new(alloc),
+            code: CodeSection::new(alloc),
+        }
+    }
+
+    /// Reads a line, and adds its item.
+    fn read_line(&mut self, alloc: A, line: &str) -> Result<(), RecipeCause>
+        ensures { Follows (entry_of line.now) self.old self.new result }
+    {
+        let mut words = Words::new(line);
+        let Some(command) = words.next() else {
+            return Ok(());
+        };
+        match command {
+            "type" => self.read_type(alloc, words),
+            "body" => self.read_body(alloc, words),
+            _ => Err(RecipeCause::UnknownCommand),
+        }
+    }
+
+    fn read_type(&mut self, alloc: A, mut words: Words<'_>) -> Result<(), RecipeCause>
+        ensures { Follows (type_entry (words_of words.entry.rest.now)) self.old self.new result }
+    {
+        let word = words.next().ok_or(RecipeCause::MissingWord)?;
+        let item = hex_bytes(alloc, word)?;
+        self.types.add(&item)?;
+        Ok(())
+    }
+
+    fn read_body(&mut self, alloc: A, mut words: Words<'_>) -> Result<(), RecipeCause>
+        ensures { Follows (body_entry (words_of words.entry.rest.now)) self.old self.new result }
+    {
+        let word = words.next().ok_or(RecipeCause::MissingWord)?;
+        let instructions = hex_bytes(alloc, word)?;
+        let body = raw_body(alloc, instructions)?;
+        self.code.raw(&body)?;
+        Ok(())
+    }
+
+    /// Puts the type section into the module: the number of types, and these.
+    fn put_types(&self, alloc: A, target: &mut Module<A>) -> R<()>
+        ensures { PutsSection 1 self.now.types target.old target.new result }
+    {
+        if self.types.is_empty() {
+            return Ok(());
+        }
+        let mut content = Vec::new(alloc);
+        self.types.len().encode(&mut content)?;
+        content.extend_from_slice(self.types.bytes())?;
+        target.section(&RawSection {
+            id: SectionId::Types.into(),
+            bytes: &content,
+        })
+    }
+
+    fn put_code(&self, target: &mut Module<A>) -> R<()>
+        ensures { PutsSection 10 self.now.code target.old target.new result }
+    {
+        if self.code.is_empty() {
+            return Ok(());
+        }
+        target.section(&self.code)
+    }
+
+    /// The module of the sections.
+    fn finish(&self, alloc: A) -> R<Vec<u8, A>>
+        ensures ok { IfOk result (λ bytes. bytes.items ≡ module_text (listed self.now)) }
+        ensures fitted { OnOk result (FitsSections self.now) }
+        ensures too_long { FitsSections self.now → result ≢ Err refusals.TooLong }
+    {
+        let mut module = Module::new(alloc)?;
+        self.put_types(alloc, &mut module)?;
+        self.put_code(&mut module)?;
+        Ok(module.finish())
+    }
+}
+
+/// A line without the carriage return at its end.
+fn without_return(line: &str) -> &str
+    ensures { result.now ≡ strip_carriage_return line.now }
+{
+    line.strip_suffix('\r').unwrap_or(line)
+}
+
+/// The module that a recipe makes, or its first faulty line.
+///
+/// Each line is a command and its words: `type HEX` adds a type to the type section, `body HEX` a function without locals and with
+/// these instructions to the code section. Sections that received an item are written in the order of the standard. A line
+/// without words is skipped, and words past those needed are ignored.
+///
+/// ```rust
+/// let module = assemble(alloc, "body 200020016a0b")?;
+/// ```
+pub fn assemble<A: Allocator + Copy>(alloc: A, lines: &str) -> Result<Vec<u8, A>, RecipeFault>
+    ensures good { OnOk result (All IsGood (lines_of lines.now)) }
+    ensures fitted { OnOk result (RecipeFits (entries_of (lines_of lines.now))) }
+    ensures value { IfOk result (λ bytes. bytes.items ≡ recipe_module (entries_of (lines_of lines.now))) }
+    ensures read { IfOk result (λ bytes. ReadsWhole wasm_module bytes.items (sections_of (entries_of (lines_of lines.now)))) }
+    ensures fault { IfErr result (λ fault. Explains lines.now fault.line fault.cause) }
+{
+    let mut recipe = Recipe::new(alloc);
+    let mut number = 0;
+    for line in lines.split('\n') {
+        number += 1;
+        if let Err(cause) = recipe.read_line(alloc, without_return(line)) {
+            return Err(RecipeFault {
+                line: number,
+                cause,
+            });
+        }
+    }
+    Ok(recipe.finish(alloc)?)
+}
