@@ -101,8 +101,10 @@ def field_names(shape, named):
 
 
 def group(prefix, op, shape):
-    """The enum that a case stands in."""
+    """The enum that a case stands in. Floats are made by a call, which no constant's value can hold: they are apart."""
     bare = shape == "-"
+    if shape in ("f32", "f64"):
+        return "Float"
     if prefix is None:
         return "Numeric" if 0x45 <= op <= 0xC4 else "Instruction"
     if prefix == 0xFE:
@@ -128,7 +130,7 @@ def read(path):
             enum = group(prefix, code, shape)
             values, bytes = arguments(name, shape)
             names = field_names(shape, named)
-            value = "%s::%s" % (enum, name)
+            value = "%s::%s" % ("Instruction" if enum == "Float" else enum, name)
             if names:
                 value += " { %s }" % ", ".join("%s: %s" % pair for pair in zip(names, values))
             elif values:
@@ -143,6 +145,16 @@ def constant(enum):
     return re.sub(r"(?<!^)([A-Z])", r"_\1", enum).upper() + "S"
 
 
+# So many values that own memory are made in one function: the proof of more of them takes long.
+STEP = 12
+
+
+def function(name, start, of):
+    """Code that gives some values."""
+    values = "".join("        %s,\n" % value for _, value, _ in of)
+    return "\npub fn %s_from_%d() -> [Instruction<'static>; %d] {\n    [\n%s    ]\n}\n" % (name, start, len(of), values)
+
+
 def write(groups, folder):
     note = "// Written by tools/instruction_rows.py from the opcode table: do not edit.\n"
     order = ["Instruction", "Numeric", "Aggregate", "PrefixedNumeric", "Vector", "VectorImmediate", "Atomic"]
@@ -151,13 +163,16 @@ def write(groups, folder):
     cases += "use wasm_insn::{\n    %s, BlockType, Catch, Handle, Ieee32, Ieee64, MemArg, MemArgTarget, Ordering,\n};\n\n" % ", ".join(order)
     cases += "const MEMARG: MemArg = MemArg { offset: 300, align: 2, target: MemArgTarget::Memory(1), ordering: None };\n"
     rows = note + "//! The bytes of each instruction, in hexadecimal, in the order of `cases.rt`.\n"
-    for enum in order:
+    for enum in order + ["Float"]:
         of = groups[enum]
-        ty = "Instruction<'static>" if enum == "Instruction" else enum
-        cases += "\npub static %s: [%s; %d] = [\n" % (constant(enum), ty, len(of))
-        cases += "".join("    %s,\n" % value for _, value, _ in of) + "];\n"
         rows += "\npub static %s: [&str; %d] = [\n" % (constant(enum), len(of))
         rows += "".join('    "%s", // %s\n' % ("".join("%02x" % b for b in bytes), name) for name, _, bytes in of) + "];\n"
+        if enum in ("Instruction", "Float"):
+            for start in range(0, len(of), STEP):
+                cases += function(constant(enum).lower(), start, of[start : start + STEP])
+        else:
+            values = "".join("    %s,\n" % value for _, value, _ in of)
+            cases += "\npub static %s: [%s; %d] = [\n%s];\n" % (constant(enum), enum, len(of), values)
     for name, text in (("cases.rt", cases), ("rows.rt", rows)):
         with open("%s/%s" % (folder, name), "w", encoding="utf-8") as out:
             out.write(text)

@@ -1,5 +1,5 @@
 //! Values whose bytes are known from the format's documents.
-use crate::{
+use wasm_insn::{
     BlockType, Catch, Handle, Ieee32, Ieee64, MemArg, MemArgOrdering, MemArgTarget, Op, Ordering,
 };
 use std::alloc::Allocator;
