@@ -145,16 +145,6 @@ def constant(enum):
     return re.sub(r"(?<!^)([A-Z])", r"_\1", enum).upper() + "S"
 
 
-# So many values that own memory are made in one function: the proof of more of them takes long.
-STEP = 12
-
-
-def function(name, start, of):
-    """Code that gives some values."""
-    values = "".join("        %s,\n" % value for _, value, _ in of)
-    return "\npub fn %s_from_%d() -> [Instruction<'static>; %d] {\n    [\n%s    ]\n}\n" % (name, start, len(of), values)
-
-
 def write(groups, folder):
     note = "// Written by tools/instruction_rows.py from the opcode table: do not edit.\n"
     order = ["Instruction", "Numeric", "Aggregate", "PrefixedNumeric", "Vector", "VectorImmediate", "Atomic"]
@@ -167,11 +157,12 @@ def write(groups, folder):
         of = groups[enum]
         rows += "\npub static %s: [&str; %d] = [\n" % (constant(enum), len(of))
         rows += "".join('    "%s", // %s\n' % ("".join("%02x" % b for b in bytes), name) for name, _, bytes in of) + "];\n"
-        if enum in ("Instruction", "Float"):
-            for start in range(0, len(of), STEP):
-                cases += function(constant(enum).lower(), start, of[start : start + STEP])
+        values = "".join("    %s,\n" % value for _, value, _ in of)
+        if enum == "Instruction":
+            cases += "\npub const %s: &[Instruction<'static>] = &[\n%s];\n" % (constant(enum), values)
+        elif enum == "Float":
+            cases += "\npub fn floats() -> [Instruction<'static>; %d] {\n    [\n%s    ]\n}\n" % (len(of), values)
         else:
-            values = "".join("    %s,\n" % value for _, value, _ in of)
             cases += "\npub static %s: [%s; %d] = [\n%s];\n" % (constant(enum), enum, len(of), values)
     for name, text in (("cases.rt", cases), ("rows.rt", rows)):
         with open("%s/%s" % (folder, name), "w", encoding="utf-8") as out:

@@ -7,175 +7,128 @@ use wasm_insn::{
 
 const MEMARG: MemArg = MemArg { offset: 300, align: 2, target: MemArgTarget::Memory(1), ordering: None };
 
-pub fn instructions_from_0() -> [Instruction<'static>; 12] {
-    [
-        Instruction::Unreachable,
-        Instruction::Nop,
-        Instruction::Block(BlockType::FunctionType(64)),
-        Instruction::Loop(BlockType::FunctionType(64)),
-        Instruction::If(BlockType::FunctionType(64)),
-        Instruction::Else,
-        Instruction::Try(BlockType::FunctionType(64)),
-        Instruction::Catch(300),
-        Instruction::Throw(300),
-        Instruction::Rethrow(300),
-        Instruction::ThrowRef,
-        Instruction::End,
-    ]
-}
-
-pub fn instructions_from_12() -> [Instruction<'static>; 12] {
-    [
-        Instruction::Br(300),
-        Instruction::BrIf(300),
-        Instruction::BrTable(CowSlice::Borrowed(&[0, 300]), 5),
-        Instruction::Return,
-        Instruction::Call(300),
-        Instruction::CallIndirect { type_index: 1, table_index: 300 },
-        Instruction::ReturnCall(300),
-        Instruction::ReturnCallIndirect { type_index: 1, table_index: 300 },
-        Instruction::CallRef(300),
-        Instruction::ReturnCallRef(300),
-        Instruction::Delegate(300),
-        Instruction::CatchAll,
-    ]
-}
-
-pub fn instructions_from_24() -> [Instruction<'static>; 12] {
-    [
-        Instruction::Drop,
-        Instruction::Select,
-        Instruction::TypedSelect(ValType::I32),
-        Instruction::TypedSelectMulti(CowSlice::Borrowed(&[ValType::I32, ValType::I64])),
-        Instruction::TryTable(BlockType::Empty, CowSlice::Borrowed(&[Catch::One { tag: 0, label: 1 }, Catch::AllRef { label: 2 }])),
-        Instruction::LocalGet(300),
-        Instruction::LocalSet(300),
-        Instruction::LocalTee(300),
-        Instruction::GlobalGet(300),
-        Instruction::GlobalSet(300),
-        Instruction::TableGet(300),
-        Instruction::TableSet(300),
-    ]
-}
-
-pub fn instructions_from_36() -> [Instruction<'static>; 12] {
-    [
-        Instruction::I32Load(MEMARG),
-        Instruction::I64Load(MEMARG),
-        Instruction::F32Load(MEMARG),
-        Instruction::F64Load(MEMARG),
-        Instruction::I32Load8S(MEMARG),
-        Instruction::I32Load8U(MEMARG),
-        Instruction::I32Load16S(MEMARG),
-        Instruction::I32Load16U(MEMARG),
-        Instruction::I64Load8S(MEMARG),
-        Instruction::I64Load8U(MEMARG),
-        Instruction::I64Load16S(MEMARG),
-        Instruction::I64Load16U(MEMARG),
-    ]
-}
-
-pub fn instructions_from_48() -> [Instruction<'static>; 12] {
-    [
-        Instruction::I64Load32S(MEMARG),
-        Instruction::I64Load32U(MEMARG),
-        Instruction::I32Store(MEMARG),
-        Instruction::I64Store(MEMARG),
-        Instruction::F32Store(MEMARG),
-        Instruction::F64Store(MEMARG),
-        Instruction::I32Store8(MEMARG),
-        Instruction::I32Store16(MEMARG),
-        Instruction::I64Store8(MEMARG),
-        Instruction::I64Store16(MEMARG),
-        Instruction::I64Store32(MEMARG),
-        Instruction::MemorySize(300),
-    ]
-}
-
-pub fn instructions_from_60() -> [Instruction<'static>; 12] {
-    [
-        Instruction::MemoryGrow(300),
-        Instruction::I32Const(-123456),
-        Instruction::I64Const(12345678901),
-        Instruction::RefNull(HeapType::Concrete(64)),
-        Instruction::RefIsNull,
-        Instruction::RefFunc(300),
-        Instruction::RefEq,
-        Instruction::RefAsNonNull,
-        Instruction::BrOnNull(300),
-        Instruction::BrOnNonNull(300),
-        Instruction::ContNew(300),
-        Instruction::ContBind { argument_index: 1, result_index: 300 },
-    ]
-}
-
-pub fn instructions_from_72() -> [Instruction<'static>; 12] {
-    [
-        Instruction::Suspend(300),
-        Instruction::Resume { cont_type_index: 1, resume_table: CowSlice::Borrowed(&[Handle::OnLabel { tag: 3, label: 4 }, Handle::OnSwitch { tag: 5 }]) },
-        Instruction::ResumeThrow { cont_type_index: 1, tag_index: 300, resume_table: CowSlice::Borrowed(&[Handle::OnLabel { tag: 3, label: 4 }, Handle::OnSwitch { tag: 5 }]) },
-        Instruction::ResumeThrowRef { cont_type_index: 1, resume_table: CowSlice::Borrowed(&[Handle::OnLabel { tag: 3, label: 4 }, Handle::OnSwitch { tag: 5 }]) },
-        Instruction::Switch { cont_type_index: 1, tag_index: 300 },
-        Instruction::StructNew(300),
-        Instruction::StructNewDefault(300),
-        Instruction::StructGet { struct_type_index: 1, field_index: 300 },
-        Instruction::StructGetS { struct_type_index: 1, field_index: 300 },
-        Instruction::StructGetU { struct_type_index: 1, field_index: 300 },
-        Instruction::StructSet { struct_type_index: 1, field_index: 300 },
-        Instruction::ArrayNew(300),
-    ]
-}
-
-pub fn instructions_from_84() -> [Instruction<'static>; 12] {
-    [
-        Instruction::ArrayNewDefault(300),
-        Instruction::ArrayNewFixed { array_type_index: 1, array_size: 300 },
-        Instruction::ArrayNewData { array_type_index: 1, array_data_index: 300 },
-        Instruction::ArrayNewElem { array_type_index: 1, array_elem_index: 300 },
-        Instruction::ArrayGet(300),
-        Instruction::ArrayGetS(300),
-        Instruction::ArrayGetU(300),
-        Instruction::ArraySet(300),
-        Instruction::ArrayFill(300),
-        Instruction::ArrayCopy { array_type_index_dst: 1, array_type_index_src: 300 },
-        Instruction::ArrayInitData { array_type_index: 1, array_data_index: 300 },
-        Instruction::ArrayInitElem { array_type_index: 1, array_elem_index: 300 },
-    ]
-}
-
-pub fn instructions_from_96() -> [Instruction<'static>; 12] {
-    [
-        Instruction::RefTestNonNull(HeapType::Concrete(64)),
-        Instruction::RefTestNullable(HeapType::Concrete(64)),
-        Instruction::RefCastNonNull(HeapType::Concrete(64)),
-        Instruction::RefCastNullable(HeapType::Concrete(64)),
-        Instruction::BrOnCast { relative_depth: 1, from_ref_type: RefType { nullable: true, heap_type: HeapType::Abstract { shared: false, ty: AbstractHeapType::Any } }, to_ref_type: RefType { nullable: false, heap_type: HeapType::Abstract { shared: false, ty: AbstractHeapType::Eq } } },
-        Instruction::BrOnCastFail { relative_depth: 1, from_ref_type: RefType { nullable: true, heap_type: HeapType::Abstract { shared: false, ty: AbstractHeapType::Any } }, to_ref_type: RefType { nullable: false, heap_type: HeapType::Abstract { shared: false, ty: AbstractHeapType::Eq } } },
-        Instruction::StructNewDesc(300),
-        Instruction::StructNewDefaultDesc(300),
-        Instruction::RefGetDesc(300),
-        Instruction::RefCastDescEqNonNull(HeapType::Concrete(64)),
-        Instruction::RefCastDescEqNullable(HeapType::Concrete(64)),
-        Instruction::BrOnCastDescEq { relative_depth: 1, from_ref_type: RefType { nullable: true, heap_type: HeapType::Abstract { shared: false, ty: AbstractHeapType::Any } }, to_ref_type: RefType { nullable: false, heap_type: HeapType::Abstract { shared: false, ty: AbstractHeapType::Eq } } },
-    ]
-}
-
-pub fn instructions_from_108() -> [Instruction<'static>; 12] {
-    [
-        Instruction::BrOnCastDescEqFail { relative_depth: 1, from_ref_type: RefType { nullable: true, heap_type: HeapType::Abstract { shared: false, ty: AbstractHeapType::Any } }, to_ref_type: RefType { nullable: false, heap_type: HeapType::Abstract { shared: false, ty: AbstractHeapType::Eq } } },
-        Instruction::MemoryInit { data_index: 1, mem: 300 },
-        Instruction::DataDrop(300),
-        Instruction::MemoryCopy { dst_mem: 1, src_mem: 300 },
-        Instruction::MemoryFill(300),
-        Instruction::TableInit { elem_index: 1, table: 300 },
-        Instruction::ElemDrop(300),
-        Instruction::TableCopy { dst_table: 1, src_table: 300 },
-        Instruction::TableGrow(300),
-        Instruction::TableSize(300),
-        Instruction::TableFill(300),
-        Instruction::MemoryDiscard(300),
-    ]
-}
+pub const INSTRUCTIONS: &[Instruction<'static>] = &[
+    Instruction::Unreachable,
+    Instruction::Nop,
+    Instruction::Block(BlockType::FunctionType(64)),
+    Instruction::Loop(BlockType::FunctionType(64)),
+    Instruction::If(BlockType::FunctionType(64)),
+    Instruction::Else,
+    Instruction::Try(BlockType::FunctionType(64)),
+    Instruction::Catch(300),
+    Instruction::Throw(300),
+    Instruction::Rethrow(300),
+    Instruction::ThrowRef,
+    Instruction::End,
+    Instruction::Br(300),
+    Instruction::BrIf(300),
+    Instruction::BrTable(CowSlice::Borrowed(&[0, 300]), 5),
+    Instruction::Return,
+    Instruction::Call(300),
+    Instruction::CallIndirect { type_index: 1, table_index: 300 },
+    Instruction::ReturnCall(300),
+    Instruction::ReturnCallIndirect { type_index: 1, table_index: 300 },
+    Instruction::CallRef(300),
+    Instruction::ReturnCallRef(300),
+    Instruction::Delegate(300),
+    Instruction::CatchAll,
+    Instruction::Drop,
+    Instruction::Select,
+    Instruction::TypedSelect(ValType::I32),
+    Instruction::TypedSelectMulti(CowSlice::Borrowed(&[ValType::I32, ValType::I64])),
+    Instruction::TryTable(BlockType::Empty, CowSlice::Borrowed(&[Catch::One { tag: 0, label: 1 }, Catch::AllRef { label: 2 }])),
+    Instruction::LocalGet(300),
+    Instruction::LocalSet(300),
+    Instruction::LocalTee(300),
+    Instruction::GlobalGet(300),
+    Instruction::GlobalSet(300),
+    Instruction::TableGet(300),
+    Instruction::TableSet(300),
+    Instruction::I32Load(MEMARG),
+    Instruction::I64Load(MEMARG),
+    Instruction::F32Load(MEMARG),
+    Instruction::F64Load(MEMARG),
+    Instruction::I32Load8S(MEMARG),
+    Instruction::I32Load8U(MEMARG),
+    Instruction::I32Load16S(MEMARG),
+    Instruction::I32Load16U(MEMARG),
+    Instruction::I64Load8S(MEMARG),
+    Instruction::I64Load8U(MEMARG),
+    Instruction::I64Load16S(MEMARG),
+    Instruction::I64Load16U(MEMARG),
+    Instruction::I64Load32S(MEMARG),
+    Instruction::I64Load32U(MEMARG),
+    Instruction::I32Store(MEMARG),
+    Instruction::I64Store(MEMARG),
+    Instruction::F32Store(MEMARG),
+    Instruction::F64Store(MEMARG),
+    Instruction::I32Store8(MEMARG),
+    Instruction::I32Store16(MEMARG),
+    Instruction::I64Store8(MEMARG),
+    Instruction::I64Store16(MEMARG),
+    Instruction::I64Store32(MEMARG),
+    Instruction::MemorySize(300),
+    Instruction::MemoryGrow(300),
+    Instruction::I32Const(-123456),
+    Instruction::I64Const(12345678901),
+    Instruction::RefNull(HeapType::Concrete(64)),
+    Instruction::RefIsNull,
+    Instruction::RefFunc(300),
+    Instruction::RefEq,
+    Instruction::RefAsNonNull,
+    Instruction::BrOnNull(300),
+    Instruction::BrOnNonNull(300),
+    Instruction::ContNew(300),
+    Instruction::ContBind { argument_index: 1, result_index: 300 },
+    Instruction::Suspend(300),
+    Instruction::Resume { cont_type_index: 1, resume_table: CowSlice::Borrowed(&[Handle::OnLabel { tag: 3, label: 4 }, Handle::OnSwitch { tag: 5 }]) },
+    Instruction::ResumeThrow { cont_type_index: 1, tag_index: 300, resume_table: CowSlice::Borrowed(&[Handle::OnLabel { tag: 3, label: 4 }, Handle::OnSwitch { tag: 5 }]) },
+    Instruction::ResumeThrowRef { cont_type_index: 1, resume_table: CowSlice::Borrowed(&[Handle::OnLabel { tag: 3, label: 4 }, Handle::OnSwitch { tag: 5 }]) },
+    Instruction::Switch { cont_type_index: 1, tag_index: 300 },
+    Instruction::StructNew(300),
+    Instruction::StructNewDefault(300),
+    Instruction::StructGet { struct_type_index: 1, field_index: 300 },
+    Instruction::StructGetS { struct_type_index: 1, field_index: 300 },
+    Instruction::StructGetU { struct_type_index: 1, field_index: 300 },
+    Instruction::StructSet { struct_type_index: 1, field_index: 300 },
+    Instruction::ArrayNew(300),
+    Instruction::ArrayNewDefault(300),
+    Instruction::ArrayNewFixed { array_type_index: 1, array_size: 300 },
+    Instruction::ArrayNewData { array_type_index: 1, array_data_index: 300 },
+    Instruction::ArrayNewElem { array_type_index: 1, array_elem_index: 300 },
+    Instruction::ArrayGet(300),
+    Instruction::ArrayGetS(300),
+    Instruction::ArrayGetU(300),
+    Instruction::ArraySet(300),
+    Instruction::ArrayFill(300),
+    Instruction::ArrayCopy { array_type_index_dst: 1, array_type_index_src: 300 },
+    Instruction::ArrayInitData { array_type_index: 1, array_data_index: 300 },
+    Instruction::ArrayInitElem { array_type_index: 1, array_elem_index: 300 },
+    Instruction::RefTestNonNull(HeapType::Concrete(64)),
+    Instruction::RefTestNullable(HeapType::Concrete(64)),
+    Instruction::RefCastNonNull(HeapType::Concrete(64)),
+    Instruction::RefCastNullable(HeapType::Concrete(64)),
+    Instruction::BrOnCast { relative_depth: 1, from_ref_type: RefType { nullable: true, heap_type: HeapType::Abstract { shared: false, ty: AbstractHeapType::Any } }, to_ref_type: RefType { nullable: false, heap_type: HeapType::Abstract { shared: false, ty: AbstractHeapType::Eq } } },
+    Instruction::BrOnCastFail { relative_depth: 1, from_ref_type: RefType { nullable: true, heap_type: HeapType::Abstract { shared: false, ty: AbstractHeapType::Any } }, to_ref_type: RefType { nullable: false, heap_type: HeapType::Abstract { shared: false, ty: AbstractHeapType::Eq } } },
+    Instruction::StructNewDesc(300),
+    Instruction::StructNewDefaultDesc(300),
+    Instruction::RefGetDesc(300),
+    Instruction::RefCastDescEqNonNull(HeapType::Concrete(64)),
+    Instruction::RefCastDescEqNullable(HeapType::Concrete(64)),
+    Instruction::BrOnCastDescEq { relative_depth: 1, from_ref_type: RefType { nullable: true, heap_type: HeapType::Abstract { shared: false, ty: AbstractHeapType::Any } }, to_ref_type: RefType { nullable: false, heap_type: HeapType::Abstract { shared: false, ty: AbstractHeapType::Eq } } },
+    Instruction::BrOnCastDescEqFail { relative_depth: 1, from_ref_type: RefType { nullable: true, heap_type: HeapType::Abstract { shared: false, ty: AbstractHeapType::Any } }, to_ref_type: RefType { nullable: false, heap_type: HeapType::Abstract { shared: false, ty: AbstractHeapType::Eq } } },
+    Instruction::MemoryInit { data_index: 1, mem: 300 },
+    Instruction::DataDrop(300),
+    Instruction::MemoryCopy { dst_mem: 1, src_mem: 300 },
+    Instruction::MemoryFill(300),
+    Instruction::TableInit { elem_index: 1, table: 300 },
+    Instruction::ElemDrop(300),
+    Instruction::TableCopy { dst_table: 1, src_table: 300 },
+    Instruction::TableGrow(300),
+    Instruction::TableSize(300),
+    Instruction::TableFill(300),
+    Instruction::MemoryDiscard(300),
+];
 
 pub static NUMERICS: [Numeric; 128] = [
     Numeric::I32Eqz,
@@ -701,9 +654,9 @@ pub static ATOMICS: [Atomic; 104] = [
     Atomic::RefI31Shared,
 ];
 
-pub fn floats_from_0() -> [Instruction<'static>; 2] {
+pub fn floats() -> [Instruction<'static>; 2] {
     [
-        Instruction::F32Const(Ieee32::new(1065353216)),
-        Instruction::F64Const(Ieee64::new(4607182418800017408)),
+    Instruction::F32Const(Ieee32::new(1065353216)),
+    Instruction::F64Const(Ieee64::new(4607182418800017408)),
     ]
 }

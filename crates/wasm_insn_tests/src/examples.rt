@@ -46,23 +46,51 @@ fn ordered(align: u32, target: MemArgTarget, offset: u64, ordering: MemArgOrderi
 fn control(rt: HostRuntime) -> Result<(), Fail> {
     let alloc = rt.alloc();
     let labels = CowSlice::Borrowed(&[0, 1]);
-    check(&rt, alloc, &Instruction::BrTable(labels, 2), &[0x0E, 2, 0, 1, 2])?;
+    check(
+        &rt,
+        alloc,
+        &Instruction::BrTable(labels, 2),
+        &[0x0E, 2, 0, 1, 2],
+    )?;
     let call = Instruction::CallIndirect {
         type_index: 1,
         table_index: 2,
     };
     check(&rt, alloc, &call, &[0x11, 1, 2])?;
-    let catches = CowSlice::Borrowed(&[Catch::One { tag: 0, label: 1 }, Catch::AllRef { label: 2 }]);
+    let catches = CowSlice::Borrowed(&[
+        Catch::One { tag: 0, label: 1 },
+        Catch::AllRef { label: 2 },
+    ]);
     let table = Instruction::TryTable(BlockType::Empty, catches);
     check(&rt, alloc, &table, &[0x1F, 0x40, 2, 0, 0, 1, 3, 2])?;
     let any = ValType::Ref(RefType {
         nullable: true,
         heap_type: abstract_type(AbstractHeapType::Any),
     });
-    check(&rt, alloc, &Instruction::Block(BlockType::Result(any)), &[0x02, 0x63, 0x6E])?;
-    check(&rt, alloc, &Instruction::Block(BlockType::Empty), &[0x02, 0x40])?;
-    check(&rt, alloc, &Instruction::Block(BlockType::FunctionType(63)), &[0x02, 0x3F])?;
-    check(&rt, alloc, &Instruction::Block(BlockType::FunctionType(64)), &[0x02, 0xC0, 0x00])?;
+    check(
+        &rt,
+        alloc,
+        &Instruction::Block(BlockType::Result(any)),
+        &[0x02, 0x63, 0x6E],
+    )?;
+    check(
+        &rt,
+        alloc,
+        &Instruction::Block(BlockType::Empty),
+        &[0x02, 0x40],
+    )?;
+    check(
+        &rt,
+        alloc,
+        &Instruction::Block(BlockType::FunctionType(63)),
+        &[0x02, 0x3F],
+    )?;
+    check(
+        &rt,
+        alloc,
+        &Instruction::Block(BlockType::FunctionType(64)),
+        &[0x02, 0xC0, 0x00],
+    )?;
     let handles = CowSlice::Borrowed(&[Handle::OnLabel { tag: 3, label: 4 }]);
     let resume = Instruction::ResumeThrow {
         cont_type_index: 0,
@@ -79,13 +107,38 @@ fn constants_and_types(rt: HostRuntime) -> Result<(), Fail> {
         shared: true,
         ty: AbstractHeapType::Any,
     };
-    check(&rt, alloc, &Instruction::RefNull(HeapType::FUNC), &[0xD0, 0x70])?;
-    check(&rt, alloc, &Instruction::RefNull(HeapType::Concrete(64)), &[0xD0, 0xC0, 0x00])?;
-    check(&rt, alloc, &Instruction::RefNull(HeapType::Exact(5)), &[0xD0, 0x62, 5])?;
-    check(&rt, alloc, &Instruction::RefNull(shared), &[0xD0, 0x65, 0x6E])?;
+    check(
+        &rt,
+        alloc,
+        &Instruction::RefNull(HeapType::FUNC),
+        &[0xD0, 0x70],
+    )?;
+    check(
+        &rt,
+        alloc,
+        &Instruction::RefNull(HeapType::Concrete(64)),
+        &[0xD0, 0xC0, 0x00],
+    )?;
+    check(
+        &rt,
+        alloc,
+        &Instruction::RefNull(HeapType::Exact(5)),
+        &[0xD0, 0x62, 5],
+    )?;
+    check(
+        &rt,
+        alloc,
+        &Instruction::RefNull(shared),
+        &[0xD0, 0x65, 0x6E],
+    )?;
     let one = Instruction::F32Const(Ieee32::new(1065353216));
     check(&rt, alloc, &one, &[0x43, 0x00, 0x00, 0x80, 0x3F])?;
-    check(&rt, alloc, &Instruction::TypedSelect(ValType::I32), &[0x1C, 1, 0x7F])?;
+    check(
+        &rt,
+        alloc,
+        &Instruction::TypedSelect(ValType::I32),
+        &[0x1C, 1, 0x7F],
+    )?;
     let types = Instruction::TypedSelectMulti(CowSlice::Borrowed(&[ValType::I32]));
     check(&rt, alloc, &types, &[0x1C, 1, 0x7F])?;
     let none = Instruction::TypedSelectMulti(CowSlice::Borrowed(&[]));
@@ -110,9 +163,19 @@ fn memories_and_arrays(rt: HostRuntime) -> Result<(), Fail> {
     let first = memory(2, 4, MemArgTarget::Memory(0));
     check(&rt, alloc, &Instruction::I32Load(first), &[0x28, 0x02, 4])?;
     let second = memory(2, 4, MemArgTarget::Memory(1));
-    check(&rt, alloc, &Instruction::I32Load(second), &[0x28, 0x42, 1, 4])?;
+    check(
+        &rt,
+        alloc,
+        &Instruction::I32Load(second),
+        &[0x28, 0x42, 1, 4],
+    )?;
     let array = memory(2, 4, MemArgTarget::Array(0));
-    check(&rt, alloc, &Instruction::I32Load(array), &[0x28, 0x22, 0, 4])?;
+    check(
+        &rt,
+        alloc,
+        &Instruction::I32Load(array),
+        &[0x28, 0x22, 0, 4],
+    )?;
     let wide = memory(16, 0, MemArgTarget::Memory(0));
     check(&rt, alloc, &Instruction::I32Load(wide), &[0x28, 0x10, 0])?;
     let copy = Instruction::MemoryCopy {
@@ -143,9 +206,24 @@ fn atomics(rt: HostRuntime) -> Result<(), Fail> {
             ordering,
         )))
     };
-    check(&rt, alloc, &add(MemArgOrdering::Rmw(Ordering::SeqCst)), &[0xFE, 0x1E, 0x12, 0x00, 0])?;
-    check(&rt, alloc, &add(MemArgOrdering::Op(Ordering::SeqCst)), &[0xFE, 0x1E, 0x12, 0x00, 0])?;
-    check(&rt, alloc, &add(MemArgOrdering::Rmw(Ordering::AcqRel)), &[0xFE, 0x1E, 0x12, 0x11, 0])?;
+    check(
+        &rt,
+        alloc,
+        &add(MemArgOrdering::Rmw(Ordering::SeqCst)),
+        &[0xFE, 0x1E, 0x12, 0x00, 0],
+    )?;
+    check(
+        &rt,
+        alloc,
+        &add(MemArgOrdering::Op(Ordering::SeqCst)),
+        &[0xFE, 0x1E, 0x12, 0x00, 0],
+    )?;
+    check(
+        &rt,
+        alloc,
+        &add(MemArgOrdering::Rmw(Ordering::AcqRel)),
+        &[0xFE, 0x1E, 0x12, 0x11, 0],
+    )?;
     let load = ordered(
         2,
         MemArgTarget::Memory(3),
@@ -168,9 +246,24 @@ fn atomics(rt: HostRuntime) -> Result<(), Fail> {
 fn vectors(rt: HostRuntime) -> Result<(), Fail> {
     let alloc = rt.alloc();
     check(&rt, alloc, &Instruction::I16x8Abs, &[0xFD, 0x80, 0x01])?;
-    check(&rt, alloc, &Instruction::Vector(Vector::I16x8Abs), &[0xFD, 0x80, 0x01])?;
-    check(&rt, alloc, &Instruction::I8x16RelaxedSwizzle, &[0xFD, 0x80, 0x02])?;
-    check(&rt, alloc, &Instruction::I32x4RelaxedDotI8x16I7x16AddS, &[0xFD, 0x93, 0x02])?;
+    check(
+        &rt,
+        alloc,
+        &Instruction::Vector(Vector::I16x8Abs),
+        &[0xFD, 0x80, 0x01],
+    )?;
+    check(
+        &rt,
+        alloc,
+        &Instruction::I8x16RelaxedSwizzle,
+        &[0xFD, 0x80, 0x02],
+    )?;
+    check(
+        &rt,
+        alloc,
+        &Instruction::I32x4RelaxedDotI8x16I7x16AddS,
+        &[0xFD, 0x93, 0x02],
+    )?;
     check(&rt, alloc, &Instruction::I32Add, &[0x6A])?;
     check(&rt, alloc, &Instruction::ArrayLen, &[0xFB, 0x0F])?;
     check(&rt, alloc, &Instruction::I64MulWideU, &[0xFC, 0x16])?;

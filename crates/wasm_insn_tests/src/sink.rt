@@ -4,9 +4,7 @@ use std::process::Abort;
 use std::test::Fail;
 use test_support::Refusing;
 use wasm_base::{HeapType, R, Refused, ValType};
-use wasm_insn::{
-    BlockType, Buffer, Ieee32, Ieee64, InstructionSink, MemArg, MemArgTarget, Op,
-};
+use wasm_insn::{BlockType, Buffer, Ieee32, Ieee64, InstructionSink, MemArg, MemArgTarget, Op};
 
 /// More requests than any call here makes.
 const MOST: u64 = 100;

@@ -56,58 +56,13 @@ fn check_all(
 }
 
 #[test]
-fn instructions_from_0(rt: HostRuntime) -> Result<(), Fail> {
-    check_all(&rt, rt.alloc(), &cases::instructions_from_0(), &rows::INSTRUCTIONS[0..])
-}
-
-#[test]
-fn instructions_from_12(rt: HostRuntime) -> Result<(), Fail> {
-    check_all(&rt, rt.alloc(), &cases::instructions_from_12(), &rows::INSTRUCTIONS[12..])
-}
-
-#[test]
-fn instructions_from_24(rt: HostRuntime) -> Result<(), Fail> {
-    check_all(&rt, rt.alloc(), &cases::instructions_from_24(), &rows::INSTRUCTIONS[24..])
-}
-
-#[test]
-fn instructions_from_36(rt: HostRuntime) -> Result<(), Fail> {
-    check_all(&rt, rt.alloc(), &cases::instructions_from_36(), &rows::INSTRUCTIONS[36..])
-}
-
-#[test]
-fn instructions_from_48(rt: HostRuntime) -> Result<(), Fail> {
-    check_all(&rt, rt.alloc(), &cases::instructions_from_48(), &rows::INSTRUCTIONS[48..])
-}
-
-#[test]
-fn instructions_from_60(rt: HostRuntime) -> Result<(), Fail> {
-    check_all(&rt, rt.alloc(), &cases::instructions_from_60(), &rows::INSTRUCTIONS[60..])
-}
-
-#[test]
-fn instructions_from_72(rt: HostRuntime) -> Result<(), Fail> {
-    check_all(&rt, rt.alloc(), &cases::instructions_from_72(), &rows::INSTRUCTIONS[72..])
-}
-
-#[test]
-fn instructions_from_84(rt: HostRuntime) -> Result<(), Fail> {
-    check_all(&rt, rt.alloc(), &cases::instructions_from_84(), &rows::INSTRUCTIONS[84..])
-}
-
-#[test]
-fn instructions_from_96(rt: HostRuntime) -> Result<(), Fail> {
-    check_all(&rt, rt.alloc(), &cases::instructions_from_96(), &rows::INSTRUCTIONS[96..])
-}
-
-#[test]
-fn instructions_from_108(rt: HostRuntime) -> Result<(), Fail> {
-    check_all(&rt, rt.alloc(), &cases::instructions_from_108(), &rows::INSTRUCTIONS[108..])
+fn instructions(rt: HostRuntime) -> Result<(), Fail> {
+    check_all(&rt, rt.alloc(), cases::INSTRUCTIONS, &rows::INSTRUCTIONS)
 }
 
 #[test]
 fn floats(rt: HostRuntime) -> Result<(), Fail> {
-    check_all(&rt, rt.alloc(), &cases::floats_from_0(), &rows::FLOATS)
+    check_all(&rt, rt.alloc(), &cases::floats(), &rows::FLOATS)
 }
 
 #[test]
@@ -119,13 +74,19 @@ fn nested_instructions(rt: HostRuntime) -> Result<(), Fail> {
     for (case, row) in cases::AGGREGATES.iter().zip(rows::AGGREGATES.iter()) {
         check(&rt, alloc, &Instruction::Aggregate(*case), row)?;
     }
-    for (case, row) in cases::PREFIXED_NUMERICS.iter().zip(rows::PREFIXED_NUMERICS.iter()) {
+    for (case, row) in cases::PREFIXED_NUMERICS
+        .iter()
+        .zip(rows::PREFIXED_NUMERICS.iter())
+    {
         check(&rt, alloc, &Instruction::PrefixedNumeric(*case), row)?;
     }
     for (case, row) in cases::VECTORS.iter().zip(rows::VECTORS.iter()) {
         check(&rt, alloc, &Instruction::Vector(*case), row)?;
     }
-    for (case, row) in cases::VECTOR_IMMEDIATES.iter().zip(rows::VECTOR_IMMEDIATES.iter()) {
+    for (case, row) in cases::VECTOR_IMMEDIATES
+        .iter()
+        .zip(rows::VECTOR_IMMEDIATES.iter())
+    {
         check(&rt, alloc, &Instruction::VectorImmediate(*case), row)?;
     }
     for (case, row) in cases::ATOMICS.iter().zip(rows::ATOMICS.iter()) {
