@@ -207,17 +207,16 @@ const ATOMICS: [Example; 6] = [
     ),
 ];
 
-const VECTORS: [Example; 8] = [
-    (Instruction::I16x8Abs, &[0xFD, 0x80, 0x01]),
+const VECTORS: [Example; 4] = [
     (Instruction::Vector(Vector::I16x8Abs), &[0xFD, 0x80, 0x01]),
-    (Instruction::I8x16RelaxedSwizzle, &[0xFD, 0x80, 0x02]),
     (
-        Instruction::I32x4RelaxedDotI8x16I7x16AddS,
+        Instruction::Vector(Vector::I8x16RelaxedSwizzle),
+        &[0xFD, 0x80, 0x02],
+    ),
+    (
+        Instruction::Vector(Vector::I32x4RelaxedDotI8x16I7x16AddS),
         &[0xFD, 0x93, 0x02],
     ),
-    (Instruction::I32Add, &[0x6A]),
-    (Instruction::ArrayLen, &[0xFB, 0x0F]),
-    (Instruction::I64MulWideU, &[0xFC, 0x16]),
     (
         Instruction::VectorImmediate(VectorImmediate::V128Load8Lane {
             memarg: MemArg {
@@ -274,6 +273,15 @@ fn atomics(rt: HostRuntime) -> Result<(), Fail> {
 #[test]
 fn vectors(rt: HostRuntime) -> Result<(), Fail> {
     check_all(&rt, rt.alloc(), &VECTORS)
+}
+
+/// Instructions without fields, by the names that they have on `Instruction`.
+#[test]
+fn names(rt: HostRuntime) -> Result<(), Fail> {
+    check(&rt, rt.alloc(), &Instruction::I32Add, &[0x6A])?;
+    check(&rt, rt.alloc(), &Instruction::ArrayLen, &[0xFB, 0x0F])?;
+    check(&rt, rt.alloc(), &Instruction::I64MulWideU, &[0xFC, 0x16])?;
+    check(&rt, rt.alloc(), &Instruction::I16x8Abs, &[0xFD, 0x80, 0x01])
 }
 
 #[test]
