@@ -5,6 +5,7 @@ pub mod TextLaws
 pub mod ModuleLaws
 pub mod BaseLaws
 pub mod Cut
+pub mod KnownLengths
 pub mod Members
 pub mod Outcomes
 pub mod Yielded
