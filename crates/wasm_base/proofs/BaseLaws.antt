@@ -4,11 +4,11 @@ use Rattle.std.specs.Prelude.{IsUtf8}
 use Rattle.wasm_base.specs.Numbers.{wide, unsigned_text, signed_text}
 use Rattle.wasm_base.specs.Formats.{Format, u32, u64, s32, s64, s33, little_endian, byte, any_bytes, vec, frame, name, custom, wasm_module}
 use Rattle.wasm_base.specs.Reading.{UniqueReading, UniqueWholeReading, HasTexts, IsUniqueWide, IsUniqueWholeWide}
-use Rattle.wasm_base.specs.Texts.{vec_text, VecFits, frame_text, FrameFits}
-use Rattle.wasm_base.specs.Laws.{FitsUnsigned, FitsSigned32, FitsSigned64, NameFits}
+use Rattle.wasm_base.specs.Texts.{vec_text, VecFits, frame_text, FrameFits, little_endian_text}
+use Rattle.wasm_base.specs.Laws.{FitsUnsigned, FitsBytes, FitsSigned32, FitsSigned64, NameFits}
 use Rattle.wasm_base.proofs.NumberLaws.{unsigned-alone, signed-alone, u32-alone}
 use Rattle.wasm_base.proofs.FormatLaws.{little_endian-alone, byte-alone, any_bytes-whole, pair-whole, vec-alone, frame-alone, such-alone}
-use Rattle.wasm_base.proofs.TextLaws.{u32_spelled, u64_spelled, s32_spelled, s64_spelled, s33_spelled, frame_spelled, name_spelled, vec_spelled}
+use Rattle.wasm_base.proofs.TextLaws.{little_endian_spelled, u32_spelled, u64_spelled, s32_spelled, s64_spelled, s33_spelled, frame_spelled, name_spelled, vec_spelled}
 use Rattle.wasm_base.proofs.ModuleLaws.{module-whole, module-texts}
 
 pub unique_wide : {X : Type 0} {F : Format X} → UniqueReading F → IsUniqueWide F
@@ -68,6 +68,15 @@ fixed_8-alone = little_endian-alone 8
 pub fixed_16-alone : UniqueReading (little_endian 16)
 fixed_16-alone = little_endian-alone 16
 
+pub fixed_4-texts : HasTexts (little_endian 4) (FitsBytes 4) (little_endian_text 4)
+fixed_4-texts = record { spelled = little_endian_spelled 4 }
+
+pub fixed_8-texts : HasTexts (little_endian 8) (FitsBytes 8) (little_endian_text 8)
+fixed_8-texts = record { spelled = little_endian_spelled 8 }
+
+pub fixed_16-texts : HasTexts (little_endian 16) (FitsBytes 16) (little_endian_text 16)
+fixed_16-texts = record { spelled = little_endian_spelled 16 }
+
 pub frame-bytes-alone : UniqueReading (frame any_bytes)
 frame-bytes-alone = frame-alone any_bytes-whole
 
@@ -98,7 +107,7 @@ vec-u32-texts = record { spelled = vec_spelled u32 (FitsUnsigned 32) unsigned_te
 pub vec-names-texts : HasTexts (vec name) (VecFits NameFits) (vec_text frame_text)
 vec-names-texts = record { spelled = vec_spelled name NameFits frame_text (λ bytes h. name_spelled bytes h.0 h.1) }
 
-pub ruleset frames = (fixed_4-alone, fixed_8-alone, fixed_16-alone, frame-bytes-alone, name-alone, vec-bytes-alone, vec-u32-alone, vec-names-alone, custom-alone, module-whole, module-texts, frame-texts, name-texts, vec-u32-texts, vec-names-texts)
+pub ruleset frames = (fixed_4-alone, fixed_8-alone, fixed_16-alone, fixed_4-texts, fixed_8-texts, fixed_16-texts, frame-bytes-alone, name-alone, vec-bytes-alone, vec-u32-alone, vec-names-alone, custom-alone, module-whole, module-texts, frame-texts, name-texts, vec-u32-texts, vec-names-texts)
 
 -- ---- padded numbers
 

@@ -4,6 +4,7 @@ pub mod NumberTexts
 pub mod TextLaws
 pub mod ModuleLaws
 pub mod BaseLaws
+pub mod TypeLaws
 pub mod Cut
 pub mod KnownLengths
 pub mod Members

@@ -2,12 +2,13 @@
 use Rattle.std.proofs.Common.{◌≡◌, ℕ, zero, suc, ◌+◌, ◌-◌, ◌/◌, ◌%◌, ◌^◌, ◌<◌, ◌≤◌, ◌⊎◌, List, [], ◌∷◌, ◌++◌, length, Bool, true, false, refl, sym, ap, subst, ◌∙◌, arith, inl, inr, ℤ, pos, negsuc, neg_ℤ, ◌+ℤ◌, ◌*ℤ◌, ◌≤ℤ◌, ◌<ℤ◌, IsUtf8, le_refl}
 use Rattle.std.proofs.lemmas.Bool.{cases_lt}
 use Rattle.std.proofs.lemmas.Int.{ints}
+use Rattle.std.proofs.Math.Nat.{pow-suc}
 use Rattle.std.proofs.lemmas.List.Elements.{All-head, All-tail}
 use Rattle.std.specs.List.{All, AllZip, flat_map}
 use Rattle.wasm_base.specs.Numbers.{Mode, shortest, wide, AreGroups, groups_sum, IsUnsignedSize, signed_sum, IsShortSigned, next_group, last_group, groups_text, unsigned_text, signed_text}
-use Rattle.wasm_base.specs.Formats.{Format, u32, u64, s32, s64, s33, any_bytes, members, vec, frame, name}
+use Rattle.wasm_base.specs.Formats.{Format, u32, u64, s32, s64, s33, byte, any_bytes, little_endian, tagged, members, vec, frame, name}
 use Rattle.wasm_base.specs.Reading.{ReadsAlone, ReadsWhole, UniqueReading, UniqueWholeReading}
-use Rattle.wasm_base.specs.Texts.{vec_text, VecFits, frame_text, FrameFits}
+use Rattle.wasm_base.specs.Texts.{vec_text, VecFits, frame_text, FrameFits, little_endian_text}
 use Rattle.wasm_base.specs.Pieces.{joined, section_text, SectionFits}
 use Rattle.wasm_base.specs.Calls.{ReadsBack}
 use Rattle.wasm_base.specs.Laws.{FitsSigned32, FitsSigned64}
@@ -172,6 +173,17 @@ vec_spelled F Fits text f xs h = record {
   first = u32_spelled (length xs) (omega (arith, h.count));
   second = members_spelled F Fits text f xs h.members;
 }
+
+-- ---- a byte that tells, and numbers of so many bytes
+
+pub tagged_spelled : {X : Type 0} {G : ℕ → Format X} (mode : Mode) (b : ℕ) (s : List ℕ) (x : X) → G b mode s x → tagged byte G mode (b ∷ s) x
+tagged_spelled mode b s x h = ((b, x), refl, record { front = b ∷ []; back = s; joined = refl; first = refl; second = h })
+
+pub little_endian_spelled : (n v : ℕ) → v < 256 ^ n → little_endian n shortest (little_endian_text n v) v
+little_endian_spelled zero v h = (omega (arith, h), tt, refl)
+little_endian_spelled (suc n) v h =
+    let rest = little_endian_spelled n (v / 256) (omega (arith, h, pow-suc 256 n)) in
+    (omega (arith, rest.0), (omega arith, rest.1), ap suc rest.2)
 
 -- ---- pieces, one for each item
 

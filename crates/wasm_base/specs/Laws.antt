@@ -6,6 +6,10 @@ use Rattle.wasm_base.specs.Texts.{FrameFits}
 abbrev pub FitsUnsigned : ℕ → ℕ → Type 0
 FitsUnsigned bits n = n < 2 ^ bits
 
+-- a number of so many bytes
+abbrev pub FitsBytes : ℕ → ℕ → Type 0
+FitsBytes n v = v < 256 ^ n
+
 abbrev pub FitsSigned32 : ℤ → Type 0
 FitsSigned32 v = (neg_ℤ (pos (2 ^ 31)) ≤ℤ v) × (v <ℤ pos (2 ^ 31))
 

@@ -6,4 +6,6 @@ pub mod Iterators
 pub mod Pieces
 pub mod Calls
 pub mod SectionId
+pub mod Types
+pub mod Cow
 pub mod Laws

@@ -1,5 +1,5 @@
 -- text: the bytes that a layout gives for a value.
-use Rattle.std.specs.Prelude.{◌≡◌, ℕ, ◌≤◌, List, ◌∷◌, ◌++◌, length}
+use Rattle.std.specs.Prelude.{◌≡◌, ℕ, zero, suc, ◌/◌, ◌%◌, ◌≤◌, List, [], ◌∷◌, ◌++◌, length}
 use Rattle.std.proofs.Common.{sym, ap, subst}
 use Rattle.std.specs.List.{All, flat_map}
 use Rattle.wasm_base.specs.Numbers.{unsigned_text}
@@ -25,6 +25,11 @@ frame_text bytes = unsigned_text (length bytes) ++ bytes
 -- a frame whose size can be spelled
 abbrev pub FrameFits : List ℕ → Type 0
 FrameFits bytes = length bytes ≤ longest
+
+-- fixed bytes: the number in so many bytes, the least byte first
+abbrev pub little_endian_text : ℕ → ℕ → List ℕ
+little_endian_text zero v = []
+little_endian_text (suc n) v = v % 256 ∷ little_endian_text n (v / 256)
 
 -- a section at the level of ids and payloads: its id, and the frame of its payload
 abbrev pub any_section_text : ℕ × List ℕ → List ℕ

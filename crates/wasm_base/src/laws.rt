@@ -19,10 +19,11 @@ ghost use Rattle.wasm_base.specs.Formats.{
   custom,
   wasm_module,
 };
-ghost use Rattle.wasm_base.specs.Laws.{FitsUnsigned, FitsSigned32, FitsSigned64, NameFits};
+ghost use Rattle.wasm_base.specs.Laws.{FitsUnsigned, FitsBytes, FitsSigned32, FitsSigned64, NameFits};
 ghost use Rattle.wasm_base.specs.Numbers.{unsigned_text, signed_text};
-ghost use Rattle.wasm_base.specs.Reading.{UniqueReading, UniqueWholeReading, HasTexts, IsUniqueWide, IsUniqueWholeWide};
-ghost use Rattle.wasm_base.specs.Texts.{vec_text, VecFits, frame_text, FrameFits, module_text, ModuleFits};
+ghost use Rattle.wasm_base.specs.Reading.{UniqueReading, UniqueWholeReading, HasTexts, BeginsWith, IsUniqueWide, IsUniqueWholeWide};
+ghost use Rattle.wasm_base.specs.Types.{heap_type, ref_type, val_type, heap_text, ref_text, val_text, IsHeap, IsRef, IsVal, IsIndexByte};
+ghost use Rattle.wasm_base.specs.Texts.{vec_text, VecFits, frame_text, FrameFits, module_text, ModuleFits, little_endian_text};
 
 /// Numbers are read uniquely. `s33` is an index, spelled as a signed number.
 #[tactic(auto, using(crate::proofs::BaseLaws::numbers))]
@@ -54,6 +55,9 @@ pub fn frames()
     ensures custom { UniqueReading custom }
     ensures wasm_module { UniqueWholeReading wasm_module }
 
+    ensures fixed_4_texts { HasTexts (little_endian 4) (FitsBytes 4) (little_endian_text 4) }
+    ensures fixed_8_texts { HasTexts (little_endian 8) (FitsBytes 8) (little_endian_text 8) }
+    ensures fixed_16_texts { HasTexts (little_endian 16) (FitsBytes 16) (little_endian_text 16) }
     ensures vec_u32_texts { HasTexts (vec u32_format) (VecFits (FitsUnsigned 32)) (vec_text unsigned_text) }
     ensures vec_names_texts { HasTexts (vec name) (VecFits NameFits) (vec_text frame_text) }
     ensures frame_texts { HasTexts (frame any_bytes) FrameFits frame_text }
@@ -61,8 +65,21 @@ pub fn frames()
     ensures module_texts { HasTexts wasm_module ModuleFits module_text }
 {}
 
+/// Types are read uniquely: no index begins with a byte of theirs, nor with the 40 of an empty block type (hexadecimal).
+#[tactic(auto, using(crate::proofs::TypeLaws::types))]
+pub fn types()
+    ensures heap { UniqueReading heap_type }
+    ensures reference { UniqueReading ref_type }
+    ensures value { UniqueReading val_type }
+    ensures index { BeginsWith IsIndexByte s33 }
+
+    ensures heap_texts { HasTexts heap_type IsHeap heap_text }
+    ensures reference_texts { HasTexts ref_type IsRef ref_text }
+    ensures value_texts { HasTexts val_type IsVal val_text }
+{}
+
 /// With padded numbers, as the standard allows them, bytes are read uniquely too, and what shortest numbers spell is among it.
-#[tactic(auto, using(crate::proofs::BaseLaws::wide_laws))]
+#[tactic(auto, using(crate::proofs::BaseLaws::wide_laws, crate::proofs::TypeLaws::wide_types))]
 pub fn wide()
     ensures u32 { IsUniqueWide u32_format }
     ensures u64 { IsUniqueWide u64_format }
@@ -79,4 +96,7 @@ pub fn wide()
     ensures name { IsUniqueWide name }
     ensures custom { IsUniqueWide custom }
     ensures wasm_module { IsUniqueWholeWide wasm_module }
+    ensures heap_type { IsUniqueWide heap_type }
+    ensures ref_type { IsUniqueWide ref_type }
+    ensures val_type { IsUniqueWide val_type }
 {}

@@ -4,7 +4,9 @@
 //! `specs/Formats.antt`, what a call appends in `specs/Calls.antt`, and [`laws`] says that bytes are read in one way.
 #![tactic(auto)]
 
+mod cow;
 mod encode;
+mod fixed;
 mod frames;
 pub mod laws;
 mod modules;
@@ -14,8 +16,10 @@ mod refused;
 mod section_id;
 mod sections;
 mod tuples;
+mod types;
 mod vectors;
 
+pub use cow::{CowSlice, CowStr};
 pub use encode::Encode;
 pub use frames::{begin_frame, encode_frame, encode_section};
 pub use modules::Module;
@@ -27,4 +31,5 @@ pub use section_id::{
     CORE_TABLE_SORT, CORE_TAG_SORT, SectionId,
 };
 pub use sections::{RawSection, Section};
+pub use types::{AbstractHeapType, HeapType, RefType, ValType};
 pub use vectors::encode_vec;

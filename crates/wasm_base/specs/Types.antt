@@ -1,0 +1,129 @@
+-- Types: their texts, and which bytes spell them.
+use Rattle.std.specs.Prelude.{◌≢◌, ℕ, ◌^◌, ◌<◌, ◌≤◌, ◌⊎◌, List, [], ◌∷◌, Bool, true, false, pos}
+use Rattle.wasm_base.specs.Numbers.{unsigned_text, signed_text}
+use Rattle.wasm_base.specs.Formats.{Format, u32, byte, s33, fixed, impossible, coded, mapped, such, choice, tagged, one_of}
+use Rattle.wasm_base.specs.declared.types.AbstractHeapType.{AbstractHeapType}
+use Rattle.wasm_base.specs.declared.types.AbstractHeapType.TheVariants as kinds
+use Rattle.wasm_base.specs.declared.types.HeapType.{HeapType}
+use Rattle.wasm_base.specs.declared.types.HeapType.TheVariants.{Abstract, Concrete, Exact}
+use Rattle.wasm_base.specs.declared.types.RefType.{RefType}
+use Rattle.wasm_base.specs.declared.types.ValType.{ValType}
+use Rattle.wasm_base.specs.declared.types.ValType.TheVariants.{I32, I64, F32, F64, V128, Ref}
+
+-- ---- texts
+
+-- the byte of an abstract heap type
+abbrev pub abstract_code : AbstractHeapType → ℕ
+abstract_code kinds.Func = 0x70
+abstract_code kinds.Extern = 0x6F
+abstract_code kinds.Any = 0x6E
+abstract_code kinds.Eq = 0x6D
+abstract_code kinds.I31 = 0x6C
+abstract_code kinds.Struct = 0x6B
+abstract_code kinds.Array = 0x6A
+abstract_code kinds.Exn = 0x69
+abstract_code kinds.NoExn = 0x74
+abstract_code kinds.NoFunc = 0x73
+abstract_code kinds.NoExtern = 0x72
+abstract_code kinds.None = 0x71
+abstract_code kinds.Cont = 0x68
+abstract_code kinds.NoCont = 0x75
+
+-- A shared abstract type has a byte before its own, and an exact one a byte before its index.
+abbrev pub heap_text : HeapType → List ℕ
+heap_text (Abstract false ty) = abstract_code ty ∷ []
+heap_text (Abstract true ty) = 0x65 ∷ abstract_code ty ∷ []
+heap_text (Concrete index) = signed_text (pos index)
+heap_text (Exact index) = 0x62 ∷ unsigned_text index
+
+-- a nullable reference: two of them have a byte of their own
+abbrev pub nullable_text : HeapType → List ℕ
+nullable_text (Abstract false kinds.Func) = 0x70 ∷ []
+nullable_text (Abstract false kinds.Extern) = 0x6F ∷ []
+nullable_text heap = 0x63 ∷ heap_text heap
+
+abbrev pub ref_bytes : (nullable : Bool) → HeapType → List ℕ
+ref_bytes true heap = nullable_text heap
+ref_bytes false heap = 0x64 ∷ heap_text heap
+
+abbrev pub ref_text : RefType → List ℕ
+ref_text r = ref_bytes r.nullable r.heap_type
+
+abbrev pub val_text : ValType → List ℕ
+val_text I32 = 0x7F ∷ []
+val_text I64 = 0x7E ∷ []
+val_text F32 = 0x7D ∷ []
+val_text F64 = 0x7C ∷ []
+val_text V128 = 0x7B ∷ []
+val_text (Ref r) = ref_text r
+
+-- ---- indices of 32 bits
+
+abbrev pub IsHeap : HeapType → Type 0
+IsHeap (Abstract shared ty) = Unit {0}
+IsHeap (Concrete index) = index < 2 ^ 32
+IsHeap (Exact index) = index < 2 ^ 32
+
+abbrev pub IsRef : RefType → Type 0
+IsRef r = IsHeap r.heap_type
+
+abbrev pub IsVal : ValType → Type 0
+IsVal (Ref r) = IsRef r
+IsVal _ = Unit {0}
+
+-- ---- formats
+
+abbrev pub abstract_type : Format AbstractHeapType
+abstract_type = coded abstract_code
+
+abbrev pub unshared : AbstractHeapType → HeapType
+unshared ty = Abstract false ty
+
+abbrev pub shared : AbstractHeapType → HeapType
+shared ty = Abstract true ty
+
+-- what follows a byte that tells
+abbrev pub heap_tags : List (ℕ × Format HeapType)
+heap_tags = (0x65, mapped shared abstract_type) ∷ (0x62, mapped Exact u32) ∷ []
+
+-- The first byte tells which it is: an index begins with none of the others' bytes.
+abbrev pub heap_type : Format HeapType
+heap_type = one_of (mapped unshared abstract_type) (one_of (tagged byte (choice heap_tags (λ b. impossible))) (mapped Concrete s33))
+
+abbrev pub FUNCREF : RefType
+FUNCREF = record { nullable = true; heap_type = unshared kinds.Func }
+
+abbrev pub EXTERNREF : RefType
+EXTERNREF = record { nullable = true; heap_type = unshared kinds.Extern }
+
+abbrev pub nullable_to : HeapType → RefType
+nullable_to heap = record { nullable = true; heap_type = heap }
+
+abbrev pub to : HeapType → RefType
+to heap = record { nullable = false; heap_type = heap }
+
+-- FUNCREF and EXTERNREF have a byte of their own.
+abbrev pub HasNoByte : HeapType → Type 0
+HasNoByte heap = (heap ≢ unshared kinds.Func) × (heap ≢ unshared kinds.Extern)
+
+-- what follows the first byte of a reference type
+abbrev pub ref_tags : List (ℕ × Format RefType)
+ref_tags = (0x70, fixed [] FUNCREF) ∷ (0x6F, fixed [] EXTERNREF) ∷ (0x63, mapped nullable_to (such HasNoByte heap_type)) ∷ (0x64, mapped to heap_type) ∷ []
+
+abbrev pub ref_type : Format RefType
+ref_type = tagged byte (choice ref_tags (λ b. impossible))
+
+-- what follows the first byte of a value type
+abbrev pub val_tags : List (ℕ × Format ValType)
+val_tags = (0x7F, fixed [] I32) ∷ (0x7E, fixed [] I64) ∷ (0x7D, fixed [] F32) ∷ (0x7C, fixed [] F64) ∷ (0x7B, fixed [] V128) ∷ []
+
+-- a reference type after its first byte b
+abbrev pub val_ref : ℕ → Format ValType
+val_ref b = mapped Ref (choice ref_tags (λ c. impossible) b)
+
+abbrev pub val_type : Format ValType
+val_type = tagged byte (choice val_tags val_ref)
+
+-- An index that is spelled as a signed number begins with a byte that is no type's.
+abbrev pub IsIndexByte : ℕ → Type 0
+IsIndexByte b = (b < 0x40) ⊎ (0x80 ≤ b)

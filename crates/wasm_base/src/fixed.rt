@@ -1,0 +1,18 @@
+// Fixed bytes.
+ghost use Rattle.std.specs.Prelude.{⊤};
+
+use crate::encode::Encode;
+use crate::refused::R;
+use std::alloc::Allocator;
+
+/// The bytes as they are, with no count.
+impl<const N: usize> Encode for [u8; N] {
+    ghost text = { λ bytes. bytes };
+
+    ghost fits = { λ _. ⊤ };
+
+    fn encode<A: Allocator>(&self, sink: &mut Vec<u8, A>) -> R<()> {
+        sink.extend_from_slice(self)?;
+        Ok(())
+    }
+}

@@ -1,0 +1,63 @@
+-- The laws of the opcode table, and of instructions over it.
+use Rattle.std.proofs.Common.{◌≡◌, List, [], ◌∷◌, ◌++◌, Bool, true, false, ltb, not, ◌&&◌, refl}
+use Rattle.std.specs.List.{AllByRecursion}
+use Rattle.std.proofs.lemmas.Bool.{and_parts}
+use Rattle.wasm_base.specs.Numbers.{shortest}
+use Rattle.wasm_base.specs.Reading.{UniqueReading, IsUniqueWide}
+use Rattle.wasm_base.proofs.BaseLaws.{unique_wide}
+use Rattle.wasm_insn.specs.declared.op.Op.{Op}
+use Rattle.wasm_insn.specs.declared.op.Op.TheVariants.{Byte, Prefixed}
+use Rattle.wasm_insn.specs.declared.instruction.Instruction.{Instruction}
+use Rattle.wasm_insn.specs.Immediates.{op_text}
+use Rattle.wasm_insn.specs.Plain.{Table, IsOpcode, IsPlain, opcode, instruction}
+use Rattle.wasm_insn.specs.Table.{table, IsTableOp, IsOpcodeTable, BeginsNoOther, IsRow}
+use Rattle.wasm_insn.specs.Instructions.{row_of, IsPlainInstruction, ReadsInstruction, HaveOneText}
+use Rattle.wasm_insn.proofs.PlainLaws.{opcode-alone, opcode_spelled, instruction-alone, plain-alone, same_text, wide_immediates}
+use Rattle.wasm_insn.proofs.TableRows.{is_op, op_is, instruction_row}
+
+-- ---- the table
+
+abbrev has_ops : Table → Bool
+has_ops [] = true
+has_ops (row ∷ rows) = is_op row.0 && has_ops rows
+
+all_ops : (rows : Table) → has_ops rows ≡ true → AllByRecursion (λ row. IsTableOp row.0) rows
+all_ops [] e = tt
+all_ops (row ∷ rows) e = let h = and_parts (is_op row.0) (has_ops rows) e in (op_is row.0 h.0, all_ops rows h.1)
+
+pub table-is : IsOpcodeTable table
+unfolding table
+table-is = record { row_count = refl; op_count = refl; ops = all_ops table refl; ascending = refl; shared = refl }
+
+as_opcode : (op : Op) → IsTableOp op → IsOpcode op
+as_opcode (Byte b) h = h.1
+as_opcode (Prefixed p n) h = h
+
+pub apart : BeginsNoOther
+apart = record {
+  for_each = λ a b x y h g e.
+      (opcode-alone.alone shortest (op_text a) (op_text b) x y a b (opcode_spelled a (as_opcode a h)) (opcode_spelled b (as_opcode b g)) e).0;
+}
+
+pub ruleset opcodes = (table-is, apart)
+
+-- ---- instructions
+
+is_plain : {A : Type 0} (i : Instruction A) → IsPlainInstruction i → IsPlain table (row_of i)
+is_plain i h =
+    let row = instruction_row i in
+    record { shape = row.shape; opcode = as_opcode (row_of i).op row.op; row = row.row; parts = row.parts; arguments = h }
+
+pub reads : {A : Type 0} (i : Instruction A) → ReadsInstruction i
+reads i = record { alone = λ h. plain-alone table (row_of i) (is_plain i h) }
+
+pub one_text : {A : Type 0} (i j : Instruction A) → HaveOneText i j
+one_text i j = record { exactly = λ h g. same_text table (row_of i) (row_of j) (is_plain i h) (is_plain j g) }
+
+pub alone : UniqueReading (instruction table)
+alone = instruction-alone table
+
+pub wide-instruction : IsUniqueWide (instruction table)
+wide-instruction = unique_wide alone
+
+pub ruleset wide = (wide_immediates, wide-instruction)

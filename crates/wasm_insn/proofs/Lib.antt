@@ -1,0 +1,6 @@
+pub mod FixedBytes
+pub mod ImmediateLaws
+pub mod TableRuns
+pub mod PlainLaws
+pub mod TableRows
+pub mod InstructionLaws

@@ -1,0 +1,96 @@
+-- The texts of immediates and opcodes.
+use Rattle.std.specs.Prelude.{ℕ, zero, suc, List, [], ◌∷◌, ◌++◌, Option, Some, None, Bool, true, false, pos}
+use Rattle.std.specs.Int.RustNames.{bit_or}
+use Rattle.wasm_base.specs.Numbers.{unsigned_text, signed_text}
+use Rattle.wasm_base.specs.Types.{val_text}
+use Rattle.wasm_insn.specs.declared.memory.Ordering.{Ordering}
+use Rattle.wasm_insn.specs.declared.memory.Ordering.TheVariants.{AcqRel, SeqCst}
+use Rattle.wasm_insn.specs.declared.memory.MemArgOrdering.{MemArgOrdering}
+use Rattle.wasm_insn.specs.declared.memory.MemArgOrdering.TheVariants as orders
+use Rattle.wasm_insn.specs.declared.memory.MemArgTarget.{MemArgTarget}
+use Rattle.wasm_insn.specs.declared.memory.MemArgTarget.TheVariants.{Memory, Array}
+use Rattle.wasm_insn.specs.declared.memory.MemArg.{MemArg}
+use Rattle.wasm_insn.specs.declared.block_type.BlockType.{BlockType}
+use Rattle.wasm_insn.specs.declared.block_type.BlockType.TheVariants as blocks
+use Rattle.wasm_insn.specs.declared.control.Catch.{Catch}
+use Rattle.wasm_insn.specs.declared.control.Catch.TheVariants.{One, OneRef, All, AllRef}
+use Rattle.wasm_insn.specs.declared.control.Handle.{Handle}
+use Rattle.wasm_insn.specs.declared.control.Handle.TheVariants.{OnLabel, OnSwitch}
+use Rattle.wasm_insn.specs.declared.op.Op.{Op}
+use Rattle.wasm_insn.specs.declared.op.Op.TheVariants.{Byte, Prefixed}
+
+-- ---- opcodes
+
+abbrev pub op_text : Op → List ℕ
+op_text (Byte b) = b ∷ []
+op_text (Prefixed prefix number) = prefix ∷ unsigned_text number
+
+-- ---- memory arguments
+
+abbrev pub ordering_code : Ordering → ℕ
+ordering_code SeqCst = 0x00
+ordering_code AcqRel = 0x01
+
+-- The ordering SeqCst has one byte for both.
+abbrev pub mem_ordering_code : MemArgOrdering → ℕ
+mem_ordering_code (orders.Op SeqCst) = 0x00
+mem_ordering_code (orders.Op AcqRel) = 0x01
+mem_ordering_code (orders.Rmw SeqCst) = 0x00
+mem_ordering_code (orders.Rmw AcqRel) = 0x11
+
+-- the index that is written: memory 0 has none
+abbrev pub index_of : MemArgTarget → Option ℕ
+index_of (Memory zero) = None
+index_of (Memory (suc n)) = Some (suc n)
+index_of (Array n) = Some n
+
+-- bit 4 of the flags: an ordering is given
+abbrev pub has_ordering : Option MemArgOrdering → Bool
+has_ordering None = false
+has_ordering (Some ordering) = true
+
+-- bit 5 of the flags
+abbrev pub is_array : MemArgTarget → Bool
+is_array (Memory n) = false
+is_array (Array n) = true
+
+-- bit 6 of the flags: a memory other than 0
+abbrev pub has_memory : MemArgTarget → Bool
+has_memory (Memory zero) = false
+has_memory (Memory (suc n)) = true
+has_memory (Array n) = false
+
+-- so much where the bit is set
+abbrev pub where_set : Bool → ℕ → ℕ
+where_set true weight = weight
+where_set false weight = 0
+
+-- the alignment, with those bits set
+abbrev pub mem_flags : MemArg → ℕ
+mem_flags m = bit_or (bit_or m.align (where_set (has_ordering m.ordering) 0x10)) (bit_or (where_set (is_array m.target) 0x20) (where_set (has_memory m.target) 0x40))
+
+-- a part that may be missing
+abbrev pub optional_text : {X : Type 0} → (X → List ℕ) → Option X → List ℕ
+optional_text text None = []
+optional_text text (Some x) = text x
+
+abbrev pub mem_arg_text : MemArg → List ℕ
+mem_arg_text m =
+    unsigned_text (mem_flags m) ++ (optional_text unsigned_text (index_of m.target) ++ (optional_text (λ o. mem_ordering_code o ∷ []) m.ordering ++ unsigned_text m.offset))
+
+-- ---- blocks, catches and handles
+
+abbrev pub block_text : BlockType → List ℕ
+block_text blocks.Empty = 0x40 ∷ []
+block_text (blocks.Result ty) = val_text ty
+block_text (blocks.FunctionType index) = signed_text (pos index)
+
+abbrev pub catch_text : Catch → List ℕ
+catch_text (One tag label) = 0x00 ∷ (unsigned_text tag ++ unsigned_text label)
+catch_text (OneRef tag label) = 0x01 ∷ (unsigned_text tag ++ unsigned_text label)
+catch_text (All label) = 0x02 ∷ unsigned_text label
+catch_text (AllRef label) = 0x03 ∷ unsigned_text label
+
+abbrev pub handle_text : Handle → List ℕ
+handle_text (OnLabel tag label) = 0x00 ∷ (unsigned_text tag ++ unsigned_text label)
+handle_text (OnSwitch tag) = 0x01 ∷ unsigned_text tag

@@ -1,0 +1,13 @@
+pub mod Immediates
+pub mod Parts
+pub mod Arguments
+pub mod Plain
+pub mod Table
+pub mod Numeric
+pub mod Aggregate
+pub mod PrefixedNumeric
+pub mod Vector
+pub mod VectorImmediate
+pub mod Atomic
+pub mod Instructions
+pub mod Sink

@@ -1,0 +1,52 @@
+-- What calls of a sink leave in its buffer.
+use Rattle.std.specs.Prelude.{◌≡◌, ◌≢◌, ℕ, ◌<◌, ◌≤◌, List, [], ◌∷◌, ◌++◌, length, Result, Err, OnOk, OnErr, IsOk, is_ok, Option, if◌then◌else◌}
+use Rattle.std.specs.Iterator.{Count, Drains, Yields, size}
+use Rattle.std.specs.List.{All}
+use Rattle.std.specs.declared.alloc.Global.{Global}
+use Rattle.wasm_base.specs.Texts.{longest, vec_text, VecFits}
+use Rattle.wasm_base.specs.declared.refused.Refused.{Refused}
+use Rattle.wasm_base.specs.declared.refused.Refused.TheVariants.{TooLong}
+use Rattle.wasm_insn.specs.declared.instruction.Instruction.{Instruction}
+use Rattle.wasm_insn.specs.declared.op.Op.TheVariants.{Byte}
+use Rattle.wasm_insn.specs.Arguments.{labels, unsigned}
+use Rattle.wasm_insn.specs.Plain.{plain_text}
+use Rattle.wasm_insn.specs.Instructions.{instruction_text, InstructionFits}
+
+-- the old bytes and the text where the call was accepted, and the old bytes alone where it was refused
+abbrev pub appended : Result (Unit {0}) Refused → List ℕ → List ℕ → List ℕ
+appended result old text = if is_ok result then old ++ text else old
+
+-- The buffer gains the text, or keeps what it has. Where it has room for the text, the call takes no memory and is accepted.
+pub record Writes (text : List ℕ) (fits has_room : Type 0) (old new : List ℕ) (result : Result (Unit {0}) Refused) : Type 0 where
+  pub bytes : new ≡ appended result old text
+  pub fitted : OnOk result fits
+  pub too_long : fits → result ≢ Err TooLong
+  pub room : fits → has_room → IsOk result
+
+-- The buffer gains the text of the instruction, or keeps what it has.
+abbrev pub WritesInstruction : {B : Type 0} → (B → List ℕ) → (B → ℕ → Type 0) → Instruction Global → B → B → Result (Unit {0}) Refused → Type 0
+WritesInstruction written has_room i old new result =
+    Writes (instruction_text i) (InstructionFits i) (has_room old (length (instruction_text i))) (written old) (written new) result
+
+-- The buffer gains the text `before`, the vector of the items that the elements give, and the text `after`, or keeps what it has.
+pub record WritesVec {E I T : Type 0} (becomes : E → I → Type 0) (gives : I → Option T → I → Type 0) (remaining : I → Count) (Fits : T → Type 0) (text : T → List ℕ)
+    (elements : E) (others_fit : Type 0) (before after old new : List ℕ) (result : Result (Unit {0}) Refused) : Type 0 where
+  pub ok : OnOk result ((it : I) × (xs : List T) × becomes elements it × Drains gives it xs × VecFits Fits xs × others_fit × (new ≡ old ++ (before ++ (vec_text text xs ++ after))))
+  pub err : OnErr result (new ≡ old)
+  pub too_long : ((it : I) → becomes elements it → size (remaining it) ≤ longest)
+      → ((it left : I) (xs : List T) → becomes elements it → Yields gives it xs left → All Fits xs)
+      → others_fit
+      → result ≢ Err TooLong
+  pub too_many : ((it : I) → becomes elements it → longest < size (remaining it)) → result ≡ Err TooLong
+
+-- the text of `BrTable`
+abbrev pub br_table_text : List ℕ → ℕ → List ℕ
+br_table_text ls default = plain_text (record { op = Byte 0x0E; arguments = labels ls ∷ unsigned default ∷ [] })
+
+-- The buffer gains the text of `BrTable` of the labels that are given, or keeps what it has.
+pub record WritesLabels {E I : Type 0} (becomes : E → I → Type 0) (gives : I → Option ℕ → I → Type 0) (remaining : I → Count)
+    (given : E) (default : ℕ) (old new : List ℕ) (result : Result (Unit {0}) Refused) : Type 0 where
+  pub ok : OnOk result ((it : I) × (ls : List ℕ) × becomes given it × Drains gives it ls × (length ls ≤ longest) × (new ≡ old ++ br_table_text ls default))
+  pub err : OnErr result (new ≡ old)
+  pub too_long : ((it : I) → becomes given it → size (remaining it) ≤ longest) → result ≢ Err TooLong
+  pub too_many : ((it : I) → becomes given it → longest < size (remaining it)) → result ≡ Err TooLong

@@ -1,0 +1,76 @@
+// Floats, as their bits.
+ghost use Rattle.std.specs.Prelude.{◌≡◌, ⊤};
+ghost use Rattle.wasm_base.specs.Texts.{little_endian_text};
+
+use std::alloc::Allocator;
+use wasm_base::{Encode, R};
+
+/// The bits of a float of 32 bits. The format is that of IEEE 754.
+#[derive(Clone, Copy, PartialEq, Eq, Hash, Debug)]
+pub struct Ieee32 {
+    bits: u32,
+}
+
+impl Ieee32 {
+    /// The float of these bits.
+    pub fn new(bits: u32) -> Self
+        ensures { result.bits ≡ bits }
+    {
+        Ieee32 { bits }
+    }
+
+    /// Its bits.
+    pub fn bits(self) -> u32
+        ensures { result ≡ self.bits }
+    {
+        self.bits
+    }
+}
+
+/// Four bytes, the least first.
+impl Encode for Ieee32 {
+    ghost text = { λ float. little_endian_text 4 float.bits };
+
+    ghost fits = { λ _. ⊤ };
+
+    #[tactic(auto, using(crate::proofs::FixedBytes::four_bytes))]
+    fn encode<A: Allocator>(&self, sink: &mut Vec<u8, A>) -> R<()> {
+        let bytes: [u8; 4] = self.bits.to_le_bytes();
+        bytes.encode(sink)
+    }
+}
+
+/// The bits of a float of 64 bits. The format is that of IEEE 754.
+#[derive(Clone, Copy, PartialEq, Eq, Hash, Debug)]
+pub struct Ieee64 {
+    bits: u64,
+}
+
+impl Ieee64 {
+    /// The float of these bits.
+    pub fn new(bits: u64) -> Self
+        ensures { result.bits ≡ bits }
+    {
+        Ieee64 { bits }
+    }
+
+    /// Its bits.
+    pub fn bits(self) -> u64
+        ensures { result ≡ self.bits }
+    {
+        self.bits
+    }
+}
+
+/// Eight bytes, the least first.
+impl Encode for Ieee64 {
+    ghost text = { λ float. little_endian_text 8 float.bits };
+
+    ghost fits = { λ _. ⊤ };
+
+    #[tactic(auto, using(crate::proofs::FixedBytes::eight_bytes))]
+    fn encode<A: Allocator>(&self, sink: &mut Vec<u8, A>) -> R<()> {
+        let bytes: [u8; 8] = self.bits.to_le_bytes();
+        bytes.encode(sink)
+    }
+}

@@ -1,0 +1,130 @@
+// The arguments of instructions that access memory.
+ghost use Rattle.std.specs.Prelude.{◌≡◌, ◌∷◌, [], ⊤};
+ghost use Rattle.wasm_insn.specs.Immediates.{ordering_code, mem_ordering_code, index_of, mem_flags, mem_arg_text};
+ghost use Rattle.wasm_insn.specs.declared.memory.MemArgTarget.TheVariants.{Memory};
+
+use std::alloc::Allocator;
+use std::default::Default;
+use wasm_base::{Encode, R};
+
+/// The number of a lane of a vector.
+pub type Lane = u8;
+
+/// Where and how an instruction accesses memory.
+#[derive(Clone, Copy, Debug)]
+pub struct MemArg {
+    /// What is added to the address.
+    pub offset: u64,
+    /// The alignment that is expected, as an exponent of 2.
+    pub align: u32,
+    pub target: MemArgTarget,
+    /// Given where an atomic access has another ordering than its own.
+    pub ordering: Option<MemArgOrdering>,
+}
+
+/// What is accessed.
+#[derive(Clone, Copy, PartialEq, Eq, Hash, Debug)]
+pub enum MemArgTarget {
+    /// The memory of this index.
+    Memory(u32),
+    /// An array of the type of this index.
+    Array(u32),
+}
+
+/// The ordering of an access: of an operation, or of one that reads, modifies and writes.
+#[derive(Clone, Copy, PartialEq, Eq, Hash, Debug)]
+pub enum MemArgOrdering {
+    Op(Ordering),
+    Rmw(Ordering),
+}
+
+/// How atomic accesses are ordered.
+#[derive(Clone, Copy, PartialEq, Eq, Hash, Debug)]
+pub enum Ordering {
+    AcqRel = 0x01,
+    SeqCst = 0x00,
+}
+
+/// Memory 0.
+impl Default for MemArgTarget {
+    ghost is_default = { λ target. target ≡ Memory 0 };
+
+    fn default() -> Self {
+        Self::Memory(0)
+    }
+}
+
+impl MemArgTarget {
+    /// The index that is written: memory 0 has none.
+    #[inline]
+    fn index(self) -> Option<u32>
+        ensures { result ≡ index_of self }
+    {
+        match self {
+            MemArgTarget::Memory(0) => None,
+            MemArgTarget::Memory(index) => Some(index),
+            MemArgTarget::Array(index) => Some(index),
+        }
+    }
+}
+
+/// One byte.
+impl Encode for Ordering {
+    ghost text = { λ ordering. ordering_code ordering ∷ [] };
+
+    ghost fits = { λ _. ⊤ };
+
+    fn encode<A: Allocator>(&self, sink: &mut Vec<u8, A>) -> R<()> {
+        (*self as u8).encode(sink)
+    }
+}
+
+/// One byte; the strongest ordering has one for both.
+impl Encode for MemArgOrdering {
+    ghost text = { λ ordering. mem_ordering_code ordering ∷ [] };
+
+    ghost fits = { λ _. ⊤ };
+
+    fn encode<A: Allocator>(&self, sink: &mut Vec<u8, A>) -> R<()> {
+        let byte: u8 = match *self {
+            MemArgOrdering::Op(Ordering::SeqCst) => 0x00,
+            MemArgOrdering::Op(Ordering::AcqRel) => 0x01,
+            MemArgOrdering::Rmw(Ordering::SeqCst) => 0x00,
+            MemArgOrdering::Rmw(Ordering::AcqRel) => 0x11,
+        };
+        byte.encode(sink)
+    }
+}
+
+impl MemArg {
+    /// The alignment, and a bit for each part that is written.
+    #[inline]
+    fn flags(self) -> u32
+        ensures { result ≡ mem_flags self }
+    {
+        let ordering = if self.ordering.is_some() { 0x10 } else { 0 };
+        let target = match self.target {
+            MemArgTarget::Memory(0) => 0,
+            MemArgTarget::Memory(_) => 0x40,
+            MemArgTarget::Array(_) => 0x20,
+        };
+        self.align | ordering | target
+    }
+}
+
+/// Flags, the index and the ordering where the flags say so, and the offset.
+impl Encode for MemArg {
+    ghost text = { mem_arg_text };
+
+    ghost fits = { λ _. ⊤ };
+
+    fn encode<A: Allocator>(&self, sink: &mut Vec<u8, A>) -> R<()> {
+        let flags = self.flags();
+        match (self.target.index(), self.ordering) {
+            (None, None) => (flags, self.offset).encode(sink),
+            (None, Some(ordering)) => (flags, ordering, self.offset).encode(sink),
+            (Some(index), None) => (flags, index, self.offset).encode(sink),
+            (Some(index), Some(ordering)) => (flags, index, (ordering, self.offset)).encode(sink),
+        }
+    }
+}

@@ -1,0 +1,442 @@
+// Named calls that write instructions into a buffer.
+ghost use Rattle.std.specs.Prelude.{◌≡◌, ℕ, ◌+◌, ◌≤◌, List, length, vec_len, vec_capacity, ⊤};
+ghost use Rattle.wasm_base.specs.Iterators.{HasKnownLength};
+ghost use Rattle.wasm_insn.specs.Immediates.{op_text};
+ghost use Rattle.wasm_insn.specs.Sink.{Writes, WritesVec, WritesInstruction, WritesLabels};
+
+use crate::block_type::BlockType;
+use crate::floats::{Ieee32, Ieee64};
+use crate::instruction::Instruction;
+use crate::memory::MemArg;
+use crate::numeric::Numeric;
+use crate::op::Op;
+use crate::vector_immediate::{VectorImmediate, vector_bytes};
+use std::alloc::Allocator;
+use std::slice;
+use wasm_base::{CowSlice, Encode, HeapType, R, Refused, ValType, encode_vec};
+
+/// What instructions are written into.
+pub trait Buffer {
+    /// written: the bytes that the buffer has.
+    ghost written: { Self → List ℕ };
+
+    /// has_room: So many bytes more take no memory. A buffer may leave this open.
+    ghost has_room: { Self → ℕ → Type 0 } = { λ _ _. ⊥ };
+
+    /// Appends the text of the value. A refused call leaves the bytes as they were.
+    fn append<E: Encode>(&mut self, value: &E) -> R<()>
+        ensures { Writes (E.text value.now) (E.fits value.now) (has_room self.old (length (E.text value.now))) (written self.old) (written self.new) result };
+
+    /// Appends a value, the vector of the elements, and another value. A refused call leaves the bytes as they were; where the
+    /// length that the elements tell is too long, none of them is asked for.
+    fn append_vec<S: Encode, T: Encode + Drop, V: IntoIterator<Item = T>, U: Encode>(
+        &mut self,
+        before: &S,
+        elements: V,
+        after: &U,
+    ) -> R<()>
+    where
+        V::IntoIter: ExactSizeIterator + Drop,
+        requires { HasKnownLength V.into_iter_gives V.IntoIter.can_next V.IntoIter.next_gives V.IntoIter.remaining elements }
+        ensures { WritesVec V.into_iter_gives V.IntoIter.next_gives V.IntoIter.remaining T.fits T.text elements (S.fits before.now × U.fits after.now) (S.text before.now) (U.text after.now) (written self.old) (written self.new) result };
+}
+
+/// The bytes of the vector.
+impl<A: Allocator> Buffer for Vec<u8, A> {
+    ghost written = { λ bytes. bytes.items };
+
+    ghost has_room = { λ bytes n. vec_len bytes + n ≤ vec_capacity bytes };
+
+    fn append<E: Encode>(&mut self, value: &E) -> R<()> {
+        value.encode(self)
+    }
+
+    fn append_vec<S: Encode, T: Encode + Drop, V: IntoIterator<Item = T>, U: Encode>(
+        &mut self,
+        before: &S,
+        elements: V,
+        after: &U,
+    ) -> R<()>
+    where
+        V::IntoIter: ExactSizeIterator + Drop,
+    {
+        let elements = elements.into_iter();
+        if u32::try_from(elements.len()).is_err() {
+            return Err(Refused::TooLong);
+        }
+        let start = self.len();
+        before.encode(self)?;
+        if let Err(refused) = encode_vec(elements, self) {
+            self.truncate(start);
+            return Err(refused);
+        }
+        if let Err(refused) = after.encode(self) {
+            self.truncate(start);
+            return Err(refused);
+        }
+        Ok(())
+    }
+}
+
+/// Writes instructions into a buffer that it borrows. A refused call leaves the buffer's bytes as they were.
+#[derive(Drop)]
+pub struct InstructionSink<'a, B: Buffer> {
+    sink: &'a mut B,
+}
+
+impl<'a, B: Buffer> InstructionSink<'a, B> {
+    /// A sink that writes into `sink`, after what it has.
+    pub fn new(sink: &'a mut B) -> Self
+        ensures same_reference { result.sink.ghost_name ≡ sink.entry.ghost_name }
+        ensures same { result.sink.now ≡ sink.old }
+    {
+        InstructionSink { sink }
+    }
+
+    /// Each call writes by this one.
+    fn emit<E: Encode>(&mut self, value: &E) -> R<()>
+        ensures same_reference { self.new.sink.ghost_name ≡ self.old.sink.ghost_name }
+        ensures writes { Writes (E.text value.now) (E.fits value.now) (B.has_room self.old.sink.now (length (E.text value.now))) (B.written self.old.sink.now) (B.written self.new.sink.now) result }
+    {
+        self.sink.append(value)
+    }
+
+    /// Appends the bytes of an op.
+    pub fn op(&mut self, op: Op) -> R<()>
+        ensures same_reference { self.new.sink.ghost_name ≡ self.old.sink.ghost_name }
+        ensures writes { Writes (op_text op) ⊤ (B.has_room self.old.sink.now (length (op_text op))) (B.written self.old.sink.now) (B.written self.new.sink.now) result }
+    {
+        self.emit(&op)
+    }
+
+    /// Appends the text of `Unreachable`.
+    pub fn unreachable(&mut self) -> R<()>
+        ensures same_reference { self.new.sink.ghost_name ≡ self.old.sink.ghost_name }
+        ensures writes { WritesInstruction B.written B.has_room Instruction.Unreachable self.old.sink.now self.new.sink.now result }
+    {
+        self.emit(&0x00u8)
+    }
+
+    /// Appends the text of `Nop`.
+    pub fn nop(&mut self) -> R<()>
+        ensures same_reference { self.new.sink.ghost_name ≡ self.old.sink.ghost_name }
+        ensures writes { WritesInstruction B.written B.has_room Instruction.Nop self.old.sink.now self.new.sink.now result }
+    {
+        self.emit(&0x01u8)
+    }
+
+    /// Appends the text of `Block`.
+    pub fn block(&mut self, block_type: BlockType) -> R<()>
+        ensures same_reference { self.new.sink.ghost_name ≡ self.old.sink.ghost_name }
+        ensures writes { WritesInstruction B.written B.has_room (Instruction.Block block_type) self.old.sink.now self.new.sink.now result }
+    {
+        self.emit(&(0x02u8, block_type))
+    }
+
+    /// Appends the text of `Loop`.
+    pub fn loop_(&mut self, block_type: BlockType) -> R<()>
+        ensures same_reference { self.new.sink.ghost_name ≡ self.old.sink.ghost_name }
+        ensures writes { WritesInstruction B.written B.has_room (Instruction.Loop block_type) self.old.sink.now self.new.sink.now result }
+    {
+        self.emit(&(0x03u8, block_type))
+    }
+
+    /// Appends the text of `If`.
+    pub fn if_(&mut self, block_type: BlockType) -> R<()>
+        ensures same_reference { self.new.sink.ghost_name ≡ self.old.sink.ghost_name }
+        ensures writes { WritesInstruction B.written B.has_room (Instruction.If block_type) self.old.sink.now self.new.sink.now result }
+    {
+        self.emit(&(0x04u8, block_type))
+    }
+
+    /// Appends the text of `Else`.
+    pub fn else_(&mut self) -> R<()>
+        ensures same_reference { self.new.sink.ghost_name ≡ self.old.sink.ghost_name }
+        ensures writes { WritesInstruction B.written B.has_room Instruction.Else self.old.sink.now self.new.sink.now result }
+    {
+        self.emit(&0x05u8)
+    }
+
+    /// Appends the text of `End`.
+    pub fn end(&mut self) -> R<()>
+        ensures same_reference { self.new.sink.ghost_name ≡ self.old.sink.ghost_name }
+        ensures writes { WritesInstruction B.written B.has_room Instruction.End self.old.sink.now self.new.sink.now result }
+    {
+        self.emit(&0x0Bu8)
+    }
+
+    /// Appends the text of `Br`.
+    pub fn br(&mut self, label: u32) -> R<()>
+        ensures same_reference { self.new.sink.ghost_name ≡ self.old.sink.ghost_name }
+        ensures writes { WritesInstruction B.written B.has_room (Instruction.Br label) self.old.sink.now self.new.sink.now result }
+    {
+        self.emit(&(0x0Cu8, label))
+    }
+
+    /// Appends the text of `BrIf`.
+    pub fn br_if(&mut self, label: u32) -> R<()>
+        ensures same_reference { self.new.sink.ghost_name ≡ self.old.sink.ghost_name }
+        ensures writes { WritesInstruction B.written B.has_room (Instruction.BrIf label) self.old.sink.now self.new.sink.now result }
+    {
+        self.emit(&(0x0Du8, label))
+    }
+
+    /// Appends the text of `BrTable`, of the labels that are given and the default one.
+    pub fn br_table<V: IntoIterator<Item = u32>>(&mut self, labels: V, default: u32) -> R<()>
+    where
+        V::IntoIter: ExactSizeIterator + Drop,
+        requires { HasKnownLength V.into_iter_gives V.IntoIter.can_next V.IntoIter.next_gives V.IntoIter.remaining labels }
+        ensures same_reference { self.new.sink.ghost_name ≡ self.old.sink.ghost_name }
+        ensures writes { WritesLabels V.into_iter_gives V.IntoIter.next_gives V.IntoIter.remaining labels default (B.written self.old.sink.now) (B.written self.new.sink.now) result }
+    {
+        self.sink.append_vec(&0x0Eu8, labels, &default)
+    }
+
+    /// Appends the text of `Return`.
+    pub fn return_(&mut self) -> R<()>
+        ensures same_reference { self.new.sink.ghost_name ≡ self.old.sink.ghost_name }
+        ensures writes { WritesInstruction B.written B.has_room Instruction.Return self.old.sink.now self.new.sink.now result }
+    {
+        self.emit(&0x0Fu8)
+    }
+
+    /// Appends the text of `Call`.
+    pub fn call(&mut self, function_index: u32) -> R<()>
+        ensures same_reference { self.new.sink.ghost_name ≡ self.old.sink.ghost_name }
+        ensures writes { WritesInstruction B.written B.has_room (Instruction.Call function_index) self.old.sink.now self.new.sink.now result }
+    {
+        self.emit(&(0x10u8, function_index))
+    }
+
+    /// Appends the text of `CallIndirect`.
+    pub fn call_indirect(&mut self, table_index: u32, type_index: u32) -> R<()>
+        ensures same_reference { self.new.sink.ghost_name ≡ self.old.sink.ghost_name }
+        ensures writes { WritesInstruction B.written B.has_room (Instruction.CallIndirect type_index table_index) self.old.sink.now self.new.sink.now result }
+    {
+        self.emit(&(0x11u8, type_index, table_index))
+    }
+
+    /// Appends the text of `Drop`.
+    pub fn drop_(&mut self) -> R<()>
+        ensures same_reference { self.new.sink.ghost_name ≡ self.old.sink.ghost_name }
+        ensures writes { WritesInstruction B.written B.has_room Instruction.Drop self.old.sink.now self.new.sink.now result }
+    {
+        self.emit(&0x1Au8)
+    }
+
+    /// Appends the text of `Select`.
+    pub fn select(&mut self) -> R<()>
+        ensures same_reference { self.new.sink.ghost_name ≡ self.old.sink.ghost_name }
+        ensures writes { WritesInstruction B.written B.has_room Instruction.Select self.old.sink.now self.new.sink.now result }
+    {
+        self.emit(&0x1Bu8)
+    }
+
+    /// Appends the text of `TypedSelect`.
+    pub fn typed_select(&mut self, ty: ValType) -> R<()>
+        ensures same_reference { self.new.sink.ghost_name ≡ self.old.sink.ghost_name }
+        ensures writes { WritesInstruction B.written B.has_room (Instruction.TypedSelect ty) self.old.sink.now self.new.sink.now result }
+    {
+        self.emit(&(0x1Cu8, slice::from_ref(&ty)))
+    }
+
+    /// Appends the text of `TypedSelectMulti`.
+    pub fn typed_select_multi(&mut self, types: &[ValType]) -> R<()>
+        ensures same_reference { self.new.sink.ghost_name ≡ self.old.sink.ghost_name }
+        ensures writes { WritesInstruction B.written B.has_room (Instruction.TypedSelectMulti (CowSlice.Borrowed types.entry)) self.old.sink.now self.new.sink.now result }
+    {
+        self.emit(&(0x1Cu8, types))
+    }
+
+    /// Appends the text of `LocalGet`.
+    pub fn local_get(&mut self, index: u32) -> R<()>
+        ensures same_reference { self.new.sink.ghost_name ≡ self.old.sink.ghost_name }
+        ensures writes { WritesInstruction B.written B.has_room (Instruction.LocalGet index) self.old.sink.now self.new.sink.now result }
+    {
+        self.emit(&(0x20u8, index))
+    }
+
+    /// Appends the text of `LocalSet`.
+    pub fn local_set(&mut self, index: u32) -> R<()>
+        ensures same_reference { self.new.sink.ghost_name ≡ self.old.sink.ghost_name }
+        ensures writes { WritesInstruction B.written B.has_room (Instruction.LocalSet index) self.old.sink.now self.new.sink.now result }
+    {
+        self.emit(&(0x21u8, index))
+    }
+
+    /// Appends the text of `LocalTee`.
+    pub fn local_tee(&mut self, index: u32) -> R<()>
+        ensures same_reference { self.new.sink.ghost_name ≡ self.old.sink.ghost_name }
+        ensures writes { WritesInstruction B.written B.has_room (Instruction.LocalTee index) self.old.sink.now self.new.sink.now result }
+    {
+        self.emit(&(0x22u8, index))
+    }
+
+    /// Appends the text of `GlobalGet`.
+    pub fn global_get(&mut self, index: u32) -> R<()>
+        ensures same_reference { self.new.sink.ghost_name ≡ self.old.sink.ghost_name }
+        ensures writes { WritesInstruction B.written B.has_room (Instruction.GlobalGet index) self.old.sink.now self.new.sink.now result }
+    {
+        self.emit(&(0x23u8, index))
+    }
+
+    /// Appends the text of `GlobalSet`.
+    pub fn global_set(&mut self, index: u32) -> R<()>
+        ensures same_reference { self.new.sink.ghost_name ≡ self.old.sink.ghost_name }
+        ensures writes { WritesInstruction B.written B.has_room (Instruction.GlobalSet index) self.old.sink.now self.new.sink.now result }
+    {
+        self.emit(&(0x24u8, index))
+    }
+
+    /// Appends the text of `I32Load`.
+    pub fn i32_load(&mut self, memarg: MemArg) -> R<()>
+        ensures same_reference { self.new.sink.ghost_name ≡ self.old.sink.ghost_name }
+        ensures writes { WritesInstruction B.written B.has_room (Instruction.I32Load memarg) self.old.sink.now self.new.sink.now result }
+    {
+        self.emit(&(0x28u8, memarg))
+    }
+
+    /// Appends the text of `I32Store`.
+    pub fn i32_store(&mut self, memarg: MemArg) -> R<()>
+        ensures same_reference { self.new.sink.ghost_name ≡ self.old.sink.ghost_name }
+        ensures writes { WritesInstruction B.written B.has_room (Instruction.I32Store memarg) self.old.sink.now self.new.sink.now result }
+    {
+        self.emit(&(0x36u8, memarg))
+    }
+
+    /// Appends the text of `MemorySize`.
+    pub fn memory_size(&mut self, memory: u32) -> R<()>
+        ensures same_reference { self.new.sink.ghost_name ≡ self.old.sink.ghost_name }
+        ensures writes { WritesInstruction B.written B.has_room (Instruction.MemorySize memory) self.old.sink.now self.new.sink.now result }
+    {
+        self.emit(&(0x3Fu8, memory))
+    }
+
+    /// Appends the text of `MemoryGrow`.
+    pub fn memory_grow(&mut self, memory: u32) -> R<()>
+        ensures same_reference { self.new.sink.ghost_name ≡ self.old.sink.ghost_name }
+        ensures writes { WritesInstruction B.written B.has_room (Instruction.MemoryGrow memory) self.old.sink.now self.new.sink.now result }
+    {
+        self.emit(&(0x40u8, memory))
+    }
+
+    /// Appends the text of `I32Const`.
+    pub fn i32_const(&mut self, value: i32) -> R<()>
+        ensures same_reference { self.new.sink.ghost_name ≡ self.old.sink.ghost_name }
+        ensures writes { WritesInstruction B.written B.has_room (Instruction.I32Const value) self.old.sink.now self.new.sink.now result }
+    {
+        self.emit(&(0x41u8, value))
+    }
+
+    /// Appends the text of `I64Const`.
+    pub fn i64_const(&mut self, value: i64) -> R<()>
+        ensures same_reference { self.new.sink.ghost_name ≡ self.old.sink.ghost_name }
+        ensures writes { WritesInstruction B.written B.has_room (Instruction.I64Const value) self.old.sink.now self.new.sink.now result }
+    {
+        self.emit(&(0x42u8, value))
+    }
+
+    /// Appends the text of `F32Const`.
+    pub fn f32_const(&mut self, value: Ieee32) -> R<()>
+        ensures same_reference { self.new.sink.ghost_name ≡ self.old.sink.ghost_name }
+        ensures writes { WritesInstruction B.written B.has_room (Instruction.F32Const value) self.old.sink.now self.new.sink.now result }
+    {
+        self.emit(&(0x43u8, value))
+    }
+
+    /// Appends the text of `F64Const`.
+    pub fn f64_const(&mut self, value: Ieee64) -> R<()>
+        ensures same_reference { self.new.sink.ghost_name ≡ self.old.sink.ghost_name }
+        ensures writes { WritesInstruction B.written B.has_room (Instruction.F64Const value) self.old.sink.now self.new.sink.now result }
+    {
+        self.emit(&(0x44u8, value))
+    }
+
+    /// Appends the text of `V128Const`.
+    pub fn v128_const(&mut self, value: i128) -> R<()>
+        ensures same_reference { self.new.sink.ghost_name ≡ self.old.sink.ghost_name }
+        ensures writes { WritesInstruction B.written B.has_room (Instruction.VectorImmediate (VectorImmediate.V128Const value)) self.old.sink.now self.new.sink.now result }
+    {
+        self.emit(&(0xFDu8, 12u32, vector_bytes(value)))
+    }
+
+    /// Appends the text of `I32Eqz`.
+    pub fn i32_eqz(&mut self) -> R<()>
+        ensures same_reference { self.new.sink.ghost_name ≡ self.old.sink.ghost_name }
+        ensures writes { WritesInstruction B.written B.has_room (Instruction.Numeric Numeric.I32Eqz) self.old.sink.now self.new.sink.now result }
+    {
+        self.emit(&0x45u8)
+    }
+
+    /// Appends the text of `I32Add`.
+    pub fn i32_add(&mut self) -> R<()>
+        ensures same_reference { self.new.sink.ghost_name ≡ self.old.sink.ghost_name }
+        ensures writes { WritesInstruction B.written B.has_room (Instruction.Numeric Numeric.I32Add) self.old.sink.now self.new.sink.now result }
+    {
+        self.emit(&0x6Au8)
+    }
+
+    /// Appends the text of `I32Sub`.
+    pub fn i32_sub(&mut self) -> R<()>
+        ensures same_reference { self.new.sink.ghost_name ≡ self.old.sink.ghost_name }
+        ensures writes { WritesInstruction B.written B.has_room (Instruction.Numeric Numeric.I32Sub) self.old.sink.now self.new.sink.now result }
+    {
+        self.emit(&0x6Bu8)
+    }
+
+    /// Appends the text of `I32Mul`.
+    pub fn i32_mul(&mut self) -> R<()>
+        ensures same_reference { self.new.sink.ghost_name ≡ self.old.sink.ghost_name }
+        ensures writes { WritesInstruction B.written B.has_room (Instruction.Numeric Numeric.I32Mul) self.old.sink.now self.new.sink.now result }
+    {
+        self.emit(&0x6Cu8)
+    }
+
+    /// Appends the text of `I64Add`.
+    pub fn i64_add(&mut self) -> R<()>
+        ensures same_reference { self.new.sink.ghost_name ≡ self.old.sink.ghost_name }
+        ensures writes { WritesInstruction B.written B.has_room (Instruction.Numeric Numeric.I64Add) self.old.sink.now self.new.sink.now result }
+    {
+        self.emit(&0x7Cu8)
+    }
+
+    /// Appends the text of `I64Sub`.
+    pub fn i64_sub(&mut self) -> R<()>
+        ensures same_reference { self.new.sink.ghost_name ≡ self.old.sink.ghost_name }
+        ensures writes { WritesInstruction B.written B.has_room (Instruction.Numeric Numeric.I64Sub) self.old.sink.now self.new.sink.now result }
+    {
+        self.emit(&0x7Du8)
+    }
+
+    /// Appends the text of `I64Mul`.
+    pub fn i64_mul(&mut self) -> R<()>
+        ensures same_reference { self.new.sink.ghost_name ≡ self.old.sink.ghost_name }
+        ensures writes { WritesInstruction B.written B.has_room (Instruction.Numeric Numeric.I64Mul) self.old.sink.now self.new.sink.now result }
+    {
+        self.emit(&0x7Eu8)
+    }
+
+    /// Appends the text of `RefNull`.
+    pub fn ref_null(&mut self, ty: HeapType) -> R<()>
+        ensures same_reference { self.new.sink.ghost_name ≡ self.old.sink.ghost_name }
+        ensures writes { WritesInstruction B.written B.has_room (Instruction.RefNull ty) self.old.sink.now self.new.sink.now result }
+    {
+        self.emit(&(0xD0u8, ty))
+    }
+
+    /// Appends the text of `RefIsNull`.
+    pub fn ref_is_null(&mut self) -> R<()>
+        ensures same_reference { self.new.sink.ghost_name ≡ self.old.sink.ghost_name }
+        ensures writes { WritesInstruction B.written B.has_room Instruction.RefIsNull self.old.sink.now self.new.sink.now result }
+    {
+        self.emit(&0xD1u8)
+    }
+
+    /// Appends the text of `RefFunc`.
+    pub fn ref_func(&mut self, function_index: u32) -> R<()>
+        ensures same_reference { self.new.sink.ghost_name ≡ self.old.sink.ghost_name }
+        ensures writes { WritesInstruction B.written B.has_room (Instruction.RefFunc function_index) self.old.sink.now self.new.sink.now result }
+    {
+        self.emit(&(0xD2u8, function_index))
+    }
+}
