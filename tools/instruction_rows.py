@@ -101,8 +101,10 @@ def field_names(shape, named):
 
 
 def group(prefix, op, shape):
-    """The enum that a case stands in."""
+    """The enum that a case stands in. Floats are made by a call, which no constant's value can hold: they are apart."""
     bare = shape == "-"
+    if shape in ("f32", "f64"):
+        return "Float"
     if prefix is None:
         return "Numeric" if 0x45 <= op <= 0xC4 else "Instruction"
     if prefix == 0xFE:
@@ -128,7 +130,7 @@ def read(path):
             enum = group(prefix, code, shape)
             values, bytes = arguments(name, shape)
             names = field_names(shape, named)
-            value = "%s::%s" % (enum, name)
+            value = "%s::%s" % ("Instruction" if enum == "Float" else enum, name)
             if names:
                 value += " { %s }" % ", ".join("%s: %s" % pair for pair in zip(names, values))
             elif values:
@@ -151,13 +153,17 @@ def write(groups, folder):
     cases += "use wasm_insn::{\n    %s, BlockType, Catch, Handle, Ieee32, Ieee64, MemArg, MemArgTarget, Ordering,\n};\n\n" % ", ".join(order)
     cases += "const MEMARG: MemArg = MemArg { offset: 300, align: 2, target: MemArgTarget::Memory(1), ordering: None };\n"
     rows = note + "//! The bytes of each instruction, in hexadecimal, in the order of `cases.rt`.\n"
-    for enum in order:
+    for enum in order + ["Float"]:
         of = groups[enum]
-        ty = "Instruction<'static>" if enum == "Instruction" else enum
-        cases += "\npub static %s: [%s; %d] = [\n" % (constant(enum), ty, len(of))
-        cases += "".join("    %s,\n" % value for _, value, _ in of) + "];\n"
         rows += "\npub static %s: [&str; %d] = [\n" % (constant(enum), len(of))
         rows += "".join('    "%s", // %s\n' % ("".join("%02x" % b for b in bytes), name) for name, _, bytes in of) + "];\n"
+        values = "".join("    %s,\n" % value for _, value, _ in of)
+        if enum == "Instruction":
+            cases += "\npub const %s: &[Instruction<'static>] = &[\n%s];\n" % (constant(enum), values)
+        elif enum == "Float":
+            cases += "\npub fn floats() -> [Instruction<'static>; %d] {\n    [\n%s    ]\n}\n" % (len(of), values)
+        else:
+            cases += "\npub static %s: [%s; %d] = [\n%s];\n" % (constant(enum), enum, len(of), values)
     for name, text in (("cases.rt", cases), ("rows.rt", rows)):
         with open("%s/%s" % (folder, name), "w", encoding="utf-8") as out:
             out.write(text)

@@ -62,13 +62,13 @@ among op rest n tells (r ∷ runs) = regrouped ∙ go (has_number n r) refl (amo
 
     go : (t : Bool) → has_number n r ≡ t → shape_of more (op n) ≡ or_else (shape_in runs n) (shape_of rest (op n)) → shape_of (rows_of op r ++ more) (op n) ≡ or_else (shape_in (r ∷ runs) n) (shape_of rest (op n))
     go true e further =
-        let h = and_parts (leb r.first n) (leb n r.last) e in
-        rw e (inside op r.shape more n (r.last + 1 - r.first) r.first tells (leb-true r.first n h.0) (omega (arith, leb-true r.first n h.0, leb-true n r.last h.1)))
-    go false e further = rw e (outside op r.shape more n (r.last + 1 - r.first) r.first tells (out (and_cases (leb r.first n) (leb n r.last) e)) ∙ further)
+        let h = and_parts (leb r.0 n) (leb n r.1) e in
+        rw e (inside op r.2 more n (r.1 + 1 - r.0) r.0 tells (leb-true r.0 n h.0) (omega (arith, leb-true r.0 n h.0, leb-true n r.1 h.1)))
+    go false e further = rw e (outside op r.2 more n (r.1 + 1 - r.0) r.0 tells (out (and_cases (leb r.0 n) (leb n r.1) e)) ∙ further)
       where
-        out : (leb r.first n ≡ false) ⊎ (leb n r.last ≡ false) → (n < r.first) ⊎ (r.first + (r.last + 1 - r.first) ≤ n)
-        out (inl f) = inl (leb-false r.first n f)
-        out (inr f) = elim (cases_lt n r.first) [ inl below ↦ inl below | inr from ↦ inr (omega (arith, from, leb-false n r.last f)) ]
+        out : (leb r.0 n ≡ false) ⊎ (leb n r.1 ≡ false) → (n < r.0) ⊎ (r.0 + (r.1 + 1 - r.0) ≤ n)
+        out (inl f) = inl (leb-false r.0 n f)
+        out (inr f) = elim (cases_lt n r.0) [ inl below ↦ inl below | inr from ↦ inr (omega (arith, from, leb-false n r.1 f)) ]
 
 never_up : (op : ℕ → Op) (s : Shape) (rest : Table) (other : Op) (k m : ℕ) → IsNever op other → shape_of (rows_up op s k m ++ rest) other ≡ shape_of rest other
 never_up op s rest other zero m never = refl
@@ -79,7 +79,7 @@ passed : (op : ℕ → Op) (rest : Table) (other : Op) → IsNever op other → 
 passed op rest other never [] = refl
 passed op rest other never (r ∷ runs) =
     ap (λ t. shape_of t other) (append_assoc (rows_of op r) (flat_map (rows_of op) runs) rest)
-    ∙ never_up op r.shape (flat_map (rows_of op) runs ++ rest) other (r.last + 1 - r.first) r.first never
+    ∙ never_up op r.2 (flat_map (rows_of op) runs ++ rest) other (r.1 + 1 - r.0) r.0 never
     ∙ passed op rest other never runs
 
 or_else-None : (x : Option Shape) → or_else x None ≡ x

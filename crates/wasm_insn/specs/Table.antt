@@ -14,7 +14,7 @@ use Rattle.wasm_insn.specs.Plain.{Table, Plain, same_op, is_prefix, shape_of}
 
 -- The ops of the numbers `first` to `last` have one shape.
 abbrev pub run : ℕ → ℕ → Shape → Run
-run first last shape = record { first = first; last = last; shape = shape }
+run first last shape = record { 0 = first; 1 = last; 2 = shape }
 
 -- One-byte ops. The op 1C has two rows, of `TypedSelect` and `TypedSelectMulti`.
 abbrev pub one_byte : List Run
@@ -140,7 +140,7 @@ count_up (suc k) n = n ∷ count_up k (n + 1)
 
 -- the rows of a run: its ops, each with the shape
 abbrev pub rows_of : (ℕ → Op) → Run → Table
-rows_of op r = map (λ n. (op n, r.shape)) (count_up (r.last + 1 - r.first) r.first)
+rows_of op r = map (λ n. (op n, r.2)) (count_up (r.1 + 1 - r.0) r.0)
 
 -- the rows of the runs of one-byte ops, and of those after each prefix
 abbrev pub table_of : (bytes fb fc fd fe : List Run) → Table
@@ -158,11 +158,11 @@ table = table_of one_byte after_fb after_fc after_fd after_fe
 -- ---- looked up by runs
 
 abbrev pub has_number : ℕ → Run → Bool
-has_number n r = nat_le r.first n && nat_le n r.last
+has_number n r = nat_le r.0 n && nat_le n r.1
 
 -- the shape of the run that has the number
 abbrev pub shape_in : List Run → ℕ → Option Shape
-shape_in runs n = option_map (λ r. r.shape) (find (has_number n) runs)
+shape_in runs n = option_map (λ r. r.2) (find (has_number n) runs)
 
 -- ---- what holds of the table
 

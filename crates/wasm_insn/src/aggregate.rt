@@ -28,9 +28,14 @@ impl Aggregate {
 /// Their names as instructions.
 impl Instruction<'static> {
     pub const ArrayLen: Self = Instruction::Aggregate(Aggregate::ArrayLen);
+
     pub const AnyConvertExtern: Self = Instruction::Aggregate(Aggregate::AnyConvertExtern);
+
     pub const ExternConvertAny: Self = Instruction::Aggregate(Aggregate::ExternConvertAny);
+
     pub const RefI31: Self = Instruction::Aggregate(Aggregate::RefI31);
+
     pub const I31GetS: Self = Instruction::Aggregate(Aggregate::I31GetS);
+
     pub const I31GetU: Self = Instruction::Aggregate(Aggregate::I31GetU);
 }

@@ -80,41 +80,157 @@ pub enum Atomic {
     I64AtomicRmw8CmpxchgU(MemArg),
     I64AtomicRmw16CmpxchgU(MemArg),
     I64AtomicRmw32CmpxchgU(MemArg),
-    GlobalAtomicGet { ordering: Ordering, global_index: u32 },
-    GlobalAtomicSet { ordering: Ordering, global_index: u32 },
-    GlobalAtomicRmwAdd { ordering: Ordering, global_index: u32 },
-    GlobalAtomicRmwSub { ordering: Ordering, global_index: u32 },
-    GlobalAtomicRmwAnd { ordering: Ordering, global_index: u32 },
-    GlobalAtomicRmwOr { ordering: Ordering, global_index: u32 },
-    GlobalAtomicRmwXor { ordering: Ordering, global_index: u32 },
-    GlobalAtomicRmwXchg { ordering: Ordering, global_index: u32 },
-    GlobalAtomicRmwCmpxchg { ordering: Ordering, global_index: u32 },
-    TableAtomicGet { ordering: Ordering, table_index: u32 },
-    TableAtomicSet { ordering: Ordering, table_index: u32 },
-    TableAtomicRmwXchg { ordering: Ordering, table_index: u32 },
-    TableAtomicRmwCmpxchg { ordering: Ordering, table_index: u32 },
-    StructAtomicGet { ordering: Ordering, struct_type_index: u32, field_index: u32 },
-    StructAtomicGetS { ordering: Ordering, struct_type_index: u32, field_index: u32 },
-    StructAtomicGetU { ordering: Ordering, struct_type_index: u32, field_index: u32 },
-    StructAtomicSet { ordering: Ordering, struct_type_index: u32, field_index: u32 },
-    StructAtomicRmwAdd { ordering: Ordering, struct_type_index: u32, field_index: u32 },
-    StructAtomicRmwSub { ordering: Ordering, struct_type_index: u32, field_index: u32 },
-    StructAtomicRmwAnd { ordering: Ordering, struct_type_index: u32, field_index: u32 },
-    StructAtomicRmwOr { ordering: Ordering, struct_type_index: u32, field_index: u32 },
-    StructAtomicRmwXor { ordering: Ordering, struct_type_index: u32, field_index: u32 },
-    StructAtomicRmwXchg { ordering: Ordering, struct_type_index: u32, field_index: u32 },
-    StructAtomicRmwCmpxchg { ordering: Ordering, struct_type_index: u32, field_index: u32 },
-    ArrayAtomicGet { ordering: Ordering, array_type_index: u32 },
-    ArrayAtomicGetS { ordering: Ordering, array_type_index: u32 },
-    ArrayAtomicGetU { ordering: Ordering, array_type_index: u32 },
-    ArrayAtomicSet { ordering: Ordering, array_type_index: u32 },
-    ArrayAtomicRmwAdd { ordering: Ordering, array_type_index: u32 },
-    ArrayAtomicRmwSub { ordering: Ordering, array_type_index: u32 },
-    ArrayAtomicRmwAnd { ordering: Ordering, array_type_index: u32 },
-    ArrayAtomicRmwOr { ordering: Ordering, array_type_index: u32 },
-    ArrayAtomicRmwXor { ordering: Ordering, array_type_index: u32 },
-    ArrayAtomicRmwXchg { ordering: Ordering, array_type_index: u32 },
-    ArrayAtomicRmwCmpxchg { ordering: Ordering, array_type_index: u32 },
+    GlobalAtomicGet {
+        ordering: Ordering,
+        global_index: u32,
+    },
+    GlobalAtomicSet {
+        ordering: Ordering,
+        global_index: u32,
+    },
+    GlobalAtomicRmwAdd {
+        ordering: Ordering,
+        global_index: u32,
+    },
+    GlobalAtomicRmwSub {
+        ordering: Ordering,
+        global_index: u32,
+    },
+    GlobalAtomicRmwAnd {
+        ordering: Ordering,
+        global_index: u32,
+    },
+    GlobalAtomicRmwOr {
+        ordering: Ordering,
+        global_index: u32,
+    },
+    GlobalAtomicRmwXor {
+        ordering: Ordering,
+        global_index: u32,
+    },
+    GlobalAtomicRmwXchg {
+        ordering: Ordering,
+        global_index: u32,
+    },
+    GlobalAtomicRmwCmpxchg {
+        ordering: Ordering,
+        global_index: u32,
+    },
+    TableAtomicGet {
+        ordering: Ordering,
+        table_index: u32,
+    },
+    TableAtomicSet {
+        ordering: Ordering,
+        table_index: u32,
+    },
+    TableAtomicRmwXchg {
+        ordering: Ordering,
+        table_index: u32,
+    },
+    TableAtomicRmwCmpxchg {
+        ordering: Ordering,
+        table_index: u32,
+    },
+    StructAtomicGet {
+        ordering: Ordering,
+        struct_type_index: u32,
+        field_index: u32,
+    },
+    StructAtomicGetS {
+        ordering: Ordering,
+        struct_type_index: u32,
+        field_index: u32,
+    },
+    StructAtomicGetU {
+        ordering: Ordering,
+        struct_type_index: u32,
+        field_index: u32,
+    },
+    StructAtomicSet {
+        ordering: Ordering,
+        struct_type_index: u32,
+        field_index: u32,
+    },
+    StructAtomicRmwAdd {
+        ordering: Ordering,
+        struct_type_index: u32,
+        field_index: u32,
+    },
+    StructAtomicRmwSub {
+        ordering: Ordering,
+        struct_type_index: u32,
+        field_index: u32,
+    },
+    StructAtomicRmwAnd {
+        ordering: Ordering,
+        struct_type_index: u32,
+        field_index: u32,
+    },
+    StructAtomicRmwOr {
+        ordering: Ordering,
+        struct_type_index: u32,
+        field_index: u32,
+    },
+    StructAtomicRmwXor {
+        ordering: Ordering,
+        struct_type_index: u32,
+        field_index: u32,
+    },
+    StructAtomicRmwXchg {
+        ordering: Ordering,
+        struct_type_index: u32,
+        field_index: u32,
+    },
+    StructAtomicRmwCmpxchg {
+        ordering: Ordering,
+        struct_type_index: u32,
+        field_index: u32,
+    },
+    ArrayAtomicGet {
+        ordering: Ordering,
+        array_type_index: u32,
+    },
+    ArrayAtomicGetS {
+        ordering: Ordering,
+        array_type_index: u32,
+    },
+    ArrayAtomicGetU {
+        ordering: Ordering,
+        array_type_index: u32,
+    },
+    ArrayAtomicSet {
+        ordering: Ordering,
+        array_type_index: u32,
+    },
+    ArrayAtomicRmwAdd {
+        ordering: Ordering,
+        array_type_index: u32,
+    },
+    ArrayAtomicRmwSub {
+        ordering: Ordering,
+        array_type_index: u32,
+    },
+    ArrayAtomicRmwAnd {
+        ordering: Ordering,
+        array_type_index: u32,
+    },
+    ArrayAtomicRmwOr {
+        ordering: Ordering,
+        array_type_index: u32,
+    },
+    ArrayAtomicRmwXor {
+        ordering: Ordering,
+        array_type_index: u32,
+    },
+    ArrayAtomicRmwXchg {
+        ordering: Ordering,
+        array_type_index: u32,
+    },
+    ArrayAtomicRmwCmpxchg {
+        ordering: Ordering,
+        array_type_index: u32,
+    },
     RefI31Shared,
 }
 
@@ -303,43 +419,158 @@ impl Atomic {
             | Atomic::I64AtomicRmw16CmpxchgU(a)
             | Atomic::I64AtomicRmw32CmpxchgU(a) => a.encode(sink),
             Atomic::AtomicFence(a) => a.encode(sink),
-            Atomic::GlobalAtomicGet { ordering: a, global_index: b }
-            | Atomic::GlobalAtomicSet { ordering: a, global_index: b }
-            | Atomic::GlobalAtomicRmwAdd { ordering: a, global_index: b }
-            | Atomic::GlobalAtomicRmwSub { ordering: a, global_index: b }
-            | Atomic::GlobalAtomicRmwAnd { ordering: a, global_index: b }
-            | Atomic::GlobalAtomicRmwOr { ordering: a, global_index: b }
-            | Atomic::GlobalAtomicRmwXor { ordering: a, global_index: b }
-            | Atomic::GlobalAtomicRmwXchg { ordering: a, global_index: b }
-            | Atomic::GlobalAtomicRmwCmpxchg { ordering: a, global_index: b }
-            | Atomic::TableAtomicGet { ordering: a, table_index: b }
-            | Atomic::TableAtomicSet { ordering: a, table_index: b }
-            | Atomic::TableAtomicRmwXchg { ordering: a, table_index: b } => (a, b).encode(sink),
-            Atomic::TableAtomicRmwCmpxchg { ordering: a, table_index: b }
-            | Atomic::ArrayAtomicGet { ordering: a, array_type_index: b }
-            | Atomic::ArrayAtomicGetS { ordering: a, array_type_index: b }
-            | Atomic::ArrayAtomicGetU { ordering: a, array_type_index: b }
-            | Atomic::ArrayAtomicSet { ordering: a, array_type_index: b }
-            | Atomic::ArrayAtomicRmwAdd { ordering: a, array_type_index: b }
-            | Atomic::ArrayAtomicRmwSub { ordering: a, array_type_index: b }
-            | Atomic::ArrayAtomicRmwAnd { ordering: a, array_type_index: b }
-            | Atomic::ArrayAtomicRmwOr { ordering: a, array_type_index: b }
-            | Atomic::ArrayAtomicRmwXor { ordering: a, array_type_index: b }
-            | Atomic::ArrayAtomicRmwXchg { ordering: a, array_type_index: b }
-            | Atomic::ArrayAtomicRmwCmpxchg { ordering: a, array_type_index: b } => (a, b).encode(sink),
-            Atomic::StructAtomicGet { ordering: a, struct_type_index: b, field_index: c }
-            | Atomic::StructAtomicGetS { ordering: a, struct_type_index: b, field_index: c }
-            | Atomic::StructAtomicGetU { ordering: a, struct_type_index: b, field_index: c }
-            | Atomic::StructAtomicSet { ordering: a, struct_type_index: b, field_index: c }
-            | Atomic::StructAtomicRmwAdd { ordering: a, struct_type_index: b, field_index: c }
-            | Atomic::StructAtomicRmwSub { ordering: a, struct_type_index: b, field_index: c }
-            | Atomic::StructAtomicRmwAnd { ordering: a, struct_type_index: b, field_index: c }
-            | Atomic::StructAtomicRmwOr { ordering: a, struct_type_index: b, field_index: c }
-            | Atomic::StructAtomicRmwXor { ordering: a, struct_type_index: b, field_index: c }
-            | Atomic::StructAtomicRmwXchg { ordering: a, struct_type_index: b, field_index: c }
-            | Atomic::StructAtomicRmwCmpxchg { ordering: a, struct_type_index: b, field_index: c } => (a, b, c).encode(sink),
-            Atomic::Pause
-            | Atomic::RefI31Shared => Ok(()),
+            Atomic::GlobalAtomicGet {
+                ordering: a,
+                global_index: b,
+            }
+            | Atomic::GlobalAtomicSet {
+                ordering: a,
+                global_index: b,
+            }
+            | Atomic::GlobalAtomicRmwAdd {
+                ordering: a,
+                global_index: b,
+            }
+            | Atomic::GlobalAtomicRmwSub {
+                ordering: a,
+                global_index: b,
+            }
+            | Atomic::GlobalAtomicRmwAnd {
+                ordering: a,
+                global_index: b,
+            }
+            | Atomic::GlobalAtomicRmwOr {
+                ordering: a,
+                global_index: b,
+            }
+            | Atomic::GlobalAtomicRmwXor {
+                ordering: a,
+                global_index: b,
+            }
+            | Atomic::GlobalAtomicRmwXchg {
+                ordering: a,
+                global_index: b,
+            }
+            | Atomic::GlobalAtomicRmwCmpxchg {
+                ordering: a,
+                global_index: b,
+            }
+            | Atomic::TableAtomicGet {
+                ordering: a,
+                table_index: b,
+            }
+            | Atomic::TableAtomicSet {
+                ordering: a,
+                table_index: b,
+            }
+            | Atomic::TableAtomicRmwXchg {
+                ordering: a,
+                table_index: b,
+            } => (a, b).encode(sink),
+            Atomic::TableAtomicRmwCmpxchg {
+                ordering: a,
+                table_index: b,
+            }
+            | Atomic::ArrayAtomicGet {
+                ordering: a,
+                array_type_index: b,
+            }
+            | Atomic::ArrayAtomicGetS {
+                ordering: a,
+                array_type_index: b,
+            }
+            | Atomic::ArrayAtomicGetU {
+                ordering: a,
+                array_type_index: b,
+            }
+            | Atomic::ArrayAtomicSet {
+                ordering: a,
+                array_type_index: b,
+            }
+            | Atomic::ArrayAtomicRmwAdd {
+                ordering: a,
+                array_type_index: b,
+            }
+            | Atomic::ArrayAtomicRmwSub {
+                ordering: a,
+                array_type_index: b,
+            }
+            | Atomic::ArrayAtomicRmwAnd {
+                ordering: a,
+                array_type_index: b,
+            }
+            | Atomic::ArrayAtomicRmwOr {
+                ordering: a,
+                array_type_index: b,
+            }
+            | Atomic::ArrayAtomicRmwXor {
+                ordering: a,
+                array_type_index: b,
+            }
+            | Atomic::ArrayAtomicRmwXchg {
+                ordering: a,
+                array_type_index: b,
+            }
+            | Atomic::ArrayAtomicRmwCmpxchg {
+                ordering: a,
+                array_type_index: b,
+            } => (a, b).encode(sink),
+            Atomic::StructAtomicGet {
+                ordering: a,
+                struct_type_index: b,
+                field_index: c,
+            }
+            | Atomic::StructAtomicGetS {
+                ordering: a,
+                struct_type_index: b,
+                field_index: c,
+            }
+            | Atomic::StructAtomicGetU {
+                ordering: a,
+                struct_type_index: b,
+                field_index: c,
+            }
+            | Atomic::StructAtomicSet {
+                ordering: a,
+                struct_type_index: b,
+                field_index: c,
+            }
+            | Atomic::StructAtomicRmwAdd {
+                ordering: a,
+                struct_type_index: b,
+                field_index: c,
+            }
+            | Atomic::StructAtomicRmwSub {
+                ordering: a,
+                struct_type_index: b,
+                field_index: c,
+            }
+            | Atomic::StructAtomicRmwAnd {
+                ordering: a,
+                struct_type_index: b,
+                field_index: c,
+            }
+            | Atomic::StructAtomicRmwOr {
+                ordering: a,
+                struct_type_index: b,
+                field_index: c,
+            }
+            | Atomic::StructAtomicRmwXor {
+                ordering: a,
+                struct_type_index: b,
+                field_index: c,
+            }
+            | Atomic::StructAtomicRmwXchg {
+                ordering: a,
+                struct_type_index: b,
+                field_index: c,
+            }
+            | Atomic::StructAtomicRmwCmpxchg {
+                ordering: a,
+                struct_type_index: b,
+                field_index: c,
+            } => (a, b, c).encode(sink),
+            Atomic::Pause | Atomic::RefI31Shared => Ok(()),
         }
     }
 }

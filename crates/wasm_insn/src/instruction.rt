@@ -42,9 +42,15 @@ pub enum Instruction<'a, A: Allocator = Global> {
     BrTable(CowSlice<'a, u32, A>, u32),
     Return,
     Call(u32),
-    CallIndirect { type_index: u32, table_index: u32 },
+    CallIndirect {
+        type_index: u32,
+        table_index: u32,
+    },
     ReturnCall(u32),
-    ReturnCallIndirect { type_index: u32, table_index: u32 },
+    ReturnCallIndirect {
+        type_index: u32,
+        table_index: u32,
+    },
     CallRef(u32),
     ReturnCallRef(u32),
     Delegate(u32),
@@ -98,51 +104,125 @@ pub enum Instruction<'a, A: Allocator = Global> {
     BrOnNull(u32),
     BrOnNonNull(u32),
     ContNew(u32),
-    ContBind { argument_index: u32, result_index: u32 },
+    ContBind {
+        argument_index: u32,
+        result_index: u32,
+    },
     Suspend(u32),
-    Resume { cont_type_index: u32, resume_table: CowSlice<'a, Handle, A> },
-    ResumeThrow { cont_type_index: u32, tag_index: u32, resume_table: CowSlice<'a, Handle, A> },
-    ResumeThrowRef { cont_type_index: u32, resume_table: CowSlice<'a, Handle, A> },
-    Switch { cont_type_index: u32, tag_index: u32 },
+    Resume {
+        cont_type_index: u32,
+        resume_table: CowSlice<'a, Handle, A>,
+    },
+    ResumeThrow {
+        cont_type_index: u32,
+        tag_index: u32,
+        resume_table: CowSlice<'a, Handle, A>,
+    },
+    ResumeThrowRef {
+        cont_type_index: u32,
+        resume_table: CowSlice<'a, Handle, A>,
+    },
+    Switch {
+        cont_type_index: u32,
+        tag_index: u32,
+    },
     StructNew(u32),
     StructNewDefault(u32),
-    StructGet { struct_type_index: u32, field_index: u32 },
-    StructGetS { struct_type_index: u32, field_index: u32 },
-    StructGetU { struct_type_index: u32, field_index: u32 },
-    StructSet { struct_type_index: u32, field_index: u32 },
+    StructGet {
+        struct_type_index: u32,
+        field_index: u32,
+    },
+    StructGetS {
+        struct_type_index: u32,
+        field_index: u32,
+    },
+    StructGetU {
+        struct_type_index: u32,
+        field_index: u32,
+    },
+    StructSet {
+        struct_type_index: u32,
+        field_index: u32,
+    },
     ArrayNew(u32),
     ArrayNewDefault(u32),
-    ArrayNewFixed { array_type_index: u32, array_size: u32 },
-    ArrayNewData { array_type_index: u32, array_data_index: u32 },
-    ArrayNewElem { array_type_index: u32, array_elem_index: u32 },
+    ArrayNewFixed {
+        array_type_index: u32,
+        array_size: u32,
+    },
+    ArrayNewData {
+        array_type_index: u32,
+        array_data_index: u32,
+    },
+    ArrayNewElem {
+        array_type_index: u32,
+        array_elem_index: u32,
+    },
     ArrayGet(u32),
     ArrayGetS(u32),
     ArrayGetU(u32),
     ArraySet(u32),
     ArrayFill(u32),
-    ArrayCopy { array_type_index_dst: u32, array_type_index_src: u32 },
-    ArrayInitData { array_type_index: u32, array_data_index: u32 },
-    ArrayInitElem { array_type_index: u32, array_elem_index: u32 },
+    ArrayCopy {
+        array_type_index_dst: u32,
+        array_type_index_src: u32,
+    },
+    ArrayInitData {
+        array_type_index: u32,
+        array_data_index: u32,
+    },
+    ArrayInitElem {
+        array_type_index: u32,
+        array_elem_index: u32,
+    },
     RefTestNonNull(HeapType),
     RefTestNullable(HeapType),
     RefCastNonNull(HeapType),
     RefCastNullable(HeapType),
-    BrOnCast { relative_depth: u32, from_ref_type: RefType, to_ref_type: RefType },
-    BrOnCastFail { relative_depth: u32, from_ref_type: RefType, to_ref_type: RefType },
+    BrOnCast {
+        relative_depth: u32,
+        from_ref_type: RefType,
+        to_ref_type: RefType,
+    },
+    BrOnCastFail {
+        relative_depth: u32,
+        from_ref_type: RefType,
+        to_ref_type: RefType,
+    },
     StructNewDesc(u32),
     StructNewDefaultDesc(u32),
     RefGetDesc(u32),
     RefCastDescEqNonNull(HeapType),
     RefCastDescEqNullable(HeapType),
-    BrOnCastDescEq { relative_depth: u32, from_ref_type: RefType, to_ref_type: RefType },
-    BrOnCastDescEqFail { relative_depth: u32, from_ref_type: RefType, to_ref_type: RefType },
-    MemoryInit { data_index: u32, mem: u32 },
+    BrOnCastDescEq {
+        relative_depth: u32,
+        from_ref_type: RefType,
+        to_ref_type: RefType,
+    },
+    BrOnCastDescEqFail {
+        relative_depth: u32,
+        from_ref_type: RefType,
+        to_ref_type: RefType,
+    },
+    MemoryInit {
+        data_index: u32,
+        mem: u32,
+    },
     DataDrop(u32),
-    MemoryCopy { dst_mem: u32, src_mem: u32 },
+    MemoryCopy {
+        dst_mem: u32,
+        src_mem: u32,
+    },
     MemoryFill(u32),
-    TableInit { elem_index: u32, table: u32 },
+    TableInit {
+        elem_index: u32,
+        table: u32,
+    },
     ElemDrop(u32),
-    TableCopy { dst_table: u32, src_table: u32 },
+    TableCopy {
+        dst_table: u32,
+        src_table: u32,
+    },
     TableGrow(u32),
     TableSize(u32),
     TableFill(u32),
@@ -358,24 +438,14 @@ impl<'a, A: Allocator> Instruction<'a, A> {
             | Instruction::TableFill(a)
             | Instruction::MemoryDiscard(a) => a.encode(sink),
             Instruction::BrTable(a, b) => (a.as_slice(), *b).encode(sink),
-            Instruction::CallIndirect { type_index: a, table_index: b }
-            | Instruction::ReturnCallIndirect { type_index: a, table_index: b }
-            | Instruction::ContBind { argument_index: a, result_index: b }
-            | Instruction::Switch { cont_type_index: a, tag_index: b }
-            | Instruction::StructGet { struct_type_index: a, field_index: b }
-            | Instruction::StructGetS { struct_type_index: a, field_index: b }
-            | Instruction::StructGetU { struct_type_index: a, field_index: b }
-            | Instruction::StructSet { struct_type_index: a, field_index: b }
-            | Instruction::ArrayNewFixed { array_type_index: a, array_size: b } => (*a, *b).encode(sink),
-            Instruction::ArrayNewData { array_type_index: a, array_data_index: b }
-            | Instruction::ArrayNewElem { array_type_index: a, array_elem_index: b }
-            | Instruction::ArrayCopy { array_type_index_dst: a, array_type_index_src: b }
-            | Instruction::ArrayInitData { array_type_index: a, array_data_index: b }
-            | Instruction::ArrayInitElem { array_type_index: a, array_elem_index: b }
-            | Instruction::MemoryInit { data_index: a, mem: b }
-            | Instruction::MemoryCopy { dst_mem: a, src_mem: b }
-            | Instruction::TableInit { elem_index: a, table: b }
-            | Instruction::TableCopy { dst_table: a, src_table: b } => (*a, *b).encode(sink),
+            Instruction::CallIndirect {
+                type_index,
+                table_index,
+            }
+            | Instruction::ReturnCallIndirect {
+                type_index,
+                table_index,
+            } => (*type_index, *table_index).encode(sink),
             Instruction::TypedSelect(a) => slice::from_ref(a).encode(sink),
             Instruction::TypedSelectMulti(a) => a.as_slice().encode(sink),
             Instruction::TryTable(a, b) => (*a, b.as_slice()).encode(sink),
@@ -413,13 +483,103 @@ impl<'a, A: Allocator> Instruction<'a, A> {
             | Instruction::RefCastNullable(a)
             | Instruction::RefCastDescEqNonNull(a)
             | Instruction::RefCastDescEqNullable(a) => a.encode(sink),
-            Instruction::Resume { cont_type_index: a, resume_table: b }
-            | Instruction::ResumeThrowRef { cont_type_index: a, resume_table: b } => (*a, b.as_slice()).encode(sink),
-            Instruction::ResumeThrow { cont_type_index: a, tag_index: b, resume_table: c } => (*a, *b, c.as_slice()).encode(sink),
-            Instruction::BrOnCast { relative_depth: a, from_ref_type: b, to_ref_type: c }
-            | Instruction::BrOnCastFail { relative_depth: a, from_ref_type: b, to_ref_type: c }
-            | Instruction::BrOnCastDescEq { relative_depth: a, from_ref_type: b, to_ref_type: c }
-            | Instruction::BrOnCastDescEqFail { relative_depth: a, from_ref_type: b, to_ref_type: c } => (cast_flag(*b, *c), *a, (b.heap_type, c.heap_type)).encode(sink),
+            Instruction::ContBind {
+                argument_index: a,
+                result_index: b,
+            }
+            | Instruction::Switch {
+                cont_type_index: a,
+                tag_index: b,
+            }
+            | Instruction::StructGet {
+                struct_type_index: a,
+                field_index: b,
+            }
+            | Instruction::StructGetS {
+                struct_type_index: a,
+                field_index: b,
+            }
+            | Instruction::StructGetU {
+                struct_type_index: a,
+                field_index: b,
+            }
+            | Instruction::StructSet {
+                struct_type_index: a,
+                field_index: b,
+            }
+            | Instruction::ArrayNewFixed {
+                array_type_index: a,
+                array_size: b,
+            }
+            | Instruction::ArrayNewData {
+                array_type_index: a,
+                array_data_index: b,
+            } => (*a, *b).encode(sink),
+            Instruction::ArrayNewElem {
+                array_type_index: a,
+                array_elem_index: b,
+            }
+            | Instruction::ArrayCopy {
+                array_type_index_dst: a,
+                array_type_index_src: b,
+            }
+            | Instruction::ArrayInitData {
+                array_type_index: a,
+                array_data_index: b,
+            }
+            | Instruction::ArrayInitElem {
+                array_type_index: a,
+                array_elem_index: b,
+            }
+            | Instruction::MemoryInit {
+                data_index: a,
+                mem: b,
+            }
+            | Instruction::MemoryCopy {
+                dst_mem: a,
+                src_mem: b,
+            }
+            | Instruction::TableInit {
+                elem_index: a,
+                table: b,
+            }
+            | Instruction::TableCopy {
+                dst_table: a,
+                src_table: b,
+            } => (*a, *b).encode(sink),
+            Instruction::Resume {
+                cont_type_index: a,
+                resume_table: b,
+            }
+            | Instruction::ResumeThrowRef {
+                cont_type_index: a,
+                resume_table: b,
+            } => (*a, b.as_slice()).encode(sink),
+            Instruction::ResumeThrow {
+                cont_type_index: a,
+                tag_index: b,
+                resume_table: c,
+            } => (*a, *b, c.as_slice()).encode(sink),
+            Instruction::BrOnCast {
+                relative_depth: a,
+                from_ref_type: b,
+                to_ref_type: c,
+            }
+            | Instruction::BrOnCastFail {
+                relative_depth: a,
+                from_ref_type: b,
+                to_ref_type: c,
+            }
+            | Instruction::BrOnCastDescEq {
+                relative_depth: a,
+                from_ref_type: b,
+                to_ref_type: c,
+            }
+            | Instruction::BrOnCastDescEqFail {
+                relative_depth: a,
+                from_ref_type: b,
+                to_ref_type: c,
+            } => (cast_flag(*b, *c), *a, (b.heap_type, c.heap_type)).encode(sink),
             Instruction::Unreachable
             | Instruction::Nop
             | Instruction::Else
@@ -466,9 +626,21 @@ impl<'a, A: Allocator + Copy> Instruction<'a, A> {
             Instruction::BrTable(a, b) => Ok(Instruction::BrTable(a.clone()?, *b)),
             Instruction::Return => Ok(Instruction::Return),
             Instruction::Call(a) => Ok(Instruction::Call(*a)),
-            Instruction::CallIndirect { type_index, table_index } => Ok(Instruction::CallIndirect { type_index: *type_index, table_index: *table_index }),
+            Instruction::CallIndirect {
+                type_index,
+                table_index,
+            } => Ok(Instruction::CallIndirect {
+                type_index: *type_index,
+                table_index: *table_index,
+            }),
             Instruction::ReturnCall(a) => Ok(Instruction::ReturnCall(*a)),
-            Instruction::ReturnCallIndirect { type_index, table_index } => Ok(Instruction::ReturnCallIndirect { type_index: *type_index, table_index: *table_index }),
+            Instruction::ReturnCallIndirect {
+                type_index,
+                table_index,
+            } => Ok(Instruction::ReturnCallIndirect {
+                type_index: *type_index,
+                table_index: *table_index,
+            }),
             Instruction::CallRef(a) => Ok(Instruction::CallRef(*a)),
             Instruction::ReturnCallRef(a) => Ok(Instruction::ReturnCallRef(*a)),
             Instruction::Delegate(a) => Ok(Instruction::Delegate(*a)),
@@ -522,51 +694,190 @@ impl<'a, A: Allocator + Copy> Instruction<'a, A> {
             Instruction::BrOnNull(a) => Ok(Instruction::BrOnNull(*a)),
             Instruction::BrOnNonNull(a) => Ok(Instruction::BrOnNonNull(*a)),
             Instruction::ContNew(a) => Ok(Instruction::ContNew(*a)),
-            Instruction::ContBind { argument_index, result_index } => Ok(Instruction::ContBind { argument_index: *argument_index, result_index: *result_index }),
+            Instruction::ContBind {
+                argument_index,
+                result_index,
+            } => Ok(Instruction::ContBind {
+                argument_index: *argument_index,
+                result_index: *result_index,
+            }),
             Instruction::Suspend(a) => Ok(Instruction::Suspend(*a)),
-            Instruction::Resume { cont_type_index, resume_table } => Ok(Instruction::Resume { cont_type_index: *cont_type_index, resume_table: resume_table.clone()? }),
-            Instruction::ResumeThrow { cont_type_index, tag_index, resume_table } => Ok(Instruction::ResumeThrow { cont_type_index: *cont_type_index, tag_index: *tag_index, resume_table: resume_table.clone()? }),
-            Instruction::ResumeThrowRef { cont_type_index, resume_table } => Ok(Instruction::ResumeThrowRef { cont_type_index: *cont_type_index, resume_table: resume_table.clone()? }),
-            Instruction::Switch { cont_type_index, tag_index } => Ok(Instruction::Switch { cont_type_index: *cont_type_index, tag_index: *tag_index }),
+            Instruction::Resume {
+                cont_type_index,
+                resume_table,
+            } => Ok(Instruction::Resume {
+                cont_type_index: *cont_type_index,
+                resume_table: resume_table.clone()?,
+            }),
+            Instruction::ResumeThrow {
+                cont_type_index,
+                tag_index,
+                resume_table,
+            } => Ok(Instruction::ResumeThrow {
+                cont_type_index: *cont_type_index,
+                tag_index: *tag_index,
+                resume_table: resume_table.clone()?,
+            }),
+            Instruction::ResumeThrowRef {
+                cont_type_index,
+                resume_table,
+            } => Ok(Instruction::ResumeThrowRef {
+                cont_type_index: *cont_type_index,
+                resume_table: resume_table.clone()?,
+            }),
+            Instruction::Switch {
+                cont_type_index,
+                tag_index,
+            } => Ok(Instruction::Switch {
+                cont_type_index: *cont_type_index,
+                tag_index: *tag_index,
+            }),
             Instruction::StructNew(a) => Ok(Instruction::StructNew(*a)),
             Instruction::StructNewDefault(a) => Ok(Instruction::StructNewDefault(*a)),
-            Instruction::StructGet { struct_type_index, field_index } => Ok(Instruction::StructGet { struct_type_index: *struct_type_index, field_index: *field_index }),
-            Instruction::StructGetS { struct_type_index, field_index } => Ok(Instruction::StructGetS { struct_type_index: *struct_type_index, field_index: *field_index }),
-            Instruction::StructGetU { struct_type_index, field_index } => Ok(Instruction::StructGetU { struct_type_index: *struct_type_index, field_index: *field_index }),
-            Instruction::StructSet { struct_type_index, field_index } => Ok(Instruction::StructSet { struct_type_index: *struct_type_index, field_index: *field_index }),
+            Instruction::StructGet {
+                struct_type_index,
+                field_index,
+            } => Ok(Instruction::StructGet {
+                struct_type_index: *struct_type_index,
+                field_index: *field_index,
+            }),
+            Instruction::StructGetS {
+                struct_type_index,
+                field_index,
+            } => Ok(Instruction::StructGetS {
+                struct_type_index: *struct_type_index,
+                field_index: *field_index,
+            }),
+            Instruction::StructGetU {
+                struct_type_index,
+                field_index,
+            } => Ok(Instruction::StructGetU {
+                struct_type_index: *struct_type_index,
+                field_index: *field_index,
+            }),
+            Instruction::StructSet {
+                struct_type_index,
+                field_index,
+            } => Ok(Instruction::StructSet {
+                struct_type_index: *struct_type_index,
+                field_index: *field_index,
+            }),
             Instruction::ArrayNew(a) => Ok(Instruction::ArrayNew(*a)),
             Instruction::ArrayNewDefault(a) => Ok(Instruction::ArrayNewDefault(*a)),
-            Instruction::ArrayNewFixed { array_type_index, array_size } => Ok(Instruction::ArrayNewFixed { array_type_index: *array_type_index, array_size: *array_size }),
-            Instruction::ArrayNewData { array_type_index, array_data_index } => Ok(Instruction::ArrayNewData { array_type_index: *array_type_index, array_data_index: *array_data_index }),
-            Instruction::ArrayNewElem { array_type_index, array_elem_index } => Ok(Instruction::ArrayNewElem { array_type_index: *array_type_index, array_elem_index: *array_elem_index }),
+            Instruction::ArrayNewFixed {
+                array_type_index,
+                array_size,
+            } => Ok(Instruction::ArrayNewFixed {
+                array_type_index: *array_type_index,
+                array_size: *array_size,
+            }),
+            Instruction::ArrayNewData {
+                array_type_index,
+                array_data_index,
+            } => Ok(Instruction::ArrayNewData {
+                array_type_index: *array_type_index,
+                array_data_index: *array_data_index,
+            }),
+            Instruction::ArrayNewElem {
+                array_type_index,
+                array_elem_index,
+            } => Ok(Instruction::ArrayNewElem {
+                array_type_index: *array_type_index,
+                array_elem_index: *array_elem_index,
+            }),
             Instruction::ArrayGet(a) => Ok(Instruction::ArrayGet(*a)),
             Instruction::ArrayGetS(a) => Ok(Instruction::ArrayGetS(*a)),
             Instruction::ArrayGetU(a) => Ok(Instruction::ArrayGetU(*a)),
             Instruction::ArraySet(a) => Ok(Instruction::ArraySet(*a)),
             Instruction::ArrayFill(a) => Ok(Instruction::ArrayFill(*a)),
-            Instruction::ArrayCopy { array_type_index_dst, array_type_index_src } => Ok(Instruction::ArrayCopy { array_type_index_dst: *array_type_index_dst, array_type_index_src: *array_type_index_src }),
-            Instruction::ArrayInitData { array_type_index, array_data_index } => Ok(Instruction::ArrayInitData { array_type_index: *array_type_index, array_data_index: *array_data_index }),
-            Instruction::ArrayInitElem { array_type_index, array_elem_index } => Ok(Instruction::ArrayInitElem { array_type_index: *array_type_index, array_elem_index: *array_elem_index }),
+            Instruction::ArrayCopy {
+                array_type_index_dst,
+                array_type_index_src,
+            } => Ok(Instruction::ArrayCopy {
+                array_type_index_dst: *array_type_index_dst,
+                array_type_index_src: *array_type_index_src,
+            }),
+            Instruction::ArrayInitData {
+                array_type_index,
+                array_data_index,
+            } => Ok(Instruction::ArrayInitData {
+                array_type_index: *array_type_index,
+                array_data_index: *array_data_index,
+            }),
+            Instruction::ArrayInitElem {
+                array_type_index,
+                array_elem_index,
+            } => Ok(Instruction::ArrayInitElem {
+                array_type_index: *array_type_index,
+                array_elem_index: *array_elem_index,
+            }),
             Instruction::RefTestNonNull(a) => Ok(Instruction::RefTestNonNull(*a)),
             Instruction::RefTestNullable(a) => Ok(Instruction::RefTestNullable(*a)),
             Instruction::RefCastNonNull(a) => Ok(Instruction::RefCastNonNull(*a)),
             Instruction::RefCastNullable(a) => Ok(Instruction::RefCastNullable(*a)),
-            Instruction::BrOnCast { relative_depth, from_ref_type, to_ref_type } => Ok(Instruction::BrOnCast { relative_depth: *relative_depth, from_ref_type: *from_ref_type, to_ref_type: *to_ref_type }),
-            Instruction::BrOnCastFail { relative_depth, from_ref_type, to_ref_type } => Ok(Instruction::BrOnCastFail { relative_depth: *relative_depth, from_ref_type: *from_ref_type, to_ref_type: *to_ref_type }),
+            Instruction::BrOnCast {
+                relative_depth,
+                from_ref_type,
+                to_ref_type,
+            } => Ok(Instruction::BrOnCast {
+                relative_depth: *relative_depth,
+                from_ref_type: *from_ref_type,
+                to_ref_type: *to_ref_type,
+            }),
+            Instruction::BrOnCastFail {
+                relative_depth,
+                from_ref_type,
+                to_ref_type,
+            } => Ok(Instruction::BrOnCastFail {
+                relative_depth: *relative_depth,
+                from_ref_type: *from_ref_type,
+                to_ref_type: *to_ref_type,
+            }),
             Instruction::StructNewDesc(a) => Ok(Instruction::StructNewDesc(*a)),
             Instruction::StructNewDefaultDesc(a) => Ok(Instruction::StructNewDefaultDesc(*a)),
             Instruction::RefGetDesc(a) => Ok(Instruction::RefGetDesc(*a)),
             Instruction::RefCastDescEqNonNull(a) => Ok(Instruction::RefCastDescEqNonNull(*a)),
             Instruction::RefCastDescEqNullable(a) => Ok(Instruction::RefCastDescEqNullable(*a)),
-            Instruction::BrOnCastDescEq { relative_depth, from_ref_type, to_ref_type } => Ok(Instruction::BrOnCastDescEq { relative_depth: *relative_depth, from_ref_type: *from_ref_type, to_ref_type: *to_ref_type }),
-            Instruction::BrOnCastDescEqFail { relative_depth, from_ref_type, to_ref_type } => Ok(Instruction::BrOnCastDescEqFail { relative_depth: *relative_depth, from_ref_type: *from_ref_type, to_ref_type: *to_ref_type }),
-            Instruction::MemoryInit { data_index, mem } => Ok(Instruction::MemoryInit { data_index: *data_index, mem: *mem }),
+            Instruction::BrOnCastDescEq {
+                relative_depth,
+                from_ref_type,
+                to_ref_type,
+            } => Ok(Instruction::BrOnCastDescEq {
+                relative_depth: *relative_depth,
+                from_ref_type: *from_ref_type,
+                to_ref_type: *to_ref_type,
+            }),
+            Instruction::BrOnCastDescEqFail {
+                relative_depth,
+                from_ref_type,
+                to_ref_type,
+            } => Ok(Instruction::BrOnCastDescEqFail {
+                relative_depth: *relative_depth,
+                from_ref_type: *from_ref_type,
+                to_ref_type: *to_ref_type,
+            }),
+            Instruction::MemoryInit { data_index, mem } => Ok(Instruction::MemoryInit {
+                data_index: *data_index,
+                mem: *mem,
+            }),
             Instruction::DataDrop(a) => Ok(Instruction::DataDrop(*a)),
-            Instruction::MemoryCopy { dst_mem, src_mem } => Ok(Instruction::MemoryCopy { dst_mem: *dst_mem, src_mem: *src_mem }),
+            Instruction::MemoryCopy { dst_mem, src_mem } => Ok(Instruction::MemoryCopy {
+                dst_mem: *dst_mem,
+                src_mem: *src_mem,
+            }),
             Instruction::MemoryFill(a) => Ok(Instruction::MemoryFill(*a)),
-            Instruction::TableInit { elem_index, table } => Ok(Instruction::TableInit { elem_index: *elem_index, table: *table }),
+            Instruction::TableInit { elem_index, table } => Ok(Instruction::TableInit {
+                elem_index: *elem_index,
+                table: *table,
+            }),
             Instruction::ElemDrop(a) => Ok(Instruction::ElemDrop(*a)),
-            Instruction::TableCopy { dst_table, src_table } => Ok(Instruction::TableCopy { dst_table: *dst_table, src_table: *src_table }),
+            Instruction::TableCopy {
+                dst_table,
+                src_table,
+            } => Ok(Instruction::TableCopy {
+                dst_table: *dst_table,
+                src_table: *src_table,
+            }),
             Instruction::TableGrow(a) => Ok(Instruction::TableGrow(*a)),
             Instruction::TableSize(a) => Ok(Instruction::TableSize(*a)),
             Instruction::TableFill(a) => Ok(Instruction::TableFill(*a)),

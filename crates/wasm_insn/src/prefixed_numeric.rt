@@ -33,16 +33,43 @@ impl PrefixedNumeric {
 
 /// Their names as instructions.
 impl Instruction<'static> {
-    pub const I32TruncSatF32S: Self = Instruction::PrefixedNumeric(PrefixedNumeric::I32TruncSatF32S);
-    pub const I32TruncSatF32U: Self = Instruction::PrefixedNumeric(PrefixedNumeric::I32TruncSatF32U);
-    pub const I32TruncSatF64S: Self = Instruction::PrefixedNumeric(PrefixedNumeric::I32TruncSatF64S);
-    pub const I32TruncSatF64U: Self = Instruction::PrefixedNumeric(PrefixedNumeric::I32TruncSatF64U);
-    pub const I64TruncSatF32S: Self = Instruction::PrefixedNumeric(PrefixedNumeric::I64TruncSatF32S);
-    pub const I64TruncSatF32U: Self = Instruction::PrefixedNumeric(PrefixedNumeric::I64TruncSatF32U);
-    pub const I64TruncSatF64S: Self = Instruction::PrefixedNumeric(PrefixedNumeric::I64TruncSatF64S);
-    pub const I64TruncSatF64U: Self = Instruction::PrefixedNumeric(PrefixedNumeric::I64TruncSatF64U);
+    pub const I32TruncSatF32S: Self = Instruction::PrefixedNumeric(
+        PrefixedNumeric::I32TruncSatF32S,
+    );
+
+    pub const I32TruncSatF32U: Self = Instruction::PrefixedNumeric(
+        PrefixedNumeric::I32TruncSatF32U,
+    );
+
+    pub const I32TruncSatF64S: Self = Instruction::PrefixedNumeric(
+        PrefixedNumeric::I32TruncSatF64S,
+    );
+
+    pub const I32TruncSatF64U: Self = Instruction::PrefixedNumeric(
+        PrefixedNumeric::I32TruncSatF64U,
+    );
+
+    pub const I64TruncSatF32S: Self = Instruction::PrefixedNumeric(
+        PrefixedNumeric::I64TruncSatF32S,
+    );
+
+    pub const I64TruncSatF32U: Self = Instruction::PrefixedNumeric(
+        PrefixedNumeric::I64TruncSatF32U,
+    );
+
+    pub const I64TruncSatF64S: Self = Instruction::PrefixedNumeric(
+        PrefixedNumeric::I64TruncSatF64S,
+    );
+
+    pub const I64TruncSatF64U: Self = Instruction::PrefixedNumeric(
+        PrefixedNumeric::I64TruncSatF64U,
+    );
+
     pub const I64Add128: Self = Instruction::PrefixedNumeric(PrefixedNumeric::I64Add128);
+
     pub const I64Sub128: Self = Instruction::PrefixedNumeric(PrefixedNumeric::I64Sub128);
+
     pub const I64MulWideS: Self = Instruction::PrefixedNumeric(PrefixedNumeric::I64MulWideS);
+
     pub const I64MulWideU: Self = Instruction::PrefixedNumeric(PrefixedNumeric::I64MulWideU);
 }

@@ -240,221 +240,454 @@ impl Vector {
 /// Their names as instructions.
 impl Instruction<'static> {
     pub const I8x16Swizzle: Self = Instruction::Vector(Vector::I8x16Swizzle);
+
     pub const I8x16Splat: Self = Instruction::Vector(Vector::I8x16Splat);
+
     pub const I16x8Splat: Self = Instruction::Vector(Vector::I16x8Splat);
+
     pub const I32x4Splat: Self = Instruction::Vector(Vector::I32x4Splat);
+
     pub const I64x2Splat: Self = Instruction::Vector(Vector::I64x2Splat);
+
     pub const F32x4Splat: Self = Instruction::Vector(Vector::F32x4Splat);
+
     pub const F64x2Splat: Self = Instruction::Vector(Vector::F64x2Splat);
+
     pub const I8x16Eq: Self = Instruction::Vector(Vector::I8x16Eq);
+
     pub const I8x16Ne: Self = Instruction::Vector(Vector::I8x16Ne);
+
     pub const I8x16LtS: Self = Instruction::Vector(Vector::I8x16LtS);
+
     pub const I8x16LtU: Self = Instruction::Vector(Vector::I8x16LtU);
+
     pub const I8x16GtS: Self = Instruction::Vector(Vector::I8x16GtS);
+
     pub const I8x16GtU: Self = Instruction::Vector(Vector::I8x16GtU);
+
     pub const I8x16LeS: Self = Instruction::Vector(Vector::I8x16LeS);
+
     pub const I8x16LeU: Self = Instruction::Vector(Vector::I8x16LeU);
+
     pub const I8x16GeS: Self = Instruction::Vector(Vector::I8x16GeS);
+
     pub const I8x16GeU: Self = Instruction::Vector(Vector::I8x16GeU);
+
     pub const I16x8Eq: Self = Instruction::Vector(Vector::I16x8Eq);
+
     pub const I16x8Ne: Self = Instruction::Vector(Vector::I16x8Ne);
+
     pub const I16x8LtS: Self = Instruction::Vector(Vector::I16x8LtS);
+
     pub const I16x8LtU: Self = Instruction::Vector(Vector::I16x8LtU);
+
     pub const I16x8GtS: Self = Instruction::Vector(Vector::I16x8GtS);
+
     pub const I16x8GtU: Self = Instruction::Vector(Vector::I16x8GtU);
+
     pub const I16x8LeS: Self = Instruction::Vector(Vector::I16x8LeS);
+
     pub const I16x8LeU: Self = Instruction::Vector(Vector::I16x8LeU);
+
     pub const I16x8GeS: Self = Instruction::Vector(Vector::I16x8GeS);
+
     pub const I16x8GeU: Self = Instruction::Vector(Vector::I16x8GeU);
+
     pub const I32x4Eq: Self = Instruction::Vector(Vector::I32x4Eq);
+
     pub const I32x4Ne: Self = Instruction::Vector(Vector::I32x4Ne);
+
     pub const I32x4LtS: Self = Instruction::Vector(Vector::I32x4LtS);
+
     pub const I32x4LtU: Self = Instruction::Vector(Vector::I32x4LtU);
+
     pub const I32x4GtS: Self = Instruction::Vector(Vector::I32x4GtS);
+
     pub const I32x4GtU: Self = Instruction::Vector(Vector::I32x4GtU);
+
     pub const I32x4LeS: Self = Instruction::Vector(Vector::I32x4LeS);
+
     pub const I32x4LeU: Self = Instruction::Vector(Vector::I32x4LeU);
+
     pub const I32x4GeS: Self = Instruction::Vector(Vector::I32x4GeS);
+
     pub const I32x4GeU: Self = Instruction::Vector(Vector::I32x4GeU);
+
     pub const F32x4Eq: Self = Instruction::Vector(Vector::F32x4Eq);
+
     pub const F32x4Ne: Self = Instruction::Vector(Vector::F32x4Ne);
+
     pub const F32x4Lt: Self = Instruction::Vector(Vector::F32x4Lt);
+
     pub const F32x4Gt: Self = Instruction::Vector(Vector::F32x4Gt);
+
     pub const F32x4Le: Self = Instruction::Vector(Vector::F32x4Le);
+
     pub const F32x4Ge: Self = Instruction::Vector(Vector::F32x4Ge);
+
     pub const F64x2Eq: Self = Instruction::Vector(Vector::F64x2Eq);
+
     pub const F64x2Ne: Self = Instruction::Vector(Vector::F64x2Ne);
+
     pub const F64x2Lt: Self = Instruction::Vector(Vector::F64x2Lt);
+
     pub const F64x2Gt: Self = Instruction::Vector(Vector::F64x2Gt);
+
     pub const F64x2Le: Self = Instruction::Vector(Vector::F64x2Le);
+
     pub const F64x2Ge: Self = Instruction::Vector(Vector::F64x2Ge);
+
     pub const V128Not: Self = Instruction::Vector(Vector::V128Not);
+
     pub const V128And: Self = Instruction::Vector(Vector::V128And);
+
     pub const V128AndNot: Self = Instruction::Vector(Vector::V128AndNot);
+
     pub const V128Or: Self = Instruction::Vector(Vector::V128Or);
+
     pub const V128Xor: Self = Instruction::Vector(Vector::V128Xor);
+
     pub const V128Bitselect: Self = Instruction::Vector(Vector::V128Bitselect);
+
     pub const V128AnyTrue: Self = Instruction::Vector(Vector::V128AnyTrue);
+
     pub const F32x4DemoteF64x2Zero: Self = Instruction::Vector(Vector::F32x4DemoteF64x2Zero);
+
     pub const F64x2PromoteLowF32x4: Self = Instruction::Vector(Vector::F64x2PromoteLowF32x4);
+
     pub const I8x16Abs: Self = Instruction::Vector(Vector::I8x16Abs);
+
     pub const I8x16Neg: Self = Instruction::Vector(Vector::I8x16Neg);
+
     pub const I8x16Popcnt: Self = Instruction::Vector(Vector::I8x16Popcnt);
+
     pub const I8x16AllTrue: Self = Instruction::Vector(Vector::I8x16AllTrue);
+
     pub const I8x16Bitmask: Self = Instruction::Vector(Vector::I8x16Bitmask);
+
     pub const I8x16NarrowI16x8S: Self = Instruction::Vector(Vector::I8x16NarrowI16x8S);
+
     pub const I8x16NarrowI16x8U: Self = Instruction::Vector(Vector::I8x16NarrowI16x8U);
+
     pub const F32x4Ceil: Self = Instruction::Vector(Vector::F32x4Ceil);
+
     pub const F32x4Floor: Self = Instruction::Vector(Vector::F32x4Floor);
+
     pub const F32x4Trunc: Self = Instruction::Vector(Vector::F32x4Trunc);
+
     pub const F32x4Nearest: Self = Instruction::Vector(Vector::F32x4Nearest);
+
     pub const I8x16Shl: Self = Instruction::Vector(Vector::I8x16Shl);
+
     pub const I8x16ShrS: Self = Instruction::Vector(Vector::I8x16ShrS);
+
     pub const I8x16ShrU: Self = Instruction::Vector(Vector::I8x16ShrU);
+
     pub const I8x16Add: Self = Instruction::Vector(Vector::I8x16Add);
+
     pub const I8x16AddSatS: Self = Instruction::Vector(Vector::I8x16AddSatS);
+
     pub const I8x16AddSatU: Self = Instruction::Vector(Vector::I8x16AddSatU);
+
     pub const I8x16Sub: Self = Instruction::Vector(Vector::I8x16Sub);
+
     pub const I8x16SubSatS: Self = Instruction::Vector(Vector::I8x16SubSatS);
+
     pub const I8x16SubSatU: Self = Instruction::Vector(Vector::I8x16SubSatU);
+
     pub const F64x2Ceil: Self = Instruction::Vector(Vector::F64x2Ceil);
+
     pub const F64x2Floor: Self = Instruction::Vector(Vector::F64x2Floor);
+
     pub const I8x16MinS: Self = Instruction::Vector(Vector::I8x16MinS);
+
     pub const I8x16MinU: Self = Instruction::Vector(Vector::I8x16MinU);
+
     pub const I8x16MaxS: Self = Instruction::Vector(Vector::I8x16MaxS);
+
     pub const I8x16MaxU: Self = Instruction::Vector(Vector::I8x16MaxU);
+
     pub const F64x2Trunc: Self = Instruction::Vector(Vector::F64x2Trunc);
+
     pub const I8x16AvgrU: Self = Instruction::Vector(Vector::I8x16AvgrU);
-    pub const I16x8ExtAddPairwiseI8x16S: Self = Instruction::Vector(Vector::I16x8ExtAddPairwiseI8x16S);
-    pub const I16x8ExtAddPairwiseI8x16U: Self = Instruction::Vector(Vector::I16x8ExtAddPairwiseI8x16U);
-    pub const I32x4ExtAddPairwiseI16x8S: Self = Instruction::Vector(Vector::I32x4ExtAddPairwiseI16x8S);
-    pub const I32x4ExtAddPairwiseI16x8U: Self = Instruction::Vector(Vector::I32x4ExtAddPairwiseI16x8U);
+
+    pub const I16x8ExtAddPairwiseI8x16S: Self = Instruction::Vector(
+        Vector::I16x8ExtAddPairwiseI8x16S,
+    );
+
+    pub const I16x8ExtAddPairwiseI8x16U: Self = Instruction::Vector(
+        Vector::I16x8ExtAddPairwiseI8x16U,
+    );
+
+    pub const I32x4ExtAddPairwiseI16x8S: Self = Instruction::Vector(
+        Vector::I32x4ExtAddPairwiseI16x8S,
+    );
+
+    pub const I32x4ExtAddPairwiseI16x8U: Self = Instruction::Vector(
+        Vector::I32x4ExtAddPairwiseI16x8U,
+    );
+
     pub const I16x8Abs: Self = Instruction::Vector(Vector::I16x8Abs);
+
     pub const I16x8Neg: Self = Instruction::Vector(Vector::I16x8Neg);
+
     pub const I16x8Q15MulrSatS: Self = Instruction::Vector(Vector::I16x8Q15MulrSatS);
+
     pub const I16x8AllTrue: Self = Instruction::Vector(Vector::I16x8AllTrue);
+
     pub const I16x8Bitmask: Self = Instruction::Vector(Vector::I16x8Bitmask);
+
     pub const I16x8NarrowI32x4S: Self = Instruction::Vector(Vector::I16x8NarrowI32x4S);
+
     pub const I16x8NarrowI32x4U: Self = Instruction::Vector(Vector::I16x8NarrowI32x4U);
+
     pub const I16x8ExtendLowI8x16S: Self = Instruction::Vector(Vector::I16x8ExtendLowI8x16S);
+
     pub const I16x8ExtendHighI8x16S: Self = Instruction::Vector(Vector::I16x8ExtendHighI8x16S);
+
     pub const I16x8ExtendLowI8x16U: Self = Instruction::Vector(Vector::I16x8ExtendLowI8x16U);
+
     pub const I16x8ExtendHighI8x16U: Self = Instruction::Vector(Vector::I16x8ExtendHighI8x16U);
+
     pub const I16x8Shl: Self = Instruction::Vector(Vector::I16x8Shl);
+
     pub const I16x8ShrS: Self = Instruction::Vector(Vector::I16x8ShrS);
+
     pub const I16x8ShrU: Self = Instruction::Vector(Vector::I16x8ShrU);
+
     pub const I16x8Add: Self = Instruction::Vector(Vector::I16x8Add);
+
     pub const I16x8AddSatS: Self = Instruction::Vector(Vector::I16x8AddSatS);
+
     pub const I16x8AddSatU: Self = Instruction::Vector(Vector::I16x8AddSatU);
+
     pub const I16x8Sub: Self = Instruction::Vector(Vector::I16x8Sub);
+
     pub const I16x8SubSatS: Self = Instruction::Vector(Vector::I16x8SubSatS);
+
     pub const I16x8SubSatU: Self = Instruction::Vector(Vector::I16x8SubSatU);
+
     pub const F64x2Nearest: Self = Instruction::Vector(Vector::F64x2Nearest);
+
     pub const I16x8Mul: Self = Instruction::Vector(Vector::I16x8Mul);
+
     pub const I16x8MinS: Self = Instruction::Vector(Vector::I16x8MinS);
+
     pub const I16x8MinU: Self = Instruction::Vector(Vector::I16x8MinU);
+
     pub const I16x8MaxS: Self = Instruction::Vector(Vector::I16x8MaxS);
+
     pub const I16x8MaxU: Self = Instruction::Vector(Vector::I16x8MaxU);
+
     pub const I16x8AvgrU: Self = Instruction::Vector(Vector::I16x8AvgrU);
+
     pub const I16x8ExtMulLowI8x16S: Self = Instruction::Vector(Vector::I16x8ExtMulLowI8x16S);
+
     pub const I16x8ExtMulHighI8x16S: Self = Instruction::Vector(Vector::I16x8ExtMulHighI8x16S);
+
     pub const I16x8ExtMulLowI8x16U: Self = Instruction::Vector(Vector::I16x8ExtMulLowI8x16U);
+
     pub const I16x8ExtMulHighI8x16U: Self = Instruction::Vector(Vector::I16x8ExtMulHighI8x16U);
+
     pub const I32x4Abs: Self = Instruction::Vector(Vector::I32x4Abs);
+
     pub const I32x4Neg: Self = Instruction::Vector(Vector::I32x4Neg);
+
     pub const I32x4AllTrue: Self = Instruction::Vector(Vector::I32x4AllTrue);
+
     pub const I32x4Bitmask: Self = Instruction::Vector(Vector::I32x4Bitmask);
+
     pub const I32x4ExtendLowI16x8S: Self = Instruction::Vector(Vector::I32x4ExtendLowI16x8S);
+
     pub const I32x4ExtendHighI16x8S: Self = Instruction::Vector(Vector::I32x4ExtendHighI16x8S);
+
     pub const I32x4ExtendLowI16x8U: Self = Instruction::Vector(Vector::I32x4ExtendLowI16x8U);
+
     pub const I32x4ExtendHighI16x8U: Self = Instruction::Vector(Vector::I32x4ExtendHighI16x8U);
+
     pub const I32x4Shl: Self = Instruction::Vector(Vector::I32x4Shl);
+
     pub const I32x4ShrS: Self = Instruction::Vector(Vector::I32x4ShrS);
+
     pub const I32x4ShrU: Self = Instruction::Vector(Vector::I32x4ShrU);
+
     pub const I32x4Add: Self = Instruction::Vector(Vector::I32x4Add);
+
     pub const I32x4Sub: Self = Instruction::Vector(Vector::I32x4Sub);
+
     pub const I32x4Mul: Self = Instruction::Vector(Vector::I32x4Mul);
+
     pub const I32x4MinS: Self = Instruction::Vector(Vector::I32x4MinS);
+
     pub const I32x4MinU: Self = Instruction::Vector(Vector::I32x4MinU);
+
     pub const I32x4MaxS: Self = Instruction::Vector(Vector::I32x4MaxS);
+
     pub const I32x4MaxU: Self = Instruction::Vector(Vector::I32x4MaxU);
+
     pub const I32x4DotI16x8S: Self = Instruction::Vector(Vector::I32x4DotI16x8S);
+
     pub const I32x4ExtMulLowI16x8S: Self = Instruction::Vector(Vector::I32x4ExtMulLowI16x8S);
+
     pub const I32x4ExtMulHighI16x8S: Self = Instruction::Vector(Vector::I32x4ExtMulHighI16x8S);
+
     pub const I32x4ExtMulLowI16x8U: Self = Instruction::Vector(Vector::I32x4ExtMulLowI16x8U);
+
     pub const I32x4ExtMulHighI16x8U: Self = Instruction::Vector(Vector::I32x4ExtMulHighI16x8U);
+
     pub const I64x2Abs: Self = Instruction::Vector(Vector::I64x2Abs);
+
     pub const I64x2Neg: Self = Instruction::Vector(Vector::I64x2Neg);
+
     pub const I64x2AllTrue: Self = Instruction::Vector(Vector::I64x2AllTrue);
+
     pub const I64x2Bitmask: Self = Instruction::Vector(Vector::I64x2Bitmask);
+
     pub const I64x2ExtendLowI32x4S: Self = Instruction::Vector(Vector::I64x2ExtendLowI32x4S);
+
     pub const I64x2ExtendHighI32x4S: Self = Instruction::Vector(Vector::I64x2ExtendHighI32x4S);
+
     pub const I64x2ExtendLowI32x4U: Self = Instruction::Vector(Vector::I64x2ExtendLowI32x4U);
+
     pub const I64x2ExtendHighI32x4U: Self = Instruction::Vector(Vector::I64x2ExtendHighI32x4U);
+
     pub const I64x2Shl: Self = Instruction::Vector(Vector::I64x2Shl);
+
     pub const I64x2ShrS: Self = Instruction::Vector(Vector::I64x2ShrS);
+
     pub const I64x2ShrU: Self = Instruction::Vector(Vector::I64x2ShrU);
+
     pub const I64x2Add: Self = Instruction::Vector(Vector::I64x2Add);
+
     pub const I64x2Sub: Self = Instruction::Vector(Vector::I64x2Sub);
+
     pub const I64x2Mul: Self = Instruction::Vector(Vector::I64x2Mul);
+
     pub const I64x2Eq: Self = Instruction::Vector(Vector::I64x2Eq);
+
     pub const I64x2Ne: Self = Instruction::Vector(Vector::I64x2Ne);
+
     pub const I64x2LtS: Self = Instruction::Vector(Vector::I64x2LtS);
+
     pub const I64x2GtS: Self = Instruction::Vector(Vector::I64x2GtS);
+
     pub const I64x2LeS: Self = Instruction::Vector(Vector::I64x2LeS);
+
     pub const I64x2GeS: Self = Instruction::Vector(Vector::I64x2GeS);
+
     pub const I64x2ExtMulLowI32x4S: Self = Instruction::Vector(Vector::I64x2ExtMulLowI32x4S);
+
     pub const I64x2ExtMulHighI32x4S: Self = Instruction::Vector(Vector::I64x2ExtMulHighI32x4S);
+
     pub const I64x2ExtMulLowI32x4U: Self = Instruction::Vector(Vector::I64x2ExtMulLowI32x4U);
+
     pub const I64x2ExtMulHighI32x4U: Self = Instruction::Vector(Vector::I64x2ExtMulHighI32x4U);
+
     pub const F32x4Abs: Self = Instruction::Vector(Vector::F32x4Abs);
+
     pub const F32x4Neg: Self = Instruction::Vector(Vector::F32x4Neg);
+
     pub const F32x4Sqrt: Self = Instruction::Vector(Vector::F32x4Sqrt);
+
     pub const F32x4Add: Self = Instruction::Vector(Vector::F32x4Add);
+
     pub const F32x4Sub: Self = Instruction::Vector(Vector::F32x4Sub);
+
     pub const F32x4Mul: Self = Instruction::Vector(Vector::F32x4Mul);
+
     pub const F32x4Div: Self = Instruction::Vector(Vector::F32x4Div);
+
     pub const F32x4Min: Self = Instruction::Vector(Vector::F32x4Min);
+
     pub const F32x4Max: Self = Instruction::Vector(Vector::F32x4Max);
+
     pub const F32x4PMin: Self = Instruction::Vector(Vector::F32x4PMin);
+
     pub const F32x4PMax: Self = Instruction::Vector(Vector::F32x4PMax);
+
     pub const F64x2Abs: Self = Instruction::Vector(Vector::F64x2Abs);
+
     pub const F64x2Neg: Self = Instruction::Vector(Vector::F64x2Neg);
+
     pub const F64x2Sqrt: Self = Instruction::Vector(Vector::F64x2Sqrt);
+
     pub const F64x2Add: Self = Instruction::Vector(Vector::F64x2Add);
+
     pub const F64x2Sub: Self = Instruction::Vector(Vector::F64x2Sub);
+
     pub const F64x2Mul: Self = Instruction::Vector(Vector::F64x2Mul);
+
     pub const F64x2Div: Self = Instruction::Vector(Vector::F64x2Div);
+
     pub const F64x2Min: Self = Instruction::Vector(Vector::F64x2Min);
+
     pub const F64x2Max: Self = Instruction::Vector(Vector::F64x2Max);
+
     pub const F64x2PMin: Self = Instruction::Vector(Vector::F64x2PMin);
+
     pub const F64x2PMax: Self = Instruction::Vector(Vector::F64x2PMax);
+
     pub const I32x4TruncSatF32x4S: Self = Instruction::Vector(Vector::I32x4TruncSatF32x4S);
+
     pub const I32x4TruncSatF32x4U: Self = Instruction::Vector(Vector::I32x4TruncSatF32x4U);
+
     pub const F32x4ConvertI32x4S: Self = Instruction::Vector(Vector::F32x4ConvertI32x4S);
+
     pub const F32x4ConvertI32x4U: Self = Instruction::Vector(Vector::F32x4ConvertI32x4U);
+
     pub const I32x4TruncSatF64x2SZero: Self = Instruction::Vector(Vector::I32x4TruncSatF64x2SZero);
+
     pub const I32x4TruncSatF64x2UZero: Self = Instruction::Vector(Vector::I32x4TruncSatF64x2UZero);
+
     pub const F64x2ConvertLowI32x4S: Self = Instruction::Vector(Vector::F64x2ConvertLowI32x4S);
+
     pub const F64x2ConvertLowI32x4U: Self = Instruction::Vector(Vector::F64x2ConvertLowI32x4U);
+
     pub const I8x16RelaxedSwizzle: Self = Instruction::Vector(Vector::I8x16RelaxedSwizzle);
+
     pub const I32x4RelaxedTruncF32x4S: Self = Instruction::Vector(Vector::I32x4RelaxedTruncF32x4S);
+
     pub const I32x4RelaxedTruncF32x4U: Self = Instruction::Vector(Vector::I32x4RelaxedTruncF32x4U);
-    pub const I32x4RelaxedTruncF64x2SZero: Self = Instruction::Vector(Vector::I32x4RelaxedTruncF64x2SZero);
-    pub const I32x4RelaxedTruncF64x2UZero: Self = Instruction::Vector(Vector::I32x4RelaxedTruncF64x2UZero);
+
+    pub const I32x4RelaxedTruncF64x2SZero: Self = Instruction::Vector(
+        Vector::I32x4RelaxedTruncF64x2SZero,
+    );
+
+    pub const I32x4RelaxedTruncF64x2UZero: Self = Instruction::Vector(
+        Vector::I32x4RelaxedTruncF64x2UZero,
+    );
+
     pub const F32x4RelaxedMadd: Self = Instruction::Vector(Vector::F32x4RelaxedMadd);
+
     pub const F32x4RelaxedNmadd: Self = Instruction::Vector(Vector::F32x4RelaxedNmadd);
+
     pub const F64x2RelaxedMadd: Self = Instruction::Vector(Vector::F64x2RelaxedMadd);
+
     pub const F64x2RelaxedNmadd: Self = Instruction::Vector(Vector::F64x2RelaxedNmadd);
+
     pub const I8x16RelaxedLaneselect: Self = Instruction::Vector(Vector::I8x16RelaxedLaneselect);
+
     pub const I16x8RelaxedLaneselect: Self = Instruction::Vector(Vector::I16x8RelaxedLaneselect);
+
     pub const I32x4RelaxedLaneselect: Self = Instruction::Vector(Vector::I32x4RelaxedLaneselect);
+
     pub const I64x2RelaxedLaneselect: Self = Instruction::Vector(Vector::I64x2RelaxedLaneselect);
+
     pub const F32x4RelaxedMin: Self = Instruction::Vector(Vector::F32x4RelaxedMin);
+
     pub const F32x4RelaxedMax: Self = Instruction::Vector(Vector::F32x4RelaxedMax);
+
     pub const F64x2RelaxedMin: Self = Instruction::Vector(Vector::F64x2RelaxedMin);
+
     pub const F64x2RelaxedMax: Self = Instruction::Vector(Vector::F64x2RelaxedMax);
+
     pub const I16x8RelaxedQ15mulrS: Self = Instruction::Vector(Vector::I16x8RelaxedQ15mulrS);
-    pub const I16x8RelaxedDotI8x16I7x16S: Self = Instruction::Vector(Vector::I16x8RelaxedDotI8x16I7x16S);
-    pub const I32x4RelaxedDotI8x16I7x16AddS: Self = Instruction::Vector(Vector::I32x4RelaxedDotI8x16I7x16AddS);
+
+    pub const I16x8RelaxedDotI8x16I7x16S: Self = Instruction::Vector(
+        Vector::I16x8RelaxedDotI8x16I7x16S,
+    );
+
+    pub const I32x4RelaxedDotI8x16I7x16AddS: Self = Instruction::Vector(
+        Vector::I32x4RelaxedDotI8x16I7x16AddS,
+    );
 }

@@ -1,9 +1,9 @@
 //! Values whose bytes are known from the format's documents.
-use crate::{
-    BlockType, Catch, Handle, Ieee32, Ieee64, MemArg, MemArgOrdering, MemArgTarget, Op, Ordering,
-};
 use std::alloc::Allocator;
 use wasm_base::{AbstractHeapType, Encode, HeapType, R, RefType, ValType};
+use wasm_insn::{
+    BlockType, Catch, Handle, Ieee32, Ieee64, MemArg, MemArgOrdering, MemArgTarget, Op, Ordering,
+};
 
 /// Whether the value has these bytes.
 fn has_bytes<T: Encode, A: Allocator>(alloc: A, value: &T, bytes: &[u8]) -> R<bool> {

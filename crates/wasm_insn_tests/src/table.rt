@@ -1,0 +1,96 @@
+//! Each instruction of the opcode table has the bytes of its row.
+use crate::{cases, rows};
+use std::alloc::Global;
+use std::process::Abort;
+use std::test::Fail;
+use test_support::Refusing;
+use wasm_base::{Encode, R, Refused};
+use wasm_insn::Instruction;
+
+/// More requests than any call here makes.
+const MOST: u64 = 100;
+
+/// The instruction and its clone have these bytes, and the op is in the table. Where a request for memory is refused, each
+/// in turn, the sink is as it was.
+fn check(
+    rt: &impl Abort,
+    alloc: Global,
+    instruction: &Instruction<'_>,
+    row: &str,
+) -> Result<(), Fail> {
+    let mut bytes = Vec::new(alloc);
+    instruction.encode(&mut bytes)?;
+    assert_eq!(rt; hex::encode(alloc, bytes.as_slice())?.as_str(), row);
+    let mut again = Vec::new(alloc);
+    instruction.clone()?.encode(&mut again)?;
+    assert_eq!(rt; again, bytes);
+    assert!(rt; instruction.op().shape().is_some(), "{row}");
+
+    let heap = Refusing::new(alloc);
+    for nth in 1..MOST {
+        let mut sink = Vec::from_slice(&heap, &[7])?;
+        heap.refuse(nth);
+        let result = instruction.encode(&mut sink);
+        if heap.is_waiting() {
+            assert_eq!(rt; result, Ok(()));
+            assert_eq!(rt; sink[1..], bytes[..]);
+            return Ok(());
+        }
+        assert_eq!(rt; result, Err(Refused::Memory));
+        assert_eq!(rt; sink.as_slice(), [7].as_slice());
+    }
+    panic!(rt; "no call was granted")
+}
+
+/// The instructions in turn have these bytes.
+fn check_all(
+    rt: &impl Abort,
+    alloc: Global,
+    instructions: &[Instruction<'_>],
+    rows: &[&str],
+) -> Result<(), Fail> {
+    for (instruction, row) in instructions.iter().zip(rows.iter()) {
+        check(rt, alloc, instruction, row)?;
+    }
+    Ok(())
+}
+
+#[test]
+fn instructions(rt: HostRuntime) -> Result<(), Fail> {
+    check_all(&rt, rt.alloc(), cases::INSTRUCTIONS, &rows::INSTRUCTIONS)
+}
+
+#[test]
+fn floats(rt: HostRuntime) -> Result<(), Fail> {
+    check_all(&rt, rt.alloc(), &cases::floats(), &rows::FLOATS)
+}
+
+#[test]
+fn nested_instructions(rt: HostRuntime) -> Result<(), Fail> {
+    let alloc = rt.alloc();
+    for (case, row) in cases::NUMERICS.iter().zip(rows::NUMERICS.iter()) {
+        check(&rt, alloc, &Instruction::Numeric(*case), row)?;
+    }
+    for (case, row) in cases::AGGREGATES.iter().zip(rows::AGGREGATES.iter()) {
+        check(&rt, alloc, &Instruction::Aggregate(*case), row)?;
+    }
+    for (case, row) in cases::PREFIXED_NUMERICS
+        .iter()
+        .zip(rows::PREFIXED_NUMERICS.iter())
+    {
+        check(&rt, alloc, &Instruction::PrefixedNumeric(*case), row)?;
+    }
+    for (case, row) in cases::VECTORS.iter().zip(rows::VECTORS.iter()) {
+        check(&rt, alloc, &Instruction::Vector(*case), row)?;
+    }
+    for (case, row) in cases::VECTOR_IMMEDIATES
+        .iter()
+        .zip(rows::VECTOR_IMMEDIATES.iter())
+    {
+        check(&rt, alloc, &Instruction::VectorImmediate(*case), row)?;
+    }
+    for (case, row) in cases::ATOMICS.iter().zip(rows::ATOMICS.iter()) {
+        check(&rt, alloc, &Instruction::Atomic(*case), row)?;
+    }
+    Ok(())
+}
