@@ -3,6 +3,8 @@
 #![tactic(auto)]
 
 #[cfg(test)]
+mod cows;
+#[cfg(test)]
 mod refusals;
 #[cfg(test)]
 mod rows;

@@ -2,10 +2,16 @@
 //! A value of each instruction, in the order of their opcodes within each enum.
 use wasm_base::{AbstractHeapType, CowSlice, HeapType, RefType, ValType};
 use wasm_insn::{
-    Instruction, Numeric, Aggregate, PrefixedNumeric, Vector, VectorImmediate, Atomic, BlockType, Catch, Handle, Ieee32, Ieee64, MemArg, MemArgTarget, Ordering,
+    Aggregate, Atomic, BlockType, Catch, Handle, Ieee32, Ieee64, Instruction, MemArg, MemArgTarget,
+    Numeric, Ordering, PrefixedNumeric, Vector, VectorImmediate,
 };
 
-const MEMARG: MemArg = MemArg { offset: 300, align: 2, target: MemArgTarget::Memory(1), ordering: None };
+const MEMARG: MemArg = MemArg {
+    offset: 300,
+    align: 2,
+    target: MemArgTarget::Memory(1),
+    ordering: None,
+};
 
 pub const INSTRUCTIONS: &[Instruction<'static>] = &[
     Instruction::Unreachable,
@@ -25,9 +31,15 @@ pub const INSTRUCTIONS: &[Instruction<'static>] = &[
     Instruction::BrTable(CowSlice::Borrowed(&[0, 300]), 5),
     Instruction::Return,
     Instruction::Call(300),
-    Instruction::CallIndirect { type_index: 1, table_index: 300 },
+    Instruction::CallIndirect {
+        type_index: 1,
+        table_index: 300,
+    },
     Instruction::ReturnCall(300),
-    Instruction::ReturnCallIndirect { type_index: 1, table_index: 300 },
+    Instruction::ReturnCallIndirect {
+        type_index: 1,
+        table_index: 300,
+    },
     Instruction::CallRef(300),
     Instruction::ReturnCallRef(300),
     Instruction::Delegate(300),
@@ -36,7 +48,10 @@ pub const INSTRUCTIONS: &[Instruction<'static>] = &[
     Instruction::Select,
     Instruction::TypedSelect(ValType::I32),
     Instruction::TypedSelectMulti(CowSlice::Borrowed(&[ValType::I32, ValType::I64])),
-    Instruction::TryTable(BlockType::Empty, CowSlice::Borrowed(&[Catch::One { tag: 0, label: 1 }, Catch::AllRef { label: 2 }])),
+    Instruction::TryTable(
+        BlockType::Empty,
+        CowSlice::Borrowed(&[Catch::One { tag: 0, label: 1 }, Catch::AllRef { label: 2 }]),
+    ),
     Instruction::LocalGet(300),
     Instruction::LocalSet(300),
     Instruction::LocalTee(300),
@@ -79,51 +94,182 @@ pub const INSTRUCTIONS: &[Instruction<'static>] = &[
     Instruction::BrOnNull(300),
     Instruction::BrOnNonNull(300),
     Instruction::ContNew(300),
-    Instruction::ContBind { argument_index: 1, result_index: 300 },
+    Instruction::ContBind {
+        argument_index: 1,
+        result_index: 300,
+    },
     Instruction::Suspend(300),
-    Instruction::Resume { cont_type_index: 1, resume_table: CowSlice::Borrowed(&[Handle::OnLabel { tag: 3, label: 4 }, Handle::OnSwitch { tag: 5 }]) },
-    Instruction::ResumeThrow { cont_type_index: 1, tag_index: 300, resume_table: CowSlice::Borrowed(&[Handle::OnLabel { tag: 3, label: 4 }, Handle::OnSwitch { tag: 5 }]) },
-    Instruction::ResumeThrowRef { cont_type_index: 1, resume_table: CowSlice::Borrowed(&[Handle::OnLabel { tag: 3, label: 4 }, Handle::OnSwitch { tag: 5 }]) },
-    Instruction::Switch { cont_type_index: 1, tag_index: 300 },
+    Instruction::Resume {
+        cont_type_index: 1,
+        resume_table: CowSlice::Borrowed(&[
+            Handle::OnLabel { tag: 3, label: 4 },
+            Handle::OnSwitch { tag: 5 },
+        ]),
+    },
+    Instruction::ResumeThrow {
+        cont_type_index: 1,
+        tag_index: 300,
+        resume_table: CowSlice::Borrowed(&[
+            Handle::OnLabel { tag: 3, label: 4 },
+            Handle::OnSwitch { tag: 5 },
+        ]),
+    },
+    Instruction::ResumeThrowRef {
+        cont_type_index: 1,
+        resume_table: CowSlice::Borrowed(&[
+            Handle::OnLabel { tag: 3, label: 4 },
+            Handle::OnSwitch { tag: 5 },
+        ]),
+    },
+    Instruction::Switch {
+        cont_type_index: 1,
+        tag_index: 300,
+    },
     Instruction::StructNew(300),
     Instruction::StructNewDefault(300),
-    Instruction::StructGet { struct_type_index: 1, field_index: 300 },
-    Instruction::StructGetS { struct_type_index: 1, field_index: 300 },
-    Instruction::StructGetU { struct_type_index: 1, field_index: 300 },
-    Instruction::StructSet { struct_type_index: 1, field_index: 300 },
+    Instruction::StructGet {
+        struct_type_index: 1,
+        field_index: 300,
+    },
+    Instruction::StructGetS {
+        struct_type_index: 1,
+        field_index: 300,
+    },
+    Instruction::StructGetU {
+        struct_type_index: 1,
+        field_index: 300,
+    },
+    Instruction::StructSet {
+        struct_type_index: 1,
+        field_index: 300,
+    },
     Instruction::ArrayNew(300),
     Instruction::ArrayNewDefault(300),
-    Instruction::ArrayNewFixed { array_type_index: 1, array_size: 300 },
-    Instruction::ArrayNewData { array_type_index: 1, array_data_index: 300 },
-    Instruction::ArrayNewElem { array_type_index: 1, array_elem_index: 300 },
+    Instruction::ArrayNewFixed {
+        array_type_index: 1,
+        array_size: 300,
+    },
+    Instruction::ArrayNewData {
+        array_type_index: 1,
+        array_data_index: 300,
+    },
+    Instruction::ArrayNewElem {
+        array_type_index: 1,
+        array_elem_index: 300,
+    },
     Instruction::ArrayGet(300),
     Instruction::ArrayGetS(300),
     Instruction::ArrayGetU(300),
     Instruction::ArraySet(300),
     Instruction::ArrayFill(300),
-    Instruction::ArrayCopy { array_type_index_dst: 1, array_type_index_src: 300 },
-    Instruction::ArrayInitData { array_type_index: 1, array_data_index: 300 },
-    Instruction::ArrayInitElem { array_type_index: 1, array_elem_index: 300 },
+    Instruction::ArrayCopy {
+        array_type_index_dst: 1,
+        array_type_index_src: 300,
+    },
+    Instruction::ArrayInitData {
+        array_type_index: 1,
+        array_data_index: 300,
+    },
+    Instruction::ArrayInitElem {
+        array_type_index: 1,
+        array_elem_index: 300,
+    },
     Instruction::RefTestNonNull(HeapType::Concrete(64)),
     Instruction::RefTestNullable(HeapType::Concrete(64)),
     Instruction::RefCastNonNull(HeapType::Concrete(64)),
     Instruction::RefCastNullable(HeapType::Concrete(64)),
-    Instruction::BrOnCast { relative_depth: 1, from_ref_type: RefType { nullable: true, heap_type: HeapType::Abstract { shared: false, ty: AbstractHeapType::Any } }, to_ref_type: RefType { nullable: false, heap_type: HeapType::Abstract { shared: false, ty: AbstractHeapType::Eq } } },
-    Instruction::BrOnCastFail { relative_depth: 1, from_ref_type: RefType { nullable: true, heap_type: HeapType::Abstract { shared: false, ty: AbstractHeapType::Any } }, to_ref_type: RefType { nullable: false, heap_type: HeapType::Abstract { shared: false, ty: AbstractHeapType::Eq } } },
+    Instruction::BrOnCast {
+        relative_depth: 1,
+        from_ref_type: RefType {
+            nullable: true,
+            heap_type: HeapType::Abstract {
+                shared: false,
+                ty: AbstractHeapType::Any,
+            },
+        },
+        to_ref_type: RefType {
+            nullable: false,
+            heap_type: HeapType::Abstract {
+                shared: false,
+                ty: AbstractHeapType::Eq,
+            },
+        },
+    },
+    Instruction::BrOnCastFail {
+        relative_depth: 1,
+        from_ref_type: RefType {
+            nullable: true,
+            heap_type: HeapType::Abstract {
+                shared: false,
+                ty: AbstractHeapType::Any,
+            },
+        },
+        to_ref_type: RefType {
+            nullable: false,
+            heap_type: HeapType::Abstract {
+                shared: false,
+                ty: AbstractHeapType::Eq,
+            },
+        },
+    },
     Instruction::StructNewDesc(300),
     Instruction::StructNewDefaultDesc(300),
     Instruction::RefGetDesc(300),
     Instruction::RefCastDescEqNonNull(HeapType::Concrete(64)),
     Instruction::RefCastDescEqNullable(HeapType::Concrete(64)),
-    Instruction::BrOnCastDescEq { relative_depth: 1, from_ref_type: RefType { nullable: true, heap_type: HeapType::Abstract { shared: false, ty: AbstractHeapType::Any } }, to_ref_type: RefType { nullable: false, heap_type: HeapType::Abstract { shared: false, ty: AbstractHeapType::Eq } } },
-    Instruction::BrOnCastDescEqFail { relative_depth: 1, from_ref_type: RefType { nullable: true, heap_type: HeapType::Abstract { shared: false, ty: AbstractHeapType::Any } }, to_ref_type: RefType { nullable: false, heap_type: HeapType::Abstract { shared: false, ty: AbstractHeapType::Eq } } },
-    Instruction::MemoryInit { data_index: 1, mem: 300 },
+    Instruction::BrOnCastDescEq {
+        relative_depth: 1,
+        from_ref_type: RefType {
+            nullable: true,
+            heap_type: HeapType::Abstract {
+                shared: false,
+                ty: AbstractHeapType::Any,
+            },
+        },
+        to_ref_type: RefType {
+            nullable: false,
+            heap_type: HeapType::Abstract {
+                shared: false,
+                ty: AbstractHeapType::Eq,
+            },
+        },
+    },
+    Instruction::BrOnCastDescEqFail {
+        relative_depth: 1,
+        from_ref_type: RefType {
+            nullable: true,
+            heap_type: HeapType::Abstract {
+                shared: false,
+                ty: AbstractHeapType::Any,
+            },
+        },
+        to_ref_type: RefType {
+            nullable: false,
+            heap_type: HeapType::Abstract {
+                shared: false,
+                ty: AbstractHeapType::Eq,
+            },
+        },
+    },
+    Instruction::MemoryInit {
+        data_index: 1,
+        mem: 300,
+    },
     Instruction::DataDrop(300),
-    Instruction::MemoryCopy { dst_mem: 1, src_mem: 300 },
+    Instruction::MemoryCopy {
+        dst_mem: 1,
+        src_mem: 300,
+    },
     Instruction::MemoryFill(300),
-    Instruction::TableInit { elem_index: 1, table: 300 },
+    Instruction::TableInit {
+        elem_index: 1,
+        table: 300,
+    },
     Instruction::ElemDrop(300),
-    Instruction::TableCopy { dst_table: 1, src_table: 300 },
+    Instruction::TableCopy {
+        dst_table: 1,
+        src_table: 300,
+    },
     Instruction::TableGrow(300),
     Instruction::TableSize(300),
     Instruction::TableFill(300),
@@ -535,14 +681,38 @@ pub static VECTOR_IMMEDIATES: [VectorImmediate; 38] = [
     VectorImmediate::F32x4ReplaceLane(3),
     VectorImmediate::F64x2ExtractLane(3),
     VectorImmediate::F64x2ReplaceLane(3),
-    VectorImmediate::V128Load8Lane { memarg: MEMARG, lane: 3 },
-    VectorImmediate::V128Load16Lane { memarg: MEMARG, lane: 3 },
-    VectorImmediate::V128Load32Lane { memarg: MEMARG, lane: 3 },
-    VectorImmediate::V128Load64Lane { memarg: MEMARG, lane: 3 },
-    VectorImmediate::V128Store8Lane { memarg: MEMARG, lane: 3 },
-    VectorImmediate::V128Store16Lane { memarg: MEMARG, lane: 3 },
-    VectorImmediate::V128Store32Lane { memarg: MEMARG, lane: 3 },
-    VectorImmediate::V128Store64Lane { memarg: MEMARG, lane: 3 },
+    VectorImmediate::V128Load8Lane {
+        memarg: MEMARG,
+        lane: 3,
+    },
+    VectorImmediate::V128Load16Lane {
+        memarg: MEMARG,
+        lane: 3,
+    },
+    VectorImmediate::V128Load32Lane {
+        memarg: MEMARG,
+        lane: 3,
+    },
+    VectorImmediate::V128Load64Lane {
+        memarg: MEMARG,
+        lane: 3,
+    },
+    VectorImmediate::V128Store8Lane {
+        memarg: MEMARG,
+        lane: 3,
+    },
+    VectorImmediate::V128Store16Lane {
+        memarg: MEMARG,
+        lane: 3,
+    },
+    VectorImmediate::V128Store32Lane {
+        memarg: MEMARG,
+        lane: 3,
+    },
+    VectorImmediate::V128Store64Lane {
+        memarg: MEMARG,
+        lane: 3,
+    },
     VectorImmediate::V128Load32Zero(MEMARG),
     VectorImmediate::V128Load64Zero(MEMARG),
 ];
@@ -616,47 +786,163 @@ pub static ATOMICS: [Atomic; 104] = [
     Atomic::I64AtomicRmw8CmpxchgU(MEMARG),
     Atomic::I64AtomicRmw16CmpxchgU(MEMARG),
     Atomic::I64AtomicRmw32CmpxchgU(MEMARG),
-    Atomic::GlobalAtomicGet { ordering: Ordering::AcqRel, global_index: 300 },
-    Atomic::GlobalAtomicSet { ordering: Ordering::AcqRel, global_index: 300 },
-    Atomic::GlobalAtomicRmwAdd { ordering: Ordering::AcqRel, global_index: 300 },
-    Atomic::GlobalAtomicRmwSub { ordering: Ordering::AcqRel, global_index: 300 },
-    Atomic::GlobalAtomicRmwAnd { ordering: Ordering::AcqRel, global_index: 300 },
-    Atomic::GlobalAtomicRmwOr { ordering: Ordering::AcqRel, global_index: 300 },
-    Atomic::GlobalAtomicRmwXor { ordering: Ordering::AcqRel, global_index: 300 },
-    Atomic::GlobalAtomicRmwXchg { ordering: Ordering::AcqRel, global_index: 300 },
-    Atomic::GlobalAtomicRmwCmpxchg { ordering: Ordering::AcqRel, global_index: 300 },
-    Atomic::TableAtomicGet { ordering: Ordering::AcqRel, table_index: 300 },
-    Atomic::TableAtomicSet { ordering: Ordering::AcqRel, table_index: 300 },
-    Atomic::TableAtomicRmwXchg { ordering: Ordering::AcqRel, table_index: 300 },
-    Atomic::TableAtomicRmwCmpxchg { ordering: Ordering::AcqRel, table_index: 300 },
-    Atomic::StructAtomicGet { ordering: Ordering::AcqRel, struct_type_index: 1, field_index: 300 },
-    Atomic::StructAtomicGetS { ordering: Ordering::AcqRel, struct_type_index: 1, field_index: 300 },
-    Atomic::StructAtomicGetU { ordering: Ordering::AcqRel, struct_type_index: 1, field_index: 300 },
-    Atomic::StructAtomicSet { ordering: Ordering::AcqRel, struct_type_index: 1, field_index: 300 },
-    Atomic::StructAtomicRmwAdd { ordering: Ordering::AcqRel, struct_type_index: 1, field_index: 300 },
-    Atomic::StructAtomicRmwSub { ordering: Ordering::AcqRel, struct_type_index: 1, field_index: 300 },
-    Atomic::StructAtomicRmwAnd { ordering: Ordering::AcqRel, struct_type_index: 1, field_index: 300 },
-    Atomic::StructAtomicRmwOr { ordering: Ordering::AcqRel, struct_type_index: 1, field_index: 300 },
-    Atomic::StructAtomicRmwXor { ordering: Ordering::AcqRel, struct_type_index: 1, field_index: 300 },
-    Atomic::StructAtomicRmwXchg { ordering: Ordering::AcqRel, struct_type_index: 1, field_index: 300 },
-    Atomic::StructAtomicRmwCmpxchg { ordering: Ordering::AcqRel, struct_type_index: 1, field_index: 300 },
-    Atomic::ArrayAtomicGet { ordering: Ordering::AcqRel, array_type_index: 300 },
-    Atomic::ArrayAtomicGetS { ordering: Ordering::AcqRel, array_type_index: 300 },
-    Atomic::ArrayAtomicGetU { ordering: Ordering::AcqRel, array_type_index: 300 },
-    Atomic::ArrayAtomicSet { ordering: Ordering::AcqRel, array_type_index: 300 },
-    Atomic::ArrayAtomicRmwAdd { ordering: Ordering::AcqRel, array_type_index: 300 },
-    Atomic::ArrayAtomicRmwSub { ordering: Ordering::AcqRel, array_type_index: 300 },
-    Atomic::ArrayAtomicRmwAnd { ordering: Ordering::AcqRel, array_type_index: 300 },
-    Atomic::ArrayAtomicRmwOr { ordering: Ordering::AcqRel, array_type_index: 300 },
-    Atomic::ArrayAtomicRmwXor { ordering: Ordering::AcqRel, array_type_index: 300 },
-    Atomic::ArrayAtomicRmwXchg { ordering: Ordering::AcqRel, array_type_index: 300 },
-    Atomic::ArrayAtomicRmwCmpxchg { ordering: Ordering::AcqRel, array_type_index: 300 },
+    Atomic::GlobalAtomicGet {
+        ordering: Ordering::AcqRel,
+        global_index: 300,
+    },
+    Atomic::GlobalAtomicSet {
+        ordering: Ordering::AcqRel,
+        global_index: 300,
+    },
+    Atomic::GlobalAtomicRmwAdd {
+        ordering: Ordering::AcqRel,
+        global_index: 300,
+    },
+    Atomic::GlobalAtomicRmwSub {
+        ordering: Ordering::AcqRel,
+        global_index: 300,
+    },
+    Atomic::GlobalAtomicRmwAnd {
+        ordering: Ordering::AcqRel,
+        global_index: 300,
+    },
+    Atomic::GlobalAtomicRmwOr {
+        ordering: Ordering::AcqRel,
+        global_index: 300,
+    },
+    Atomic::GlobalAtomicRmwXor {
+        ordering: Ordering::AcqRel,
+        global_index: 300,
+    },
+    Atomic::GlobalAtomicRmwXchg {
+        ordering: Ordering::AcqRel,
+        global_index: 300,
+    },
+    Atomic::GlobalAtomicRmwCmpxchg {
+        ordering: Ordering::AcqRel,
+        global_index: 300,
+    },
+    Atomic::TableAtomicGet {
+        ordering: Ordering::AcqRel,
+        table_index: 300,
+    },
+    Atomic::TableAtomicSet {
+        ordering: Ordering::AcqRel,
+        table_index: 300,
+    },
+    Atomic::TableAtomicRmwXchg {
+        ordering: Ordering::AcqRel,
+        table_index: 300,
+    },
+    Atomic::TableAtomicRmwCmpxchg {
+        ordering: Ordering::AcqRel,
+        table_index: 300,
+    },
+    Atomic::StructAtomicGet {
+        ordering: Ordering::AcqRel,
+        struct_type_index: 1,
+        field_index: 300,
+    },
+    Atomic::StructAtomicGetS {
+        ordering: Ordering::AcqRel,
+        struct_type_index: 1,
+        field_index: 300,
+    },
+    Atomic::StructAtomicGetU {
+        ordering: Ordering::AcqRel,
+        struct_type_index: 1,
+        field_index: 300,
+    },
+    Atomic::StructAtomicSet {
+        ordering: Ordering::AcqRel,
+        struct_type_index: 1,
+        field_index: 300,
+    },
+    Atomic::StructAtomicRmwAdd {
+        ordering: Ordering::AcqRel,
+        struct_type_index: 1,
+        field_index: 300,
+    },
+    Atomic::StructAtomicRmwSub {
+        ordering: Ordering::AcqRel,
+        struct_type_index: 1,
+        field_index: 300,
+    },
+    Atomic::StructAtomicRmwAnd {
+        ordering: Ordering::AcqRel,
+        struct_type_index: 1,
+        field_index: 300,
+    },
+    Atomic::StructAtomicRmwOr {
+        ordering: Ordering::AcqRel,
+        struct_type_index: 1,
+        field_index: 300,
+    },
+    Atomic::StructAtomicRmwXor {
+        ordering: Ordering::AcqRel,
+        struct_type_index: 1,
+        field_index: 300,
+    },
+    Atomic::StructAtomicRmwXchg {
+        ordering: Ordering::AcqRel,
+        struct_type_index: 1,
+        field_index: 300,
+    },
+    Atomic::StructAtomicRmwCmpxchg {
+        ordering: Ordering::AcqRel,
+        struct_type_index: 1,
+        field_index: 300,
+    },
+    Atomic::ArrayAtomicGet {
+        ordering: Ordering::AcqRel,
+        array_type_index: 300,
+    },
+    Atomic::ArrayAtomicGetS {
+        ordering: Ordering::AcqRel,
+        array_type_index: 300,
+    },
+    Atomic::ArrayAtomicGetU {
+        ordering: Ordering::AcqRel,
+        array_type_index: 300,
+    },
+    Atomic::ArrayAtomicSet {
+        ordering: Ordering::AcqRel,
+        array_type_index: 300,
+    },
+    Atomic::ArrayAtomicRmwAdd {
+        ordering: Ordering::AcqRel,
+        array_type_index: 300,
+    },
+    Atomic::ArrayAtomicRmwSub {
+        ordering: Ordering::AcqRel,
+        array_type_index: 300,
+    },
+    Atomic::ArrayAtomicRmwAnd {
+        ordering: Ordering::AcqRel,
+        array_type_index: 300,
+    },
+    Atomic::ArrayAtomicRmwOr {
+        ordering: Ordering::AcqRel,
+        array_type_index: 300,
+    },
+    Atomic::ArrayAtomicRmwXor {
+        ordering: Ordering::AcqRel,
+        array_type_index: 300,
+    },
+    Atomic::ArrayAtomicRmwXchg {
+        ordering: Ordering::AcqRel,
+        array_type_index: 300,
+    },
+    Atomic::ArrayAtomicRmwCmpxchg {
+        ordering: Ordering::AcqRel,
+        array_type_index: 300,
+    },
     Atomic::RefI31Shared,
 ];
 
 pub fn floats() -> [Instruction<'static>; 2] {
     [
-    Instruction::F32Const(Ieee32::new(1065353216)),
-    Instruction::F64Const(Ieee64::new(4607182418800017408)),
+        Instruction::F32Const(Ieee32::new(1065353216)),
+        Instruction::F64Const(Ieee64::new(4607182418800017408)),
     ]
 }

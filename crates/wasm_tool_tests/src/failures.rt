@@ -9,7 +9,12 @@ use wasm_tool::{RecipeCause, assemble, run};
 const MOST: u64 = 100;
 
 /// `run` without arguments.
-fn run_text<A: Allocator + Copy, O: Write, E: Write>(alloc: A, text: &str, out: &mut O, err: &mut E) -> u8 {
+fn run_text<A: Allocator + Copy, O: Write, E: Write>(
+    alloc: A,
+    text: &str,
+    out: &mut O,
+    err: &mut E,
+) -> u8 {
     run(alloc, &[], &mut text.as_bytes(), out, err)
 }
 
