@@ -145,6 +145,10 @@ def constant(enum):
     return re.sub(r"(?<!^)([A-Z])", r"_\1", enum).upper() + "S"
 
 
+# So many instructions stand in one constant: a function that uses a longer one is proved slowly.
+STEP = 12
+
+
 def write(groups, folder):
     note = "// Written by tools/instruction_rows.py from the opcode table: do not edit.\n"
     order = ["Instruction", "Numeric", "Aggregate", "PrefixedNumeric", "Vector", "VectorImmediate", "Atomic"]
@@ -159,7 +163,10 @@ def write(groups, folder):
         rows += "".join('    "%s", // %s\n' % ("".join("%02x" % b for b in bytes), name) for name, _, bytes in of) + "];\n"
         values = "".join("    %s,\n" % value for _, value, _ in of)
         if enum == "Instruction":
-            cases += "\npub const %s: &[Instruction<'static>] = &[\n%s];\n" % (constant(enum), values)
+            for start in range(0, len(of), STEP):
+                part = of[start : start + STEP]
+                values = "".join("    %s,\n" % value for _, value, _ in part)
+                cases += "\npub const FROM_%d: [Instruction<'static>; %d] = [\n%s];\n" % (start, len(part), values)
         elif enum == "Float":
             cases += "\npub fn floats() -> [Instruction<'static>; %d] {\n    [\n%s    ]\n}\n" % (len(of), values)
         else:

@@ -13,7 +13,7 @@ const MEMARG: MemArg = MemArg {
     ordering: None,
 };
 
-pub const INSTRUCTIONS: &[Instruction<'static>] = &[
+pub const FROM_0: [Instruction<'static>; 12] = [
     Instruction::Unreachable,
     Instruction::Nop,
     Instruction::Block(BlockType::FunctionType(64)),
@@ -26,6 +26,9 @@ pub const INSTRUCTIONS: &[Instruction<'static>] = &[
     Instruction::Rethrow(300),
     Instruction::ThrowRef,
     Instruction::End,
+];
+
+pub const FROM_12: [Instruction<'static>; 12] = [
     Instruction::Br(300),
     Instruction::BrIf(300),
     Instruction::BrTable(CowSlice::Borrowed(&[0, 300]), 5),
@@ -44,6 +47,9 @@ pub const INSTRUCTIONS: &[Instruction<'static>] = &[
     Instruction::ReturnCallRef(300),
     Instruction::Delegate(300),
     Instruction::CatchAll,
+];
+
+pub const FROM_24: [Instruction<'static>; 12] = [
     Instruction::Drop,
     Instruction::Select,
     Instruction::TypedSelect(ValType::I32),
@@ -59,6 +65,9 @@ pub const INSTRUCTIONS: &[Instruction<'static>] = &[
     Instruction::GlobalSet(300),
     Instruction::TableGet(300),
     Instruction::TableSet(300),
+];
+
+pub const FROM_36: [Instruction<'static>; 12] = [
     Instruction::I32Load(MEMARG),
     Instruction::I64Load(MEMARG),
     Instruction::F32Load(MEMARG),
@@ -71,6 +80,9 @@ pub const INSTRUCTIONS: &[Instruction<'static>] = &[
     Instruction::I64Load8U(MEMARG),
     Instruction::I64Load16S(MEMARG),
     Instruction::I64Load16U(MEMARG),
+];
+
+pub const FROM_48: [Instruction<'static>; 12] = [
     Instruction::I64Load32S(MEMARG),
     Instruction::I64Load32U(MEMARG),
     Instruction::I32Store(MEMARG),
@@ -83,6 +95,9 @@ pub const INSTRUCTIONS: &[Instruction<'static>] = &[
     Instruction::I64Store16(MEMARG),
     Instruction::I64Store32(MEMARG),
     Instruction::MemorySize(300),
+];
+
+pub const FROM_60: [Instruction<'static>; 12] = [
     Instruction::MemoryGrow(300),
     Instruction::I32Const(-123456),
     Instruction::I64Const(12345678901),
@@ -98,6 +113,9 @@ pub const INSTRUCTIONS: &[Instruction<'static>] = &[
         argument_index: 1,
         result_index: 300,
     },
+];
+
+pub const FROM_72: [Instruction<'static>; 12] = [
     Instruction::Suspend(300),
     Instruction::Resume {
         cont_type_index: 1,
@@ -144,6 +162,9 @@ pub const INSTRUCTIONS: &[Instruction<'static>] = &[
         field_index: 300,
     },
     Instruction::ArrayNew(300),
+];
+
+pub const FROM_84: [Instruction<'static>; 12] = [
     Instruction::ArrayNewDefault(300),
     Instruction::ArrayNewFixed {
         array_type_index: 1,
@@ -174,6 +195,9 @@ pub const INSTRUCTIONS: &[Instruction<'static>] = &[
         array_type_index: 1,
         array_elem_index: 300,
     },
+];
+
+pub const FROM_96: [Instruction<'static>; 12] = [
     Instruction::RefTestNonNull(HeapType::Concrete(64)),
     Instruction::RefTestNullable(HeapType::Concrete(64)),
     Instruction::RefCastNonNull(HeapType::Concrete(64)),
@@ -234,6 +258,9 @@ pub const INSTRUCTIONS: &[Instruction<'static>] = &[
             },
         },
     },
+];
+
+pub const FROM_108: [Instruction<'static>; 12] = [
     Instruction::BrOnCastDescEqFail {
         relative_depth: 1,
         from_ref_type: RefType {

@@ -56,8 +56,58 @@ fn check_all(
 }
 
 #[test]
-fn instructions(rt: HostRuntime) -> Result<(), Fail> {
-    check_all(&rt, rt.alloc(), cases::INSTRUCTIONS, &rows::INSTRUCTIONS)
+fn instructions_from_0(rt: HostRuntime) -> Result<(), Fail> {
+    check_all(&rt, rt.alloc(), &cases::FROM_0, &rows::INSTRUCTIONS[0..])
+}
+
+#[test]
+fn instructions_from_12(rt: HostRuntime) -> Result<(), Fail> {
+    check_all(&rt, rt.alloc(), &cases::FROM_12, &rows::INSTRUCTIONS[12..])
+}
+
+#[test]
+fn instructions_from_24(rt: HostRuntime) -> Result<(), Fail> {
+    check_all(&rt, rt.alloc(), &cases::FROM_24, &rows::INSTRUCTIONS[24..])
+}
+
+#[test]
+fn instructions_from_36(rt: HostRuntime) -> Result<(), Fail> {
+    check_all(&rt, rt.alloc(), &cases::FROM_36, &rows::INSTRUCTIONS[36..])
+}
+
+#[test]
+fn instructions_from_48(rt: HostRuntime) -> Result<(), Fail> {
+    check_all(&rt, rt.alloc(), &cases::FROM_48, &rows::INSTRUCTIONS[48..])
+}
+
+#[test]
+fn instructions_from_60(rt: HostRuntime) -> Result<(), Fail> {
+    check_all(&rt, rt.alloc(), &cases::FROM_60, &rows::INSTRUCTIONS[60..])
+}
+
+#[test]
+fn instructions_from_72(rt: HostRuntime) -> Result<(), Fail> {
+    check_all(&rt, rt.alloc(), &cases::FROM_72, &rows::INSTRUCTIONS[72..])
+}
+
+#[test]
+fn instructions_from_84(rt: HostRuntime) -> Result<(), Fail> {
+    check_all(&rt, rt.alloc(), &cases::FROM_84, &rows::INSTRUCTIONS[84..])
+}
+
+#[test]
+fn instructions_from_96(rt: HostRuntime) -> Result<(), Fail> {
+    check_all(&rt, rt.alloc(), &cases::FROM_96, &rows::INSTRUCTIONS[96..])
+}
+
+#[test]
+fn instructions_from_108(rt: HostRuntime) -> Result<(), Fail> {
+    check_all(
+        &rt,
+        rt.alloc(),
+        &cases::FROM_108,
+        &rows::INSTRUCTIONS[108..],
+    )
 }
 
 #[test]
