@@ -1,5 +1,5 @@
 -- The laws of the opcode table, and of instructions over it.
-use Rattle.std.proofs.Common.{◌≡◌, List, [], ◌∷◌, ◌++◌, Bool, true, false, ltb, not, ◌&&◌, refl}
+use Rattle.std.proofs.Common.{◌≡◌, [], ◌∷◌, Bool, true, ◌&&◌, refl}
 use Rattle.std.specs.List.{AllByRecursion}
 use Rattle.std.proofs.lemmas.Bool.{and_parts}
 use Rattle.wasm_base.specs.Numbers.{shortest}
@@ -9,8 +9,8 @@ use Rattle.wasm_insn.specs.declared.op.Op.{Op}
 use Rattle.wasm_insn.specs.declared.op.Op.TheVariants.{Byte, Prefixed}
 use Rattle.wasm_insn.specs.declared.instruction.Instruction.{Instruction}
 use Rattle.wasm_insn.specs.Immediates.{op_text}
-use Rattle.wasm_insn.specs.Plain.{Table, IsOpcode, IsPlain, opcode, instruction}
-use Rattle.wasm_insn.specs.Table.{table, IsTableOp, IsOpcodeTable, BeginsNoOther, IsRow}
+use Rattle.wasm_insn.specs.Plain.{Table, IsOpcode, IsPlain, instruction}
+use Rattle.wasm_insn.specs.Table.{table, IsTableOp, IsOpcodeTable, BeginsNoOther}
 use Rattle.wasm_insn.specs.Instructions.{row_of, IsPlainInstruction, ReadsInstruction, HaveOneText}
 use Rattle.wasm_insn.proofs.PlainLaws.{opcode-alone, opcode_spelled, instruction-alone, plain-alone, same_text, wide_immediates}
 use Rattle.wasm_insn.proofs.TableRows.{is_op, op_is, instruction_row}

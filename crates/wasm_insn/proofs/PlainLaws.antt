@@ -12,7 +12,6 @@ use Rattle.wasm_base.specs.declared.types.ValType.{ValType}
 use Rattle.wasm_base.proofs.FormatLaws.{IsInjective, TellsTag, same_pair, when-alone, mapped-alone, such-alone, fixed-alone, impossible-alone, tagged-alone, byte-alone, little_endian-alone, raw_bytes-alone, pair-alone, Then-alone, vec-alone}
 use Rattle.wasm_base.proofs.NumberLaws.{u32-alone}
 use Rattle.wasm_base.proofs.BaseLaws.{s32-alone, s64-alone, unique_wide}
-use Rattle.wasm_base.specs.Texts.{little_endian_text}
 use Rattle.wasm_base.proofs.TypeLaws.{val_bytes, heap-alone, val-alone, heap-texts, val-texts}
 use Rattle.wasm_base.proofs.TextLaws.{reads_alone, u32_spelled, u64_spelled, s32_spelled, s64_spelled, s33_spelled, little_endian_spelled, vec_spelled, tagged_spelled}
 use Rattle.wasm_insn.specs.declared.memory.Ordering.TheVariants.{AcqRel, SeqCst}

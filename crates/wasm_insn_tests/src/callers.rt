@@ -6,6 +6,7 @@ use wasm_base::R;
 use wasm_insn::{BlockType, Buffer, InstructionSink};
 
 /// The sum of two locals, in any buffer.
+#[tactic(auto, using(crate::proofs::OneByte::one_byte))]
 pub fn sum<B: Buffer>(sink: &mut InstructionSink<'_, B>) -> R<()>
     ensures same_reference { sink.new.sink.ghost_name ≡ sink.old.sink.ghost_name }
     ensures bytes { OnOk result (B.written sink.new.sink.now ≡ B.written sink.old.sink.now ++ 0x20 ∷ 0 ∷ 0x20 ∷ 1 ∷ 0x6A ∷ []) }
@@ -16,6 +17,7 @@ pub fn sum<B: Buffer>(sink: &mut InstructionSink<'_, B>) -> R<()>
 }
 
 /// The body of a function of two numbers.
+#[tactic(auto, using(crate::proofs::OneByte::one_byte))]
 pub fn append_sum<A: Allocator>(bytes: &mut Vec<u8, A>) -> R<()>
     ensures { OnOk result (bytes.new.items ≡ bytes.old.items ++ 0x20 ∷ 0 ∷ 0x20 ∷ 1 ∷ 0x6A ∷ 0x0B ∷ []) }
 {
@@ -25,6 +27,7 @@ pub fn append_sum<A: Allocator>(bytes: &mut Vec<u8, A>) -> R<()>
 }
 
 /// A block, in bytes of their own.
+#[tactic(auto, using(crate::proofs::OneByte::one_byte))]
 pub fn block<A: Allocator>(alloc: A) -> R<Vec<u8, A>>
     ensures { IfOk result (λ bytes. bytes.items ≡ 0x02 ∷ 0x40 ∷ 0x01 ∷ 0x0B ∷ []) }
 {
@@ -37,6 +40,7 @@ pub fn block<A: Allocator>(alloc: A) -> R<Vec<u8, A>>
 }
 
 /// A call that is refused leaves the bytes as they were.
+#[tactic(auto, using(crate::proofs::OneByte::one_byte))]
 pub fn append_end<A: Allocator>(bytes: &mut Vec<u8, A>) -> R<()>
     ensures ok { OnOk result (bytes.new.items ≡ bytes.old.items ++ 0x0B ∷ []) }
     ensures err { OnErr result (bytes.new.items ≡ bytes.old.items) }
@@ -45,6 +49,7 @@ pub fn append_end<A: Allocator>(bytes: &mut Vec<u8, A>) -> R<()>
 }
 
 /// The call through a table takes the index of the type and then that of the table.
+#[tactic(auto, using(crate::proofs::OneByte::one_byte))]
 pub fn append_call<A: Allocator>(bytes: &mut Vec<u8, A>) -> R<()>
     ensures { OnOk result (bytes.new.items ≡ bytes.old.items ++ 0x11 ∷ 1 ∷ 2 ∷ []) }
 {

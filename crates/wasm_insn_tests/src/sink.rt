@@ -75,7 +75,7 @@ fn call<B: Buffer>(sink: &mut InstructionSink<'_, B>, place: usize) -> R<()> {
         7 => sink.end(),
         8 => sink.br(1),
         9 => sink.br_if(300),
-        10 => sink.br_table([0, 1], 2),
+        10 => call_br_table(sink),
         11 => sink.return_(),
         12 => sink.call(5),
         13 => sink.call_indirect(2, 1),
@@ -83,6 +83,10 @@ fn call<B: Buffer>(sink: &mut InstructionSink<'_, B>, place: usize) -> R<()> {
         15 => sink.select(),
         _ => later_call(sink, place),
     }
+}
+
+fn call_br_table<B: Buffer>(sink: &mut InstructionSink<'_, B>) -> R<()> {
+    sink.br_table([0, 1], 2)
 }
 
 fn later_call<B: Buffer>(sink: &mut InstructionSink<'_, B>, place: usize) -> R<()> {
@@ -125,7 +129,8 @@ fn check(rt: &impl Abort, alloc: Global, place: usize, row: &str) -> Result<(), 
         let result = call(&mut InstructionSink::new(&mut bytes), place);
         if heap.is_waiting() {
             assert_eq!(rt; result, Ok(()));
-            assert_eq!(rt; hex::encode(alloc, &bytes[1..])?.as_str(), row);
+            let text = hex::encode(alloc, bytes.as_slice())?;
+            assert_eq!(rt; text.as_str().strip_prefix("07"), Some(row));
             return Ok(());
         }
         assert_eq!(rt; result, Err(Refused::Memory));
