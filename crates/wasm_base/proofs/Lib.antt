@@ -6,6 +6,7 @@ pub mod ModuleLaws
 pub mod BaseLaws
 pub mod TypeLaws
 pub mod Cut
+pub mod KnownLengths
 pub mod Members
 pub mod Outcomes
 pub mod Yielded

@@ -71,14 +71,17 @@ any_section-spelled section fits = record {
 
 pub module_text-spelled : (sections : List (ℕ × List ℕ)) → ModuleFits sections → wasm_module shortest (module_text sections) sections
 unfolding module_text
-module_text-spelled sections fits =
-    ((tt, sections), refl, record {
-      front = header;
-      back = flat_map any_section_text sections;
-      joined = refl;
-      first = (refl, refl);
-      second = members_spelled any_section AnySectionFits any_section_text any_section-spelled sections fits;
-    })
+module_text-spelled sections fits = (
+  (tt, sections),
+  refl,
+  record {
+    front = header;
+    back = flat_map any_section_text sections;
+    joined = refl;
+    first = (refl, refl);
+    second = members_spelled any_section AnySectionFits any_section_text any_section-spelled sections fits;
+  },
+)
 
 pub module_text-reads : (sections : List (ℕ × List ℕ)) → ModuleFits sections → ReadsWhole wasm_module (module_text sections) sections
 module_text-reads sections fits = reads_whole {F = wasm_module} module-whole (module_text-spelled sections fits)

@@ -1,8 +1,8 @@
 // What is wrong with a recipe, and where.
+ghost use Rattle.std.specs.Prelude.{◌≡◌};
+
 use thiserror::Error;
 use wasm_base::Refused;
-
-ghost use Rattle.std.specs.Prelude.{◌≡◌};
 
 /// Why a line of a recipe is refused.
 #[derive(Clone, Copy, PartialEq, Eq, Debug, Error)]

@@ -1,0 +1,24 @@
+-- How many items an iterator of std gives: as many as it told.
+use Rattle.std.proofs.Common.{◌≡◌, ℕ, suc, ◌+◌, List, [], ◌∷◌, length, ap, ◌∙◌, Option, Some, None, arith}
+use Rattle.std.specs.Array.Iter.{array_into_iter_items, array_steps}
+use Rattle.std.specs.Iterator.{Drains, Yields}
+use Rattle.std.specs.Vec.Iter.{into_iter_items, into_iter_len, into_iter_steps}
+use Rattle.std.specs.declared.array.IntoIter.{IntoIter}
+use Rattle.std.specs.declared.vec.IntoIter.{IntoIter as VecIter}
+
+module _ {S A : Type 0} (gives : S → Option A → S → Type 0) (left : S → ℕ)
+    (step : (s : S) (x : A) (t : S) → gives s (Some x) t → left s ≡ suc (left t)) (stop : (s t : S) → gives s None t → left s ≡ 0) where
+  yielded_length : (s : S) (xs : List A) (t : S) → Yields gives s xs t → left s ≡ length xs + left t
+  yielded_length s [] t y = ap left y ∙ omega arith
+  yielded_length s (x ∷ xs) t y = omega (arith, step s x y.0 y.1, yielded_length y.0 xs t y.2)
+
+  -- an iterator that counts what is left
+  pub drained_length : (s : S) (xs : List A) → Drains gives s xs → length xs ≡ left s
+  drained_length s xs d = omega (arith, yielded_length s xs d.1.0 d.1.1, stop d.1.0 d.0 d.1.2)
+
+-- an array, and a vector, by value
+pub drained_array : {A : Type 0} {n : ℕ} (it : IntoIter A n) (xs : List A) → Drains array_steps it xs → length xs ≡ length (array_into_iter_items it)
+drained_array = drained_length array_steps (λ s. length (array_into_iter_items s)) (λ s x t g. ap length g) (λ s t g. g.0)
+
+pub drained_vec : {A Z : Type 0} (it : VecIter A Z) (xs : List A) → Drains (into_iter_steps {X = A} {Z = Z}) it xs → length xs ≡ into_iter_len it
+drained_vec = drained_length into_iter_steps into_iter_len (λ s x t g. omega (arith, g.1)) (λ s t g. g.0)

@@ -1,0 +1,123 @@
+// What recipes give, with ample memory.
+use std::process::Abort;
+use std::test::Fail;
+use wasm_tool::{RecipeCause, RecipeFault, assemble, run};
+
+/// What the program answers and writes for a text.
+fn check_run(
+    rt: &(impl Abort + Alloc<A = std::alloc::Global>),
+    text: &str,
+    status: u8,
+    out_text: &str,
+    err_text: &str,
+) {
+    let mut out = Vec::new(rt.alloc());
+    let mut err = Vec::new(rt.alloc());
+    let answer = run(rt.alloc(), &[], &mut text.as_bytes(), &mut out, &mut err);
+    assert_eq!(rt; answer, status, "{text}");
+    assert_eq!(rt; out.as_slice(), out_text.as_bytes(), "{text}");
+    assert_eq!(rt; err.as_slice(), err_text.as_bytes(), "{text}");
+}
+
+#[test]
+fn modules(rt: HostRuntime) {
+    let cases = [
+        (
+            "body 200020016a0b",
+            "0061736d010000000a09010700200020016a0b\n",
+        ),
+        ("body 0b\nbody 0B", "0061736d010000000a070202000b02000b\n"),
+        ("", "0061736d01000000\n"),
+        ("type 600000", "0061736d01000000010401600000\n"),
+        (
+            "body 0b\r\n\n   type   600000 and more\r\n",
+            "0061736d010000000104016000000a040102000b\n",
+        ),
+    ];
+    for (text, line) in cases {
+        check_run(&rt, text, 0, line, "");
+    }
+}
+
+#[test]
+fn faults(rt: HostRuntime) {
+    let cases = [
+        ("body", "line 1: missing word\n"),
+        ("type ", "line 1: missing word\n"),
+        ("\nbody 0", "line 2: bad hex\n"),
+        ("type zz", "line 1: bad hex\n"),
+        ("bodies 0b", "line 1: unknown command\n"),
+        ("body 0b\n\n oops\nbody", "line 3: unknown command\n"),
+        ("\u{e9}", "line 1: unknown command\n"),
+    ];
+    for (text, message) in cases {
+        check_run(&rt, text, 1, "", message);
+    }
+}
+
+#[test]
+fn inputs_that_are_no_text(rt: HostRuntime) {
+    let mut out = Vec::new(rt.alloc());
+    let mut err = Vec::new(rt.alloc());
+    let bytes = [0xFFu8];
+    assert_eq!(rt;
+        run(rt.alloc(), &[], &mut bytes.as_slice(), &mut out, &mut err),
+        1
+    );
+    assert!(rt; out.is_empty());
+    assert_eq!(rt; err.as_slice(), b"input: not text\n".as_slice());
+}
+
+#[test]
+fn arguments(rt: HostRuntime) -> Result<(), Fail> {
+    for word in ["-x", "--read"] {
+        let args = [String::from_str(rt.alloc(), word)?];
+        let mut out = Vec::new(rt.alloc());
+        let mut err = Vec::new(rt.alloc());
+        let text: &str = "body 0b";
+        assert_eq!(rt;
+            run(rt.alloc(), &args, &mut text.as_bytes(), &mut out, &mut err),
+            2
+        );
+        assert!(rt; out.is_empty());
+        assert_eq!(rt; err.as_slice(), b"usage: wasmrow [--read]\n".as_slice());
+    }
+    Ok(())
+}
+
+#[test]
+fn modules_as_bytes(rt: HostRuntime) -> Result<(), Fail> {
+    let bytes = assemble(rt.alloc(), "body 0b").ok().ok_or("no module")?;
+    assert_eq!(rt;
+        bytes.as_slice(),
+        b"\0asm\x01\0\0\0\x0A\x04\x01\x02\0\x0B".as_slice()
+    );
+    let fault = assemble(rt.alloc(), "body 0b\nbody x")
+        .err()
+        .ok_or("no fault")?;
+    assert_eq!(rt;
+        fault,
+        RecipeFault {
+            line: 2,
+            cause: RecipeCause::BadHex
+        }
+    );
+    Ok(())
+}
+
+#[test]
+fn texts_of_faults(rt: HostRuntime) -> Result<(), Fail> {
+    let cases = [
+        (RecipeCause::UnknownCommand, "line 7: unknown command"),
+        (RecipeCause::BadNumber, "line 7: bad number"),
+        (RecipeCause::BadHex, "line 7: bad hex"),
+        (RecipeCause::MissingWord, "line 7: missing word"),
+        (RecipeCause::Memory, "line 7: out of memory"),
+        (RecipeCause::TooLong, "line 7: too long"),
+    ];
+    for (cause, text) in cases {
+        let shown = format!(in rt.alloc(); "{}", RecipeFault { line: 7, cause })?;
+        assert_eq!(rt; shown.as_str(), text);
+    }
+    Ok(())
+}
