@@ -1,6 +1,6 @@
 // Requests for memory that are refused, and reads and writes that fail in mid-stream.
 use std::alloc::Allocator;
-use std::io::Write;
+use std::io::{Read, Write};
 use std::test::Fail;
 use test_support::{EndlessReader, FailingReader, FailingWriter, Refusing};
 use wasm_tool::{RecipeCause, assemble, run};
@@ -9,13 +9,13 @@ use wasm_tool::{RecipeCause, assemble, run};
 const MOST: u64 = 100;
 
 /// `run` without arguments.
-fn run_text<A: Allocator + Copy, O: Write, E: Write>(
-    alloc: A,
-    text: &str,
+fn run_on<H: Allocator, I: Read, O: Write, E: Write>(
+    heap: &Refusing<H>,
+    input: &mut I,
     out: &mut O,
     err: &mut E,
 ) -> u8 {
-    run(alloc, &[], &mut text.as_bytes(), out, err)
+    run(heap, &[], input, out, err)
 }
 
 #[test]
@@ -49,12 +49,13 @@ fn each_request_refused(rt: HostRuntime) {
 
 #[test]
 fn each_request_of_the_program_refused(rt: HostRuntime) {
+    let text: &str = "body 0b";
     let heap = Refusing::new(rt.alloc());
     for nth in 1..MOST {
         let mut out = FailingWriter::new(rt.alloc(), 0);
         let mut err = FailingWriter::new(rt.alloc(), 0);
         heap.refuse(nth);
-        let status = run_text(&heap, "body 0b", &mut out, &mut err);
+        let status = run_on(&heap, &mut text.as_bytes(), &mut out, &mut err);
         if heap.is_waiting() {
             assert_eq!(rt; status, 0);
             assert_eq!(rt; out.bytes(), b"0061736d010000000a040102000b\n".as_slice());
