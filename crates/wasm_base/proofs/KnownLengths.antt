@@ -2,7 +2,7 @@
 use Rattle.std.proofs.Common.{◌≡◌, ℕ, suc, ◌+◌, List, [], ◌∷◌, length, ap, ◌∙◌, Option, Some, None, arith}
 use Rattle.std.specs.Array.Iter.{array_into_iter_items, array_steps}
 use Rattle.std.specs.Iterator.{Drains, Yields}
-use Rattle.std.specs.Vec.Iter.{into_iter_items, into_iter_len, into_iter_steps}
+use Rattle.std.specs.Vec.Iter.{into_iter_len, into_iter_steps}
 use Rattle.std.specs.declared.array.IntoIter.{IntoIter}
 use Rattle.std.specs.declared.vec.IntoIter.{IntoIter as VecIter}
 

@@ -2,6 +2,7 @@ pub mod NumberLaws
 pub mod FormatLaws
 pub mod NumberTexts
 pub mod TextLaws
+pub mod EntryLaws
 pub mod ModuleLaws
 pub mod BaseLaws
 pub mod TypeLaws

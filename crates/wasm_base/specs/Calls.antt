@@ -1,5 +1,5 @@
 -- What calls do: that append to a buffer, and that add to a builder.
-use Rattle.std.specs.Prelude.{◌≡◌, ◌≢◌, ℕ, ◌+◌, ◌<◌, ◌≤◌, List, [], ◌∷◌, ◌++◌, length, vec_len, vec_capacity, Result, Err, OnOk, OnErr, IsOk}
+use Rattle.std.specs.Prelude.{◌≡◌, ◌≢◌, ℕ, ◌+◌, ◌<◌, ◌≤◌, List, [], ◌∷◌, ◌++◌, All, length, map, take, slice_get, vec_len, vec_capacity, Result, Err, OnOk, OnErr, IfErr, IfSome, IsOk}
 use Rattle.std.specs.declared.vec.Vec.{Vec}
 use Rattle.wasm_base.specs.Formats.{Format, wasm_module}
 use Rattle.wasm_base.specs.Reading.{ReadsAlone, ReadsWhole}
@@ -23,6 +23,18 @@ pub record Adds (text : List ℕ) (fits : Type 0) (old new : List (List ℕ)) (r
   pub fitted : OnOk result fits
   pub counted : OnOk result (length old < longest)
   pub too_long : fits → length old < longest → result ≢ Err TooLong
+
+-- The builder gains an entry for each of these items, in order.
+pub record AddsEach {T : Type 0} (text : T → List ℕ) (Fits : T → Type 0) (items : List T) (old new : List (List ℕ)) : Type 0 where
+  pub is : new ≡ old ++ map text items
+  pub fitted : All Fits items
+  pub counted : 0 < length items → length new ≤ longest
+
+-- The builder gains all items, or as many as the answer says, and the next of them is refused.
+pub record AddsAll {T : Type 0} (text : T → List ℕ) (Fits : T → Type 0) (items : List T) (old new : List (List ℕ)) (result : Result (Unit {0}) (ℕ × Refused)) : Type 0 where
+  pub ok : OnOk result (AddsEach text Fits items old new)
+  pub err : IfErr result (λ stopped. (stopped.0 < length items) × AddsEach text Fits (take stopped.0 items) old new)
+  pub too_long : IfErr result (λ stopped. stopped.1 ≡ TooLong → IfSome (slice_get items stopped.0) (λ item. Fits item → longest ≤ length new))
 
 -- The headline: whatever items the section says, its text is read as these alone.
 pub record ReadsBack {Items : Type 0} (F : Format Items) (Says : Items → Type 0) (text : List ℕ) : Type 0 where

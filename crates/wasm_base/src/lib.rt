@@ -4,6 +4,7 @@
 //! `specs/Formats.antt`, what a call appends in `specs/Calls.antt`, and [`laws`] says that bytes are read in one way.
 #![tactic(auto)]
 
+mod counted;
 mod cow;
 mod encode;
 mod fixed;
@@ -19,6 +20,7 @@ mod tuples;
 mod types;
 mod vectors;
 
+pub use counted::{Counted, add_all};
 pub use cow::{CowSlice, CowStr};
 pub use encode::Encode;
 pub use frames::{begin_frame, encode_frame, encode_section};

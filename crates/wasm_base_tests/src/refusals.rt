@@ -234,9 +234,9 @@ fn pieces(rt: HostRuntime) -> Result<(), Fail> {
 fn functions_and_code(rt: HostRuntime) -> Result<(), Fail> {
     let heap = Refusing::new(rt.alloc());
     heap.refuse(1);
-    assert_eq!(rt; Function::new(&heap).err(), Some(Refused::Memory));
+    assert_eq!(rt; Function::new(&heap, []).err(), Some(Refused::Memory));
     for nth in 1..MOST {
-        let mut function = Function::new(&heap)?;
+        let mut function = Function::new(&heap, [])?;
         heap.refuse(nth);
         let result = function.raw([0x41, 0x00, 0x1A, 0x41, 0x00, 0x1A, 0x41, 0x00, 0x1A, 0x0B]);
         if heap.is_waiting() {

@@ -193,7 +193,7 @@ fn modules(rt: HostRuntime) -> Result<(), Fail> {
 
 #[test]
 fn functions(rt: HostRuntime) -> Result<(), Fail> {
-    let mut function = Function::new(rt.alloc())?;
+    let mut function = Function::new(rt.alloc(), [])?;
     assert_eq!(rt; function.byte_len(), 1);
     function.raw([0x0B])?;
     assert_eq!(rt; function.byte_len(), 2);

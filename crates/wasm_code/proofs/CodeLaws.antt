@@ -1,36 +1,75 @@
--- A code section is read as its raw bodies alone.
+-- A code section is read as its raw bodies alone, and as the bodies that they spell.
 use Rattle.std.proofs.Common.{ℕ, ◌≤◌, List, [], ◌∷◌, length, map, refl, sym, subst, arith, length-append}
 use Rattle.std.specs.List.{AllZip}
 use Rattle.wasm_base.specs.Numbers.{shortest, unsigned_text}
-use Rattle.wasm_base.specs.Formats.{any_bytes, frame}
-use Rattle.wasm_base.specs.Reading.{ReadsAlone, UniqueReading}
+use Rattle.wasm_base.specs.Formats.{Format, any_bytes, frame, vec}
+use Rattle.wasm_base.specs.Reading.{ReadsAlone, UniqueReading, IsUniqueWide, IsUniqueWholeWide}
 use Rattle.wasm_base.specs.Texts.{longest, frame_text}
 use Rattle.wasm_base.specs.Pieces.{joined, section_text, SectionFits}
-use Rattle.wasm_base.specs.Calls.{ReadsBack}
-use Rattle.wasm_base.proofs.BaseLaws.{frame-bytes-alone}
+use Rattle.wasm_base.proofs.BaseLaws.{frame-bytes-alone, unique_wide, unique_whole_wide}
 use Rattle.wasm_base.proofs.FormatLaws.{vec-alone, frame-alone, whole_from_alone}
 use Rattle.wasm_base.proofs.TextLaws.{frame_spelled, section_alone}
-use Rattle.wasm_code.specs.Code.{raw_code, HoldsBodies}
+use Rattle.wasm_code.specs.Expressions.{expression}
+use Rattle.wasm_code.specs.Bodies.{body}
+use Rattle.wasm_code.specs.Code.{raw_code, code_section, HoldsBodies, ReadsCode}
+use Rattle.wasm_code.proofs.ExpressionLaws.{expression-alone}
+use Rattle.wasm_code.proofs.BodyLaws.{body-whole, frame-body-alone}
 
 pub raw_code-alone : UniqueReading raw_code
 raw_code-alone = frame-alone (whole_from_alone (vec-alone frame-bytes-alone))
 
--- Each frame of a content that fits spells its body.
-frames_spelled : (bodies : List (List ℕ)) → length (joined (map frame_text bodies)) ≤ longest → AllZip (frame any_bytes shortest) (map frame_text bodies) bodies
-frames_spelled [] h = tt
-frames_spelled (body ∷ bodies) h =
-    let rest = joined (map frame_text bodies) in
-    let whole = length-append (frame_text body) rest in
-    let framed = length-append (unsigned_text (length body)) body in
-    (frame_spelled any_bytes body body (omega (arith, h, whole, framed)) refl, frames_spelled bodies (omega (arith, h, whole)))
+pub code_section-alone : UniqueReading code_section
+code_section-alone = frame-alone (whole_from_alone (vec-alone frame-body-alone))
+
+-- Each frame of a content that fits spells what its bytes spell.
+frames_spelled : {X : Type 0} (F : Format X) (raw : List (List ℕ)) (xs : List X) → length (joined (map frame_text raw)) ≤ longest → AllZip (F shortest) raw xs → AllZip (frame F shortest) (map frame_text raw) xs
+frames_spelled F [] [] h g = tt
+frames_spelled F [] (x ∷ xs) h g = absurd g
+frames_spelled F (bytes ∷ raw) [] h g = absurd g
+frames_spelled F (bytes ∷ raw) (x ∷ xs) h g =
+    let rest = joined (map frame_text raw) in
+    let whole = length-append (frame_text bytes) rest in
+    let framed = length-append (unsigned_text (length bytes)) bytes in
+    (frame_spelled F bytes x (omega (arith, h, whole, framed)) g.0, frames_spelled F raw xs (omega (arith, h, whole)) g.1)
 
 content_fits : (pieces : List (List ℕ)) → SectionFits pieces → length (joined pieces) ≤ longest
 content_fits pieces fits = omega (arith, fits.size, length-append (unsigned_text (length pieces)) (joined pieces))
 
-pub bodies_alone : (pieces : List (List ℕ)) → SectionFits pieces → ReadsBack raw_code (HoldsBodies pieces) (section_text pieces)
-bodies_alone pieces fits = record {
-  for_each = λ bodies e.
-      subst (λ ps. ReadsAlone raw_code (section_text ps) bodies) (sym e)
-      (let fits = subst SectionFits e fits in
-      section_alone raw_code-alone (map frame_text bodies) bodies fits (frames_spelled bodies (content_fits (map frame_text bodies) fits)));
+-- A section of framed pieces is read as what these spell.
+framed_alone : {X : Type 0} (F : Format X) → UniqueReading (frame (vec (frame F))) → (entries raw : List (List ℕ)) (xs : List X) → HoldsBodies entries raw → SectionFits entries → AllZip (F shortest) raw xs
+    → ReadsAlone (frame (vec (frame F))) (section_text entries) xs
+framed_alone F alone entries raw xs e fits spelled =
+    subst (λ ps. ReadsAlone (frame (vec (frame F))) (section_text ps) xs) (sym e)
+    (let fits = subst SectionFits e fits in
+    section_alone {F = frame F} alone (map frame_text raw) xs fits (frames_spelled F raw xs (content_fits (map frame_text raw) fits) spelled))
+
+same_bytes : (raw : List (List ℕ)) → AllZip (any_bytes shortest) raw raw
+same_bytes [] = tt
+same_bytes (bytes ∷ raw) = (refl, same_bytes raw)
+
+pub code_reads : (entries : List (List ℕ)) → SectionFits entries → ReadsCode entries (section_text entries)
+code_reads entries fits = record {
+  raw = record { for_each = λ raw e. framed_alone any_bytes raw_code-alone entries raw raw e fits (same_bytes raw) };
+  bodies = record { for_each = λ xs h. framed_alone body code_section-alone entries h.raw xs h.held fits h.spelled };
 }
+
+pub ruleset bodies = (body-whole, frame-body-alone, raw_code-alone, code_section-alone)
+
+-- ---- padded numbers
+
+pub wide-expression : IsUniqueWide expression
+wide-expression = unique_wide expression-alone
+
+pub wide-body : IsUniqueWholeWide body
+wide-body = unique_whole_wide body-whole
+
+pub wide-frame : IsUniqueWide (frame body)
+wide-frame = unique_wide frame-body-alone
+
+pub wide-raw_code : IsUniqueWide raw_code
+wide-raw_code = unique_wide raw_code-alone
+
+pub wide-code_section : IsUniqueWide code_section
+wide-code_section = unique_wide code_section-alone
+
+pub ruleset wide_laws = (wide-expression, wide-body, wide-frame, wide-raw_code, wide-code_section)

@@ -1,12 +1,30 @@
 -- The code section.
 use Rattle.std.specs.Prelude.{◌≡◌, ℕ, List, map}
+use Rattle.std.specs.List.{AllZip}
+use Rattle.wasm_base.specs.Calls.{ReadsBack}
 use Rattle.wasm_base.specs.Formats.{Format, any_bytes, frame, vec}
 use Rattle.wasm_base.specs.Texts.{frame_text}
+use Rattle.wasm_code.specs.Bodies.{Body, body, IsPlainBody}
 
 -- a code section at the level of raw bodies: a frame of a vector of frames
 abbrev pub raw_code : Format (List (List ℕ))
 raw_code = frame (vec (frame any_bytes))
 
+-- code section: a frame of a vector of frames of bodies
+abbrev pub code_section : Format (List Body)
+code_section = frame (vec (frame body))
+
 -- The entries are the frames of these raw bodies.
 abbrev pub HoldsBodies : List (List ℕ) → List (List ℕ) → Type 0
 HoldsBodies entries bodies = entries ≡ map frame_text bodies
+
+-- plain: The entries are the frames of raw bodies that spell these bodies.
+pub record SpellsBodies (entries : List (List ℕ)) (bodies : List Body) : Type 0 where
+  pub raw : List (List ℕ)
+  pub held : HoldsBodies entries raw
+  pub spelled : AllZip IsPlainBody raw bodies
+
+-- The headline: the text is read as the raw bodies alone, and where they spell bodies, as these alone.
+pub record ReadsCode (entries : List (List ℕ)) (text : List ℕ) : Type 0 where
+  pub raw : ReadsBack raw_code (HoldsBodies entries) text
+  pub bodies : ReadsBack code_section (SpellsBodies entries) text

@@ -1,1 +1,4 @@
+pub mod Expressions
+pub mod Bodies
 pub mod Code
+pub mod Laws

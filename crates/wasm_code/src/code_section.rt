@@ -1,12 +1,14 @@
 // The code section.
 ghost use Rattle.std.specs.Prelude.{◌≡◌, ◌≢◌, ℕ, List, [], length, IfOk, IsTrue, ◌↔◌, slice_get};
 ghost use Rattle.std.specs.Option.{option_copied};
-ghost use Rattle.wasm_base.specs.Calls.{Adds, ReadsBack};
+ghost use Rattle.wasm_base.specs.Calls.{Adds};
 ghost use Rattle.wasm_base.specs.Pieces.{joined, section_text, SectionFits};
 ghost use Rattle.wasm_base.specs.Texts.{frame_text, FrameFits};
 ghost use Rattle.wasm_base.specs.declared.refused.Refused.TheVariants.{TooLong};
-ghost use Rattle.wasm_code.specs.Code.{raw_code, HoldsBodies};
+ghost use Rattle.wasm_code.specs.Bodies.{Body};
+ghost use Rattle.wasm_code.specs.Code.{code_section, SpellsBodies, ReadsCode};
 
+use crate::function::Function;
 use std::alloc::{Allocator, Global};
 use std::marker::Model;
 use wasm_base::{Encode, Pieces, R, Section, SectionId, encode_frame};
@@ -74,6 +76,13 @@ impl<A: Allocator> CodeSection<A> {
         self.pieces.get(index)
     }
 
+    /// Adds a function. A refused call leaves the section as it was.
+    pub fn function<B: Allocator>(&mut self, function: &Function<B>) -> R<()>
+        ensures { Adds (frame_text function.now) (FrameFits function.now) self.old self.new result }
+    {
+        self.pieces.add_encoded(function)
+    }
+
     /// Adds a raw body, as `Function::into_raw_body` gives it. A refused call leaves the section as it was.
     pub fn raw(&mut self, body: &[u8]) -> R<()>
         ensures { Adds (frame_text body.now) (FrameFits body.now) self.old self.new result }
@@ -109,7 +118,7 @@ impl<A: Allocator> Encode for CodeSection<A> {
 
     ghost fits = { SectionFits };
 
-    ghost reading = { λ section. ReadsBack raw_code (HoldsBodies section) (section_text section) };
+    ghost reading = { λ section. ReadsCode section (section_text section) };
 
     fn encode<B: Allocator>(&self, sink: &mut Vec<u8, B>) -> R<()> {
         self.pieces.encode(sink)
@@ -123,11 +132,11 @@ impl<A: Allocator> Section for CodeSection<A> {
 
     ghost id_of = { λ _. number_of ids.Code };
 
-    ghost Items = { List (List ℕ) };
+    ghost Items = { List Body };
 
-    ghost format = { raw_code };
+    ghost format = { code_section };
 
-    ghost says = { HoldsBodies };
+    ghost says = { SpellsBodies };
 
     ghost payload = { SectionPayload };
 
@@ -137,5 +146,5 @@ impl<A: Allocator> Section for CodeSection<A> {
 
     ghost framed = { section_framed };
 
-    ghost reads_back = { λ section promised. promised };
+    ghost reads_back = { λ section promised. promised.bodies };
 }

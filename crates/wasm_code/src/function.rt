@@ -1,14 +1,27 @@
 // Function bodies.
-ghost use Rattle.std.specs.Prelude.{◌≡◌, ◌≢◌, ℕ, List, ◌∷◌, [], ◌++◌, length, OnOk, OnErr, IfOk};
+ghost use Rattle.std.specs.Prelude.{◌≡◌, ◌≢◌, ◌++◌, ℕ, List, length, OnOk, OnErr, IfOk};
 ghost use Rattle.std.specs.Iterator.{Drains, IsFinite};
+ghost use Rattle.wasm_base.specs.Calls.{ReadsBack};
+ghost use Rattle.wasm_base.specs.Formats.{frame};
+ghost use Rattle.wasm_base.specs.Iterators.{HasKnownLength};
 ghost use Rattle.wasm_base.specs.Texts.{frame_text, FrameFits};
 ghost use Rattle.wasm_base.specs.declared.refused.Refused.TheVariants.{TooLong};
+ghost use Rattle.wasm_code.specs.Bodies.{body, IsPlainBody, GrowsBy, AddsInstruction, BeginsWithRuns};
 
 use std::alloc::{Allocator, Global};
 use std::marker::Model;
-use wasm_base::{Encode, R, Refused, encode_frame};
+use wasm_base::{Encode, R, Refused, ValType, encode_frame, encode_vec};
+use wasm_insn::{Buffer, Instruction, InstructionSink};
 
 /// A function, seen as its raw body: the runs of its locals, and its instructions.
+///
+/// ```rust
+/// let mut function = Function::new(alloc, [(1, ValType::I32)])?;
+/// let mut instructions = function.instructions();
+/// instructions.local_get(0)?;
+/// instructions.end()?;
+/// code.function(&function)?;
+/// ```
 #[derive(Drop, Debug)]
 pub struct Function<A: Allocator = Global> {
     bytes: Vec<u8, A>,
@@ -21,14 +34,33 @@ impl<A: Allocator> Model for Function<A> {
 }
 
 impl<A: Allocator> Function<A> {
-    /// A function without locals, whose instructions are to follow.
-    pub fn new(alloc: A) -> R<Self>
-        ensures body { IfOk result (λ f. f ≡ 0 ∷ []) }
-        ensures memory { result ≢ Err TooLong }
+    /// A function with these runs of locals, whose instructions are to follow. Where the length that the locals tell is too long,
+    /// none of them is asked for.
+    pub fn new<V: IntoIterator<Item = (u32, ValType)>>(alloc: A, locals: V) -> R<Self>
+    where
+        V::IntoIter: ExactSizeIterator + Drop,
+        requires { HasKnownLength V.into_iter_gives V.IntoIter.can_next V.IntoIter.next_gives V.IntoIter.remaining locals }
+        ensures { BeginsWithRuns V.into_iter_gives V.IntoIter.next_gives V.IntoIter.remaining locals result }
     {
-        Ok(Function {
-            bytes: Vec::from_slice(alloc, &[0])?,
-        })
+        let mut bytes = Vec::new(alloc);
+        encode_vec(locals, &mut bytes)?;
+        Ok(Function { bytes })
+    }
+
+    /// A sink that writes into the raw body.
+    pub fn instructions(&mut self) -> InstructionSink<'_, Function<A>>
+        ensures same_reference { result.sink.ghost_name ≡ self.entry.ghost_name }
+        ensures same { result.sink.now ≡ self.old }
+    {
+        InstructionSink::new(self)
+    }
+
+    /// Appends an instruction. A refused call leaves the body as it was.
+    #[tactic(auto, using(crate::proofs::BodyLaws::grows))]
+    pub fn instruction(&mut self, instruction: &Instruction<'_>) -> R<()>
+        ensures { AddsInstruction instruction.now self.old self.new result }
+    {
+        instruction.encode(&mut self.bytes)
     }
 
     /// Appends bytes that spell instructions. A refused call leaves the body as it was.
@@ -39,7 +71,7 @@ impl<A: Allocator> Function<A> {
         ensures ok { OnOk result ((it : I.IntoIter) × (xs : List ℕ)
             × I.into_iter_gives bytes it
             × Drains I.IntoIter.next_gives it xs
-            × (self.new ≡ self.old ++ xs)) }
+            × GrowsBy xs self.old self.new) }
         ensures err { OnErr result (self.new ≡ self.old) }
         ensures memory { result ≢ Err TooLong }
     {
@@ -61,8 +93,67 @@ impl<A: Allocator> Function<A> {
     }
 }
 
+impl<A: Allocator + Copy> Function<A> {
+    /// The same function, in memory of its own.
+    pub fn clone(&self) -> R<Self>
+        ensures same { IfOk result (λ f. f ≡ self.now) }
+        ensures memory { result ≢ Err TooLong }
+    {
+        let alloc = *self.bytes.allocator();
+        Ok(Function {
+            bytes: Vec::from_slice(alloc, &self.bytes)?,
+        })
+    }
+}
+
+/// Functions are equal where their raw bodies are.
+impl<A: Allocator> PartialEq for Function<A> {
+    ghost use Rattle.std.specs.Str.{bytes_eq};
+    ghost use Rattle.std.proofs.Common.{rules};
+    ghost use Rattle.std.specs.Cmp.Rules.{comparing};
+
+    ghost eq = { bytes_eq };
+
+    ghost laws = { Prim.search (comparing, rules) };
+
+    fn eq(&self, other: &Self) -> bool {
+        self.bytes.as_slice() == other.bytes.as_slice()
+    }
+}
+
+impl<A: Allocator> Eq for Function<A> {
+    ghost use Rattle.std.proofs.Common.{rules};
+    ghost use Rattle.std.specs.Cmp.Rules.{comparing};
+
+    ghost laws = { Prim.search (comparing, rules) };
+}
+
+/// What is written goes to the end of the raw body.
+impl<A: Allocator> Buffer for Function<A> {
+    ghost written = { λ f. f };
+
+    fn append<E: Encode>(&mut self, value: &E) -> R<()> {
+        value.encode(&mut self.bytes)
+    }
+
+    fn append_vec<S: Encode, T: Encode + Drop, V: IntoIterator<Item = T>, U: Encode>(
+        &mut self,
+        before: &S,
+        elements: V,
+        after: &U,
+    ) -> R<()>
+    where
+        V::IntoIter: ExactSizeIterator + Drop,
+    {
+        self.bytes.append_vec(before, elements, after)
+    }
+}
+
 /// Appends every byte, or none of them.
-fn append_all<I: IntoIterator<Item = u8>, A: Allocator>(sink: &mut Vec<u8, A>, bytes: I) -> R<()>
+pub(crate) fn append_all<I: IntoIterator<Item = u8>, A: Allocator>(
+    sink: &mut Vec<u8, A>,
+    bytes: I,
+) -> R<()>
 where
     I::IntoIter: Drop,
     requires { (it : I.IntoIter) → I.into_iter_gives bytes it → I.IntoIter.can_next it × IsFinite (I.IntoIter.remaining it) }
@@ -88,6 +179,8 @@ impl<A: Allocator> Encode for Function<A> {
     ghost text = { frame_text };
 
     ghost fits = { FrameFits };
+
+    ghost reading = { λ f. ReadsBack (frame body) (IsPlainBody f) (frame_text f) };
 
     fn encode<B: Allocator>(&self, sink: &mut Vec<u8, B>) -> R<()> {
         encode_frame(sink, &self.bytes)

@@ -1,5 +1,5 @@
 -- The sections after some lines of a recipe, and what a fault of the next line means.
-use Rattle.std.proofs.Common.{◌≡◌, ℕ, ◌+◌, ◌-◌, ◌<◌, ◌≤◌, length, List, [], ◌∷◌, ◌++◌, take, filter, map, Some, Ok, Err, Result, refl, ap, ◌∙◌, sym, subst, arith, append_assoc, append-nil}
+use Rattle.std.proofs.Common.{◌≡◌, ℕ, ◌+◌, ◌-◌, ◌<◌, ◌≤◌, length, List, [], ◌∷◌, ◌++◌, take, filter, map, Option, Some, None, Ok, Err, Result, refl, ap, ◌∙◌, sym, subst, arith, append_assoc, append-nil}
 use Rattle.std.proofs.Common.{◌==◌, false, cond}
 use borrow.Author.Tests.{ne_eqb}
 use Rattle.std.specs.Prelude.{All, IsOk, IsOkAnd, IsErrAnd, IfErr, option_map}
@@ -7,26 +7,35 @@ use Rattle.wasm_tool.specs.declared.fault.RecipeFault.{RecipeFault}
 use Rattle.wasm_base.specs.declared.refused.Refused.{Refused}
 use Rattle.wasm_base.specs.declared.refused.Refused.TheVariants as R
 use Rattle.std.specs.List.{slice_get, flat_map}
-use Rattle.std.proofs.lemmas.List.Elements.{All-nil, All-push, All-append, filter-append}
+use Rattle.std.proofs.lemmas.List.Elements.{All-nil, All-push, All-head, All-append, filter-append}
 use Rattle.std.proofs.lemmas.List.{map-append}
 use Rattle.std.proofs.lemmas.Grind.{common_steps, flat_map-append}
 use Rattle.wasm_tool.specs.declared.fault.RecipeCause.{RecipeCause}
 use Rattle.wasm_tool.specs.declared.fault.RecipeCause.TheVariants.{UnknownCommand, BadNumber, BadHex, MissingWord, Memory, TooLong}
 use Rattle.wasm_tool.specs.declared.recipe.Recipe.{Recipe}
 use Rattle.wasm_tool.specs.Lines.{lines_of, words_of}
-use Rattle.wasm_base.specs.Texts.{any_section_text, AnySectionFits, module_text, ModuleFits}
+use Rattle.wasm_base.specs.Numbers.{unsigned_text}
+use Rattle.wasm_base.specs.Texts.{FrameFits, any_section_text, AnySectionFits, module_text, ModuleFits}
 use Rattle.wasm_base.specs.Formats.{wasm_module, header}
 use Rattle.wasm_base.specs.Reading.{ReadsWhole}
 use Rattle.wasm_base.specs.Pieces.{SectionFits}
 use Rattle.wasm_base.proofs.ModuleLaws.{module_text-reads}
-use Rattle.wasm_tool.specs.Recipe.{Entry, IsGood, RecipeFits, entries_of, entry_of, items_of, section_of, sections_of, recipe_module, lines_before, lines_through}
-use Rattle.wasm_tool.specs.Steps.{AddsEntries, Explains, FitsWith, FitsSections, IsEmpty, Follows, SaysCause, cause_of, listed}
+use Rattle.wasm_tool.specs.Recipe.{Entry, IsGood, RecipeFits, entries_of, entry_of, items_of, last_of, section_of, start_of, sections_of, recipe_module, lines_before, lines_through}
+use Rattle.wasm_tool.specs.Steps.{AddsEntries, Explains, FitsWith, FitsSections, IsEmpty, Follows, SaysCause, cause_of, listed, replaced, start_items}
 
 -- no line of these has a fault, and the sections have their items
 pub record HoldsItems {A : Type 0} (lines : List (List ℕ)) (recipe : Recipe A) : Type 0 where
   pub good : All IsGood lines
   pub types : recipe.types ≡ items_of 1 (entries_of lines)
+  pub functions : recipe.functions ≡ items_of 3 (entries_of lines)
+  pub memories : recipe.memories ≡ items_of 5 (entries_of lines)
+  pub exports : recipe.exports ≡ items_of 7 (entries_of lines)
+  pub start : start_items recipe.start ≡ last_of (items_of 8 (entries_of lines))
   pub code : recipe.code ≡ items_of 10 (entries_of lines)
+
+good_line : (line : List ℕ) (entries : List Entry) → entry_of line ≡ Ok entries → IsGood line
+unfolding IsGood
+good_line line entries says = subst IsOk (sym says) refl
 
 items_of-append : (id : ℕ) (xs ys : List Entry) → items_of id (xs ++ ys) ≡ items_of id xs ++ items_of id ys
 items_of-append id xs ys =
@@ -43,12 +52,35 @@ items_of-push id lines line entries says =
     ap (items_of id) (entries_of-push lines line entries says) ∙ items_of-append id (entries_of lines) entries
 
 pub holds_none : {A : Type 0} (recipe : Recipe A) → IsEmpty recipe → HoldsItems [] recipe
-holds_none recipe empty = record { good = All-nil IsGood; types = empty.types; code = empty.code }
+holds_none recipe empty = record {
+  good = All-nil IsGood;
+  types = empty.types;
+  functions = empty.functions;
+  memories = empty.memories;
+  exports = empty.exports;
+  start = empty.start;
+  code = empty.code;
+}
 
 more_items : (id : ℕ) (lines : List (List ℕ)) (line : List ℕ) (entries : List Entry) → entry_of line ≡ Ok entries
     → {old new : List (List ℕ)} → new ≡ old ++ items_of id entries → old ≡ items_of id (entries_of lines) → new ≡ items_of id (entries_of (lines ++ line ∷ []))
 more_items id lines line entries says added held =
     added ∙ ap (λ items. items ++ items_of id entries) held ∙ sym (items_of-push id lines line entries says)
+
+-- the last item of two lists
+last_of-after : (xs : List (List ℕ)) (y : List ℕ) (ys : List (List ℕ)) → last_of (y ∷ ys) ≡ last_of (xs ++ y ∷ ys)
+last_of-after [] y ys = refl
+last_of-after (x ∷ []) y ys = refl
+last_of-after (x ∷ z ∷ xs) y ys = last_of-after (z ∷ xs) y ys
+
+replaced-last : (xs ys : List (List ℕ)) → replaced (last_of xs) ys ≡ last_of (xs ++ ys)
+replaced-last xs [] = ap last_of (sym (append-nil xs))
+replaced-last xs (y ∷ ys) = last_of-after xs y ys
+
+last_of-again : (xs : List (List ℕ)) → last_of (last_of xs) ≡ last_of xs
+last_of-again [] = refl
+last_of-again (x ∷ []) = refl
+last_of-again (x ∷ y ∷ xs) = last_of-again (y ∷ xs)
 
 -- one more line was read
 holds_more_of : {A : Type 0} (lines : List (List ℕ)) (line : List ℕ) (old new : Recipe A) (entries : List Entry) → HoldsItems lines old
@@ -56,8 +88,13 @@ holds_more_of : {A : Type 0} (lines : List (List ℕ)) (line : List ℕ) (old ne
 holds_more_of lines line old new entries holds says adds =
     let more = λ (id : ℕ) (was is : List (List ℕ)). more_items id lines line entries says {old = was} {new = is} in
     record {
-      good = All-push IsGood lines line holds.good (subst IsOk (sym says) refl);
+      good = All-push IsGood lines line holds.good (good_line line entries says);
       types = more 1 old.types new.types adds.types holds.types;
+      functions = more 3 old.functions new.functions adds.functions holds.functions;
+      memories = more 5 old.memories new.memories adds.memories holds.memories;
+      exports = more 7 old.exports new.exports adds.exports holds.exports;
+      start = adds.start ∙ ap (λ items. replaced items (items_of 8 entries)) holds.start ∙ replaced-last (items_of 8 (entries_of lines)) (items_of 8 entries)
+          ∙ ap last_of (sym (items_of-push 8 lines line entries says));
       code = more 10 old.code new.code adds.code holds.code;
     }
 
@@ -77,8 +114,11 @@ fits_with lines line old entries holds says fits =
     let with = λ (id : ℕ) (items : List (List ℕ)) (held : items ≡ items_of id (entries_of lines)).
     subst SectionFits (items_of-push id lines line entries says ∙ ap (λ xs. xs ++ items_of id entries) (sym held)) in
     record {
-      types = with 1 old.types holds.types fits.0;
-      code = with 10 old.code holds.code fits.1.0;
+      types = with 1 old.types holds.types fits.types;
+      functions = with 3 old.functions holds.functions fits.functions;
+      memories = with 5 old.memories holds.memories fits.memories;
+      exports = with 7 old.exports holds.exports fits.exports;
+      code = with 10 old.code holds.code fits.code;
     }
 
 not_zero : (n : ℕ) → (n + 1 == 0) ≡ false
@@ -111,7 +151,7 @@ module _ {A : Type 0} (text : List ℕ) (number : ℕ) (line : List ℕ) (old ne
 
   too_long : (entries : List Entry) → entry_of line ≡ Ok entries → ¬ (FitsWith old entries) → SaysCause text (number + 1) TooLong
   too_long entries says full = (
-    subst (All IsGood) (sym through) (All-push IsGood (take number (lines_of text)) line holds.good (subst IsOk (sym says) refl)),
+    subst (All IsGood) (sym through) (All-push IsGood (take number (lines_of text)) line holds.good (good_line line entries says)),
     λ fits. full (fits_with (take number (lines_of text)) line old entries holds says (subst (λ lines. RecipeFits (entries_of lines)) through fits)),
   )
 
@@ -129,12 +169,23 @@ module _ {A : Type 0} (text : List ℕ) (number : ℕ) (line : List ℕ) (old ne
 
 sections_fit : {A : Type 0} (lines : List (List ℕ)) (recipe : Recipe A) → HoldsItems lines recipe → RecipeFits (entries_of lines) → FitsSections recipe
 sections_fit lines recipe holds fits = record {
-  types = subst SectionFits (sym holds.types) fits.0;
-  code = subst SectionFits (sym holds.code) fits.1.0;
+  types = subst SectionFits (sym holds.types) fits.types;
+  functions = subst SectionFits (sym holds.functions) fits.functions;
+  memories = subst SectionFits (sym holds.memories) fits.memories;
+  exports = subst SectionFits (sym holds.exports) fits.exports;
+  start = subst (All FrameFits) (sym holds.start) fits.start;
+  code = subst SectionFits (sym holds.code) fits.code;
 }
 
 pub recipe_fits : {A : Type 0} (lines : List (List ℕ)) (recipe : Recipe A) → HoldsItems lines recipe → FitsSections recipe → RecipeFits (entries_of lines)
-recipe_fits lines recipe holds fits = (subst SectionFits holds.types fits.types, (subst SectionFits holds.code fits.code, tt))
+recipe_fits lines recipe holds fits = record {
+  types = subst SectionFits holds.types fits.types;
+  functions = subst SectionFits holds.functions fits.functions;
+  memories = subst SectionFits holds.memories fits.memories;
+  exports = subst SectionFits holds.exports fits.exports;
+  start = subst (All FrameFits) holds.start fits.start;
+  code = subst SectionFits holds.code fits.code;
+}
 
 explains_at_end : {A : Type 0} (text : List ℕ) (recipe : Recipe A) (refused : Refused) → HoldsItems (lines_of text) recipe
     → (refused ≡ R.TooLong → ¬ (FitsSections recipe)) → Explains text 0 (cause_of refused)
@@ -155,7 +206,10 @@ refused_at_end text recipe refused (Err fault) holds full made =
 
 -- the module of the sections is that of the entries
 pub listed-holds : {A : Type 0} (lines : List (List ℕ)) (recipe : Recipe A) → HoldsItems lines recipe → listed recipe ≡ sections_of (entries_of lines)
-listed-holds lines recipe holds = rw (holds.types, holds.code) refl
+listed-holds lines recipe holds =
+    let start : start_of (start_items recipe.start) ≡ start_of (items_of 8 (entries_of lines)) =
+    ap (λ items. map (λ item. (8, item)) items) (ap last_of holds.start ∙ last_of-again (items_of 8 (entries_of lines))) in
+    rw (holds.types, holds.functions, holds.memories, holds.exports, holds.code, start) refl
 
 pub module_text-holds : {A : Type 0} (lines : List (List ℕ)) (recipe : Recipe A) → HoldsItems lines recipe → module_text (listed recipe) ≡ recipe_module (entries_of lines)
 unfolding recipe_module
@@ -165,10 +219,15 @@ section_of-fits : (id : ℕ) (items : List (List ℕ)) → SectionFits items →
 section_of-fits id [] fits = All-nil AnySectionFits
 section_of-fits id (item ∷ items) fits = All-push AnySectionFits [] _ (All-nil AnySectionFits) fits.size
 
+start_of-fits : (start : Option ℕ) → All FrameFits (start_items start) → All AnySectionFits (start_of (start_items start))
+start_of-fits None fits = All-nil AnySectionFits
+start_of-fits (Some index) fits = All-push AnySectionFits [] _ (All-nil AnySectionFits) (All-head FrameFits (unsigned_text index) [] fits)
+
 listed-fits : {A : Type 0} (recipe : Recipe A) → FitsSections recipe → ModuleFits (listed recipe)
 listed-fits recipe fits =
-    All-append AnySectionFits (section_of 1 recipe.types) _ (section_of-fits 1 recipe.types fits.types)
-    (All-append AnySectionFits (section_of 10 recipe.code) [] (section_of-fits 10 recipe.code fits.code) (All-nil AnySectionFits))
+    let more = All-append AnySectionFits in
+    more _ _ (more _ _ (more _ _ (more _ _ (more _ _ (section_of-fits 1 recipe.types fits.types) (section_of-fits 3 recipe.functions fits.functions)) (section_of-fits 5 recipe.memories fits.memories))
+    (section_of-fits 7 recipe.exports fits.exports)) (start_of-fits recipe.start fits.start)) (section_of-fits 10 recipe.code fits.code)
 
 -- and is read as these sections alone
 pub module_reads : {A : Type 0} (lines : List (List ℕ)) (recipe : Recipe A) (bytes : List ℕ) → HoldsItems lines recipe → FitsSections recipe → bytes ≡ module_text (listed recipe)
@@ -177,12 +236,13 @@ module_reads lines recipe bytes holds fits is =
     subst (λ sections. ReadsWhole wasm_module bytes sections) (listed-holds lines recipe holds)
     (subst (λ bytes. ReadsWhole wasm_module bytes (listed recipe)) (sym is) (module_text-reads (listed recipe) (listed-fits recipe fits)))
 
--- the text of the sections, one after the other
-pub listed-text : {A : Type 0} (recipe : Recipe A) (empty first second : List ℕ) → empty ≡ header → first ≡ empty ++ flat_map any_section_text (section_of 1 recipe.types)
-    → second ≡ first ++ flat_map any_section_text (section_of 10 recipe.code) → second ≡ module_text (listed recipe)
+-- the text of some sections, and of some more
+pub first_sections : (xs : List (ℕ × List ℕ)) (old new : List ℕ) → old ≡ header → new ≡ old ++ flat_map any_section_text xs → new ≡ module_text xs
 unfolding module_text
-listed-text recipe empty first second e f g =
-    g ∙ ap (λ t. t ++ flat_map any_section_text (section_of 10 recipe.code)) (f ∙ ap (λ t. t ++ flat_map any_section_text (section_of 1 recipe.types)) e)
-    ∙ append_assoc header (flat_map any_section_text (section_of 1 recipe.types)) (flat_map any_section_text (section_of 10 recipe.code))
-    ∙ ap (λ t. header ++ t) (sym (flat_map-append any_section_text (section_of 1 recipe.types) (section_of 10 recipe.code ++ [])
-    ∙ ap (λ t. flat_map any_section_text (section_of 1 recipe.types) ++ flat_map any_section_text t) (append-nil (section_of 10 recipe.code))))
+first_sections xs old new e f = f ∙ ap (λ t. t ++ flat_map any_section_text xs) e
+
+pub more_sections : (xs ys : List (ℕ × List ℕ)) (old new : List ℕ) → old ≡ module_text xs → new ≡ old ++ flat_map any_section_text ys → new ≡ module_text (xs ++ ys)
+unfolding module_text
+more_sections xs ys old new e f =
+    f ∙ ap (λ t. t ++ flat_map any_section_text ys) e ∙ append_assoc header (flat_map any_section_text xs) (flat_map any_section_text ys)
+    ∙ ap (λ t. header ++ t) (sym (flat_map-append any_section_text xs ys))

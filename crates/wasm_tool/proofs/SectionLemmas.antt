@@ -10,8 +10,10 @@ use Rattle.wasm_base.proofs.NumberTexts.{groups_text-last}
 use Rattle.wasm_base.proofs.Outcomes.{on_ok}
 use Rattle.wasm_base.specs.declared.refused.Refused.{Refused}
 use Rattle.wasm_base.specs.declared.refused.Refused.TheVariants.{TooLong}
-use Rattle.wasm_tool.specs.Recipe.{section_of}
-use Rattle.wasm_tool.specs.Steps.{PutsSection}
+use Rattle.std.specs.Prelude.{All}
+use Rattle.std.proofs.lemmas.List.Elements.{All-nil, All-push, All-head}
+use Rattle.wasm_tool.specs.Recipe.{section_of, start_of}
+use Rattle.wasm_tool.specs.Steps.{Puts}
 
 -- a section with one more item has a number for it
 pub fits_count : (items : List (List ℕ)) (item : List ℕ) → SectionFits (items ++ item ∷ []) → length items < longest
@@ -26,6 +28,11 @@ fits_item items item h =
 pub fits_frame : (items : List (List ℕ)) (bytes : List ℕ) → SectionFits (items ++ frame_text bytes ∷ []) → FrameFits bytes
 fits_frame items bytes h =
     omega (arith, fits_item items (frame_text bytes) h, length-append (unsigned_text (length bytes)) bytes)
+
+-- nor is a name at the front of an item
+pub fits_name : (items : List (List ℕ)) (name rest : List ℕ) → SectionFits (items ++ (frame_text name ++ rest) ∷ []) → FrameFits name
+fits_name items name rest h =
+    omega (arith, fits_item items (frame_text name ++ rest) h, length-append (frame_text name) rest, length-append (unsigned_text (length name)) name)
 
 -- the text of a section that has items, and of one that has none
 pub section_of-some : (id : ℕ) (items : List (List ℕ)) → 0 < length items → flat_map any_section_text (section_of id items) ≡ id ∷ section_text items
@@ -43,7 +50,7 @@ fits_none : (items : List (List ℕ)) → length items ≡ 0 → SectionFits ite
 fits_none [] h = record { count = omega arith; size = simp (groups_text-last false 0x80 0 (lit< tt)) (lit≤ tt) }
 fits_none (item ∷ items) h = absurd (omega arith)
 
-pub puts_none : (id : ℕ) (items : List (List ℕ)) (old : List ℕ) → length items ≡ 0 → PutsSection id items old old (Ok tt)
+pub puts_none : (id : ℕ) (items : List (List ℕ)) (old : List ℕ) → length items ≡ 0 → Puts (section_of id items) (SectionFits items) old old (Ok tt)
 puts_none id items old none = record {
   ok = sym (ap (λ t. old ++ t) (section_of-none id items none) ∙ append-nil old);
   fitted = fits_none items none;
@@ -51,9 +58,25 @@ puts_none id items old none = record {
 }
 
 pub puts_some : (id : ℕ) (items : List (List ℕ)) (old new : List ℕ) (result : Result (Unit {0}) Refused) → 0 < length items
-    → OnOk result (new ≡ old ++ id ∷ section_text items) → OnOk result (SectionFits items) → (SectionFits items → result ≢ Err TooLong) → PutsSection id items old new result
+    → OnOk result (new ≡ old ++ id ∷ section_text items) → OnOk result (SectionFits items) → (SectionFits items → result ≢ Err TooLong) → Puts (section_of id items) (SectionFits items) old new result
 puts_some id items old new result some ok fitted too_long = record {
   ok = on_ok result _ _ ok (λ e. e ∙ ap (λ t. old ++ t) (sym (section_of-some id items some)));
   fitted = fitted;
   too_long = too_long;
+}
+
+-- ---- the start section
+
+one_fits : (item : List ℕ) → FrameFits item → All FrameFits (item ∷ [])
+one_fits item fits = All-push FrameFits [] item (All-nil FrameFits) fits
+
+pub puts_no_start : (old : List ℕ) → Puts (start_of []) (All FrameFits []) old old (Ok tt)
+puts_no_start old = record { ok = sym (append-nil old); fitted = All-nil FrameFits; too_long = λ _ e. cc }
+
+pub puts_start : (item old new : List ℕ) (result : Result (Unit {0}) Refused) → OnOk result (new ≡ old ++ 8 ∷ frame_text item) → OnOk result (FrameFits item) → (FrameFits item → result ≢ Err TooLong)
+    → Puts (start_of (item ∷ [])) (All FrameFits (item ∷ [])) old new result
+puts_start item old new result ok fitted too_long = record {
+  ok = on_ok result _ _ ok (λ e. e ∙ ap (λ t. old ++ t) (sym (append-nil (8 ∷ frame_text item))));
+  fitted = on_ok result _ _ fitted (one_fits item);
+  too_long = λ fits. too_long (All-head FrameFits item [] fits);
 }

@@ -1,15 +1,21 @@
 -- recipe: an entry for each line of a text, and the module of the sections that the entries add to.
-use Rattle.std.specs.Prelude.{length, ℕ, ◌-◌, ◌==◌, ◌≤◌, ◌++◌, codes, if◌then◌else◌, List, [], ◌∷◌, filter, map, take, Result, Ok, Err, IsOk}
-use Rattle.std.specs.List.{AllByRecursion, flat_map}
+use Rattle.std.specs.Prelude.{All, length, ℕ, ◌-◌, ◌^◌, ◌==◌, ◌&&◌, ◌≤◌, ◌++◌, Bool, false, codes, if◌then◌else◌, nat_lt, List, [], ◌∷◌, filter, map, take, Option, Some, None, Result, Ok, Err, IsOk}
+use Rattle.std.specs.List.{flat_map}
 use Rattle.std.specs.Result.{result_unwrap_or}
-use Rattle.std.specs.Str.{bytes_eq}
+use Rattle.std.specs.Str.{all_ascii_digits, bytes_eq}
+use Rattle.std.specs.Str.Parse.{digits_value}
 use Rattle.hex.specs.Hex.{decode_of}
 use Rattle.wasm_base.specs.Numbers.{unsigned_text}
-use Rattle.wasm_base.specs.Texts.{frame_text, module_text}
+use Rattle.wasm_base.specs.Texts.{frame_text, FrameFits, module_text}
 use Rattle.wasm_base.specs.Pieces.{joined, SectionFits}
+use Rattle.wasm_sections.specs.Exports.{kind_code}
+use Rattle.wasm_sections.specs.declared.export.ExportKind.{ExportKind}
+use Rattle.wasm_sections.specs.declared.export.ExportKind.TheVariants.{Func, Table, Memory, Global, Tag}
+use Rattle.wasm_sections.specs.Memories.{memory_text}
+use Rattle.wasm_sections.specs.declared.memory.MemoryType.{MemoryType}
 use Rattle.wasm_tool.specs.declared.fault.RecipeCause.{RecipeCause}
-use Rattle.wasm_tool.specs.declared.fault.RecipeCause.TheVariants.{UnknownCommand, BadHex, MissingWord}
-use Rattle.wasm_tool.specs.Lines.{lines_of, rest_of, words_of}
+use Rattle.wasm_tool.specs.declared.fault.RecipeCause.TheVariants.{UnknownCommand, BadNumber, BadHex, MissingWord}
+use Rattle.wasm_tool.specs.Lines.{is_word, lines_of, rest_of, words_of}
 
 -- an item, and the id of the section that it is added to
 pub record Entry : Type 0 where
@@ -27,6 +33,24 @@ abbrev pub from_hex : {E : Type 0} → Result (List ℕ) E → (List ℕ → Res
 from_hex (Ok bytes) make = make bytes
 from_hex (Err e) make = Err BadHex
 
+-- the value of a word of decimal digits
+abbrev pub value_of : List ℕ → Option ℕ
+value_of word = if is_word word && all_ascii_digits word then Some (digits_value 10 word) else None
+
+-- a value of so many bits
+abbrev pub below : ℕ → Option ℕ → Option ℕ
+below bits None = None
+below bits (Some n) = if nat_lt n (2 ^ bits) then Some n else None
+
+-- the number of so many bits that a word of decimal digits spells
+abbrev pub number_of : ℕ → List ℕ → Option ℕ
+number_of bits word = below bits (value_of word)
+
+-- what a number makes, or the fault of a word that is none
+abbrev pub from_number : Option ℕ → (ℕ → Result (List Entry) RecipeCause) → Result (List Entry) RecipeCause
+from_number (Some n) make = make n
+from_number None make = Err BadNumber
+
 -- `type HEX`: an entry of the type section
 abbrev pub type_entry : List (List ℕ) → Result (List Entry) RecipeCause
 type_entry [] = Err MissingWord
@@ -37,11 +61,55 @@ abbrev pub body_entry : List (List ℕ) → Result (List Entry) RecipeCause
 body_entry [] = Err MissingWord
 body_entry (hex ∷ more) = from_hex (decode_of hex) (λ bytes. adds 10 (frame_text (0x00 ∷ bytes)))
 
+-- `func N`: a function of this type
+abbrev pub function_entry : List (List ℕ) → Result (List Entry) RecipeCause
+function_entry [] = Err MissingWord
+function_entry (index ∷ more) = from_number (number_of 32 index) (λ n. adds 3 (unsigned_text n))
+
+-- a memory of so many pages, and no other limits
+abbrev pub memory_of_size : ℕ → MemoryType
+memory_of_size minimum = record { minimum = minimum; maximum = None; memory64 = false; shared = false; page_size_log2 = None }
+
+-- `memory MIN`: a memory of this minimum
+abbrev pub memory_entry : List (List ℕ) → Result (List Entry) RecipeCause
+memory_entry [] = Err MissingWord
+memory_entry (size ∷ more) = from_number (number_of 64 size) (λ n. adds 5 (memory_text (memory_of_size n)))
+
+-- what a word says that names what is exported
+abbrev pub kind_of : List ℕ → Option ExportKind
+kind_of word =
+    if bytes_eq word (codes "func") then Some Func
+    else if bytes_eq word (codes "table") then Some Table
+    else if bytes_eq word (codes "memory") then Some Memory
+    else if bytes_eq word (codes "global") then Some Global
+    else if bytes_eq word (codes "tag") then Some Tag
+    else None
+
+-- what a kind makes, or the fault of a word that is none
+abbrev pub from_kind : Option ExportKind → (ExportKind → Result (List Entry) RecipeCause) → Result (List Entry) RecipeCause
+from_kind (Some kind) make = make kind
+from_kind None make = Err UnknownCommand
+
+-- `export NAME KIND N`: an export
+abbrev pub export_entry : List (List ℕ) → Result (List Entry) RecipeCause
+export_entry (name ∷ kind ∷ index ∷ more) =
+    from_kind (kind_of kind) (λ k. from_number (number_of 32 index) (λ n. adds 7 (frame_text name ++ (kind_code k ∷ [] ++ unsigned_text n))))
+export_entry words = Err MissingWord
+
+-- `start N`: the function that the module runs when it is instantiated
+abbrev pub start_entry : List (List ℕ) → Result (List Entry) RecipeCause
+start_entry [] = Err MissingWord
+start_entry (index ∷ more) = from_number (number_of 32 index) (λ n. adds 8 (unsigned_text n))
+
 -- the entry of a line of these words, if it has any, or its fault; what follows the first word is also given as text
 abbrev pub entry_of_words : List (List ℕ) → List ℕ → Result (List Entry) RecipeCause
 entry_of_words [] rest = Ok []
 entry_of_words (command ∷ words) rest =
     if bytes_eq command (codes "type") then type_entry words
+    else if bytes_eq command (codes "func") then function_entry words
+    else if bytes_eq command (codes "memory") then memory_entry words
+    else if bytes_eq command (codes "export") then export_entry words
+    else if bytes_eq command (codes "start") then start_entry words
     else if bytes_eq command (codes "body") then body_entry words
     else Err UnknownCommand
 
@@ -50,7 +118,7 @@ abbrev pub entry_of : List ℕ → Result (List Entry) RecipeCause
 entry_of line = entry_of_words (words_of line) (rest_of line)
 
 -- a line without a fault
-abbrev pub IsGood : List ℕ → Type 0
+unfoldable pub IsGood : List ℕ → Type 0
 IsGood line = IsOk (entry_of line)
 
 -- the entries of some lines
@@ -68,21 +136,37 @@ abbrev pub section_of : ℕ → List (List ℕ) → List (ℕ × List ℕ)
 section_of id [] = []
 section_of id (item ∷ items) = (id, unsigned_text (length (item ∷ items)) ++ joined (item ∷ items)) ∷ []
 
--- the ids of the sections of a module, in order
-abbrev pub section_ids : List ℕ
-section_ids = 1 ∷ 10 ∷ []
+-- the last of some items alone: a later `start` replaces an earlier one
+abbrev pub last_of : List (List ℕ) → List (List ℕ)
+last_of [] = []
+last_of (item ∷ []) = item ∷ []
+last_of (item ∷ next ∷ items) = last_of (next ∷ items)
 
--- the sections of some entries, in order
+-- the start section, whose payload is the last item
+abbrev pub start_of : List (List ℕ) → List (ℕ × List ℕ)
+start_of items = map (λ item. (8, item)) (last_of items)
+
+-- sections of these items, in the order of the standard
+abbrev pub in_order : (types functions memories exports start code : List (List ℕ)) → List (ℕ × List ℕ)
+in_order types functions memories exports start code =
+    ((((section_of 1 types ++ section_of 3 functions) ++ section_of 5 memories) ++ section_of 7 exports) ++ start_of start) ++ section_of 10 code
+
+-- the sections of some entries
 abbrev pub sections_of : List Entry → List (ℕ × List ℕ)
-sections_of entries = flat_map (λ id. section_of id (items_of id entries)) section_ids
+sections_of entries = in_order (items_of 1 entries) (items_of 3 entries) (items_of 5 entries) (items_of 7 entries) (items_of 8 entries) (items_of 10 entries)
 
 -- the module of some entries
 unfoldable pub recipe_module : List Entry → List ℕ
 recipe_module entries = module_text (sections_of entries)
 
 -- Every count and size that this module needs can be spelled.
-abbrev pub RecipeFits : List Entry → Type 0
-RecipeFits entries = AllByRecursion (λ id. SectionFits (items_of id entries)) section_ids
+pub record RecipeFits (entries : List Entry) : Type 0 where
+  pub types : SectionFits (items_of 1 entries)
+  pub functions : SectionFits (items_of 3 entries)
+  pub memories : SectionFits (items_of 5 entries)
+  pub exports : SectionFits (items_of 7 entries)
+  pub start : All FrameFits (last_of (items_of 8 entries))
+  pub code : SectionFits (items_of 10 entries)
 
 -- ---- the lines about a fault, which is of a line counted from 1, or of all lines for 0
 

@@ -1,7 +1,8 @@
 -- What reading a line leaves, what writing a section does, and what is said of a fault.
-use Rattle.std.specs.Prelude.{ℕ, [], ◌≡◌, ◌≢◌, ◌++◌, ◌-◌, ◌≤◌, ⊤, List, Result, Ok, Err, All, IsOkAnd, OnOk, length, Some, option_map}
+use Rattle.std.specs.Prelude.{ℕ, [], ◌≡◌, ◌≢◌, ◌++◌, ◌-◌, ◌≤◌, ⊤, List, ◌∷◌, Option, None, Result, Ok, Err, All, IsOkAnd, OnOk, length, Some, option_map}
 use Rattle.std.specs.List.{slice_get, flat_map}
-use Rattle.wasm_base.specs.Texts.{any_section_text, module_text}
+use Rattle.wasm_base.specs.Numbers.{unsigned_text}
+use Rattle.wasm_base.specs.Texts.{any_section_text, FrameFits}
 use Rattle.wasm_base.specs.Pieces.{SectionFits}
 use Rattle.wasm_base.specs.declared.refused.Refused.{Refused}
 use Rattle.wasm_base.specs.declared.refused.Refused.TheVariants as refusals
@@ -9,33 +10,58 @@ use Rattle.wasm_tool.specs.declared.fault.RecipeCause.{RecipeCause}
 use Rattle.wasm_tool.specs.declared.fault.RecipeCause.TheVariants.{Memory, TooLong}
 use Rattle.wasm_tool.specs.declared.recipe.Recipe.{Recipe}
 use Rattle.wasm_tool.specs.Lines.{lines_of}
-use Rattle.wasm_tool.specs.Recipe.{Entry, IsGood, RecipeFits, entries_of, entry_of, items_of, lines_before, lines_through, section_of}
+use Rattle.wasm_tool.specs.Recipe.{Entry, IsGood, RecipeFits, entries_of, entry_of, in_order, items_of, last_of, lines_before, lines_through}
 
 -- ---- lines
+
+-- the item of a start section
+abbrev pub start_items : Option ℕ → List (List ℕ)
+start_items None = []
+start_items (Some index) = unsigned_text index ∷ []
+
+-- what is kept of an item where later ones replace it
+abbrev pub replaced : List (List ℕ) → List (List ℕ) → List (List ℕ)
+replaced old [] = old
+replaced old (item ∷ items) = last_of (item ∷ items)
 
 -- The recipe has the old items and those of the entries.
 pub record AddsEntries {A : Type 0} (old new : Recipe A) (entries : List Entry) : Type 0 where
   pub types : new.types ≡ old.types ++ items_of 1 entries
+  pub functions : new.functions ≡ old.functions ++ items_of 3 entries
+  pub memories : new.memories ≡ old.memories ++ items_of 5 entries
+  pub exports : new.exports ≡ old.exports ++ items_of 7 entries
+  pub start : start_items new.start ≡ replaced (start_items old.start) (items_of 8 entries)
   pub code : new.code ≡ old.code ++ items_of 10 entries
 
 -- The old items and those of the entries fit their sections.
 pub record FitsWith {A : Type 0} (old : Recipe A) (entries : List Entry) : Type 0 where
   pub types : SectionFits (old.types ++ items_of 1 entries)
+  pub functions : SectionFits (old.functions ++ items_of 3 entries)
+  pub memories : SectionFits (old.memories ++ items_of 5 entries)
+  pub exports : SectionFits (old.exports ++ items_of 7 entries)
   pub code : SectionFits (old.code ++ items_of 10 entries)
 
 -- No section has an item.
 pub record IsEmpty {A : Type 0} (recipe : Recipe A) : Type 0 where
   pub types : recipe.types ≡ []
+  pub functions : recipe.functions ≡ []
+  pub memories : recipe.memories ≡ []
+  pub exports : recipe.exports ≡ []
+  pub start : start_items recipe.start ≡ []
   pub code : recipe.code ≡ []
 
 -- The items fit their sections.
 pub record FitsSections {A : Type 0} (recipe : Recipe A) : Type 0 where
   pub types : SectionFits recipe.types
+  pub functions : SectionFits recipe.functions
+  pub memories : SectionFits recipe.memories
+  pub exports : SectionFits recipe.exports
+  pub start : All FrameFits (start_items recipe.start)
   pub code : SectionFits recipe.code
 
 -- the sections of the recipe, in order
 abbrev pub listed : {A : Type 0} → Recipe A → List (ℕ × List ℕ)
-listed recipe = section_of 1 recipe.types ++ (section_of 10 recipe.code ++ [])
+listed recipe = in_order recipe.types recipe.functions recipe.memories recipe.exports (start_items recipe.start) recipe.code
 
 -- What a call that reads a line answers and leaves, where the line says `said`.
 abbrev pub Follows : {A : Type 0} → Result (List Entry) RecipeCause → Recipe A → Recipe A → Result (Unit {0}) RecipeCause → Type 0
@@ -46,11 +72,11 @@ Follows said old new (Err cause) = said ≡ Err cause
 
 -- ---- sections
 
--- The module gains the section of these items, or nothing where there are none.
-pub record PutsSection (id : ℕ) (items : List (List ℕ)) (old new : List ℕ) (result : Result (Unit {0}) Refused) : Type 0 where
-  pub ok : OnOk result (new ≡ old ++ flat_map any_section_text (section_of id items))
-  pub fitted : OnOk result (SectionFits items)
-  pub too_long : SectionFits items → result ≢ Err refusals.TooLong
+-- The module gains these sections, if they fit.
+pub record Puts (sections : List (ℕ × List ℕ)) (Fits : Type 0) (old new : List ℕ) (result : Result (Unit {0}) Refused) : Type 0 where
+  pub ok : OnOk result (new ≡ old ++ flat_map any_section_text sections)
+  pub fitted : OnOk result Fits
+  pub too_long : Fits → result ≢ Err refusals.TooLong
 
 -- ---- faults
 

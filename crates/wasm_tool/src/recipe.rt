@@ -1,14 +1,32 @@
 // Recipes: from lines of text to a module.
-ghost use Rattle.std.specs.Prelude.{◌≡◌, ◌≢◌, ◌⊎◌, ◌++◌, ◌∷◌, [], All, IfOk, IfErr, IsErr, OnOk, length};
+ghost use Rattle.std.specs.Prelude.{◌≡◌, ◌≢◌, ◌⊎◌, ◌++◌, ◌∷◌, [], All, IfOk, IfErr, IsErr, OnOk, MatchResult, Some, None, length};
 ghost use Rattle.std.specs.Str.Lines.{strip_carriage_return};
 ghost use Rattle.hex.specs.Hex.{decode_of};
 ghost use Rattle.wasm_base.specs.Formats.{wasm_module};
 ghost use Rattle.wasm_base.specs.Reading.{ReadsWhole};
-ghost use Rattle.wasm_base.specs.Texts.{module_text};
+ghost use Rattle.wasm_base.specs.Pieces.{SectionFits};
+ghost use Rattle.wasm_base.specs.Texts.{FrameFits, module_text};
 ghost use Rattle.wasm_base.specs.declared.refused.Refused.TheVariants as refusals;
 ghost use Rattle.wasm_tool.specs.Lines.{words_of, lines_of};
-ghost use Rattle.wasm_tool.specs.Recipe.{entry_of, type_entry, body_entry, IsGood, entries_of, sections_of, recipe_module, RecipeFits};
-ghost use Rattle.wasm_tool.specs.Steps.{Follows, Explains, IsEmpty, FitsSections, PutsSection, listed};
+ghost use Rattle.wasm_tool.specs.Recipe.{
+  entry_of,
+  type_entry,
+  function_entry,
+  memory_entry,
+  export_entry,
+  start_entry,
+  body_entry,
+  kind_of,
+  number_of,
+  IsGood,
+  entries_of,
+  section_of,
+  start_of,
+  sections_of,
+  recipe_module,
+  RecipeFits,
+};
+ghost use Rattle.wasm_tool.specs.Steps.{Follows, Explains, IsEmpty, FitsSections, Puts, listed, start_items};
 
 use crate::fault::{RecipeCause, RecipeFault};
 use crate::words::Words;
@@ -16,11 +34,19 @@ use hex::FromHexError;
 use std::alloc::Allocator;
 use wasm_base::{Encode, Module, Pieces, R, RawSection, SectionId};
 use wasm_code::{CodeSection, Function};
+use wasm_sections::{
+    CountedSection, ExportKind, ExportSection, FunctionSection, ItemKind, MemorySection,
+    MemoryType, StartSection,
+};
 
 /// The sections to which the lines read so far have added.
 #[derive(Drop)]
 pub(crate) struct Recipe<A: Allocator> {
     types: Pieces<A>,
+    functions: FunctionSection<A>,
+    memories: MemorySection<A>,
+    exports: ExportSection<A>,
+    start: Option<u32>,
     code: CodeSection<A>,
 }
 
@@ -35,12 +61,63 @@ fn hex_bytes<A: Allocator>(alloc: A, word: &str) -> Result<Vec<u8, A>, RecipeCau
     })
 }
 
+/// The number that a word of decimal digits spells.
+fn number(word: &str) -> Result<u64, RecipeCause>
+    ensures { MatchResult result (λ n. number_of 64 word.now ≡ Some n) (λ cause. (cause ≡ RecipeCause.BadNumber) × (number_of 64 word.now ≡ None)) }
+{
+    // `parse` takes a plus sign, which a number of a recipe lacks.
+    if word.starts_with('+') {
+        return Err(RecipeCause::BadNumber);
+    }
+    let Ok(n) = word.parse() else {
+        return Err(RecipeCause::BadNumber);
+    };
+    Ok(n)
+}
+
+/// The number of 32 bits that a word of decimal digits spells.
+fn index(word: &str) -> Result<u32, RecipeCause>
+    ensures { MatchResult result (λ n. number_of 32 word.now ≡ Some n) (λ cause. (cause ≡ RecipeCause.BadNumber) × (number_of 32 word.now ≡ None)) }
+{
+    let Ok(n) = u32::try_from(number(word)?) else {
+        return Err(RecipeCause::BadNumber);
+    };
+    Ok(n)
+}
+
+/// What a word names that can be exported.
+fn export_kind(word: &str) -> Option<ExportKind>
+    ensures { result ≡ kind_of word.now }
+{
+    match word {
+        "func" => Some(ExportKind::Func),
+        "table" => Some(ExportKind::Table),
+        "memory" => Some(ExportKind::Memory),
+        "global" => Some(ExportKind::Global),
+        "tag" => Some(ExportKind::Tag),
+        _ => None,
+    }
+}
+
+/// Puts a section into the module, if it has an item.
+fn put_counted<K: ItemKind, A: Allocator, B: Allocator>(
+    section: &CountedSection<K, A>,
+    target: &mut Module<B>,
+) -> R<()>
+    ensures { Puts (section_of K.section_id section.now) (SectionFits section.now) target.old target.new result }
+{
+    if section.is_empty() {
+        return Ok(());
+    }
+    target.section(section)
+}
+
 /// The raw body of a function without locals, of these instructions.
 fn raw_body<A: Allocator>(alloc: A, instructions: Vec<u8, A>) -> R<Vec<u8, A>>
     ensures ok { IfOk result (λ body. body.items ≡ 0 ∷ instructions.items) }
     ensures memory { result ≢ Err refusals.TooLong }
 {
-    let mut function = Function::new(alloc)?;
+    let mut function = Function::new(alloc, [])?;
     function.raw(instructions)?;
     Ok(function.into_raw_body())
 }
@@ -51,6 +128,10 @@ impl<A: Allocator + Copy> Recipe<A> {
     {
         Recipe {
             types: Pieces::new(alloc),
+            functions: FunctionSection::new(alloc),
+            memories: MemorySection::new(alloc),
+            exports: ExportSection::new(alloc),
+            start: None,
             code: CodeSection::new(alloc),
         }
     }
@@ -65,6 +146,10 @@ impl<A: Allocator + Copy> Recipe<A> {
         };
         match command {
             "type" => self.read_type(alloc, words),
+            "func" => self.read_function(words),
+            "memory" => self.read_memory(words),
+            "export" => self.read_export(words),
+            "start" => self.read_start(words),
             "body" => self.read_body(alloc, words),
             _ => Err(RecipeCause::UnknownCommand),
         }
@@ -76,6 +161,51 @@ impl<A: Allocator + Copy> Recipe<A> {
         let word = words.next().ok_or(RecipeCause::MissingWord)?;
         let item = hex_bytes(alloc, word)?;
         self.types.add(&item)?;
+        Ok(())
+    }
+
+    fn read_function(&mut self, mut words: Words<'_>) -> Result<(), RecipeCause>
+        ensures { Follows (function_entry (words_of words.entry.rest.now)) self.old self.new result }
+    {
+        let word = words.next().ok_or(RecipeCause::MissingWord)?;
+        let type_index = index(word)?;
+        self.functions.function(type_index)?;
+        Ok(())
+    }
+
+    fn read_memory(&mut self, mut words: Words<'_>) -> Result<(), RecipeCause>
+        ensures { Follows (memory_entry (words_of words.entry.rest.now)) self.old self.new result }
+    {
+        let word = words.next().ok_or(RecipeCause::MissingWord)?;
+        let memory = MemoryType {
+            minimum: number(word)?,
+            maximum: None,
+            memory64: false,
+            shared: false,
+            page_size_log2: None,
+        };
+        self.memories.memory(memory)?;
+        Ok(())
+    }
+
+    fn read_export(&mut self, mut words: Words<'_>) -> Result<(), RecipeCause>
+        ensures { Follows (export_entry (words_of words.entry.rest.now)) self.old self.new result }
+    {
+        let name = words.next().ok_or(RecipeCause::MissingWord)?;
+        let kind = words.next().ok_or(RecipeCause::MissingWord)?;
+        let word = words.next().ok_or(RecipeCause::MissingWord)?;
+        let kind = export_kind(kind).ok_or(RecipeCause::UnknownCommand)?;
+        let exported = index(word)?;
+        self.exports.export(name, kind, exported)?;
+        Ok(())
+    }
+
+    /// Reads the start index, which replaces an earlier one.
+    fn read_start(&mut self, mut words: Words<'_>) -> Result<(), RecipeCause>
+        ensures { Follows (start_entry (words_of words.entry.rest.now)) self.old self.new result }
+    {
+        let word = words.next().ok_or(RecipeCause::MissingWord)?;
+        self.start = Some(index(word)?);
         Ok(())
     }
 
@@ -91,7 +221,7 @@ impl<A: Allocator + Copy> Recipe<A> {
 
     /// Puts the type section into the module: the number of types, and these.
     fn put_types(&self, alloc: A, target: &mut Module<A>) -> R<()>
-        ensures { PutsSection 1 self.now.types target.old target.new result }
+        ensures { Puts (section_of 1 self.now.types) (SectionFits self.now.types) target.old target.new result }
     {
         if self.types.is_empty() {
             return Ok(());
@@ -105,8 +235,17 @@ impl<A: Allocator + Copy> Recipe<A> {
         })
     }
 
+    fn put_start(&self, target: &mut Module<A>) -> R<()>
+        ensures { Puts (start_of (start_items self.now.start)) (All FrameFits (start_items self.now.start)) target.old target.new result }
+    {
+        match self.start {
+            Some(function_index) => target.section(&StartSection { function_index }),
+            None => Ok(()),
+        }
+    }
+
     fn put_code(&self, target: &mut Module<A>) -> R<()>
-        ensures { PutsSection 10 self.now.code target.old target.new result }
+        ensures { Puts (section_of 10 self.now.code) (SectionFits self.now.code) target.old target.new result }
     {
         if self.code.is_empty() {
             return Ok(());
@@ -122,6 +261,10 @@ impl<A: Allocator + Copy> Recipe<A> {
     {
         let mut module = Module::new(alloc)?;
         self.put_types(alloc, &mut module)?;
+        put_counted(&self.functions, &mut module)?;
+        put_counted(&self.memories, &mut module)?;
+        put_counted(&self.exports, &mut module)?;
+        self.put_start(&mut module)?;
         self.put_code(&mut module)?;
         Ok(module.finish())
     }
@@ -136,9 +279,11 @@ fn without_return(line: &str) -> &str
 
 /// The module that a recipe makes, or its first faulty line.
 ///
-/// Each line is a command and its words: `type HEX` adds a type to the type section, `body HEX` a function without locals and with
-/// these instructions to the code section. Sections that received an item are written in the order of the standard. A line
-/// without words is skipped, and words past those needed are ignored.
+/// Each line is a command and its words. `type HEX` adds a type to the type section, `func N` a function of the type N, `memory MIN`
+/// a memory of at least so many pages, `export NAME KIND N` the export of a `func`, `table`, `memory`, `global` or `tag`, and `body HEX`
+/// a function without locals and with these instructions to the code section. `start N` names the function that is run first; a later
+/// line replaces it. Sections that received an item are written in the order of the standard. A line without words is skipped, and
+/// words past those needed are ignored.
 ///
 /// ```rust
 /// let module = assemble(alloc, "body 200020016a0b")?;

@@ -1,5 +1,5 @@
 -- What a vector that is drained by value gives.
-use Rattle.std.proofs.Common.{◌≡◌, List, length, map, refl, sym, ◌∙◌}
+use Rattle.std.proofs.Common.{◌≡◌, List, length, sym, ◌∙◌}
 use Rattle.std.specs.Iterator.{Drains}
 use Rattle.std.specs.Vec.Iter.{into_iter_items, into_iter_len, into_iter_steps}
 use Rattle.std.specs.declared.vec.IntoIter.{IntoIter}

@@ -1,0 +1,37 @@
+-- entries: what the calls of a builder handed in, and the items that a section says.
+use Rattle.std.specs.Prelude.{◌≡◌, ℕ, List, map}
+use Rattle.std.specs.List.{AllZip}
+use Rattle.wasm_base.specs.Numbers.{shortest}
+use Rattle.wasm_base.specs.Formats.{Format, frame, vec}
+use Rattle.wasm_base.specs.Reading.{UniqueReading}
+use Rattle.wasm_base.specs.Texts.{FrameFits}
+
+-- what a call handed in: a record, or a piece that is spelled already
+pub data Entry (Record : Type 0) : Type 0 where
+  Given : Record → Entry Record
+  Raw : List ℕ → Entry Record
+
+-- what an entry adds to the content
+abbrev pub entry_text : {Record : Type 0} → (Record → List ℕ) → Entry Record → List ℕ
+entry_text text (Given given) = text given
+entry_text text (Raw piece) = piece
+
+-- The entry is plain and says this item: the normal form of a plain record, or what a raw piece spells.
+abbrev pub Means : {Record Item : Type 0} → (Record → Type 0) → (Record → Item) → Format Item → Entry Record → Item → Type 0
+Means IsPlain normal_form F (Given given) item = IsPlain given × (item ≡ normal_form given)
+Means IsPlain normal_form F (Raw piece) item = F shortest piece item
+
+-- holds: The builder has the entries' texts, one each, and these are the entries' items.
+pub record HoldsItems {Record Item : Type 0} (text : Record → List ℕ) (IsPlain : Record → Type 0) (normal_form : Record → Item) (F : Format Item) (pieces : List (List ℕ)) (items : List Item) : Type 0 where
+  pub entries : List (Entry Record)
+  pub held : pieces ≡ map (entry_text text) entries
+  pub meant : AllZip (Means IsPlain normal_form F) entries items
+
+-- a section of counted items: the frame of a vector
+abbrev pub counted_format : {Item : Type 0} → Format Item → Format (List Item)
+counted_format F = frame (vec F)
+
+-- What a kind of items owes: they are read uniquely, and the text of a plain record spells its normal form.
+pub record ItemLaws {Record Item : Type 0} (text : Record → List ℕ) (IsPlain : Record → Type 0) (normal_form : Record → Item) (F : Format Item) : Type 0 where
+  pub alone : UniqueReading F
+  pub spelled : (given : Record) → IsPlain given → FrameFits (text given) → F shortest (text given) (normal_form given)

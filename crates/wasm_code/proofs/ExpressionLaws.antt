@@ -1,0 +1,103 @@
+-- Expressions are read uniquely, and plain stored bytes spell them.
+use Rattle.std.proofs.Common.{◌≡◌, ◌≢◌, ℕ, List, [], ◌∷◌, ◌++◌, true, false, Option, Ok, map, refl, sym, ap, subst, ◌∙◌, append_assoc, append-nil}
+use Rattle.std.proofs.lemmas.List.Elements.{All-head, All-tail}
+use Rattle.std.specs.List.{All, flat_map}
+use Rattle.std.specs.declared.alloc.Global.{Global}
+use Rattle.wasm_base.specs.Numbers.{Mode, shortest}
+use Rattle.wasm_base.specs.Formats.{Format, such, members, ended}
+use Rattle.wasm_base.specs.Reading.{UniqueReading, BeginsWith}
+use Rattle.wasm_base.specs.Calls.{ReadsBack}
+use Rattle.wasm_base.proofs.FormatLaws.{such-alone, ended-alone}
+use Rattle.wasm_base.proofs.TextLaws.{reads_alone}
+use Rattle.wasm_insn.specs.declared.instruction.Instruction.{Instruction}
+use Rattle.wasm_insn.specs.declared.op.Op.{Op}
+use Rattle.wasm_insn.specs.declared.op.Op.TheVariants.{Byte}
+use Rattle.wasm_insn.specs.Plain.{Plain, instruction, op_after, same_op}
+use Rattle.wasm_insn.specs.Table.{table}
+use Rattle.wasm_insn.specs.Instructions.{row_of, instruction_text, InstructionFits, IsPlainInstruction}
+use Rattle.wasm_insn.proofs.InstructionLaws.{alone, reads}
+use Rattle.wasm_code.specs.Expressions.{IsNoEnd, expression, expression_text, StoresInstructions, normal_row, IsPlainInside, Stores, StoresAll, AppendsEach, StoresGiven}
+
+-- ---- unique reading
+
+-- An op of the byte 0B alone is End.
+end_is : (mode : Mode) (s : List ℕ) (op : Op) → op_after 0x0B mode s op → op ≡ Byte 0x0B
+end_is mode s op h = h.1
+
+-- An instruction begins with the byte of its op.
+pub any_begins : BeginsWith (λ b. Unit {0}) (instruction table)
+any_begins mode s i h =
+    let op = h.2.first in
+    (op.0.0, op.2.back ++ h.2.back, h.2.joined ∙ ap (λ z. z ++ h.2.back) (op.2.joined ∙ ap (λ z. z ++ op.2.back) op.2.first), tt)
+
+no_end : (op : Op) → same_op op (Byte 0x0B) ≡ false → op ≢ Byte 0x0B
+no_end op other e = let same : true ≡ false = subst (λ o. same_op o (Byte 0x0B) ≡ false) e other in absurd (cc same)
+
+not_end_begins : BeginsWith (λ b. b ≢ 0x0B) (such IsNoEnd (instruction table))
+not_end_begins mode s i h =
+    let k = h.0 in
+    let op = k.2.first in (
+      op.0.0,
+      op.2.back ++ k.2.back,
+      k.2.joined ∙ ap (λ z. z ++ k.2.back) (op.2.joined ∙ ap (λ z. z ++ op.2.back) op.2.first),
+      λ e. no_end i.op h.1 (sym (ap (λ i. i.op) k.1) ∙ sym op.1 ∙ end_is mode op.2.back op.0.1 (subst (λ b. op_after b mode op.2.back op.0.1) e op.2.second)),
+    )
+
+pub expression-alone : UniqueReading expression
+expression-alone = ended-alone 0x0B not_end_begins (such-alone IsNoEnd alone)
+
+-- ---- texts
+
+-- members, and then more of them
+pub members_join : {X : Type 0} (F : Format X) (mode : Mode) (s t : List ℕ) (xs ys : List X) → members F mode s xs → members F mode t ys → members F mode (s ++ t) (xs ++ ys)
+members_join F mode s t [] ys h g = subst (λ z. members F mode (z ++ t) ys) (sym h) g
+members_join F mode s t (x ∷ xs) ys h g = (h.0, h.1 ++ t, ap (λ z. z ++ t) h.2 ∙ append_assoc h.0 h.1 t, h.3, members_join F mode h.1 t xs ys h.4 g)
+
+-- one member
+pub members_one : {X : Type 0} (F : Format X) (mode : Mode) (s : List ℕ) (x : X) → F mode s x → members F mode s (x ∷ [])
+members_one F mode s x h = (s, [], sym (append-nil s), h, refl)
+
+ended_spelled : {X : Type 0} (stop : ℕ) (F : Format X) (mode : Mode) (s : List ℕ) (xs : List X) → members F mode s xs → ended stop F mode (s ++ stop ∷ []) xs
+ended_spelled stop F mode s [] h = ap (λ z. z ++ stop ∷ []) h
+ended_spelled stop F mode s (x ∷ xs) h = (h.0, h.1 ++ stop ∷ [], ap (λ z. z ++ stop ∷ []) h.2 ∙ append_assoc h.0 h.1 (stop ∷ []), h.3, ended_spelled stop F mode h.1 xs h.4)
+
+-- What the bytes store, the text spells.
+pub expression_spelled : (mode : Mode) (bytes : List ℕ) (is : List Plain) → members (such IsNoEnd (instruction table)) mode bytes is → expression mode (expression_text bytes) is
+expression_spelled mode bytes is h = ended_spelled 0x0B (such IsNoEnd (instruction table)) mode bytes is h
+
+pub expression_reads : (bytes : List ℕ) → ReadsBack expression (StoresInstructions bytes) (expression_text bytes)
+expression_reads bytes = record { for_each = λ is h. reads_alone {F = expression} expression-alone (expression_spelled shortest bytes is h) }
+
+-- ---- calls
+
+-- A plain instruction's text spells its normal form.
+pub normal_spelled : {A : Type 0} (i : Instruction A) → IsPlainInstruction i → instruction table shortest (instruction_text i) (normal_row i)
+normal_spelled i h = ((reads i).alone h).spelled
+
+pub stores : (i : Instruction Global) (old new : List ℕ) → IsNoEnd (row_of i) → new ≡ old ++ instruction_text i → Stores i old new
+stores i old new other e = record {
+  text = e;
+  plain = λ h is held.
+      let inside : such IsNoEnd (instruction table) shortest (instruction_text i) (normal_row i) = (normal_spelled i h, other) in
+      subst (λ z. StoresInstructions z (is ++ normal_row i ∷ [])) (sym e)
+      (members_join (such IsNoEnd (instruction table)) shortest old (instruction_text i) is (normal_row i ∷ []) held
+      (members_one (such IsNoEnd (instruction table)) shortest (instruction_text i) (normal_row i) inside));
+}
+
+stored : {A : Type 0} (is : List (Instruction A)) → All IsPlainInside is → StoresInstructions (flat_map instruction_text is) (map normal_row is)
+stored [] h = refl
+stored (i ∷ is) h =
+    let inside = All-head IsPlainInside i is h in
+    (instruction_text i, flat_map instruction_text is, refl, (normal_spelled i inside.plain, inside.no_end), stored is (All-tail IsPlainInside i is h))
+
+pub stores_all : (is : List (Instruction Global)) (bytes : List ℕ) → bytes ≡ flat_map instruction_text is → StoresAll is bytes
+stores_all is bytes e = record { plain = λ h. subst (λ z. StoresInstructions z (map normal_row is)) (sym e) (stored is h) }
+
+pub stores_given : {U S : Type 0} (becomes : U → S → Type 0) (gives : S → Option (Instruction Global) → S → Type 0) (elements : U) (old new : List ℕ) → old ≡ []
+    → AppendsEach becomes gives InstructionFits instruction_text elements old new (Ok (tt {0})) → StoresGiven becomes gives elements (Ok new)
+stores_given becomes gives elements old new e h =
+    let given = h.ok in
+    let text : new ≡ flat_map instruction_text given.1 = given.5 ∙ ap (λ z. z ++ flat_map instruction_text given.1) e in
+    record { ok = (given.0, given.1, given.2, given.3, given.4, text, stores_all given.1 new text); too_long = λ fits is. absurd (cc is) }
+
+pub ruleset expressions = (expression-alone)

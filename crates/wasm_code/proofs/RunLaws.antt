@@ -1,0 +1,102 @@
+-- Runs of locals: a list of types has one.
+use Rattle.std.proofs.Common.{◌≡◌, ℕ, zero, suc, ◌+◌, ◌-◌, ◌<◌, ◌≤◌, ◌⊎◌, List, [], ◌∷◌, ◌++◌, refl, sym, ap, ap₂, subst, ◌∙◌, arith, inl, inr, replicate, append_assoc, append-nil}
+use Rattle.std.proofs.lemmas.Bool.{cases_lt}
+use Rattle.std.proofs.lemmas.List.{append_cancel_left, replicate_more}
+use Rattle.wasm_base.specs.declared.types.ValType.{ValType}
+use Rattle.wasm_base.proofs.FormatLaws.{same_pair}
+use Rattle.wasm_code.specs.Bodies.{Run, expand, IsRuns, MoreRuns}
+use Rattle.wasm_code.specs.Laws.{HaveOneExpansion}
+
+count_low : (p : Run) (xs : List Run) → IsRuns (p ∷ xs) → 1 ≤ p.0
+count_low p [] h = h
+count_low p (q ∷ xs) h = h.0
+
+runs_tail : (p : Run) (xs : List Run) → IsRuns (p ∷ xs) → IsRuns xs
+runs_tail p [] h = tt
+runs_tail p (q ∷ xs) h = h.2
+
+begins : (n : ℕ) (t : ValType) (rest : List ValType) → 1 ≤ n → replicate n t ++ rest ≡ t ∷ (replicate (n - 1) t ++ rest)
+begins zero t rest h = absurd (omega arith)
+begins (suc k) t rest h = ap (λ z. t ∷ (replicate z t ++ rest)) (omega arith)
+
+-- What follows a run does not begin with its type.
+clash : (p : Run) (xs : List Run) (d : ℕ) (rest : List ValType) → IsRuns (p ∷ xs) → 1 ≤ d → expand xs ≡ replicate d p.1 ++ rest → ⊥
+clash p [] d rest h l e = let same : [] ≡ p.1 ∷ (replicate (d - 1) p.1 ++ rest) = e ∙ begins d p.1 rest l in absurd (cc same)
+clash p (q ∷ xs) d rest h l e =
+    let same : q.1 ∷ (replicate (q.0 - 1) q.1 ++ expand xs) ≡ p.1 ∷ (replicate (d - 1) p.1 ++ rest) = sym (begins q.0 q.1 (expand xs) (count_low q xs h.2)) ∙ e ∙ begins d p.1 rest l in
+    let type : p.1 ≡ q.1 = cc same in
+    h.1 type
+
+longer : (n m : ℕ) (t : ValType) (a b : List ValType) → n < m → replicate n t ++ a ≡ replicate m t ++ b → a ≡ replicate (m - n) t ++ b
+longer zero m t a b l e = e ∙ ap (λ z. replicate z t ++ b) (omega arith)
+longer (suc k) zero t a b l e = absurd (omega arith)
+longer (suc k) (suc j) t a b l e = longer k j t a b (omega arith) (cc e) ∙ ap (λ z. replicate z t ++ b) (omega arith)
+
+same_count : (p q : Run) (xs ys : List Run) → IsRuns (p ∷ xs) → IsRuns (q ∷ ys) → p.1 ≡ q.1 → expand (p ∷ xs) ≡ expand (q ∷ ys) → p.0 < q.0 → ⊥
+same_count p q xs ys h g t e l =
+    let joined : replicate p.0 p.1 ++ expand xs ≡ replicate q.0 p.1 ++ expand ys = subst (λ z. replicate p.0 p.1 ++ expand xs ≡ replicate q.0 z ++ expand ys) (sym t) e in
+    clash p xs (q.0 - p.0) (expand ys) h (omega (arith, l)) (longer p.0 q.0 p.1 (expand xs) (expand ys) l joined)
+
+pub unique : (xs ys : List Run) → IsRuns xs → IsRuns ys → expand xs ≡ expand ys → xs ≡ ys
+unique [] [] h g e = refl
+unique [] (q ∷ ys) h g e = let same : [] ≡ q.1 ∷ (replicate (q.0 - 1) q.1 ++ expand ys) = e ∙ begins q.0 q.1 (expand ys) (count_low q ys g) in absurd (cc same)
+unique (p ∷ xs) [] h g e = let same : [] ≡ p.1 ∷ (replicate (p.0 - 1) p.1 ++ expand xs) = sym e ∙ begins p.0 p.1 (expand xs) (count_low p xs h) in absurd (cc same)
+unique (p ∷ xs) (q ∷ ys) h g e =
+    let heads : p.1 ∷ (replicate (p.0 - 1) p.1 ++ expand xs) ≡ q.1 ∷ (replicate (q.0 - 1) q.1 ++ expand ys) = sym (begins p.0 p.1 (expand xs) (count_low p xs h)) ∙ e ∙ begins q.0 q.1 (expand ys) (count_low q ys g) in
+    let type : p.1 ≡ q.1 = cc heads in
+    let count : p.0 ≡ q.0 = go type (cases_lt p.0 q.0) (cases_lt q.0 p.0) in
+    let tails : expand xs ≡ expand ys = append_cancel_left (replicate p.0 p.1) (expand xs) (expand ys) (e ∙ ap₂ (λ n t. replicate n t ++ expand ys) (sym count) (sym type)) in
+    ap₂ ◌∷◌ (same_pair p q count type) (unique xs ys (runs_tail p xs h) (runs_tail q ys g) tails)
+  where
+    go : p.1 ≡ q.1 → (p.0 < q.0) ⊎ (q.0 ≤ p.0) → (q.0 < p.0) ⊎ (p.0 ≤ q.0) → p.0 ≡ q.0
+    go t (inl l) m = absurd (same_count p q xs ys h g t e l)
+    go t (inr l) (inl m) = absurd (same_count q p ys xs g h (sym t) (sym e) m)
+    go t (inr l) (inr m) = omega (arith, l, m)
+
+pub one_expansion : (xs ys : List Run) → HaveOneExpansion xs ys
+one_expansion xs ys = record { same = unique xs ys }
+
+-- ---- one more local
+
+expand_join : (xs ys : List Run) → expand (xs ++ ys) ≡ expand xs ++ expand ys
+expand_join [] ys = refl
+expand_join (p ∷ xs) ys = ap (λ z. replicate p.0 p.1 ++ z) (expand_join xs ys) ∙ sym (append_assoc (replicate p.0 p.1) (expand xs) (expand ys))
+
+counted : (rest : List Run) (n m : ℕ) (t : ValType) → 1 ≤ m → IsRuns (rest ++ (n, t) ∷ []) → IsRuns (rest ++ (m, t) ∷ [])
+counted [] n m t l h = l
+counted (p ∷ []) n m t l h = (h.0, h.1, l)
+counted (p ∷ q ∷ rest) n m t l h = (h.0, h.1, counted (q ∷ rest) n m t l h.2)
+
+followed : (rest : List Run) (n : ℕ) (t u : ValType) → (t ≡ u → ⊥) → IsRuns (rest ++ (n, t) ∷ []) → IsRuns ((rest ++ (n, t) ∷ []) ++ (1, u) ∷ [])
+followed [] n t u other h = (h, other, omega arith)
+followed (p ∷ []) n t u other h = (h.0, h.1, (h.2, other, omega arith))
+followed (p ∷ q ∷ rest) n t u other h = (h.0, h.1, followed (q ∷ rest) n t u other h.2)
+
+expand_last : (rest : List Run) (n : ℕ) (t : ValType) → expand (rest ++ (n, t) ∷ []) ≡ expand rest ++ replicate n t
+expand_last rest n t = expand_join rest ((n, t) ∷ []) ∙ ap (λ z. expand rest ++ z) (append-nil (replicate n t))
+
+-- the last run has one more
+pub longer_run : (rest : List Run) (n m : ℕ) (t : ValType) (old new : List Run) → old ≡ rest ++ (n, t) ∷ [] → m ≡ n + 1 → new ≡ rest ++ (m, t) ∷ [] → MoreRuns t old new
+longer_run rest n m t old new before more after = record {
+  runs = λ h. subst IsRuns (sym after) (counted rest n m t (omega (arith, more)) (subst IsRuns before h));
+  expanded =
+      ap expand after ∙ expand_last rest m t ∙ ap (λ k. expand rest ++ replicate k t) more ∙ ap (λ z. expand rest ++ z) (sym (replicate_more n t)) ∙ sym (append_assoc (expand rest) (replicate n t) (t ∷ []))
+      ∙ ap (λ z. z ++ t ∷ []) (sym (ap expand before ∙ expand_last rest n t));
+}
+
+one_more_run : (old new : List Run) (t : ValType) → new ≡ old ++ (1, t) ∷ [] → expand new ≡ expand old ++ t ∷ []
+one_more_run old new t e = ap expand e ∙ expand_join old ((1, t) ∷ [])
+
+-- a run of its own, after one of another type
+pub next_run : (rest : List Run) (n : ℕ) (t u : ValType) (old new : List Run) → old ≡ rest ++ (n, t) ∷ [] → (t ≡ u → ⊥) → new ≡ (rest ++ (n, t) ∷ []) ++ (1, u) ∷ [] → MoreRuns u old new
+next_run rest n t u old new before other after = record {
+  runs = λ h. subst IsRuns (sym after) (followed rest n t u other (subst IsRuns before h));
+  expanded = one_more_run old new u (after ∙ ap (λ z. z ++ (1, u) ∷ []) (sym before));
+}
+
+-- the first run
+pub first_run : (u : ValType) (old new : List Run) → old ≡ [] → new ≡ old ++ (1, u) ∷ [] → MoreRuns u old new
+first_run u old new before after = record {
+  runs = λ h. subst IsRuns (sym (after ∙ ap (λ z. z ++ (1, u) ∷ []) before)) (omega arith);
+  expanded = one_more_run old new u after;
+}

@@ -1,0 +1,11 @@
+use Rattle.std.proofs.Common.{◌≡◌, ◌++◌}
+use Rattle.std.specs.List.{All, flat_map}
+use Rattle.wasm_code.proofs.const_expr.encode_each.Given as goal
+
+abbrev pub invariant-loop-element : goal.invariant-loop-element
+invariant-loop-element g l = record {
+  can : (goal.iterator-loop-element g).can_next l.element-iterator;
+  finite : (goal.iterator-loop-element g).is_finite l.element-iterator;
+  text : l.sink.items ≡ l.initial.sink.items ++ flat_map g.T.Encode.text l.yielded;
+  fits : All g.T.Encode.fits l.yielded;
+}

@@ -1,0 +1,93 @@
+-- Constant expressions.
+use Rattle.std.specs.Prelude.{◌≡◌, ◌≢◌, ◌↔◌, ◌≤◌, ℕ, List, [], ◌∷◌, ◌++◌, length, Result, Err, IfOk, Option, Some, OnOk, map, false}
+use Rattle.std.specs.Iterator.{Drains, Yields}
+use Rattle.std.specs.List.{All, flat_map}
+use Rattle.std.specs.declared.alloc.Global.{Global}
+use Rattle.wasm_base.specs.Numbers.{shortest, wide, AreGroups, groups_sum}
+use Rattle.wasm_base.specs.Formats.{Format, u32, such, members, ended, prefixed}
+use Rattle.wasm_base.specs.Reading.{Reads}
+use Rattle.wasm_base.specs.declared.refused.Refused.{Refused}
+use Rattle.wasm_base.specs.declared.refused.Refused.TheVariants.{TooLong}
+use Rattle.wasm_insn.specs.declared.instruction.Instruction.{Instruction}
+use Rattle.wasm_insn.specs.declared.op.Op.TheVariants.{Byte}
+use Rattle.wasm_insn.specs.Plain.{Plain, instruction, normal, same_op}
+use Rattle.wasm_insn.specs.Table.{table}
+use Rattle.wasm_insn.specs.Instructions.{row_of, instruction_text, InstructionFits, IsPlainInstruction}
+
+-- ---- format and text
+
+-- not `End`
+abbrev pub IsNoEnd : Plain → Type 0
+IsNoEnd i = same_op i.op (Byte 0x0B) ≡ false
+
+-- expression: instructions, none of them End, and then End
+abbrev pub expression : Format (List Plain)
+expression = ended 0x0B (such IsNoEnd (instruction table))
+
+-- the stored bytes, and then End
+abbrev pub expression_text : List ℕ → List ℕ
+expression_text bytes = bytes ++ 0x0B ∷ []
+
+-- ---- plain expressions
+
+-- plain: The stored bytes spell these instructions, none of them End.
+abbrev pub StoresInstructions : List ℕ → List Plain → Type 0
+StoresInstructions bytes is = members (such IsNoEnd (instruction table)) shortest bytes is
+
+-- the normal form of an instruction
+abbrev pub normal_row : {A : Type 0} → Instruction A → Plain
+normal_row i = normal (row_of i)
+
+-- an instruction that a plain expression can store
+pub record IsPlainInside {A : Type 0} (i : Instruction A) : Type 0 where
+  pub plain : IsPlainInstruction i
+  pub no_end : IsNoEnd (row_of i)
+
+-- The new bytes are the old ones and the text of i. Where the old ones spell instructions, the new ones spell these and the normal
+-- form of i.
+pub record Stores (i : Instruction Global) (old new : List ℕ) : Type 0 where
+  pub text : new ≡ old ++ instruction_text i
+  pub plain : IsPlainInstruction i → (is : List Plain) → StoresInstructions old is → StoresInstructions new (is ++ normal_row i ∷ [])
+
+-- Where the instructions are plain and none of them is End, the bytes spell their normal forms.
+pub record StoresAll {A : Type 0} (is : List (Instruction A)) (bytes : List ℕ) : Type 0 where
+  pub plain : All IsPlainInside is → StoresInstructions bytes (map normal_row is)
+
+-- ---- calls
+
+-- The buffer gains the texts of the items that the elements give.
+pub record AppendsEach {U S T : Type 0} (becomes : U → S → Type 0) (gives : S → Option T → S → Type 0) (Fits : T → Type 0) (text : T → List ℕ)
+    (elements : U) (old new : List ℕ) (result : Result (Unit {0}) Refused) : Type 0 where
+  pub ok : OnOk result ((it : S) × (xs : List T) × becomes elements it × Drains gives it xs × All Fits xs × (new ≡ old ++ flat_map text xs))
+  pub too_long : ((it left : S) (xs : List T) → becomes elements it → Yields gives it xs left → All Fits xs) → result ≢ Err TooLong
+
+-- The expression stores the texts of the instructions that the elements give.
+pub record StoresGiven {U S : Type 0} (becomes : U → S → Type 0) (gives : S → Option (Instruction Global) → S → Type 0) (elements : U) (result : Result (List ℕ) Refused) : Type 0 where
+  pub ok : IfOk result (λ bytes. (it : S) × (is : List (Instruction Global)) × becomes elements it × Drains gives it is × All InstructionFits is × (bytes ≡ flat_map instruction_text is) × StoresAll is bytes)
+  pub too_long : ((it left : S) (is : List (Instruction Global)) → becomes elements it → Yields gives it is left → All InstructionFits is) → result ≢ Err TooLong
+
+-- ---- the index of `RefFunc`
+
+-- groups of seven bits, of which there are at most so many
+abbrev pub groups : ℕ → Format (List ℕ)
+groups limit mode s x = (s ≡ x) × AreGroups s × (length s ≤ limit)
+
+-- The bytes begin with at most so many groups, of which the sum is n.
+pub record HasGroups (limit : ℕ) (bytes : List ℕ) (n : ℕ) : Type 0 where
+  pub front : List ℕ
+  pub rest : List ℕ
+  pub read : Reads (groups limit) wide bytes front rest
+  pub total : groups_sum front ≡ n
+
+-- `RefFunc` and an index, padded or not
+abbrev pub ref_func : Format ℕ
+ref_func = prefixed (0xD2 ∷ []) u32
+
+-- The bytes begin with `RefFunc` of f, in a wide spelling of 32 bits.
+pub record BeginsWithRefFunc (bytes : List ℕ) (f : ℕ) : Type 0 where
+  pub rest : List ℕ
+  pub read : Reads ref_func wide bytes f rest
+
+-- The answer is an index exactly where the bytes begin with `RefFunc` of it.
+pub record IsRefFunc (bytes : List ℕ) (answer : Option ℕ) : Type 0 where
+  pub exactly : (f : ℕ) → (answer ≡ Some f) ↔ BeginsWithRefFunc bytes f

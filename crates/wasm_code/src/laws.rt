@@ -1,0 +1,61 @@
+//! What is promised of all lists of bytes, and not of a call: each function does nothing, and its clauses are the promise.
+//!
+//! `UniqueReading F` says that bytes begin with a spelling in the format `F` of one value alone, whatever follows, both with
+//! shortest and with padded numbers, and that a value has one shortest spelling; `UniqueWholeReading F` the same of a format whose
+//! spellings reach to the last byte.
+ghost use Rattle.std.specs.Prelude.{◌∷◌, [], List};
+ghost use Rattle.wasm_base.specs.Formats.{frame};
+ghost use Rattle.wasm_base.specs.Reading.{UniqueReading, UniqueWholeReading, IsUniqueWide, IsUniqueWholeWide};
+ghost use Rattle.wasm_code.specs.Bodies.{Run, body};
+ghost use Rattle.wasm_code.specs.Code.{raw_code, code_section};
+ghost use Rattle.wasm_code.specs.Expressions.{expression};
+ghost use Rattle.wasm_code.specs.Laws.{NothingStands, HasOffsets, FindsAdded, HaveOneExpansion};
+ghost use Rattle.wasm_insn.specs.declared.instruction.Instruction.{Instruction};
+
+use std::alloc::Allocator;
+
+/// Expressions are read uniquely: one ends at the first `End` where an instruction begins.
+#[tactic(auto, using(crate::proofs::ExpressionLaws::expressions))]
+pub fn expressions()
+    ensures { UniqueReading expression }
+{}
+
+/// Bodies are read uniquely, and so are code sections, of raw bodies and of bodies.
+#[tactic(auto, using(crate::proofs::CodeLaws::bodies))]
+pub fn bodies()
+    ensures body { UniqueWholeReading body }
+    ensures frame { UniqueReading (frame body) }
+    ensures raw_code { UniqueReading raw_code }
+    ensures code_section { UniqueReading code_section }
+{}
+
+/// Where a raw body that spells a body goes on and spells another, an instruction begins after as many bytes as it has: in the
+/// only reading of the longer one. Where a plain instruction was added next, it is that one.
+#[tactic(auto, using(crate::proofs::BodyLaws::offset))]
+pub fn offset<A: Allocator>()
+    ensures begins { HasOffsets }
+    ensures added { (i : Instruction A) → FindsAdded i }
+{}
+
+/// With padded numbers too.
+#[tactic(auto, using(crate::proofs::CodeLaws::wide_laws))]
+pub fn wide()
+    ensures expression { IsUniqueWide expression }
+    ensures body { IsUniqueWholeWide body }
+    ensures frame { IsUniqueWide (frame body) }
+    ensures raw_code { IsUniqueWide raw_code }
+    ensures code_section { IsUniqueWide code_section }
+{}
+
+/// A list of types has one list of runs with counts of at least 1 and no two neighbours of one type.
+#[tactic(auto, using(crate::proofs::RunLaws::one_expansion))]
+pub fn locals()
+    ensures { (xs ys : List Run) → HaveOneExpansion xs ys }
+{}
+
+/// No code section stands where a memory argument is cut short, nor where a count of runs is padded.
+#[tactic(auto, using(crate::proofs::NothingLaws::nothing))]
+pub fn nothing_stands()
+    ensures cut { NothingStands code_section (6 ∷ 1 ∷ 4 ∷ 0 ∷ 40 ∷ 16 ∷ 0 ∷ []) }
+    ensures padded { NothingStands code_section (5 ∷ 1 ∷ 3 ∷ 128 ∷ 0 ∷ 11 ∷ []) }
+{}

@@ -1,0 +1,42 @@
+-- The byte of the flags tells each of them.
+use Rattle.std.proofs.Common.{◌≡◌, ℕ, ◌+◌, ◌*◌, ◌/◌, ◌%◌, ◌^◌, ◌<◌, Bool, true, false, refl, arith}
+use Rattle.wasm_base.specs.Reading.{UniqueReading}
+use Rattle.wasm_base.proofs.FormatLaws.{coded-alone}
+use Rattle.wasm_insn.specs.Immediates.{where_set}
+use Rattle.wasm_insn.specs.Plain.{bit}
+use Rattle.wasm_sections.specs.Flags.{Flags, flags, flags_code}
+
+-- a weight, as a multiple of a bit
+pub weight_is : (set : Bool) (weight : ℕ) → where_set set weight ≡ weight * where_set set 1
+weight_is true weight = omega arith
+weight_is false weight = omega arith
+
+pub bit_low : (set : Bool) → where_set set 1 < 2
+bit_low true = omega arith
+bit_low false = omega arith
+
+pub bit_of : (place n : ℕ) (set : Bool) → n / 2 ^ place % 2 ≡ where_set set 1 → bit place n ≡ set
+bit_of place n true e = rw e refl
+bit_of place n false e = rw e refl
+
+decode : ℕ → Flags
+decode n = record { has_maximum = bit 0 n; shared = bit 1 n; is_64 = bit 2 n; has_page_size = bit 3 n }
+
+back : (f : Flags) → decode (flags_code f) ≡ f
+unfolding decode
+back f =
+    let n = flags_code f in
+    let a = bit_low f.has_maximum in
+    let b = bit_low f.shared in
+    let c = bit_low f.is_64 in
+    let d = bit_low f.has_page_size in
+    let sum : n ≡ where_set f.has_maximum 1 + 2 * where_set f.shared 1 + 4 * where_set f.is_64 1 + 8 * where_set f.has_page_size 1 =
+    omega (arith, weight_is f.shared 0x02, weight_is f.is_64 0x04, weight_is f.has_page_size 0x08) in
+    let p : bit 0 n ≡ f.has_maximum = bit_of 0 n f.has_maximum (omega (arith, sum, a)) in
+    let q : bit 1 n ≡ f.shared = bit_of 1 n f.shared (omega (arith, sum, a, b)) in
+    let r : bit 2 n ≡ f.is_64 = bit_of 2 n f.is_64 (omega (arith, sum, a, b, c)) in
+    let t : bit 3 n ≡ f.has_page_size = bit_of 3 n f.has_page_size (omega (arith, sum, a, b, c, d)) in
+    λ i. record { has_maximum = p i; shared = q i; is_64 = r i; has_page_size = t i }
+
+pub flags-alone : UniqueReading flags
+flags-alone = coded-alone flags_code decode back

@@ -1,0 +1,10 @@
+-- Type indices are read uniquely.
+use Rattle.wasm_base.specs.Entries.{ItemLaws}
+use Rattle.wasm_base.specs.Formats.{u32}
+use Rattle.wasm_base.specs.Laws.{FitsUnsigned}
+use Rattle.wasm_base.specs.Numbers.{unsigned_text}
+use Rattle.wasm_base.proofs.NumberLaws.{u32-alone}
+use Rattle.wasm_base.proofs.TextLaws.{u32_spelled}
+
+pub function_laws : ItemLaws unsigned_text (FitsUnsigned 32) (λ index. index) u32
+function_laws = record { alone = u32-alone; spelled = λ index plain fits. u32_spelled index plain }

@@ -1,0 +1,11 @@
+pub mod Parts
+pub mod FlagLaws
+pub mod NumberLaws
+pub mod FunctionLaws
+pub mod MemoryLaws
+pub mod TagLaws
+pub mod TableLaws
+pub mod ExportLaws
+pub mod GlobalLaws
+pub mod ImportLaws
+pub mod SectionLaws

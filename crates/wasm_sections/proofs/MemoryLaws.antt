@@ -1,0 +1,51 @@
+-- Memory types are read uniquely.
+use Rattle.std.proofs.Common.{◌≡◌, ℕ, ◌^◌, ◌<◌, [], ◌∷◌, ◌++◌, Option, refl, ap, ◌∙◌}
+use Rattle.wasm_base.specs.Entries.{ItemLaws}
+use Rattle.wasm_base.specs.Formats.{u32, u64, optional}
+use Rattle.wasm_base.specs.Numbers.{shortest, unsigned_text}
+use Rattle.wasm_base.specs.Reading.{UniqueReading}
+use Rattle.wasm_base.proofs.BaseLaws.{u64-alone}
+use Rattle.wasm_base.proofs.FormatLaws.{TellsTag, tagged-alone, mapped-alone, pair-alone, optional-alone}
+use Rattle.wasm_base.proofs.NumberLaws.{u32-alone}
+use Rattle.wasm_base.proofs.TextLaws.{u32_spelled, u64_spelled}
+use Rattle.wasm_insn.specs.Immediates.{optional_text}
+use Rattle.wasm_sections.specs.Flags.{flags_code, is_given}
+use Rattle.wasm_sections.specs.Memories.{memory_flags, memory_text, IsMemory, memory_of, after_memory_flags, memory_type}
+use Rattle.wasm_sections.specs.declared.memory.MemoryType.{MemoryType}
+use Rattle.wasm_sections.proofs.FlagLaws.{flags-alone}
+use Rattle.wasm_sections.proofs.Parts.{pair_spelled, optional_spelled, optional_tells}
+
+abbrev parts_of : MemoryType → ℕ × (Option ℕ × Option ℕ)
+parts_of m = (m.minimum, (m.maximum, m.page_size_log2))
+
+flags_tell : TellsTag after_memory_flags memory_flags
+flags_tell mode f s m h =
+    let maximum = optional_tells u64 f.has_maximum mode h.2.second.front h.0.1.0 h.2.second.first in
+    let page = optional_tells u32 f.has_page_size mode h.2.second.back h.0.1.1 h.2.second.second in
+    let told : f ≡ memory_flags (memory_of f h.0) = λ i. record { has_maximum = maximum i; shared = f.shared; is_64 = f.is_64; has_page_size = page i } in
+    told ∙ ap memory_flags h.1
+
+pub memory-alone : UniqueReading memory_type
+memory-alone =
+    tagged-alone memory_flags flags_tell flags-alone λ f.
+    mapped-alone (memory_of f) (λ x y e. ap parts_of e)
+    (pair-alone u64-alone (pair-alone (optional-alone f.has_maximum u64-alone) (optional-alone f.has_page_size u32-alone)))
+
+pub memory_spelled : (m : MemoryType) → IsMemory m → memory_type shortest (memory_text m) m
+memory_spelled m plain =
+    let maximum = optional_spelled u64 (λ n. n < 2 ^ 64) unsigned_text u64_spelled m.maximum plain.maximum in
+    let page = optional_spelled u32 (λ n. n < 2 ^ 32) unsigned_text u32_spelled m.page_size_log2 plain.page_size in
+    let last = pair_spelled (optional (is_given m.maximum) u64) (optional (is_given m.page_size_log2) u32) (optional_text unsigned_text m.maximum) (optional_text unsigned_text m.page_size_log2) m.maximum m.page_size_log2 maximum page in (
+      (memory_flags m, m),
+      refl,
+      record {
+        front = flags_code (memory_flags m) ∷ [];
+        back = unsigned_text m.minimum ++ (optional_text unsigned_text m.maximum ++ optional_text unsigned_text m.page_size_log2);
+        joined = refl;
+        first = refl;
+        second = (parts_of m, refl, record { front = unsigned_text m.minimum; back = optional_text unsigned_text m.maximum ++ optional_text unsigned_text m.page_size_log2; joined = refl; first = u64_spelled m.minimum plain.minimum; second = last });
+      },
+    )
+
+pub memory_laws : ItemLaws memory_text IsMemory (λ memory. memory) memory_type
+memory_laws = record { alone = memory-alone; spelled = λ m plain fits. memory_spelled m plain }

@@ -1,0 +1,27 @@
+-- Tag types are read uniquely.
+use Rattle.std.proofs.Common.{◌≡◌, [], ◌∷◌, refl, ap}
+use Rattle.wasm_base.specs.Entries.{ItemLaws}
+use Rattle.wasm_base.specs.Formats.{u32, coded}
+use Rattle.wasm_base.specs.Numbers.{shortest, unsigned_text}
+use Rattle.wasm_base.specs.Reading.{UniqueReading}
+use Rattle.wasm_base.proofs.FormatLaws.{coded-alone, mapped-alone, pair-alone}
+use Rattle.wasm_base.proofs.NumberLaws.{u32-alone}
+use Rattle.wasm_base.proofs.TextLaws.{u32_spelled}
+use Rattle.wasm_sections.specs.Tags.{tag_code, tag_text, IsTag, tag_of, tag_type}
+use Rattle.wasm_sections.specs.declared.tag.TagKind.{TagKind}
+use Rattle.wasm_sections.specs.declared.tag.TagKind.TheVariants.{Exception}
+use Rattle.wasm_sections.specs.declared.tag.TagType.{TagType}
+use Rattle.wasm_sections.proofs.Parts.{pair_spelled}
+
+back : (kind : TagKind) → Exception ≡ kind
+back Exception = refl
+
+pub tag-alone : UniqueReading tag_type
+tag-alone = mapped-alone tag_of (λ x y e. ap (λ t. (t.kind, t.func_type_idx)) e) (pair-alone (coded-alone tag_code (λ b. Exception) back) u32-alone)
+
+pub tag_spelled : (t : TagType) → IsTag t → tag_type shortest (tag_text t) t
+tag_spelled t plain =
+    ((t.kind, t.func_type_idx), refl, pair_spelled (coded tag_code) u32 (tag_code t.kind ∷ []) (unsigned_text t.func_type_idx) t.kind t.func_type_idx refl (u32_spelled t.func_type_idx plain))
+
+pub tag_laws : ItemLaws tag_text IsTag (λ tag. tag) tag_type
+tag_laws = record { alone = tag-alone; spelled = λ t plain fits. tag_spelled t plain }

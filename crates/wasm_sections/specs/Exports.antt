@@ -1,0 +1,42 @@
+-- Exports: their text, and what spells them.
+use Rattle.std.specs.Prelude.{ℕ, ◌^◌, ◌<◌, List, [], ◌∷◌, ◌++◌, IsUtf8}
+use Rattle.wasm_base.specs.Formats.{Format, u32, name, coded, mapped, pair}
+use Rattle.wasm_base.specs.Numbers.{unsigned_text}
+use Rattle.wasm_base.specs.Texts.{frame_text, FrameFits}
+use Rattle.wasm_sections.specs.declared.export.Export.{Export}
+use Rattle.wasm_sections.specs.declared.export.ExportKind.{ExportKind}
+use Rattle.wasm_sections.specs.declared.export.ExportKind.TheVariants.{Func, Table, Memory, Global, Tag}
+
+abbrev pub kind_code : ExportKind → ℕ
+kind_code Func = 0x00
+kind_code Table = 0x01
+kind_code Memory = 0x02
+kind_code Global = 0x03
+kind_code Tag = 0x04
+
+abbrev pub export_text : Export → List ℕ
+export_text e = frame_text e.name.now ++ (kind_code e.kind ∷ [] ++ unsigned_text e.index)
+
+abbrev pub ExportFits : Export → Type 0
+ExportFits e = FrameFits e.name.now
+
+-- The name is UTF-8, and the index is in range.
+pub record IsExport (e : Export) : Type 0 where
+  pub name : IsUtf8 e.name.now
+  pub index : e.index < 2 ^ 32
+
+-- what an export says: a name, and the kind and the index of what is exported
+pub record ExportItem : Type 0 where
+  pub name : List ℕ
+  pub kind : ExportKind
+  pub index : ℕ
+
+abbrev pub item_of : Export → ExportItem
+item_of e = record { name = e.name.now; kind = e.kind; index = e.index }
+
+abbrev pub export_of : List ℕ × (ExportKind × ℕ) → ExportItem
+export_of parts = record { name = parts.0; kind = parts.1.0; index = parts.1.1 }
+
+-- export: a name, a kind and an index
+abbrev pub export : Format ExportItem
+export = mapped export_of (pair name (pair (coded kind_code) u32))

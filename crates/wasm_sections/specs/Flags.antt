@@ -1,0 +1,22 @@
+-- flags of limits: one byte, each bit of which has a name.
+use Rattle.std.specs.Prelude.{ℕ, ◌+◌, Bool, true, false, Option, Some, None}
+use Rattle.wasm_base.specs.Formats.{Format, coded}
+use Rattle.wasm_insn.specs.Immediates.{where_set}
+
+pub record Flags : Type 0 where
+  pub has_maximum : Bool
+  pub shared : Bool
+  pub is_64 : Bool
+  pub has_page_size : Bool
+
+-- the byte of the flags
+abbrev pub flags_code : Flags → ℕ
+flags_code f = where_set f.has_maximum 0x01 + where_set f.shared 0x02 + where_set f.is_64 0x04 + where_set f.has_page_size 0x08
+
+abbrev pub flags : Format Flags
+flags = coded flags_code
+
+-- whether a part is given
+abbrev pub is_given : {X : Type 0} → Option X → Bool
+is_given None = false
+is_given (Some x) = true

@@ -1,0 +1,33 @@
+-- Global types: their text, and what spells them.
+use Rattle.std.specs.Prelude.{ℕ, ◌+◌, List, [], ◌∷◌, ◌++◌, Bool}
+use Rattle.wasm_base.specs.Formats.{Format, coded, mapped, pair}
+use Rattle.wasm_base.specs.Types.{val_type, val_text, IsVal}
+use Rattle.wasm_base.specs.declared.types.ValType.{ValType}
+use Rattle.wasm_insn.specs.Immediates.{where_set}
+use Rattle.wasm_sections.specs.declared.global.GlobalType.{GlobalType}
+
+-- the flags of a global
+pub record GlobalFlags : Type 0 where
+  pub mutable : Bool
+  pub shared : Bool
+
+-- the byte of the flags
+abbrev pub global_code : GlobalFlags → ℕ
+global_code f = where_set f.mutable 0x01 + where_set f.shared 0x02
+
+abbrev pub global_flags : GlobalType → GlobalFlags
+global_flags g = record { mutable = g.mutable; shared = g.shared }
+
+abbrev pub global_text : GlobalType → List ℕ
+global_text g = val_text g.val_type ++ global_code (global_flags g) ∷ []
+
+-- The numbers are in range.
+abbrev pub IsGlobal : GlobalType → Type 0
+IsGlobal g = IsVal g.val_type
+
+abbrev pub global_of : ValType × GlobalFlags → GlobalType
+global_of parts = record { val_type = parts.0; mutable = parts.1.mutable; shared = parts.1.shared }
+
+-- global type: the type of the value, and flags
+abbrev pub global_type : Format GlobalType
+global_type = mapped global_of (pair val_type (coded global_code))

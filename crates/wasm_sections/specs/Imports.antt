@@ -1,0 +1,131 @@
+-- Imports: their texts, and what spells them.
+use Rattle.std.specs.Prelude.{ℕ, ◌^◌, ◌<◌, List, [], ◌∷◌, ◌++◌, Bool, true, false, map, IsUtf8}
+use Rattle.wasm_base.specs.Cow.{items_of}
+use Rattle.wasm_base.specs.Formats.{Format, u32, name, byte, vec, mapped, tagged, choice, impossible, one_of, pair, when}
+use Rattle.wasm_base.specs.Laws.{NameFits}
+use Rattle.wasm_base.specs.Numbers.{unsigned_text}
+use Rattle.wasm_base.specs.Texts.{frame_text, FrameFits, vec_text, VecFits}
+use Rattle.wasm_sections.specs.Globals.{global_text, IsGlobal, global_type}
+use Rattle.wasm_sections.specs.Memories.{memory_text, IsMemory, memory_type}
+use Rattle.wasm_sections.specs.Tables.{table_text, IsTable, table_type}
+use Rattle.wasm_sections.specs.Tags.{tag_text, IsTag, tag_type}
+use Rattle.wasm_sections.specs.declared.import.EntityType.{EntityType}
+use Rattle.wasm_sections.specs.declared.import.EntityType.TheVariants.{Function, Table, Memory, Global, Tag, FunctionExact}
+use Rattle.wasm_sections.specs.declared.import.Import.{Import}
+use Rattle.wasm_sections.specs.declared.import.ImportCompact.{ImportCompact}
+use Rattle.wasm_sections.specs.declared.import.Imports.{Imports}
+use Rattle.wasm_sections.specs.declared.import.Imports.TheVariants as groups
+
+-- ---- what is imported
+
+abbrev pub entity_text : EntityType → List ℕ
+entity_text (Function index) = 0x00 ∷ unsigned_text index
+entity_text (Table ty) = 0x01 ∷ table_text ty
+entity_text (Memory ty) = 0x02 ∷ memory_text ty
+entity_text (Global ty) = 0x03 ∷ global_text ty
+entity_text (Tag ty) = 0x04 ∷ tag_text ty
+entity_text (FunctionExact index) = 0x20 ∷ unsigned_text index
+
+-- The numbers are in range.
+abbrev pub IsEntity : EntityType → Type 0
+IsEntity (Function index) = index < 2 ^ 32
+IsEntity (Table ty) = IsTable ty
+IsEntity (Memory ty) = IsMemory ty
+IsEntity (Global ty) = IsGlobal ty
+IsEntity (Tag ty) = IsTag ty
+IsEntity (FunctionExact index) = index < 2 ^ 32
+
+abbrev pub entity_tags : List (ℕ × Format EntityType)
+entity_tags =
+    (0x00, mapped Function u32) ∷ (0x01, mapped Table table_type) ∷ (0x02, mapped Memory memory_type) ∷ (0x03, mapped Global global_type) ∷ (0x04, mapped Tag tag_type)
+    ∷ (0x20, mapped FunctionExact u32)
+    ∷ []
+
+-- entity: a byte for its kind, and its type
+abbrev pub entity : Format EntityType
+entity = tagged byte (choice entity_tags (λ b. impossible))
+
+-- ---- imports
+
+-- what an import says after the name of the module: one entity, or a group of them
+pub data Imported : Type 0 where
+  single : List ℕ → EntityType → Imported
+  named : List (List ℕ × EntityType) → Imported
+  alike : EntityType → List (List ℕ) → Imported
+
+-- the name of the module, and what is imported from it
+pub record ImportItem : Type 0 where
+  pub module_name : List ℕ
+  pub imported : Imported
+
+abbrev pub import_text : Import → List ℕ
+import_text i = frame_text i.«module».now ++ (frame_text i.name.now ++ entity_text i.ty)
+
+abbrev pub ImportFits : Import → Type 0
+ImportFits i = FrameFits i.«module».now × FrameFits i.name.now
+
+abbrev pub compact_text : ImportCompact → List ℕ
+compact_text i = frame_text i.name.now ++ entity_text i.ty
+
+abbrev pub CompactFits : ImportCompact → Type 0
+CompactFits i = FrameFits i.name.now
+
+-- An empty name and a byte that is no kind's stand before a group.
+abbrev pub imports_text : Imports → List ℕ
+imports_text (groups.Single i) = import_text i
+imports_text (groups.Compact1 m items) = frame_text m.now ++ (0x00 ∷ 0x7F ∷ [] ++ vec_text compact_text (items_of items))
+imports_text (groups.Compact2 m ty names) = frame_text m.now ++ (0x00 ∷ 0x7E ∷ [] ++ (entity_text ty ++ vec_text (λ n. frame_text n.now) (items_of names)))
+
+abbrev pub ImportsFits : Imports → Type 0
+ImportsFits (groups.Single i) = ImportFits i
+ImportsFits (groups.Compact1 m items) = FrameFits m.now × VecFits CompactFits (items_of items)
+ImportsFits (groups.Compact2 m ty names) = FrameFits m.now × VecFits (λ n. FrameFits n.now) (items_of names)
+
+-- ---- what imports say
+
+abbrev pub import_item : Import → ImportItem
+import_item i = record { module_name = i.«module».now; imported = single i.name.now i.ty }
+
+abbrev pub compact_item : ImportCompact → List ℕ × EntityType
+compact_item i = (i.name.now, i.ty)
+
+abbrev pub imports_item : Imports → ImportItem
+imports_item (groups.Single i) = import_item i
+imports_item (groups.Compact1 m items) = record { module_name = m.now; imported = named (map compact_item (items_of items)) }
+imports_item (groups.Compact2 m ty names) = record { module_name = m.now; imported = alike ty (map (λ n. n.now) (items_of names)) }
+
+abbrev pub IsCompact : ImportCompact → Type 0
+IsCompact i = NameFits i.name.now × IsEntity i.ty
+
+-- Names are UTF-8, numbers in range, and the lists of groups fit.
+abbrev pub IsImports : Imports → Type 0
+IsImports (groups.Single i) = IsUtf8 i.«module».now × IsUtf8 i.name.now × IsEntity i.ty
+IsImports (groups.Compact1 m items) = IsUtf8 m.now × VecFits IsCompact (items_of items)
+IsImports (groups.Compact2 m ty names) = IsUtf8 m.now × IsEntity ty × VecFits (λ n. NameFits n.now) (items_of names)
+
+-- ---- format
+
+abbrev pub is_empty : List ℕ → Bool
+is_empty [] = true
+is_empty (b ∷ bs) = false
+
+abbrev pub alike_of : EntityType × List (List ℕ) → Imported
+alike_of parts = alike parts.0 parts.1
+
+-- group: names with an entity each, or an entity and the names that have it
+abbrev pub group_tags : List (ℕ × Format Imported)
+group_tags = (0x7F, mapped named (vec (pair name entity))) ∷ (0x7E, mapped alike_of (pair entity (vec name))) ∷ []
+
+abbrev pub group : Format Imported
+group = tagged byte (choice group_tags (λ b. impossible))
+
+-- what follows the name of an item: its entity, or after an empty name a group
+abbrev pub after_name : List ℕ → Format Imported
+after_name item = one_of (mapped (single item) entity) (when (is_empty item) group impossible)
+
+abbrev pub import_of : List ℕ × Imported → ImportItem
+import_of parts = record { module_name = parts.0; imported = parts.1 }
+
+-- import: the name of a module, the name of an item, and its entity; or a group
+abbrev pub import_format : Format ImportItem
+import_format = mapped import_of (pair name (tagged name after_name))

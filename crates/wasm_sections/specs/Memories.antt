@@ -1,0 +1,35 @@
+-- Memory types: their text, and what spells them.
+use Rattle.std.specs.Prelude.{ℕ, ◌^◌, ◌<◌, List, ◌∷◌, ◌++◌, Option, Some, None, IfSome}
+use Rattle.wasm_base.specs.Formats.{Format, u32, u64, mapped, tagged, pair, optional}
+use Rattle.wasm_base.specs.Numbers.{unsigned_text}
+use Rattle.wasm_insn.specs.Immediates.{optional_text}
+use Rattle.wasm_sections.specs.Flags.{Flags, flags, flags_code, is_given}
+use Rattle.wasm_sections.specs.declared.memory.MemoryType.{MemoryType}
+
+abbrev pub memory_flags : MemoryType → Flags
+memory_flags m = record { has_maximum = is_given m.maximum; shared = m.shared; is_64 = m.memory64; has_page_size = is_given m.page_size_log2 }
+
+abbrev pub memory_text : MemoryType → List ℕ
+memory_text m = flags_code (memory_flags m) ∷ (unsigned_text m.minimum ++ (optional_text unsigned_text m.maximum ++ optional_text unsigned_text m.page_size_log2))
+
+-- The numbers are in range.
+pub record IsMemory (m : MemoryType) : Type 0 where
+  pub minimum : m.minimum < 2 ^ 64
+  pub maximum : IfSome m.maximum (λ n. n < 2 ^ 64)
+  pub page_size : IfSome m.page_size_log2 (λ n. n < 2 ^ 32)
+
+-- a memory type of these flags, of a minimum, a maximum and the exponent of a page size
+abbrev pub memory_of : Flags → ℕ × (Option ℕ × Option ℕ) → MemoryType
+memory_of f parts = record { minimum = parts.0; maximum = parts.1.0; memory64 = f.is_64; shared = f.shared; page_size_log2 = parts.1.1 }
+
+abbrev pub after_memory_flags : Flags → Format MemoryType
+after_memory_flags f = mapped (memory_of f) (pair u64 (pair (optional f.has_maximum u64) (optional f.has_page_size u32)))
+
+-- memory type: flags, the minimum, and the maximum and the exponent of the page size where the flags tell of them
+abbrev pub memory_type : Format MemoryType
+memory_type = tagged flags after_memory_flags
+
+-- the exponent of 2 that the page size is: 16 where none is given
+abbrev pub page_exponent : Option ℕ → ℕ
+page_exponent None = 16
+page_exponent (Some n) = n

@@ -1,0 +1,53 @@
+-- Table types: their text, and what spells them.
+use Rattle.std.specs.Prelude.{ℕ, ◌^◌, ◌<◌, List, ◌∷◌, ◌++◌, Bool, true, false, Option, IfSome}
+use Rattle.wasm_base.specs.Formats.{Format, u64, impossible, mapped, tagged, pair, optional, when}
+use Rattle.wasm_base.specs.Numbers.{unsigned_text}
+use Rattle.wasm_base.specs.Types.{ref_type, ref_text, IsRef}
+use Rattle.wasm_base.specs.declared.types.RefType.{RefType}
+use Rattle.wasm_base.specs.declared.types.ValType.{ValType}
+use Rattle.wasm_base.specs.declared.types.ValType.TheVariants.{I32, I64}
+use Rattle.wasm_insn.specs.Immediates.{optional_text}
+use Rattle.wasm_sections.specs.Flags.{Flags, flags, flags_code, is_given}
+use Rattle.wasm_sections.specs.declared.table.TableType.{TableType}
+
+-- A table has no page size.
+abbrev pub table_flags : TableType → Flags
+table_flags t = record { has_maximum = is_given t.maximum; shared = t.shared; is_64 = t.table64; has_page_size = false }
+
+abbrev pub table_text : TableType → List ℕ
+table_text t = ref_text t.element_type ++ (flags_code (table_flags t) ∷ (unsigned_text t.minimum ++ optional_text unsigned_text t.maximum))
+
+-- The numbers are in range.
+pub record IsTable (t : TableType) : Type 0 where
+  pub element_type : IsRef t.element_type
+  pub minimum : t.minimum < 2 ^ 64
+  pub maximum : IfSome t.maximum (λ n. n < 2 ^ 64)
+
+-- the limits of a table: all but its element type
+pub record Limits : Type 0 where
+  pub table64 : Bool
+  pub shared : Bool
+  pub minimum : ℕ
+  pub maximum : Option ℕ
+
+abbrev pub limits_of : Flags → ℕ × Option ℕ → Limits
+limits_of f parts = record { table64 = f.is_64; shared = f.shared; minimum = parts.0; maximum = parts.1 }
+
+abbrev pub after_limits_flags : Flags → Format Limits
+after_limits_flags f = when f.has_page_size impossible (mapped (limits_of f) (pair u64 (optional f.has_maximum u64)))
+
+-- limits: flags, the minimum, and the maximum where the flags tell of it
+abbrev pub limits : Format Limits
+limits = tagged flags after_limits_flags
+
+abbrev pub table_of : RefType × Limits → TableType
+table_of parts = record { element_type = parts.0; table64 = parts.1.table64; minimum = parts.1.minimum; maximum = parts.1.maximum; shared = parts.1.shared }
+
+-- table type: the type of the elements, and limits
+abbrev pub table_type : Format TableType
+table_type = mapped table_of (pair ref_type limits)
+
+-- the type of an index
+abbrev pub index_type_of : (table64 : Bool) → ValType
+index_type_of true = I64
+index_type_of false = I32

@@ -1,0 +1,24 @@
+-- Tag types: their text, and what spells them.
+use Rattle.std.specs.Prelude.{ℕ, ◌^◌, ◌<◌, List, ◌∷◌}
+use Rattle.wasm_base.specs.Formats.{Format, u32, coded, mapped, pair}
+use Rattle.wasm_base.specs.Numbers.{unsigned_text}
+use Rattle.wasm_sections.specs.declared.tag.TagKind.{TagKind}
+use Rattle.wasm_sections.specs.declared.tag.TagKind.TheVariants.{Exception}
+use Rattle.wasm_sections.specs.declared.tag.TagType.{TagType}
+
+abbrev pub tag_code : TagKind → ℕ
+tag_code Exception = 0x00
+
+abbrev pub tag_text : TagType → List ℕ
+tag_text t = tag_code t.kind ∷ unsigned_text t.func_type_idx
+
+-- The index is in range.
+abbrev pub IsTag : TagType → Type 0
+IsTag t = t.func_type_idx < 2 ^ 32
+
+abbrev pub tag_of : TagKind × ℕ → TagType
+tag_of parts = record { kind = parts.0; func_type_idx = parts.1 }
+
+-- tag type: a byte for the kind, and the index of a function type
+abbrev pub tag_type : Format TagType
+tag_type = mapped tag_of (pair (coded tag_code) u32)

@@ -1,0 +1,165 @@
+// Sections of counted items: what they have in common.
+ghost use Rattle.std.specs.Prelude.{◌≡◌, ◌≢◌, ℕ, List, [], ◌∷◌, length, IfOk, IsTrue, ◌↔◌, slice_get};
+ghost use Rattle.std.proofs.Common.{refl};
+ghost use Rattle.std.specs.Option.{option_copied};
+ghost use Rattle.wasm_base.specs.Calls.{Adds, ReadsBack};
+ghost use Rattle.wasm_base.specs.Entries.{HoldsItems, ItemLaws, counted_format};
+ghost use Rattle.wasm_base.specs.Numbers.{Mode};
+ghost use Rattle.wasm_base.specs.Pieces.{section_text, SectionFits};
+ghost use Rattle.wasm_base.specs.declared.refused.Refused.TheVariants.{TooLong};
+
+use std::alloc::{Allocator, Global};
+use std::marker::{Model, PhantomData};
+use wasm_base::{Counted, Encode, Pieces, R, Section};
+
+/// A kind of items that a section counts: how they are written, and what they say.
+pub trait ItemKind {
+    /// What a call hands in.
+    ghost Record: { Type 0 };
+
+    /// What a section says.
+    ghost Item: { Type 0 };
+
+    /// text: the bytes of a record.
+    ghost record_text: { Record → List ℕ };
+
+    /// plain: its numbers are in range, and its names are UTF-8.
+    ghost is_plain: { Record → Type 0 };
+
+    /// normal form: what a plain record says.
+    ghost normal_form: { Record → Item };
+
+    /// How an item is spelled.
+    ghost item_format: { Mode → List ℕ → Item → Type 0 };
+
+    /// The id of the section of these items.
+    ghost section_id: { ℕ };
+
+    /// The id of the section of these items.
+    fn id() -> u8
+        ensures { result ≡ section_id };
+
+    /// Items are read uniquely, and the text of a plain record spells what it says. The function does nothing.
+    fn laws()
+        ensures { ItemLaws record_text is_plain normal_form item_format };
+}
+
+/// A record that can be added to a section of items of the kind `K`.
+pub trait RecordOf<K>: Encode {}
+
+/// A section of counted items of the kind `K`, seen as the bytes of each entry.
+#[derive(Drop, Debug)]
+pub struct CountedSection<K, A: Allocator = Global> {
+    pieces: Pieces<A>,
+    kind: PhantomData<K>,
+}
+
+impl<K, A: Allocator> Model for CountedSection<K, A> {
+    ghost Value = { List (List ℕ) };
+
+    ghost view = { λ s. s.pieces };
+}
+
+impl<K, A: Allocator> CountedSection<K, A> {
+    /// The number of entries.
+    pub fn len(&self) -> u32
+        ensures { result ≡ length self.now }
+    {
+        self.pieces.len()
+    }
+
+    /// Whether there is no entry.
+    pub fn is_empty(&self) -> bool
+        ensures { IsTrue result ↔ (length self.now ≡ 0) }
+    {
+        self.pieces.is_empty()
+    }
+
+    /// The bytes of the entry at `index`.
+    pub fn piece(&self, index: u32) -> Option<&[u8]>
+        ensures { option_copied result ≡ slice_get self.now index }
+    {
+        self.pieces.get(index)
+    }
+
+    /// Adds an entry that is the text of the record. A refused call leaves the section as it was.
+    pub(crate) fn add_record<T: Encode>(&mut self, given: &T) -> R<()>
+        ensures { Adds (T.text given.now) (T.fits given.now) self.old self.new result }
+    {
+        self.pieces.add_encoded(given)
+    }
+}
+
+impl<K, A: Allocator + Copy> CountedSection<K, A> {
+    /// A section of no entries. It takes no memory.
+    pub fn new(alloc: A) -> Self
+        ensures { result ≡ [] }
+    {
+        CountedSection {
+            pieces: Pieces::new(alloc),
+            kind: PhantomData,
+        }
+    }
+
+    /// A section of the same entries, in memory of its own.
+    pub fn clone(&self) -> R<Self>
+        ensures same { IfOk result (λ section. section ≡ self.now) }
+        ensures memory { result ≢ Err TooLong }
+    {
+        Ok(CountedSection {
+            pieces: self.pieces.clone()?,
+            kind: PhantomData,
+        })
+    }
+}
+
+/// The frame of the number of entries and of these.
+impl<K: ItemKind, A: Allocator> Encode for CountedSection<K, A> {
+    ghost text = { section_text };
+
+    ghost fits = { SectionFits };
+
+    ghost reading = { λ section. ReadsBack (counted_format K.item_format) (HoldsItems K.record_text K.is_plain K.normal_form K.item_format section) (section_text section) };
+
+    fn encode<B: Allocator>(&self, sink: &mut Vec<u8, B>) -> R<()> {
+        K::laws();
+        self.pieces.encode(sink)
+    }
+}
+
+impl<K: ItemKind, A: Allocator> Section for CountedSection<K, A> {
+    ghost use Rattle.wasm_base.specs.Entries.{HoldsItems, counted_format};
+    ghost use Rattle.wasm_base.specs.Pieces.{SectionPayload, section_framed};
+
+    ghost id_of = { λ _. K.section_id };
+
+    ghost Items = { List K.Item };
+
+    ghost format = { counted_format K.item_format };
+
+    ghost says = { HoldsItems K.record_text K.is_plain K.normal_form K.item_format };
+
+    ghost payload = { SectionPayload };
+
+    fn id(&self) -> u8 {
+        K::id()
+    }
+
+    ghost framed = { section_framed };
+
+    ghost reads_back = { λ section promised. promised };
+}
+
+impl<K: ItemKind, T: RecordOf<K>, A: Allocator> Counted<T> for CountedSection<K, A> {
+    ghost pieces = { λ section. section };
+
+    ghost item_text = { T.text };
+
+    ghost item_fits = { T.fits };
+
+    fn add(&mut self, item: &T) -> R<()> {
+        self.add_record(item)
+    }
+
+    ghost counted = { λ section. refl };
+}

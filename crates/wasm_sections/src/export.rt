@@ -1,0 +1,101 @@
+// Exports and the export section.
+ghost use Rattle.std.specs.Prelude.{◌≡◌, ◌∷◌, ◌++◌, [], ⊤};
+ghost use Rattle.wasm_base.specs.Calls.{Adds};
+ghost use Rattle.wasm_base.specs.Numbers.{unsigned_text};
+ghost use Rattle.wasm_base.specs.Texts.{frame_text, FrameFits};
+ghost use Rattle.wasm_sections.specs.Exports.{kind_code, export_text, ExportFits, IsExport, ExportItem, item_of, export};
+ghost use Rattle.wasm_sections.specs.declared.export.Export.{Export as Given};
+
+use crate::counted_section::{CountedSection, ItemKind, RecordOf};
+use std::alloc::{Allocator, Global};
+use wasm_base::{Encode, R, SectionId};
+
+/// What a module exports.
+///
+/// ```rust
+/// let mut exports = ExportSection::new(alloc);
+/// exports.export("foo", ExportKind::Func, 0)?;
+/// module.section(&exports)?;
+/// ```
+pub type ExportSection<A = Global> = CountedSection<ExportItems, A>;
+
+/// The items of an export section: exports.
+#[derive(Clone, Copy, Debug)]
+pub struct ExportItems;
+
+/// What kind of thing is exported.
+#[derive(Clone, Copy, PartialEq, Eq, Hash, Debug)]
+pub enum ExportKind {
+    Func = 0x00,
+    Table = 0x01,
+    Memory = 0x02,
+    Global = 0x03,
+    Tag = 0x04,
+}
+
+/// A name, and what is exported under it.
+#[derive(Clone, Copy, Debug)]
+pub struct Export<'a> {
+    pub name: &'a str,
+    pub kind: ExportKind,
+    pub index: u32,
+}
+
+/// One byte.
+impl Encode for ExportKind {
+    ghost text = { λ kind. kind_code kind ∷ [] };
+
+    ghost fits = { λ _. ⊤ };
+
+    fn encode<A: Allocator>(&self, sink: &mut Vec<u8, A>) -> R<()> {
+        (*self as u8).encode(sink)
+    }
+}
+
+/// The name, the kind and the index.
+impl Encode for Export<'_> {
+    ghost text = { export_text };
+
+    ghost fits = { ExportFits };
+
+    fn encode<A: Allocator>(&self, sink: &mut Vec<u8, A>) -> R<()> {
+        (self.name, self.kind, self.index).encode(sink)
+    }
+}
+
+impl ItemKind for ExportItems {
+    ghost use Rattle.wasm_base.specs.SectionId.{number_of};
+    ghost use Rattle.wasm_base.specs.declared.section_id.SectionId.TheVariants as ids;
+
+    ghost Record = { Given };
+
+    ghost Item = { ExportItem };
+
+    ghost record_text = { export_text };
+
+    ghost is_plain = { IsExport };
+
+    ghost normal_form = { item_of };
+
+    ghost item_format = { export };
+
+    ghost section_id = { number_of ids.Export };
+
+    fn id() -> u8 {
+        SectionId::Export.into()
+    }
+
+    #[tactic(auto, using(crate::proofs::ExportLaws::export_laws))]
+    fn laws() {}
+}
+
+impl RecordOf<ExportItems> for Export<'_> {}
+
+impl<A: Allocator> ExportSection<A> {
+    /// Adds an export. A refused call leaves the section as it was.
+    pub fn export(&mut self, name: &str, kind: ExportKind, index: u32) -> R<()>
+        ensures { Adds (frame_text name.now ++ (kind_code kind ∷ [] ++ unsigned_text index)) (FrameFits name.now) self.old self.new result }
+    {
+        self.add_record(&Export { name, kind, index })
+    }
+}

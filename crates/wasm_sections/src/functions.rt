@@ -1,0 +1,60 @@
+// The function section.
+ghost use Rattle.std.specs.Prelude.{◌≡◌, ℕ, ⊤};
+ghost use Rattle.wasm_base.specs.Calls.{Adds};
+ghost use Rattle.wasm_base.specs.Formats.{u32 as u32_format};
+ghost use Rattle.wasm_base.specs.Laws.{FitsUnsigned};
+ghost use Rattle.wasm_base.specs.Numbers.{unsigned_text};
+
+use crate::counted_section::{CountedSection, ItemKind, RecordOf};
+use std::alloc::{Allocator, Global};
+use wasm_base::{R, SectionId};
+
+/// The types of the functions that a module defines, in the order of their bodies.
+///
+/// ```rust
+/// let mut functions = FunctionSection::new(alloc);
+/// functions.function(0)?;
+/// module.section(&functions)?;
+/// ```
+pub type FunctionSection<A = Global> = CountedSection<FunctionItems, A>;
+
+/// The items of a function section: the index of a type for each function.
+#[derive(Clone, Copy, Debug)]
+pub struct FunctionItems;
+
+impl ItemKind for FunctionItems {
+    ghost use Rattle.wasm_base.specs.SectionId.{number_of};
+    ghost use Rattle.wasm_base.specs.declared.section_id.SectionId.TheVariants as ids;
+
+    ghost Record = { ℕ };
+
+    ghost Item = { ℕ };
+
+    ghost record_text = { unsigned_text };
+
+    ghost is_plain = { FitsUnsigned 32 };
+
+    ghost normal_form = { λ index. index };
+
+    ghost item_format = { u32_format };
+
+    ghost section_id = { number_of ids.Function };
+
+    fn id() -> u8 {
+        SectionId::Function.into()
+    }
+
+    #[tactic(auto, using(crate::proofs::FunctionLaws::function_laws))]
+    fn laws() {}
+}
+
+impl RecordOf<FunctionItems> for u32 {}
+
+impl<A: Allocator> FunctionSection<A> {
+    /// Adds a function of the type of this index. A refused call leaves the section as it was.
+    pub fn function(&mut self, type_index: u32) -> R<()>
+        ensures { Adds (unsigned_text type_index) ⊤ self.old self.new result }
+    {
+        self.add_record(&type_index)
+    }
+}

@@ -1,0 +1,243 @@
+// Imports and the import section.
+ghost use Rattle.std.specs.Prelude.{◌≡◌, ◌≢◌, ◌++◌, IfOk, ⊤};
+ghost use Rattle.wasm_base.specs.Calls.{Adds};
+ghost use Rattle.wasm_base.specs.Texts.{frame_text, FrameFits};
+ghost use Rattle.wasm_base.specs.declared.refused.Refused.TheVariants.{TooLong};
+ghost use Rattle.wasm_sections.specs.Imports.{
+  entity_text,
+  import_text,
+  ImportFits,
+  compact_text,
+  CompactFits,
+  imports_text,
+  ImportsFits,
+  ImportItem,
+  imports_item,
+  IsImports,
+  import_format,
+};
+ghost use Rattle.wasm_sections.specs.declared.import.Imports.{Imports as Given};
+ghost use Rattle.wasm_sections.specs.declared.import.EntityType.TheVariants as entities;
+
+use crate::counted_section::{CountedSection, ItemKind, RecordOf};
+use crate::global::GlobalType;
+use crate::memory::MemoryType;
+use crate::table::TableType;
+use crate::tag::TagType;
+use std::alloc::{Allocator, Global};
+use wasm_base::{CowSlice, Encode, R, SectionId};
+
+/// What a module imports.
+///
+/// ```rust
+/// let mut imports = ImportSection::new(alloc);
+/// imports.import("env", "f", EntityType::Function(0))?;
+/// module.section(&imports)?;
+/// ```
+pub type ImportSection<A = Global> = CountedSection<ImportItems, A>;
+
+/// The items of an import section: imports, and groups of them, each of which is one entry.
+#[derive(Clone, Copy, Debug)]
+pub struct ImportItems;
+
+/// The type of what is imported.
+#[derive(Clone, Copy, PartialEq, Eq, Debug)]
+pub enum EntityType {
+    /// A function of the type of this index.
+    Function(u32),
+    Table(TableType),
+    Memory(MemoryType),
+    Global(GlobalType),
+    Tag(TagType),
+    /// A function of exactly the type of this index.
+    FunctionExact(u32),
+}
+
+impl From<TableType> for EntityType {
+    ghost from_gives = { λ ty entity. entity ≡ entities.Table ty };
+
+    fn from(ty: TableType) -> EntityType {
+        EntityType::Table(ty)
+    }
+}
+
+impl From<MemoryType> for EntityType {
+    ghost from_gives = { λ ty entity. entity ≡ entities.Memory ty };
+
+    fn from(ty: MemoryType) -> EntityType {
+        EntityType::Memory(ty)
+    }
+}
+
+impl From<GlobalType> for EntityType {
+    ghost from_gives = { λ ty entity. entity ≡ entities.Global ty };
+
+    fn from(ty: GlobalType) -> EntityType {
+        EntityType::Global(ty)
+    }
+}
+
+impl From<TagType> for EntityType {
+    ghost from_gives = { λ ty entity. entity ≡ entities.Tag ty };
+
+    fn from(ty: TagType) -> EntityType {
+        EntityType::Tag(ty)
+    }
+}
+
+/// A byte for the kind, and the type.
+impl Encode for EntityType {
+    ghost text = { entity_text };
+
+    ghost fits = { λ _. ⊤ };
+
+    fn encode<A: Allocator>(&self, sink: &mut Vec<u8, A>) -> R<()> {
+        match *self {
+            EntityType::Function(index) => (0x00u8, index).encode(sink),
+            EntityType::Table(ty) => (0x01u8, ty).encode(sink),
+            EntityType::Memory(ty) => (0x02u8, ty).encode(sink),
+            EntityType::Global(ty) => (0x03u8, ty).encode(sink),
+            EntityType::Tag(ty) => (0x04u8, ty).encode(sink),
+            EntityType::FunctionExact(index) => (0x20u8, index).encode(sink),
+        }
+    }
+}
+
+/// An item of a module, and its type.
+#[derive(Clone, Copy, Debug)]
+pub struct Import<'a> {
+    pub module: &'a str,
+    pub name: &'a str,
+    pub ty: EntityType,
+}
+
+/// An item of a group, whose module is given once.
+#[derive(Clone, Copy, Debug)]
+pub struct ImportCompact<'a> {
+    pub name: &'a str,
+    pub ty: EntityType,
+}
+
+/// An import, or a group of imports from one module.
+#[derive(Drop, Debug)]
+pub enum Imports<'a> {
+    Single(Import<'a>),
+    /// Items of types of their own.
+    Compact1 {
+        module: &'a str,
+        items: CowSlice<'a, ImportCompact<'a>>,
+    },
+    /// Items of one type.
+    Compact2 {
+        module: &'a str,
+        ty: EntityType,
+        names: CowSlice<'a, &'a str>,
+    },
+}
+
+impl Imports<'_> {
+    /// The same imports; a list that is owned is copied.
+    pub fn clone(&self) -> R<Self>
+        ensures text { IfOk result (λ imports. imports_text imports ≡ imports_text self.now) }
+        ensures item { IfOk result (λ imports. imports_item imports ≡ imports_item self.now) }
+        ensures memory { result ≢ Err TooLong }
+    {
+        match self {
+            Imports::Single(import) => Ok(Imports::Single(*import)),
+            Imports::Compact1 { module, items } => Ok(Imports::Compact1 {
+                module,
+                items: items.clone()?,
+            }),
+            Imports::Compact2 { module, ty, names } => Ok(Imports::Compact2 {
+                module,
+                ty: *ty,
+                names: names.clone()?,
+            }),
+        }
+    }
+}
+
+/// The two names, and the type.
+impl Encode for Import<'_> {
+    ghost text = { import_text };
+
+    ghost fits = { ImportFits };
+
+    fn encode<A: Allocator>(&self, sink: &mut Vec<u8, A>) -> R<()> {
+        (self.module, self.name, self.ty).encode(sink)
+    }
+}
+
+/// The name, and the type.
+impl Encode for ImportCompact<'_> {
+    ghost text = { compact_text };
+
+    ghost fits = { CompactFits };
+
+    fn encode<A: Allocator>(&self, sink: &mut Vec<u8, A>) -> R<()> {
+        (self.name, self.ty).encode(sink)
+    }
+}
+
+/// The import; or the name of the module, two bytes that no import has there, and the group.
+impl Encode for Imports<'_> {
+    ghost text = { imports_text };
+
+    ghost fits = { ImportsFits };
+
+    fn encode<A: Allocator>(&self, sink: &mut Vec<u8, A>) -> R<()> {
+        match self {
+            Imports::Single(import) => import.encode(sink),
+            Imports::Compact1 { module, items } => {
+                (*module, [0x00u8, 0x7F], items.as_slice()).encode(sink)
+            }
+            Imports::Compact2 { module, ty, names } => {
+                (*module, [0x00u8, 0x7E], (*ty, names.as_slice())).encode(sink)
+            }
+        }
+    }
+}
+
+impl ItemKind for ImportItems {
+    ghost use Rattle.wasm_base.specs.SectionId.{number_of};
+    ghost use Rattle.wasm_base.specs.declared.section_id.SectionId.TheVariants as ids;
+
+    ghost Record = { Given };
+
+    ghost Item = { ImportItem };
+
+    ghost record_text = { imports_text };
+
+    ghost is_plain = { IsImports };
+
+    ghost normal_form = { imports_item };
+
+    ghost item_format = { import_format };
+
+    ghost section_id = { number_of ids.Import };
+
+    fn id() -> u8 {
+        SectionId::Import.into()
+    }
+
+    #[tactic(auto, using(crate::proofs::ImportLaws::import_laws))]
+    fn laws() {}
+}
+
+impl RecordOf<ImportItems> for Import<'_> {}
+
+impl<A: Allocator> ImportSection<A> {
+    /// Adds an import. A refused call leaves the section as it was.
+    pub fn import(&mut self, module: &str, name: &str, ty: EntityType) -> R<()>
+        ensures { Adds (frame_text «module».now ++ (frame_text name.now ++ entity_text ty)) (FrameFits «module».now × FrameFits name.now) self.old self.new result }
+    {
+        self.add_record(&Import { module, name, ty })
+    }
+
+    /// Adds an import or a group of imports, as one entry. A refused call leaves the section as it was.
+    pub fn imports(&mut self, imports: Imports<'_>) -> R<()>
+        ensures { Adds (imports_text imports.entry) (ImportsFits imports.entry) self.old self.new result }
+    {
+        self.add_record(&imports)
+    }
+}

@@ -1,0 +1,49 @@
+//! What is promised of all lists of bytes, and not of a call: each function does nothing, and its clauses are the promise.
+//!
+//! `ItemLaws` says of a kind of items that they are read uniquely, and that the text of a plain record spells what it says.
+ghost use Rattle.wasm_base.specs.Entries.{ItemLaws, counted_format};
+ghost use Rattle.wasm_base.specs.Formats.{u32 as u32_format, frame};
+ghost use Rattle.wasm_base.specs.Laws.{FitsUnsigned};
+ghost use Rattle.wasm_base.specs.Numbers.{unsigned_text};
+ghost use Rattle.wasm_base.specs.Reading.{UniqueReading, IsUniqueWide};
+ghost use Rattle.wasm_sections.specs.Exports.{export_text, IsExport, item_of, export};
+ghost use Rattle.wasm_sections.specs.Globals.{global_type};
+ghost use Rattle.wasm_sections.specs.Imports.{imports_text, IsImports, imports_item, import_format, entity};
+ghost use Rattle.wasm_sections.specs.Memories.{memory_text, IsMemory, memory_type};
+ghost use Rattle.wasm_sections.specs.Tables.{table_text, IsTable, table_type};
+ghost use Rattle.wasm_sections.specs.Tags.{tag_text, IsTag, tag_type};
+
+/// Sections are read uniquely, and so are their items, each of which has a text.
+#[tactic(auto, using(crate::proofs::SectionLaws::sections))]
+pub fn sections()
+    ensures functions { UniqueReading (counted_format u32_format) }
+    ensures tables { UniqueReading (counted_format table_type) }
+    ensures memories { UniqueReading (counted_format memory_type) }
+    ensures exports { UniqueReading (counted_format export) }
+    ensures tags { UniqueReading (counted_format tag_type) }
+    ensures imports { UniqueReading (counted_format import_format) }
+    ensures entities { UniqueReading entity }
+    ensures global_types { UniqueReading global_type }
+    ensures numbers { UniqueReading (frame u32_format) }
+
+    ensures function_items { ItemLaws unsigned_text (FitsUnsigned 32) (λ index. index) u32_format }
+    ensures table_items { ItemLaws table_text IsTable (λ table. table) table_type }
+    ensures memory_items { ItemLaws memory_text IsMemory (λ memory. memory) memory_type }
+    ensures export_items { ItemLaws export_text IsExport item_of export }
+    ensures import_items { ItemLaws imports_text IsImports imports_item import_format }
+    ensures tag_items { ItemLaws tag_text IsTag (λ tag. tag) tag_type }
+{}
+
+/// With padded numbers too, sections are read uniquely, and what shortest numbers spell is among it.
+#[tactic(auto, using(crate::proofs::SectionLaws::wide_sections))]
+pub fn wide()
+    ensures functions { IsUniqueWide (counted_format u32_format) }
+    ensures tables { IsUniqueWide (counted_format table_type) }
+    ensures memories { IsUniqueWide (counted_format memory_type) }
+    ensures exports { IsUniqueWide (counted_format export) }
+    ensures tags { IsUniqueWide (counted_format tag_type) }
+    ensures imports { IsUniqueWide (counted_format import_format) }
+    ensures entities { IsUniqueWide entity }
+    ensures global_types { IsUniqueWide global_type }
+    ensures numbers { IsUniqueWide (frame u32_format) }
+{}

@@ -1,0 +1,118 @@
+// Memory types and the memory section.
+ghost use Rattle.std.specs.Prelude.{◌≡◌, ◌^◌, ◌<◌, ⊤};
+ghost use Rattle.wasm_base.specs.Calls.{Adds};
+ghost use Rattle.wasm_sections.specs.Flags.{flags_code};
+ghost use Rattle.wasm_sections.specs.Memories.{memory_flags, memory_text, IsMemory, memory_type, page_exponent};
+ghost use Rattle.wasm_sections.specs.declared.memory.MemoryType.{MemoryType as Memory};
+
+use crate::counted_section::{CountedSection, ItemKind, RecordOf};
+use crate::flags::{Optional, where_set};
+use std::alloc::{Allocator, Global};
+use wasm_base::{Encode, R, SectionId};
+
+/// The memories that a module defines.
+///
+/// ```rust
+/// let mut memories = MemorySection::new(alloc);
+/// memories.memory(MemoryType { minimum: 1, maximum: None, memory64: false, shared: false, page_size_log2: None })?;
+/// module.section(&memories)?;
+/// ```
+pub type MemorySection<A = Global> = CountedSection<MemoryItems, A>;
+
+/// The items of a memory section: memory types.
+#[derive(Clone, Copy, Debug)]
+pub struct MemoryItems;
+
+/// The type of a memory. Sizes are in pages.
+#[derive(Clone, Copy, PartialEq, Eq, Hash, Debug)]
+pub struct MemoryType {
+    pub minimum: u64,
+    pub maximum: Option<u64>,
+    /// Whether addresses have 64 bits.
+    pub memory64: bool,
+    /// Whether threads share the memory.
+    pub shared: bool,
+    /// The size of a page, as an exponent of 2. It is not checked.
+    pub page_size_log2: Option<u32>,
+}
+
+impl MemoryType {
+    /// The size of a page, as an exponent of 2: 16 where none is given.
+    pub fn page_size_log2(&self) -> u32
+        ensures { result ≡ page_exponent self.now.page_size_log2 }
+    {
+        match self.page_size_log2 {
+            Some(exponent) => exponent,
+            None => 16,
+        }
+    }
+
+    /// The size of a page in bytes.
+    pub fn page_size(&self) -> u32
+        requires { page_exponent self.now.page_size_log2 < 32 }
+        ensures { result ≡ 2 ^ page_exponent self.now.page_size_log2 }
+    {
+        1 << self.page_size_log2()
+    }
+
+    /// A bit for each part that is given or set.
+    #[inline]
+    fn flags(&self) -> u8
+        ensures { result ≡ flags_code (memory_flags self.now) }
+    {
+        where_set(self.maximum.is_some(), 0x01)
+            + where_set(self.shared, 0x02)
+            + where_set(self.memory64, 0x04)
+            + where_set(self.page_size_log2.is_some(), 0x08)
+    }
+}
+
+/// Flags, the minimum, and the parts that the flags tell of.
+impl Encode for MemoryType {
+    ghost text = { memory_text };
+
+    ghost fits = { λ _. ⊤ };
+
+    fn encode<A: Allocator>(&self, sink: &mut Vec<u8, A>) -> R<()> {
+        let maximum = Optional(self.maximum);
+        let page_size = Optional(self.page_size_log2);
+        (self.flags(), self.minimum, (maximum, page_size)).encode(sink)
+    }
+}
+
+impl ItemKind for MemoryItems {
+    ghost use Rattle.wasm_base.specs.SectionId.{number_of};
+    ghost use Rattle.wasm_base.specs.declared.section_id.SectionId.TheVariants as ids;
+
+    ghost Record = { Memory };
+
+    ghost Item = { Memory };
+
+    ghost record_text = { memory_text };
+
+    ghost is_plain = { IsMemory };
+
+    ghost normal_form = { λ memory. memory };
+
+    ghost item_format = { memory_type };
+
+    ghost section_id = { number_of ids.Memory };
+
+    fn id() -> u8 {
+        SectionId::Memory.into()
+    }
+
+    #[tactic(auto, using(crate::proofs::MemoryLaws::memory_laws))]
+    fn laws() {}
+}
+
+impl RecordOf<MemoryItems> for MemoryType {}
+
+impl<A: Allocator> MemorySection<A> {
+    /// Adds a memory of this type. A refused call leaves the section as it was.
+    pub fn memory(&mut self, memory_type: MemoryType) -> R<()>
+        ensures { Adds (memory_text memory_type) ⊤ self.old self.new result }
+    {
+        self.add_record(&memory_type)
+    }
+}

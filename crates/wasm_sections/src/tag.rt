@@ -1,0 +1,96 @@
+// Tag types and the tag section.
+ghost use Rattle.std.specs.Prelude.{◌≡◌, ⊤};
+ghost use Rattle.wasm_base.specs.Calls.{Adds};
+ghost use Rattle.wasm_sections.specs.Tags.{tag_code, tag_text, IsTag, tag_type};
+ghost use Rattle.wasm_sections.specs.declared.tag.TagType.{TagType as Tag};
+
+use crate::counted_section::{CountedSection, ItemKind, RecordOf};
+use std::alloc::{Allocator, Global};
+use wasm_base::{Encode, R, SectionId};
+
+/// The tags that a module defines.
+///
+/// ```rust
+/// let mut tags = TagSection::new(alloc);
+/// tags.tag(TagType { kind: TagKind::Exception, func_type_idx: 0 })?;
+/// module.section(&tags)?;
+/// ```
+pub type TagSection<A = Global> = CountedSection<TagItems, A>;
+
+/// The items of a tag section: tag types.
+#[derive(Clone, Copy, Debug)]
+pub struct TagItems;
+
+/// What a tag is for.
+#[derive(Clone, Copy, PartialEq, Eq, Debug)]
+pub enum TagKind {
+    Exception,
+}
+
+/// The type of a tag.
+#[derive(Clone, Copy, PartialEq, Eq, Debug)]
+pub struct TagType {
+    pub kind: TagKind,
+    /// The index of the type of a function, whose parameters the tag carries.
+    pub func_type_idx: u32,
+}
+
+impl TagKind {
+    /// Its byte.
+    #[inline]
+    fn byte(self) -> u8
+        ensures { result ≡ tag_code self }
+    {
+        match self {
+            TagKind::Exception => 0x00,
+        }
+    }
+}
+
+/// The kind, and the index.
+impl Encode for TagType {
+    ghost text = { tag_text };
+
+    ghost fits = { λ _. ⊤ };
+
+    fn encode<A: Allocator>(&self, sink: &mut Vec<u8, A>) -> R<()> {
+        (self.kind.byte(), self.func_type_idx).encode(sink)
+    }
+}
+
+impl ItemKind for TagItems {
+    ghost use Rattle.wasm_base.specs.SectionId.{number_of};
+    ghost use Rattle.wasm_base.specs.declared.section_id.SectionId.TheVariants as ids;
+
+    ghost Record = { Tag };
+
+    ghost Item = { Tag };
+
+    ghost record_text = { tag_text };
+
+    ghost is_plain = { IsTag };
+
+    ghost normal_form = { λ tag. tag };
+
+    ghost item_format = { tag_type };
+
+    ghost section_id = { number_of ids.Tag };
+
+    fn id() -> u8 {
+        SectionId::Tag.into()
+    }
+
+    #[tactic(auto, using(crate::proofs::TagLaws::tag_laws))]
+    fn laws() {}
+}
+
+impl RecordOf<TagItems> for TagType {}
+
+impl<A: Allocator> TagSection<A> {
+    /// Adds a tag of this type. A refused call leaves the section as it was.
+    pub fn tag(&mut self, tag_type: TagType) -> R<()>
+        ensures { Adds (tag_text tag_type) ⊤ self.old self.new result }
+    {
+        self.add_record(&tag_type)
+    }
+}

@@ -1,0 +1,252 @@
+// Each call once, with ample memory.
+use std::alloc::Global;
+use std::process::Abort;
+use std::test::Fail;
+use wasm_base::{Counted, CowSlice, Encode, RefType, Section, ValType, add_all};
+use wasm_sections::{
+    DataCountSection, EntityType, Export, ExportKind, ExportSection, FunctionSection, GlobalType,
+    Import, ImportCompact, ImportSection, Imports, MemorySection, MemoryType, StartSection,
+    TableSection, TableType, TagKind, TagSection, TagType, laws,
+};
+
+/// The section has this id and these bytes.
+fn check<S: Section>(
+    rt: &impl Abort,
+    alloc: Global,
+    section: &S,
+    id: u8,
+    expected: &[u8],
+) -> Result<(), Fail> {
+    let mut sink = Vec::new(alloc);
+    section.encode(&mut sink)?;
+    assert_eq!(rt; sink.as_slice(), expected);
+    assert_eq!(rt; section.id(), id);
+    sink.clear();
+    section.append_to(&mut sink)?;
+    assert_eq!(rt; sink.first(), Some(&id));
+    Ok(())
+}
+
+const PLAIN: MemoryType = MemoryType {
+    minimum: 1,
+    maximum: None,
+    memory64: false,
+    shared: false,
+    page_size_log2: None,
+};
+
+const TABLE: TableType = TableType {
+    element_type: RefType::FUNCREF,
+    table64: false,
+    minimum: 128,
+    maximum: None,
+    shared: false,
+};
+
+#[test]
+fn functions(rt: HostRuntime) -> Result<(), Fail> {
+    let mut section = FunctionSection::new(rt.alloc());
+    assert!(rt; section.is_empty());
+    check(&rt, rt.alloc(), &section, 3, &[1, 0])?;
+    assert_eq!(rt; add_all(&mut section, &[1u32, 128]), Ok(()));
+    check(&rt, rt.alloc(), &section, 3, &[4, 2, 1, 128, 1])?;
+    assert_eq!(rt; section.len(), 2);
+    assert_eq!(rt; section.piece(1), Some([128, 1].as_slice()));
+    assert_eq!(rt; section.piece(2), None);
+    let mut same = section.clone()?;
+    same.function(0)?;
+    check(&rt, rt.alloc(), &same, 3, &[5, 3, 1, 128, 1, 0])?;
+    check(&rt, rt.alloc(), &section, 3, &[4, 2, 1, 128, 1])
+}
+
+#[test]
+fn memories(rt: HostRuntime) -> Result<(), Fail> {
+    let limited = MemoryType {
+        maximum: Some(2),
+        memory64: true,
+        shared: true,
+        page_size_log2: Some(0),
+        ..PLAIN
+    };
+    assert_eq!(rt; (limited.page_size(), limited.page_size_log2()), (1, 0));
+    assert_eq!(rt; (PLAIN.page_size(), PLAIN.page_size_log2()), (65536, 16));
+    for (ty, expected) in [
+        (PLAIN, [3, 1, 0, 1].as_slice()),
+        (limited, &[5, 1, 15, 1, 2, 0]),
+    ] {
+        let mut section = MemorySection::new(rt.alloc());
+        section.memory(ty)?;
+        check(&rt, rt.alloc(), &section, 5, expected)?;
+    }
+    Ok(())
+}
+
+#[test]
+fn tables(rt: HostRuntime) -> Result<(), Fail> {
+    let limited = TableType {
+        table64: true,
+        minimum: 1,
+        maximum: Some(2),
+        ..TABLE
+    };
+    assert_eq!(rt; limited.index_type(), ValType::I64);
+    assert_eq!(rt; TABLE.index_type(), ValType::I32);
+    for (ty, expected) in [
+        (TABLE, [5, 1, 112, 0, 128, 1].as_slice()),
+        (limited, &[5, 1, 112, 5, 1, 2]),
+    ] {
+        let mut section = TableSection::new(rt.alloc());
+        section.table(ty)?;
+        check(&rt, rt.alloc(), &section, 4, expected)?;
+    }
+    Ok(())
+}
+
+#[test]
+fn tags(rt: HostRuntime) -> Result<(), Fail> {
+    let mut section = TagSection::new(rt.alloc());
+    section.tag(TagType {
+        kind: TagKind::Exception,
+        func_type_idx: 3,
+    })?;
+    check(&rt, rt.alloc(), &section, 13, &[3, 1, 0, 3])
+}
+
+#[test]
+fn exports(rt: HostRuntime) -> Result<(), Fail> {
+    let mut section = ExportSection::new(rt.alloc());
+    section.export("foo", ExportKind::Func, 0)?;
+    check(
+        &rt,
+        rt.alloc(),
+        &section,
+        7,
+        &[7, 1, 3, b'f', b'o', b'o', 0, 0],
+    )?;
+    section.add(&Export {
+        name: "m",
+        kind: ExportKind::Memory,
+        index: 1,
+    })?;
+    assert_eq!(rt; section.piece(1), Some([1, b'm', 2, 1].as_slice()));
+    for (kind, byte) in [
+        (ExportKind::Func, 0x00u8),
+        (ExportKind::Table, 0x01),
+        (ExportKind::Memory, 0x02),
+        (ExportKind::Global, 0x03),
+        (ExportKind::Tag, 0x04),
+    ] {
+        let mut sink = Vec::new(rt.alloc());
+        kind.encode(&mut sink)?;
+        assert_eq!(rt; sink.as_slice(), [byte].as_slice());
+    }
+    Ok(())
+}
+
+/// A section of one import.
+fn check_import(
+    rt: &impl Abort,
+    alloc: Global,
+    import: Imports<'_>,
+    expected: &[u8],
+) -> Result<(), Fail> {
+    let mut section = ImportSection::new(alloc);
+    let same = import.clone()?;
+    section.imports(import)?;
+    check(rt, alloc, &section, 2, expected)?;
+    section.imports(same)?;
+    assert_eq!(rt; section.len(), 2);
+    assert_eq!(rt; section.piece(0), section.piece(1));
+    Ok(())
+}
+
+#[test]
+fn imports(rt: HostRuntime) -> Result<(), Fail> {
+    let ty = EntityType::Function(0);
+    let single = Import {
+        module: "m",
+        name: "",
+        ty: EntityType::Function(5),
+    };
+    check_import(
+        &rt,
+        rt.alloc(),
+        Imports::Single(single),
+        &[6, 1, 1, b'm', 0, 0, 5],
+    )?;
+    let items = [ImportCompact { name: "a", ty }];
+    let named = Imports::Compact1 {
+        module: "m",
+        items: CowSlice::Borrowed(&items),
+    };
+    check_import(
+        &rt,
+        rt.alloc(),
+        named,
+        &[10, 1, 1, b'm', 0, 127, 1, 1, b'a', 0, 0],
+    )?;
+    let none = Imports::Compact1 {
+        module: "m",
+        items: CowSlice::Borrowed(&[]),
+    };
+    check_import(&rt, rt.alloc(), none, &[6, 1, 1, b'm', 0, 127, 0])?;
+    let alike = Imports::Compact2 {
+        module: "m",
+        ty,
+        names: CowSlice::Borrowed(&["a", "b"]),
+    };
+    check_import(
+        &rt,
+        rt.alloc(),
+        alike,
+        &[12, 1, 1, b'm', 0, 126, 0, 0, 2, 1, b'a', 1, b'b'],
+    )
+}
+
+#[test]
+fn entities(rt: HostRuntime) -> Result<(), Fail> {
+    let global = GlobalType {
+        val_type: ValType::I64,
+        mutable: true,
+        shared: true,
+    };
+    let tag = TagType {
+        kind: TagKind::Exception,
+        func_type_idx: 3,
+    };
+    for (ty, expected) in [
+        (EntityType::Function(128), [0, 128, 1].as_slice()),
+        (EntityType::from(TABLE), &[1, 112, 0, 128, 1]),
+        (EntityType::from(PLAIN), &[2, 0, 1]),
+        (EntityType::from(global), &[3, 0x7E, 3]),
+        (EntityType::from(tag), &[4, 0, 3]),
+        (EntityType::FunctionExact(5), &[32, 5]),
+    ] {
+        let mut section = ImportSection::new(rt.alloc());
+        section.import("m", "f", ty)?;
+        let entry = section.piece(0).unwrap_or(&[]);
+        assert_eq!(rt; &entry[4.min(entry.len())..], expected);
+    }
+    Ok(())
+}
+
+#[test]
+fn numbers(rt: HostRuntime) -> Result<(), Fail> {
+    let start = StartSection {
+        function_index: 300,
+    };
+    check(&rt, rt.alloc(), &start, 8, &[2, 0xAC, 2])?;
+    check(
+        &rt,
+        rt.alloc(),
+        &DataCountSection { count: 128 },
+        12,
+        &[2, 128, 1],
+    )
+}
+
+#[test]
+fn laws_do_nothing(_rt: HostRuntime) {
+    laws::sections();
+    laws::wide();
+}
