@@ -9,13 +9,14 @@ use Rattle.wasm_base.proofs.FormatLaws.{byte-alone, fixed-alone, then_at, tagged
 use Rattle.wasm_base.proofs.NumberLaws.{u32-alone, u32_small, groups_apart}
 use Rattle.wasm_insn.specs.declared.instruction.Instruction.{Instruction}
 use Rattle.wasm_insn.specs.declared.instruction.Instruction.TheVariants.{I32Load}
-use Rattle.wasm_insn.specs.declared.memory.MemArg.{MemArg}
-use Rattle.wasm_insn.specs.declared.memory.MemArgOrdering.{MemArgOrdering}
-use Rattle.wasm_insn.specs.declared.memory.MemArgTarget.TheVariants.{Memory}
+use Rattle.wasm_immediates.specs.declared.memory.MemArg.{MemArg}
+use Rattle.wasm_immediates.specs.declared.memory.MemArgOrdering.{MemArgOrdering}
+use Rattle.wasm_immediates.specs.declared.memory.MemArgTarget.TheVariants.{Memory}
 use Rattle.wasm_insn.specs.declared.op.Op.TheVariants.{Byte}
 use Rattle.wasm_insn.specs.Arguments.{Argument}
 use Rattle.wasm_insn.specs.Parts as parts
-use Rattle.wasm_insn.specs.Plain.{Plain, mem_ordering, mem_arg, after_flags, part, arguments, arguments_after, shape_of, instruction}
+use Rattle.wasm_immediates.specs.PlainImmediates.{mem_ordering, mem_arg, after_flags}
+use Rattle.wasm_insn.specs.Plain.{Plain, part, arguments, arguments_after, shape_of, instruction}
 use Rattle.wasm_insn.specs.Table.{table, IsRow}
 use Rattle.wasm_insn.specs.Instructions.{row_of}
 use Rattle.wasm_insn.proofs.PlainLaws.{opcode-alone, opcode_spelled}

@@ -8,11 +8,11 @@ use Rattle.wasm_base.proofs.BaseLaws.{unique_wide}
 use Rattle.wasm_insn.specs.declared.op.Op.{Op}
 use Rattle.wasm_insn.specs.declared.op.Op.TheVariants.{Byte, Prefixed}
 use Rattle.wasm_insn.specs.declared.instruction.Instruction.{Instruction}
-use Rattle.wasm_insn.specs.Immediates.{op_text}
+use Rattle.wasm_insn.specs.Opcodes.{op_text}
 use Rattle.wasm_insn.specs.Plain.{Table, IsOpcode, IsPlain, instruction}
 use Rattle.wasm_insn.specs.Table.{table, IsTableOp, IsOpcodeTable, BeginsNoOther}
 use Rattle.wasm_insn.specs.Instructions.{row_of, IsPlainInstruction, ReadsInstruction, HaveOneText}
-use Rattle.wasm_insn.proofs.PlainLaws.{opcode-alone, opcode_spelled, instruction-alone, plain-alone, same_text, wide_immediates}
+use Rattle.wasm_insn.proofs.PlainLaws.{opcode-alone, opcode_spelled, instruction-alone, plain-alone, same_text, wide-opcode}
 use Rattle.wasm_insn.proofs.TableRows.{is_op, op_is, instruction_row}
 
 -- ---- the table
@@ -39,7 +39,7 @@ apart = record {
       (opcode-alone.alone shortest (op_text a) (op_text b) x y a b (opcode_spelled a (as_opcode a h)) (opcode_spelled b (as_opcode b g)) e).0;
 }
 
-pub ruleset opcodes = (table-is, apart)
+pub ruleset opcodes = (table-is, apart, opcode-alone)
 
 -- ---- instructions
 
@@ -60,4 +60,4 @@ alone = instruction-alone table
 pub wide-instruction : IsUniqueWide (instruction table)
 wide-instruction = unique_wide alone
 
-pub ruleset wide = (wide_immediates, wide-instruction)
+pub ruleset wide = (wide-opcode, wide-instruction)

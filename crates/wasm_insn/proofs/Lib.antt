@@ -1,5 +1,3 @@
-pub mod FixedBytes
-pub mod ImmediateLaws
 pub mod TableRuns
 pub mod PlainLaws
 pub mod TableRows

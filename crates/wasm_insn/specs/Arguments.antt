@@ -1,18 +1,18 @@
 -- The arguments of an instruction: one for each part of its shape.
-use Rattle.std.specs.Prelude.{ℕ, suc, ◌-◌, ◌^◌, ℤ, pos, negsuc, List, [], ◌∷◌, ◌++◌, ⊤}
+use Rattle.std.specs.Prelude.{ℕ, ℤ, List, [], ◌∷◌, ◌++◌, ⊤}
 use Rattle.wasm_base.specs.Numbers.{unsigned_text, signed_text}
 use Rattle.wasm_base.specs.Texts.{vec_text, VecFits, little_endian_text}
 use Rattle.wasm_base.specs.Types.{heap_text, val_text}
 use Rattle.wasm_base.specs.declared.types.HeapType.{HeapType}
 use Rattle.wasm_base.specs.declared.types.ValType.{ValType}
-use Rattle.wasm_insn.specs.declared.floats.Ieee32.{Ieee32}
-use Rattle.wasm_insn.specs.declared.floats.Ieee64.{Ieee64}
-use Rattle.wasm_insn.specs.declared.memory.Ordering.{Ordering}
-use Rattle.wasm_insn.specs.declared.memory.MemArg.{MemArg}
-use Rattle.wasm_insn.specs.declared.block_type.BlockType.{BlockType}
-use Rattle.wasm_insn.specs.declared.control.Catch.{Catch}
-use Rattle.wasm_insn.specs.declared.control.Handle.{Handle}
-use Rattle.wasm_insn.specs.Immediates.{ordering_code, mem_arg_text, block_text, catch_text, handle_text}
+use Rattle.wasm_immediates.specs.declared.floats.Ieee32.{Ieee32}
+use Rattle.wasm_immediates.specs.declared.floats.Ieee64.{Ieee64}
+use Rattle.wasm_immediates.specs.declared.memory.Ordering.{Ordering}
+use Rattle.wasm_immediates.specs.declared.memory.MemArg.{MemArg}
+use Rattle.wasm_immediates.specs.declared.block_type.BlockType.{BlockType}
+use Rattle.wasm_immediates.specs.declared.control.Catch.{Catch}
+use Rattle.wasm_immediates.specs.declared.control.Handle.{Handle}
+use Rattle.wasm_immediates.specs.Immediates.{ordering_code, mem_arg_text, block_text, catch_text, handle_text, vector_text}
 use Rattle.wasm_insn.specs.Parts as parts
 use Rattle.wasm_insn.specs.Parts.{Part}
 
@@ -54,15 +54,6 @@ part_of (catches cs) = parts.catches
 part_of (types ts) = parts.types
 part_of (handles hs) = parts.handles
 part_of (flag n) = parts.flag
-
--- a number of so many bits, in two's complement
-abbrev pub twos_complement : ℕ → ℤ → ℕ
-twos_complement bits (pos n) = n
-twos_complement bits (negsuc n) = 2 ^ bits - suc n
-
--- the bytes of a vector, the least first
-unfoldable pub vector_text : ℤ → List ℕ
-vector_text v = little_endian_text 16 (twos_complement 128 v)
 
 abbrev pub argument_text : Argument → List ℕ
 argument_text (unsigned n) = unsigned_text n

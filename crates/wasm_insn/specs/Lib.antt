@@ -1,4 +1,4 @@
-pub mod Immediates
+pub mod Opcodes
 pub mod Parts
 pub mod Arguments
 pub mod Plain

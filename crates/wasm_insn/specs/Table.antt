@@ -7,7 +7,7 @@ use Rattle.wasm_insn.specs.declared.op.Op.TheVariants.{Byte, Prefixed}
 use Rattle.wasm_insn.specs.declared.op.Shape.{Shape}
 use Rattle.wasm_insn.specs.declared.op.Shape.TheVariants.{Nothing, U, Uu, M, Ml, L, B, H, O, Ou, Ouu, C32, C64, F32, F64, V, Ls, Bt, Tt, Ts, K, Uh, Uuh}
 use Rattle.wasm_insn.specs.declared.table.Run.{Run}
-use Rattle.wasm_insn.specs.Immediates.{op_text}
+use Rattle.wasm_insn.specs.Opcodes.{op_text}
 use Rattle.wasm_insn.specs.Parts.{parts_of}
 use Rattle.wasm_insn.specs.Arguments.{part_of}
 use Rattle.wasm_insn.specs.Plain.{Table, Plain, same_op, is_prefix, shape_of}

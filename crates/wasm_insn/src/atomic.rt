@@ -4,10 +4,10 @@ ghost use Rattle.wasm_base.specs.Calls.{Appends};
 ghost use Rattle.wasm_insn.specs.Arguments.{arguments_text, arguments_fit};
 ghost use Rattle.wasm_insn.specs.Atomic.{atomic_row};
 
-use crate::memory::{MemArg, Ordering};
 use crate::op::Op;
 use std::alloc::Allocator;
 use wasm_base::{Encode, R};
+use wasm_immediates::{MemArg, Ordering};
 
 /// Atomic instructions: those after the prefix FE.
 #[derive(Clone, Copy)]

@@ -6,10 +6,6 @@ ghost use Rattle.wasm_insn.specs.Instructions.{row_of, instruction_text, Instruc
 
 use crate::aggregate::Aggregate;
 use crate::atomic::Atomic;
-use crate::block_type::BlockType;
-use crate::control::{Catch, Handle};
-use crate::floats::{Ieee32, Ieee64};
-use crate::memory::MemArg;
 use crate::numeric::Numeric;
 use crate::op::Op;
 use crate::prefixed_numeric::PrefixedNumeric;
@@ -18,6 +14,7 @@ use crate::vector_immediate::VectorImmediate;
 use std::alloc::{Allocator, Global};
 use std::slice;
 use wasm_base::{CowSlice, Encode, HeapType, R, RefType, Refused, ValType};
+use wasm_immediates::{BlockType, Catch, Handle, Ieee32, Ieee64, MemArg};
 
 /// An instruction.
 ///

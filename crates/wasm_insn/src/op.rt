@@ -1,6 +1,6 @@
 // Opcodes, and the shapes of what follows them.
 ghost use Rattle.std.specs.Prelude.{⊤};
-ghost use Rattle.wasm_insn.specs.Immediates.{op_text};
+ghost use Rattle.wasm_insn.specs.Opcodes.{op_text};
 
 use std::alloc::Allocator;
 use wasm_base::{Encode, R};

@@ -1,19 +1,17 @@
 // Named calls that write instructions into a buffer.
 ghost use Rattle.std.specs.Prelude.{◌≡◌, ℕ, ◌+◌, ◌≤◌, List, length, vec_len, vec_capacity, ⊤};
 ghost use Rattle.wasm_base.specs.Iterators.{HasKnownLength};
-ghost use Rattle.wasm_insn.specs.Immediates.{op_text};
+ghost use Rattle.wasm_insn.specs.Opcodes.{op_text};
 ghost use Rattle.wasm_insn.specs.Sink.{Writes, WritesVec, WritesInstruction, WritesLabels};
 
-use crate::block_type::BlockType;
-use crate::floats::{Ieee32, Ieee64};
 use crate::instruction::Instruction;
-use crate::memory::MemArg;
 use crate::numeric::Numeric;
 use crate::op::Op;
 use crate::vector_immediate::{VectorImmediate, vector_bytes};
 use std::alloc::Allocator;
 use std::slice;
 use wasm_base::{CowSlice, Encode, HeapType, R, Refused, ValType, encode_vec};
+use wasm_immediates::{BlockType, Ieee32, Ieee64, MemArg};
 
 /// What instructions are written into.
 pub trait Buffer {

@@ -1,16 +1,17 @@
 // Vector instructions with immediates: those after the prefix FD.
 ghost use Rattle.std.specs.Prelude.{◌≡◌};
 ghost use Rattle.wasm_base.specs.Calls.{Appends};
-ghost use Rattle.wasm_insn.specs.Arguments.{arguments_text, arguments_fit, vector_text};
+ghost use Rattle.wasm_immediates.specs.Immediates.{vector_text};
+ghost use Rattle.wasm_insn.specs.Arguments.{arguments_text, arguments_fit};
 ghost use Rattle.wasm_insn.specs.VectorImmediate.{vector_immediate_row};
 
-use crate::memory::{Lane, MemArg};
 use crate::op::Op;
 use std::alloc::Allocator;
 use wasm_base::{Encode, R};
+use wasm_immediates::{Lane, MemArg};
 
 /// The bytes of a vector, the least first.
-#[tactic(auto, using(crate::proofs::FixedBytes::vector_bytes))]
+#[tactic(auto, using(wasm_immediates::proofs::FixedBytes::vector_bytes))]
 pub(crate) fn vector_bytes(value: i128) -> [u8; 16]
     ensures { result ≡ vector_text value }
 {

@@ -2,8 +2,8 @@
 use Rattle.std.proofs.Common.{◌≡◌, ℕ, ◌+◌, ◌*◌, ◌/◌, ◌%◌, ◌^◌, ◌<◌, Bool, true, false, refl, arith}
 use Rattle.wasm_base.specs.Reading.{UniqueReading}
 use Rattle.wasm_base.proofs.FormatLaws.{coded-alone}
-use Rattle.wasm_insn.specs.Immediates.{where_set}
-use Rattle.wasm_insn.specs.Plain.{bit}
+use Rattle.wasm_immediates.specs.Immediates.{where_set}
+use Rattle.wasm_immediates.specs.PlainImmediates.{bit}
 use Rattle.wasm_sections.specs.Flags.{Flags, flags, flags_code}
 
 -- a weight, as a multiple of a bit

@@ -6,7 +6,7 @@ use Rattle.wasm_base.specs.Reading.{UniqueReading}
 use Rattle.wasm_base.specs.Types.{val_type, val_text}
 use Rattle.wasm_base.proofs.FormatLaws.{coded-alone, mapped-alone, pair-alone}
 use Rattle.wasm_base.proofs.TypeLaws.{val-alone, val-texts}
-use Rattle.wasm_insn.specs.Plain.{bit}
+use Rattle.wasm_immediates.specs.PlainImmediates.{bit}
 use Rattle.wasm_sections.specs.Globals.{GlobalFlags, global_code, global_flags, global_text, IsGlobal, global_of, global_type}
 use Rattle.wasm_sections.specs.declared.global.GlobalType.{GlobalType}
 use Rattle.wasm_sections.proofs.Parts.{pair_spelled}

@@ -8,7 +8,7 @@ use Rattle.wasm_base.proofs.BaseLaws.{u64-alone}
 use Rattle.wasm_base.proofs.FormatLaws.{TellsTag, tagged-alone, mapped-alone, pair-alone, optional-alone}
 use Rattle.wasm_base.proofs.NumberLaws.{u32-alone}
 use Rattle.wasm_base.proofs.TextLaws.{u32_spelled, u64_spelled}
-use Rattle.wasm_insn.specs.Immediates.{optional_text}
+use Rattle.wasm_immediates.specs.Immediates.{optional_text}
 use Rattle.wasm_sections.specs.Flags.{flags_code, is_given}
 use Rattle.wasm_sections.specs.Memories.{memory_flags, memory_text, IsMemory, memory_of, after_memory_flags, memory_type}
 use Rattle.wasm_sections.specs.declared.memory.MemoryType.{MemoryType}

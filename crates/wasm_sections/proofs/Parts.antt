@@ -5,7 +5,7 @@ use Rattle.wasm_base.specs.Formats.{Format, name, pair, optional}
 use Rattle.wasm_base.specs.Numbers.{Mode, shortest, unsigned_text}
 use Rattle.wasm_base.specs.Texts.{frame_text, FrameFits}
 use Rattle.wasm_base.proofs.TextLaws.{name_spelled}
-use Rattle.wasm_insn.specs.Immediates.{optional_text}
+use Rattle.wasm_immediates.specs.Immediates.{optional_text}
 use Rattle.wasm_sections.specs.Flags.{is_given}
 
 pub pair_spelled : {X Y : Type 0} (F : Format X) (G : Format Y) (front back : List ℕ) (x : X) (y : Y) → F shortest front x → G shortest back y → pair F G shortest (front ++ back) (x, y)

@@ -9,7 +9,7 @@ use Rattle.wasm_base.proofs.BaseLaws.{u64-alone}
 use Rattle.wasm_base.proofs.FormatLaws.{TellsTag, tagged-alone, mapped-alone, when-alone, impossible-alone, pair-alone, optional-alone}
 use Rattle.wasm_base.proofs.TextLaws.{u64_spelled}
 use Rattle.wasm_base.proofs.TypeLaws.{ref-alone, ref-texts}
-use Rattle.wasm_insn.specs.Immediates.{optional_text}
+use Rattle.wasm_immediates.specs.Immediates.{optional_text}
 use Rattle.wasm_sections.specs.Flags.{Flags, flags_code, is_given}
 use Rattle.wasm_sections.specs.Tables.{table_flags, table_text, IsTable, Limits, limits_of, after_limits_flags, limits, table_of, table_type}
 use Rattle.wasm_sections.specs.declared.table.TableType.{TableType}

@@ -1,7 +1,7 @@
 -- flags of limits: one byte, each bit of which has a name.
 use Rattle.std.specs.Prelude.{ℕ, ◌+◌, Bool, true, false, Option, Some, None}
 use Rattle.wasm_base.specs.Formats.{Format, coded}
-use Rattle.wasm_insn.specs.Immediates.{where_set}
+use Rattle.wasm_immediates.specs.Immediates.{where_set}
 
 pub record Flags : Type 0 where
   pub has_maximum : Bool

@@ -3,7 +3,7 @@ use Rattle.std.specs.Prelude.{ℕ, ◌+◌, List, [], ◌∷◌, ◌++◌, Bool}
 use Rattle.wasm_base.specs.Formats.{Format, coded, mapped, pair}
 use Rattle.wasm_base.specs.Types.{val_type, val_text, IsVal}
 use Rattle.wasm_base.specs.declared.types.ValType.{ValType}
-use Rattle.wasm_insn.specs.Immediates.{where_set}
+use Rattle.wasm_immediates.specs.Immediates.{where_set}
 use Rattle.wasm_sections.specs.declared.global.GlobalType.{GlobalType}
 
 -- the flags of a global

@@ -2,7 +2,7 @@
 use Rattle.std.specs.Prelude.{ℕ, ◌^◌, ◌<◌, List, ◌∷◌, ◌++◌, Option, Some, None, IfSome}
 use Rattle.wasm_base.specs.Formats.{Format, u32, u64, mapped, tagged, pair, optional}
 use Rattle.wasm_base.specs.Numbers.{unsigned_text}
-use Rattle.wasm_insn.specs.Immediates.{optional_text}
+use Rattle.wasm_immediates.specs.Immediates.{optional_text}
 use Rattle.wasm_sections.specs.Flags.{Flags, flags, flags_code, is_given}
 use Rattle.wasm_sections.specs.declared.memory.MemoryType.{MemoryType}
 

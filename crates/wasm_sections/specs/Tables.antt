@@ -6,7 +6,7 @@ use Rattle.wasm_base.specs.Types.{ref_type, ref_text, IsRef}
 use Rattle.wasm_base.specs.declared.types.RefType.{RefType}
 use Rattle.wasm_base.specs.declared.types.ValType.{ValType}
 use Rattle.wasm_base.specs.declared.types.ValType.TheVariants.{I32, I64}
-use Rattle.wasm_insn.specs.Immediates.{optional_text}
+use Rattle.wasm_immediates.specs.Immediates.{optional_text}
 use Rattle.wasm_sections.specs.Flags.{Flags, flags, flags_code, is_given}
 use Rattle.wasm_sections.specs.declared.table.TableType.{TableType}
 

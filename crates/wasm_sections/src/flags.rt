@@ -1,6 +1,6 @@
 // Flags, and parts that they tell of.
 ghost use Rattle.std.specs.Prelude.{◌≡◌, ◌≤◌, OnOk, IfSome};
-ghost use Rattle.wasm_insn.specs.Immediates.{where_set, optional_text};
+ghost use Rattle.wasm_immediates.specs.Immediates.{where_set, optional_text};
 
 use std::alloc::Allocator;
 use wasm_base::{Encode, R};

@@ -5,7 +5,7 @@ use Rattle.std.specs.Int.{w32, w64, w128, to_le_bytes, byte_at, bytes_low_first}
 use Rattle.wasm_base.specs.Texts.{little_endian_text}
 use Rattle.std.proofs.Common.{ℤ, pos, negsuc}
 use Rattle.std.specs.Int.{cast_unsigned}
-use Rattle.wasm_insn.specs.Arguments.{twos_complement, vector_text}
+use Rattle.wasm_immediates.specs.Immediates.{twos_complement, vector_text}
 
 byte_at-is : (i n : ℕ) → byte_at i n ≡ n / 256 ^ i % 256
 byte_at-is zero n = omega arith

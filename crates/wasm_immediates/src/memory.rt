@@ -1,7 +1,7 @@
 // The arguments of instructions that access memory.
 ghost use Rattle.std.specs.Prelude.{◌≡◌, ◌∷◌, [], ⊤};
-ghost use Rattle.wasm_insn.specs.Immediates.{ordering_code, mem_ordering_code, index_of, mem_flags, mem_arg_text};
-ghost use Rattle.wasm_insn.specs.declared.memory.MemArgTarget.TheVariants.{Memory};
+ghost use Rattle.wasm_immediates.specs.Immediates.{ordering_code, mem_ordering_code, index_of, mem_flags, mem_arg_text};
+ghost use Rattle.wasm_immediates.specs.declared.memory.MemArgTarget.TheVariants.{Memory};
 
 use std::alloc::Allocator;
 use std::default::Default;

@@ -10,22 +10,21 @@ use Rattle.wasm_base.proofs.FormatLaws.{IsInjective, TellsTag, when-alone, mappe
 use Rattle.wasm_base.proofs.NumberLaws.{u32-alone}
 use Rattle.wasm_base.proofs.BaseLaws.{u64-alone, s33-alone}
 use Rattle.wasm_base.proofs.TypeLaws.{val_tag, val_begins, begins_s33, val_choice-alone, val_tells, IsTypeByte, types_apart}
-use Rattle.wasm_insn.specs.declared.memory.Ordering.{Ordering}
-use Rattle.wasm_insn.specs.declared.memory.Ordering.TheVariants.{AcqRel, SeqCst}
-use Rattle.wasm_insn.specs.declared.memory.MemArgOrdering.{MemArgOrdering}
-use Rattle.wasm_insn.specs.declared.memory.MemArgOrdering.TheVariants as orders
-use Rattle.wasm_insn.specs.declared.memory.MemArgTarget.{MemArgTarget}
-use Rattle.wasm_insn.specs.declared.memory.MemArgTarget.TheVariants.{Memory, Array}
-use Rattle.wasm_insn.specs.declared.memory.MemArg.{MemArg}
-use Rattle.wasm_insn.specs.declared.block_type.BlockType.{BlockType}
-use Rattle.wasm_insn.specs.declared.block_type.BlockType.TheVariants as blocks
-use Rattle.wasm_insn.specs.declared.control.Catch.{Catch}
-use Rattle.wasm_insn.specs.declared.control.Catch.TheVariants.{One, OneRef, All, AllRef}
-use Rattle.wasm_insn.specs.declared.control.Handle.{Handle}
-use Rattle.wasm_insn.specs.declared.control.Handle.TheVariants.{OnLabel, OnSwitch}
-use Rattle.wasm_insn.specs.Immediates.{ordering_code, has_ordering, is_array, has_memory, where_set}
-use Rattle.wasm_insn.specs.Arguments.{twos_complement}
-use Rattle.wasm_insn.specs.Plain.{block_type, ordering_format, mem_orderings, mem_ordering, bit, target_of, mem_arg_of, mem_arg_with, after_flags, mem_arg, one_of_pair, one_ref_of_pair, catch_tags, catch, on_label_of_pair, handle_tags, handle, vector_format, IsVector}
+use Rattle.wasm_immediates.specs.declared.memory.Ordering.{Ordering}
+use Rattle.wasm_immediates.specs.declared.memory.Ordering.TheVariants.{AcqRel, SeqCst}
+use Rattle.wasm_immediates.specs.declared.memory.MemArgOrdering.{MemArgOrdering}
+use Rattle.wasm_immediates.specs.declared.memory.MemArgOrdering.TheVariants as orders
+use Rattle.wasm_immediates.specs.declared.memory.MemArgTarget.{MemArgTarget}
+use Rattle.wasm_immediates.specs.declared.memory.MemArgTarget.TheVariants.{Memory, Array}
+use Rattle.wasm_immediates.specs.declared.memory.MemArg.{MemArg}
+use Rattle.wasm_immediates.specs.declared.block_type.BlockType.{BlockType}
+use Rattle.wasm_immediates.specs.declared.block_type.BlockType.TheVariants as blocks
+use Rattle.wasm_immediates.specs.declared.control.Catch.{Catch}
+use Rattle.wasm_immediates.specs.declared.control.Catch.TheVariants.{One, OneRef, All, AllRef}
+use Rattle.wasm_immediates.specs.declared.control.Handle.{Handle}
+use Rattle.wasm_immediates.specs.declared.control.Handle.TheVariants.{OnLabel, OnSwitch}
+use Rattle.wasm_immediates.specs.Immediates.{ordering_code, has_ordering, is_array, has_memory, where_set, twos_complement}
+use Rattle.wasm_immediates.specs.PlainImmediates.{block_type, ordering_format, mem_orderings, mem_ordering, bit, target_of, mem_arg_of, mem_arg_with, after_flags, mem_arg, one_of_pair, one_ref_of_pair, catch_tags, catch, on_label_of_pair, handle_tags, handle, vector_format, IsVector}
 
 -- ---- orderings
 

@@ -1,6 +1,6 @@
 // The types of blocks.
 ghost use Rattle.std.specs.Prelude.{⊤};
-ghost use Rattle.wasm_insn.specs.Immediates.{block_text};
+ghost use Rattle.wasm_immediates.specs.Immediates.{block_text};
 
 use std::alloc::Allocator;
 use wasm_base::{Encode, R, ValType};

@@ -1,6 +1,6 @@
 // The clauses of instructions that handle exceptions and suspended stacks.
 ghost use Rattle.std.specs.Prelude.{⊤};
-ghost use Rattle.wasm_insn.specs.Immediates.{catch_text, handle_text};
+ghost use Rattle.wasm_immediates.specs.Immediates.{catch_text, handle_text};
 
 use std::alloc::Allocator;
 use wasm_base::{Encode, R};

@@ -1,29 +1,22 @@
--- The texts of immediates and opcodes.
-use Rattle.std.specs.Prelude.{ℕ, zero, suc, List, [], ◌∷◌, ◌++◌, Option, Some, None, Bool, true, false, pos}
+-- The texts of immediates.
+use Rattle.std.specs.Prelude.{ℕ, zero, suc, ◌-◌, ◌^◌, ℤ, pos, negsuc, List, [], ◌∷◌, ◌++◌, Option, Some, None, Bool, true, false}
 use Rattle.std.specs.Int.RustNames.{bit_or}
 use Rattle.wasm_base.specs.Numbers.{unsigned_text, signed_text}
+use Rattle.wasm_base.specs.Texts.{little_endian_text}
 use Rattle.wasm_base.specs.Types.{val_text}
-use Rattle.wasm_insn.specs.declared.memory.Ordering.{Ordering}
-use Rattle.wasm_insn.specs.declared.memory.Ordering.TheVariants.{AcqRel, SeqCst}
-use Rattle.wasm_insn.specs.declared.memory.MemArgOrdering.{MemArgOrdering}
-use Rattle.wasm_insn.specs.declared.memory.MemArgOrdering.TheVariants as orders
-use Rattle.wasm_insn.specs.declared.memory.MemArgTarget.{MemArgTarget}
-use Rattle.wasm_insn.specs.declared.memory.MemArgTarget.TheVariants.{Memory, Array}
-use Rattle.wasm_insn.specs.declared.memory.MemArg.{MemArg}
-use Rattle.wasm_insn.specs.declared.block_type.BlockType.{BlockType}
-use Rattle.wasm_insn.specs.declared.block_type.BlockType.TheVariants as blocks
-use Rattle.wasm_insn.specs.declared.control.Catch.{Catch}
-use Rattle.wasm_insn.specs.declared.control.Catch.TheVariants.{One, OneRef, All, AllRef}
-use Rattle.wasm_insn.specs.declared.control.Handle.{Handle}
-use Rattle.wasm_insn.specs.declared.control.Handle.TheVariants.{OnLabel, OnSwitch}
-use Rattle.wasm_insn.specs.declared.op.Op.{Op}
-use Rattle.wasm_insn.specs.declared.op.Op.TheVariants.{Byte, Prefixed}
-
--- ---- opcodes
-
-abbrev pub op_text : Op → List ℕ
-op_text (Byte b) = b ∷ []
-op_text (Prefixed prefix number) = prefix ∷ unsigned_text number
+use Rattle.wasm_immediates.specs.declared.memory.Ordering.{Ordering}
+use Rattle.wasm_immediates.specs.declared.memory.Ordering.TheVariants.{AcqRel, SeqCst}
+use Rattle.wasm_immediates.specs.declared.memory.MemArgOrdering.{MemArgOrdering}
+use Rattle.wasm_immediates.specs.declared.memory.MemArgOrdering.TheVariants as orders
+use Rattle.wasm_immediates.specs.declared.memory.MemArgTarget.{MemArgTarget}
+use Rattle.wasm_immediates.specs.declared.memory.MemArgTarget.TheVariants.{Memory, Array}
+use Rattle.wasm_immediates.specs.declared.memory.MemArg.{MemArg}
+use Rattle.wasm_immediates.specs.declared.block_type.BlockType.{BlockType}
+use Rattle.wasm_immediates.specs.declared.block_type.BlockType.TheVariants as blocks
+use Rattle.wasm_immediates.specs.declared.control.Catch.{Catch}
+use Rattle.wasm_immediates.specs.declared.control.Catch.TheVariants.{One, OneRef, All, AllRef}
+use Rattle.wasm_immediates.specs.declared.control.Handle.{Handle}
+use Rattle.wasm_immediates.specs.declared.control.Handle.TheVariants.{OnLabel, OnSwitch}
 
 -- ---- memory arguments
 
@@ -94,3 +87,14 @@ catch_text (AllRef label) = 0x03 ∷ unsigned_text label
 abbrev pub handle_text : Handle → List ℕ
 handle_text (OnLabel tag label) = 0x00 ∷ (unsigned_text tag ++ unsigned_text label)
 handle_text (OnSwitch tag) = 0x01 ∷ unsigned_text tag
+
+-- ---- vectors of 128 bits
+
+-- a number of so many bits, in two's complement
+abbrev pub twos_complement : ℕ → ℤ → ℕ
+twos_complement bits (pos n) = n
+twos_complement bits (negsuc n) = 2 ^ bits - suc n
+
+-- the bytes of a vector, the least first
+unfoldable pub vector_text : ℤ → List ℕ
+vector_text v = little_endian_text 16 (twos_complement 128 v)
