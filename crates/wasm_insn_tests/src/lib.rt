@@ -6,6 +6,8 @@ pub mod callers;
 #[cfg(test)]
 mod cases;
 #[cfg(test)]
+mod clones;
+#[cfg(test)]
 mod examples;
 #[cfg(test)]
 mod immediates;
