@@ -5,3 +5,4 @@ pub mod BodyLaws
 pub mod CodeLaws
 pub mod NothingLaws
 pub mod Drained
+pub mod SameTypes

@@ -4,7 +4,8 @@ use Rattle.std.proofs.lemmas.Bool.{cases_lt}
 use Rattle.std.proofs.lemmas.List.{append_cancel_left, replicate_more}
 use Rattle.wasm_base.specs.declared.types.ValType.{ValType}
 use Rattle.wasm_base.proofs.FormatLaws.{same_pair}
-use Rattle.wasm_code.specs.Bodies.{Run, expand, IsRuns, MoreRuns}
+use Rattle.wasm_base.proofs.Yielded.{All-last}
+use Rattle.wasm_code.specs.Bodies.{Run, expand, IsRuns, IsCounted, RunsFit, AreRunsOf, MoreRuns, IsFull}
 use Rattle.wasm_code.specs.Laws.{HaveOneExpansion}
 
 count_low : (p : Run) (xs : List Run) → IsRuns (p ∷ xs) → 1 ≤ p.0
@@ -100,3 +101,20 @@ first_run u old new before after = record {
   runs = λ h. subst IsRuns (sym (after ∙ ap (λ z. z ++ (1, u) ∷ []) before)) (omega arith);
   expanded = one_more_run old new u after;
 }
+
+-- ---- all locals
+
+pub are_runs_of : (types : List ValType) (runs : List Run) → IsRuns runs → expand runs ≡ types → AreRunsOf types runs
+are_runs_of types runs are e = record { are_runs = are; expanded = e; only = λ others h g. unique others runs h are (g ∙ sym e) }
+
+-- Where the last run is full, the runs of one more type of it don't fit.
+overfull : (t : ValType) (old : List Run) (types : List ValType) → IsRuns old → expand old ≡ types → ((runs : List Run) → AreRunsOf (types ++ t ∷ []) runs → RunsFit runs) → IsFull t old → ⊥
+overfull t old types are e fits full =
+    let new : List Run = full.others ++ (full.count + 1, t) ∷ [] in
+    let more = longer_run full.others full.count (full.count + 1) t old new full.last refl refl in
+    let all = fits new (are_runs_of (types ++ t ∷ []) new (more.runs are) (more.expanded ∙ ap (λ z. z ++ t ∷ []) e)) in
+    omega (arith, full.full, All-last IsCounted full.others (full.count + 1, t) all.counts)
+
+-- so that the call is refused for another reason
+pub not_full : {P : Type 0} (t : ValType) (old : List Run) (types : List ValType) → IsRuns old → expand old ≡ types → ((runs : List Run) → AreRunsOf (types ++ t ∷ []) runs → RunsFit runs) → (P → IsFull t old) → P → ⊥
+not_full t old types are e fits full p = overfull t old types are e fits (full p)
