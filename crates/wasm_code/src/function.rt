@@ -90,7 +90,8 @@ impl<A: Allocator> Function<A> {
     pub fn into_raw_body(self) -> Vec<u8, A>
         ensures { result.items ≡ self }
     {
-        self.bytes
+        let Function { bytes } = self;
+        bytes
     }
 }
 
