@@ -1,6 +1,5 @@
 -- Texts of expressions, bodies and code sections spell them.
-use Rattle.std.proofs.Common.{◌≡◌, List, refl, subst}
-use Rattle.std.specs.List.{All}
+use Rattle.std.proofs.Common.{refl, subst}
 use Rattle.wasm_base.specs.Numbers.{shortest}
 use Rattle.wasm_base.specs.Formats.{any_bytes, such, frame, u32, pair, vec}
 use Rattle.wasm_base.specs.Reading.{HasTexts}
@@ -11,7 +10,7 @@ use Rattle.wasm_insn.specs.Plain.{Plain, instruction, plain_text}
 use Rattle.wasm_insn.specs.Table.{table}
 use Rattle.wasm_insn.proofs.PlainLaws.{plain_spelled}
 use Rattle.wasm_code.specs.Expressions.{IsNoEnd, expression}
-use Rattle.wasm_code.specs.Bodies.{Body, body, IsRun, run_text, locals_text}
+use Rattle.wasm_code.specs.Bodies.{body, IsRun, run_text, locals_text}
 use Rattle.wasm_code.specs.Code.{raw_code, code_section}
 use Rattle.wasm_code.specs.Laws.{IsNormal, IsNormalInside, code_text, PlainExpressionFits, plain_expression_text, BodyFits, body_text, BodyFrameFits, body_frame_text, RawCodeFits, raw_code_text, CodeSectionFits, code_section_text}
 use Rattle.wasm_code.proofs.ExpressionLaws.{expression-alone, expression_spelled}

@@ -1,6 +1,5 @@
 -- Value types that `==` finds equal are one.
-use Rattle.std.proofs.Common.{◌≡◌, ◌∙◌, Bool, true, false, ap, ap₂, refl, rules}
-use Rattle.std.proofs.lemmas.Bool.{and_parts}
+use Rattle.std.proofs.Common.{◌≡◌, Bool, true, false, ap, refl, rules}
 use denote.Enum.Bare.{same_true}
 use Rattle.wasm_base.specs.contracts.types.AbstractHeapType.{the_type}
 use Rattle.wasm_base.specs.contracts.types.AbstractHeapTypePartialEq.TheImpl.{eq-value as abstract_eq}

@@ -27,7 +27,9 @@ static STORED: [&[u8]; 16] = [
     &[0x42, 0x06],
     &[0x43, 0x07, 0, 0, 0],
     &[0x44, 0x08, 0, 0, 0, 0, 0, 0, 0],
-    &[0xFD, 0x0C, 0x09, 0, 0, 0, 0, 0, 0, 0, 0, 0, 0, 0, 0, 0, 0, 0],
+    &[
+        0xFD, 0x0C, 0x09, 0, 0, 0, 0, 0, 0, 0, 0, 0, 0, 0, 0, 0, 0, 0,
+    ],
     &[0x6A],
     &[0x6B],
     &[0x6C],
@@ -175,9 +177,7 @@ fn bodies(rt: HostRuntime) -> Result<(), Fail> {
 fn begun<'a>(heap: Heap<'a>, given: &Function<Heap<'a>>, place: usize) -> R<Function<Heap<'a>>> {
     match place {
         0 => Function::new(heap, [(2, ValType::I32), (1, ValType::I64)]),
-        1 => {
-            Function::new_with_locals_types(heap, [ValType::I32, ValType::I32, ValType::I64])
-        }
+        1 => { Function::new_with_locals_types(heap, [ValType::I32, ValType::I32, ValType::I64]) }
         _ => given.clone(),
     }
 }

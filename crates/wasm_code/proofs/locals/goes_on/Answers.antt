@@ -1,4 +1,4 @@
-use Rattle.std.proofs.Common.{rules, sym, ◌∙◌}
+use Rattle.std.proofs.Common.{rules}
 use Rattle.wasm_code.proofs.SameTypes.{same_val}
 use Rattle.wasm_code.proofs.locals.goes_on.Goals as goal
 
