@@ -7,6 +7,7 @@ pub mod callers;
 mod functions;
 #[cfg(test)]
 mod lengths;
+pub mod readings;
 #[cfg(test)]
 mod refusals;
 #[cfg(test)]
