@@ -135,13 +135,26 @@ fn expressions(rt: HostRuntime) -> Result<(), Fail> {
     Ok(())
 }
 
-/// A call on a function.
+/// What each call on a function appends. The second takes memory twice.
+static GROWN: [&[u8]; 4] = [
+    &[0x41, 0x01],
+    &[1, 1, 1, 1, 1, 1, 1, 1, 1, 1],
+    &[0x41, 0x01],
+    &[0x0E, 2, 0, 1, 2],
+];
+
+/// The call of this place in `GROWN`.
 fn grow(function: &mut Function<Heap<'_>>, place: usize) -> R<()> {
     match place {
         0 => function.instruction(&Instruction::I32Const(1)),
-        1 => function.raw([0x41, 0x01]),
-        _ => function.instructions().i32_const(1),
+        1 => function.raw([0x01; 10]),
+        2 => function.instructions().i32_const(1),
+        _ => call_br_table(function),
     }
+}
+
+fn call_br_table(function: &mut Function<Heap<'_>>) -> R<()> {
+    function.instructions().br_table([0, 1], 2)
 }
 
 /// The function's body is these bytes.
@@ -150,25 +163,36 @@ fn check_body(rt: &impl Abort, function: Function<Heap<'_>>, expected: &[u8]) {
     assert_eq!(rt; function.into_raw_body().as_slice(), expected);
 }
 
+/// A call on a function whose buffer is full.
+fn check_growth(rt: &impl Abort, alloc: Global, place: usize, appended: &[u8]) -> Result<(), Fail> {
+    let heap = Refusing::new(alloc);
+    for nth in 1..MOST {
+        heap.refuse(0);
+        let mut function = without_locals(&heap)?;
+        function.raw([0x01; FULL - 1])?;
+        heap.refuse(nth);
+        let answer = grow(&mut function, place);
+        let granted = heap.is_waiting();
+        let body = function.into_raw_body();
+        assert!(rt; body.len() >= FULL);
+        let (old, new) = body.as_slice().split_at(FULL);
+        assert_eq!(rt; old, [0, 1, 1, 1, 1, 1, 1, 1].as_slice());
+        if granted {
+            assert!(rt; nth > 1);
+            assert_eq!(rt; answer, Ok(()));
+            assert_eq!(rt; new, appended);
+            return Ok(());
+        }
+        assert_eq!(rt; answer, Err(Refused::Memory));
+        assert!(rt; new.is_empty());
+    }
+    panic!(rt; "no call was granted")
+}
+
 #[test]
 fn bodies(rt: HostRuntime) -> Result<(), Fail> {
-    let heap = Refusing::new(rt.alloc());
-    for place in 0..3 {
-        for nth in 1..MOST {
-            heap.refuse(0);
-            let mut function = without_locals(&heap)?;
-            function.raw([0x01; FULL - 1])?;
-            heap.refuse(nth);
-            let answer = grow(&mut function, place);
-            if heap.is_waiting() {
-                assert!(rt; nth > 1);
-                assert_eq!(rt; answer, Ok(()));
-                check_body(&rt, function, &[0, 1, 1, 1, 1, 1, 1, 1, 0x41, 1]);
-                break;
-            }
-            assert_eq!(rt; answer, Err(Refused::Memory));
-            check_body(&rt, function, &[0, 1, 1, 1, 1, 1, 1, 1]);
-        }
+    for (place, appended) in GROWN.iter().enumerate() {
+        check_growth(&rt, rt.alloc(), place, appended)?;
     }
     Ok(())
 }
