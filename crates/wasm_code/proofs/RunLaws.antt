@@ -1,10 +1,11 @@
 -- Runs of locals: a list of types has one.
-use Rattle.std.proofs.Common.{◌≡◌, ℕ, zero, suc, ◌+◌, ◌-◌, ◌<◌, ◌≤◌, ◌⊎◌, List, [], ◌∷◌, ◌++◌, refl, sym, ap, ap₂, subst, ◌∙◌, arith, inl, inr, Ok, Err, Option, Result, length, replicate, append_assoc, append-nil}
+use Rattle.std.proofs.Common.{◌≡◌, ◌≢◌, ℕ, zero, suc, ◌+◌, ◌-◌, ◌<◌, ◌≤◌, ◌⊎◌, List, [], ◌∷◌, ◌++◌, refl, sym, ap, ap₂, subst, ◌∙◌, arith, inl, inr, Ok, Err, Option, Result, length, replicate, append_assoc, append-nil}
 use Rattle.std.proofs.lemmas.Bool.{cases_lt}
 use Rattle.std.proofs.lemmas.List.{append_cancel_left, replicate_more}
 use Rattle.std.specs.Iterator.{Count, Drains, size}
 use Rattle.std.specs.declared.vec.Vec.{Vec}
 use Rattle.wasm_base.specs.declared.refused.Refused.{Refused}
+use Rattle.wasm_base.specs.declared.refused.Refused.TheVariants.{TooLong}
 use Rattle.wasm_base.specs.declared.types.ValType.{ValType}
 use Rattle.wasm_base.proofs.FormatLaws.{same_pair}
 use Rattle.wasm_base.proofs.Yielded.{All-last}
@@ -119,8 +120,9 @@ overfull t old types are e fits full =
     omega (arith, full.full, All-last IsCounted full.others (full.count + 1, t) all.counts)
 
 -- so that the call is refused for another reason
-pub not_full : {P : Type 0} (t : ValType) (old : List Run) (types : List ValType) → IsRuns old → expand old ≡ types → ((runs : List Run) → AreRunsOf (types ++ t ∷ []) runs → RunsFit runs) → (P → IsFull t old) → P → ⊥
-not_full t old types are e fits full p = overfull t old types are e fits (full p)
+pub not_full : (result : Result (Unit {0}) Refused) (t : ValType) (old : List Run) (types : List ValType) → IsRuns old → expand old ≡ types → ((runs : List Run) → AreRunsOf (types ++ t ∷ []) runs → RunsFit runs)
+    → (result ≡ Err TooLong → IsFull t old) → result ≢ Err TooLong
+not_full result t old types are e fits full is = overfull t old types are e fits (full is)
 
 -- ---- calls
 

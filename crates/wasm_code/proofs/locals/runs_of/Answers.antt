@@ -12,9 +12,9 @@ returns-in_err-add_local g c = record {
       let step = subst (λ r. gives c.loop-ty.ty-iterator r c.next.new.self) c.in-Some.is c.next.ensures.steps in
       let more = Yields-push gives start c.loop-ty.yielded c.loop-ty.ty-iterator c.in-Some.ty c.next.new.self c.loop-ty.yielded_by step in
       let refused =
-      not_full c.in-Some.ty c.loop-ty.runs.items c.loop-ty.yielded c.loop-ty.invariant.runs c.loop-ty.invariant.expanded
+      not_full c.add_local.result c.in-Some.ty c.loop-ty.runs.items c.loop-ty.yielded c.loop-ty.invariant.runs c.loop-ty.invariant.expanded
       (λ runs are. fits start c.next.new.self _ runs c.into_iter-ty-iterator.ensures.into_iter_gives more are)
-      c.in_err-add_local.ensures.full in
+      c.add_local.ensures.full in
       search (rules, refused);
 }
 
