@@ -74,7 +74,7 @@ grows_by more old new e = record { bytes = e; plain = λ x is held spelled. subs
 
 -- ---- locals
 
-run_spelled : (run : Run) → IsRun run → pair u32 val_type shortest (run_text run) run
+pub run_spelled : (run : Run) → IsRun run → pair u32 val_type shortest (run_text run) run
 run_spelled run h = record { front = _; back = val_text run.1; joined = refl; first = u32_spelled run.0 h.0; second = val-texts.spelled run.1 h.1 }
 
 pub has_locals : (runs : List Run) (bytes : List ℕ) → bytes ≡ locals_text runs → HasLocals runs bytes

@@ -53,8 +53,6 @@ code_reads entries fits = record {
   bodies = record { for_each = λ xs h. framed_alone body code_section-alone entries h.raw xs h.held fits h.spelled };
 }
 
-pub ruleset bodies = (body-whole, frame-body-alone, raw_code-alone, code_section-alone)
-
 -- ---- padded numbers
 
 pub wide-expression : IsUniqueWide expression

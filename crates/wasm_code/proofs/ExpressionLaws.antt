@@ -99,5 +99,3 @@ stores_given becomes gives elements old new e h =
     let given = h.ok in
     let text : new ≡ flat_map instruction_text given.1 = given.5 ∙ ap (λ z. z ++ flat_map instruction_text given.1) e in
     record { ok = (given.0, given.1, given.2, given.3, given.4, text, stores_all given.1 new text); too_long = λ fits is. absurd (cc is) }
-
-pub ruleset expressions = (expression-alone)

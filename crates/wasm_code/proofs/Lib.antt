@@ -3,5 +3,7 @@ pub mod Groups
 pub mod RunLaws
 pub mod BodyLaws
 pub mod CodeLaws
+pub mod CodeTexts
 pub mod NothingLaws
 pub mod Drained
+pub mod SameTypes

@@ -1,10 +1,15 @@
 -- Runs of locals: a list of types has one.
-use Rattle.std.proofs.Common.{◌≡◌, ℕ, zero, suc, ◌+◌, ◌-◌, ◌<◌, ◌≤◌, ◌⊎◌, List, [], ◌∷◌, ◌++◌, refl, sym, ap, ap₂, subst, ◌∙◌, arith, inl, inr, replicate, append_assoc, append-nil}
+use Rattle.std.proofs.Common.{◌≡◌, ◌≢◌, ℕ, zero, suc, ◌+◌, ◌-◌, ◌<◌, ◌≤◌, ◌⊎◌, List, [], ◌∷◌, ◌++◌, refl, sym, ap, ap₂, subst, ◌∙◌, arith, inl, inr, Ok, Err, Option, Result, length, replicate, append_assoc, append-nil}
 use Rattle.std.proofs.lemmas.Bool.{cases_lt}
 use Rattle.std.proofs.lemmas.List.{append_cancel_left, replicate_more}
+use Rattle.std.specs.Iterator.{Count, Drains, size}
+use Rattle.std.specs.declared.vec.Vec.{Vec}
+use Rattle.wasm_base.specs.declared.refused.Refused.{Refused}
+use Rattle.wasm_base.specs.declared.refused.Refused.TheVariants.{TooLong}
 use Rattle.wasm_base.specs.declared.types.ValType.{ValType}
 use Rattle.wasm_base.proofs.FormatLaws.{same_pair}
-use Rattle.wasm_code.specs.Bodies.{Run, expand, IsRuns, MoreRuns}
+use Rattle.wasm_base.proofs.Yielded.{All-last}
+use Rattle.wasm_code.specs.Bodies.{Run, expand, IsRuns, IsCounted, RunsFit, AreRunsOf, MoreRuns, IsFull, HasLocals, GathersRuns, BeginsWithRuns, BeginsWithTypes}
 use Rattle.wasm_code.specs.Laws.{HaveOneExpansion}
 
 count_low : (p : Run) (xs : List Run) → IsRuns (p ∷ xs) → 1 ≤ p.0
@@ -100,3 +105,55 @@ first_run u old new before after = record {
   runs = λ h. subst IsRuns (sym (after ∙ ap (λ z. z ++ (1, u) ∷ []) before)) (omega arith);
   expanded = one_more_run old new u after;
 }
+
+-- ---- all locals
+
+pub are_runs_of : (types : List ValType) (runs : List Run) → IsRuns runs → expand runs ≡ types → AreRunsOf types runs
+are_runs_of types runs are e = record { are_runs = are; expanded = e; only = λ others h g. unique others runs h are (g ∙ sym e) }
+
+-- Where the last run is full, the runs of one more type of it don't fit.
+overfull : (t : ValType) (old : List Run) (types : List ValType) → IsRuns old → expand old ≡ types → ((runs : List Run) → AreRunsOf (types ++ t ∷ []) runs → RunsFit runs) → IsFull t old → ⊥
+overfull t old types are e fits full =
+    let new : List Run = full.others ++ (full.count + 1, t) ∷ [] in
+    let more = longer_run full.others full.count (full.count + 1) t old new full.last refl refl in
+    let all = fits new (are_runs_of (types ++ t ∷ []) new (more.runs are) (more.expanded ∙ ap (λ z. z ++ t ∷ []) e)) in
+    omega (arith, full.full, All-last IsCounted full.others (full.count + 1, t) all.counts)
+
+-- so that the call is refused for another reason
+pub not_full : (result : Result (Unit {0}) Refused) (t : ValType) (old : List Run) (types : List ValType) → IsRuns old → expand old ≡ types → ((runs : List Run) → AreRunsOf (types ++ t ∷ []) runs → RunsFit runs)
+    → (result ≡ Err TooLong → IsFull t old) → result ≢ Err TooLong
+not_full result t old types are e fits full is = overfull t old types are e fits (full is)
+
+-- ---- calls
+
+-- The runs of the types that are given, handed in as runs.
+pub types_given : {U S V W A : Type 0} (becomes : U → S → Type 0) (gives : S → Option ValType → S → Type 0) (vec_becomes : V → W → Type 0) (vec_gives : W → Option Run → W → Type 0) (remaining : W → Count)
+    (elements : U) (given : V) (runs : Vec Run A) (result : Result (List ℕ) Refused)
+    → ((it : W) (xs : List Run) → vec_becomes given it → Drains vec_gives it xs → xs ≡ runs.items) → ((it : W) → vec_becomes given it → size (remaining it) ≡ length runs.items)
+    → GathersRuns becomes gives elements (Ok runs) → BeginsWithRuns vec_becomes vec_gives remaining given result → BeginsWithTypes becomes gives elements result
+types_given becomes gives vec_becomes vec_gives remaining elements given runs (Err e) items told h g =
+    let all = h.ok in
+    let left = all.3.1 in
+    record {
+      ok = tt;
+      too_long = λ fits.
+          let fit = fits all.0 left.0 all.1 runs.items all.2 left.1 all.4 in
+          g.too_long (λ it b. omega (arith, told it b, fit.count));
+    }
+types_given becomes gives vec_becomes vec_gives remaining elements given runs (Ok bytes) items told h g =
+    let all = h.ok in
+    let begun = g.ok in
+    let same : begun.1 ≡ runs.items = items begun.0 begun.1 begun.2 begun.3 in
+    record {
+      ok = (
+        all.0,
+        all.1,
+        all.2,
+        all.3,
+        runs.items,
+        all.4,
+        record { count = omega (arith, begun.4, ap length same); counts = all.5 },
+        subst (λ rs. HasLocals rs bytes) same begun.5,
+      );
+      too_long = λ fits is. absurd (cc is);
+    }

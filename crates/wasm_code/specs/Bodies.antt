@@ -2,6 +2,7 @@
 use Rattle.std.specs.Prelude.{◌≡◌, ◌≢◌, ℕ, ◌^◌, ◌<◌, ◌≤◌, List, [], ◌∷◌, ◌++◌, length, replicate, Result, Err, IfOk, OnOk, OnErr, Option, ⊤}
 use Rattle.std.specs.Iterator.{Count, Drains, Yields, size}
 use Rattle.std.specs.List.{All}
+use Rattle.std.specs.declared.vec.Vec.{Vec}
 use Rattle.wasm_base.specs.Numbers.{shortest, unsigned_text}
 use Rattle.wasm_base.specs.Formats.{Format, u32, mapped, pair, members, vec}
 use Rattle.wasm_base.specs.Texts.{longest, vec_text}
@@ -43,10 +44,14 @@ IsRuns [] = ⊤
 IsRuns (run ∷ []) = 1 ≤ run.0
 IsRuns (run ∷ next ∷ runs) = (1 ≤ run.0) × (run.1 ≢ next.1) × IsRuns (next ∷ runs)
 
+-- The locals of the run can be counted.
+abbrev pub IsCounted : Run → Type 0
+IsCounted run = run.0 ≤ longest
+
 -- The runs can be counted, and so can the locals of each.
 pub record RunsFit (runs : List Run) : Type 0 where
   pub count : length runs ≤ longest
-  pub counts : All (λ run. run.0 ≤ longest) runs
+  pub counts : All IsCounted runs
 
 -- These are the runs of the types, and no others are.
 pub record AreRunsOf (types : List ValType) (runs : List Run) : Type 0 where
@@ -59,10 +64,12 @@ pub record MoreRuns (type : ValType) (old new : List Run) : Type 0 where
   pub runs : IsRuns old → IsRuns new
   pub expanded : expand new ≡ expand old ++ type ∷ []
 
--- The last run is of this type, and has the largest count.
+-- The last run is of this type, and no larger count can be spelled.
 pub record IsFull (type : ValType) (runs : List Run) : Type 0 where
   pub others : List Run
-  pub last : runs ≡ others ++ (longest, type) ∷ []
+  pub count : ℕ
+  pub last : runs ≡ others ++ (count, type) ∷ []
+  pub full : longest ≤ count
 
 -- ---- bodies
 
@@ -116,6 +123,11 @@ pub record BeginsWithRuns {U S : Type 0} (becomes : U → S → Type 0) (gives :
   pub ok : IfOk result (λ bytes. (it : S) × (runs : List Run) × becomes elements it × Drains gives it runs × (length runs ≤ longest) × HasLocals runs bytes)
   pub too_long : ((it : S) → becomes elements it → size (remaining it) ≤ longest) → result ≢ Err TooLong
   pub too_many : ((it : S) → becomes elements it → longest < size (remaining it)) → result ≡ Err TooLong
+
+-- The vector has the runs of the types that the elements give.
+pub record GathersRuns {U S A : Type 0} (becomes : U → S → Type 0) (gives : S → Option ValType → S → Type 0) (elements : U) (result : Result (Vec Run A) Refused) : Type 0 where
+  pub ok : IfOk result (λ runs. (it : S) × (types : List ValType) × becomes elements it × Drains gives it types × AreRunsOf types runs.items × All IsCounted runs.items)
+  pub too_long : ((it left : S) (types : List ValType) (runs : List Run) → becomes elements it → Yields gives it types left → AreRunsOf types runs → RunsFit runs) → result ≢ Err TooLong
 
 -- The function has the runs of the types that the elements give.
 pub record BeginsWithTypes {U S : Type 0} (becomes : U → S → Type 0) (gives : S → Option ValType → S → Type 0) (elements : U) (result : Result (List ℕ) Refused) : Type 0 where

@@ -1,14 +1,16 @@
 -- What is promised of all lists of bytes.
 use Rattle.std.specs.Prelude.{◌≡◌, ◌≢◌, ℕ, List, [], ◌∷◌, ◌++◌}
+use Rattle.std.specs.List.{All, flat_map}
 use Rattle.wasm_base.specs.Numbers.{shortest}
 use Rattle.wasm_base.specs.Formats.{Format, members}
 use Rattle.wasm_base.specs.Reading.{ReadsNothing}
+use Rattle.wasm_base.specs.Texts.{vec_text, VecFits, frame_text, FrameFits}
 use Rattle.wasm_insn.specs.declared.instruction.Instruction.{Instruction}
-use Rattle.wasm_insn.specs.Plain.{Plain, instruction}
+use Rattle.wasm_insn.specs.Plain.{Plain, IsPlain, normal, instruction, plain_text}
 use Rattle.wasm_insn.specs.Table.{table}
 use Rattle.wasm_insn.specs.Instructions.{instruction_text, IsPlainInstruction}
-use Rattle.wasm_code.specs.Expressions.{normal_row}
-use Rattle.wasm_code.specs.Bodies.{Body, body, and_then, Run, expand, IsRuns}
+use Rattle.wasm_code.specs.Expressions.{normal_row, IsNoEnd, expression_text}
+use Rattle.wasm_code.specs.Bodies.{Body, body, and_then, Run, expand, IsRun, IsRuns, locals_text}
 
 -- No value stands at the front of the text, whatever follows.
 pub record NothingStands {X : Type 0} (F : Format X) (text : List ℕ) : Type 0 where
@@ -31,3 +33,58 @@ pub record FindsAdded {A : Type 0} (i : Instruction A) : Type 0 where
 -- A list of types has one list of runs.
 pub record HaveOneExpansion (xs ys : List Run) : Type 0 where
   pub same : IsRuns xs → IsRuns ys → expand xs ≡ expand ys → xs ≡ ys
+
+-- ---- texts
+
+-- a plain instruction in normal form
+pub record IsNormal (i : Plain) : Type 0 where
+  pub plain : IsPlain table i
+  pub same : normal i ≡ i
+
+-- one that a constant expression can hold
+abbrev pub IsNormalInside : Plain → Type 0
+IsNormalInside i = IsNormal i × IsNoEnd i
+
+-- the instructions, one after another
+abbrev pub code_text : List Plain → List ℕ
+code_text is = flat_map plain_text is
+
+-- the instructions, and End
+abbrev pub plain_expression_text : List Plain → List ℕ
+plain_expression_text is = expression_text (code_text is)
+
+abbrev pub PlainExpressionFits : List Plain → Type 0
+PlainExpressionFits = All IsNormalInside
+
+-- the vector of the runs, and the instructions
+abbrev pub body_text : Body → List ℕ
+body_text x = locals_text x.runs ++ code_text x.code
+
+-- a body whose runs can be counted, of plain instructions in normal form
+pub record BodyFits (x : Body) : Type 0 where
+  pub runs : VecFits IsRun x.runs
+  pub code : All IsNormal x.code
+
+abbrev pub body_frame_text : Body → List ℕ
+body_frame_text x = frame_text (body_text x)
+
+-- a body whose size can be spelled
+pub record BodyFrameFits (x : Body) : Type 0 where
+  pub body : BodyFits x
+  pub size : FrameFits (body_text x)
+
+-- a code section of raw bodies
+abbrev pub raw_code_text : List (List ℕ) → List ℕ
+raw_code_text raw = frame_text (vec_text frame_text raw)
+
+pub record RawCodeFits (raw : List (List ℕ)) : Type 0 where
+  pub members : VecFits FrameFits raw
+  pub size : FrameFits (vec_text frame_text raw)
+
+-- a code section of bodies
+abbrev pub code_section_text : List Body → List ℕ
+code_section_text bodies = frame_text (vec_text body_frame_text bodies)
+
+pub record CodeSectionFits (bodies : List Body) : Type 0 where
+  pub members : VecFits BodyFrameFits bodies
+  pub size : FrameFits (vec_text body_frame_text bodies)

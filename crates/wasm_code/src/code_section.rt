@@ -11,7 +11,7 @@ ghost use Rattle.wasm_code.specs.Code.{code_section, SpellsBodies, ReadsCode};
 use crate::function::Function;
 use std::alloc::{Allocator, Global};
 use std::marker::Model;
-use wasm_base::{Encode, Pieces, R, Section, SectionId, encode_frame};
+use wasm_base::{Counted, Encode, Pieces, R, Section, SectionId, encode_frame};
 
 /// The bodies of a module's functions, seen as the bytes of each entry: the frame of a raw body.
 ///
@@ -147,4 +147,20 @@ impl<A: Allocator> Section for CodeSection<A> {
     ghost framed = { section_framed };
 
     ghost reads_back = { λ section promised. promised.bodies };
+}
+
+impl<A: Allocator, B: Allocator> Counted<Function<B>> for CodeSection<A> {
+    ghost use Rattle.std.proofs.Common.{refl};
+
+    ghost pieces = { λ section. section };
+
+    ghost item_text = { frame_text };
+
+    ghost item_fits = { FrameFits };
+
+    fn add(&mut self, item: &Function<B>) -> R<()> {
+        self.function(item)
+    }
+
+    ghost counted = { λ section. refl };
 }

@@ -6,8 +6,9 @@ ghost use Rattle.wasm_base.specs.Formats.{frame};
 ghost use Rattle.wasm_base.specs.Iterators.{HasKnownLength};
 ghost use Rattle.wasm_base.specs.Texts.{frame_text, FrameFits};
 ghost use Rattle.wasm_base.specs.declared.refused.Refused.TheVariants.{TooLong};
-ghost use Rattle.wasm_code.specs.Bodies.{body, IsPlainBody, GrowsBy, AddsInstruction, BeginsWithRuns};
+ghost use Rattle.wasm_code.specs.Bodies.{body, IsPlainBody, GrowsBy, AddsInstruction, BeginsWithRuns, BeginsWithTypes};
 
+use crate::locals::runs_of;
 use std::alloc::{Allocator, Global};
 use std::marker::Model;
 use wasm_base::{Encode, R, Refused, ValType, encode_frame, encode_vec};
@@ -89,11 +90,24 @@ impl<A: Allocator> Function<A> {
     pub fn into_raw_body(self) -> Vec<u8, A>
         ensures { result.items ≡ self }
     {
-        self.bytes
+        let Function { bytes } = self;
+        bytes
     }
 }
 
 impl<A: Allocator + Copy> Function<A> {
+    /// A function with locals of these types, whose instructions are to follow: `new` of their runs. Neighbours of one type are one
+    /// run.
+    pub fn new_with_locals_types<I: IntoIterator<Item = ValType>>(alloc: A, locals: I) -> R<Self>
+    where
+        I::IntoIter: Drop,
+        requires { (it : I.IntoIter) → I.into_iter_gives locals it → I.IntoIter.can_next it × IsFinite (I.IntoIter.remaining it) }
+        ensures { BeginsWithTypes I.into_iter_gives I.IntoIter.next_gives locals result }
+    {
+        let runs = runs_of(alloc, locals)?;
+        Function::new(alloc, runs)
+    }
+
     /// The same function, in memory of its own.
     pub fn clone(&self) -> R<Self>
         ensures same { IfOk result (λ f. f ≡ self.now) }

@@ -2,31 +2,52 @@
 //!
 //! `UniqueReading F` says that bytes begin with a spelling in the format `F` of one value alone, whatever follows, both with
 //! shortest and with padded numbers, and that a value has one shortest spelling; `UniqueWholeReading F` the same of a format whose
-//! spellings reach to the last byte.
+//! spellings reach to the last byte. `HasTexts F fits text` says that the text of each value that fits is its shortest spelling.
 ghost use Rattle.std.specs.Prelude.{◌∷◌, [], List};
 ghost use Rattle.wasm_base.specs.Formats.{frame};
-ghost use Rattle.wasm_base.specs.Reading.{UniqueReading, UniqueWholeReading, IsUniqueWide, IsUniqueWholeWide};
+ghost use Rattle.wasm_base.specs.Reading.{UniqueReading, UniqueWholeReading, HasTexts, IsUniqueWide, IsUniqueWholeWide};
 ghost use Rattle.wasm_code.specs.Bodies.{Run, body};
 ghost use Rattle.wasm_code.specs.Code.{raw_code, code_section};
 ghost use Rattle.wasm_code.specs.Expressions.{expression};
-ghost use Rattle.wasm_code.specs.Laws.{NothingStands, HasOffsets, FindsAdded, HaveOneExpansion};
+ghost use Rattle.wasm_code.specs.Laws.{
+  NothingStands,
+  HasOffsets,
+  FindsAdded,
+  HaveOneExpansion,
+  PlainExpressionFits,
+  plain_expression_text,
+  BodyFits,
+  body_text,
+  BodyFrameFits,
+  body_frame_text,
+  RawCodeFits,
+  raw_code_text,
+  CodeSectionFits,
+  code_section_text,
+};
 ghost use Rattle.wasm_insn.specs.declared.instruction.Instruction.{Instruction};
 
 use std::alloc::Allocator;
 
 /// Expressions are read uniquely: one ends at the first `End` where an instruction begins.
-#[tactic(auto, using(crate::proofs::ExpressionLaws::expressions))]
+#[tactic(auto, using(crate::proofs::CodeTexts::expressions))]
 pub fn expressions()
-    ensures { UniqueReading expression }
+    ensures unique { UniqueReading expression }
+    ensures texts { HasTexts expression PlainExpressionFits plain_expression_text }
 {}
 
 /// Bodies are read uniquely, and so are code sections, of raw bodies and of bodies.
-#[tactic(auto, using(crate::proofs::CodeLaws::bodies))]
+#[tactic(auto, using(crate::proofs::CodeTexts::bodies))]
 pub fn bodies()
     ensures body { UniqueWholeReading body }
     ensures frame { UniqueReading (frame body) }
     ensures raw_code { UniqueReading raw_code }
     ensures code_section { UniqueReading code_section }
+
+    ensures body_texts { HasTexts body BodyFits body_text }
+    ensures frame_texts { HasTexts (frame body) BodyFrameFits body_frame_text }
+    ensures raw_code_texts { HasTexts raw_code RawCodeFits raw_code_text }
+    ensures code_section_texts { HasTexts code_section CodeSectionFits code_section_text }
 {}
 
 /// Where a raw body that spells a body goes on and spells another, an instruction begins after as many bytes as it has: in the

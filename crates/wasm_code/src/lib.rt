@@ -6,6 +6,7 @@ mod code_section;
 mod const_expr;
 mod function;
 pub mod laws;
+mod locals;
 
 pub use code_section::CodeSection;
 pub use const_expr::ConstExpr;

@@ -1,0 +1,13 @@
+use Rattle.std.proofs.Common.{◌≡◌}
+use Rattle.std.specs.List.{All}
+use Rattle.wasm_code.specs.Bodies.{expand, IsRuns, IsCounted}
+use Rattle.wasm_code.proofs.locals.runs_of.Given as goal
+
+abbrev pub invariant-loop-ty : goal.invariant-loop-ty
+invariant-loop-ty g l = record {
+  can : (goal.iterator-loop-ty g).can_next l.ty-iterator;
+  finite : (goal.iterator-loop-ty g).is_finite l.ty-iterator;
+  runs : IsRuns l.runs.items;
+  expanded : expand l.runs.items ≡ l.yielded;
+  counted : All IsCounted l.runs.items;
+}

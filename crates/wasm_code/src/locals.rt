@@ -1,0 +1,55 @@
+// The runs of locals that are told one by one.
+ghost use Rattle.std.specs.Prelude.{◌≡◌, ◌↔◌, IsTrue, OnOk};
+ghost use Rattle.std.specs.Iterator.{IsFinite};
+ghost use Rattle.std.specs.List.{All};
+ghost use Rattle.wasm_base.specs.declared.refused.Refused.TheVariants.{TooLong};
+ghost use Rattle.wasm_code.specs.Bodies.{IsCounted, IsFull, MoreRuns, GathersRuns};
+
+use std::alloc::Allocator;
+use wasm_base::{R, Refused, ValType};
+
+/// The runs of the types: neighbours of one type are one run.
+pub(crate) fn runs_of<I: IntoIterator<Item = ValType>, A: Allocator>(
+    alloc: A,
+    types: I,
+) -> R<Vec<(u32, ValType), A>>
+where
+    I::IntoIter: Drop,
+    requires { (it : I.IntoIter) → I.into_iter_gives types it → I.IntoIter.can_next it × IsFinite (I.IntoIter.remaining it) }
+    ensures { GathersRuns I.into_iter_gives I.IntoIter.next_gives types result }
+{
+    let mut runs = Vec::new(alloc);
+    for ty in types {
+        add_local(&mut runs, ty)?;
+    }
+    Ok(runs)
+}
+
+/// Whether a local of the type `ty` goes on a run of the type `last`.
+fn goes_on(last: ValType, ty: ValType) -> bool
+    ensures { IsTrue result ↔ (last ≡ ty) }
+{
+    last == ty
+}
+
+/// One more local: the last run has one more where it is of this type, and else a run begins.
+fn add_local<A: Allocator>(runs: &mut Vec<(u32, ValType), A>, ty: ValType) -> R<()>
+    ensures more { OnOk result (MoreRuns ty runs.old.items runs.new.items) }
+    ensures counted { All IsCounted runs.old.items → OnOk result (All IsCounted runs.new.items) }
+    ensures full { result ≡ Err TooLong → IsFull ty runs.old.items }
+{
+    let Some((count, last)) = runs.pop() else {
+        runs.push((1, ty))?;
+        return Ok(());
+    };
+    if goes_on(last, ty) {
+        let Some(more) = count.checked_add(1) else {
+            return Err(Refused::TooLong);
+        };
+        runs.push((more, ty))?;
+        return Ok(());
+    }
+    runs.push((count, last))?;
+    runs.push((1, ty))?;
+    Ok(())
+}

@@ -1,0 +1,21 @@
+-- Bodies that are read otherwise than they were written.
+use Rattle.std.specs.Prelude.{List, [], ◌∷◌, Some, pos}
+use Rattle.wasm_insn.specs.declared.memory.MemArgOrdering.TheVariants.{Op}
+use Rattle.wasm_insn.specs.declared.memory.MemArgTarget.TheVariants.{Memory}
+use Rattle.wasm_insn.specs.declared.memory.Ordering.TheVariants.{SeqCst}
+use Rattle.wasm_insn.specs.declared.op.Op.TheVariants.{Byte}
+use Rattle.wasm_insn.specs.Arguments.{memory, signed32}
+use Rattle.wasm_insn.specs.Plain.{Plain}
+use Rattle.wasm_code.specs.Bodies.{Body}
+
+-- a body without locals, of one instruction, and `End`
+abbrev pub without_locals : List Plain → Body
+without_locals code = record { runs = []; code = code }
+
+-- `I32Load` of alignment 0 and offset 11, with an ordering
+abbrev pub ordered_load : Plain
+ordered_load = record { op = Byte 0x28; arguments = memory (record { offset = 11; align = 0; target = Memory 0; ordering = Some (Op SeqCst) }) ∷ [] }
+
+-- `I32Const` of 1, and `End`
+abbrev pub constant_and_end : List Plain
+constant_and_end = record { op = Byte 0x41; arguments = signed32 (pos 1) ∷ [] } ∷ record { op = Byte 0x0B; arguments = [] } ∷ []
