@@ -1,3 +1,4 @@
+pub mod Constants
 pub mod Flags
 pub mod Memories
 pub mod Tags
