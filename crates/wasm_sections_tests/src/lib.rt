@@ -5,3 +5,5 @@
 mod refusals;
 #[cfg(test)]
 mod rows;
+#[cfg(test)]
+mod samples;
