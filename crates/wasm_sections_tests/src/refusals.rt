@@ -323,27 +323,18 @@ fn parts_of_imports(rt: HostRuntime) -> Result<(), Fail> {
     let items = [ImportCompact { name: "a", ty }];
     check_part(&rt, &heap, &IMPORT, &IMPORT_BYTES)?;
     check_part(&rt, &heap, &items[0], &[1, b'a', 0, 0])?;
-    for (imports, expected) in [
-        (Imports::Single(IMPORT), IMPORT_BYTES.as_slice()),
-        (
-            Imports::Compact1 {
-                module: "m",
-                items: CowSlice::Borrowed(&items),
-            },
-            &[1, b'm', 0, 127, 1, 1, b'a', 0, 0],
-        ),
-        (
-            Imports::Compact2 {
-                module: "m",
-                ty,
-                names: CowSlice::Borrowed(&["a"]),
-            },
-            &[1, b'm', 0, 126, 0, 0, 1, 1, b'a'],
-        ),
-    ] {
-        check_part(&rt, &heap, &imports, expected)?;
-    }
-    Ok(())
+    check_part(&rt, &heap, &Imports::Single(IMPORT), &IMPORT_BYTES)?;
+    let named = Imports::Compact1 {
+        module: "m",
+        items: CowSlice::Borrowed(&items),
+    };
+    check_part(&rt, &heap, &named, &[1, b'm', 0, 127, 1, 1, b'a', 0, 0])?;
+    let alike = Imports::Compact2 {
+        module: "m",
+        ty,
+        names: CowSlice::Borrowed(&["a"]),
+    };
+    check_part(&rt, &heap, &alike, &[1, b'm', 0, 126, 0, 0, 1, 1, b'a'])
 }
 
 /// Sections of one number.
