@@ -1,4 +1,5 @@
 // Each call once, with ample memory.
+use crate::callers::{encode_copied, encode_null_tables};
 use crate::samples::{GLOBAL, LIMITED_MEMORY, LIMITED_TABLE, MEMORY, SET_GLOBAL, TABLE, TAG};
 use std::alloc::Global;
 use std::process::Abort;
@@ -297,6 +298,20 @@ fn numbers(rt: HostRuntime) -> Result<(), Fail> {
         12,
         &[2, 128, 1],
     )
+}
+
+#[test]
+fn from_callers(rt: HostRuntime) -> Result<(), Fail> {
+    let mut sink = Vec::new(rt.alloc());
+    encode_copied(&mut sink, 0)?;
+    assert_eq!(rt; sink.as_slice(), [6, 1, 127, 0, 35, 0, 11].as_slice());
+    sink.clear();
+    encode_null_tables(&mut sink, 0)?;
+    assert_eq!(rt;
+        sink.as_slice(),
+        [12, 2, 112, 0, 0, 64, 0, 112, 0, 0, 208, 112, 11].as_slice()
+    );
+    Ok(())
 }
 
 #[test]
