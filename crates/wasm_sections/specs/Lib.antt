@@ -6,3 +6,4 @@ pub mod Tables
 pub mod Exports
 pub mod Globals
 pub mod Imports
+pub mod Laws

@@ -9,6 +9,7 @@ ghost use Rattle.wasm_base.specs.Reading.{UniqueReading, IsUniqueWide};
 ghost use Rattle.wasm_sections.specs.Exports.{export_text, IsExport, item_of, export};
 ghost use Rattle.wasm_sections.specs.Globals.{global_type, global_item_text, IsGivenGlobal, global_item_of, global_item};
 ghost use Rattle.wasm_sections.specs.Imports.{imports_text, IsImports, imports_item, import_format, entity};
+ghost use Rattle.wasm_sections.specs.Laws.{HoldsMore};
 ghost use Rattle.wasm_sections.specs.Memories.{memory_text, IsMemory, memory_type};
 ghost use Rattle.wasm_sections.specs.Tables.{table_type, table_item_text, IsGivenTable, table_item_of, table_item};
 ghost use Rattle.wasm_sections.specs.Tags.{tag_text, IsTag, tag_type};
@@ -51,4 +52,16 @@ pub fn wide()
     ensures table_types { IsUniqueWide table_type }
     ensures global_types { IsUniqueWide global_type }
     ensures numbers { IsUniqueWide (frame u32_format) }
+{}
+
+/// What sections hold, call by call: at first no items, and after a call that adds a plain record what this says too.
+#[tactic(auto, using(crate::proofs::HeldLaws::calls))]
+pub fn calls()
+    ensures functions { HoldsMore unsigned_text (FitsUnsigned 32) (λ index. index) u32_format }
+    ensures tables { HoldsMore table_item_text IsGivenTable table_item_of table_item }
+    ensures memories { HoldsMore memory_text IsMemory (λ memory. memory) memory_type }
+    ensures globals { HoldsMore global_item_text IsGivenGlobal global_item_of global_item }
+    ensures exports { HoldsMore export_text IsExport item_of export }
+    ensures imports { HoldsMore imports_text IsImports imports_item import_format }
+    ensures tags { HoldsMore tag_text IsTag (λ tag. tag) tag_type }
 {}

@@ -318,4 +318,5 @@ fn from_callers(rt: HostRuntime) -> Result<(), Fail> {
 fn laws_do_nothing(_rt: HostRuntime) {
     laws::sections();
     laws::wide();
+    laws::calls();
 }
