@@ -7,9 +7,9 @@ use Rattle.wasm_base.proofs.NumberTexts.{one_group}
 use Rattle.wasm_base.proofs.TextLaws.{reads_whole}
 use Rattle.wasm_insn.specs.declared.instruction.Instruction.{Instruction}
 use Rattle.wasm_insn.specs.declared.instruction.Instruction.TheVariants.{I32Load, I32Const, End}
-use Rattle.wasm_insn.specs.declared.memory.MemArgOrdering.TheVariants.{Op}
-use Rattle.wasm_insn.specs.declared.memory.MemArgTarget.TheVariants.{Memory}
-use Rattle.wasm_insn.specs.declared.memory.Ordering.TheVariants.{SeqCst}
+use Rattle.wasm_immediates.specs.declared.memory.MemArgOrdering.TheVariants.{Op}
+use Rattle.wasm_immediates.specs.declared.memory.MemArgTarget.TheVariants.{Memory}
+use Rattle.wasm_immediates.specs.declared.memory.Ordering.TheVariants.{SeqCst}
 use Rattle.wasm_insn.specs.Instructions.{instruction_text}
 use Rattle.wasm_code.specs.Bodies.{IsPlainBody, body, locals_text}
 use Rattle.wasm_code.proofs.BodyLaws.{body-whole, has_locals, grows}

@@ -1,8 +1,8 @@
 -- Bodies that are read otherwise than they were written.
 use Rattle.std.specs.Prelude.{List, [], ◌∷◌, Some, pos}
-use Rattle.wasm_insn.specs.declared.memory.MemArgOrdering.TheVariants.{Op}
-use Rattle.wasm_insn.specs.declared.memory.MemArgTarget.TheVariants.{Memory}
-use Rattle.wasm_insn.specs.declared.memory.Ordering.TheVariants.{SeqCst}
+use Rattle.wasm_immediates.specs.declared.memory.MemArgOrdering.TheVariants.{Op}
+use Rattle.wasm_immediates.specs.declared.memory.MemArgTarget.TheVariants.{Memory}
+use Rattle.wasm_immediates.specs.declared.memory.Ordering.TheVariants.{SeqCst}
 use Rattle.wasm_insn.specs.declared.op.Op.TheVariants.{Byte}
 use Rattle.wasm_insn.specs.Arguments.{memory, signed32}
 use Rattle.wasm_insn.specs.Plain.{Plain}

@@ -1,13 +1,16 @@
--- Global types are read uniquely.
+-- Global types and globals are read uniquely.
 use Rattle.std.proofs.Common.{◌≡◌, ℕ, Bool, true, false, [], ◌∷◌, refl, ap}
+use Rattle.wasm_base.specs.Entries.{ItemLaws}
 use Rattle.wasm_base.specs.Formats.{coded}
 use Rattle.wasm_base.specs.Numbers.{shortest}
 use Rattle.wasm_base.specs.Reading.{UniqueReading}
 use Rattle.wasm_base.specs.Types.{val_type, val_text}
 use Rattle.wasm_base.proofs.FormatLaws.{coded-alone, mapped-alone, pair-alone}
 use Rattle.wasm_base.proofs.TypeLaws.{val-alone, val-texts}
+use Rattle.wasm_code.specs.Expressions.{expression, expression_text}
+use Rattle.wasm_code.proofs.ExpressionLaws.{expression-alone, expression_spelled}
 use Rattle.wasm_immediates.specs.PlainImmediates.{bit}
-use Rattle.wasm_sections.specs.Globals.{GlobalFlags, global_code, global_flags, global_text, IsGlobal, global_of, global_type}
+use Rattle.wasm_sections.specs.Globals.{GlobalFlags, global_code, global_flags, global_text, IsGlobal, global_of, global_type, GivenGlobal, global_item_text, IsGivenGlobal, global_item_of, global_from, global_item}
 use Rattle.wasm_sections.specs.declared.global.GlobalType.{GlobalType}
 use Rattle.wasm_sections.proofs.Parts.{pair_spelled}
 
@@ -29,3 +32,15 @@ global-alone =
 pub global_spelled : (g : GlobalType) → IsGlobal g → global_type shortest (global_text g) g
 global_spelled g plain =
     ((g.val_type, global_flags g), refl, pair_spelled val_type (coded global_code) (val_text g.val_type) (global_code (global_flags g) ∷ []) g.val_type (global_flags g) (val-texts.spelled g.val_type plain) refl)
+
+-- ---- globals
+
+pub global_item-alone : UniqueReading global_item
+global_item-alone = mapped-alone global_from (λ x y e. ap (λ i. (i.global_type, i.init)) e) (pair-alone global-alone expression-alone)
+
+pub global_item_spelled : (g : GivenGlobal) → IsGivenGlobal g → global_item shortest (global_item_text g) (global_item_of g)
+global_item_spelled g plain =
+    ((g.global_type, g.init.instructions), refl, pair_spelled global_type expression (global_text g.global_type) (expression_text g.init.bytes) g.global_type g.init.instructions (global_spelled g.global_type plain.global_type) (expression_spelled shortest g.init.bytes g.init.instructions plain.init))
+
+pub global_laws : ItemLaws global_item_text IsGivenGlobal global_item_of global_item
+global_laws = record { alone = global_item-alone; spelled = λ g plain fits. global_item_spelled g plain }

@@ -9,3 +9,4 @@ pub mod ExportLaws
 pub mod GlobalLaws
 pub mod ImportLaws
 pub mod SectionLaws
+pub mod HeldLaws

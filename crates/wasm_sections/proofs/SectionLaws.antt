@@ -6,25 +6,28 @@ use Rattle.wasm_base.proofs.BaseLaws.{unique_wide}
 use Rattle.wasm_base.proofs.EntryLaws.{counted-alone}
 use Rattle.wasm_base.proofs.NumberLaws.{u32-alone}
 use Rattle.wasm_sections.specs.Exports.{export}
-use Rattle.wasm_sections.specs.Globals.{global_type}
+use Rattle.wasm_sections.specs.Globals.{global_type, global_item}
 use Rattle.wasm_sections.specs.Imports.{import_format, entity}
 use Rattle.wasm_sections.specs.Memories.{memory_type}
-use Rattle.wasm_sections.specs.Tables.{table_type}
+use Rattle.wasm_sections.specs.Tables.{table_type, table_item}
 use Rattle.wasm_sections.specs.Tags.{tag_type}
 use Rattle.wasm_sections.proofs.ExportLaws.{export-alone, export_laws}
 use Rattle.wasm_sections.proofs.FunctionLaws.{function_laws}
-use Rattle.wasm_sections.proofs.GlobalLaws.{global-alone}
+use Rattle.wasm_sections.proofs.GlobalLaws.{global-alone, global_item-alone, global_laws}
 use Rattle.wasm_sections.proofs.ImportLaws.{entity-alone, import-alone, import_laws}
 use Rattle.wasm_sections.proofs.MemoryLaws.{memory-alone, memory_laws}
 use Rattle.wasm_sections.proofs.NumberLaws.{number-alone}
-use Rattle.wasm_sections.proofs.TableLaws.{table-alone, table_laws}
+use Rattle.wasm_sections.proofs.TableLaws.{table-alone, table_item-alone, table_laws}
 use Rattle.wasm_sections.proofs.TagLaws.{tag-alone, tag_laws}
 
 pub functions-alone : UniqueReading (counted_format u32)
 functions-alone = counted-alone u32-alone
 
-pub tables-alone : UniqueReading (counted_format table_type)
-tables-alone = counted-alone table-alone
+pub tables-alone : UniqueReading (counted_format table_item)
+tables-alone = counted-alone table_item-alone
+
+pub globals-alone : UniqueReading (counted_format global_item)
+globals-alone = counted-alone global_item-alone
 
 pub memories-alone : UniqueReading (counted_format memory_type)
 memories-alone = counted-alone memory-alone
@@ -38,13 +41,16 @@ tags-alone = counted-alone tag-alone
 pub imports-alone : UniqueReading (counted_format import_format)
 imports-alone = counted-alone import-alone
 
-pub ruleset sections = (imports-alone, entity-alone, global-alone, import_laws, functions-alone, tables-alone, memories-alone, exports-alone, tags-alone, number-alone, function_laws, table_laws, memory_laws, export_laws, tag_laws)
+pub ruleset sections = (imports-alone, entity-alone, global-alone, table-alone, import_laws, functions-alone, tables-alone, globals-alone, memories-alone, exports-alone, tags-alone, number-alone, function_laws, table_laws, global_laws, memory_laws, export_laws, tag_laws)
 
 pub wide-functions : IsUniqueWide (counted_format u32)
 wide-functions = unique_wide functions-alone
 
-pub wide-tables : IsUniqueWide (counted_format table_type)
+pub wide-tables : IsUniqueWide (counted_format table_item)
 wide-tables = unique_wide tables-alone
+
+pub wide-table_types : IsUniqueWide table_type
+wide-table_types = unique_wide table-alone
 
 pub wide-memories : IsUniqueWide (counted_format memory_type)
 wide-memories = unique_wide memories-alone
@@ -64,7 +70,10 @@ wide-imports = unique_wide imports-alone
 pub wide-entities : IsUniqueWide entity
 wide-entities = unique_wide entity-alone
 
-pub wide-globals : IsUniqueWide global_type
-wide-globals = unique_wide global-alone
+pub wide-globals : IsUniqueWide (counted_format global_item)
+wide-globals = unique_wide globals-alone
 
-pub ruleset wide_sections = (wide-imports, wide-entities, wide-globals, wide-functions, wide-tables, wide-memories, wide-exports, wide-tags, wide-numbers)
+pub wide-global_types : IsUniqueWide global_type
+wide-global_types = unique_wide global-alone
+
+pub ruleset wide_sections = (wide-imports, wide-entities, wide-globals, wide-global_types, wide-functions, wide-tables, wide-table_types, wide-memories, wide-exports, wide-tags, wide-numbers)

@@ -1,17 +1,22 @@
--- Table types are read uniquely.
-use Rattle.std.proofs.Common.{◌≡◌, ◌^◌, ◌<◌, [], ◌∷◌, ◌++◌, Bool, true, false, refl, ap, ◌∙◌}
+-- Table types and tables are read uniquely.
+use Rattle.std.proofs.Common.{◌≡◌, ℕ, ◌^◌, ◌<◌, List, [], ◌∷◌, ◌++◌, Bool, true, false, Option, Some, None, refl, ap, ◌∙◌, arith, inl, inr}
+use Rattle.std.specs.Prelude.{IfSome}
 use Rattle.wasm_base.specs.Entries.{ItemLaws}
-use Rattle.wasm_base.specs.Formats.{u64, impossible, mapped, pair, optional, when}
+use Rattle.wasm_base.specs.Formats.{u64, impossible, mapped, pair, optional, when, prefixed}
 use Rattle.wasm_base.specs.Numbers.{shortest, unsigned_text}
-use Rattle.wasm_base.specs.Reading.{UniqueReading}
-use Rattle.wasm_base.specs.Types.{ref_type, ref_text}
+use Rattle.wasm_base.specs.Reading.{UniqueReading, BeginsWith}
+use Rattle.wasm_base.specs.Types.{ref_type, ref_tags, ref_text}
 use Rattle.wasm_base.proofs.BaseLaws.{u64-alone}
-use Rattle.wasm_base.proofs.FormatLaws.{TellsTag, tagged-alone, mapped-alone, when-alone, impossible-alone, pair-alone, optional-alone}
+use Rattle.wasm_base.proofs.FormatLaws.{TellsTag, tagged-alone, mapped-alone, when-alone, impossible-alone, pair-alone, optional-alone, prefixed-alone, one_of-alone, begins_then, begins_mapped, begins_fixed, choice_begins, none_in_common, values_mapped}
 use Rattle.wasm_base.proofs.TextLaws.{u64_spelled}
 use Rattle.wasm_base.proofs.TypeLaws.{ref-alone, ref-texts}
+use Rattle.wasm_code.specs.Expressions.{expression, expression_text}
+use Rattle.wasm_code.proofs.ExpressionLaws.{expression-alone, expression_spelled}
 use Rattle.wasm_immediates.specs.Immediates.{optional_text}
+use Rattle.wasm_insn.specs.Plain.{Plain}
+use Rattle.wasm_sections.specs.Constants.{Stored, IsStored}
 use Rattle.wasm_sections.specs.Flags.{Flags, flags_code, is_given}
-use Rattle.wasm_sections.specs.Tables.{table_flags, table_text, IsTable, Limits, limits_of, after_limits_flags, limits, table_of, table_type}
+use Rattle.wasm_sections.specs.Tables.{table_flags, table_text, IsTable, Limits, limits_of, after_limits_flags, limits, table_of, table_type, before_init, table_init_text, table_item_text, IsGivenTable, init_of, table_item_of, without_init, with_init, table_item}
 use Rattle.wasm_sections.specs.declared.table.TableType.{TableType}
 use Rattle.wasm_sections.proofs.FlagLaws.{flags-alone}
 use Rattle.wasm_sections.proofs.Parts.{pair_spelled, optional_spelled, optional_tells}
@@ -50,5 +55,43 @@ table_spelled t plain =
     ((table_flags t, limits_in t), refl, record { front = flags_code (table_flags t) ∷ []; back = back; joined = refl; first = refl; second = ((t.minimum, t.maximum), refl, numbers) }) in
     ((t.element_type, limits_in t), refl, pair_spelled ref_type limits (ref_text t.element_type) (flags_code (table_flags t) ∷ back) t.element_type (limits_in t) (ref-texts.spelled t.element_type plain.element_type) limited)
 
-pub table_laws : ItemLaws table_text IsTable (λ table. table) table_type
-table_laws = record { alone = table-alone; spelled = λ t plain fits. table_spelled t plain }
+-- ---- tables
+
+-- No table type begins with the byte that stands before a first value.
+abbrev IsTypeByte : ℕ → Type 0
+IsTypeByte b = 0x40 < b
+
+type_begins : BeginsWith IsTypeByte table_type
+type_begins =
+    begins_mapped IsTypeByte table_of (begins_then IsTypeByte (choice_begins IsTypeByte ref_tags (λ b. impossible) (omega arith, (omega arith, (omega arith, (omega arith, tt)))) (λ b mode s x h. absurd h)))
+
+abbrev IsInitByte : ℕ → Type 0
+IsInitByte b = b ≡ 0x40
+
+init_begins : BeginsWith IsInitByte (mapped with_init (prefixed before_init (pair table_type expression)))
+init_begins = begins_mapped IsInitByte with_init (begins_mapped IsInitByte (λ p. p.1) (begins_then IsInitByte (begins_fixed IsInitByte 0x40 (0x00 ∷ []) (tt {0}) refl)))
+
+-- the instructions of a first value
+abbrev instructions_in : Option (List Plain) → List Plain
+instructions_in None = []
+instructions_in (Some is) = is
+
+pub table_item-alone : UniqueReading table_item
+table_item-alone =
+    one_of-alone IsTypeByte IsInitByte (λ b p q. omega (arith, p, q)) type_item_begins init_begins
+    (none_in_common (λ i. is_given i.init ≡ false) (λ i. is_given i.init ≡ true) (λ i p q. absurd (cc (p, q)))
+    (values_mapped (λ i. is_given i.init ≡ false) without_init table_type (λ t. refl)) (values_mapped (λ i. is_given i.init ≡ true) with_init (prefixed before_init (pair table_type expression)) (λ p. refl)))
+    (mapped-alone without_init (λ x y e. ap (λ i. i.table_type) e) table-alone)
+    (mapped-alone with_init (λ x y e. ap (λ i. (i.table_type, instructions_in i.init)) e) (prefixed-alone before_init (pair-alone table-alone expression-alone)))
+  where
+    type_item_begins : BeginsWith IsTypeByte (mapped without_init table_type)
+    type_item_begins = begins_mapped IsTypeByte without_init type_begins
+
+init_spelled : (t : TableType) (init : Option Stored) → IsTable t → IfSome init IsStored → table_item shortest (table_init_text t init) (record { table_type = t; init = init_of init })
+init_spelled t None plain stored = inl (t, refl, table_spelled t plain)
+init_spelled t (Some e) plain stored =
+    let parts = pair_spelled table_type expression (table_text t) (expression_text e.bytes) t e.instructions (table_spelled t plain) (expression_spelled shortest e.bytes e.instructions stored) in
+    inr ((t, e.instructions), refl, ((tt, (t, e.instructions)), refl, record { front = before_init; back = table_text t ++ expression_text e.bytes; joined = refl; first = (refl, refl); second = parts }))
+
+pub table_laws : ItemLaws table_item_text IsGivenTable table_item_of table_item
+table_laws = record { alone = table_item-alone; spelled = λ t plain fits. init_spelled t.table_type t.init plain.table_type plain.init }

@@ -1,9 +1,12 @@
--- Global types: their text, and what spells them.
+-- Global types and globals: their texts, and what spells them.
 use Rattle.std.specs.Prelude.{ℕ, ◌+◌, List, [], ◌∷◌, ◌++◌, Bool}
 use Rattle.wasm_base.specs.Formats.{Format, coded, mapped, pair}
 use Rattle.wasm_base.specs.Types.{val_type, val_text, IsVal}
 use Rattle.wasm_base.specs.declared.types.ValType.{ValType}
+use Rattle.wasm_code.specs.Expressions.{expression, expression_text}
 use Rattle.wasm_immediates.specs.Immediates.{where_set}
+use Rattle.wasm_insn.specs.Plain.{Plain}
+use Rattle.wasm_sections.specs.Constants.{Stored, IsStored}
 use Rattle.wasm_sections.specs.declared.global.GlobalType.{GlobalType}
 
 -- the flags of a global
@@ -31,3 +34,33 @@ global_of parts = record { val_type = parts.0; mutable = parts.1.mutable; shared
 -- global type: the type of the value, and flags
 abbrev pub global_type : Format GlobalType
 global_type = mapped global_of (pair val_type (coded global_code))
+
+-- ---- globals
+
+-- what a call hands in: the type of a global, and the expression of its first value
+pub record GivenGlobal : Type 0 where
+  pub global_type : GlobalType
+  pub init : Stored
+
+-- what a section says: the type of a global, and the instructions of its first value
+pub record GlobalItem : Type 0 where
+  pub global_type : GlobalType
+  pub init : List Plain
+
+abbrev pub global_item_text : GivenGlobal → List ℕ
+global_item_text g = global_text g.global_type ++ expression_text g.init.bytes
+
+-- The numbers are in range, and the expression is plain.
+pub record IsGivenGlobal (g : GivenGlobal) : Type 0 where
+  pub global_type : IsGlobal g.global_type
+  pub init : IsStored g.init
+
+abbrev pub global_item_of : GivenGlobal → GlobalItem
+global_item_of g = record { global_type = g.global_type; init = g.init.instructions }
+
+abbrev pub global_from : GlobalType × List Plain → GlobalItem
+global_from parts = record { global_type = parts.0; init = parts.1 }
+
+-- global: a type and an expression
+abbrev pub global_item : Format GlobalItem
+global_item = mapped global_from (pair global_type expression)

@@ -1,3 +1,4 @@
+pub mod Constants
 pub mod Flags
 pub mod Memories
 pub mod Tags
@@ -5,3 +6,4 @@ pub mod Tables
 pub mod Exports
 pub mod Globals
 pub mod Imports
+pub mod Laws

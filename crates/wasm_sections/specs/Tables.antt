@@ -1,12 +1,15 @@
--- Table types: their text, and what spells them.
-use Rattle.std.specs.Prelude.{ℕ, ◌^◌, ◌<◌, List, ◌∷◌, ◌++◌, Bool, true, false, Option, IfSome}
-use Rattle.wasm_base.specs.Formats.{Format, u64, impossible, mapped, tagged, pair, optional, when}
+-- Table types and tables: their texts, and what spells them.
+use Rattle.std.specs.Prelude.{ℕ, ◌^◌, ◌<◌, List, [], ◌∷◌, ◌++◌, Bool, true, false, Option, Some, None, IfSome}
+use Rattle.wasm_base.specs.Formats.{Format, u64, impossible, mapped, tagged, pair, optional, when, one_of, prefixed}
 use Rattle.wasm_base.specs.Numbers.{unsigned_text}
 use Rattle.wasm_base.specs.Types.{ref_type, ref_text, IsRef}
 use Rattle.wasm_base.specs.declared.types.RefType.{RefType}
 use Rattle.wasm_base.specs.declared.types.ValType.{ValType}
 use Rattle.wasm_base.specs.declared.types.ValType.TheVariants.{I32, I64}
+use Rattle.wasm_code.specs.Expressions.{expression, expression_text}
 use Rattle.wasm_immediates.specs.Immediates.{optional_text}
+use Rattle.wasm_insn.specs.Plain.{Plain}
+use Rattle.wasm_sections.specs.Constants.{Stored, IsStored}
 use Rattle.wasm_sections.specs.Flags.{Flags, flags, flags_code, is_given}
 use Rattle.wasm_sections.specs.declared.table.TableType.{TableType}
 
@@ -51,3 +54,48 @@ table_type = mapped table_of (pair ref_type limits)
 abbrev pub index_type_of : (table64 : Bool) → ValType
 index_type_of true = I64
 index_type_of false = I32
+
+-- ---- tables
+
+-- what a call hands in: the type of a table, and the expression of its elements' first value where one is given
+pub record GivenTable : Type 0 where
+  pub table_type : TableType
+  pub init : Option Stored
+
+-- what a section says: the type of a table, and the instructions of its elements' first value where one is given
+pub record TableItem : Type 0 where
+  pub table_type : TableType
+  pub init : Option (List Plain)
+
+-- the bytes before a table with a first value, which no table type begins with
+abbrev pub before_init : List ℕ
+before_init = 0x40 ∷ 0x00 ∷ []
+
+abbrev pub table_init_text : TableType → Option Stored → List ℕ
+table_init_text t None = table_text t
+table_init_text t (Some e) = before_init ++ (table_text t ++ expression_text e.bytes)
+
+abbrev pub table_item_text : GivenTable → List ℕ
+table_item_text t = table_init_text t.table_type t.init
+
+-- The numbers are in range, and the expression is plain.
+pub record IsGivenTable (t : GivenTable) : Type 0 where
+  pub table_type : IsTable t.table_type
+  pub init : IfSome t.init IsStored
+
+abbrev pub init_of : Option Stored → Option (List Plain)
+init_of None = None
+init_of (Some e) = Some e.instructions
+
+abbrev pub table_item_of : GivenTable → TableItem
+table_item_of t = record { table_type = t.table_type; init = init_of t.init }
+
+abbrev pub without_init : TableType → TableItem
+without_init t = record { table_type = t; init = None }
+
+abbrev pub with_init : TableType × List Plain → TableItem
+with_init parts = record { table_type = parts.0; init = Some parts.1 }
+
+-- table: a type; or two bytes, a type and an expression
+abbrev pub table_item : Format TableItem
+table_item = one_of (mapped without_init table_type) (mapped with_init (prefixed before_init (pair table_type expression)))

@@ -7,28 +7,32 @@ ghost use Rattle.wasm_base.specs.Laws.{FitsUnsigned};
 ghost use Rattle.wasm_base.specs.Numbers.{unsigned_text};
 ghost use Rattle.wasm_base.specs.Reading.{UniqueReading, IsUniqueWide};
 ghost use Rattle.wasm_sections.specs.Exports.{export_text, IsExport, item_of, export};
-ghost use Rattle.wasm_sections.specs.Globals.{global_type};
+ghost use Rattle.wasm_sections.specs.Globals.{global_type, global_item_text, IsGivenGlobal, global_item_of, global_item};
 ghost use Rattle.wasm_sections.specs.Imports.{imports_text, IsImports, imports_item, import_format, entity};
+ghost use Rattle.wasm_sections.specs.Laws.{HoldsMore};
 ghost use Rattle.wasm_sections.specs.Memories.{memory_text, IsMemory, memory_type};
-ghost use Rattle.wasm_sections.specs.Tables.{table_text, IsTable, table_type};
+ghost use Rattle.wasm_sections.specs.Tables.{table_type, table_item_text, IsGivenTable, table_item_of, table_item};
 ghost use Rattle.wasm_sections.specs.Tags.{tag_text, IsTag, tag_type};
 
 /// Sections are read uniquely, and so are their items, each of which has a text.
 #[tactic(auto, using(crate::proofs::SectionLaws::sections))]
 pub fn sections()
     ensures functions { UniqueReading (counted_format u32_format) }
-    ensures tables { UniqueReading (counted_format table_type) }
+    ensures tables { UniqueReading (counted_format table_item) }
     ensures memories { UniqueReading (counted_format memory_type) }
+    ensures globals { UniqueReading (counted_format global_item) }
     ensures exports { UniqueReading (counted_format export) }
     ensures tags { UniqueReading (counted_format tag_type) }
     ensures imports { UniqueReading (counted_format import_format) }
     ensures entities { UniqueReading entity }
+    ensures table_types { UniqueReading table_type }
     ensures global_types { UniqueReading global_type }
     ensures numbers { UniqueReading (frame u32_format) }
 
     ensures function_items { ItemLaws unsigned_text (FitsUnsigned 32) (λ index. index) u32_format }
-    ensures table_items { ItemLaws table_text IsTable (λ table. table) table_type }
+    ensures table_items { ItemLaws table_item_text IsGivenTable table_item_of table_item }
     ensures memory_items { ItemLaws memory_text IsMemory (λ memory. memory) memory_type }
+    ensures global_items { ItemLaws global_item_text IsGivenGlobal global_item_of global_item }
     ensures export_items { ItemLaws export_text IsExport item_of export }
     ensures import_items { ItemLaws imports_text IsImports imports_item import_format }
     ensures tag_items { ItemLaws tag_text IsTag (λ tag. tag) tag_type }
@@ -38,12 +42,26 @@ pub fn sections()
 #[tactic(auto, using(crate::proofs::SectionLaws::wide_sections))]
 pub fn wide()
     ensures functions { IsUniqueWide (counted_format u32_format) }
-    ensures tables { IsUniqueWide (counted_format table_type) }
+    ensures tables { IsUniqueWide (counted_format table_item) }
     ensures memories { IsUniqueWide (counted_format memory_type) }
+    ensures globals { IsUniqueWide (counted_format global_item) }
     ensures exports { IsUniqueWide (counted_format export) }
     ensures tags { IsUniqueWide (counted_format tag_type) }
     ensures imports { IsUniqueWide (counted_format import_format) }
     ensures entities { IsUniqueWide entity }
+    ensures table_types { IsUniqueWide table_type }
     ensures global_types { IsUniqueWide global_type }
     ensures numbers { IsUniqueWide (frame u32_format) }
+{}
+
+/// What sections hold, call by call: at first no items, and after a call that adds a plain record what this says too.
+#[tactic(auto, using(crate::proofs::HeldLaws::calls))]
+pub fn calls()
+    ensures functions { HoldsMore unsigned_text (FitsUnsigned 32) (λ index. index) u32_format }
+    ensures tables { HoldsMore table_item_text IsGivenTable table_item_of table_item }
+    ensures memories { HoldsMore memory_text IsMemory (λ memory. memory) memory_type }
+    ensures globals { HoldsMore global_item_text IsGivenGlobal global_item_of global_item }
+    ensures exports { HoldsMore export_text IsExport item_of export }
+    ensures imports { HoldsMore imports_text IsImports imports_item import_format }
+    ensures tags { HoldsMore tag_text IsTag (λ tag. tag) tag_type }
 {}

@@ -1,25 +1,40 @@
 // Table types and the table section.
-ghost use Rattle.std.specs.Prelude.{◌≡◌, ⊤};
+ghost use Rattle.std.specs.Prelude.{◌≡◌, ◌++◌, ⊤};
 ghost use Rattle.wasm_base.specs.Calls.{Adds};
+ghost use Rattle.wasm_code.specs.Expressions.{expression_text};
 ghost use Rattle.wasm_sections.specs.Flags.{flags_code};
-ghost use Rattle.wasm_sections.specs.Tables.{table_flags, table_text, IsTable, table_type, index_type_of};
-ghost use Rattle.wasm_sections.specs.declared.table.TableType.{TableType as Table};
+ghost use Rattle.wasm_sections.specs.Tables.{
+  table_flags,
+  table_text,
+  GivenTable,
+  TableItem,
+  before_init,
+  table_item_text,
+  IsGivenTable,
+  table_item_of,
+  table_item,
+  index_type_of,
+};
 
 use crate::counted_section::{CountedSection, ItemKind, RecordOf};
 use crate::flags::{Optional, where_set};
+use crate::lent::Lent;
 use std::alloc::{Allocator, Global};
 use wasm_base::{Encode, R, RefType, SectionId, ValType};
+use wasm_code::ConstExpr;
 
 /// The tables that a module defines.
 ///
 /// ```rust
 /// let mut tables = TableSection::new(alloc);
-/// tables.table(TableType { element_type: RefType::FUNCREF, table64: false, minimum: 128, maximum: None, shared: false })?;
+/// let table_type = TableType { element_type: RefType::FUNCREF, table64: false, minimum: 128, maximum: None, shared: false };
+/// tables.table(table_type)?;
+/// tables.table_with_init(table_type, &ConstExpr::ref_null(alloc, HeapType::FUNC)?)?;
 /// module.section(&tables)?;
 /// ```
 pub type TableSection<A = Global> = CountedSection<TableItems, A>;
 
-/// The items of a table section: table types.
+/// The items of a table section: table types, some with the expression of a first value.
 #[derive(Clone, Copy, Debug)]
 pub struct TableItems;
 
@@ -74,17 +89,17 @@ impl ItemKind for TableItems {
     ghost use Rattle.wasm_base.specs.SectionId.{number_of};
     ghost use Rattle.wasm_base.specs.declared.section_id.SectionId.TheVariants as ids;
 
-    ghost Record = { Table };
+    ghost Record = { GivenTable };
 
-    ghost Item = { Table };
+    ghost Item = { TableItem };
 
-    ghost record_text = { table_text };
+    ghost record_text = { table_item_text };
 
-    ghost is_plain = { IsTable };
+    ghost is_plain = { IsGivenTable };
 
-    ghost normal_form = { λ table. table };
+    ghost normal_form = { table_item_of };
 
-    ghost item_format = { table_type };
+    ghost item_format = { table_item };
 
     ghost section_id = { number_of ids.Table };
 
@@ -99,10 +114,22 @@ impl ItemKind for TableItems {
 impl RecordOf<TableItems> for TableType {}
 
 impl<A: Allocator> TableSection<A> {
-    /// Adds a table of this type. A refused call leaves the section as it was.
+    /// Adds a table of this type, whose elements are null at first. A refused call leaves the section as it was.
     pub fn table(&mut self, table_type: TableType) -> R<()>
         ensures { Adds (table_text table_type) ⊤ self.old self.new result }
     {
         self.add_record(&table_type)
+    }
+
+    /// Adds a table of this type, whose elements have at first the value that the expression computes. A refused call leaves the
+    /// section as it was.
+    pub fn table_with_init<B: Allocator>(
+        &mut self,
+        table_type: TableType,
+        init: &ConstExpr<B>,
+    ) -> R<()>
+        ensures { Adds (before_init ++ (table_text table_type ++ expression_text init.now)) ⊤ self.old self.new result }
+    {
+        self.add_record(&([0x40u8, 0x00], table_type, Lent(init)))
     }
 }

@@ -1,29 +1,373 @@
 // Each request for memory refused in turn: the answer is `Memory`, and what was given is as before.
+use crate::samples::{GLOBAL, LIMITED_MEMORY, LIMITED_TABLE, SET_GLOBAL, TABLE, TAG};
 use std::alloc::Global;
 use std::process::Abort;
 use std::test::Fail;
 use test_support::Refusing;
-use wasm_base::{Encode, Refused, add_all};
-use wasm_sections::{ExportKind, ExportSection, FunctionSection, StartSection};
+use wasm_base::{Counted, CowSlice, Encode, HeapType, R, Refused, Section, add_all};
+use wasm_code::ConstExpr;
+use wasm_sections::{
+    CountedSection, DataCountSection, EntityType, Export, ExportKind, ExportSection,
+    FunctionSection, GlobalSection, Import, ImportCompact, ImportSection, Imports, ItemKind,
+    MemorySection, StartSection, TableSection, TagSection,
+};
 
 /// More requests than any call here makes.
 const MOST: u64 = 100;
 
-#[test]
-fn adding(rt: HostRuntime) -> Result<(), Fail> {
-    let heap = Refusing::new(rt.alloc());
+/// A section that takes its memory from an allocator that refuses.
+type Lent<'h, K> = CountedSection<K, &'h Refusing<Global>>;
+
+/// An adding call makes an entry of these bytes. Where a request is refused, the section is as it was.
+fn check_adding<'h, K: ItemKind, F: Fn(&mut Lent<'h, K>) -> R<()>>(
+    rt: &impl Abort,
+    heap: &'h Refusing<Global>,
+    entry: &[u8],
+    add: F,
+) -> Result<(), Fail>
+    requires { F.IsAlwaysCallable add }
+{
     for nth in 1..MOST {
-        let mut section = ExportSection::new(&heap);
+        let mut section = CountedSection::new(heap);
         heap.refuse(nth);
-        let answer = section.export("memory", ExportKind::Memory, 0);
+        let answer = add(&mut section);
         if heap.is_waiting() {
             assert_eq!(rt; answer, Ok(()));
-            return Ok(());
+            assert!(rt; nth > 1);
+            assert_eq!(rt; (section.len(), section.piece(0)), (1, Some(entry)));
+            check_clone(rt, heap, &section)?;
+            check_encode(rt, heap, &section)?;
+            return check_append_to(rt, heap, &section);
         }
         assert_eq!(rt; answer, Err(Refused::Memory));
         assert!(rt; section.is_empty());
     }
     panic!(rt; "no call was granted")
+}
+
+/// `clone`
+fn check_clone<'h, K: ItemKind>(
+    rt: &impl Abort,
+    heap: &'h Refusing<Global>,
+    section: &Lent<'h, K>,
+) -> Result<(), Fail> {
+    for nth in 1..MOST {
+        heap.refuse(nth);
+        let copy = section.clone();
+        if heap.is_waiting() {
+            assert!(rt; nth > 1);
+            let copy = copy?;
+            assert_eq!(rt;
+                (copy.len(), copy.piece(0)),
+                (section.len(), section.piece(0))
+            );
+            return Ok(());
+        }
+        assert_eq!(rt; copy.err(), Some(Refused::Memory));
+    }
+    panic!(rt; "no call was granted")
+}
+
+/// `encode` takes memory once, and none where the sink has room.
+fn check_encode<T: Encode>(rt: &impl Abort, heap: &Refusing<Global>, item: &T) -> Result<(), Fail> {
+    let mut sink = Vec::new(heap);
+    heap.refuse(1);
+    assert_eq!(rt; item.encode(&mut sink), Err(Refused::Memory));
+    assert!(rt; sink.is_empty());
+    heap.refuse(2);
+    item.encode(&mut sink)?;
+    assert!(rt; heap.is_waiting());
+    sink.clear();
+    heap.refuse(1);
+    item.encode(&mut sink)?;
+    assert!(rt; heap.is_waiting());
+    Ok(())
+}
+
+/// `append_to`
+fn check_append_to<S: Section>(
+    rt: &impl Abort,
+    heap: &Refusing<Global>,
+    section: &S,
+) -> Result<(), Fail> {
+    for nth in 1..MOST {
+        heap.refuse(0);
+        let mut sink = Vec::from_slice(heap, &[7])?;
+        heap.refuse(nth);
+        let answer = section.append_to(&mut sink);
+        if heap.is_waiting() {
+            assert_eq!(rt; answer, Ok(()));
+            assert!(rt; nth > 1);
+            assert_eq!(rt; sink.get(1), Some(&section.id()));
+            return Ok(());
+        }
+        assert_eq!(rt; answer, Err(Refused::Memory));
+        assert_eq!(rt; sink.as_slice(), [7].as_slice());
+    }
+    panic!(rt; "no call was granted")
+}
+
+#[test]
+fn functions(rt: HostRuntime) -> Result<(), Fail> {
+    let heap = Refusing::new(rt.alloc());
+    check_adding(&rt, &heap, &[128, 1], |section: &mut FunctionSection<_>| {
+        section.function(128)
+    })?;
+    check_adding(&rt, &heap, &[128, 1], |section: &mut FunctionSection<_>| {
+        section.add(&128u32)
+    })
+}
+
+#[test]
+fn globals(rt: HostRuntime) -> Result<(), Fail> {
+    let heap = Refusing::new(rt.alloc());
+    let init = ConstExpr::i32_const(rt.alloc(), 42)?;
+    check_adding(
+        &rt,
+        &heap,
+        &[127, 0, 65, 42, 11],
+        |section: &mut GlobalSection<_>| section.global(GLOBAL, &init),
+    )
+}
+
+#[test]
+fn tables(rt: HostRuntime) -> Result<(), Fail> {
+    let heap = Refusing::new(rt.alloc());
+    check_adding(
+        &rt,
+        &heap,
+        &[112, 5, 1, 2],
+        |section: &mut TableSection<_>| section.table(LIMITED_TABLE),
+    )?;
+    check_adding(
+        &rt,
+        &heap,
+        &[112, 5, 1, 2],
+        |section: &mut TableSection<_>| section.add(&LIMITED_TABLE),
+    )?;
+    let init = ConstExpr::ref_null(rt.alloc(), HeapType::FUNC)?;
+    check_adding(
+        &rt,
+        &heap,
+        &[64, 0, 112, 0, 128, 1, 208, 112, 11],
+        |section: &mut TableSection<_>| section.table_with_init(TABLE, &init),
+    )
+}
+
+#[test]
+fn memories(rt: HostRuntime) -> Result<(), Fail> {
+    let heap = Refusing::new(rt.alloc());
+    check_adding(
+        &rt,
+        &heap,
+        &[15, 1, 2, 0],
+        |section: &mut MemorySection<_>| section.memory(LIMITED_MEMORY),
+    )?;
+    check_adding(
+        &rt,
+        &heap,
+        &[15, 1, 2, 0],
+        |section: &mut MemorySection<_>| section.add(&LIMITED_MEMORY),
+    )
+}
+
+#[test]
+fn tags(rt: HostRuntime) -> Result<(), Fail> {
+    let heap = Refusing::new(rt.alloc());
+    check_adding(&rt, &heap, &[0, 3], |section: &mut TagSection<_>| {
+        section.tag(TAG)
+    })?;
+    check_adding(&rt, &heap, &[0, 3], |section: &mut TagSection<_>| {
+        section.add(&TAG)
+    })
+}
+
+const EXPORT: Export<'static> = Export {
+    name: "m",
+    kind: ExportKind::Memory,
+    index: 0,
+};
+
+#[test]
+fn exports(rt: HostRuntime) -> Result<(), Fail> {
+    let heap = Refusing::new(rt.alloc());
+    check_adding(
+        &rt,
+        &heap,
+        &[1, b'm', 2, 0],
+        |section: &mut ExportSection<_>| section.export("m", ExportKind::Memory, 0),
+    )?;
+    check_adding(
+        &rt,
+        &heap,
+        &[1, b'm', 2, 0],
+        |section: &mut ExportSection<_>| section.add(&EXPORT),
+    )
+}
+
+const IMPORT: Import<'static> = Import {
+    module: "m",
+    name: "f",
+    ty: EntityType::FunctionExact(5),
+};
+
+const IMPORT_BYTES: [u8; 6] = [1, b'm', 1, b'f', 32, 5];
+
+#[test]
+fn imports(rt: HostRuntime) -> Result<(), Fail> {
+    let heap = Refusing::new(rt.alloc());
+    check_adding(
+        &rt,
+        &heap,
+        &IMPORT_BYTES,
+        |section: &mut ImportSection<_>| section.import("m", "f", EntityType::FunctionExact(5)),
+    )?;
+    check_adding(
+        &rt,
+        &heap,
+        &IMPORT_BYTES,
+        |section: &mut ImportSection<_>| section.add(&IMPORT),
+    )?;
+    check_adding(
+        &rt,
+        &heap,
+        &IMPORT_BYTES,
+        |section: &mut ImportSection<_>| section.imports(Imports::Single(IMPORT)),
+    )
+}
+
+#[test]
+fn groups(rt: HostRuntime) -> Result<(), Fail> {
+    let heap = Refusing::new(rt.alloc());
+    let ty = EntityType::Function(0);
+    check_adding(
+        &rt,
+        &heap,
+        &[1, b'm', 0, 127, 1, 1, b'a', 0, 0],
+        |section: &mut ImportSection<_>| {
+            section.imports(Imports::Compact1 {
+                module: "m",
+                items: CowSlice::Borrowed(&[ImportCompact { name: "a", ty }]),
+            })
+        },
+    )?;
+    check_adding(
+        &rt,
+        &heap,
+        &[1, b'm', 0, 126, 0, 0, 2, 1, b'a', 1, b'b'],
+        |section: &mut ImportSection<_>| {
+            section.imports(Imports::Compact2 {
+                module: "m",
+                ty,
+                names: CowSlice::Borrowed(&["a", "b"]),
+            })
+        },
+    )
+}
+
+/// `encode` of a part appends these bytes. Where a request is refused, the sink is as it was.
+fn check_part<T: Encode>(
+    rt: &impl Abort,
+    heap: &Refusing<Global>,
+    part: &T,
+    expected: &[u8],
+) -> Result<(), Fail> {
+    for nth in 1..MOST {
+        heap.refuse(0);
+        let mut sink = Vec::from_slice(heap, &[7])?;
+        heap.refuse(nth);
+        let answer = part.encode(&mut sink);
+        if heap.is_waiting() {
+            assert_eq!(rt; answer, Ok(()));
+            assert!(rt; nth > 1);
+            assert_eq!(rt; &sink[1..], expected);
+            return Ok(());
+        }
+        assert_eq!(rt; answer, Err(Refused::Memory));
+        assert_eq!(rt; sink.as_slice(), [7].as_slice());
+    }
+    panic!(rt; "no call was granted")
+}
+
+#[test]
+fn types(rt: HostRuntime) -> Result<(), Fail> {
+    let heap = Refusing::new(rt.alloc());
+    check_part(&rt, &heap, &LIMITED_TABLE, &[112, 5, 1, 2])?;
+    check_part(&rt, &heap, &LIMITED_MEMORY, &[15, 1, 2, 0])?;
+    check_part(&rt, &heap, &SET_GLOBAL, &[126, 3])?;
+    check_part(&rt, &heap, &TAG, &[0, 3])?;
+    check_part(&rt, &heap, &ExportKind::Tag, &[4])?;
+    check_part(&rt, &heap, &EXPORT, &[1, b'm', 2, 0])
+}
+
+#[test]
+fn entities(rt: HostRuntime) -> Result<(), Fail> {
+    let heap = Refusing::new(rt.alloc());
+    for (ty, expected) in [
+        (EntityType::Function(128), [0, 128, 1].as_slice()),
+        (EntityType::Table(LIMITED_TABLE), &[1, 112, 5, 1, 2]),
+        (EntityType::Memory(LIMITED_MEMORY), &[2, 15, 1, 2, 0]),
+        (EntityType::Global(SET_GLOBAL), &[3, 126, 3]),
+        (EntityType::Tag(TAG), &[4, 0, 3]),
+        (EntityType::FunctionExact(5), &[32, 5]),
+    ] {
+        check_part(&rt, &heap, &ty, expected)?;
+    }
+    Ok(())
+}
+
+#[test]
+fn parts_of_imports(rt: HostRuntime) -> Result<(), Fail> {
+    let heap = Refusing::new(rt.alloc());
+    let ty = EntityType::Function(0);
+    let items = [ImportCompact { name: "a", ty }];
+    check_part(&rt, &heap, &IMPORT, &IMPORT_BYTES)?;
+    check_part(&rt, &heap, &items[0], &[1, b'a', 0, 0])?;
+    check_part(&rt, &heap, &Imports::Single(IMPORT), &IMPORT_BYTES)?;
+    let named = Imports::Compact1 {
+        module: "m",
+        items: CowSlice::Borrowed(&items),
+    };
+    check_part(&rt, &heap, &named, &[1, b'm', 0, 127, 1, 1, b'a', 0, 0])?;
+    let alike = Imports::Compact2 {
+        module: "m",
+        ty,
+        names: CowSlice::Borrowed(&["a"]),
+    };
+    check_part(&rt, &heap, &alike, &[1, b'm', 0, 126, 0, 0, 1, 1, b'a'])
+}
+
+/// Sections of one number.
+#[test]
+fn numbers(rt: HostRuntime) -> Result<(), Fail> {
+    let heap = Refusing::new(rt.alloc());
+    let start = StartSection {
+        function_index: 300,
+    };
+    check_encode(&rt, &heap, &start)?;
+    check_append_to(&rt, &heap, &start)?;
+    let count = DataCountSection { count: 128 };
+    check_encode(&rt, &heap, &count)?;
+    check_append_to(&rt, &heap, &count)
+}
+
+/// What `add_all` of 1 and 128 did to an empty section: all, or as many as the answer says. Answers whether it was accepted.
+fn check_added(rt: &impl Abort, answer: Result<(), (usize, Refused)>, sink: &[u8]) -> bool {
+    match answer {
+        Ok(()) => {
+            assert_eq!(rt; sink, [4, 2, 1, 128, 1].as_slice());
+            return true;
+        }
+        Err((0, cause)) => {
+            assert_eq!(rt; cause, Refused::Memory);
+            assert_eq!(rt; sink, [1, 0].as_slice());
+        }
+        Err((added, cause)) => {
+            assert_eq!(rt; (added, cause), (1, Refused::Memory));
+            assert_eq!(rt; sink, [2, 1, 1].as_slice());
+        }
+    }
+    false
 }
 
 #[test]
@@ -36,59 +380,43 @@ fn adding_all(rt: HostRuntime) -> Result<(), Fail> {
         let granted = heap.is_waiting();
         let mut sink = Vec::new(rt.alloc());
         section.encode(&mut sink)?;
-        match answer {
-            Ok(()) => {
-                assert!(rt; granted);
-                assert_eq!(rt; sink.as_slice(), [4, 2, 1, 128, 1].as_slice());
-                return Ok(());
-            }
-            Err((0, cause)) => {
-                assert_eq!(rt; cause, Refused::Memory);
-                assert_eq!(rt; sink.as_slice(), [1, 0].as_slice());
-            }
-            Err((added, cause)) => {
-                assert_eq!(rt; (added, cause), (1, Refused::Memory));
-                assert_eq!(rt; sink.as_slice(), [2, 1, 1].as_slice());
-            }
-        }
-    }
-    panic!(rt; "no call was granted")
-}
-
-#[test]
-fn cloning(rt: HostRuntime) -> Result<(), Fail> {
-    let heap = Refusing::new(rt.alloc());
-    let mut section = FunctionSection::new(&heap);
-    section.function(7)?;
-    for nth in 1..MOST {
-        heap.refuse(nth);
-        let copy = section.clone();
-        if heap.is_waiting() {
-            assert!(rt; copy.is_ok_and(|copy| copy.len() == 1));
+        if check_added(&rt, answer, &sink) {
+            assert!(rt; granted);
             return Ok(());
         }
-        assert_eq!(rt; copy.err(), Some(Refused::Memory));
+        assert!(rt; !granted);
     }
     panic!(rt; "no call was granted")
 }
 
-/// A section takes memory once, and none where the sink has room.
+/// `add_all` where the second item is refused: the room of the first is taken, and no more is given.
 #[test]
-fn encoding(rt: HostRuntime) -> Result<(), Fail> {
+fn adding_one_of_two(rt: HostRuntime) -> Result<(), Fail> {
     let heap = Refusing::new(rt.alloc());
-    let mut section = ExportSection::new(rt.alloc());
-    section.export("memory", ExportKind::Memory, 0)?;
-    let mut sink = Vec::new(&heap);
-    heap.refuse(1);
-    assert_eq!(rt; section.encode(&mut sink), Err(Refused::Memory));
-    assert!(rt; sink.is_empty());
-    heap.refuse(2);
-    section.encode(&mut sink)?;
-    assert!(rt; heap.is_waiting());
-    sink.clear();
-    heap.refuse(1);
-    section.encode(&mut sink)?;
-    StartSection { function_index: 1 }.encode(&mut Vec::new(rt.alloc()))?;
-    assert!(rt; heap.is_waiting());
-    Ok(())
+    let long = Export {
+        name: LONG,
+        ..EXPORT
+    };
+    let mut stopped = false;
+    for nth in 1..MOST {
+        let mut section = ExportSection::new(&heap);
+        heap.refuse(nth);
+        let answer = add_all(&mut section, &[EXPORT, long]);
+        if heap.is_waiting() {
+            assert_eq!(rt; answer, Ok(()));
+            assert!(rt; stopped);
+            return Ok(());
+        }
+        let Err((added, cause)) = answer else {
+            panic!(rt; "a refused request was not told")
+        };
+        assert_eq!(rt; cause, Refused::Memory);
+        assert_eq!(rt; section.len() as usize, added);
+        stopped = stopped || added == 1;
+    }
+    panic!(rt; "no call was granted")
 }
+
+/// A name that the room of a short entry can't hold.
+const LONG: &str =
+    "a name of many letters, so that the room that the first entry took is too small for the second one";

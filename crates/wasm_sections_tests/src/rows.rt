@@ -1,12 +1,15 @@
 // Each call once, with ample memory.
+use crate::callers::{encode_copied, encode_null_tables};
+use crate::samples::{GLOBAL, LIMITED_MEMORY, LIMITED_TABLE, MEMORY, SET_GLOBAL, TABLE, TAG};
 use std::alloc::Global;
 use std::process::Abort;
 use std::test::Fail;
-use wasm_base::{Counted, CowSlice, Encode, RefType, Section, ValType, add_all};
+use wasm_base::{Counted, CowSlice, Encode, HeapType, Section, ValType, add_all};
+use wasm_code::ConstExpr;
 use wasm_sections::{
-    DataCountSection, EntityType, Export, ExportKind, ExportSection, FunctionSection, GlobalType,
-    Import, ImportCompact, ImportSection, Imports, MemorySection, MemoryType, StartSection,
-    TableSection, TableType, TagKind, TagSection, TagType, laws,
+    DataCountSection, EntityType, Export, ExportKind, ExportSection, FunctionSection,
+    GlobalSection, Import, ImportCompact, ImportSection, Imports, MemorySection, StartSection,
+    TableSection, TableType, TagSection, laws,
 };
 
 /// The section has this id and these bytes.
@@ -27,22 +30,6 @@ fn check<S: Section>(
     Ok(())
 }
 
-const PLAIN: MemoryType = MemoryType {
-    minimum: 1,
-    maximum: None,
-    memory64: false,
-    shared: false,
-    page_size_log2: None,
-};
-
-const TABLE: TableType = TableType {
-    element_type: RefType::FUNCREF,
-    table64: false,
-    minimum: 128,
-    maximum: None,
-    shared: false,
-};
-
 #[test]
 fn functions(rt: HostRuntime) -> Result<(), Fail> {
     let mut section = FunctionSection::new(rt.alloc());
@@ -60,19 +47,30 @@ fn functions(rt: HostRuntime) -> Result<(), Fail> {
 }
 
 #[test]
+fn globals(rt: HostRuntime) -> Result<(), Fail> {
+    for (value, expected) in [
+        (42, [6, 1, 127, 0, 65, 42, 11]),
+        (-1, [6, 1, 127, 0, 65, 127, 11]),
+    ] {
+        let mut section = GlobalSection::new(rt.alloc());
+        section.global(GLOBAL, &ConstExpr::i32_const(rt.alloc(), value)?)?;
+        check(&rt, rt.alloc(), &section, 6, &expected)?;
+        section.global(SET_GLOBAL, &ConstExpr::empty(rt.alloc()))?;
+        assert_eq!(rt; section.piece(1), Some([126, 3, 11].as_slice()));
+    }
+    Ok(())
+}
+
+#[test]
 fn memories(rt: HostRuntime) -> Result<(), Fail> {
-    let limited = MemoryType {
-        maximum: Some(2),
-        memory64: true,
-        shared: true,
-        page_size_log2: Some(0),
-        ..PLAIN
-    };
-    assert_eq!(rt; (limited.page_size(), limited.page_size_log2()), (1, 0));
-    assert_eq!(rt; (PLAIN.page_size(), PLAIN.page_size_log2()), (65536, 16));
+    assert_eq!(rt;
+        (LIMITED_MEMORY.page_size(), LIMITED_MEMORY.page_size_log2()),
+        (1, 0)
+    );
+    assert_eq!(rt; (MEMORY.page_size(), MEMORY.page_size_log2()), (65536, 16));
     for (ty, expected) in [
-        (PLAIN, [3, 1, 0, 1].as_slice()),
-        (limited, &[5, 1, 15, 1, 2, 0]),
+        (MEMORY, [3, 1, 0, 1].as_slice()),
+        (LIMITED_MEMORY, &[5, 1, 15, 1, 2, 0]),
     ] {
         let mut section = MemorySection::new(rt.alloc());
         section.memory(ty)?;
@@ -83,17 +81,11 @@ fn memories(rt: HostRuntime) -> Result<(), Fail> {
 
 #[test]
 fn tables(rt: HostRuntime) -> Result<(), Fail> {
-    let limited = TableType {
-        table64: true,
-        minimum: 1,
-        maximum: Some(2),
-        ..TABLE
-    };
-    assert_eq!(rt; limited.index_type(), ValType::I64);
+    assert_eq!(rt; LIMITED_TABLE.index_type(), ValType::I64);
     assert_eq!(rt; TABLE.index_type(), ValType::I32);
     for (ty, expected) in [
         (TABLE, [5, 1, 112, 0, 128, 1].as_slice()),
-        (limited, &[5, 1, 112, 5, 1, 2]),
+        (LIMITED_TABLE, &[5, 1, 112, 5, 1, 2]),
     ] {
         let mut section = TableSection::new(rt.alloc());
         section.table(ty)?;
@@ -103,12 +95,35 @@ fn tables(rt: HostRuntime) -> Result<(), Fail> {
 }
 
 #[test]
+fn first_values(rt: HostRuntime) -> Result<(), Fail> {
+    let empty = TableType {
+        minimum: 0,
+        ..TABLE
+    };
+    let null = ConstExpr::ref_null(rt.alloc(), HeapType::FUNC)?;
+    let mut section = TableSection::new(rt.alloc());
+    section.table_with_init(empty, &null)?;
+    check(
+        &rt,
+        rt.alloc(),
+        &section,
+        4,
+        &[9, 1, 64, 0, 112, 0, 0, 208, 112, 11],
+    )?;
+    section.table(empty)?;
+    check(
+        &rt,
+        rt.alloc(),
+        &section,
+        4,
+        &[12, 2, 64, 0, 112, 0, 0, 208, 112, 11, 112, 0, 0],
+    )
+}
+
+#[test]
 fn tags(rt: HostRuntime) -> Result<(), Fail> {
     let mut section = TagSection::new(rt.alloc());
-    section.tag(TagType {
-        kind: TagKind::Exception,
-        func_type_idx: 3,
-    })?;
+    section.tag(TAG)?;
     check(&rt, rt.alloc(), &section, 13, &[3, 1, 0, 3])
 }
 
@@ -154,6 +169,7 @@ fn check_import(
     let same = import.clone()?;
     section.imports(import)?;
     check(rt, alloc, &section, 2, expected)?;
+    assert_eq!(rt; section.len(), 1);
     section.imports(same)?;
     assert_eq!(rt; section.len(), 2);
     assert_eq!(rt; section.piece(0), section.piece(1));
@@ -204,22 +220,39 @@ fn imports(rt: HostRuntime) -> Result<(), Fail> {
 }
 
 #[test]
+fn owned_groups(rt: HostRuntime) -> Result<(), Fail> {
+    let ty = EntityType::Function(0);
+    let named = Imports::Compact1 {
+        module: "m",
+        items: CowSlice::Owned(Vec::from_slice(rt.alloc(), &[ImportCompact { name: "a", ty }])?),
+    };
+    check_import(
+        &rt,
+        rt.alloc(),
+        named,
+        &[10, 1, 1, b'm', 0, 127, 1, 1, b'a', 0, 0],
+    )?;
+    let alike = Imports::Compact2 {
+        module: "m",
+        ty,
+        names: CowSlice::Owned(Vec::from_slice(rt.alloc(), &["a", "b"])?),
+    };
+    check_import(
+        &rt,
+        rt.alloc(),
+        alike,
+        &[12, 1, 1, b'm', 0, 126, 0, 0, 2, 1, b'a', 1, b'b'],
+    )
+}
+
+#[test]
 fn entities(rt: HostRuntime) -> Result<(), Fail> {
-    let global = GlobalType {
-        val_type: ValType::I64,
-        mutable: true,
-        shared: true,
-    };
-    let tag = TagType {
-        kind: TagKind::Exception,
-        func_type_idx: 3,
-    };
     for (ty, expected) in [
         (EntityType::Function(128), [0, 128, 1].as_slice()),
         (EntityType::from(TABLE), &[1, 112, 0, 128, 1]),
-        (EntityType::from(PLAIN), &[2, 0, 1]),
-        (EntityType::from(global), &[3, 0x7E, 3]),
-        (EntityType::from(tag), &[4, 0, 3]),
+        (EntityType::from(MEMORY), &[2, 0, 1]),
+        (EntityType::from(SET_GLOBAL), &[3, 126, 3]),
+        (EntityType::from(TAG), &[4, 0, 3]),
         (EntityType::FunctionExact(5), &[32, 5]),
     ] {
         let mut section = ImportSection::new(rt.alloc());
@@ -228,6 +261,28 @@ fn entities(rt: HostRuntime) -> Result<(), Fail> {
         assert_eq!(rt; &entry[4.min(entry.len())..], expected);
     }
     Ok(())
+}
+
+#[test]
+fn imported(rt: HostRuntime) -> Result<(), Fail> {
+    let mut section = ImportSection::new(rt.alloc());
+    section.import("m", "f", EntityType::FunctionExact(5))?;
+    check(
+        &rt,
+        rt.alloc(),
+        &section,
+        2,
+        &[7, 1, 1, b'm', 1, b'f', 32, 5],
+    )?;
+    let mut section = ImportSection::new(rt.alloc());
+    section.import("env", "memory", EntityType::Memory(MEMORY))?;
+    check(
+        &rt,
+        rt.alloc(),
+        &section,
+        2,
+        b"\x0F\x01\x03env\x06memory\x02\x00\x01",
+    )
 }
 
 #[test]
@@ -246,7 +301,22 @@ fn numbers(rt: HostRuntime) -> Result<(), Fail> {
 }
 
 #[test]
+fn from_callers(rt: HostRuntime) -> Result<(), Fail> {
+    let mut sink = Vec::new(rt.alloc());
+    encode_copied(&mut sink, 0)?;
+    assert_eq!(rt; sink.as_slice(), [6, 1, 127, 0, 35, 0, 11].as_slice());
+    sink.clear();
+    encode_null_tables(&mut sink, 0)?;
+    assert_eq!(rt;
+        sink.as_slice(),
+        [12, 2, 112, 0, 0, 64, 0, 112, 0, 0, 208, 112, 11].as_slice()
+    );
+    Ok(())
+}
+
+#[test]
 fn laws_do_nothing(_rt: HostRuntime) {
     laws::sections();
     laws::wide();
+    laws::calls();
 }

@@ -1,0 +1,60 @@
+-- What a section holds as calls add to it.
+use Rattle.std.proofs.Common.{ℕ, List, [], ◌∷◌, ◌++◌, refl, sym, ap, ◌∙◌}
+use Rattle.std.proofs.lemmas.List.{map-append}
+use Rattle.std.specs.List.{AllZip}
+use Rattle.wasm_base.specs.Entries.{Entry, Given, Raw, entry_text, Means, HoldsItems}
+use Rattle.wasm_base.specs.Formats.{Format, u32}
+use Rattle.wasm_base.specs.Laws.{FitsUnsigned}
+use Rattle.wasm_base.specs.Numbers.{unsigned_text}
+use Rattle.wasm_sections.specs.Exports.{export_text, IsExport, item_of, export}
+use Rattle.wasm_sections.specs.Globals.{global_item_text, IsGivenGlobal, global_item_of, global_item}
+use Rattle.wasm_sections.specs.Imports.{imports_text, IsImports, imports_item, import_format}
+use Rattle.wasm_sections.specs.Laws.{HoldsMore}
+use Rattle.wasm_sections.specs.Memories.{memory_text, IsMemory, memory_type}
+use Rattle.wasm_sections.specs.Tables.{table_item_text, IsGivenTable, table_item_of, table_item}
+use Rattle.wasm_sections.specs.Tags.{tag_text, IsTag, tag_type}
+
+zip_more : {X Y : Type 0} (R : X → Y → Type 0) (xs : List X) (ys : List Y) (x : X) (y : Y) → AllZip R xs ys → R x y → AllZip R (xs ++ x ∷ []) (ys ++ y ∷ [])
+zip_more R [] [] x y h r = (r, tt)
+zip_more R [] (b ∷ ys) x y h r = absurd h
+zip_more R (a ∷ xs) [] x y h r = absurd h
+zip_more R (a ∷ xs) (b ∷ ys) x y h r = (h.0, zip_more R xs ys x y h.1 r)
+
+module _ {Record Item : Type 0} (text : Record → List ℕ) (IsPlain : Record → Type 0) (normal_form : Record → Item) (F : Format Item) where
+  one_more : (pieces : List (List ℕ)) (items : List Item) (entry : Entry Record) (item : Item) → HoldsItems text IsPlain normal_form F pieces items → Means IsPlain normal_form F entry item
+      → HoldsItems text IsPlain normal_form F (pieces ++ entry_text text entry ∷ []) (items ++ item ∷ [])
+  one_more pieces items entry item holds means = record {
+    entries = holds.entries ++ entry ∷ [];
+    held = ap (λ ps. ps ++ entry_text text entry ∷ []) holds.held ∙ sym (map-append (entry_text text) holds.entries (entry ∷ []));
+    meant = zip_more (Means IsPlain normal_form F) holds.entries items entry item holds.meant means;
+  }
+
+  holds_more : HoldsMore text IsPlain normal_form F
+  holds_more = record {
+    none = record { entries = []; held = refl; meant = tt };
+    given = λ pieces items given holds plain. one_more pieces items (Given given) (normal_form given) holds (plain, refl);
+    raw = λ pieces items piece item holds spelled. one_more pieces items (Raw piece) item holds spelled;
+  }
+
+pub functions-held : HoldsMore unsigned_text (FitsUnsigned 32) (λ index. index) u32
+functions-held = holds_more unsigned_text (FitsUnsigned 32) (λ index. index) u32
+
+pub tables-held : HoldsMore table_item_text IsGivenTable table_item_of table_item
+tables-held = holds_more table_item_text IsGivenTable table_item_of table_item
+
+pub memories-held : HoldsMore memory_text IsMemory (λ memory. memory) memory_type
+memories-held = holds_more memory_text IsMemory (λ memory. memory) memory_type
+
+pub globals-held : HoldsMore global_item_text IsGivenGlobal global_item_of global_item
+globals-held = holds_more global_item_text IsGivenGlobal global_item_of global_item
+
+pub exports-held : HoldsMore export_text IsExport item_of export
+exports-held = holds_more export_text IsExport item_of export
+
+pub imports-held : HoldsMore imports_text IsImports imports_item import_format
+imports-held = holds_more imports_text IsImports imports_item import_format
+
+pub tags-held : HoldsMore tag_text IsTag (λ tag. tag) tag_type
+tags-held = holds_more tag_text IsTag (λ tag. tag) tag_type
+
+pub ruleset calls = (functions-held, tables-held, memories-held, globals-held, exports-held, imports-held, tags-held)
