@@ -545,7 +545,8 @@ fn check_wrong_inputs() {
     check_wrong("one length an import", Input::Imports(one.clone()));
     let (p, n) = (one.names.as_ptr(), one.names.len());
     let (lens, indices) = (one.lens.as_ptr(), one.indices.as_ptr());
-    let out = [0u8; 1].as_mut_ptr();
+    let mut no_room: [u8; 0] = [];
+    let out = no_room.as_mut_ptr();
     if unsafe { wb_names(p, n, lens, 1, indices, 1, 1, out, 0) } != NO_ANSWER {
         fail("wb_names has an answer: measure it");
     }

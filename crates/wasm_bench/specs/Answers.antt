@@ -1,5 +1,5 @@
 -- What workloads answer.
-use Rattle.std.specs.Prelude.{◌≡◌, ℕ, ◌≤◌, ◌∷◌, List, ◌++◌, length, drop, map, Result, IfOk, OnErr, if◌then◌else◌, ◌⊎◌, nat_le}
+use Rattle.std.specs.Prelude.{◌≡◌, ℕ, ◌≤◌, ◌*◌, ◌∷◌, List, ◌++◌, length, drop, map, Result, IfOk, OnErr, if◌then◌else◌, ◌⊎◌, nat_le}
 use Rattle.wasm_base.specs.Formats.{header}
 use Rattle.wasm_base.specs.Numbers.{unsigned_text}
 use Rattle.wasm_base.specs.Pieces.{joined, section_text}
@@ -35,10 +35,16 @@ Outcome old new n Answer = ((n ≡ NO_ANSWER) × (new ≡ old)) ⊎ Answer
 abbrev pub FunctionsAnswer : List ℕ → ℕ → List ℕ → List ℕ → ℕ → Type 0
 FunctionsAnswer types phase old new n = HasAnswer phase (length types) (3 ∷ section_text (map unsigned_text types)) old new n
 
--- the answer of a section that has so many entries, which are what is counted
-pub record EntriesAnswer (id entries phase : ℕ) (old new : List ℕ) (n : ℕ) : Type 0 where
+-- There is an entry for each kind, and each has an index and so many names.
+pub record HasEntries (names lens kinds indices : ℕ) (pieces : List (List ℕ)) : Type 0 where
+  pub counted : length pieces ≡ kinds
+  pub indexed : indices ≡ kinds
+  pub named : lens ≡ names * kinds
+
+-- the answer of a section of such entries, which are what is counted
+pub record EntriesAnswer (id names lens kinds indices phase : ℕ) (old new : List ℕ) (n : ℕ) : Type 0 where
   pub pieces : List (List ℕ)
-  pub count : length pieces ≡ entries
+  pub entries : HasEntries names lens kinds indices pieces
   pub has : HasAnswer phase (length pieces) (id ∷ section_text pieces) old new n
 
 -- the answer of a code section, whose bytes are what is counted
@@ -47,9 +53,14 @@ pub record CodeAnswer (functions phase : ℕ) (old new : List ℕ) (n : ℕ) : T
   pub count : length pieces ≡ functions
   pub has : HasAnswer phase (length (joined pieces)) (10 ∷ section_text pieces) old new n
 
--- the answer of a code section of as many functions as the first word tells
-pub record WordsAnswer (words : List ℕ) (phase : ℕ) (old new : List ℕ) (n : ℕ) : Type 0 where
-  pub functions : ℕ
+-- The words tell so many functions first, and the mode is 0 or 1.
+pub record TellsFunctions (words : List ℕ) (mode functions : ℕ) : Type 0 where
   pub rest : List ℕ
   pub first : words ≡ functions ∷ rest
+  pub known : mode ≤ 1
+
+-- the answer of a code section of as many functions as the words tell
+pub record WordsAnswer (words : List ℕ) (mode phase : ℕ) (old new : List ℕ) (n : ℕ) : Type 0 where
+  pub functions : ℕ
+  pub told : TellsFunctions words mode functions
   pub answer : CodeAnswer functions phase old new n

@@ -1,6 +1,6 @@
 // Functions and their code.
-ghost use Rattle.std.specs.Prelude.{◌≡◌, ◌∷◌, ℕ, List, IfOk, OnErr, length};
-ghost use Rattle.wasm_bench.specs.Answers.{WordsAnswer, Outcome};
+ghost use Rattle.std.specs.Prelude.{◌≡◌, IfOk, OnErr, length};
+ghost use Rattle.wasm_bench.specs.Answers.{TellsFunctions, WordsAnswer, Outcome};
 
 use crate::answers::{Fault, answer, number};
 use crate::calls::call;
@@ -28,22 +28,25 @@ fn add_by_values(function: &mut Function, words: &mut Words<'_>, count: u32) -> 
     Ok(())
 }
 
-/// Reads a function: the number of its instructions, and these. Mode 0 makes calls, mode 1 adds values.
+/// Reads a function: the number of its instructions, and these.
 fn read_function(alloc: Global, words: &mut Words<'_>, mode: u32) -> Result<Function, Fault> {
     let count = words.next()?;
     let mut function = Function::new(alloc, [(2, ValType::I32), (1, ValType::F64)])?;
-    match mode {
-        0 => add_by_calls(&mut function, words, count)?,
-        1 => add_by_values(&mut function, words, count)?,
-        _ => return Err(Fault::WrongInput),
+    if mode == 0 {
+        add_by_calls(&mut function, words, count)?;
+    } else {
+        add_by_values(&mut function, words, count)?;
     }
     Ok(function)
 }
 
-/// Reads the number of functions, and these.
+/// Reads the number of functions, and these: in mode 0 by calls, in mode 1 as values.
 fn read_code(alloc: Global, words: &[u32], mode: u32) -> Result<CodeSection, Fault>
-    ensures { IfOk result (λ code. (rest : List ℕ) × (words.now ≡ length code ∷ rest)) }
+    ensures { IfOk result (λ code. TellsFunctions words.now mode (length code)) }
 {
+    if mode > 1 {
+        return Err(Fault::WrongInput);
+    }
     let mut words = Words::new(words);
     let mut code = CodeSection::new(alloc);
     let count = words.next()?;
@@ -66,7 +69,7 @@ fn code_section(
     phase: u32,
     out: &mut [u8],
 ) -> Result<u64, Fault>
-    ensures ok { IfOk result (λ n. WordsAnswer words.now phase out.old out.new n) }
+    ensures ok { IfOk result (λ n. WordsAnswer words.now mode phase out.old out.new n) }
     ensures err { OnErr result (out.new ≡ out.old) }
 {
     let code = read_code(alloc, words, mode)?;
@@ -82,7 +85,7 @@ pub extern "C" fn wb_code(
     phase: u32,
     out: &mut [u8],
 ) -> u64
-    ensures { Outcome out.old out.new result (WordsAnswer words.now phase out.old out.new result) }
+    ensures { Outcome out.old out.new result (WordsAnswer words.now mode phase out.old out.new result) }
 {
     number(code_section(alloc, words, mode, phase, out))
 }

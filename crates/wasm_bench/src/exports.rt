@@ -1,6 +1,6 @@
 // The export section.
 ghost use Rattle.std.specs.Prelude.{◌≡◌, IfOk, OnErr, length};
-ghost use Rattle.wasm_bench.specs.Answers.{EntriesAnswer, Outcome};
+ghost use Rattle.wasm_bench.specs.Answers.{HasEntries, EntriesAnswer, Outcome};
 
 use crate::answers::{Fault, answer, number};
 use crate::names::Names;
@@ -27,7 +27,7 @@ fn build(
     kinds: &[u8],
     indices: &[u32],
 ) -> Result<ExportSection, Fault>
-    ensures { IfOk result (λ section. length section ≡ length lens.now) }
+    ensures { IfOk result (HasEntries 1 (length lens.now) (length kinds.now) (length indices.now)) }
 {
     if kinds.len() != lens.len() || indices.len() != lens.len() {
         return Err(Fault::WrongInput);
@@ -54,7 +54,7 @@ fn export_section(
     phase: u32,
     out: &mut [u8],
 ) -> Result<u64, Fault>
-    ensures ok { IfOk result (λ n. EntriesAnswer 7 (length lens.now) phase out.old out.new n) }
+    ensures ok { IfOk result (λ n. EntriesAnswer 7 1 (length lens.now) (length kinds.now) (length indices.now) phase out.old out.new n) }
     ensures err { OnErr result (out.new ≡ out.old) }
 {
     let section = build(alloc, names, lens, kinds, indices)?;
@@ -72,7 +72,7 @@ pub extern "C" fn wb_exports(
     phase: u32,
     out: &mut [u8],
 ) -> u64
-    ensures { Outcome out.old out.new result (EntriesAnswer 7 (length lens.now) phase out.old out.new result) }
+    ensures { Outcome out.old out.new result (EntriesAnswer 7 1 (length lens.now) (length kinds.now) (length indices.now) phase out.old out.new result) }
 {
     number(export_section(alloc, names, lens, kinds, indices, phase, out))
 }

@@ -1,6 +1,6 @@
 // The import section.
 ghost use Rattle.std.specs.Prelude.{◌≡◌, IfOk, OnErr, length};
-ghost use Rattle.wasm_bench.specs.Answers.{EntriesAnswer, Outcome};
+ghost use Rattle.wasm_bench.specs.Answers.{HasEntries, EntriesAnswer, Outcome};
 
 use crate::answers::{Fault, answer, number};
 use crate::names::Names;
@@ -64,7 +64,7 @@ fn build(
     kinds: &[u8],
     indices: &[u32],
 ) -> Result<ImportSection, Fault>
-    ensures { IfOk result (λ section. length section ≡ length kinds.now) }
+    ensures { IfOk result (HasEntries 2 (length lens.now) (length kinds.now) (length indices.now)) }
 {
     let (lens, others) = lens.as_chunks::<2>();
     if !others.is_empty() || kinds.len() != lens.len() || indices.len() != lens.len() {
@@ -94,7 +94,7 @@ fn import_section(
     phase: u32,
     out: &mut [u8],
 ) -> Result<u64, Fault>
-    ensures ok { IfOk result (λ n. EntriesAnswer 2 (length kinds.now) phase out.old out.new n) }
+    ensures ok { IfOk result (λ n. EntriesAnswer 2 2 (length lens.now) (length kinds.now) (length indices.now) phase out.old out.new n) }
     ensures err { OnErr result (out.new ≡ out.old) }
 {
     let section = build(alloc, names, lens, kinds, indices)?;
@@ -112,7 +112,7 @@ pub extern "C" fn wb_imports(
     phase: u32,
     out: &mut [u8],
 ) -> u64
-    ensures { Outcome out.old out.new result (EntriesAnswer 2 (length kinds.now) phase out.old out.new result) }
+    ensures { Outcome out.old out.new result (EntriesAnswer 2 2 (length lens.now) (length kinds.now) (length indices.now) phase out.old out.new result) }
 {
     number(import_section(alloc, names, lens, kinds, indices, phase, out))
 }
