@@ -1,0 +1,91 @@
+// Functions and their code.
+ghost use Rattle.std.specs.Prelude.{◌≡◌, IfOk, OnErr, length};
+ghost use Rattle.wasm_bench.specs.Answers.{TellsFunctions, WordsAnswer, Outcome};
+
+use crate::answers::{Fault, answer, number};
+use crate::calls::call;
+use crate::values::value;
+use crate::words::Words;
+use std::alloc::Global;
+use wasm_base::ValType;
+use wasm_code::{CodeSection, Function};
+
+/// Reads the instructions of a function, and makes the call of each.
+fn add_by_calls(function: &mut Function, words: &mut Words<'_>, count: u32) -> Result<(), Fault> {
+    let mut sink = function.instructions();
+    for _ in 0..count {
+        call(&mut sink, words)?;
+    }
+    Ok(())
+}
+
+/// Reads the instructions of a function, and adds each as a value.
+fn add_by_values(function: &mut Function, words: &mut Words<'_>, count: u32) -> Result<(), Fault> {
+    for _ in 0..count {
+        let instruction = value(words)?;
+        function.instruction(&instruction)?;
+    }
+    Ok(())
+}
+
+/// Reads a function: the number of its instructions, and these.
+fn read_function(alloc: Global, words: &mut Words<'_>, mode: u32) -> Result<Function, Fault> {
+    let count = words.next()?;
+    let mut function = Function::new(alloc, [(2, ValType::I32), (1, ValType::F64)])?;
+    if mode == 0 {
+        add_by_calls(&mut function, words, count)?;
+    } else {
+        add_by_values(&mut function, words, count)?;
+    }
+    Ok(function)
+}
+
+/// Reads the number of functions, and these: in mode 0 by calls, in mode 1 as values.
+fn read_code(alloc: Global, words: &[u32], mode: u32) -> Result<CodeSection, Fault>
+    ensures { IfOk result (λ code. TellsFunctions words.now mode (length code)) }
+{
+    if mode > 1 {
+        return Err(Fault::WrongInput);
+    }
+    let mut words = Words::new(words);
+    let mut code = CodeSection::new(alloc);
+    let count = words.next()?;
+    for _ in 0..count {
+        let function = read_function(alloc, &mut words, mode)?;
+        code.function(&function)?;
+    }
+    if words.is_empty() {
+        Ok(code)
+    } else {
+        Err(Fault::WrongInput)
+    }
+}
+
+/// Reads functions, and answers their code section.
+fn code_section(
+    alloc: Global,
+    words: &[u32],
+    mode: u32,
+    phase: u32,
+    out: &mut [u8],
+) -> Result<u64, Fault>
+    ensures ok { IfOk result (λ n. WordsAnswer words.now mode phase out.old out.new n) }
+    ensures err { OnErr result (out.new ≡ out.old) }
+{
+    let code = read_code(alloc, words, mode)?;
+    answer(alloc, &code, code.byte_len() as u64, phase, out)
+}
+
+/// A code section of the functions that the words tell.
+#[unsafe(no_mangle)]
+pub extern "C" fn wb_code(
+    alloc: Global,
+    words: &[u32],
+    mode: u32,
+    phase: u32,
+    out: &mut [u8],
+) -> u64
+    ensures { Outcome out.old out.new result (WordsAnswer words.now mode phase out.old out.new result) }
+{
+    number(code_section(alloc, words, mode, phase, out))
+}

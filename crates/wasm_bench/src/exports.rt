@@ -1,0 +1,78 @@
+// The export section.
+ghost use Rattle.std.specs.Prelude.{◌≡◌, IfOk, OnErr, length};
+ghost use Rattle.wasm_bench.specs.Answers.{HasEntries, EntriesAnswer, Outcome};
+
+use crate::answers::{Fault, answer, number};
+use crate::names::Names;
+use std::alloc::Global;
+use wasm_sections::{ExportKind, ExportSection};
+
+/// The kind of this number.
+fn export_kind(kind: u8) -> Result<ExportKind, Fault> {
+    match kind {
+        0 => Ok(ExportKind::Func),
+        1 => Ok(ExportKind::Table),
+        2 => Ok(ExportKind::Memory),
+        3 => Ok(ExportKind::Global),
+        4 => Ok(ExportKind::Tag),
+        _ => Err(Fault::WrongInput),
+    }
+}
+
+/// A section of exports: the length of the name, the kind and the index of each.
+fn build(
+    alloc: Global,
+    names: &[u8],
+    lens: &[u32],
+    kinds: &[u8],
+    indices: &[u32],
+) -> Result<ExportSection, Fault>
+    ensures { IfOk result (HasEntries 1 (length lens.now) (length kinds.now) (length indices.now)) }
+{
+    if kinds.len() != lens.len() || indices.len() != lens.len() {
+        return Err(Fault::WrongInput);
+    }
+    let mut names = Names::new(names)?;
+    let mut section = ExportSection::new(alloc);
+    for i in 0..lens.len() {
+        let name = names.next(lens[i])?;
+        section.export(name, export_kind(kinds[i])?, indices[i])?;
+    }
+    if names.is_empty() {
+        Ok(section)
+    } else {
+        Err(Fault::WrongInput)
+    }
+}
+
+fn export_section(
+    alloc: Global,
+    names: &[u8],
+    lens: &[u32],
+    kinds: &[u8],
+    indices: &[u32],
+    phase: u32,
+    out: &mut [u8],
+) -> Result<u64, Fault>
+    ensures ok { IfOk result (λ n. EntriesAnswer 7 1 (length lens.now) (length kinds.now) (length indices.now) phase out.old out.new n) }
+    ensures err { OnErr result (out.new ≡ out.old) }
+{
+    let section = build(alloc, names, lens, kinds, indices)?;
+    answer(alloc, &section, u64::from(section.len()), phase, out)
+}
+
+/// A section of exports. The names lie one after another, and have these lengths.
+#[unsafe(no_mangle)]
+pub extern "C" fn wb_exports(
+    alloc: Global,
+    names: &[u8],
+    lens: &[u32],
+    kinds: &[u8],
+    indices: &[u32],
+    phase: u32,
+    out: &mut [u8],
+) -> u64
+    ensures { Outcome out.old out.new result (EntriesAnswer 7 1 (length lens.now) (length kinds.now) (length indices.now) phase out.old out.new result) }
+{
+    number(export_section(alloc, names, lens, kinds, indices, phase, out))
+}

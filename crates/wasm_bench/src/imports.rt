@@ -1,0 +1,118 @@
+// The import section.
+ghost use Rattle.std.specs.Prelude.{◌≡◌, IfOk, OnErr, length};
+ghost use Rattle.wasm_bench.specs.Answers.{HasEntries, EntriesAnswer, Outcome};
+
+use crate::answers::{Fault, answer, number};
+use crate::names::Names;
+use std::alloc::Global;
+use wasm_base::{RefType, ValType};
+use wasm_sections::{
+    EntityType, GlobalType, ImportSection, MemoryType, TableType, TagKind, TagType,
+};
+
+/// A table of functions.
+fn table(minimum: u32) -> EntityType {
+    EntityType::Table(TableType {
+        element_type: RefType::FUNCREF,
+        table64: false,
+        minimum: u64::from(minimum),
+        maximum: None,
+        shared: false,
+    })
+}
+
+/// A memory of 32-bit addresses.
+fn memory(minimum: u32) -> EntityType {
+    EntityType::Memory(MemoryType {
+        minimum: u64::from(minimum),
+        maximum: None,
+        memory64: false,
+        shared: false,
+        page_size_log2: None,
+    })
+}
+
+/// A number of 64 bits, which can be set where the index is odd.
+fn global(index: u32) -> EntityType {
+    EntityType::Global(GlobalType {
+        val_type: ValType::I64,
+        mutable: index % 2 == 1,
+        shared: false,
+    })
+}
+
+/// The type of an import of this kind. The index is that of a type, or a minimum.
+fn entity(kind: u8, index: u32) -> Result<EntityType, Fault> {
+    match kind {
+        0 => Ok(EntityType::Function(index)),
+        1 => Ok(table(index)),
+        2 => Ok(memory(index)),
+        3 => Ok(global(index)),
+        4 => Ok(EntityType::Tag(TagType {
+            kind: TagKind::Exception,
+            func_type_idx: index,
+        })),
+        _ => Err(Fault::WrongInput),
+    }
+}
+
+/// A section of imports: the lengths of the module and the name, the kind and the index of each.
+fn build(
+    alloc: Global,
+    names: &[u8],
+    lens: &[u32],
+    kinds: &[u8],
+    indices: &[u32],
+) -> Result<ImportSection, Fault>
+    ensures { IfOk result (HasEntries 2 (length lens.now) (length kinds.now) (length indices.now)) }
+{
+    let (lens, others) = lens.as_chunks::<2>();
+    if !others.is_empty() || kinds.len() != lens.len() || indices.len() != lens.len() {
+        return Err(Fault::WrongInput);
+    }
+    let mut names = Names::new(names)?;
+    let mut section = ImportSection::new(alloc);
+    for i in 0..lens.len() {
+        let [module_len, name_len] = lens[i];
+        let module = names.next(module_len)?;
+        let name = names.next(name_len)?;
+        section.import(module, name, entity(kinds[i], indices[i])?)?;
+    }
+    if names.is_empty() {
+        Ok(section)
+    } else {
+        Err(Fault::WrongInput)
+    }
+}
+
+fn import_section(
+    alloc: Global,
+    names: &[u8],
+    lens: &[u32],
+    kinds: &[u8],
+    indices: &[u32],
+    phase: u32,
+    out: &mut [u8],
+) -> Result<u64, Fault>
+    ensures ok { IfOk result (λ n. EntriesAnswer 2 2 (length lens.now) (length kinds.now) (length indices.now) phase out.old out.new n) }
+    ensures err { OnErr result (out.new ≡ out.old) }
+{
+    let section = build(alloc, names, lens, kinds, indices)?;
+    answer(alloc, &section, u64::from(section.len()), phase, out)
+}
+
+/// A section of imports. The modules and names lie one after another by turns, and have these lengths.
+#[unsafe(no_mangle)]
+pub extern "C" fn wb_imports(
+    alloc: Global,
+    names: &[u8],
+    lens: &[u32],
+    kinds: &[u8],
+    indices: &[u32],
+    phase: u32,
+    out: &mut [u8],
+) -> u64
+    ensures { Outcome out.old out.new result (EntriesAnswer 2 2 (length lens.now) (length kinds.now) (length indices.now) phase out.old out.new result) }
+{
+    number(import_section(alloc, names, lens, kinds, indices, phase, out))
+}

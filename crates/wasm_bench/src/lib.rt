@@ -1,0 +1,17 @@
+//! Workloads that a program in C or Rust calls to measure the encoder. What each function reads and answers is told in `bench/README.md`.
+#![tactic(auto)]
+
+mod answers;
+mod calls;
+mod code;
+mod codes;
+mod exports;
+mod functions;
+mod imports;
+mod later;
+mod line;
+mod names;
+mod values;
+mod words;
+
+pub use answers::NO_ANSWER;

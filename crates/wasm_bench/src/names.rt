@@ -1,0 +1,40 @@
+// Names that lie one after another.
+ghost use Rattle.std.specs.Prelude.{◌≡◌, ◌++◌, [], length, IfOk, IsTrue, ◌↔◌};
+
+use crate::answers::Fault;
+
+/// Names that are cut from a text one after another.
+#[derive(Drop)]
+pub(crate) struct Names<'a> {
+    rest: &'a str,
+}
+
+impl<'a> Names<'a> {
+    /// The bytes have to be UTF-8.
+    pub(crate) fn new(bytes: &'a [u8]) -> Result<Self, Fault>
+        ensures { IfOk result (λ names. names.rest.now ≡ bytes.now) }
+    {
+        match str::from_utf8(bytes) {
+            Ok(text) => Ok(Names { rest: text }),
+            Err(_) => Err(Fault::WrongInput),
+        }
+    }
+
+    /// Whether no byte is left.
+    pub(crate) fn is_empty(&self) -> bool
+        ensures { IsTrue result ↔ (length self.now.rest.now ≡ 0) }
+    {
+        self.rest.is_empty()
+    }
+
+    /// The name of so many bytes.
+    pub(crate) fn next(&mut self, count: u32) -> Result<&'a str, Fault>
+        ensures { IfOk result (λ name. (length name.now ≡ count) × (self.old.rest.now ≡ name.now ++ self.new.rest.now)) }
+    {
+        let Some((name, rest)) = self.rest.split_at_checked(count as usize) else {
+            return Err(Fault::WrongInput);
+        };
+        self.rest = rest;
+        Ok(name)
+    }
+}

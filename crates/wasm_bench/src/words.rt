@@ -1,0 +1,59 @@
+// The words of a code workload.
+ghost use Rattle.std.specs.Prelude.{◌≡◌, ℕ, ◌+◌, ◌*◌, ◌^◌, ◌∷◌, ◌++◌, [], length, IfOk, OnErr, IsTrue, ◌↔◌};
+
+use crate::answers::Fault;
+
+/// Words that are read one after another.
+#[derive(Drop)]
+pub(crate) struct Words<'a> {
+    rest: &'a [u32],
+}
+
+impl<'a> Words<'a> {
+    pub(crate) fn new(words: &'a [u32]) -> Self
+        ensures { result.rest.now ≡ words.now }
+    {
+        Words { rest: words }
+    }
+
+    /// Whether there is no word left.
+    pub(crate) fn is_empty(&self) -> bool
+        ensures { IsTrue result ↔ (self.now.rest.now ≡ []) }
+    {
+        self.rest.is_empty()
+    }
+
+    /// The next word.
+    pub(crate) fn next(&mut self) -> Result<u32, Fault>
+        ensures ok { IfOk result (λ word. self.old.rest.now ≡ word ∷ self.new.rest.now) }
+        ensures err { OnErr result (self.old.rest.now ≡ []) }
+    {
+        match self.rest {
+            [] => Err(Fault::WrongInput),
+            [word, rest @ ..] => {
+                self.rest = rest;
+                Ok(*word)
+            }
+        }
+    }
+
+    /// A number of 64 bits: the low word, and the high one.
+    pub(crate) fn wide(&mut self) -> Result<u64, Fault>
+        ensures { IfOk result (λ n. (low : ℕ) × (high : ℕ) × (self.old.rest.now ≡ low ∷ high ∷ self.new.rest.now) × (n ≡ low + 2 ^ 32 * high)) }
+    {
+        let low = self.next()?;
+        let high = self.next()?;
+        Ok(u64::from(low) | (u64::from(high) << 32))
+    }
+
+    /// The next `count` words.
+    pub(crate) fn take(&mut self, count: u32) -> Result<&'a [u32], Fault>
+        ensures ok { IfOk result (λ words. (length words.now ≡ count) × (self.old.rest.now ≡ words.now ++ self.new.rest.now)) }
+    {
+        let Some((words, rest)) = self.rest.split_at_checked(count as usize) else {
+            return Err(Fault::WrongInput);
+        };
+        self.rest = rest;
+        Ok(words)
+    }
+}
