@@ -1,19 +1,15 @@
 -- Instructions are read uniquely, whatever the table, and plain ones are spelled by their text.
-use Rattle.std.proofs.Common.{◌≡◌, ℕ, zero, suc, ◌+◌, ◌*◌, ◌%◌, ◌^◌, ◌<◌, List, [], ◌∷◌, ◌++◌, Bool, true, false, eqb, Option, Some, None, refl, sym, ap, ap₂, subst, ◌∙◌, arith, inl, inr, ℤ, pos, negsuc}
-use Rattle.std.proofs.lemmas.Bool.{lt-ltb, ne_eqb}
-use Rattle.std.proofs.lemmas.Nat.{or_shifted, or_comm}
-use Rattle.std.specs.Int.RustNames.{bit_or}
-use Rattle.std.specs.Prelude.{nat_lt, map, ◌↔◌}
+use Rattle.std.proofs.Common.{◌≡◌, ℕ, ◌^◌, ◌<◌, List, [], ◌∷◌, ◌++◌, Bool, true, false, Option, Some, None, refl, sym, ap, subst, arith}
+use Rattle.std.specs.Prelude.{map, ◌↔◌}
 use Rattle.wasm_base.specs.Numbers.{shortest, unsigned_text}
-use Rattle.wasm_base.specs.Formats.{u32, byte, mapped, when, tagged, pair, optional, choice}
-use Rattle.wasm_base.specs.Reading.{ReadsAlone, UniqueReading, HasTexts, IsUniqueWide}
-use Rattle.wasm_base.specs.Types.{val_type, val_text, val_tags, val_ref, IsVal}
-use Rattle.wasm_base.specs.declared.types.ValType.{ValType}
+use Rattle.wasm_base.specs.Formats.{u32, mapped, when}
+use Rattle.wasm_base.specs.Reading.{ReadsAlone, UniqueReading, IsUniqueWide}
+use Rattle.wasm_base.specs.Types.{val_type, val_text, IsVal}
 use Rattle.wasm_base.proofs.FormatLaws.{IsInjective, TellsTag, same_pair, when-alone, mapped-alone, such-alone, fixed-alone, impossible-alone, tagged-alone, byte-alone, little_endian-alone, raw_bytes-alone, pair-alone, Then-alone, vec-alone}
 use Rattle.wasm_base.proofs.NumberLaws.{u32-alone}
 use Rattle.wasm_base.proofs.BaseLaws.{s32-alone, s64-alone, unique_wide}
-use Rattle.wasm_base.proofs.TypeLaws.{val_bytes, heap-alone, val-alone, heap-texts, val-texts}
-use Rattle.wasm_base.proofs.TextLaws.{reads_alone, u32_spelled, u64_spelled, s32_spelled, s64_spelled, s33_spelled, little_endian_spelled, vec_spelled, tagged_spelled}
+use Rattle.wasm_base.proofs.TypeLaws.{heap-alone, val-alone, heap-texts, val-texts}
+use Rattle.wasm_base.proofs.TextLaws.{reads_alone, u32_spelled, s32_spelled, s64_spelled, little_endian_spelled, vec_spelled, tagged_spelled}
 use Rattle.wasm_insn.specs.declared.op.Op.{Op}
 use Rattle.wasm_insn.specs.declared.op.Op.TheVariants.{Byte, Prefixed}
 use Rattle.wasm_insn.specs.declared.op.Shape.{Shape}

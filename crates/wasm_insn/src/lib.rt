@@ -30,4 +30,6 @@ pub use prefixed_numeric::PrefixedNumeric;
 pub use sink::{Buffer, InstructionSink};
 pub use vector::Vector;
 pub use vector_immediate::VectorImmediate;
-pub use wasm_immediates::{BlockType, Catch, Handle, Ieee32, Ieee64, Lane, MemArg, MemArgOrdering, MemArgTarget, Ordering};
+pub use wasm_immediates::{
+    BlockType, Catch, Handle, Ieee32, Ieee64, Lane, MemArg, MemArgOrdering, MemArgTarget, Ordering,
+};

@@ -37,14 +37,26 @@ fn check_clone(
 fn labels(rt: HostRuntime) -> Result<(), Fail> {
     let heap = Refusing::new(rt.alloc());
     let labels = CowSlice::Owned(Vec::from_slice(&heap, &[1u32, 2])?);
-    check_clone(&rt, rt.alloc(), &heap, Instruction::BrTable(labels, 3), "0e02010203")
+    check_clone(
+        &rt,
+        rt.alloc(),
+        &heap,
+        Instruction::BrTable(labels, 3),
+        "0e02010203",
+    )
 }
 
 #[test]
 fn types(rt: HostRuntime) -> Result<(), Fail> {
     let heap = Refusing::new(rt.alloc());
     let types = CowSlice::Owned(Vec::from_slice(&heap, &[ValType::I32, ValType::I64])?);
-    check_clone(&rt, rt.alloc(), &heap, Instruction::TypedSelectMulti(types), "1c027f7e")
+    check_clone(
+        &rt,
+        rt.alloc(),
+        &heap,
+        Instruction::TypedSelectMulti(types),
+        "1c027f7e",
+    )
 }
 
 #[test]
