@@ -5,9 +5,28 @@ use std::process::exit;
 use std::time::{Duration, Instant};
 
 unsafe extern "C" {
-    fn wb_code(words: *const u32, words_len: usize, mode: u32, phase: u32, out: *mut u8, out_len: usize) -> u64;
-    fn wb_line(operands: *const u32, operands_len: usize, phase: u32, out: *mut u8, out_len: usize) -> u64;
-    fn wb_functions(types: *const u32, types_len: usize, phase: u32, out: *mut u8, out_len: usize) -> u64;
+    fn wb_code(
+        words: *const u32,
+        words_len: usize,
+        mode: u32,
+        phase: u32,
+        out: *mut u8,
+        out_len: usize,
+    ) -> u64;
+    fn wb_line(
+        operands: *const u32,
+        operands_len: usize,
+        phase: u32,
+        out: *mut u8,
+        out_len: usize,
+    ) -> u64;
+    fn wb_functions(
+        types: *const u32,
+        types_len: usize,
+        phase: u32,
+        out: *mut u8,
+        out_len: usize,
+    ) -> u64;
     fn wb_exports(
         names: *const u8,
         names_len: usize,
@@ -45,7 +64,14 @@ unsafe extern "C" {
         out: *mut u8,
         out_len: usize,
     ) -> u64;
-    fn wb_data(bytes: *const u8, bytes_len: usize, segment: u32, phase: u32, out: *mut u8, out_len: usize) -> u64;
+    fn wb_data(
+        bytes: *const u8,
+        bytes_len: usize,
+        segment: u32,
+        phase: u32,
+        out: *mut u8,
+        out_len: usize,
+    ) -> u64;
 }
 
 const NO_ANSWER: u64 = u64::MAX;
@@ -79,7 +105,9 @@ impl Input {
         let (o, n) = (out.as_mut_ptr(), out.len());
         unsafe {
             match self {
-                Input::Code { words, mode } => wb_code(words.as_ptr(), words.len(), *mode, phase, o, n),
+                Input::Code { words, mode } => {
+                    wb_code(words.as_ptr(), words.len(), *mode, phase, o, n)
+                }
                 Input::Line(operands) => wb_line(operands.as_ptr(), operands.len(), phase, o, n),
                 Input::Functions(types) => wb_functions(types.as_ptr(), types.len(), phase, o, n),
                 Input::Exports(e) => wb_exports(
@@ -356,7 +384,10 @@ struct Numbers(u64);
 
 impl Numbers {
     fn below(&mut self, limit: u32) -> u32 {
-        self.0 = self.0.wrapping_mul(6364136223846793005).wrapping_add(1442695040888963407);
+        self.0 = self
+            .0
+            .wrapping_mul(6364136223846793005)
+            .wrapping_add(1442695040888963407);
         (((self.0 >> 32) * u64::from(limit)) >> 32) as u32
     }
 
@@ -380,8 +411,9 @@ impl Numbers {
 
 /// The codes that an instruction is taken from: those of common instructions stand more than once.
 const CODES: [u32; 64] = [
-    0, 0, 0, 0, 0, 0, 0, 0, 0, 0, 0, 0, 0, 1, 1, 1, 1, 1, 2, 2, 2, 3, 3, 3, 3, 3, 3, 3, 4, 4, 5, 6, 6, 6, 6, 7, 7, 8, 9, 9, 10, 10, 10, 10,
-    11, 11, 11, 12, 12, 12, 13, 14, 14, 15, 16, 17, 18, 18, 18, 19, 20, 21, 22, 23,
+    0, 0, 0, 0, 0, 0, 0, 0, 0, 0, 0, 0, 0, 1, 1, 1, 1, 1, 2, 2, 2, 3, 3, 3, 3, 3, 3, 3, 4, 4, 5, 6,
+    6, 6, 6, 7, 7, 8, 9, 9, 10, 10, 10, 10, 11, 11, 11, 12, 12, 12, 13, 14, 14, 15, 16, 17, 18, 18,
+    18, 19, 20, 21, 22, 23,
 ];
 
 fn push_instruction(words: &mut Vec<u32>, numbers: &mut Numbers) {
@@ -397,7 +429,11 @@ fn push_instruction(words: &mut Vec<u32>, numbers: &mut Numbers) {
         4 | 5 => {
             let low = numbers.constant();
             words.push(low);
-            words.push(if code == 4 && low < 64 { 0 } else { numbers.constant() });
+            words.push(if code == 4 && low < 64 {
+                0
+            } else {
+                numbers.constant()
+            });
         }
         10 | 11 => {
             words.push(numbers.index());
@@ -437,7 +473,12 @@ fn line_operands(items: usize) -> Vec<u32> {
     let mut numbers = Numbers(2);
     let mut operands = Vec::new();
     for _ in 0..items / CALLS_OF_A_ROW {
-        operands.extend_from_slice(&[numbers.index(), numbers.constant(), numbers.index(), numbers.index()]);
+        operands.extend_from_slice(&[
+            numbers.index(),
+            numbers.constant(),
+            numbers.index(),
+            numbers.index(),
+        ]);
     }
     operands
 }
@@ -454,7 +495,8 @@ fn entries(items: usize, with_modules: bool) -> Entries {
         let name = format!("name_of_{}", numbers.below(1_000_000_000));
         e.names.extend_from_slice(name.as_bytes());
         e.lens.push(name.len() as u32);
-        e.kinds.push([0, 0, 0, 1, 2, 3, 3, 4][numbers.below(8) as usize]);
+        e.kinds
+            .push([0, 0, 0, 1, 2, 3, 3, 4][numbers.below(8) as usize]);
         e.indices.push(numbers.index());
     }
     e
@@ -463,13 +505,22 @@ fn entries(items: usize, with_modules: bool) -> Entries {
 fn input(name: &str, items: usize) -> Input {
     let mut numbers = Numbers(4);
     match name {
-        "calls" => Input::Code { words: code_words(items), mode: 0 },
-        "values" => Input::Code { words: code_words(items), mode: 1 },
+        "calls" => Input::Code {
+            words: code_words(items),
+            mode: 0,
+        },
+        "values" => Input::Code {
+            words: code_words(items),
+            mode: 1,
+        },
         "line" => Input::Line(line_operands(items)),
         "functions" => Input::Functions((0..items).map(|_| numbers.index()).collect()),
         "exports" => Input::Exports(entries(items, false)),
         "imports" => Input::Imports(entries(items, true)),
-        _ => fail(&format!("no workload is named {name}: there are {}", NAMES.join(", "))),
+        _ => fail(&format!(
+            "no workload is named {name}: there are {}",
+            NAMES.join(", ")
+        )),
     }
 }
 
@@ -482,7 +533,9 @@ fn fail(message: &str) -> ! {
 
 /// The checksum FNV-1a of 64 bits.
 fn checksum(bytes: &[u8]) -> u64 {
-    bytes.iter().fold(0xcbf29ce484222325, |sum, &byte| (sum ^ u64::from(byte)).wrapping_mul(0x100000001b3))
+    bytes.iter().fold(0xcbf29ce484222325, |sum, &byte| {
+        (sum ^ u64::from(byte)).wrapping_mul(0x100000001b3)
+    })
 }
 
 /// The library's answer of the phase is these bytes.
@@ -490,14 +543,19 @@ fn check_bytes(name: &str, input: &Input, phase: u32, expected: &[u8]) {
     let mut out = vec![0; expected.len() + 1];
     let n = input.call(phase, &mut out);
     if n != expected.len() as u64 {
-        fail(&format!("{name}, phase {phase}: {n} bytes where {} are right", expected.len()));
+        fail(&format!(
+            "{name}, phase {phase}: {n} bytes where {} are right",
+            expected.len()
+        ));
     }
     if checksum(&out[..expected.len()]) != checksum(expected) || out[expected.len()] != 0 {
         fail(&format!("{name}, phase {phase}: wrong bytes"));
     }
     let mut short = vec![0; expected.len() - 1];
     if input.call(phase, &mut short) != n || short.iter().any(|&byte| byte != 0) {
-        fail(&format!("{name}, phase {phase}: something was written where there is no room"));
+        fail(&format!(
+            "{name}, phase {phase}: something was written where there is no room"
+        ));
     }
 }
 
@@ -521,7 +579,10 @@ fn check_wrong(what: &str, input: Input) {
 }
 
 fn check_wrong_inputs() {
-    let code = |words: &[u32], mode| Input::Code { words: words.to_vec(), mode };
+    let code = |words: &[u32], mode| Input::Code {
+        words: words.to_vec(),
+        mode,
+    };
     check_wrong("mode 2", code(&[1, 1, 18], 2));
     check_wrong("no word", code(&[], 0));
     check_wrong("a word too many", code(&[1, 1, 18, 0], 0));
@@ -619,7 +680,9 @@ fn main() {
     match &arguments[..] {
         [] => {
             check_wrong_inputs();
-            println!("| workload | items | bytes | build | append | module | MB/s | to a copy | straight |");
+            println!(
+                "| workload | items | bytes | build | append | module | MB/s | to a copy | straight |"
+            );
             println!("|---|---|---|---|---|---|---|---|---|");
             for name in NAMES {
                 for items in SIZES {
@@ -633,6 +696,8 @@ fn main() {
             };
             println!("{}", run_once(&input(name, items), phase));
         }
-        _ => fail("usage: driver [once WORKLOAD ITEMS PHASE], where a phase is 0, 1, 2 or straight"),
+        _ => {
+            fail("usage: driver [once WORKLOAD ITEMS PHASE], where a phase is 0, 1, 2 or straight")
+        }
     }
 }

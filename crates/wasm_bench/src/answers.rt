@@ -1,6 +1,7 @@
 // What workloads answer.
-ghost use Rattle.std.specs.Prelude.{◌≡◌, ◌∷◌, MatchResult, ⊤};
+ghost use Rattle.std.specs.Prelude.{◌≡◌, ◌∷◌, MatchResult};
 ghost use Rattle.wasm_bench.specs.Answers.{Gives, Answers};
+ghost use Rattle.wasm_bench.specs.declared.answers.Fault.TheVariants as faults;
 
 use std::alloc::Global;
 use wasm_base::{Module, Refused, Section};
@@ -18,7 +19,7 @@ pub(crate) enum Fault {
 }
 
 impl From<Refused> for Fault {
-    ghost from_gives = { λ _ _. ⊤ };
+    ghost from_gives = { λ _ fault. fault ≡ faults.Refused };
 
     fn from(_refused: Refused) -> Fault {
         Fault::Refused

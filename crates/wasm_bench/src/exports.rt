@@ -1,5 +1,6 @@
 // The export section.
-ghost use Rattle.std.specs.Prelude.{◌≡◌, IfOk, OnErr, length};
+ghost use Rattle.std.specs.Prelude.{◌≡◌, ◌<◌, IfOk, OnErr, MatchResult, length};
+ghost use Rattle.wasm_sections.specs.Exports.{kind_code};
 ghost use Rattle.wasm_bench.specs.Answers.{HasEntries, EntriesAnswer, Outcome};
 
 use crate::answers::{Fault, answer, number};
@@ -8,7 +9,9 @@ use std::alloc::Global;
 use wasm_sections::{ExportKind, ExportSection};
 
 /// The kind of this number.
-fn export_kind(kind: u8) -> Result<ExportKind, Fault> {
+fn export_kind(kind: u8) -> Result<ExportKind, Fault>
+    ensures { MatchResult result (λ exported. kind_code exported ≡ kind) (λ _. 4 < kind) }
+{
     match kind {
         0 => Ok(ExportKind::Func),
         1 => Ok(ExportKind::Table),
