@@ -32,7 +32,8 @@ fn goes_on(last: ValType, ty: ValType) -> bool
     last == ty
 }
 
-/// One more local: the last run has one more where it is of this type, and else a run begins.
+/// One more local: the last run has one more where it is of this type, and else a run begins. After a refused call the runs are of
+/// no use, since the last one may be gone.
 fn add_local<A: Allocator>(runs: &mut Vec<(u32, ValType), A>, ty: ValType) -> R<()>
     ensures more { OnOk result (MoreRuns ty runs.old.items runs.new.items) }
     ensures counted { All IsCounted runs.old.items → OnOk result (All IsCounted runs.new.items) }
