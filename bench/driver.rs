@@ -80,6 +80,7 @@ const SIZES: [usize; 3] = [10_000, 100_000, 1_000_000];
 const NAMES: [&str; 6] = ["calls", "values", "line", "functions", "exports", "imports"];
 const INSTRUCTIONS_OF_A_FUNCTION: usize = 50;
 const CALLS_OF_A_ROW: usize = 8;
+const WINDOW: Duration = Duration::from_secs(3);
 
 /// Names that lie one after another, and a kind and an index for each entry.
 #[derive(Clone, Default)]
@@ -618,51 +619,52 @@ fn check_wrong_inputs() {
 
 // ---- measures
 
-/// The shortest of many runs, in nanoseconds.
-fn best(mut run: impl FnMut()) -> f64 {
+/// The shortest run of each, in nanoseconds. They are run by turns, so that what else the machine does falls on all of them.
+fn best<const N: usize>(mut runs: [&mut dyn FnMut(); N]) -> [f64; N] {
     let begin = Instant::now();
-    let mut best = Duration::MAX;
-    let mut runs = 0;
-    while runs < 5 || begin.elapsed() < Duration::from_millis(400) {
-        let start = Instant::now();
-        run();
-        best = best.min(start.elapsed());
-        runs += 1;
-    }
-    best.as_nanos() as f64
-}
-
-/// What a copy of these bytes takes, in nanoseconds. Small ones are copied many times a run.
-fn copy_time(bytes: &[u8]) -> f64 {
-    let mut target = vec![0u8; bytes.len()];
-    let copies = 1 + 1_000_000 / bytes.len();
-    best(|| {
-        for _ in 0..copies {
-            black_box(&mut target).copy_from_slice(black_box(bytes));
+    let mut best = [Duration::MAX; N];
+    let mut rounds = 0;
+    while rounds < 5 || begin.elapsed() < WINDOW {
+        for (run, best) in runs.iter_mut().zip(&mut best) {
+            let start = Instant::now();
+            run();
+            *best = start.elapsed().min(*best);
         }
-    }) / copies as f64
+        rounds += 1;
+    }
+    best.map(|time| time.as_nanos() as f64)
 }
 
 fn measure(name: &str, items: usize) {
     let input = input(name, items);
     let section = input.section();
     check(name, &input, &section);
-    let phases = [0, 1, 2].map(|phase| {
-        best(|| {
-            black_box(input.call(phase, &mut []));
-        })
-    });
-    let straight = best(|| drop(black_box(input.section())));
-    let copy = copy_time(&section);
+    let phase = |phase| {
+        black_box(input.call(phase, &mut []));
+    };
+    // Few bytes are copied many times a run.
+    let mut target = vec![0u8; section.len()];
+    let copies = 1 + 100_000 / section.len();
+    let [build, append, module, straight, copy] = best([
+        &mut || phase(0),
+        &mut || phase(1),
+        &mut || phase(2),
+        &mut || drop(black_box(input.section())),
+        &mut || {
+            for _ in 0..copies {
+                black_box(&mut target).copy_from_slice(black_box(&section));
+            }
+        },
+    ]);
     let of_an_item = |time: f64| time / items as f64;
     println!(
         "| {name} | {items} | {:.2} | {:.2} | {:.2} | {:.2} | {:.0} | {:.0} | {:.2} |",
         section.len() as f64 / items as f64,
-        of_an_item(phases[0]),
-        of_an_item(phases[1]),
-        of_an_item(phases[2]),
-        section.len() as f64 * 1000.0 / phases[1],
-        phases[1] / copy,
+        of_an_item(build),
+        of_an_item(append),
+        of_an_item(module),
+        section.len() as f64 * 1000.0 / append,
+        append * copies as f64 / copy,
         of_an_item(straight),
     );
 }
