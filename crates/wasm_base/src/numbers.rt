@@ -71,7 +71,7 @@ fn put_groups<A: Allocator>(sink: &mut Vec<u8, A>, negative: bool, limit: u64, n
 }
 
 /// Appends the groups of `n`, after one request for memory.
-#[inline(never)]
+#[inline(always)]
 fn append_groups<A: Allocator>(sink: &mut Vec<u8, A>, negative: bool, limit: u64, n: u64) -> R<()>
     requires { 0 < limit × limit ≤ 0x80 }
     ensures { Appends (groups_text negative limit n) ⊤ sink.old sink.new result }
@@ -79,6 +79,39 @@ fn append_groups<A: Allocator>(sink: &mut Vec<u8, A>, negative: bool, limit: u64
     sink.reserve(groups_size(negative, limit, n))?;
     put_groups(sink, negative, limit, n);
     Ok(())
+}
+
+/// Appends an unsigned number of two groups.
+#[tactic(auto, using(crate::proofs::NumberTexts::two_groups))]
+#[inline]
+fn append_two_groups<A: Allocator>(sink: &mut Vec<u8, A>, n: u64) -> R<()>
+    requires { 0x80 ≤ n × n < 0x4000 }
+    ensures { Appends (unsigned_text n) ⊤ sink.old sink.new result }
+{
+    sink.reserve(2)?;
+    sink.push_reserved(group_before_others(false, n));
+    sink.push_reserved(group_at_the_end(false, n / 0x80));
+    Ok(())
+}
+
+/// Appends an unsigned number of several groups.
+#[inline(never)]
+fn append_long_unsigned<A: Allocator>(sink: &mut Vec<u8, A>, n: u64) -> R<()>
+    requires { 0x80 ≤ n }
+    ensures { Appends (unsigned_text n) ⊤ sink.old sink.new result }
+{
+    if n < 0x4000 {
+        return append_two_groups(sink, n);
+    }
+    append_groups(sink, false, UNSIGNED_LIMIT, n)
+}
+
+/// Appends a signed number of several groups.
+#[inline(never)]
+fn append_long_signed<A: Allocator>(sink: &mut Vec<u8, A>, negative: bool, n: u64) -> R<()>
+    ensures { Appends (groups_text negative SIGNED_LIMIT n) ⊤ sink.old sink.new result }
+{
+    append_groups(sink, negative, SIGNED_LIMIT, n)
 }
 
 /// Most numbers have one byte, which is written in place.
@@ -91,7 +124,7 @@ fn append_unsigned<A: Allocator>(sink: &mut Vec<u8, A>, n: u64) -> R<()>
         sink.push(n as u8)?;
         return Ok(());
     }
-    append_groups(sink, false, UNSIGNED_LIMIT, n)
+    append_long_unsigned(sink, n)
 }
 
 #[tactic(auto, using(crate::proofs::NumberTexts::one_group))]
@@ -105,7 +138,7 @@ fn append_signed<A: Allocator>(sink: &mut Vec<u8, A>, n: i64) -> R<()>
         sink.push(group_at_the_end(negative, n))?;
         return Ok(());
     }
-    append_groups(sink, negative, SIGNED_LIMIT, n)
+    append_long_signed(sink, negative, n)
 }
 
 /// One byte.

@@ -1,6 +1,10 @@
 // All instructions.
-ghost use Rattle.std.specs.Prelude.{◌≡◌, ◌≢◌, IfOk};
+ghost use Rattle.std.specs.Prelude.{◌≡◌, ◌≢◌, ◌++◌, ◌∷◌, [], ⊤, IfOk};
 ghost use Rattle.wasm_base.specs.Calls.{Appends};
+ghost use Rattle.wasm_base.specs.Numbers.{unsigned_text};
+ghost use Rattle.wasm_base.specs.Texts.{vec_text, VecFits};
+ghost use Rattle.wasm_base.specs.Types.{heap_text};
+ghost use Rattle.wasm_immediates.specs.Immediates.{block_text, catch_text, handle_text};
 ghost use Rattle.wasm_insn.specs.Arguments.{arguments_text, arguments_fit};
 ghost use Rattle.wasm_insn.specs.Instructions.{row_of, instruction_text, InstructionFits, ReadsInstruction, cast_flag_of};
 
@@ -245,6 +249,57 @@ fn cast_flag(from: RefType, to: RefType) -> u8
     u8::from(from.nullable) + 2 * u8::from(to.nullable)
 }
 
+// Lists and casts are rare. They are appended out of line, so that no other instruction clears room for their parts.
+
+/// The labels of a table, and the default one.
+#[inline(never)]
+fn encode_labels<A: Allocator>(labels: &[u32], default: u32, sink: &mut Vec<u8, A>) -> R<()>
+    ensures { Appends (vec_text unsigned_text labels.now ++ unsigned_text default) (VecFits (λ _. ⊤) labels.now × ⊤) sink.old sink.new result }
+{
+    (labels, default).encode(sink)
+}
+
+/// The type of a block, and what it catches.
+#[inline(never)]
+fn encode_try_table<A: Allocator>(
+    block_type: BlockType,
+    catches: &[Catch],
+    sink: &mut Vec<u8, A>,
+) -> R<()>
+    ensures { Appends (block_text block_type ++ vec_text catch_text catches.now) (⊤ × VecFits (λ _. ⊤) catches.now) sink.old sink.new result }
+{
+    (block_type, catches).encode(sink)
+}
+
+/// The index of a type, and handles.
+#[inline(never)]
+fn encode_resume<A: Allocator>(index: u32, handles: &[Handle], sink: &mut Vec<u8, A>) -> R<()>
+    ensures { Appends (unsigned_text index ++ vec_text handle_text handles.now) (⊤ × VecFits (λ _. ⊤) handles.now) sink.old sink.new result }
+{
+    (index, handles).encode(sink)
+}
+
+/// The indices of a type and of a tag, and handles.
+#[inline(never)]
+fn encode_resume_throw<A: Allocator>(
+    index: u32,
+    tag: u32,
+    handles: &[Handle],
+    sink: &mut Vec<u8, A>,
+) -> R<()>
+    ensures { Appends (unsigned_text index ++ (unsigned_text tag ++ vec_text handle_text handles.now)) (⊤ × ⊤ × VecFits (λ _. ⊤) handles.now) sink.old sink.new result }
+{
+    (index, tag, handles).encode(sink)
+}
+
+/// Flags, a label, and the two heap types of a cast.
+#[inline(never)]
+fn encode_cast<A: Allocator>(label: u32, from: RefType, to: RefType, sink: &mut Vec<u8, A>) -> R<()>
+    ensures { Appends (cast_flag_of from to ∷ [] ++ (unsigned_text label ++ (heap_text from.heap_type ++ heap_text to.heap_type))) (⊤ × ⊤ × (⊤ × ⊤)) sink.old sink.new result }
+{
+    (cast_flag(from, to), label, (from.heap_type, to.heap_type)).encode(sink)
+}
+
 impl<'a, A: Allocator> Instruction<'a, A> {
     /// The op of the table.
     pub fn op(&self) -> Op
@@ -434,7 +489,7 @@ impl<'a, A: Allocator> Instruction<'a, A> {
             | Instruction::TableSize(a)
             | Instruction::TableFill(a)
             | Instruction::MemoryDiscard(a) => a.encode(sink),
-            Instruction::BrTable(a, b) => (a.as_slice(), *b).encode(sink),
+            Instruction::BrTable(a, b) => encode_labels(a.as_slice(), *b, sink),
             Instruction::CallIndirect {
                 type_index,
                 table_index,
@@ -445,7 +500,7 @@ impl<'a, A: Allocator> Instruction<'a, A> {
             } => (*type_index, *table_index).encode(sink),
             Instruction::TypedSelect(a) => slice::from_ref(a).encode(sink),
             Instruction::TypedSelectMulti(a) => a.as_slice().encode(sink),
-            Instruction::TryTable(a, b) => (*a, b.as_slice()).encode(sink),
+            Instruction::TryTable(a, b) => encode_try_table(*a, b.as_slice(), sink),
             Instruction::I32Load(a)
             | Instruction::I64Load(a)
             | Instruction::F32Load(a)
@@ -551,12 +606,12 @@ impl<'a, A: Allocator> Instruction<'a, A> {
             | Instruction::ResumeThrowRef {
                 cont_type_index: a,
                 resume_table: b,
-            } => (*a, b.as_slice()).encode(sink),
+            } => encode_resume(*a, b.as_slice(), sink),
             Instruction::ResumeThrow {
                 cont_type_index: a,
                 tag_index: b,
                 resume_table: c,
-            } => (*a, *b, c.as_slice()).encode(sink),
+            } => encode_resume_throw(*a, *b, c.as_slice(), sink),
             Instruction::BrOnCast {
                 relative_depth: a,
                 from_ref_type: b,
@@ -576,7 +631,7 @@ impl<'a, A: Allocator> Instruction<'a, A> {
                 relative_depth: a,
                 from_ref_type: b,
                 to_ref_type: c,
-            } => (cast_flag(*b, *c), *a, (b.heap_type, c.heap_type)).encode(sink),
+            } => encode_cast(*a, *b, *c, sink),
             Instruction::Unreachable
             | Instruction::Nop
             | Instruction::Else
