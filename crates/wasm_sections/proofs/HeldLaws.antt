@@ -8,7 +8,7 @@ use Rattle.wasm_base.specs.Laws.{FitsUnsigned}
 use Rattle.wasm_base.specs.Numbers.{unsigned_text}
 use Rattle.wasm_sections.specs.Exports.{export_text, IsExport, item_of, export}
 use Rattle.wasm_sections.specs.Globals.{global_item_text, IsGivenGlobal, global_item_of, global_item}
-use Rattle.wasm_sections.specs.Imports.{imports_text, IsImports, imports_item, import_format}
+use Rattle.wasm_sections.specs.Imports.{import_text, IsImport, import_format}
 use Rattle.wasm_sections.specs.Laws.{HoldsMore}
 use Rattle.wasm_sections.specs.Memories.{memory_text, IsMemory, memory_type}
 use Rattle.wasm_sections.specs.Tables.{table_item_text, IsGivenTable, table_item_of, table_item}
@@ -51,8 +51,8 @@ globals-held = holds_more global_item_text IsGivenGlobal global_item_of global_i
 pub exports-held : HoldsMore export_text IsExport item_of export
 exports-held = holds_more export_text IsExport item_of export
 
-pub imports-held : HoldsMore imports_text IsImports imports_item import_format
-imports-held = holds_more imports_text IsImports imports_item import_format
+pub imports-held : HoldsMore import_text IsImport (λ import. import) import_format
+imports-held = holds_more import_text IsImport (λ import. import) import_format
 
 pub tags-held : HoldsMore tag_text IsTag (λ tag. tag) tag_type
 tags-held = holds_more tag_text IsTag (λ tag. tag) tag_type

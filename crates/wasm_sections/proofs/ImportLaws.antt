@@ -1,26 +1,20 @@
 -- Imports are read uniquely.
-use Rattle.std.proofs.Common.{◌≡◌, ◌≢◌, ℕ, ◌<◌, ◌≤◌, List, [], ◌∷◌, ◌++◌, length, map, Bool, true, false, refl, sym, ap, subst, arith, lit<, inl, inr, length-append}
-use Rattle.std.proofs.lemmas.List.{length-map}
+use Rattle.std.proofs.Common.{◌≡◌, ◌≢◌, ℕ, ◌<◌, ◌≤◌, List, [], ◌∷◌, ◌++◌, Bool, true, false, refl, ap, subst, arith, lit<, inl, inr, length-append}
 use Rattle.std.proofs.lemmas.Str.{IsUtf8-nil}
-use Rattle.std.proofs.lemmas.List.Elements.{All-head, All-tail}
-use Rattle.std.specs.List.{All, flat_map}
-use Rattle.wasm_base.specs.Cow.{items_of}
 use Rattle.wasm_base.specs.Entries.{ItemLaws}
-use Rattle.wasm_base.specs.Formats.{Format, u32, name, byte, vec, members, tagged, impossible, pair, when}
+use Rattle.wasm_base.specs.Formats.{Format, name, byte, vec, tagged, impossible, pair, when}
 use Rattle.wasm_base.specs.Laws.{NameFits}
 use Rattle.wasm_base.specs.Numbers.{shortest, unsigned_text}
 use Rattle.wasm_base.specs.Reading.{UniqueReading, BeginsWith}
-use Rattle.wasm_base.specs.Texts.{frame_text, FrameFits, vec_text, VecFits}
+use Rattle.wasm_base.specs.Texts.{frame_text, FrameFits, vec_text}
 use Rattle.wasm_base.proofs.BaseLaws.{name-alone}
 use Rattle.wasm_base.proofs.FormatLaws.{TellsTag, AllValues, mapped-alone, pair-alone, vec-alone, when-alone, impossible-alone, byte-alone, one_of-alone, tagged-alone, choice_of, choice_begins, begins_mapped, values_mapped, values_tagged, none_in_common}
 use Rattle.wasm_base.proofs.NumberLaws.{u32-alone}
 use Rattle.wasm_base.proofs.NumberTexts.{groups_text-last}
-use Rattle.wasm_base.proofs.TextLaws.{tagged_spelled, u32_spelled, name_spelled}
-use Rattle.wasm_sections.specs.Imports.{entity_text, IsEntity, entity_tags, entity, Imported, single, named, alike, compact_text, imports_text, compact_item, imports_item, IsCompact, IsImports, is_empty, alike_of, group_tags, group, after_name, import_of, import_format}
+use Rattle.wasm_base.proofs.TextLaws.{tagged_spelled, u32_spelled, name_spelled, vec_spelled}
+use Rattle.wasm_sections.specs.Imports.{entity_text, IsEntity, entity_tags, entity, Imported, single, named, alike, ImportItem, named_text, imported_text, import_text, IsNamed, IsImported, IsImport, is_empty, alike_of, group_tags, group, after_name, import_of, import_format}
 use Rattle.wasm_sections.specs.declared.import.EntityType.{EntityType}
 use Rattle.wasm_sections.specs.declared.import.EntityType.TheVariants.{Function, Table, Memory, Global, Tag, FunctionExact}
-use Rattle.wasm_sections.specs.declared.import.Imports.{Imports}
-use Rattle.wasm_sections.specs.declared.import.Imports.TheVariants as groups
 use Rattle.wasm_sections.proofs.GlobalLaws.{global-alone, global_spelled}
 use Rattle.wasm_sections.proofs.MemoryLaws.{memory-alone, memory_spelled}
 use Rattle.wasm_sections.proofs.TableLaws.{table-alone, table_spelled}
@@ -126,69 +120,45 @@ import-alone =
 
 -- ---- texts
 
-members_viewed : {T X : Type 0} (F : Format X) (Fits : T → Type 0) (text : T → List ℕ) (view : T → X) → ((x : T) → Fits x → F shortest (text x) (view x)) → (xs : List T) → All Fits xs
-    → members F shortest (flat_map text xs) (map view xs)
-members_viewed F Fits text view f [] h = refl
-members_viewed F Fits text view f (x ∷ xs) h = (text x, flat_map text xs, refl, f x (All-head Fits x xs h), members_viewed F Fits text view f xs (All-tail Fits x xs h))
-
--- a vector of what members say
-vec_viewed : {T X : Type 0} (F : Format X) (Fits : T → Type 0) (text : T → List ℕ) (view : T → X) → ((x : T) → Fits x → F shortest (text x) (view x)) → (xs : List T) → VecFits Fits xs
-    → vec F shortest (vec_text text xs) (map view xs)
-vec_viewed F Fits text view f xs h = record {
-  front = unsigned_text (length xs);
-  back = flat_map text xs;
-  joined = refl;
-  first = subst (λ n. u32 shortest (unsigned_text (length xs)) n) (sym (length-map xs view)) (u32_spelled (length xs) (omega (arith, h.count)));
-  second = members_viewed F Fits text view f xs h.members;
-}
-
 empty_name : name shortest (0x00 ∷ []) []
 empty_name = subst (λ s. name shortest (s ++ []) []) (groups_text-last false 0x80 0 (lit< tt)) (name_spelled [] IsUtf8-nil (omega arith))
 
-compact_spelled : (i : _) → IsCompact i → pair name entity shortest (compact_text i) (compact_item i)
-compact_spelled i plain = pair_spelled name entity (frame_text i.name.now) (entity_text i.ty) i.name.now i.ty (name_spelled i.name.now plain.0.0 plain.0.1) (entity_spelled i.ty plain.1)
+named_spelled : (i : List ℕ × EntityType) → IsNamed i → pair name entity shortest (named_text i) i
+named_spelled i plain = pair_spelled name entity (frame_text i.0) (entity_text i.1) i.0 i.1 (name_spelled i.0 plain.0.0 plain.0.1) (entity_spelled i.1 plain.1)
 
 -- what follows the name of a module, and after an empty name a group
 after_module : (item : List ℕ) (spelling back : List ℕ) (x : Imported) → name shortest spelling item → after_name item shortest back x → tagged name after_name shortest (spelling ++ back) x
 after_module item spelling back x h g = ((item, x), refl, record { front = spelling; back = back; joined = refl; first = h; second = g })
 
-imports_spelled : (given : Imports) → IsImports given → FrameFits (imports_text given) → import_format shortest (imports_text given) (imports_item given)
-imports_spelled (groups.Single i) plain fits =
-    let back = frame_text i.name.now ++ entity_text i.ty in
-    let whole = length-append (frame_text i.«module».now) back in
-    let named_text : FrameFits back = omega (arith, fits, whole) in (
-      (i.«module».now, single i.name.now i.ty),
+group_spelled : (back : List ℕ) (x : Imported) → group shortest back x → tagged name after_name shortest (0x00 ∷ back) x
+group_spelled back x h = after_module [] (0x00 ∷ []) back x empty_name (inr h)
+
+imported_spelled : (x : Imported) → IsImported x → FrameFits (imported_text x) → tagged name after_name shortest (imported_text x) x
+imported_spelled (single n ty) plain fits =
+    after_module n (frame_text n) (entity_text ty) (single n ty) (front_name_spelled n (entity_text ty) plain.0 fits) (inl (ty, refl, entity_spelled ty plain.1))
+imported_spelled (named items) plain fits =
+    let content = vec_text named_text items in
+    group_spelled (0x7F ∷ content) (named items) (tagged_spelled shortest 0x7F content (named items) (items, refl, vec_spelled (pair name entity) IsNamed named_text named_spelled items plain))
+imported_spelled (alike ty names) plain fits =
+    let listed = vec_text frame_text names in
+    let spelled = vec_spelled name NameFits frame_text (λ n h. name_spelled n h.0 h.1) names plain.1 in
+    group_spelled (0x7E ∷ (entity_text ty ++ listed)) (alike ty names)
+    (tagged_spelled shortest 0x7E (entity_text ty ++ listed) (alike ty names) (
+      (ty, names),
       refl,
-      pair_spelled name (tagged name after_name) (frame_text i.«module».now) back i.«module».now (single i.name.now i.ty)
-          (front_name_spelled i.«module».now back plain.0 fits)
-          (after_module i.name.now (frame_text i.name.now) (entity_text i.ty) (single i.name.now i.ty) (front_name_spelled i.name.now (entity_text i.ty) plain.1 named_text) (inl (i.ty, refl, entity_spelled i.ty plain.2))),
-    )
-imports_spelled (groups.Compact1 m items) plain fits =
-    let members = map compact_item (items_of items) in
-    let content = vec_text compact_text (items_of items) in (
-      (m.now, named members),
+      pair_spelled entity (vec name) (entity_text ty) listed ty names (entity_spelled ty plain.0) spelled,
+    ))
+
+import_spelled : (i : ImportItem) → IsImport i → FrameFits (import_text i) → import_format shortest (import_text i) i
+import_spelled i plain fits =
+    let back = imported_text i.imported in
+    let whole = length-append (frame_text i.module_name) back in (
+      (i.module_name, i.imported),
       refl,
-      pair_spelled name (tagged name after_name) (frame_text m.now) (0x00 ∷ 0x7F ∷ content) m.now (named members)
-          (front_name_spelled m.now (0x00 ∷ 0x7F ∷ content) plain.0 fits)
-          (after_module [] (0x00 ∷ []) (0x7F ∷ content) (named members) empty_name
-          (inr (tagged_spelled shortest 0x7F content (named members) (members, refl, vec_viewed (pair name entity) IsCompact compact_text compact_item compact_spelled (items_of items) plain.1)))),
-    )
-imports_spelled (groups.Compact2 m ty names) plain fits =
-    let said = map (λ n. n.now) (items_of names) in
-    let listed = vec_text (λ n. frame_text n.now) (items_of names) in
-    let content = entity_text ty ++ listed in (
-      (m.now, alike ty said),
-      refl,
-      pair_spelled name (tagged name after_name) (frame_text m.now) (0x00 ∷ 0x7E ∷ content) m.now (alike ty said)
-          (front_name_spelled m.now (0x00 ∷ 0x7E ∷ content) plain.0 fits)
-          (after_module [] (0x00 ∷ []) (0x7E ∷ content) (alike ty said) empty_name
-          (inr (tagged_spelled shortest 0x7E content (alike ty said) (
-            (ty, said),
-            refl,
-            pair_spelled entity (vec name) (entity_text ty) listed ty said (entity_spelled ty plain.1)
-                (vec_viewed name (λ n. NameFits n.now) (λ n. frame_text n.now) (λ n. n.now) (λ n h. name_spelled n.now h.0 h.1) (items_of names) plain.2),
-          )))),
+      pair_spelled name (tagged name after_name) (frame_text i.module_name) back i.module_name i.imported
+          (front_name_spelled i.module_name back plain.0 fits)
+          (imported_spelled i.imported plain.1 (omega (arith, fits, whole))),
     )
 
-pub import_laws : ItemLaws imports_text IsImports imports_item import_format
-import_laws = record { alone = import-alone; spelled = imports_spelled }
+pub import_laws : ItemLaws import_text IsImport (λ import. import) import_format
+import_laws = record { alone = import-alone; spelled = import_spelled }

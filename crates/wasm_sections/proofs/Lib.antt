@@ -1,4 +1,5 @@
 pub mod Parts
+pub mod ViewedLists
 pub mod FlagLaws
 pub mod NumberLaws
 pub mod FunctionLaws

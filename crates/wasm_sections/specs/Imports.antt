@@ -58,30 +58,40 @@ pub record ImportItem : Type 0 where
   pub module_name : List ℕ
   pub imported : Imported
 
-abbrev pub import_text : Import → List ℕ
-import_text i = frame_text i.«module».now ++ (frame_text i.name.now ++ entity_text i.ty)
-
-abbrev pub ImportFits : Import → Type 0
-ImportFits i = FrameFits i.«module».now × FrameFits i.name.now
-
-abbrev pub compact_text : ImportCompact → List ℕ
-compact_text i = frame_text i.name.now ++ entity_text i.ty
-
-abbrev pub CompactFits : ImportCompact → Type 0
-CompactFits i = FrameFits i.name.now
+-- a name of a group, and the entity of this name
+abbrev pub named_text : List ℕ × EntityType → List ℕ
+named_text i = frame_text i.0 ++ entity_text i.1
 
 -- An empty name and a byte that is no kind's stand before a group.
-abbrev pub imports_text : Imports → List ℕ
-imports_text (groups.Single i) = import_text i
-imports_text (groups.Compact1 m items) = frame_text m.now ++ (0x00 ∷ 0x7F ∷ [] ++ vec_text compact_text (items_of items))
-imports_text (groups.Compact2 m ty names) = frame_text m.now ++ (0x00 ∷ 0x7E ∷ [] ++ (entity_text ty ++ vec_text (λ n. frame_text n.now) (items_of names)))
+abbrev pub imported_text : Imported → List ℕ
+imported_text (single n ty) = frame_text n ++ entity_text ty
+imported_text (named items) = 0x00 ∷ 0x7F ∷ vec_text named_text items
+imported_text (alike ty names) = 0x00 ∷ 0x7E ∷ (entity_text ty ++ vec_text frame_text names)
 
-abbrev pub ImportsFits : Imports → Type 0
-ImportsFits (groups.Single i) = ImportFits i
-ImportsFits (groups.Compact1 m items) = FrameFits m.now × VecFits CompactFits (items_of items)
-ImportsFits (groups.Compact2 m ty names) = FrameFits m.now × VecFits (λ n. FrameFits n.now) (items_of names)
+abbrev pub import_text : ImportItem → List ℕ
+import_text i = frame_text i.module_name ++ imported_text i.imported
 
--- ---- what imports say
+abbrev pub ImportedFits : Imported → Type 0
+ImportedFits (single n ty) = FrameFits n
+ImportedFits (named items) = VecFits (λ i. FrameFits i.0) items
+ImportedFits (alike ty names) = VecFits FrameFits names
+
+abbrev pub ImportFits : ImportItem → Type 0
+ImportFits i = FrameFits i.module_name × ImportedFits i.imported
+
+abbrev pub IsNamed : List ℕ × EntityType → Type 0
+IsNamed i = NameFits i.0 × IsEntity i.1
+
+abbrev pub IsImported : Imported → Type 0
+IsImported (single n ty) = IsUtf8 n × IsEntity ty
+IsImported (named items) = VecFits IsNamed items
+IsImported (alike ty names) = IsEntity ty × VecFits NameFits names
+
+-- Names are UTF-8, numbers in range, and the lists of groups fit.
+abbrev pub IsImport : ImportItem → Type 0
+IsImport i = IsUtf8 i.module_name × IsImported i.imported
+
+-- ---- what calls hand in
 
 abbrev pub import_item : Import → ImportItem
 import_item i = record { module_name = i.«module».now; imported = single i.name.now i.ty }
@@ -89,19 +99,11 @@ import_item i = record { module_name = i.«module».now; imported = single i.nam
 abbrev pub compact_item : ImportCompact → List ℕ × EntityType
 compact_item i = (i.name.now, i.ty)
 
-abbrev pub imports_item : Imports → ImportItem
+-- what imports say, whether their lists are borrowed or owned
+abbrev pub imports_item : {A : Type 0} → Imports A → ImportItem
 imports_item (groups.Single i) = import_item i
 imports_item (groups.Compact1 m items) = record { module_name = m.now; imported = named (map compact_item (items_of items)) }
 imports_item (groups.Compact2 m ty names) = record { module_name = m.now; imported = alike ty (map (λ n. n.now) (items_of names)) }
-
-abbrev pub IsCompact : ImportCompact → Type 0
-IsCompact i = NameFits i.name.now × IsEntity i.ty
-
--- Names are UTF-8, numbers in range, and the lists of groups fit.
-abbrev pub IsImports : Imports → Type 0
-IsImports (groups.Single i) = IsUtf8 i.«module».now × IsUtf8 i.name.now × IsEntity i.ty
-IsImports (groups.Compact1 m items) = IsUtf8 m.now × VecFits IsCompact (items_of items)
-IsImports (groups.Compact2 m ty names) = IsUtf8 m.now × IsEntity ty × VecFits (λ n. NameFits n.now) (items_of names)
 
 -- ---- format
 

@@ -5,18 +5,16 @@ ghost use Rattle.wasm_base.specs.Texts.{frame_text, FrameFits};
 ghost use Rattle.wasm_base.specs.declared.refused.Refused.TheVariants.{TooLong};
 ghost use Rattle.wasm_sections.specs.Imports.{
   entity_text,
+  ImportItem,
   import_text,
   ImportFits,
-  compact_text,
-  CompactFits,
-  imports_text,
-  ImportsFits,
-  ImportItem,
-  imports_item,
-  IsImports,
+  IsImport,
   import_format,
+  named_text,
+  import_item,
+  compact_item,
+  imports_item,
 };
-ghost use Rattle.wasm_sections.specs.declared.import.Imports.{Imports as Given};
 ghost use Rattle.wasm_sections.specs.declared.import.EntityType.TheVariants as entities;
 
 use crate::counted_section::{CountedSection, ItemKind, RecordOf};
@@ -118,28 +116,27 @@ pub struct ImportCompact<'a> {
     pub ty: EntityType,
 }
 
-/// An import, or a group of imports from one module.
+/// An import, or a group of imports from one module. A section takes lists that are borrowed, or owned in memory of its own allocator's kind.
 #[derive(Drop, Debug)]
-pub enum Imports<'a> {
+pub enum Imports<'a, A: Allocator = Global> {
     Single(Import<'a>),
     /// Items of types of their own.
     Compact1 {
         module: &'a str,
-        items: CowSlice<'a, ImportCompact<'a>>,
+        items: CowSlice<'a, ImportCompact<'a>, A>,
     },
     /// Items of one type.
     Compact2 {
         module: &'a str,
         ty: EntityType,
-        names: CowSlice<'a, &'a str>,
+        names: CowSlice<'a, &'a str, A>,
     },
 }
 
-impl Imports<'_> {
+impl<A: Allocator + Copy> Imports<'_, A> {
     /// The same imports; a list that is owned is copied.
     pub fn clone(&self) -> R<Self>
-        ensures text { IfOk result (λ imports. imports_text imports ≡ imports_text self.now) }
-        ensures item { IfOk result (λ imports. imports_item imports ≡ imports_item self.now) }
+        ensures same { IfOk result (λ imports. imports_item imports ≡ imports_item self.now) }
         ensures memory { result ≢ Err TooLong }
     {
         match self {
@@ -159,9 +156,9 @@ impl Imports<'_> {
 
 /// The two names, and the type.
 impl Encode for Import<'_> {
-    ghost text = { import_text };
+    ghost text = { λ import. import_text (import_item import) };
 
-    ghost fits = { ImportFits };
+    ghost fits = { λ import. ImportFits (import_item import) };
 
     fn encode<A: Allocator>(&self, sink: &mut Vec<u8, A>) -> R<()> {
         (self.module, self.name, self.ty).encode(sink)
@@ -170,9 +167,9 @@ impl Encode for Import<'_> {
 
 /// The name, and the type.
 impl Encode for ImportCompact<'_> {
-    ghost text = { compact_text };
+    ghost text = { λ import. named_text (compact_item import) };
 
-    ghost fits = { CompactFits };
+    ghost fits = { λ import. FrameFits import.name.now };
 
     fn encode<A: Allocator>(&self, sink: &mut Vec<u8, A>) -> R<()> {
         (self.name, self.ty).encode(sink)
@@ -180,12 +177,12 @@ impl Encode for ImportCompact<'_> {
 }
 
 /// The import; or the name of the module, two bytes that no import has there, and the group.
-impl Encode for Imports<'_> {
-    ghost text = { imports_text };
+impl<A: Allocator> Encode for Imports<'_, A> {
+    ghost text = { λ imports. import_text (imports_item imports) };
 
-    ghost fits = { ImportsFits };
+    ghost fits = { λ imports. ImportFits (imports_item imports) };
 
-    fn encode<A: Allocator>(&self, sink: &mut Vec<u8, A>) -> R<()> {
+    fn encode<B: Allocator>(&self, sink: &mut Vec<u8, B>) -> R<()> {
         match self {
             Imports::Single(import) => import.encode(sink),
             Imports::Compact1 { module, items } => {
@@ -202,15 +199,15 @@ impl ItemKind for ImportItems {
     ghost use Rattle.wasm_base.specs.SectionId.{number_of};
     ghost use Rattle.wasm_base.specs.declared.section_id.SectionId.TheVariants as ids;
 
-    ghost Record = { Given };
+    ghost Record = { ImportItem };
 
     ghost Item = { ImportItem };
 
-    ghost record_text = { imports_text };
+    ghost record_text = { import_text };
 
-    ghost is_plain = { IsImports };
+    ghost is_plain = { IsImport };
 
-    ghost normal_form = { imports_item };
+    ghost normal_form = { λ import. import };
 
     ghost item_format = { import_format };
 
@@ -235,8 +232,8 @@ impl<A: Allocator> ImportSection<A> {
     }
 
     /// Adds an import or a group of imports, as one entry. A refused call leaves the section as it was.
-    pub fn imports(&mut self, imports: Imports<'_>) -> R<()>
-        ensures { Adds (imports_text imports.entry) (ImportsFits imports.entry) self.old self.new result }
+    pub fn imports(&mut self, imports: Imports<'_, A>) -> R<()>
+        ensures { Adds (import_text (imports_item imports.entry)) (ImportFits (imports_item imports.entry)) self.old self.new result }
     {
         self.add_record(&imports)
     }

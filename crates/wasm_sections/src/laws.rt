@@ -8,7 +8,7 @@ ghost use Rattle.wasm_base.specs.Numbers.{unsigned_text};
 ghost use Rattle.wasm_base.specs.Reading.{UniqueReading, IsUniqueWide};
 ghost use Rattle.wasm_sections.specs.Exports.{export_text, IsExport, item_of, export};
 ghost use Rattle.wasm_sections.specs.Globals.{global_type, global_item_text, IsGivenGlobal, global_item_of, global_item};
-ghost use Rattle.wasm_sections.specs.Imports.{imports_text, IsImports, imports_item, import_format, entity};
+ghost use Rattle.wasm_sections.specs.Imports.{import_text, IsImport, import_format, entity};
 ghost use Rattle.wasm_sections.specs.Laws.{HoldsMore};
 ghost use Rattle.wasm_sections.specs.Memories.{memory_text, IsMemory, memory_type};
 ghost use Rattle.wasm_sections.specs.Tables.{table_type, table_item_text, IsGivenTable, table_item_of, table_item};
@@ -34,7 +34,7 @@ pub fn sections()
     ensures memory_items { ItemLaws memory_text IsMemory (λ memory. memory) memory_type }
     ensures global_items { ItemLaws global_item_text IsGivenGlobal global_item_of global_item }
     ensures export_items { ItemLaws export_text IsExport item_of export }
-    ensures import_items { ItemLaws imports_text IsImports imports_item import_format }
+    ensures import_items { ItemLaws import_text IsImport (λ import. import) import_format }
     ensures tag_items { ItemLaws tag_text IsTag (λ tag. tag) tag_type }
 {}
 
@@ -62,6 +62,6 @@ pub fn calls()
     ensures memories { HoldsMore memory_text IsMemory (λ memory. memory) memory_type }
     ensures globals { HoldsMore global_item_text IsGivenGlobal global_item_of global_item }
     ensures exports { HoldsMore export_text IsExport item_of export }
-    ensures imports { HoldsMore imports_text IsImports imports_item import_format }
+    ensures imports { HoldsMore import_text IsImport (λ import. import) import_format }
     ensures tags { HoldsMore tag_text IsTag (λ tag. tag) tag_type }
 {}

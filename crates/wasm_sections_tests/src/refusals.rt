@@ -323,18 +323,90 @@ fn parts_of_imports(rt: HostRuntime) -> Result<(), Fail> {
     let items = [ImportCompact { name: "a", ty }];
     check_part(&rt, &heap, &IMPORT, &IMPORT_BYTES)?;
     check_part(&rt, &heap, &items[0], &[1, b'a', 0, 0])?;
-    check_part(&rt, &heap, &Imports::Single(IMPORT), &IMPORT_BYTES)?;
-    let named = Imports::Compact1 {
+    let single: Imports<'_> = Imports::Single(IMPORT);
+    check_part(&rt, &heap, &single, &IMPORT_BYTES)?;
+    let named: Imports<'_> = Imports::Compact1 {
         module: "m",
         items: CowSlice::Borrowed(&items),
     };
     check_part(&rt, &heap, &named, &[1, b'm', 0, 127, 1, 1, b'a', 0, 0])?;
-    let alike = Imports::Compact2 {
+    let alike: Imports<'_> = Imports::Compact2 {
         module: "m",
         ty,
         names: CowSlice::Borrowed(&["a"]),
     };
     check_part(&rt, &heap, &alike, &[1, b'm', 0, 126, 0, 0, 1, 1, b'a'])
+}
+
+/// Imports whose lists are in memory that is refused.
+type OwnedImports<'h> = Imports<'h, &'h Refusing<Global>>;
+
+/// The one request of a clone of an owned list is refused, and then granted. The imports are as they were.
+fn check_clone_of_imports<'h>(
+    rt: &impl Abort,
+    heap: &'h Refusing<Global>,
+    imports: OwnedImports<'h>,
+    expected: &[u8],
+) -> Result<(), Fail> {
+    heap.refuse(1);
+    assert_eq!(rt; imports.clone().err(), Some(Refused::Memory));
+    check_part(rt, heap, &imports, expected)?;
+    heap.refuse(2);
+    let copy = imports.clone()?;
+    assert!(rt; heap.is_waiting());
+    check_part(rt, heap, &copy, expected)?;
+    check_part(rt, heap, &imports, expected)
+}
+
+#[test]
+fn clones_of_owned_items(rt: HostRuntime) -> Result<(), Fail> {
+    let heap = Refusing::new(rt.alloc());
+    let ty = EntityType::Function(0);
+    let items = Vec::from_slice(&heap, &[ImportCompact { name: "a", ty }])?;
+    let named = Imports::Compact1 {
+        module: "m",
+        items: CowSlice::Owned(items),
+    };
+    check_clone_of_imports(&rt, &heap, named, &[1, b'm', 0, 127, 1, 1, b'a', 0, 0])
+}
+
+#[test]
+fn clones_of_owned_names(rt: HostRuntime) -> Result<(), Fail> {
+    let heap = Refusing::new(rt.alloc());
+    let mut names = Vec::new(&heap);
+    names.push("a")?;
+    names.push("b")?;
+    let alike = Imports::Compact2 {
+        module: "m",
+        ty: EntityType::Function(0),
+        names: CowSlice::Owned(names),
+    };
+    check_clone_of_imports(
+        &rt,
+        &heap,
+        alike,
+        &[1, b'm', 0, 126, 0, 0, 2, 1, b'a', 1, b'b'],
+    )
+}
+
+/// A clone of what is borrowed takes no memory.
+#[test]
+fn clones_of_borrowed_imports(rt: HostRuntime) -> Result<(), Fail> {
+    let heap = Refusing::new(rt.alloc());
+    let single: OwnedImports<'_> = Imports::Single(IMPORT);
+    heap.refuse(1);
+    let copy = single.clone()?;
+    assert!(rt; heap.is_waiting());
+    check_part(&rt, &heap, &copy, &IMPORT_BYTES)?;
+    let alike: OwnedImports<'_> = Imports::Compact2 {
+        module: "m",
+        ty: EntityType::Function(0),
+        names: CowSlice::Borrowed(&["a"]),
+    };
+    heap.refuse(1);
+    let copy = alike.clone()?;
+    assert!(rt; heap.is_waiting());
+    check_part(&rt, &heap, &copy, &[1, b'm', 0, 126, 0, 0, 1, 1, b'a'])
 }
 
 /// Sections of one number.
