@@ -70,10 +70,10 @@ impl<A: Allocator> ConstExpr<A> {
 
     /// Each `with` call adds its instruction by this one.
     #[tactic(auto, using(crate::proofs::ExpressionLaws::stores))]
-    fn with(mut self, instruction: &Instruction<'_>) -> R<Self>
-        requires { IsNoEnd (row_of instruction.now) }
-        ensures stores { IfOk result (Stores instruction.now self) }
-        ensures memory { InstructionFits instruction.now → result ≢ Err TooLong }
+    fn with(mut self, instruction: Instruction<'_>) -> R<Self>
+        requires { IsNoEnd (row_of instruction) }
+        ensures stores { IfOk result (Stores instruction.entry self) }
+        ensures memory { InstructionFits instruction.entry → result ≢ Err TooLong }
     {
         instruction.encode(&mut self.bytes)?;
         Ok(self)
@@ -148,7 +148,7 @@ impl<A: Allocator> ConstExpr<A> {
         ensures stores { IfOk result (Stores (Instruction.GlobalGet index) self) }
         ensures memory { result ≢ Err TooLong }
     {
-        self.with(&Instruction::GlobalGet(index))
+        self.with(Instruction::GlobalGet(index))
     }
 
     /// This, and then `RefNull`.
@@ -156,7 +156,7 @@ impl<A: Allocator> ConstExpr<A> {
         ensures stores { IfOk result (Stores (Instruction.RefNull ty) self) }
         ensures memory { result ≢ Err TooLong }
     {
-        self.with(&Instruction::RefNull(ty))
+        self.with(Instruction::RefNull(ty))
     }
 
     /// This, and then `RefFunc`.
@@ -164,7 +164,7 @@ impl<A: Allocator> ConstExpr<A> {
         ensures stores { IfOk result (Stores (Instruction.RefFunc function_index) self) }
         ensures memory { result ≢ Err TooLong }
     {
-        self.with(&Instruction::RefFunc(function_index))
+        self.with(Instruction::RefFunc(function_index))
     }
 
     /// This, and then `I32Const`.
@@ -172,7 +172,7 @@ impl<A: Allocator> ConstExpr<A> {
         ensures stores { IfOk result (Stores (Instruction.I32Const value) self) }
         ensures memory { result ≢ Err TooLong }
     {
-        self.with(&Instruction::I32Const(value))
+        self.with(Instruction::I32Const(value))
     }
 
     /// This, and then `I64Const`.
@@ -180,7 +180,7 @@ impl<A: Allocator> ConstExpr<A> {
         ensures stores { IfOk result (Stores (Instruction.I64Const value) self) }
         ensures memory { result ≢ Err TooLong }
     {
-        self.with(&Instruction::I64Const(value))
+        self.with(Instruction::I64Const(value))
     }
 
     /// This, and then `F32Const`.
@@ -188,7 +188,7 @@ impl<A: Allocator> ConstExpr<A> {
         ensures stores { IfOk result (Stores (Instruction.F32Const value) self) }
         ensures memory { result ≢ Err TooLong }
     {
-        self.with(&Instruction::F32Const(value))
+        self.with(Instruction::F32Const(value))
     }
 
     /// This, and then `F64Const`.
@@ -196,7 +196,7 @@ impl<A: Allocator> ConstExpr<A> {
         ensures stores { IfOk result (Stores (Instruction.F64Const value) self) }
         ensures memory { result ≢ Err TooLong }
     {
-        self.with(&Instruction::F64Const(value))
+        self.with(Instruction::F64Const(value))
     }
 
     /// This, and then `V128Const`.
@@ -204,7 +204,7 @@ impl<A: Allocator> ConstExpr<A> {
         ensures stores { IfOk result (Stores (Instruction.VectorImmediate (VectorImmediate.V128Const value)) self) }
         ensures memory { result ≢ Err TooLong }
     {
-        self.with(&Instruction::VectorImmediate(VectorImmediate::V128Const(value)))
+        self.with(Instruction::VectorImmediate(VectorImmediate::V128Const(value)))
     }
 
     /// This, and then `I32Add`.
@@ -212,7 +212,7 @@ impl<A: Allocator> ConstExpr<A> {
         ensures stores { IfOk result (Stores (Instruction.Numeric Numeric.I32Add) self) }
         ensures memory { result ≢ Err TooLong }
     {
-        self.with(&Instruction::I32Add)
+        self.with(Instruction::I32Add)
     }
 
     /// This, and then `I32Sub`.
@@ -220,7 +220,7 @@ impl<A: Allocator> ConstExpr<A> {
         ensures stores { IfOk result (Stores (Instruction.Numeric Numeric.I32Sub) self) }
         ensures memory { result ≢ Err TooLong }
     {
-        self.with(&Instruction::I32Sub)
+        self.with(Instruction::I32Sub)
     }
 
     /// This, and then `I32Mul`.
@@ -228,7 +228,7 @@ impl<A: Allocator> ConstExpr<A> {
         ensures stores { IfOk result (Stores (Instruction.Numeric Numeric.I32Mul) self) }
         ensures memory { result ≢ Err TooLong }
     {
-        self.with(&Instruction::I32Mul)
+        self.with(Instruction::I32Mul)
     }
 
     /// This, and then `I64Add`.
@@ -236,7 +236,7 @@ impl<A: Allocator> ConstExpr<A> {
         ensures stores { IfOk result (Stores (Instruction.Numeric Numeric.I64Add) self) }
         ensures memory { result ≢ Err TooLong }
     {
-        self.with(&Instruction::I64Add)
+        self.with(Instruction::I64Add)
     }
 
     /// This, and then `I64Sub`.
@@ -244,7 +244,7 @@ impl<A: Allocator> ConstExpr<A> {
         ensures stores { IfOk result (Stores (Instruction.Numeric Numeric.I64Sub) self) }
         ensures memory { result ≢ Err TooLong }
     {
-        self.with(&Instruction::I64Sub)
+        self.with(Instruction::I64Sub)
     }
 
     /// This, and then `I64Mul`.
@@ -252,7 +252,7 @@ impl<A: Allocator> ConstExpr<A> {
         ensures stores { IfOk result (Stores (Instruction.Numeric Numeric.I64Mul) self) }
         ensures memory { result ≢ Err TooLong }
     {
-        self.with(&Instruction::I64Mul)
+        self.with(Instruction::I64Mul)
     }
 
     /// The index of `RefFunc`, where the expression begins with it.
