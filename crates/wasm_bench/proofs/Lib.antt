@@ -1,1 +1,2 @@
 pub mod CopiedLengths
+pub mod PieceLengths

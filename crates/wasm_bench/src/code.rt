@@ -73,7 +73,7 @@ fn code_section(
     ensures err { OnErr result (out.new ≡ out.old) }
 {
     let code = read_code(alloc, words, mode)?;
-    answer(alloc, &code, code.byte_len() as u64, phase, out)
+    answer(alloc, &code, phase, out)
 }
 
 /// A code section of the functions that the words tell.

@@ -61,7 +61,7 @@ fn export_section(
     ensures err { OnErr result (out.new ≡ out.old) }
 {
     let section = build(alloc, names, lens, kinds, indices)?;
-    answer(alloc, &section, u64::from(section.len()), phase, out)
+    answer(alloc, &section, phase, out)
 }
 
 /// A section of exports. The names lie one after another, and have these lengths.

@@ -98,7 +98,7 @@ fn import_section(
     ensures err { OnErr result (out.new ≡ out.old) }
 {
     let section = build(alloc, names, lens, kinds, indices)?;
-    answer(alloc, &section, u64::from(section.len()), phase, out)
+    answer(alloc, &section, phase, out)
 }
 
 /// A section of imports. The modules and names lie one after another by turns, and have these lengths.

@@ -53,7 +53,7 @@ fn line_section(alloc: Global, operands: &[u32], phase: u32, out: &mut [u8]) -> 
     let function = long_line(alloc, operands)?;
     let mut code = CodeSection::new(alloc);
     code.function(&function)?;
-    answer(alloc, &code, code.byte_len() as u64, phase, out)
+    answer(alloc, &code, phase, out)
 }
 
 /// A code section of one function: eight calls for each four operands, with nothing to decode.
