@@ -1,2 +1,4 @@
 pub mod CopiedLengths
+pub mod ExportSteps
 pub mod PieceLengths
+pub mod Pushes

@@ -35,6 +35,12 @@ Outcome old new n Answer = ((n ≡ NO_ANSWER) × (new ≡ old)) ⊎ Answer
 abbrev pub FunctionsAnswer : List ℕ → ℕ → List ℕ → List ℕ → ℕ → Type 0
 FunctionsAnswer types phase old new n = HasAnswer 3 (map unsigned_text types) phase old new n
 
+-- the answer of a section of this id, of entries that the input tells
+pub record ToldAnswer (Tells : List (List ℕ) → Type 0) (id phase : ℕ) (old new : List ℕ) (n : ℕ) : Type 0 where
+  pub pieces : List (List ℕ)
+  pub told : Tells pieces
+  pub has : HasAnswer id pieces phase old new n
+
 -- There is an entry for each kind, and each has an index and so many names.
 pub record HasEntries (names lens kinds indices : ℕ) (pieces : List (List ℕ)) : Type 0 where
   pub counted : length pieces ≡ kinds
