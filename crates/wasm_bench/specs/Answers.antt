@@ -1,5 +1,5 @@
 -- What workloads answer.
-use Rattle.std.specs.Prelude.{◌≡◌, ℕ, ◌≤◌, ◌*◌, ◌∷◌, List, ◌++◌, length, drop, map, Result, IfOk, OnErr, if◌then◌else◌, ◌⊎◌, nat_le}
+use Rattle.std.specs.Prelude.{◌≡◌, ℕ, ◌≤◌, ◌∷◌, List, ◌++◌, length, drop, map, Result, IfOk, OnErr, if◌then◌else◌, ◌⊎◌, nat_le}
 use Rattle.wasm_base.specs.Formats.{header}
 use Rattle.wasm_base.specs.Numbers.{unsigned_text}
 use Rattle.wasm_base.specs.Pieces.{joined, section_text}
@@ -39,18 +39,6 @@ FunctionsAnswer types phase old new n = HasAnswer 3 (map unsigned_text types) ph
 pub record ToldAnswer (Tells : List (List ℕ) → Type 0) (id phase : ℕ) (old new : List ℕ) (n : ℕ) : Type 0 where
   pub pieces : List (List ℕ)
   pub told : Tells pieces
-  pub has : HasAnswer id pieces phase old new n
-
--- There is an entry for each kind, and each has an index and so many names.
-pub record HasEntries (names lens kinds indices : ℕ) (pieces : List (List ℕ)) : Type 0 where
-  pub counted : length pieces ≡ kinds
-  pub indexed : indices ≡ kinds
-  pub named : lens ≡ names * kinds
-
--- the answer of a section of such entries
-pub record EntriesAnswer (id names lens kinds indices phase : ℕ) (old new : List ℕ) (n : ℕ) : Type 0 where
-  pub pieces : List (List ℕ)
-  pub entries : HasEntries names lens kinds indices pieces
   pub has : HasAnswer id pieces phase old new n
 
 -- the answer of a code section of so many functions

@@ -1,27 +1,13 @@
 // The export section.
-ghost use Rattle.std.specs.Prelude.{◌≡◌, ◌<◌, IfOk, OnErr, MatchResult};
-ghost use Rattle.wasm_sections.specs.Exports.{kind_code};
+ghost use Rattle.std.specs.Prelude.{◌≡◌, IfOk, OnErr};
 ghost use Rattle.wasm_bench.specs.Answers.{ToldAnswer, Outcome};
 ghost use Rattle.wasm_bench.specs.Exports.{TellsExports};
 
 use crate::answers::{Fault, answer, number};
+use crate::kinds::kind_of;
 use crate::names::Names;
 use std::alloc::Global;
-use wasm_sections::{ExportKind, ExportSection};
-
-/// The kind of this number.
-fn export_kind(kind: u8) -> Result<ExportKind, Fault>
-    ensures { MatchResult result (λ exported. kind_code exported ≡ kind) (λ _. 4 < kind) }
-{
-    match kind {
-        0 => Ok(ExportKind::Func),
-        1 => Ok(ExportKind::Table),
-        2 => Ok(ExportKind::Memory),
-        3 => Ok(ExportKind::Global),
-        4 => Ok(ExportKind::Tag),
-        _ => Err(Fault::WrongInput),
-    }
-}
+use wasm_sections::ExportSection;
 
 /// A section of exports: the length of the name, the kind and the index of each.
 #[tactic(auto, using(crate::proofs::ExportSteps::told_all))]
@@ -41,7 +27,7 @@ fn build(
     let mut section = ExportSection::new(alloc);
     for i in 0..lens.len() {
         let name = rest.next(lens[i])?;
-        section.export(name, export_kind(kinds[i])?, indices[i])?;
+        section.export(name, kind_of(kinds[i])?, indices[i])?;
     }
     if rest.is_empty() {
         Ok(section)

@@ -8,6 +8,7 @@ mod codes;
 mod exports;
 mod functions;
 mod imports;
+mod kinds;
 mod later;
 mod line;
 mod names;

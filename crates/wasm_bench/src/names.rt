@@ -22,7 +22,7 @@ impl<'a> Names<'a> {
 
     /// Whether no byte is left.
     pub(crate) fn is_empty(&self) -> bool
-        ensures { IsTrue result ↔ (length self.now.rest.now ≡ 0) }
+        ensures { IsTrue result ↔ (self.now.rest.now ≡ []) }
     {
         self.rest.is_empty()
     }
