@@ -32,3 +32,11 @@ two_items [] e = absurd (omega arith)
 two_items (a ∷ []) e = absurd (omega arith)
 two_items (a ∷ b ∷ []) e = refl
 two_items (a ∷ b ∷ c ∷ xs) e = absurd (omega arith)
+
+pub four_items : (xs : List ℕ) → length xs ≡ 4 → get_or xs 0 0 ∷ get_or xs 1 0 ∷ get_or xs 2 0 ∷ get_or xs 3 0 ∷ [] ≡ xs
+four_items [] e = absurd (omega arith)
+four_items (a ∷ []) e = absurd (omega arith)
+four_items (a ∷ b ∷ []) e = absurd (omega arith)
+four_items (a ∷ b ∷ c ∷ []) e = absurd (omega arith)
+four_items (a ∷ b ∷ c ∷ d ∷ []) e = refl
+four_items (a ∷ b ∷ c ∷ d ∷ f ∷ xs) e = absurd (omega arith)

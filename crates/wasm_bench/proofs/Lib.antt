@@ -1,6 +1,8 @@
 pub mod Chunks
-pub mod CopiedLengths
+pub mod Drained
 pub mod ExportSteps
 pub mod ImportSteps
+pub mod LineSteps
 pub mod PieceLengths
 pub mod Pushes
+pub mod Written

@@ -1,3 +1,4 @@
 pub mod Answers
 pub mod Exports
 pub mod Imports
+pub mod Lines

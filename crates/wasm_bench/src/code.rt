@@ -3,6 +3,7 @@ ghost use Rattle.std.specs.Prelude.{◌≡◌, IfOk, OnErr, length};
 ghost use Rattle.wasm_bench.specs.Answers.{TellsFunctions, WordsAnswer, Outcome};
 
 use crate::answers::{Fault, answer, number};
+use crate::bodies::with_locals;
 use crate::calls::call;
 use crate::values::value;
 use crate::words::Words;
@@ -31,7 +32,7 @@ fn add_by_values(function: &mut Function, words: &mut Words<'_>, count: u32) -> 
 /// Reads a function: the number of its instructions, and these.
 fn read_function(alloc: Global, words: &mut Words<'_>, mode: u32) -> Result<Function, Fault> {
     let count = words.next()?;
-    let mut function = Function::new(alloc, [(2, ValType::I32), (1, ValType::F64)])?;
+    let mut function = with_locals(alloc, &[(2, ValType::I32), (1, ValType::F64)])?;
     if mode == 0 {
         add_by_calls(&mut function, words, count)?;
     } else {

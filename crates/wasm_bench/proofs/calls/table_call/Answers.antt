@@ -1,5 +1,6 @@
-use Rattle.wasm_bench.proofs.CopiedLengths.{drained_copied}
+use Rattle.std.proofs.Common.{length, sym, ap}
+use Rattle.wasm_bench.proofs.Drained.{drained_copied}
 use Rattle.wasm_bench.proofs.calls.table_call.Goals as goal
 
 pub br_table-requires : goal.br_table-requires
-br_table-requires c = record { can = λ it b. tt; told = λ it xs b d. drained_copied it xs d }
+br_table-requires c = record { can = λ it b. tt; told = λ it xs b d. sym (ap length (drained_copied it xs d)) }
