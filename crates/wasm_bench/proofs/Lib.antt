@@ -1,4 +1,5 @@
 pub mod Chunks
+pub mod CodeSteps
 pub mod Drained
 pub mod ExportSteps
 pub mod ImportSteps

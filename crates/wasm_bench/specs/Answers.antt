@@ -40,21 +40,3 @@ pub record ToldAnswer (Tells : List (List ℕ) → Type 0) (id phase : ℕ) (old
   pub pieces : List (List ℕ)
   pub told : Tells pieces
   pub has : HasAnswer id pieces phase old new n
-
--- the answer of a code section of so many functions
-pub record CodeAnswer (functions phase : ℕ) (old new : List ℕ) (n : ℕ) : Type 0 where
-  pub pieces : List (List ℕ)
-  pub count : length pieces ≡ functions
-  pub has : HasAnswer 10 pieces phase old new n
-
--- The words tell so many functions first, and the mode is 0 or 1.
-pub record TellsFunctions (words : List ℕ) (mode functions : ℕ) : Type 0 where
-  pub rest : List ℕ
-  pub first : words ≡ functions ∷ rest
-  pub known : mode ≤ 1
-
--- the answer of a code section of as many functions as the words tell
-pub record WordsAnswer (words : List ℕ) (mode phase : ℕ) (old new : List ℕ) (n : ℕ) : Type 0 where
-  pub functions : ℕ
-  pub told : TellsFunctions words mode functions
-  pub answer : CodeAnswer functions phase old new n
