@@ -675,11 +675,16 @@ fn measure(name: &str, items: usize) {
     );
 }
 
-/// Runs a phase, or the straight encoder, and gives the answer.
+/// Runs a phase, or the straight encoder for the section or its entries, or nothing; and gives the number of bytes.
 fn run_once(input: &Input, phase: &str) -> u64 {
-    match phase.parse() {
-        Ok(phase) => input.call(phase, &mut []),
-        Err(_) => input.section().len() as u64,
+    match phase {
+        "straight" => input.section().len() as u64,
+        "entries" => input.entries().1.len() as u64,
+        "nothing" => 0,
+        _ => match phase.parse() {
+            Ok(phase) => input.call(phase, &mut []),
+            Err(_) => fail("a phase is 0, 1, 2, straight, entries or nothing"),
+        },
     }
 }
 
@@ -705,7 +710,7 @@ fn main() {
             println!("{}", run_once(&input(name, items), phase));
         }
         _ => {
-            fail("usage: driver [once WORKLOAD ITEMS PHASE], where a phase is 0, 1, 2 or straight")
+            fail("usage: driver [once WORKLOAD ITEMS PHASE]")
         }
     }
 }

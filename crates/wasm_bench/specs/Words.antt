@@ -24,6 +24,7 @@ wide low high = low + 2 ^ 32 * high
 abbrev pub access : ℕ → ℕ → ℕ → MemArg
 access offset align index = record { offset = offset; align = align; target = Memory index; ordering = None }
 
+-- the text of an instruction
 abbrev pub text_of : Instruction Global → List ℕ
 text_of i = instruction_text i
 
