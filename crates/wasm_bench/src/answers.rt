@@ -1,5 +1,5 @@
 // What workloads answer.
-ghost use Rattle.std.specs.Prelude.{◌≡◌, ℕ, List, length, IfOk, MatchResult};
+ghost use Rattle.std.specs.Prelude.{◌≡◌, ◌≤◌, ◌^◌, ℕ, List, length, MatchOption, MatchResult};
 ghost use Rattle.wasm_base.specs.Pieces.{joined};
 ghost use Rattle.wasm_bench.specs.Answers.{Gives, Answers};
 ghost use Rattle.wasm_bench.specs.declared.answers.Fault.TheVariants as faults;
@@ -48,9 +48,9 @@ pub(crate) trait Entries: Section {
     /// The bytes of each entry.
     ghost pieces: { Self → List (List ℕ) };
 
-    /// How many bytes the entries have together, without their number.
-    fn entries_len(&self) -> Result<u64, Fault>
-        ensures { IfOk result (λ n. n ≡ length (joined (pieces self.now))) };
+    /// How many bytes the entries have together, without their number; none where these are more than can be counted.
+    fn entries_len(&self) -> Option<u64>
+        ensures { MatchOption result (2 ^ 64 ≤ length (joined (pieces self.now))) (λ n. n ≡ length (joined (pieces self.now))) };
 
     /// Its text is the frame of the number of the entries and of these.
     ghost counted: { (section : Self) → Self.text section ≡ section_text (pieces section) };
@@ -61,8 +61,8 @@ impl Entries for CodeSection {
 
     ghost pieces = { λ section. section };
 
-    fn entries_len(&self) -> Result<u64, Fault> {
-        Ok(self.byte_len() as u64)
+    fn entries_len(&self) -> Option<u64> {
+        Some(self.byte_len() as u64)
     }
 
     ghost counted = { λ section. refl };
@@ -74,14 +74,14 @@ impl<K: ItemKind> Entries for CountedSection<K> {
 
     ghost pieces = { λ section. section };
 
-    #[tactic(auto, using(crate::proofs::PieceLengths::joined_take_more))]
-    fn entries_len(&self) -> Result<u64, Fault> {
+    #[tactic(auto, using(crate::proofs::PieceLengths::joined_take_more, crate::proofs::PieceLengths::joined_take_le))]
+    fn entries_len(&self) -> Option<u64> {
         let mut bytes: u64 = 0;
         for index in 0..self.len() {
-            let piece = self.piece(index).ok_or(Fault::Refused)?;
-            bytes = bytes.checked_add(piece.len() as u64).ok_or(Fault::Refused)?;
+            let piece = self.piece(index)?;
+            bytes = bytes.checked_add(piece.len() as u64)?;
         }
-        Ok(bytes)
+        Some(bytes)
     }
 
     ghost counted = { λ section. refl };
@@ -98,7 +98,7 @@ pub(crate) fn answer<S: Entries>(
     ensures { Answers (S.id_of section.now) (S.pieces section.now) phase out.old out.new result }
 {
     match phase {
-        0 => section.entries_len(),
+        0 => section.entries_len().ok_or(Fault::Refused),
         1 => {
             let mut bytes = Vec::new(alloc);
             section.append_to(&mut bytes)?;
