@@ -141,26 +141,32 @@ impl Input {
         }
     }
 
-    /// The section, by the straight encoder below.
-    #[inline(never)]
-    fn section(&self) -> Vec<u8> {
+    /// The number of entries, and their bytes, by the straight encoder below.
+    fn entries(&self) -> (u32, Vec<u8>) {
         match self {
-            Input::Code { words, .. } => framed(10, words[0], &straight_code(words)),
-            Input::Line(operands) => framed(10, 1, &straight_line(operands)),
-            Input::Functions(types) => framed(3, types.len() as u32, &straight_functions(types)),
-            Input::Exports(e) => framed(7, e.kinds.len() as u32, &straight_exports(e)),
-            Input::Imports(e) => framed(2, e.kinds.len() as u32, &straight_imports(e)),
+            Input::Code { words, .. } => (words[0], straight_code(words)),
+            Input::Line(operands) => (1, straight_line(operands)),
+            Input::Functions(types) => (types.len() as u32, straight_functions(types)),
+            Input::Exports(e) => (e.kinds.len() as u32, straight_exports(e)),
+            Input::Imports(e) => (e.kinds.len() as u32, straight_imports(e)),
         }
     }
 
-    /// What phase 0 counts: the bytes of the entries of a code section, and the entries of another one.
-    fn counted(&self) -> u64 {
+    /// The id of the section.
+    fn id(&self) -> u8 {
         match self {
-            Input::Code { words, .. } => straight_code(words).len() as u64,
-            Input::Line(operands) => straight_line(operands).len() as u64,
-            Input::Functions(types) => types.len() as u64,
-            Input::Exports(e) | Input::Imports(e) => e.kinds.len() as u64,
+            Input::Code { .. } | Input::Line(_) => 10,
+            Input::Functions(_) => 3,
+            Input::Exports(_) => 7,
+            Input::Imports(_) => 2,
         }
+    }
+
+    /// The section.
+    #[inline(never)]
+    fn section(&self) -> Vec<u8> {
+        let (count, entries) = self.entries();
+        framed(self.id(), count, &entries)
     }
 }
 
@@ -561,8 +567,8 @@ fn check_bytes(name: &str, input: &Input, phase: u32, expected: &[u8]) {
 }
 
 fn check(name: &str, input: &Input, section: &[u8]) {
-    if input.call(0, &mut []) != input.counted() {
-        fail(&format!("{name}, phase 0: a wrong count"));
+    if input.call(0, &mut []) != input.entries().1.len() as u64 {
+        fail(&format!("{name}, phase 0: a wrong number of bytes"));
     }
     check_bytes(name, input, 1, section);
     check_bytes(name, input, 2, &[&HEADER, section].concat());
@@ -669,11 +675,16 @@ fn measure(name: &str, items: usize) {
     );
 }
 
-/// Runs a phase, or the straight encoder, and gives the answer.
+/// Runs a phase, or the straight encoder for the section or its entries, or nothing; and gives the number of bytes.
 fn run_once(input: &Input, phase: &str) -> u64 {
-    match phase.parse() {
-        Ok(phase) => input.call(phase, &mut []),
-        Err(_) => input.section().len() as u64,
+    match phase {
+        "straight" => input.section().len() as u64,
+        "entries" => input.entries().1.len() as u64,
+        "nothing" => 0,
+        _ => match phase.parse() {
+            Ok(phase) => input.call(phase, &mut []),
+            Err(_) => fail("a phase is 0, 1, 2, straight, entries or nothing"),
+        },
     }
 }
 
@@ -699,7 +710,7 @@ fn main() {
             println!("{}", run_once(&input(name, items), phase));
         }
         _ => {
-            fail("usage: driver [once WORKLOAD ITEMS PHASE], where a phase is 0, 1, 2 or straight")
+            fail("usage: driver [once WORKLOAD ITEMS PHASE]")
         }
     }
 }

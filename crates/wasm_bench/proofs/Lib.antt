@@ -1,1 +1,9 @@
-pub mod CopiedLengths
+pub mod Chunks
+pub mod CodeSteps
+pub mod Drained
+pub mod ExportSteps
+pub mod ImportSteps
+pub mod LineSteps
+pub mod PieceLengths
+pub mod Pushes
+pub mod Written

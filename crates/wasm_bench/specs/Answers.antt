@@ -1,5 +1,5 @@
 -- What workloads answer.
-use Rattle.std.specs.Prelude.{◌≡◌, ℕ, ◌≤◌, ◌*◌, ◌∷◌, List, ◌++◌, length, drop, map, Result, IfOk, OnErr, if◌then◌else◌, ◌⊎◌, nat_le}
+use Rattle.std.specs.Prelude.{◌≡◌, ℕ, ◌≤◌, ◌∷◌, List, ◌++◌, length, drop, map, Result, IfOk, OnErr, if◌then◌else◌, ◌⊎◌, nat_le}
 use Rattle.wasm_base.specs.Formats.{header}
 use Rattle.wasm_base.specs.Numbers.{unsigned_text}
 use Rattle.wasm_base.specs.Pieces.{joined, section_text}
@@ -15,16 +15,16 @@ pub record Gives (bytes old new : List ℕ) (n : ℕ) : Type 0 where
   pub count : n ≡ length bytes
   pub copied : new ≡ written bytes old
 
--- what each phase gives of a section of which so much was counted
-pub record HasAnswer (phase counted : ℕ) (section old new : List ℕ) (n : ℕ) : Type 0 where
-  pub built : phase ≡ 0 → (n ≡ counted) × (new ≡ old)
-  pub appended : phase ≡ 1 → Gives section old new n
-  pub finished : phase ≡ 2 → Gives (header ++ section) old new n
+-- what each phase gives of a section of this id and these entries
+pub record HasAnswer (id : ℕ) (pieces : List (List ℕ)) (phase : ℕ) (old new : List ℕ) (n : ℕ) : Type 0 where
+  pub built : phase ≡ 0 → (n ≡ length (joined pieces)) × (new ≡ old)
+  pub appended : phase ≡ 1 → Gives (id ∷ section_text pieces) old new n
+  pub finished : phase ≡ 2 → Gives (header ++ (id ∷ section_text pieces)) old new n
   pub known : phase ≤ 2
 
 -- The section has its answer, or nothing was written.
-pub record Answers (phase counted : ℕ) (section old new : List ℕ) (result : Result ℕ Fault) : Type 0 where
-  pub ok : IfOk result (λ n. HasAnswer phase counted section old new n)
+pub record Answers (id : ℕ) (pieces : List (List ℕ)) (phase : ℕ) (old new : List ℕ) (result : Result ℕ Fault) : Type 0 where
+  pub ok : IfOk result (λ n. HasAnswer id pieces phase old new n)
   pub err : OnErr result (new ≡ old)
 
 -- There is no answer, or it is this one.
@@ -33,34 +33,10 @@ Outcome old new n Answer = ((n ≡ NO_ANSWER) × (new ≡ old)) ⊎ Answer
 
 -- the answer of a section that has the types of functions
 abbrev pub FunctionsAnswer : List ℕ → ℕ → List ℕ → List ℕ → ℕ → Type 0
-FunctionsAnswer types phase old new n = HasAnswer phase (length types) (3 ∷ section_text (map unsigned_text types)) old new n
+FunctionsAnswer types phase old new n = HasAnswer 3 (map unsigned_text types) phase old new n
 
--- There is an entry for each kind, and each has an index and so many names.
-pub record HasEntries (names lens kinds indices : ℕ) (pieces : List (List ℕ)) : Type 0 where
-  pub counted : length pieces ≡ kinds
-  pub indexed : indices ≡ kinds
-  pub named : lens ≡ names * kinds
-
--- the answer of a section of such entries, which are what is counted
-pub record EntriesAnswer (id names lens kinds indices phase : ℕ) (old new : List ℕ) (n : ℕ) : Type 0 where
+-- the answer of a section of this id, of entries that the input tells
+pub record ToldAnswer (Tells : List (List ℕ) → Type 0) (id phase : ℕ) (old new : List ℕ) (n : ℕ) : Type 0 where
   pub pieces : List (List ℕ)
-  pub entries : HasEntries names lens kinds indices pieces
-  pub has : HasAnswer phase (length pieces) (id ∷ section_text pieces) old new n
-
--- the answer of a code section, whose bytes are what is counted
-pub record CodeAnswer (functions phase : ℕ) (old new : List ℕ) (n : ℕ) : Type 0 where
-  pub pieces : List (List ℕ)
-  pub count : length pieces ≡ functions
-  pub has : HasAnswer phase (length (joined pieces)) (10 ∷ section_text pieces) old new n
-
--- The words tell so many functions first, and the mode is 0 or 1.
-pub record TellsFunctions (words : List ℕ) (mode functions : ℕ) : Type 0 where
-  pub rest : List ℕ
-  pub first : words ≡ functions ∷ rest
-  pub known : mode ≤ 1
-
--- the answer of a code section of as many functions as the words tell
-pub record WordsAnswer (words : List ℕ) (mode phase : ℕ) (old new : List ℕ) (n : ℕ) : Type 0 where
-  pub functions : ℕ
-  pub told : TellsFunctions words mode functions
-  pub answer : CodeAnswer functions phase old new n
+  pub told : Tells pieces
+  pub has : HasAnswer id pieces phase old new n

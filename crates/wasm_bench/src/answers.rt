@@ -1,10 +1,13 @@
 // What workloads answer.
-ghost use Rattle.std.specs.Prelude.{◌≡◌, ◌∷◌, MatchResult};
+ghost use Rattle.std.specs.Prelude.{◌≡◌, ◌≤◌, ◌^◌, ℕ, List, length, MatchOption, MatchResult};
+ghost use Rattle.wasm_base.specs.Pieces.{joined};
 ghost use Rattle.wasm_bench.specs.Answers.{Gives, Answers};
 ghost use Rattle.wasm_bench.specs.declared.answers.Fault.TheVariants as faults;
 
 use std::alloc::Global;
 use wasm_base::{Module, Refused, Section};
+use wasm_code::CodeSection;
+use wasm_sections::{CountedSection, ItemKind};
 
 /// The answer of a workload whose input is wrong, or of which the library has refused a call.
 pub const NO_ANSWER: u64 = 18446744073709551615;
@@ -38,19 +41,64 @@ fn copied(bytes: &[u8], out: &mut [u8]) -> u64
     count as u64
 }
 
-/// What a workload gives that has built this section, of which it has counted so much: in phase 0 what was counted, in phase 1 the
-/// section, and in phase 2 a module of this section alone.
-pub(crate) fn answer<S: Section>(
+/// A section of entries, whose bytes can be counted.
+pub(crate) trait Entries: Section {
+    ghost use Rattle.wasm_base.specs.Pieces.{section_text};
+
+    /// The bytes of each entry.
+    ghost pieces: { Self → List (List ℕ) };
+
+    /// How many bytes the entries have together, without their number; none where these are more than can be counted.
+    fn entries_len(&self) -> Option<u64>
+        ensures { MatchOption result (2 ^ 64 ≤ length (joined (pieces self.now))) (λ n. n ≡ length (joined (pieces self.now))) };
+
+    /// Its text is the frame of the number of the entries and of these.
+    ghost counted: { (section : Self) → Self.text section ≡ section_text (pieces section) };
+}
+
+impl Entries for CodeSection {
+    ghost use Rattle.std.proofs.Common.{refl};
+
+    ghost pieces = { λ section. section };
+
+    fn entries_len(&self) -> Option<u64> {
+        Some(self.byte_len() as u64)
+    }
+
+    ghost counted = { λ section. refl };
+}
+
+/// The entries are asked for one by one, since the section does not tell how many bytes they have.
+impl<K: ItemKind> Entries for CountedSection<K> {
+    ghost use Rattle.std.proofs.Common.{refl};
+
+    ghost pieces = { λ section. section };
+
+    #[tactic(auto, using(crate::proofs::PieceLengths::joined_take_more, crate::proofs::PieceLengths::joined_take_le))]
+    fn entries_len(&self) -> Option<u64> {
+        let mut bytes: u64 = 0;
+        for index in 0..self.len() {
+            let piece = self.piece(index)?;
+            bytes = bytes.checked_add(piece.len() as u64)?;
+        }
+        Some(bytes)
+    }
+
+    ghost counted = { λ section. refl };
+}
+
+/// What a workload gives that has built this section: in phase 0 how many bytes its entries have, in phase 1 the section, and in phase 2
+/// a module of this section alone.
+pub(crate) fn answer<S: Entries>(
     alloc: Global,
     section: &S,
-    counted: u64,
     phase: u32,
     out: &mut [u8],
 ) -> Result<u64, Fault>
-    ensures { Answers phase counted (S.id_of section.now ∷ S.text section.now) out.old out.new result }
+    ensures { Answers (S.id_of section.now) (S.pieces section.now) phase out.old out.new result }
 {
     match phase {
-        0 => Ok(counted),
+        0 => section.entries_len().ok_or(Fault::Refused),
         1 => {
             let mut bytes = Vec::new(alloc);
             section.append_to(&mut bytes)?;

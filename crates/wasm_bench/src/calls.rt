@@ -1,4 +1,7 @@
 // Named calls of a sink, by the words of a workload.
+ghost use Rattle.std.specs.Prelude.{◌≡◌, ℕ, ◌∷◌, IfOk, OnOk};
+ghost use Rattle.wasm_bench.specs.Words.{access, WritesOne, WritesNext};
+
 use crate::answers::Fault;
 use crate::codes;
 use crate::words::Words;
@@ -10,7 +13,11 @@ use wasm_insn::{BlockType, Ieee32, Ieee64, InstructionSink, MemArg, MemArgTarget
 type Sink<'a> = InstructionSink<'a, Function>;
 
 /// Reads a memory argument: the offset, the alignment and the index of the memory.
-pub(crate) fn mem_arg(words: &mut Words<'_>) -> Result<MemArg, Fault> {
+pub(crate) fn mem_arg(words: &mut Words<'_>) -> Result<MemArg, Fault>
+    ensures { IfOk result (λ argument. (offset : ℕ) × (align : ℕ) × (index : ℕ)
+        × (words.old.rest.now ≡ offset ∷ align ∷ index ∷ words.new.rest.now)
+        × (argument ≡ access offset align index)) }
+{
     let offset = words.next()?;
     let align = words.next()?;
     let memory = words.next()?;
@@ -23,7 +30,10 @@ pub(crate) fn mem_arg(words: &mut Words<'_>) -> Result<MemArg, Fault> {
 }
 
 /// A branch by a table: the number of labels, these, and the default one.
-fn table_call(sink: &mut Sink<'_>, words: &mut Words<'_>) -> Result<(), Fault> {
+fn table_call(sink: &mut Sink<'_>, words: &mut Words<'_>) -> Result<(), Fault>
+    ensures same_reference { sink.new.sink.ghost_name ≡ sink.old.sink.ghost_name }
+    ensures told { OnOk result (WritesOne 23 words.old.rest.now words.new.rest.now sink.old.sink.now sink.new.sink.now) }
+{
     let count = words.next()?;
     let labels = words.take(count)?;
     let default = words.next()?;
@@ -32,7 +42,10 @@ fn table_call(sink: &mut Sink<'_>, words: &mut Words<'_>) -> Result<(), Fault> {
 }
 
 /// A call through a table: the index of the table, and that of the type.
-fn indirect_call(sink: &mut Sink<'_>, words: &mut Words<'_>) -> Result<(), Fault> {
+fn indirect_call(sink: &mut Sink<'_>, words: &mut Words<'_>) -> Result<(), Fault>
+    ensures same_reference { sink.new.sink.ghost_name ≡ sink.old.sink.ghost_name }
+    ensures told { OnOk result (WritesOne 13 words.old.rest.now words.new.rest.now sink.old.sink.now sink.new.sink.now) }
+{
     let table_index = words.next()?;
     let type_index = words.next()?;
     sink.call_indirect(table_index, type_index)?;
@@ -41,71 +54,82 @@ fn indirect_call(sink: &mut Sink<'_>, words: &mut Words<'_>) -> Result<(), Fault
 
 /// Control; no other code is known.
 #[inline]
-fn control_call(sink: &mut Sink<'_>, code: u32, words: &mut Words<'_>) -> Result<(), Fault> {
+fn control_call(sink: &mut Sink<'_>, code: u32, words: &mut Words<'_>) -> Result<(), Fault>
+    ensures same_reference { sink.new.sink.ghost_name ≡ sink.old.sink.ghost_name }
+    ensures told { OnOk result (WritesOne code words.old.rest.now words.new.rest.now sink.old.sink.now sink.new.sink.now) }
+{
     match code {
-        codes::CALL => sink.call(words.next()?)?,
-        codes::CALL_INDIRECT => indirect_call(sink, words)?,
-        codes::BR_IF => sink.br_if(words.next()?)?,
-        codes::BR_TABLE => table_call(sink, words)?,
-        codes::BLOCK => sink.block(BlockType::Empty)?,
-        codes::BLOCK_RESULT => sink.block(BlockType::Result(ValType::I32))?,
-        codes::IF => sink.if_(BlockType::FunctionType(words.next()?))?,
-        codes::END => sink.end()?,
-        codes::RETURN => sink.return_()?,
-        _ => return Err(Fault::WrongInput),
+        codes::CALL => Ok(sink.call(words.next()?)?),
+        codes::CALL_INDIRECT => indirect_call(sink, words),
+        codes::BR_IF => Ok(sink.br_if(words.next()?)?),
+        codes::BR_TABLE => table_call(sink, words),
+        codes::BLOCK => Ok(sink.block(BlockType::Empty)?),
+        codes::BLOCK_RESULT => Ok(sink.block(BlockType::Result(ValType::I32))?),
+        codes::IF => Ok(sink.if_(BlockType::FunctionType(words.next()?))?),
+        codes::END => Ok(sink.end()?),
+        codes::RETURN => Ok(sink.return_()?),
+        _ => Err(Fault::WrongInput),
     }
-    Ok(())
 }
 
 /// Accesses of memory, and calls without operands; other codes go on.
 #[inline]
-fn plain_call(sink: &mut Sink<'_>, code: u32, words: &mut Words<'_>) -> Result<(), Fault> {
+fn plain_call(sink: &mut Sink<'_>, code: u32, words: &mut Words<'_>) -> Result<(), Fault>
+    ensures same_reference { sink.new.sink.ghost_name ≡ sink.old.sink.ghost_name }
+    ensures told { OnOk result (WritesOne code words.old.rest.now words.new.rest.now sink.old.sink.now sink.new.sink.now) }
+{
     match code {
-        codes::I32_LOAD => sink.i32_load(mem_arg(words)?)?,
-        codes::I32_STORE => sink.i32_store(mem_arg(words)?)?,
-        codes::I32_ADD => sink.i32_add()?,
-        codes::I32_SUB => sink.i32_sub()?,
-        codes::I64_ADD => sink.i64_add()?,
-        codes::I32_EQZ => sink.i32_eqz()?,
-        codes::DROP => sink.drop_()?,
-        codes::SELECT => sink.select()?,
-        _ => return control_call(sink, code, words),
+        codes::I32_LOAD => Ok(sink.i32_load(mem_arg(words)?)?),
+        codes::I32_STORE => Ok(sink.i32_store(mem_arg(words)?)?),
+        codes::I32_ADD => Ok(sink.i32_add()?),
+        codes::I32_SUB => Ok(sink.i32_sub()?),
+        codes::I64_ADD => Ok(sink.i64_add()?),
+        codes::I32_EQZ => Ok(sink.i32_eqz()?),
+        codes::DROP => Ok(sink.drop_()?),
+        codes::SELECT => Ok(sink.select()?),
+        _ => control_call(sink, code, words),
     }
-    Ok(())
 }
 
 /// Constants; other codes go on.
 #[inline]
-fn constant_call(sink: &mut Sink<'_>, code: u32, words: &mut Words<'_>) -> Result<(), Fault> {
+fn constant_call(sink: &mut Sink<'_>, code: u32, words: &mut Words<'_>) -> Result<(), Fault>
+    ensures same_reference { sink.new.sink.ghost_name ≡ sink.old.sink.ghost_name }
+    ensures told { OnOk result (WritesOne code words.old.rest.now words.new.rest.now sink.old.sink.now sink.new.sink.now) }
+{
     match code {
-        codes::I32_CONST => sink.i32_const(words.next()?.cast_signed())?,
-        codes::I64_CONST => sink.i64_const(words.wide()?.cast_signed())?,
-        codes::F32_CONST => sink.f32_const(Ieee32::new(words.next()?))?,
-        codes::F64_CONST => sink.f64_const(Ieee64::new(words.wide()?))?,
-        codes::V128_CONST => sink.v128_const(i128::from(words.next()?))?,
-        codes::REF_FUNC => sink.ref_func(words.next()?)?,
-        _ => return plain_call(sink, code, words),
+        codes::I32_CONST => Ok(sink.i32_const(words.next()?.cast_signed())?),
+        codes::I64_CONST => Ok(sink.i64_const(words.wide()?.cast_signed())?),
+        codes::F32_CONST => Ok(sink.f32_const(Ieee32::new(words.next()?))?),
+        codes::F64_CONST => Ok(sink.f64_const(Ieee64::new(words.wide()?))?),
+        codes::V128_CONST => Ok(sink.v128_const(i128::from(words.next()?))?),
+        codes::REF_FUNC => Ok(sink.ref_func(words.next()?)?),
+        _ => plain_call(sink, code, words),
     }
-    Ok(())
 }
 
 /// Locals and globals; other codes go on.
 #[inline]
-fn variable_call(sink: &mut Sink<'_>, code: u32, words: &mut Words<'_>) -> Result<(), Fault> {
+fn variable_call(sink: &mut Sink<'_>, code: u32, words: &mut Words<'_>) -> Result<(), Fault>
+    ensures same_reference { sink.new.sink.ghost_name ≡ sink.old.sink.ghost_name }
+    ensures told { OnOk result (WritesOne code words.old.rest.now words.new.rest.now sink.old.sink.now sink.new.sink.now) }
+{
     match code {
-        codes::LOCAL_GET => sink.local_get(words.next()?)?,
-        codes::LOCAL_SET => sink.local_set(words.next()?)?,
-        codes::LOCAL_TEE => sink.local_tee(words.next()?)?,
-        codes::GLOBAL_GET => sink.global_get(words.next()?)?,
-        codes::GLOBAL_SET => sink.global_set(words.next()?)?,
-        _ => return constant_call(sink, code, words),
+        codes::LOCAL_GET => Ok(sink.local_get(words.next()?)?),
+        codes::LOCAL_SET => Ok(sink.local_set(words.next()?)?),
+        codes::LOCAL_TEE => Ok(sink.local_tee(words.next()?)?),
+        codes::GLOBAL_GET => Ok(sink.global_get(words.next()?)?),
+        codes::GLOBAL_SET => Ok(sink.global_set(words.next()?)?),
+        _ => constant_call(sink, code, words),
     }
-    Ok(())
 }
 
 /// Reads an instruction, and makes the call of its name. Each of the functions above knows some codes and hands the others on, so
 /// that the compiler makes one jump of them.
-pub(crate) fn call(sink: &mut Sink<'_>, words: &mut Words<'_>) -> Result<(), Fault> {
+pub(crate) fn call(sink: &mut Sink<'_>, words: &mut Words<'_>) -> Result<(), Fault>
+    ensures same_reference { sink.new.sink.ghost_name ≡ sink.old.sink.ghost_name }
+    ensures told { OnOk result (WritesNext words.old.rest.now words.new.rest.now sink.old.sink.now sink.new.sink.now) }
+{
     let code = words.next()?;
     variable_call(sink, code, words)
 }

@@ -1,8 +1,10 @@
 // Functions and their code.
-ghost use Rattle.std.specs.Prelude.{◌≡◌, IfOk, OnErr, length};
-ghost use Rattle.wasm_bench.specs.Answers.{TellsFunctions, WordsAnswer, Outcome};
+ghost use Rattle.std.specs.Prelude.{◌≡◌, IfOk, OnOk, OnErr};
+ghost use Rattle.wasm_bench.specs.Answers.{ToldAnswer, Outcome};
+ghost use Rattle.wasm_bench.specs.Words.{WritesAll, TellsFunction, TellsCode};
 
 use crate::answers::{Fault, answer, number};
+use crate::bodies::with_locals;
 use crate::calls::call;
 use crate::values::value;
 use crate::words::Words;
@@ -11,7 +13,9 @@ use wasm_base::ValType;
 use wasm_code::{CodeSection, Function};
 
 /// Reads the instructions of a function, and makes the call of each.
-fn add_by_calls(function: &mut Function, words: &mut Words<'_>, count: u32) -> Result<(), Fault> {
+fn add_by_calls(function: &mut Function, words: &mut Words<'_>, count: u32) -> Result<(), Fault>
+    ensures { OnOk result (WritesAll count words.old.rest.now words.new.rest.now function.old function.new) }
+{
     let mut sink = function.instructions();
     for _ in 0..count {
         call(&mut sink, words)?;
@@ -20,7 +24,9 @@ fn add_by_calls(function: &mut Function, words: &mut Words<'_>, count: u32) -> R
 }
 
 /// Reads the instructions of a function, and adds each as a value.
-fn add_by_values(function: &mut Function, words: &mut Words<'_>, count: u32) -> Result<(), Fault> {
+fn add_by_values(function: &mut Function, words: &mut Words<'_>, count: u32) -> Result<(), Fault>
+    ensures { OnOk result (WritesAll count words.old.rest.now words.new.rest.now function.old function.new) }
+{
     for _ in 0..count {
         let instruction = value(words)?;
         function.instruction(&instruction)?;
@@ -29,9 +35,11 @@ fn add_by_values(function: &mut Function, words: &mut Words<'_>, count: u32) -> 
 }
 
 /// Reads a function: the number of its instructions, and these.
-fn read_function(alloc: Global, words: &mut Words<'_>, mode: u32) -> Result<Function, Fault> {
+fn read_function(alloc: Global, words: &mut Words<'_>, mode: u32) -> Result<Function, Fault>
+    ensures { IfOk result (λ function. TellsFunction words.old.rest.now words.new.rest.now function) }
+{
     let count = words.next()?;
-    let mut function = Function::new(alloc, [(2, ValType::I32), (1, ValType::F64)])?;
+    let mut function = with_locals(alloc, &[(2, ValType::I32), (1, ValType::F64)])?;
     if mode == 0 {
         add_by_calls(&mut function, words, count)?;
     } else {
@@ -42,19 +50,19 @@ fn read_function(alloc: Global, words: &mut Words<'_>, mode: u32) -> Result<Func
 
 /// Reads the number of functions, and these: in mode 0 by calls, in mode 1 as values.
 fn read_code(alloc: Global, words: &[u32], mode: u32) -> Result<CodeSection, Fault>
-    ensures { IfOk result (λ code. TellsFunctions words.now mode (length code)) }
+    ensures { IfOk result (λ code. TellsCode words.now mode code) }
 {
     if mode > 1 {
         return Err(Fault::WrongInput);
     }
-    let mut words = Words::new(words);
+    let mut rest = Words::new(words);
     let mut code = CodeSection::new(alloc);
-    let count = words.next()?;
+    let count = rest.next()?;
     for _ in 0..count {
-        let function = read_function(alloc, &mut words, mode)?;
+        let function = read_function(alloc, &mut rest, mode)?;
         code.function(&function)?;
     }
-    if words.is_empty() {
+    if rest.is_empty() {
         Ok(code)
     } else {
         Err(Fault::WrongInput)
@@ -69,11 +77,11 @@ fn code_section(
     phase: u32,
     out: &mut [u8],
 ) -> Result<u64, Fault>
-    ensures ok { IfOk result (λ n. WordsAnswer words.now mode phase out.old out.new n) }
+    ensures ok { IfOk result (λ n. ToldAnswer (TellsCode words.now mode) 10 phase out.old out.new n) }
     ensures err { OnErr result (out.new ≡ out.old) }
 {
     let code = read_code(alloc, words, mode)?;
-    answer(alloc, &code, code.byte_len() as u64, phase, out)
+    answer(alloc, &code, phase, out)
 }
 
 /// A code section of the functions that the words tell.
@@ -85,7 +93,7 @@ pub extern "C" fn wb_code(
     phase: u32,
     out: &mut [u8],
 ) -> u64
-    ensures { Outcome out.old out.new result (WordsAnswer words.now mode phase out.old out.new result) }
+    ensures { Outcome out.old out.new result (ToldAnswer (TellsCode words.now mode) 10 phase out.old out.new result) }
 {
     number(code_section(alloc, words, mode, phase, out))
 }

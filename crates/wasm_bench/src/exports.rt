@@ -1,28 +1,16 @@
 // The export section.
-ghost use Rattle.std.specs.Prelude.{◌≡◌, ◌<◌, IfOk, OnErr, MatchResult, length};
-ghost use Rattle.wasm_sections.specs.Exports.{kind_code};
-ghost use Rattle.wasm_bench.specs.Answers.{HasEntries, EntriesAnswer, Outcome};
+ghost use Rattle.std.specs.Prelude.{◌≡◌, IfOk, OnErr};
+ghost use Rattle.wasm_bench.specs.Answers.{ToldAnswer, Outcome};
+ghost use Rattle.wasm_bench.specs.Exports.{TellsExports};
 
 use crate::answers::{Fault, answer, number};
+use crate::kinds::kind_of;
 use crate::names::Names;
 use std::alloc::Global;
-use wasm_sections::{ExportKind, ExportSection};
-
-/// The kind of this number.
-fn export_kind(kind: u8) -> Result<ExportKind, Fault>
-    ensures { MatchResult result (λ exported. kind_code exported ≡ kind) (λ _. 4 < kind) }
-{
-    match kind {
-        0 => Ok(ExportKind::Func),
-        1 => Ok(ExportKind::Table),
-        2 => Ok(ExportKind::Memory),
-        3 => Ok(ExportKind::Global),
-        4 => Ok(ExportKind::Tag),
-        _ => Err(Fault::WrongInput),
-    }
-}
+use wasm_sections::ExportSection;
 
 /// A section of exports: the length of the name, the kind and the index of each.
+#[tactic(auto, using(crate::proofs::ExportSteps::told_all))]
 fn build(
     alloc: Global,
     names: &[u8],
@@ -30,18 +18,18 @@ fn build(
     kinds: &[u8],
     indices: &[u32],
 ) -> Result<ExportSection, Fault>
-    ensures { IfOk result (HasEntries 1 (length lens.now) (length kinds.now) (length indices.now)) }
+    ensures { IfOk result (TellsExports names.now lens.now kinds.now indices.now) }
 {
     if kinds.len() != lens.len() || indices.len() != lens.len() {
         return Err(Fault::WrongInput);
     }
-    let mut names = Names::new(names)?;
+    let mut rest = Names::new(names)?;
     let mut section = ExportSection::new(alloc);
     for i in 0..lens.len() {
-        let name = names.next(lens[i])?;
-        section.export(name, export_kind(kinds[i])?, indices[i])?;
+        let name = rest.next(lens[i])?;
+        section.export(name, kind_of(kinds[i])?, indices[i])?;
     }
-    if names.is_empty() {
+    if rest.is_empty() {
         Ok(section)
     } else {
         Err(Fault::WrongInput)
@@ -57,11 +45,11 @@ fn export_section(
     phase: u32,
     out: &mut [u8],
 ) -> Result<u64, Fault>
-    ensures ok { IfOk result (λ n. EntriesAnswer 7 1 (length lens.now) (length kinds.now) (length indices.now) phase out.old out.new n) }
+    ensures ok { IfOk result (λ n. ToldAnswer (TellsExports names.now lens.now kinds.now indices.now) 7 phase out.old out.new n) }
     ensures err { OnErr result (out.new ≡ out.old) }
 {
     let section = build(alloc, names, lens, kinds, indices)?;
-    answer(alloc, &section, u64::from(section.len()), phase, out)
+    answer(alloc, &section, phase, out)
 }
 
 /// A section of exports. The names lie one after another, and have these lengths.
@@ -75,7 +63,7 @@ pub extern "C" fn wb_exports(
     phase: u32,
     out: &mut [u8],
 ) -> u64
-    ensures { Outcome out.old out.new result (EntriesAnswer 7 1 (length lens.now) (length kinds.now) (length indices.now) phase out.old out.new result) }
+    ensures { Outcome out.old out.new result (ToldAnswer (TellsExports names.now lens.now kinds.now indices.now) 7 phase out.old out.new result) }
 {
     number(export_section(alloc, names, lens, kinds, indices, phase, out))
 }

@@ -24,7 +24,7 @@ fn function_section(alloc: Global, types: &[u32], phase: u32, out: &mut [u8]) ->
     ensures err { OnErr result (out.new ≡ out.old) }
 {
     let section = build(alloc, types)?;
-    answer(alloc, &section, u64::from(section.len()), phase, out)
+    answer(alloc, &section, phase, out)
 }
 
 /// A section of functions of the types of these indices.

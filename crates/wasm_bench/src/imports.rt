@@ -1,17 +1,22 @@
 // The import section.
-ghost use Rattle.std.specs.Prelude.{◌≡◌, IfOk, OnErr, length};
-ghost use Rattle.wasm_bench.specs.Answers.{HasEntries, EntriesAnswer, Outcome};
+ghost use Rattle.std.specs.Prelude.{◌≡◌, IfOk, OnErr};
+ghost use Rattle.wasm_sections.specs.declared.export.ExportKind.TheVariants as kinds;
+ghost use Rattle.wasm_bench.specs.Answers.{ToldAnswer, Outcome};
+ghost use Rattle.wasm_bench.specs.Imports.{entity_of, TellsImports};
 
 use crate::answers::{Fault, answer, number};
+use crate::kinds::kind_of;
 use crate::names::Names;
 use std::alloc::Global;
 use wasm_base::{RefType, ValType};
 use wasm_sections::{
-    EntityType, GlobalType, ImportSection, MemoryType, TableType, TagKind, TagType,
+    EntityType, ExportKind, GlobalType, ImportSection, MemoryType, TableType, TagKind, TagType,
 };
 
 /// A table of functions.
-fn table(minimum: u32) -> EntityType {
+fn table(minimum: u32) -> EntityType
+    ensures { result ≡ entity_of kinds.Table minimum }
+{
     EntityType::Table(TableType {
         element_type: RefType::FUNCREF,
         table64: false,
@@ -22,7 +27,9 @@ fn table(minimum: u32) -> EntityType {
 }
 
 /// A memory of 32-bit addresses.
-fn memory(minimum: u32) -> EntityType {
+fn memory(minimum: u32) -> EntityType
+    ensures { result ≡ entity_of kinds.Memory minimum }
+{
     EntityType::Memory(MemoryType {
         minimum: u64::from(minimum),
         maximum: None,
@@ -33,7 +40,9 @@ fn memory(minimum: u32) -> EntityType {
 }
 
 /// A number of 64 bits, which can be set where the index is odd.
-fn global(index: u32) -> EntityType {
+fn global(index: u32) -> EntityType
+    ensures { result ≡ entity_of kinds.Global index }
+{
     EntityType::Global(GlobalType {
         val_type: ValType::I64,
         mutable: index % 2 == 1,
@@ -42,17 +51,18 @@ fn global(index: u32) -> EntityType {
 }
 
 /// The type of an import of this kind. The index is that of a type, or a minimum.
-fn entity(kind: u8, index: u32) -> Result<EntityType, Fault> {
+fn entity(kind: ExportKind, index: u32) -> EntityType
+    ensures { result ≡ entity_of kind index }
+{
     match kind {
-        0 => Ok(EntityType::Function(index)),
-        1 => Ok(table(index)),
-        2 => Ok(memory(index)),
-        3 => Ok(global(index)),
-        4 => Ok(EntityType::Tag(TagType {
+        ExportKind::Func => EntityType::Function(index),
+        ExportKind::Table => table(index),
+        ExportKind::Memory => memory(index),
+        ExportKind::Global => global(index),
+        ExportKind::Tag => EntityType::Tag(TagType {
             kind: TagKind::Exception,
             func_type_idx: index,
-        })),
-        _ => Err(Fault::WrongInput),
+        }),
     }
 }
 
@@ -64,21 +74,22 @@ fn build(
     kinds: &[u8],
     indices: &[u32],
 ) -> Result<ImportSection, Fault>
-    ensures { IfOk result (HasEntries 2 (length lens.now) (length kinds.now) (length indices.now)) }
+    ensures { IfOk result (TellsImports names.now lens.now kinds.now indices.now) }
 {
-    let (lens, others) = lens.as_chunks::<2>();
-    if !others.is_empty() || kinds.len() != lens.len() || indices.len() != lens.len() {
+    let (pairs, others) = lens.as_chunks::<2>();
+    if !others.is_empty() || kinds.len() != pairs.len() || indices.len() != pairs.len() {
         return Err(Fault::WrongInput);
     }
-    let mut names = Names::new(names)?;
+    let mut rest = Names::new(names)?;
     let mut section = ImportSection::new(alloc);
-    for i in 0..lens.len() {
-        let [module_len, name_len] = lens[i];
-        let module = names.next(module_len)?;
-        let name = names.next(name_len)?;
-        section.import(module, name, entity(kinds[i], indices[i])?)?;
+    for i in 0..pairs.len() {
+        let [module_len, name_len] = pairs[i];
+        let module = rest.next(module_len)?;
+        let name = rest.next(name_len)?;
+        let kind = kind_of(kinds[i])?;
+        section.import(module, name, entity(kind, indices[i]))?;
     }
-    if names.is_empty() {
+    if rest.is_empty() {
         Ok(section)
     } else {
         Err(Fault::WrongInput)
@@ -94,11 +105,11 @@ fn import_section(
     phase: u32,
     out: &mut [u8],
 ) -> Result<u64, Fault>
-    ensures ok { IfOk result (λ n. EntriesAnswer 2 2 (length lens.now) (length kinds.now) (length indices.now) phase out.old out.new n) }
+    ensures ok { IfOk result (λ n. ToldAnswer (TellsImports names.now lens.now kinds.now indices.now) 2 phase out.old out.new n) }
     ensures err { OnErr result (out.new ≡ out.old) }
 {
     let section = build(alloc, names, lens, kinds, indices)?;
-    answer(alloc, &section, u64::from(section.len()), phase, out)
+    answer(alloc, &section, phase, out)
 }
 
 /// A section of imports. The modules and names lie one after another by turns, and have these lengths.
@@ -112,7 +123,7 @@ pub extern "C" fn wb_imports(
     phase: u32,
     out: &mut [u8],
 ) -> u64
-    ensures { Outcome out.old out.new result (EntriesAnswer 2 2 (length lens.now) (length kinds.now) (length indices.now) phase out.old out.new result) }
+    ensures { Outcome out.old out.new result (ToldAnswer (TellsImports names.now lens.now kinds.now indices.now) 2 phase out.old out.new result) }
 {
     number(import_section(alloc, names, lens, kinds, indices, phase, out))
 }

@@ -2,12 +2,14 @@
 #![tactic(auto)]
 
 mod answers;
+mod bodies;
 mod calls;
 mod code;
 mod codes;
 mod exports;
 mod functions;
 mod imports;
+mod kinds;
 mod later;
 mod line;
 mod names;

@@ -1,8 +1,10 @@
 // A long line of calls.
-ghost use Rattle.std.specs.Prelude.{◌≡◌, IfOk, OnErr};
-ghost use Rattle.wasm_bench.specs.Answers.{CodeAnswer, Outcome};
+ghost use Rattle.std.specs.Prelude.{◌≡◌, ◌++◌, IfOk, OnOk, OnErr};
+ghost use Rattle.wasm_bench.specs.Answers.{ToldAnswer, Outcome};
+ghost use Rattle.wasm_bench.specs.Lines.{row_text, TellsLine, TellsLineEntry};
 
 use crate::answers::{Fault, answer, number};
+use crate::bodies::with_locals;
 use std::alloc::Global;
 use wasm_base::R;
 use wasm_code::{CodeSection, Function};
@@ -15,7 +17,10 @@ fn eight_calls(
     constant: u32,
     callee: u32,
     offset: u32,
-) -> R<()> {
+) -> R<()>
+    ensures same_reference { sink.new.sink.ghost_name ≡ sink.old.sink.ghost_name }
+    ensures bytes { OnOk result (sink.new.sink.now ≡ sink.old.sink.now ++ row_text (record { index = index; constant = constant; callee = callee; offset = offset })) }
+{
     let argument = MemArg {
         offset: u64::from(offset),
         align: 2,
@@ -33,12 +38,14 @@ fn eight_calls(
 }
 
 /// A function of eight calls for each four operands.
-fn long_line(alloc: Global, operands: &[u32]) -> Result<Function, Fault> {
+fn long_line(alloc: Global, operands: &[u32]) -> Result<Function, Fault>
+    ensures { IfOk result (λ function. TellsLine operands.now function) }
+{
     let (rows, others) = operands.as_chunks::<4>();
     if !others.is_empty() {
         return Err(Fault::WrongInput);
     }
-    let mut function = Function::new(alloc, [])?;
+    let mut function = with_locals(alloc, &[])?;
     let mut sink = function.instructions();
     for &[index, constant, callee, offset] in rows {
         eight_calls(&mut sink, index, constant, callee, offset)?;
@@ -47,19 +54,19 @@ fn long_line(alloc: Global, operands: &[u32]) -> Result<Function, Fault> {
 }
 
 fn line_section(alloc: Global, operands: &[u32], phase: u32, out: &mut [u8]) -> Result<u64, Fault>
-    ensures ok { IfOk result (λ n. CodeAnswer 1 phase out.old out.new n) }
+    ensures ok { IfOk result (λ n. ToldAnswer (TellsLineEntry operands.now) 10 phase out.old out.new n) }
     ensures err { OnErr result (out.new ≡ out.old) }
 {
     let function = long_line(alloc, operands)?;
     let mut code = CodeSection::new(alloc);
     code.function(&function)?;
-    answer(alloc, &code, code.byte_len() as u64, phase, out)
+    answer(alloc, &code, phase, out)
 }
 
 /// A code section of one function: eight calls for each four operands, with nothing to decode.
 #[unsafe(no_mangle)]
 pub extern "C" fn wb_line(alloc: Global, operands: &[u32], phase: u32, out: &mut [u8]) -> u64
-    ensures { Outcome out.old out.new result (CodeAnswer 1 phase out.old out.new result) }
+    ensures { Outcome out.old out.new result (ToldAnswer (TellsLineEntry operands.now) 10 phase out.old out.new result) }
 {
     number(line_section(alloc, operands, phase, out))
 }

@@ -1,5 +1,5 @@
 // Names that lie one after another.
-ghost use Rattle.std.specs.Prelude.{◌≡◌, ◌++◌, [], length, IfOk, IsTrue, ◌↔◌};
+ghost use Rattle.std.specs.Prelude.{◌≡◌, ◌++◌, [], length, IfOk, IsTrue, IsUtf8, ◌↔◌};
 
 use crate::answers::Fault;
 
@@ -22,14 +22,15 @@ impl<'a> Names<'a> {
 
     /// Whether no byte is left.
     pub(crate) fn is_empty(&self) -> bool
-        ensures { IsTrue result ↔ (length self.now.rest.now ≡ 0) }
+        ensures { IsTrue result ↔ (self.now.rest.now ≡ []) }
     {
         self.rest.is_empty()
     }
 
     /// The name of so many bytes.
     pub(crate) fn next(&mut self, count: u32) -> Result<&'a str, Fault>
-        ensures { IfOk result (λ name. (length name.now ≡ count) × (self.old.rest.now ≡ name.now ++ self.new.rest.now)) }
+        ensures cut { IfOk result (λ name. (length name.now ≡ count) × (self.old.rest.now ≡ name.now ++ self.new.rest.now)) }
+        ensures utf8 { IfOk result (λ name. IsUtf8 name.now) }
     {
         let Some((name, rest)) = self.rest.split_at_checked(count as usize) else {
             return Err(Fault::WrongInput);

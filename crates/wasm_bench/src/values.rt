@@ -1,4 +1,9 @@
 // Instructions as values, by the words of a workload.
+ghost use Rattle.std.specs.Prelude.{◌≡◌, pos, IfOk};
+ghost use Rattle.wasm_bench.specs.Words.{text_of, TellsOne, TellsNext};
+ghost use Rattle.wasm_insn.specs.declared.instruction.Instruction.TheVariants as cases;
+ghost use Rattle.wasm_insn.specs.declared.vector_immediate.VectorImmediate.TheVariants as vectors;
+
 use crate::answers::Fault;
 use crate::calls::mem_arg;
 use crate::codes;
@@ -7,7 +12,9 @@ use wasm_base::{CowSlice, ValType};
 use wasm_insn::{BlockType, Ieee32, Ieee64, Instruction, Numeric, VectorImmediate};
 
 /// A branch by a table: the number of labels, these, and the default one.
-fn table<'a>(words: &mut Words<'a>) -> Result<Instruction<'a>, Fault> {
+fn table<'a>(words: &mut Words<'a>) -> Result<Instruction<'a>, Fault>
+    ensures { IfOk result (λ instruction. TellsOne 23 words.old.rest.now words.new.rest.now (text_of instruction)) }
+{
     let count = words.next()?;
     let labels = words.take(count)?;
     let default = words.next()?;
@@ -15,7 +22,9 @@ fn table<'a>(words: &mut Words<'a>) -> Result<Instruction<'a>, Fault> {
 }
 
 /// A call through a table: the index of the table, and that of the type.
-fn indirect<'a>(words: &mut Words<'a>) -> Result<Instruction<'a>, Fault> {
+fn indirect<'a>(words: &mut Words<'a>) -> Result<Instruction<'a>, Fault>
+    ensures { IfOk result (λ instruction. TellsOne 13 words.old.rest.now words.new.rest.now (text_of instruction)) }
+{
     let table_index = words.next()?;
     let type_index = words.next()?;
     Ok(Instruction::CallIndirect {
@@ -26,7 +35,9 @@ fn indirect<'a>(words: &mut Words<'a>) -> Result<Instruction<'a>, Fault> {
 
 /// Control; no other code is known.
 #[inline]
-fn control<'a>(code: u32, words: &mut Words<'a>) -> Result<Instruction<'a>, Fault> {
+fn control<'a>(code: u32, words: &mut Words<'a>) -> Result<Instruction<'a>, Fault>
+    ensures { IfOk result (λ instruction. TellsOne code words.old.rest.now words.new.rest.now (text_of instruction)) }
+{
     match code {
         codes::CALL => Ok(Instruction::Call(words.next()?)),
         codes::CALL_INDIRECT => indirect(words),
@@ -43,7 +54,9 @@ fn control<'a>(code: u32, words: &mut Words<'a>) -> Result<Instruction<'a>, Faul
 
 /// Accesses of memory, and instructions without operands; other codes go on.
 #[inline]
-fn plain<'a>(code: u32, words: &mut Words<'a>) -> Result<Instruction<'a>, Fault> {
+fn plain<'a>(code: u32, words: &mut Words<'a>) -> Result<Instruction<'a>, Fault>
+    ensures { IfOk result (λ instruction. TellsOne code words.old.rest.now words.new.rest.now (text_of instruction)) }
+{
     match code {
         codes::I32_LOAD => Ok(Instruction::I32Load(mem_arg(words)?)),
         codes::I32_STORE => Ok(Instruction::I32Store(mem_arg(words)?)),
@@ -58,13 +71,17 @@ fn plain<'a>(code: u32, words: &mut Words<'a>) -> Result<Instruction<'a>, Fault>
 }
 
 /// A vector of these low bits.
-fn vector<'a>(low: u32) -> Instruction<'a> {
+fn vector<'a>(low: u32) -> Instruction<'a>
+    ensures { result ≡ cases.VectorImmediate (vectors.V128Const (pos low)) }
+{
     Instruction::VectorImmediate(VectorImmediate::V128Const(i128::from(low)))
 }
 
 /// Constants; other codes go on.
 #[inline]
-fn constant<'a>(code: u32, words: &mut Words<'a>) -> Result<Instruction<'a>, Fault> {
+fn constant<'a>(code: u32, words: &mut Words<'a>) -> Result<Instruction<'a>, Fault>
+    ensures { IfOk result (λ instruction. TellsOne code words.old.rest.now words.new.rest.now (text_of instruction)) }
+{
     match code {
         codes::I32_CONST => Ok(Instruction::I32Const(words.next()?.cast_signed())),
         codes::I64_CONST => Ok(Instruction::I64Const(words.wide()?.cast_signed())),
@@ -78,7 +95,9 @@ fn constant<'a>(code: u32, words: &mut Words<'a>) -> Result<Instruction<'a>, Fau
 
 /// Locals and globals; other codes go on.
 #[inline]
-fn variable<'a>(code: u32, words: &mut Words<'a>) -> Result<Instruction<'a>, Fault> {
+fn variable<'a>(code: u32, words: &mut Words<'a>) -> Result<Instruction<'a>, Fault>
+    ensures { IfOk result (λ instruction. TellsOne code words.old.rest.now words.new.rest.now (text_of instruction)) }
+{
     match code {
         codes::LOCAL_GET => Ok(Instruction::LocalGet(words.next()?)),
         codes::LOCAL_SET => Ok(Instruction::LocalSet(words.next()?)),
@@ -91,7 +110,9 @@ fn variable<'a>(code: u32, words: &mut Words<'a>) -> Result<Instruction<'a>, Fau
 
 /// Reads an instruction. Each of the functions above knows some codes and hands the others on, so that the compiler makes one jump of
 /// them.
-pub(crate) fn value<'a>(words: &mut Words<'a>) -> Result<Instruction<'a>, Fault> {
+pub(crate) fn value<'a>(words: &mut Words<'a>) -> Result<Instruction<'a>, Fault>
+    ensures { IfOk result (λ instruction. TellsNext words.old.rest.now words.new.rest.now (text_of instruction)) }
+{
     let code = words.next()?;
     variable(code, words)
 }

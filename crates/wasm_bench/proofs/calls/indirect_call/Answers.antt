@@ -1,0 +1,12 @@
+use Rattle.std.proofs.Common.{[], ◌∷◌, ◌∙◌, ap, refl}
+use Rattle.wasm_bench.specs.Words.{call_indirect}
+use Rattle.wasm_bench.proofs.CodeSteps.{writes_one}
+use Rattle.wasm_bench.proofs.calls.indirect_call.Goals as goal
+
+pub returns-clause-told : goal.returns-clause-told
+returns-clause-told c =
+    let table_index = c.in_ok-table_index.table_index in
+    let type_index = c.in_ok-type_index.type_index in
+    writes_one 13 13 (table_index ∷ type_index ∷ []) _ _ c.in_ok-call_indirect.ensures.writes refl
+    (c.in_ok-table_index.ensures.ok ∙ ap (λ xs. table_index ∷ xs) c.in_ok-type_index.ensures.ok)
+    (call_indirect table_index type_index)
