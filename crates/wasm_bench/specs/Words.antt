@@ -56,7 +56,7 @@ pub data Tells : List ℕ → List ℕ → Type 0 where
   br_table : (labels : List ℕ) (default : ℕ) → Tells (23 ∷ length labels ∷ (labels ++ default ∷ [])) (br_table_text labels default)
   ref_func : (index : ℕ) → Tells (24 ∷ index ∷ []) (text_of (cases.RefFunc index))
   f32_const : (bits : ℕ) → Tells (25 ∷ bits ∷ []) (text_of (cases.F32Const (record { bits = bits })))
-  return_call : Tells (26 ∷ []) (text_of cases.Return)
+  returned : Tells (26 ∷ []) (text_of cases.Return)
   v128_const : (bits : ℕ) → Tells (27 ∷ bits ∷ []) (text_of (cases.VectorImmediate (vectors.V128Const (pos bits))))
 
 -- The words before are the operands of an instruction of this code and the words after, and this is its text.

@@ -1,5 +1,5 @@
 use Rattle.std.proofs.Common.{refl, [], ◌∷◌}
-use Rattle.wasm_bench.specs.Words.{block, block_result, br_if, call, end, if_type, return_call}
+use Rattle.wasm_bench.specs.Words.{block, block_result, br_if, call, end, if_type, returned}
 use Rattle.wasm_bench.proofs.CodeSteps.{writes_one}
 use Rattle.wasm_bench.proofs.calls.control_call.Goals as goal
 
@@ -22,4 +22,4 @@ pub returns-in_ok-end-in-18-clause-told : goal.returns-in_ok-end-in-18-clause-to
 returns-in_ok-end-in-18-clause-told c = writes_one _ 18 [] _ _ c.in_ok-end-in-18.ensures.writes c.in-18.is refl end
 
 pub returns-in_ok-return_-in-26-clause-told : goal.returns-in_ok-return_-in-26-clause-told
-returns-in_ok-return_-in-26-clause-told c = writes_one _ 26 [] _ _ c.in_ok-return_-in-26.ensures.writes c.in-26.is refl return_call
+returns-in_ok-return_-in-26-clause-told c = writes_one _ 26 [] _ _ c.in_ok-return_-in-26.ensures.writes c.in-26.is refl returned

@@ -1,5 +1,5 @@
 use Rattle.std.proofs.Common.{refl, [], ◌∷◌}
-use Rattle.wasm_bench.specs.Words.{block, block_result, br_if, call, end, if_type, return_call}
+use Rattle.wasm_bench.specs.Words.{block, block_result, br_if, call, end, if_type, returned}
 use Rattle.wasm_bench.proofs.CodeSteps.{tells_one}
 use Rattle.wasm_bench.proofs.values.control.Goals as goal
 
@@ -22,4 +22,4 @@ pub returns-in-18 : goal.returns-in-18
 returns-in-18 c = tells_one _ 18 [] _ _ _ c.in-18.is refl end
 
 pub returns-in-26 : goal.returns-in-26
-returns-in-26 c = tells_one _ 26 [] _ _ _ c.in-26.is refl return_call
+returns-in-26 c = tells_one _ 26 [] _ _ _ c.in-26.is refl returned
