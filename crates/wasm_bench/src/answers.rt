@@ -1,5 +1,5 @@
 // What workloads answer.
-ghost use Rattle.std.specs.Prelude.{◌≡◌, ◌≤◌, ◌^◌, ℕ, List, length, MatchOption, MatchResult};
+ghost use Rattle.std.specs.Prelude.{◌≡◌, ◌≤◌, ◌<◌, ◌^◌, ℕ, List, length, IfErr, MatchOption, MatchResult};
 ghost use Rattle.wasm_base.specs.Pieces.{joined};
 ghost use Rattle.wasm_bench.specs.Answers.{Gives, Answers};
 ghost use Rattle.wasm_bench.specs.declared.answers.Fault.TheVariants as faults;
@@ -95,7 +95,8 @@ pub(crate) fn answer<S: Entries>(
     phase: u32,
     out: &mut [u8],
 ) -> Result<u64, Fault>
-    ensures { Answers (S.id_of section.now) (S.pieces section.now) phase out.old out.new result }
+    ensures answers { Answers (S.id_of section.now) (S.pieces section.now) phase out.old out.new result }
+    ensures wrong { IfErr result (λ fault. fault ≡ faults.WrongInput → 2 < phase) }
 {
     match phase {
         0 => section.entries_len().ok_or(Fault::Refused),

@@ -1,5 +1,5 @@
 // Named calls of a sink, by the words of a workload.
-ghost use Rattle.std.specs.Prelude.{◌≡◌, ℕ, ◌∷◌, IfOk, OnOk};
+ghost use Rattle.std.specs.Prelude.{◌≡◌, ℕ, ◌<◌, ◌∷◌, length, IfOk, OnOk, OnErr};
 ghost use Rattle.wasm_bench.specs.Words.{access, WritesOne, WritesNext};
 
 use crate::answers::Fault;
@@ -14,9 +14,10 @@ type Sink<'a> = InstructionSink<'a, Function>;
 
 /// Reads a memory argument: the offset, the alignment and the index of the memory.
 pub(crate) fn mem_arg(words: &mut Words<'_>) -> Result<MemArg, Fault>
-    ensures { IfOk result (λ argument. (offset : ℕ) × (align : ℕ) × (index : ℕ)
+    ensures ok { IfOk result (λ argument. (offset : ℕ) × (align : ℕ) × (index : ℕ)
         × (words.old.rest.now ≡ offset ∷ align ∷ index ∷ words.new.rest.now)
         × (argument ≡ access offset align index)) }
+    ensures err { OnErr result (length words.old.rest.now < 3) }
 {
     let offset = words.next()?;
     let align = words.next()?;

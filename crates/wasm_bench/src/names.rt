@@ -1,5 +1,5 @@
 // Names that lie one after another.
-ghost use Rattle.std.specs.Prelude.{◌≡◌, ◌++◌, [], length, IfOk, IsTrue, IsUtf8, ◌↔◌};
+ghost use Rattle.std.specs.Prelude.{◌≡◌, ◌++◌, [], length, IfOk, OnErr, IsTrue, IsUtf8, ◌↔◌};
 
 use crate::answers::Fault;
 
@@ -12,7 +12,8 @@ pub(crate) struct Names<'a> {
 impl<'a> Names<'a> {
     /// The bytes have to be UTF-8.
     pub(crate) fn new(bytes: &'a [u8]) -> Result<Self, Fault>
-        ensures { IfOk result (λ names. names.rest.now ≡ bytes.now) }
+        ensures ok { IfOk result (λ names. names.rest.now ≡ bytes.now) }
+        ensures err { OnErr result (IsUtf8 bytes.now → ⊥) }
     {
         match str::from_utf8(bytes) {
             Ok(text) => Ok(Names { rest: text }),

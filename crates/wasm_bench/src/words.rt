@@ -1,5 +1,5 @@
 // The words of a code workload.
-ghost use Rattle.std.specs.Prelude.{◌≡◌, ℕ, ◌+◌, ◌*◌, ◌^◌, ◌∷◌, ◌++◌, [], length, IfOk, OnErr, IsTrue, ◌↔◌};
+ghost use Rattle.std.specs.Prelude.{◌≡◌, ℕ, ◌+◌, ◌*◌, ◌^◌, ◌<◌, ◌∷◌, ◌++◌, [], length, IfOk, OnErr, IsTrue, ◌↔◌};
 
 use crate::answers::Fault;
 
@@ -39,7 +39,8 @@ impl<'a> Words<'a> {
 
     /// A number of 64 bits: the low word, and the high one.
     pub(crate) fn wide(&mut self) -> Result<u64, Fault>
-        ensures { IfOk result (λ n. (low : ℕ) × (high : ℕ) × (self.old.rest.now ≡ low ∷ high ∷ self.new.rest.now) × (n ≡ low + 2 ^ 32 * high)) }
+        ensures ok { IfOk result (λ n. (low : ℕ) × (high : ℕ) × (self.old.rest.now ≡ low ∷ high ∷ self.new.rest.now) × (n ≡ low + 2 ^ 32 * high)) }
+        ensures err { OnErr result (length self.old.rest.now < 2) }
     {
         let low = self.next()?;
         let high = self.next()?;
@@ -49,6 +50,7 @@ impl<'a> Words<'a> {
     /// The next `count` words.
     pub(crate) fn take(&mut self, count: u32) -> Result<&'a [u32], Fault>
         ensures ok { IfOk result (λ words. (length words.now ≡ count) × (self.old.rest.now ≡ words.now ++ self.new.rest.now)) }
+        ensures err { OnErr result (length self.old.rest.now < count) }
     {
         let Some((words, rest)) = self.rest.split_at_checked(count as usize) else {
             return Err(Fault::WrongInput);

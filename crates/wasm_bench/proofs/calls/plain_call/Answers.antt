@@ -24,14 +24,14 @@ returns-in_ok-select-in-20-clause-told c = writes_one _ 20 [] _ _ c.in_ok-select
 
 pub returns-in_ok-i32_load-in-10-clause-told : goal.returns-in_ok-i32_load-in-10-clause-told
 returns-in_ok-i32_load-in-10-clause-told c =
-    let m = c.in_ok-mem_arg-in-10.ensures in
+    let m = c.in_ok-mem_arg-in-10.ensures.ok in
     let operands = m.0 ∷ m.1 ∷ m.2 ∷ [] in
     let tells = subst (λ argument. Tells (10 ∷ operands) (text_of (cases.I32Load argument))) (sym m.4) (i32_load m.0 m.1 m.2) in
     writes_one _ 10 operands _ _ c.in_ok-i32_load-in-10.ensures.writes c.in-10.is m.3 tells
 
 pub returns-in_ok-i32_store-in-11-clause-told : goal.returns-in_ok-i32_store-in-11-clause-told
 returns-in_ok-i32_store-in-11-clause-told c =
-    let m = c.in_ok-mem_arg-in-11.ensures in
+    let m = c.in_ok-mem_arg-in-11.ensures.ok in
     let operands = m.0 ∷ m.1 ∷ m.2 ∷ [] in
     let tells = subst (λ argument. Tells (11 ∷ operands) (text_of (cases.I32Store argument))) (sym m.4) (i32_store m.0 m.1 m.2) in
     writes_one _ 11 operands _ _ c.in_ok-i32_store-in-11.ensures.writes c.in-11.is m.3 tells

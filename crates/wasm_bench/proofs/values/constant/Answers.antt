@@ -20,7 +20,7 @@ returns-in_ok-next-in-3 c =
 pub returns-in_ok-wide-in-4 : goal.returns-in_ok-wide-in-4
 returns-in_ok-wide-in-4 c =
     let bits = c.in_ok-wide-in-4.field-0 in
-    let w = c.in_ok-wide-in-4.ensures in
+    let w = c.in_ok-wide-in-4.ensures.ok in
     let below : bits < 2 ^ 64 = search rules in
     let same : cast_unsigned w64 c.cast_signed-in-4.result ≡ wide w.0 w.1 = ap (cast_unsigned w64) c.cast_signed-in-4.ensures ∙ of_z-to_z w64 bits below ∙ w.3 in
     let tells = subst (λ n. Tells (4 ∷ w.0 ∷ w.1 ∷ []) (text_of (cases.I64Const (cast_signed w64 n)))) (sym same) (i64_const w.0 w.1) in
@@ -34,7 +34,7 @@ returns-in_ok-next-in-25 c =
 
 pub returns-in_ok-wide-in-5 : goal.returns-in_ok-wide-in-5
 returns-in_ok-wide-in-5 c =
-    let w = c.in_ok-wide-in-5.ensures in
+    let w = c.in_ok-wide-in-5.ensures.ok in
     let same : c.new-in-5.result.bits ≡ wide w.0 w.1 = c.new-in-5.ensures ∙ w.3 in
     let tells = subst (λ n. Tells (5 ∷ w.0 ∷ w.1 ∷ []) (text_of (cases.F64Const (record { bits = n })))) (sym same) (f64_const w.0 w.1) in
     tells_one _ 5 (w.0 ∷ w.1 ∷ []) _ _ _ c.in-5.is w.2 tells

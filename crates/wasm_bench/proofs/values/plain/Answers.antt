@@ -24,14 +24,14 @@ returns-in-20 c = tells_one _ 20 [] _ _ _ c.in-20.is refl select
 
 pub returns-in_ok-mem_arg-in-10 : goal.returns-in_ok-mem_arg-in-10
 returns-in_ok-mem_arg-in-10 c =
-    let m = c.in_ok-mem_arg-in-10.ensures in
+    let m = c.in_ok-mem_arg-in-10.ensures.ok in
     let operands = m.0 ∷ m.1 ∷ m.2 ∷ [] in
     let tells = subst (λ argument. Tells (10 ∷ operands) (text_of (cases.I32Load argument))) (sym m.4) (i32_load m.0 m.1 m.2) in
     tells_one _ 10 operands _ _ _ c.in-10.is m.3 tells
 
 pub returns-in_ok-mem_arg-in-11 : goal.returns-in_ok-mem_arg-in-11
 returns-in_ok-mem_arg-in-11 c =
-    let m = c.in_ok-mem_arg-in-11.ensures in
+    let m = c.in_ok-mem_arg-in-11.ensures.ok in
     let operands = m.0 ∷ m.1 ∷ m.2 ∷ [] in
     let tells = subst (λ argument. Tells (11 ∷ operands) (text_of (cases.I32Store argument))) (sym m.4) (i32_store m.0 m.1 m.2) in
     tells_one _ 11 operands _ _ _ c.in-11.is m.3 tells
