@@ -49,6 +49,7 @@ fn check_all(
     instructions: &[Instruction<'_>],
     rows: &[&str],
 ) -> Result<(), Fail> {
+    assert_eq!(rt; instructions.len(), rows.len());
     for (instruction, row) in instructions.iter().zip(rows.iter()) {
         check(rt, alloc, instruction, row)?;
     }
@@ -57,47 +58,87 @@ fn check_all(
 
 #[test]
 fn instructions_from_0(rt: HostRuntime) -> Result<(), Fail> {
-    check_all(&rt, rt.alloc(), &cases::FROM_0, &rows::INSTRUCTIONS[0..])
+    check_all(&rt, rt.alloc(), &cases::FROM_0, &rows::INSTRUCTIONS[0..12])
 }
 
 #[test]
 fn instructions_from_12(rt: HostRuntime) -> Result<(), Fail> {
-    check_all(&rt, rt.alloc(), &cases::FROM_12, &rows::INSTRUCTIONS[12..])
+    check_all(
+        &rt,
+        rt.alloc(),
+        &cases::FROM_12,
+        &rows::INSTRUCTIONS[12..24],
+    )
 }
 
 #[test]
 fn instructions_from_24(rt: HostRuntime) -> Result<(), Fail> {
-    check_all(&rt, rt.alloc(), &cases::FROM_24, &rows::INSTRUCTIONS[24..])
+    check_all(
+        &rt,
+        rt.alloc(),
+        &cases::FROM_24,
+        &rows::INSTRUCTIONS[24..36],
+    )
 }
 
 #[test]
 fn instructions_from_36(rt: HostRuntime) -> Result<(), Fail> {
-    check_all(&rt, rt.alloc(), &cases::FROM_36, &rows::INSTRUCTIONS[36..])
+    check_all(
+        &rt,
+        rt.alloc(),
+        &cases::FROM_36,
+        &rows::INSTRUCTIONS[36..48],
+    )
 }
 
 #[test]
 fn instructions_from_48(rt: HostRuntime) -> Result<(), Fail> {
-    check_all(&rt, rt.alloc(), &cases::FROM_48, &rows::INSTRUCTIONS[48..])
+    check_all(
+        &rt,
+        rt.alloc(),
+        &cases::FROM_48,
+        &rows::INSTRUCTIONS[48..60],
+    )
 }
 
 #[test]
 fn instructions_from_60(rt: HostRuntime) -> Result<(), Fail> {
-    check_all(&rt, rt.alloc(), &cases::FROM_60, &rows::INSTRUCTIONS[60..])
+    check_all(
+        &rt,
+        rt.alloc(),
+        &cases::FROM_60,
+        &rows::INSTRUCTIONS[60..72],
+    )
 }
 
 #[test]
 fn instructions_from_72(rt: HostRuntime) -> Result<(), Fail> {
-    check_all(&rt, rt.alloc(), &cases::FROM_72, &rows::INSTRUCTIONS[72..])
+    check_all(
+        &rt,
+        rt.alloc(),
+        &cases::FROM_72,
+        &rows::INSTRUCTIONS[72..84],
+    )
 }
 
 #[test]
 fn instructions_from_84(rt: HostRuntime) -> Result<(), Fail> {
-    check_all(&rt, rt.alloc(), &cases::FROM_84, &rows::INSTRUCTIONS[84..])
+    check_all(
+        &rt,
+        rt.alloc(),
+        &cases::FROM_84,
+        &rows::INSTRUCTIONS[84..96],
+    )
 }
 
 #[test]
 fn instructions_from_96(rt: HostRuntime) -> Result<(), Fail> {
-    check_all(&rt, rt.alloc(), &cases::FROM_96, &rows::INSTRUCTIONS[96..])
+    check_all(
+        &rt,
+        rt.alloc(),
+        &cases::FROM_96,
+        &rows::INSTRUCTIONS[96..108],
+    )
 }
 
 #[test]
@@ -106,7 +147,7 @@ fn instructions_from_108(rt: HostRuntime) -> Result<(), Fail> {
         &rt,
         rt.alloc(),
         &cases::FROM_108,
-        &rows::INSTRUCTIONS[108..],
+        &rows::INSTRUCTIONS[108..120],
     )
 }
 
@@ -116,31 +157,67 @@ fn floats(rt: HostRuntime) -> Result<(), Fail> {
 }
 
 #[test]
-fn nested_instructions(rt: HostRuntime) -> Result<(), Fail> {
-    let alloc = rt.alloc();
+fn numerics(rt: HostRuntime) -> Result<(), Fail> {
+    assert_eq!(rt; cases::NUMERICS.len(), rows::NUMERICS.len());
     for (case, row) in cases::NUMERICS.iter().zip(rows::NUMERICS.iter()) {
-        check(&rt, alloc, &Instruction::Numeric(*case), row)?;
+        check(&rt, rt.alloc(), &Instruction::Numeric(*case), row)?;
     }
+    Ok(())
+}
+
+#[test]
+fn aggregates(rt: HostRuntime) -> Result<(), Fail> {
+    assert_eq!(rt; cases::AGGREGATES.len(), rows::AGGREGATES.len());
     for (case, row) in cases::AGGREGATES.iter().zip(rows::AGGREGATES.iter()) {
-        check(&rt, alloc, &Instruction::Aggregate(*case), row)?;
+        check(&rt, rt.alloc(), &Instruction::Aggregate(*case), row)?;
     }
+    Ok(())
+}
+
+#[test]
+fn prefixed_numerics(rt: HostRuntime) -> Result<(), Fail> {
+    assert_eq!(rt;
+        cases::PREFIXED_NUMERICS.len(),
+        rows::PREFIXED_NUMERICS.len()
+    );
     for (case, row) in cases::PREFIXED_NUMERICS
         .iter()
         .zip(rows::PREFIXED_NUMERICS.iter())
     {
-        check(&rt, alloc, &Instruction::PrefixedNumeric(*case), row)?;
+        check(&rt, rt.alloc(), &Instruction::PrefixedNumeric(*case), row)?;
     }
+    Ok(())
+}
+
+#[test]
+fn vectors(rt: HostRuntime) -> Result<(), Fail> {
+    assert_eq!(rt; cases::VECTORS.len(), rows::VECTORS.len());
     for (case, row) in cases::VECTORS.iter().zip(rows::VECTORS.iter()) {
-        check(&rt, alloc, &Instruction::Vector(*case), row)?;
+        check(&rt, rt.alloc(), &Instruction::Vector(*case), row)?;
     }
+    Ok(())
+}
+
+#[test]
+fn vector_immediates(rt: HostRuntime) -> Result<(), Fail> {
+    assert_eq!(rt;
+        cases::VECTOR_IMMEDIATES.len(),
+        rows::VECTOR_IMMEDIATES.len()
+    );
     for (case, row) in cases::VECTOR_IMMEDIATES
         .iter()
         .zip(rows::VECTOR_IMMEDIATES.iter())
     {
-        check(&rt, alloc, &Instruction::VectorImmediate(*case), row)?;
+        check(&rt, rt.alloc(), &Instruction::VectorImmediate(*case), row)?;
     }
+    Ok(())
+}
+
+#[test]
+fn atomics(rt: HostRuntime) -> Result<(), Fail> {
+    assert_eq!(rt; cases::ATOMICS.len(), rows::ATOMICS.len());
     for (case, row) in cases::ATOMICS.iter().zip(rows::ATOMICS.iter()) {
-        check(&rt, alloc, &Instruction::Atomic(*case), row)?;
+        check(&rt, rt.alloc(), &Instruction::Atomic(*case), row)?;
     }
     Ok(())
 }
