@@ -654,293 +654,336 @@ impl<'a, A: Allocator> Instruction<'a, A> {
     }
 }
 
+// A copy is made in a function for each group of cases, since the time of a proof grows with the square of its arms.
 impl<'a, A: Allocator + Copy> Instruction<'a, A> {
     /// A copy. Owned lists are copied to their own allocator.
     pub fn clone(&self) -> R<Self>
         ensures ok { IfOk result (λ i. row_of i ≡ row_of self.now) }
         ensures err { result ≢ Err Refused.TooLong }
     {
-        match self {
-            Instruction::Unreachable => Ok(Instruction::Unreachable),
-            Instruction::Nop => Ok(Instruction::Nop),
-            Instruction::Block(a) => Ok(Instruction::Block(*a)),
-            Instruction::Loop(a) => Ok(Instruction::Loop(*a)),
-            Instruction::If(a) => Ok(Instruction::If(*a)),
-            Instruction::Else => Ok(Instruction::Else),
-            Instruction::Try(a) => Ok(Instruction::Try(*a)),
-            Instruction::Catch(a) => Ok(Instruction::Catch(*a)),
-            Instruction::Throw(a) => Ok(Instruction::Throw(*a)),
-            Instruction::Rethrow(a) => Ok(Instruction::Rethrow(*a)),
-            Instruction::ThrowRef => Ok(Instruction::ThrowRef),
-            Instruction::End => Ok(Instruction::End),
-            Instruction::Br(a) => Ok(Instruction::Br(*a)),
-            Instruction::BrIf(a) => Ok(Instruction::BrIf(*a)),
-            Instruction::BrTable(a, b) => Ok(Instruction::BrTable(a.clone()?, *b)),
-            Instruction::Return => Ok(Instruction::Return),
-            Instruction::Call(a) => Ok(Instruction::Call(*a)),
+        Ok(match self {
+            Instruction::Unreachable => Instruction::Unreachable,
+            Instruction::Nop => Instruction::Nop,
+            Instruction::Block(a) => Instruction::Block(*a),
+            Instruction::Loop(a) => Instruction::Loop(*a),
+            Instruction::If(a) => Instruction::If(*a),
+            Instruction::Else => Instruction::Else,
+            Instruction::Try(a) => Instruction::Try(*a),
+            Instruction::Catch(a) => Instruction::Catch(*a),
+            Instruction::Throw(a) => Instruction::Throw(*a),
+            Instruction::Rethrow(a) => Instruction::Rethrow(*a),
+            Instruction::ThrowRef => Instruction::ThrowRef,
+            Instruction::End => Instruction::End,
+            Instruction::Br(a) => Instruction::Br(*a),
+            Instruction::BrIf(a) => Instruction::BrIf(*a),
+            Instruction::BrTable(a, b) => Instruction::BrTable(a.clone()?, *b),
+            Instruction::Return => Instruction::Return,
+            Instruction::Call(a) => Instruction::Call(*a),
             Instruction::CallIndirect {
                 type_index,
                 table_index,
-            } => Ok(Instruction::CallIndirect {
+            } => Instruction::CallIndirect {
                 type_index: *type_index,
                 table_index: *table_index,
-            }),
-            Instruction::ReturnCall(a) => Ok(Instruction::ReturnCall(*a)),
+            },
+            Instruction::ReturnCall(a) => Instruction::ReturnCall(*a),
             Instruction::ReturnCallIndirect {
                 type_index,
                 table_index,
-            } => Ok(Instruction::ReturnCallIndirect {
+            } => Instruction::ReturnCallIndirect {
                 type_index: *type_index,
                 table_index: *table_index,
-            }),
-            Instruction::CallRef(a) => Ok(Instruction::CallRef(*a)),
-            Instruction::ReturnCallRef(a) => Ok(Instruction::ReturnCallRef(*a)),
-            Instruction::Delegate(a) => Ok(Instruction::Delegate(*a)),
-            Instruction::CatchAll => Ok(Instruction::CatchAll),
-            Instruction::Drop => Ok(Instruction::Drop),
-            Instruction::Select => Ok(Instruction::Select),
-            Instruction::TypedSelect(a) => Ok(Instruction::TypedSelect(*a)),
-            Instruction::TypedSelectMulti(a) => Ok(Instruction::TypedSelectMulti(a.clone()?)),
-            Instruction::TryTable(a, b) => Ok(Instruction::TryTable(*a, b.clone()?)),
-            Instruction::LocalGet(a) => Ok(Instruction::LocalGet(*a)),
-            Instruction::LocalSet(a) => Ok(Instruction::LocalSet(*a)),
-            Instruction::LocalTee(a) => Ok(Instruction::LocalTee(*a)),
-            Instruction::GlobalGet(a) => Ok(Instruction::GlobalGet(*a)),
-            Instruction::GlobalSet(a) => Ok(Instruction::GlobalSet(*a)),
-            Instruction::TableGet(a) => Ok(Instruction::TableGet(*a)),
-            Instruction::TableSet(a) => Ok(Instruction::TableSet(*a)),
-            Instruction::I32Load(a) => Ok(Instruction::I32Load(*a)),
-            Instruction::I64Load(a) => Ok(Instruction::I64Load(*a)),
-            Instruction::F32Load(a) => Ok(Instruction::F32Load(*a)),
-            Instruction::F64Load(a) => Ok(Instruction::F64Load(*a)),
-            Instruction::I32Load8S(a) => Ok(Instruction::I32Load8S(*a)),
-            Instruction::I32Load8U(a) => Ok(Instruction::I32Load8U(*a)),
-            Instruction::I32Load16S(a) => Ok(Instruction::I32Load16S(*a)),
-            Instruction::I32Load16U(a) => Ok(Instruction::I32Load16U(*a)),
-            Instruction::I64Load8S(a) => Ok(Instruction::I64Load8S(*a)),
-            Instruction::I64Load8U(a) => Ok(Instruction::I64Load8U(*a)),
-            Instruction::I64Load16S(a) => Ok(Instruction::I64Load16S(*a)),
-            Instruction::I64Load16U(a) => Ok(Instruction::I64Load16U(*a)),
-            Instruction::I64Load32S(a) => Ok(Instruction::I64Load32S(*a)),
-            Instruction::I64Load32U(a) => Ok(Instruction::I64Load32U(*a)),
-            Instruction::I32Store(a) => Ok(Instruction::I32Store(*a)),
-            Instruction::I64Store(a) => Ok(Instruction::I64Store(*a)),
-            Instruction::F32Store(a) => Ok(Instruction::F32Store(*a)),
-            Instruction::F64Store(a) => Ok(Instruction::F64Store(*a)),
-            Instruction::I32Store8(a) => Ok(Instruction::I32Store8(*a)),
-            Instruction::I32Store16(a) => Ok(Instruction::I32Store16(*a)),
-            Instruction::I64Store8(a) => Ok(Instruction::I64Store8(*a)),
-            Instruction::I64Store16(a) => Ok(Instruction::I64Store16(*a)),
-            Instruction::I64Store32(a) => Ok(Instruction::I64Store32(*a)),
-            Instruction::MemorySize(a) => Ok(Instruction::MemorySize(*a)),
-            Instruction::MemoryGrow(a) => Ok(Instruction::MemoryGrow(*a)),
-            Instruction::I32Const(a) => Ok(Instruction::I32Const(*a)),
-            Instruction::I64Const(a) => Ok(Instruction::I64Const(*a)),
-            Instruction::F32Const(a) => Ok(Instruction::F32Const(*a)),
-            Instruction::F64Const(a) => Ok(Instruction::F64Const(*a)),
-            Instruction::RefNull(a) => Ok(Instruction::RefNull(*a)),
-            Instruction::RefIsNull => Ok(Instruction::RefIsNull),
-            Instruction::RefFunc(a) => Ok(Instruction::RefFunc(*a)),
-            Instruction::RefEq => Ok(Instruction::RefEq),
-            Instruction::RefAsNonNull => Ok(Instruction::RefAsNonNull),
-            Instruction::BrOnNull(a) => Ok(Instruction::BrOnNull(*a)),
-            Instruction::BrOnNonNull(a) => Ok(Instruction::BrOnNonNull(*a)),
-            Instruction::ContNew(a) => Ok(Instruction::ContNew(*a)),
+            },
+            Instruction::CallRef(a) => Instruction::CallRef(*a),
+            Instruction::ReturnCallRef(a) => Instruction::ReturnCallRef(*a),
+            Instruction::Delegate(a) => Instruction::Delegate(*a),
+            Instruction::CatchAll => Instruction::CatchAll,
+            Instruction::Drop => Instruction::Drop,
+            Instruction::Select => Instruction::Select,
+            Instruction::TypedSelect(a) => Instruction::TypedSelect(*a),
+            Instruction::TypedSelectMulti(a) => Instruction::TypedSelectMulti(a.clone()?),
+            Instruction::TryTable(a, b) => Instruction::TryTable(*a, b.clone()?),
+            _ => return self.clone_access(),
+        })
+    }
+
+    /// A copy of what gets and sets variables and table elements, and accesses memory; or of a later case.
+    fn clone_access(&self) -> R<Self>
+        ensures ok { IfOk result (λ i. row_of i ≡ row_of self.now) }
+        ensures err { result ≢ Err Refused.TooLong }
+    {
+        Ok(match self {
+            Instruction::LocalGet(a) => Instruction::LocalGet(*a),
+            Instruction::LocalSet(a) => Instruction::LocalSet(*a),
+            Instruction::LocalTee(a) => Instruction::LocalTee(*a),
+            Instruction::GlobalGet(a) => Instruction::GlobalGet(*a),
+            Instruction::GlobalSet(a) => Instruction::GlobalSet(*a),
+            Instruction::TableGet(a) => Instruction::TableGet(*a),
+            Instruction::TableSet(a) => Instruction::TableSet(*a),
+            Instruction::I32Load(a) => Instruction::I32Load(*a),
+            Instruction::I64Load(a) => Instruction::I64Load(*a),
+            Instruction::F32Load(a) => Instruction::F32Load(*a),
+            Instruction::F64Load(a) => Instruction::F64Load(*a),
+            Instruction::I32Load8S(a) => Instruction::I32Load8S(*a),
+            Instruction::I32Load8U(a) => Instruction::I32Load8U(*a),
+            Instruction::I32Load16S(a) => Instruction::I32Load16S(*a),
+            Instruction::I32Load16U(a) => Instruction::I32Load16U(*a),
+            Instruction::I64Load8S(a) => Instruction::I64Load8S(*a),
+            Instruction::I64Load8U(a) => Instruction::I64Load8U(*a),
+            Instruction::I64Load16S(a) => Instruction::I64Load16S(*a),
+            Instruction::I64Load16U(a) => Instruction::I64Load16U(*a),
+            Instruction::I64Load32S(a) => Instruction::I64Load32S(*a),
+            Instruction::I64Load32U(a) => Instruction::I64Load32U(*a),
+            Instruction::I32Store(a) => Instruction::I32Store(*a),
+            Instruction::I64Store(a) => Instruction::I64Store(*a),
+            Instruction::F32Store(a) => Instruction::F32Store(*a),
+            Instruction::F64Store(a) => Instruction::F64Store(*a),
+            Instruction::I32Store8(a) => Instruction::I32Store8(*a),
+            Instruction::I32Store16(a) => Instruction::I32Store16(*a),
+            Instruction::I64Store8(a) => Instruction::I64Store8(*a),
+            Instruction::I64Store16(a) => Instruction::I64Store16(*a),
+            Instruction::I64Store32(a) => Instruction::I64Store32(*a),
+            Instruction::MemorySize(a) => Instruction::MemorySize(*a),
+            Instruction::MemoryGrow(a) => Instruction::MemoryGrow(*a),
+            _ => return self.clone_reference(),
+        })
+    }
+
+    /// A copy of a constant, or of what works on references and continuations; or of a later case.
+    fn clone_reference(&self) -> R<Self>
+        ensures ok { IfOk result (λ i. row_of i ≡ row_of self.now) }
+        ensures err { result ≢ Err Refused.TooLong }
+    {
+        Ok(match self {
+            Instruction::I32Const(a) => Instruction::I32Const(*a),
+            Instruction::I64Const(a) => Instruction::I64Const(*a),
+            Instruction::F32Const(a) => Instruction::F32Const(*a),
+            Instruction::F64Const(a) => Instruction::F64Const(*a),
+            Instruction::RefNull(a) => Instruction::RefNull(*a),
+            Instruction::RefIsNull => Instruction::RefIsNull,
+            Instruction::RefFunc(a) => Instruction::RefFunc(*a),
+            Instruction::RefEq => Instruction::RefEq,
+            Instruction::RefAsNonNull => Instruction::RefAsNonNull,
+            Instruction::BrOnNull(a) => Instruction::BrOnNull(*a),
+            Instruction::BrOnNonNull(a) => Instruction::BrOnNonNull(*a),
+            Instruction::ContNew(a) => Instruction::ContNew(*a),
             Instruction::ContBind {
                 argument_index,
                 result_index,
-            } => Ok(Instruction::ContBind {
+            } => Instruction::ContBind {
                 argument_index: *argument_index,
                 result_index: *result_index,
-            }),
-            Instruction::Suspend(a) => Ok(Instruction::Suspend(*a)),
+            },
+            Instruction::Suspend(a) => Instruction::Suspend(*a),
             Instruction::Resume {
                 cont_type_index,
                 resume_table,
-            } => Ok(Instruction::Resume {
+            } => Instruction::Resume {
                 cont_type_index: *cont_type_index,
                 resume_table: resume_table.clone()?,
-            }),
+            },
             Instruction::ResumeThrow {
                 cont_type_index,
                 tag_index,
                 resume_table,
-            } => Ok(Instruction::ResumeThrow {
+            } => Instruction::ResumeThrow {
                 cont_type_index: *cont_type_index,
                 tag_index: *tag_index,
                 resume_table: resume_table.clone()?,
-            }),
+            },
             Instruction::ResumeThrowRef {
                 cont_type_index,
                 resume_table,
-            } => Ok(Instruction::ResumeThrowRef {
+            } => Instruction::ResumeThrowRef {
                 cont_type_index: *cont_type_index,
                 resume_table: resume_table.clone()?,
-            }),
+            },
             Instruction::Switch {
                 cont_type_index,
                 tag_index,
-            } => Ok(Instruction::Switch {
+            } => Instruction::Switch {
                 cont_type_index: *cont_type_index,
                 tag_index: *tag_index,
-            }),
-            Instruction::StructNew(a) => Ok(Instruction::StructNew(*a)),
-            Instruction::StructNewDefault(a) => Ok(Instruction::StructNewDefault(*a)),
+            },
+            _ => return self.clone_aggregate(),
+        })
+    }
+
+    /// A copy of what works on structs and arrays, and of casts; or of a later case.
+    fn clone_aggregate(&self) -> R<Self>
+        ensures ok { IfOk result (λ i. row_of i ≡ row_of self.now) }
+        ensures err { result ≢ Err Refused.TooLong }
+    {
+        Ok(match self {
+            Instruction::StructNew(a) => Instruction::StructNew(*a),
+            Instruction::StructNewDefault(a) => Instruction::StructNewDefault(*a),
             Instruction::StructGet {
                 struct_type_index,
                 field_index,
-            } => Ok(Instruction::StructGet {
+            } => Instruction::StructGet {
                 struct_type_index: *struct_type_index,
                 field_index: *field_index,
-            }),
+            },
             Instruction::StructGetS {
                 struct_type_index,
                 field_index,
-            } => Ok(Instruction::StructGetS {
+            } => Instruction::StructGetS {
                 struct_type_index: *struct_type_index,
                 field_index: *field_index,
-            }),
+            },
             Instruction::StructGetU {
                 struct_type_index,
                 field_index,
-            } => Ok(Instruction::StructGetU {
+            } => Instruction::StructGetU {
                 struct_type_index: *struct_type_index,
                 field_index: *field_index,
-            }),
+            },
             Instruction::StructSet {
                 struct_type_index,
                 field_index,
-            } => Ok(Instruction::StructSet {
+            } => Instruction::StructSet {
                 struct_type_index: *struct_type_index,
                 field_index: *field_index,
-            }),
-            Instruction::ArrayNew(a) => Ok(Instruction::ArrayNew(*a)),
-            Instruction::ArrayNewDefault(a) => Ok(Instruction::ArrayNewDefault(*a)),
+            },
+            Instruction::ArrayNew(a) => Instruction::ArrayNew(*a),
+            Instruction::ArrayNewDefault(a) => Instruction::ArrayNewDefault(*a),
             Instruction::ArrayNewFixed {
                 array_type_index,
                 array_size,
-            } => Ok(Instruction::ArrayNewFixed {
+            } => Instruction::ArrayNewFixed {
                 array_type_index: *array_type_index,
                 array_size: *array_size,
-            }),
+            },
             Instruction::ArrayNewData {
                 array_type_index,
                 array_data_index,
-            } => Ok(Instruction::ArrayNewData {
+            } => Instruction::ArrayNewData {
                 array_type_index: *array_type_index,
                 array_data_index: *array_data_index,
-            }),
+            },
             Instruction::ArrayNewElem {
                 array_type_index,
                 array_elem_index,
-            } => Ok(Instruction::ArrayNewElem {
+            } => Instruction::ArrayNewElem {
                 array_type_index: *array_type_index,
                 array_elem_index: *array_elem_index,
-            }),
-            Instruction::ArrayGet(a) => Ok(Instruction::ArrayGet(*a)),
-            Instruction::ArrayGetS(a) => Ok(Instruction::ArrayGetS(*a)),
-            Instruction::ArrayGetU(a) => Ok(Instruction::ArrayGetU(*a)),
-            Instruction::ArraySet(a) => Ok(Instruction::ArraySet(*a)),
-            Instruction::ArrayFill(a) => Ok(Instruction::ArrayFill(*a)),
+            },
+            Instruction::ArrayGet(a) => Instruction::ArrayGet(*a),
+            Instruction::ArrayGetS(a) => Instruction::ArrayGetS(*a),
+            Instruction::ArrayGetU(a) => Instruction::ArrayGetU(*a),
+            Instruction::ArraySet(a) => Instruction::ArraySet(*a),
+            Instruction::ArrayFill(a) => Instruction::ArrayFill(*a),
             Instruction::ArrayCopy {
                 array_type_index_dst,
                 array_type_index_src,
-            } => Ok(Instruction::ArrayCopy {
+            } => Instruction::ArrayCopy {
                 array_type_index_dst: *array_type_index_dst,
                 array_type_index_src: *array_type_index_src,
-            }),
+            },
             Instruction::ArrayInitData {
                 array_type_index,
                 array_data_index,
-            } => Ok(Instruction::ArrayInitData {
+            } => Instruction::ArrayInitData {
                 array_type_index: *array_type_index,
                 array_data_index: *array_data_index,
-            }),
+            },
             Instruction::ArrayInitElem {
                 array_type_index,
                 array_elem_index,
-            } => Ok(Instruction::ArrayInitElem {
+            } => Instruction::ArrayInitElem {
                 array_type_index: *array_type_index,
                 array_elem_index: *array_elem_index,
-            }),
-            Instruction::RefTestNonNull(a) => Ok(Instruction::RefTestNonNull(*a)),
-            Instruction::RefTestNullable(a) => Ok(Instruction::RefTestNullable(*a)),
-            Instruction::RefCastNonNull(a) => Ok(Instruction::RefCastNonNull(*a)),
-            Instruction::RefCastNullable(a) => Ok(Instruction::RefCastNullable(*a)),
+            },
+            Instruction::RefTestNonNull(a) => Instruction::RefTestNonNull(*a),
+            Instruction::RefTestNullable(a) => Instruction::RefTestNullable(*a),
+            Instruction::RefCastNonNull(a) => Instruction::RefCastNonNull(*a),
+            Instruction::RefCastNullable(a) => Instruction::RefCastNullable(*a),
             Instruction::BrOnCast {
                 relative_depth,
                 from_ref_type,
                 to_ref_type,
-            } => Ok(Instruction::BrOnCast {
+            } => Instruction::BrOnCast {
                 relative_depth: *relative_depth,
                 from_ref_type: *from_ref_type,
                 to_ref_type: *to_ref_type,
-            }),
+            },
             Instruction::BrOnCastFail {
                 relative_depth,
                 from_ref_type,
                 to_ref_type,
-            } => Ok(Instruction::BrOnCastFail {
+            } => Instruction::BrOnCastFail {
                 relative_depth: *relative_depth,
                 from_ref_type: *from_ref_type,
                 to_ref_type: *to_ref_type,
-            }),
-            Instruction::StructNewDesc(a) => Ok(Instruction::StructNewDesc(*a)),
-            Instruction::StructNewDefaultDesc(a) => Ok(Instruction::StructNewDefaultDesc(*a)),
-            Instruction::RefGetDesc(a) => Ok(Instruction::RefGetDesc(*a)),
-            Instruction::RefCastDescEqNonNull(a) => Ok(Instruction::RefCastDescEqNonNull(*a)),
-            Instruction::RefCastDescEqNullable(a) => Ok(Instruction::RefCastDescEqNullable(*a)),
+            },
+            Instruction::StructNewDesc(a) => Instruction::StructNewDesc(*a),
+            Instruction::StructNewDefaultDesc(a) => Instruction::StructNewDefaultDesc(*a),
+            Instruction::RefGetDesc(a) => Instruction::RefGetDesc(*a),
+            Instruction::RefCastDescEqNonNull(a) => Instruction::RefCastDescEqNonNull(*a),
+            Instruction::RefCastDescEqNullable(a) => Instruction::RefCastDescEqNullable(*a),
             Instruction::BrOnCastDescEq {
                 relative_depth,
                 from_ref_type,
                 to_ref_type,
-            } => Ok(Instruction::BrOnCastDescEq {
+            } => Instruction::BrOnCastDescEq {
                 relative_depth: *relative_depth,
                 from_ref_type: *from_ref_type,
                 to_ref_type: *to_ref_type,
-            }),
+            },
             Instruction::BrOnCastDescEqFail {
                 relative_depth,
                 from_ref_type,
                 to_ref_type,
-            } => Ok(Instruction::BrOnCastDescEqFail {
+            } => Instruction::BrOnCastDescEqFail {
                 relative_depth: *relative_depth,
                 from_ref_type: *from_ref_type,
                 to_ref_type: *to_ref_type,
-            }),
-            Instruction::MemoryInit { data_index, mem } => Ok(Instruction::MemoryInit {
+            },
+            _ => return self.clone_bulk(),
+        })
+    }
+
+    /// A copy of what works on segments, tables and memories as a whole, and of the cases of nested enums.
+    fn clone_bulk(&self) -> R<Self>
+        ensures ok { IfOk result (λ i. row_of i ≡ row_of self.now) }
+        ensures err { result ≢ Err Refused.TooLong }
+    {
+        Ok(match self {
+            Instruction::MemoryInit { data_index, mem } => Instruction::MemoryInit {
                 data_index: *data_index,
                 mem: *mem,
-            }),
-            Instruction::DataDrop(a) => Ok(Instruction::DataDrop(*a)),
-            Instruction::MemoryCopy { dst_mem, src_mem } => Ok(Instruction::MemoryCopy {
+            },
+            Instruction::DataDrop(a) => Instruction::DataDrop(*a),
+            Instruction::MemoryCopy { dst_mem, src_mem } => Instruction::MemoryCopy {
                 dst_mem: *dst_mem,
                 src_mem: *src_mem,
-            }),
-            Instruction::MemoryFill(a) => Ok(Instruction::MemoryFill(*a)),
-            Instruction::TableInit { elem_index, table } => Ok(Instruction::TableInit {
+            },
+            Instruction::MemoryFill(a) => Instruction::MemoryFill(*a),
+            Instruction::TableInit { elem_index, table } => Instruction::TableInit {
                 elem_index: *elem_index,
                 table: *table,
-            }),
-            Instruction::ElemDrop(a) => Ok(Instruction::ElemDrop(*a)),
+            },
+            Instruction::ElemDrop(a) => Instruction::ElemDrop(*a),
             Instruction::TableCopy {
                 dst_table,
                 src_table,
-            } => Ok(Instruction::TableCopy {
+            } => Instruction::TableCopy {
                 dst_table: *dst_table,
                 src_table: *src_table,
-            }),
-            Instruction::TableGrow(a) => Ok(Instruction::TableGrow(*a)),
-            Instruction::TableSize(a) => Ok(Instruction::TableSize(*a)),
-            Instruction::TableFill(a) => Ok(Instruction::TableFill(*a)),
-            Instruction::MemoryDiscard(a) => Ok(Instruction::MemoryDiscard(*a)),
-            Instruction::Numeric(i) => Ok(Instruction::Numeric(*i)),
-            Instruction::Aggregate(i) => Ok(Instruction::Aggregate(*i)),
-            Instruction::PrefixedNumeric(i) => Ok(Instruction::PrefixedNumeric(*i)),
-            Instruction::Vector(i) => Ok(Instruction::Vector(*i)),
-            Instruction::VectorImmediate(i) => Ok(Instruction::VectorImmediate(*i)),
-            Instruction::Atomic(i) => Ok(Instruction::Atomic(*i)),
-        }
+            },
+            Instruction::TableGrow(a) => Instruction::TableGrow(*a),
+            Instruction::TableSize(a) => Instruction::TableSize(*a),
+            Instruction::TableFill(a) => Instruction::TableFill(*a),
+            Instruction::MemoryDiscard(a) => Instruction::MemoryDiscard(*a),
+            Instruction::Numeric(i) => Instruction::Numeric(*i),
+            Instruction::Aggregate(i) => Instruction::Aggregate(*i),
+            Instruction::PrefixedNumeric(i) => Instruction::PrefixedNumeric(*i),
+            Instruction::Vector(i) => Instruction::Vector(*i),
+            Instruction::VectorImmediate(i) => Instruction::VectorImmediate(*i),
+            Instruction::Atomic(i) => Instruction::Atomic(*i),
+            // Not reached: the functions above have copied all other cases.
+            _ => return Err(Refused::Memory),
+        })
     }
 }
 
