@@ -129,21 +129,10 @@ finds_added i = record {
 
 -- ---- calls
 
--- A list of known length is written as the runs.
-pub runs_given : {U S A : Type 0} (becomes : U → S → Type 0) (gives : S → Option Run → S → Type 0) (remaining : S → Count) (Fits : Run → Type 0) (elements : U) (old new : Vec ℕ A) → old.items ≡ []
-    → AppendsVec becomes gives remaining Fits run_text elements old new (Ok (tt {0})) → BeginsWithRuns becomes gives remaining elements (Ok new.items)
-runs_given becomes gives remaining Fits elements old new e h =
-    let given = h.ok in
-    record {
-      ok = (given.0, given.1, given.2, given.3, given.4.count, has_locals given.1 new.items (given.5 ∙ ap (λ z. z ++ locals_text given.1) e));
-      too_long = λ told is. absurd (cc is);
-      too_many = λ many. absurd (cc (h.too_many many));
-    }
-
--- the same, where what gives the runs is made of the elements first
-pub runs_given_by : {U S A : Type 0} (becomes : U → S → Type 0) (gives : S → Option Run → S → Type 0) (remaining : S → Count) (Fits : Run → Type 0) (elements : U) (it : S) (old new : Vec ℕ A) → becomes elements it → old.items ≡ []
+-- What is made of the elements, and has a known length, is written as the runs.
+pub runs_given : {U S A : Type 0} (becomes : U → S → Type 0) (gives : S → Option Run → S → Type 0) (remaining : S → Count) (Fits : Run → Type 0) (elements : U) (it : S) (old new : Vec ℕ A) → becomes elements it → old.items ≡ []
     → AppendsVec (λ a b. b ≡ a) gives remaining Fits run_text it old new (Ok (tt {0})) → BeginsWithRuns becomes gives remaining elements (Ok new.items)
-runs_given_by becomes gives remaining Fits elements it old new made e h =
+runs_given becomes gives remaining Fits elements it old new made e h =
     let given = h.ok in
     record {
       ok = (it, given.1, made, subst (λ i. Drains gives i given.1) given.2 given.3, given.4.count, has_locals given.1 new.items (given.5 ∙ ap (λ z. z ++ locals_text given.1) e));
