@@ -1,8 +1,8 @@
 -- The texts of numbers: their equations, and how long they are.
-use Rattle.std.proofs.Common.{◌≡◌, ℕ, Bool, false, zero, suc, ◌+◌, ◌*◌, ◌/◌, ◌^◌, ◌<◌, ◌≤◌, [], ◌∷◌, length, refl, sym, ap, ◌∙◌, arith, inl, inr}
+use Rattle.std.proofs.Common.{◌≡◌, ℕ, Bool, zero, suc, ◌+◌, ◌*◌, ◌/◌, ◌^◌, ◌<◌, ◌≤◌, [], ◌∷◌, length, refl, sym, ap, ◌∙◌, arith, inl, inr}
 use Rattle.std.proofs.lemmas.Bool.{cases_lt, lt-ltb, le-ltb}
 use Rattle.std.proofs.Math.Nat.{pow-suc}
-use Rattle.wasm_base.specs.Numbers.{next_group, last_group, groups_of, groups_text, unsigned_text}
+use Rattle.wasm_base.specs.Numbers.{next_group, last_group, groups_of, groups_text}
 
 module _ (b : Bool) (limit : ℕ) where
   groups_of-last : (more n : ℕ) → n < limit → groups_of b limit more n ≡ last_group b n ∷ []
@@ -63,10 +63,14 @@ length-groups_text-le b limit (suc k) n some h =
           omega (arith, length-groups_text-more b limit n some high, length-groups_text-le b limit k (n / 128) some below)
     ]
 
+-- for the tactics: a number of 64 bits has at most ten bytes
+pub most_groups : (b : Bool) (limit n : ℕ) → 64 ≤ limit → n < 2 ^ 64 → length (groups_text b limit n) ≤ 10
+most_groups b limit n high h = length-groups_text-le b limit 9 n (omega arith) (omega arith)
+
 -- for the tactics: a number of one byte
 pub one_group : (b : Bool) (limit n : ℕ) → n < limit → groups_text b limit n ≡ last_group b n ∷ []
 one_group = groups_text-last
 
--- for the tactics: an unsigned number of two bytes
-pub two_groups : (n : ℕ) → 128 ≤ n → n < 16384 → unsigned_text n ≡ next_group false n ∷ last_group false (n / 128) ∷ []
-two_groups n high low = groups_text-more false 128 n (omega arith) high ∙ ap (λ t. next_group false n ∷ t) (groups_text-last false 128 (n / 128) (omega arith))
+-- for the tactics: a number of two bytes
+pub two_groups : (b : Bool) (limit n : ℕ) → 0 < limit → limit ≤ n → n < limit * 128 → groups_text b limit n ≡ next_group b n ∷ last_group b (n / 128) ∷ []
+two_groups b limit n some high low = groups_text-more b limit n some high ∙ ap (λ t. next_group b n ∷ t) (groups_text-last b limit (n / 128) (omega arith))

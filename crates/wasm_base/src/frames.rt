@@ -30,8 +30,28 @@ pub fn begin_frame<A: Allocator>(sink: &mut Vec<u8, A>, size: usize) -> R<()>
     short.encode(sink)
 }
 
+/// A size below this has one byte.
+const SHORT: usize = 0x80;
+
 /// Appends the frame of the bytes.
+#[tactic(auto, using(crate::proofs::NumberTexts::one_group))]
+#[inline(always)]
 pub fn encode_frame<A: Allocator>(sink: &mut Vec<u8, A>, bytes: &[u8]) -> R<()>
+    ensures { Appends (frame_text bytes.now) (FrameFits bytes.now) sink.old sink.new result }
+{
+    let size = bytes.len();
+    if size >= SHORT {
+        return encode_long_frame(sink, bytes);
+    }
+    sink.reserve(size + 1)?;
+    sink.push_reserved(size as u8);
+    sink.extend_from_slice(bytes).unwrap();
+    Ok(())
+}
+
+/// Appends the frame of the bytes, whose size may have several bytes.
+#[inline(never)]
+fn encode_long_frame<A: Allocator>(sink: &mut Vec<u8, A>, bytes: &[u8]) -> R<()>
     ensures { Appends (frame_text bytes.now) (FrameFits bytes.now) sink.old sink.new result }
 {
     begin_frame(sink, bytes.len())?;
@@ -55,6 +75,7 @@ impl Encode for &str {
 
     ghost fits = { λ name. FrameFits name.now };
 
+    #[inline(always)]
     fn encode<A: Allocator>(&self, sink: &mut Vec<u8, A>) -> R<()> {
         encode_frame(sink, self.as_bytes())
     }

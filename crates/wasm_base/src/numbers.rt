@@ -1,5 +1,5 @@
 // Numbers, in LEB128 of fewest bytes.
-ghost use Rattle.std.specs.Prelude.{◌≡◌, ◌+◌, ◌≤◌, ◌<◌, ◌++◌, ◌∷◌, [], length, vec_len, vec_capacity, ⊤};
+ghost use Rattle.std.specs.Prelude.{◌≡◌, ◌+◌, ◌*◌, ◌≤◌, ◌<◌, ◌++◌, ◌∷◌, [], length, vec_len, vec_capacity, ⊤};
 ghost use Rattle.wasm_base.specs.Calls.{Appends};
 ghost use Rattle.wasm_base.specs.Numbers.{next_group, last_group, groups_text, unsigned_text, signed_text};
 ghost use Rattle.wasm_base.specs.Texts.{longest};
@@ -70,27 +70,56 @@ fn put_groups<A: Allocator>(sink: &mut Vec<u8, A>, negative: bool, limit: u64, n
     sink.push_reserved(group_at_the_end(negative, rest));
 }
 
-/// Appends the groups of `n`, after one request for memory.
+/// Appends the groups of `n`, which has two of them, where the sink has room for them.
+#[inline]
+fn put_two_groups<A: Allocator>(sink: &mut Vec<u8, A>, negative: bool, limit: u64, n: u64)
+    requires limit { 0 < limit × limit ≤ 0x80 }
+    requires two { limit ≤ n × n < limit * 0x80 }
+    requires room { vec_len sink.old + 2 ≤ vec_capacity sink.old }
+    ensures items { sink.new.items ≡ sink.old.items ++ groups_text negative limit n }
+    ensures capacity { vec_capacity sink.new ≡ vec_capacity sink.old }
+{
+    sink.push_reserved(group_before_others(negative, n));
+    sink.push_reserved(group_at_the_end(negative, n / 0x80));
+}
+
+/// The most groups that a number of 64 bits has.
+const MOST_GROUPS: usize = 10;
+
+/// Appends the groups of `n`, which has several. Where there is room for as many as a number can have, they are not counted, and two
+/// are written without a loop.
+#[tactic(auto, using(crate::proofs::NumberTexts::most_groups))]
 #[inline(always)]
 fn append_groups<A: Allocator>(sink: &mut Vec<u8, A>, negative: bool, limit: u64, n: u64) -> R<()>
+    requires limit { 0x40 ≤ limit × limit ≤ 0x80 }
+    requires several { limit ≤ n }
+    ensures { Appends (groups_text negative limit n) ⊤ sink.old sink.new result }
+{
+    if sink.capacity() - sink.len() < MOST_GROUPS {
+        return append_counted_groups(sink, negative, limit, n);
+    }
+    if n < limit * 0x80 {
+        put_two_groups(sink, negative, limit, n);
+    } else {
+        put_groups(sink, negative, limit, n);
+    }
+    Ok(())
+}
+
+/// Appends the groups of `n`, after one request for as much memory as they take.
+#[cold]
+#[inline(never)]
+fn append_counted_groups<A: Allocator>(
+    sink: &mut Vec<u8, A>,
+    negative: bool,
+    limit: u64,
+    n: u64,
+) -> R<()>
     requires { 0 < limit × limit ≤ 0x80 }
     ensures { Appends (groups_text negative limit n) ⊤ sink.old sink.new result }
 {
     sink.reserve(groups_size(negative, limit, n))?;
     put_groups(sink, negative, limit, n);
-    Ok(())
-}
-
-/// Appends an unsigned number of two groups.
-#[tactic(auto, using(crate::proofs::NumberTexts::two_groups))]
-#[inline]
-fn append_two_groups<A: Allocator>(sink: &mut Vec<u8, A>, n: u64) -> R<()>
-    requires { 0x80 ≤ n × n < 0x4000 }
-    ensures { Appends (unsigned_text n) ⊤ sink.old sink.new result }
-{
-    sink.reserve(2)?;
-    sink.push_reserved(group_before_others(false, n));
-    sink.push_reserved(group_at_the_end(false, n / 0x80));
     Ok(())
 }
 
@@ -100,15 +129,13 @@ fn append_long_unsigned<A: Allocator>(sink: &mut Vec<u8, A>, n: u64) -> R<()>
     requires { 0x80 ≤ n }
     ensures { Appends (unsigned_text n) ⊤ sink.old sink.new result }
 {
-    if n < 0x4000 {
-        return append_two_groups(sink, n);
-    }
     append_groups(sink, false, UNSIGNED_LIMIT, n)
 }
 
 /// Appends a signed number of several groups.
 #[inline(never)]
 fn append_long_signed<A: Allocator>(sink: &mut Vec<u8, A>, negative: bool, n: u64) -> R<()>
+    requires { 0x40 ≤ n }
     ensures { Appends (groups_text negative SIGNED_LIMIT n) ⊤ sink.old sink.new result }
 {
     append_groups(sink, negative, SIGNED_LIMIT, n)

@@ -125,24 +125,25 @@ impl Encode for RefType {
     ghost fits = { λ _. ⊤ };
 
     fn encode<A: Allocator>(&self, sink: &mut Vec<u8, A>) -> R<()> {
-        match (self.nullable, self.heap_type) {
+        let byte: u8 = match (self.nullable, self.heap_type) {
             (
                 true,
                 HeapType::Abstract {
                     shared: false,
                     ty: AbstractHeapType::Func,
                 },
-            ) => 0x70u8.encode(sink),
+            ) => 0x70,
             (
                 true,
                 HeapType::Abstract {
                     shared: false,
                     ty: AbstractHeapType::Extern,
                 },
-            ) => 0x6Fu8.encode(sink),
-            (true, heap_type) => (0x63u8, heap_type).encode(sink),
-            (false, heap_type) => (0x64u8, heap_type).encode(sink),
-        }
+            ) => 0x6F,
+            (true, heap_type) => return (0x63u8, heap_type).encode(sink),
+            (false, heap_type) => return (0x64u8, heap_type).encode(sink),
+        };
+        byte.encode(sink)
     }
 }
 
@@ -153,13 +154,14 @@ impl Encode for ValType {
     ghost fits = { λ _. ⊤ };
 
     fn encode<A: Allocator>(&self, sink: &mut Vec<u8, A>) -> R<()> {
-        match *self {
-            ValType::I32 => 0x7Fu8.encode(sink),
-            ValType::I64 => 0x7Eu8.encode(sink),
-            ValType::F32 => 0x7Du8.encode(sink),
-            ValType::F64 => 0x7Cu8.encode(sink),
-            ValType::V128 => 0x7Bu8.encode(sink),
-            ValType::Ref(ty) => ty.encode(sink),
-        }
+        let byte: u8 = match *self {
+            ValType::I32 => 0x7F,
+            ValType::I64 => 0x7E,
+            ValType::F32 => 0x7D,
+            ValType::F64 => 0x7C,
+            ValType::V128 => 0x7B,
+            ValType::Ref(ty) => return ty.encode(sink),
+        };
+        byte.encode(sink)
     }
 }

@@ -1,14 +1,14 @@
 -- Bodies are read uniquely, and go on where they ended.
-use Rattle.std.proofs.Common.{◌≡◌, ◌≢◌, ℕ, List, [], ◌∷◌, ◌++◌, length, false, arith, Ok, Option, refl, sym, ap, subst, ◌∙◌, append_assoc, append-nil}
+use Rattle.std.proofs.Common.{◌≡◌, ◌≢◌, ℕ, List, [], ◌∷◌, ◌++◌, length, false, arith, Ok, Option, refl, sym, ap, subst, ◌∙◌, ◌<◌, append_assoc, append-nil}
 use Rattle.std.specs.List.{All}
-use Rattle.std.specs.Iterator.{Count}
+use Rattle.std.specs.Iterator.{Count, Drains, size}
 use Rattle.std.specs.declared.vec.Vec.{Vec}
 use Rattle.wasm_base.specs.Numbers.{shortest}
 use Rattle.wasm_base.specs.Formats.{u32, frame, pair, members, vec}
 use Rattle.wasm_base.specs.Reading.{UniqueReading, UniqueWholeReading}
 use Rattle.wasm_base.specs.Calls.{ReadsBack}
 use Rattle.wasm_base.specs.Iterators.{AppendsVec}
-use Rattle.wasm_base.specs.Texts.{frame_text, FrameFits}
+use Rattle.wasm_base.specs.Texts.{longest, frame_text, FrameFits}
 use Rattle.wasm_base.specs.Types.{val_type, val_text}
 use Rattle.wasm_base.proofs.FormatLaws.{mapped-whole, pair-alone, pair-whole, vec-alone, frame-alone, members-whole, members_go_on}
 use Rattle.wasm_base.proofs.NumberLaws.{u32-alone}
@@ -129,15 +129,15 @@ finds_added i = record {
 
 -- ---- calls
 
--- A list of known length is written as the runs.
-pub runs_given : {U S A : Type 0} (becomes : U → S → Type 0) (gives : S → Option Run → S → Type 0) (remaining : S → Count) (Fits : Run → Type 0) (elements : U) (old new : Vec ℕ A) → old.items ≡ []
-    → AppendsVec becomes gives remaining Fits run_text elements old new (Ok (tt {0})) → BeginsWithRuns becomes gives remaining elements (Ok new.items)
-runs_given becomes gives remaining Fits elements old new e h =
+-- What is made of the elements, and has a known length, is written as the runs.
+pub runs_given : {U S A : Type 0} (becomes : U → S → Type 0) (gives : S → Option Run → S → Type 0) (remaining : S → Count) (Fits : Run → Type 0) (elements : U) (it : S) (old new : Vec ℕ A) → becomes elements it → old.items ≡ []
+    → AppendsVec (λ a b. b ≡ a) gives remaining Fits run_text it old new (Ok (tt {0})) → BeginsWithRuns becomes gives remaining elements (Ok new.items)
+runs_given becomes gives remaining Fits elements it old new made e h =
     let given = h.ok in
     record {
-      ok = (given.0, given.1, given.2, given.3, given.4.count, has_locals given.1 new.items (given.5 ∙ ap (λ z. z ++ locals_text given.1) e));
+      ok = (it, given.1, made, subst (λ i. Drains gives i given.1) given.2 given.3, given.4.count, has_locals given.1 new.items (given.5 ∙ ap (λ z. z ++ locals_text given.1) e));
       too_long = λ told is. absurd (cc is);
-      too_many = λ many. absurd (cc (h.too_many many));
+      too_many = λ many. absurd (cc (h.too_many (λ i same. subst (λ j. longest < size (remaining j)) (sym same) (many it made))));
     }
 
 pub all_any : {X : Type 0} (P : X → Type 0) → ((x : X) → P x) → (xs : List X) → All P xs

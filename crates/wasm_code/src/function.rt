@@ -28,6 +28,9 @@ pub struct Function<A: Allocator = Global> {
     bytes: Vec<u8, A>,
 }
 
+/// How many bytes a function has room for at first, so that a short one takes memory once.
+const FIRST_CAPACITY: usize = 128;
+
 impl<A: Allocator> Model for Function<A> {
     ghost Value = { List ℕ };
 
@@ -43,7 +46,11 @@ impl<A: Allocator> Function<A> {
         requires { HasKnownLength V.into_iter_gives V.IntoIter.can_next V.IntoIter.next_gives V.IntoIter.remaining locals }
         ensures { BeginsWithRuns V.into_iter_gives V.IntoIter.next_gives V.IntoIter.remaining locals result }
     {
-        let mut bytes = Vec::new(alloc);
+        let locals = locals.into_iter();
+        if u32::try_from(locals.len()).is_err() {
+            return Err(Refused::TooLong);
+        }
+        let mut bytes = Vec::with_capacity(alloc, FIRST_CAPACITY)?;
         encode_vec(locals, &mut bytes)?;
         Ok(Function { bytes })
     }

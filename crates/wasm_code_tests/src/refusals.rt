@@ -16,6 +16,9 @@ type Heap<'a> = &'a Refusing<Global>;
 /// How many bytes a buffer has that is full after its first growth.
 const FULL: usize = 8;
 
+/// How many bytes a function has whose first memory is full.
+const FULL_BODY: usize = 128;
+
 /// What each constructor and each `with` call stores.
 static STORED: [&[u8]; 16] = [
     &[0x41, 0x01],
@@ -138,7 +141,7 @@ fn expressions(rt: HostRuntime) -> Result<(), Fail> {
 /// What each call on a function appends. The second takes memory twice.
 static GROWN: [&[u8]; 4] = [
     &[0x41, 0x01],
-    &[1, 1, 1, 1, 1, 1, 1, 1, 1, 1],
+    &[1; FULL_BODY + 1],
     &[0x41, 0x01],
     &[0x0E, 2, 0, 1, 2],
 ];
@@ -147,7 +150,7 @@ static GROWN: [&[u8]; 4] = [
 fn grow(function: &mut Function<Heap<'_>>, place: usize) -> R<()> {
     match place {
         0 => function.instruction(&Instruction::I32Const(1)),
-        1 => function.raw([0x01; 10]),
+        1 => function.raw([0x01; FULL_BODY + 1]),
         2 => function.instructions().i32_const(1),
         _ => call_br_table(function),
     }
@@ -166,17 +169,19 @@ fn check_body(rt: &impl Abort, function: Function<Heap<'_>>, expected: &[u8]) {
 /// A call on a function whose buffer is full.
 fn check_growth(rt: &impl Abort, alloc: Global, place: usize, appended: &[u8]) -> Result<(), Fail> {
     let heap = Refusing::new(alloc);
+    let mut before = [0x01; FULL_BODY];
+    before[0] = 0;
     for nth in 1..MOST {
         heap.refuse(0);
         let mut function = without_locals(&heap)?;
-        function.raw([0x01; FULL - 1])?;
+        function.raw([0x01; FULL_BODY - 1])?;
         heap.refuse(nth);
         let answer = grow(&mut function, place);
         let granted = heap.is_waiting();
         let body = function.into_raw_body();
-        assert!(rt; body.len() >= FULL);
-        let (old, new) = body.as_slice().split_at(FULL);
-        assert_eq!(rt; old, [0, 1, 1, 1, 1, 1, 1, 1].as_slice());
+        assert!(rt; body.len() >= FULL_BODY);
+        let (old, new) = body.as_slice().split_at(FULL_BODY);
+        assert_eq!(rt; old, before.as_slice());
         if granted {
             assert!(rt; nth > 1);
             assert_eq!(rt; answer, Ok(()));

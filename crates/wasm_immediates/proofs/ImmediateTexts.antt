@@ -10,6 +10,7 @@ use Rattle.wasm_base.specs.Reading.{HasTexts, IsUniqueWide}
 use Rattle.wasm_base.specs.Types.{val_type, val_text, val_tags, val_ref}
 use Rattle.wasm_base.specs.declared.types.ValType.{ValType}
 use Rattle.wasm_base.proofs.BaseLaws.{unique_wide}
+use Rattle.wasm_base.proofs.NumberTexts.{one_group}
 use Rattle.wasm_base.proofs.TypeLaws.{val_bytes, val-texts}
 use Rattle.wasm_base.proofs.TextLaws.{u32_spelled, u64_spelled, s33_spelled, little_endian_spelled, tagged_spelled}
 use Rattle.wasm_immediates.specs.declared.memory.Ordering.TheVariants.{AcqRel, SeqCst}
@@ -202,3 +203,7 @@ pub wide-vector : IsUniqueWide vector_format
 wide-vector = unique_wide vector-alone
 
 pub ruleset wide_immediates = (wide-ordering, wide-mem_arg, wide-block, wide-catch, wide-handle, wide-vector)
+
+-- for the tactics: a number of one byte
+pub one_byte : (n : ℕ) → n < 128 → unsigned_text n ≡ n ∷ []
+one_byte n h = one_group false 128 n h

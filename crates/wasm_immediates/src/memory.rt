@@ -1,5 +1,7 @@
 // The arguments of instructions that access memory.
-ghost use Rattle.std.specs.Prelude.{◌≡◌, ◌∷◌, [], ⊤};
+ghost use Rattle.std.specs.Prelude.{◌≡◌, ◌+◌, ◌≤◌, ◌<◌, ◌++◌, ◌∷◌, [], vec_len, vec_capacity, ⊤};
+ghost use Rattle.wasm_base.specs.Calls.{Appends};
+ghost use Rattle.wasm_base.specs.Numbers.{unsigned_text};
 ghost use Rattle.wasm_immediates.specs.Immediates.{ordering_code, mem_ordering_code, index_of, mem_flags, mem_arg_text};
 ghost use Rattle.wasm_immediates.specs.declared.memory.MemArgTarget.TheVariants.{Memory};
 
@@ -110,15 +112,12 @@ impl MemArg {
         };
         self.align | ordering | target
     }
-}
 
-/// Flags, the index and the ordering where the flags say so, and the offset.
-impl Encode for MemArg {
-    ghost text = { mem_arg_text };
-
-    ghost fits = { λ _. ⊤ };
-
-    fn encode<A: Allocator>(&self, sink: &mut Vec<u8, A>) -> R<()> {
+    /// Appends all parts that the flags tell of.
+    #[inline(never)]
+    fn encode_all<A: Allocator>(&self, sink: &mut Vec<u8, A>) -> R<()>
+        ensures { Appends (mem_arg_text self.now) ⊤ sink.old sink.new result }
+    {
         let flags = self.flags();
         match (self.target.index(), self.ordering) {
             (None, None) => (flags, self.offset).encode(sink),
@@ -127,4 +126,44 @@ impl Encode for MemArg {
             (Some(index), Some(ordering)) => (flags, index, (ordering, self.offset)).encode(sink),
         }
     }
+}
+
+/// Flags, the index and the ordering where the flags say so, and the offset. Most have memory 0 and no ordering; others are written out of line.
+impl Encode for MemArg {
+    ghost text = { mem_arg_text };
+
+    ghost fits = { λ _. ⊤ };
+
+    #[inline]
+    fn encode<A: Allocator>(&self, sink: &mut Vec<u8, A>) -> R<()> {
+        match (self.target, self.ordering) {
+            (MemArgTarget::Memory(0), None) => encode_plain(self.flags(), self.offset, sink),
+            _ => self.encode_all(sink),
+        }
+    }
+}
+
+/// Flags and an offset. Most have one byte each, which are written after one test of the room.
+#[inline]
+fn encode_plain<A: Allocator>(flags: u32, offset: u64, sink: &mut Vec<u8, A>) -> R<()>
+    ensures { Appends (unsigned_text flags ++ unsigned_text offset) ⊤ sink.old sink.new result }
+{
+    if flags < 0x80 && offset < 0x80 && sink.capacity() - sink.len() >= 2 {
+        put_two_bytes(flags as u8, offset as u8, sink);
+        return Ok(());
+    }
+    (flags, offset).encode(sink)
+}
+
+/// Appends two numbers of one byte, where the sink has room for them.
+#[tactic(auto, using(crate::proofs::ImmediateTexts::one_byte))]
+#[inline]
+fn put_two_bytes<A: Allocator>(first: u8, second: u8, sink: &mut Vec<u8, A>)
+    requires small { first < 0x80 × second < 0x80 }
+    requires room { vec_len sink.old + 2 ≤ vec_capacity sink.old }
+    ensures items { sink.new.items ≡ sink.old.items ++ (unsigned_text first ++ unsigned_text second) }
+    ensures capacity { vec_capacity sink.new ≡ vec_capacity sink.old }
+{
+    sink.push_reserved(first);
+    sink.push_reserved(second);
 }

@@ -7,7 +7,7 @@ ghost use Rattle.wasm_base.specs.Numbers.{unsigned_text};
 
 use crate::counted_section::{CountedSection, ItemKind, RecordOf};
 use std::alloc::{Allocator, Global};
-use wasm_base::{R, SectionId};
+use wasm_base::{Encode, R, SectionId};
 
 /// The types of the functions that a module defines, in the order of their bodies.
 ///
@@ -50,11 +50,38 @@ impl ItemKind for FunctionItems {
 
 impl RecordOf<FunctionItems> for u32 {}
 
+/// The index of a type. Many have two bytes, which are written in place too.
+#[derive(Clone, Copy)]
+struct TypeIndex {
+    index: u32,
+}
+
+impl Encode for TypeIndex {
+    ghost text = { λ given. unsigned_text given.index };
+
+    ghost fits = { λ _. ⊤ };
+
+    #[tactic(auto, using(crate::proofs::FunctionLaws::two_bytes))]
+    #[inline]
+    fn encode<A: Allocator>(&self, sink: &mut Vec<u8, A>) -> R<()> {
+        let index = self.index;
+        if index < 0x80 {
+            return index.encode(sink);
+        }
+        if index < 0x4000 && sink.capacity() - sink.len() >= 2 {
+            sink.push_reserved((index % 0x80) as u8 + 0x80);
+            sink.push_reserved((index / 0x80) as u8);
+            return Ok(());
+        }
+        index.encode(sink)
+    }
+}
+
 impl<A: Allocator> FunctionSection<A> {
     /// Adds a function of the type of this index. A refused call leaves the section as it was.
     pub fn function(&mut self, type_index: u32) -> R<()>
         ensures { Adds (unsigned_text type_index) ⊤ self.old self.new result }
     {
-        self.add_record(&type_index)
+        self.add_record(&TypeIndex { index: type_index })
     }
 }
