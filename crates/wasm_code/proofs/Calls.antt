@@ -20,7 +20,7 @@ use Rattle.wasm_insn.specs.Sink.{br_table_text}
 use Rattle.wasm_insn.specs.Table.{table}
 use Rattle.wasm_insn.specs.Instructions.{instruction_text, IsPlainInstruction}
 use Rattle.wasm_insn.proofs.InstructionLaws.{br_table_spelled}
-use Rattle.wasm_code.specs.Bodies.{Run, IsRun, Body, IsPlainBody, and_then, Grows, GrowsBy, HasLocals, BeginsWithRuns}
+use Rattle.wasm_code.specs.Bodies.{Run, IsRun, Body, body as body_format, IsPlainBody, and_then, Grows, GrowsBy, HasLocals, BeginsWithRuns}
 use Rattle.wasm_code.specs.Code.{HoldsBodies, SpellsBodies, ReadsCode, raw_code_reading, code_reading}
 use Rattle.wasm_code.specs.Expressions.{normal_row}
 use Rattle.wasm_code.specs.Laws.{HoldsMoreBodies, GrowsByText, GrowsByLabels, br_table_row}
@@ -91,29 +91,29 @@ adds_body {old = old} {new = new} {raw = raw} {bodies = bodies} {x = x} before e
     subst (λ es. SpellsBodies es (bodies ++ x ∷ [])) (sym e) (all_bodies old bodies (raw ∷ []) (x ∷ []) before (spelled, tt))
 
 -- all functions of a list
-pub adds_bodies : {old new raw : List (List ℕ)} {bodies xs : List Body} → SpellsBodies old bodies → AddsEach frame_text FrameFits raw old new → AllZip IsPlainBody raw xs → SpellsBodies new (bodies ++ xs)
-adds_bodies {old = old} {raw = raw} {bodies = bodies} {xs = xs} before added spelled =
+pub adds_bodies : {old new raw : List (List ℕ)} {bodies : List Body} → SpellsBodies old bodies → AddsEach frame_text FrameFits raw old new → (xs : List Body) → AllZip IsPlainBody raw xs → SpellsBodies new (bodies ++ xs)
+adds_bodies {old = old} {raw = raw} {bodies = bodies} before added xs spelled =
     subst (λ es. SpellsBodies es (bodies ++ xs)) (sym added.is) (all_bodies old bodies raw xs before spelled)
 
 -- a module and a code section of these bodies
 pub gains_code : {readings : List SectionReading} {id : ℕ} {old new : List ℕ} {entries : List (List ℕ)} {bodies : List Body} → ReadsSections readings old → ReadsOneMore (SectionPayload entries) id old new
     → SectionFits entries → ReadsCode entries (section_text entries) → SpellsBodies entries bodies → ReadsSections (readings ++ (id, (code_reading bodies).1) ∷ []) new
 gains_code {entries = entries} {bodies = bodies} before more fits reads spelled =
-    gains_section {F = vec (frame body)} before more code_section-payload (section_text entries) _ refl (section_framed entries _ fits refl) bodies (reads.bodies.for_each bodies spelled)
+    gains_section {F = vec (frame body_format)} before more code_section-payload (section_text entries) _ refl (section_framed entries _ fits refl) bodies (reads.bodies.for_each bodies spelled)
 
 -- ---- laws
 
-holds_more : HoldsMoreBodies
+pub holds_more : HoldsMoreBodies
 holds_more = record {
   none = record { raw = []; held = refl; spelled = tt };
   given = λ entries bodies raw x before spelled. all_bodies entries bodies (raw ∷ []) (x ∷ []) before (spelled, tt);
   all = all_bodies;
 }
 
-grows_by_text : {A : Type 0} (i : Instruction A) → GrowsByText i
+pub grows_by_text : {A : Type 0} (i : Instruction A) → GrowsByText i
 grows_by_text i = record { grows = λ old. grows i old (old ++ instruction_text i) refl }
 
-grows_by_labels : GrowsByLabels
+pub grows_by_labels : GrowsByLabels
 grows_by_labels = record { grows = λ ls default old x fits range body. writes_labels body refl fits range }
 
 pub ruleset calls = (holds_more, grows_by_text, grows_by_labels)

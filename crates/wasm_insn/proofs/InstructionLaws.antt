@@ -64,7 +64,7 @@ br_table_row ls default = record { op = Byte 0x0E; arguments = labels ls ∷ uns
 
 -- The text of `BrTable` spells its row, where its labels can be counted.
 pub br_table_spelled : (ls : List ℕ) (default : ℕ) → VecFits (λ n. n < 2 ^ 32) ls → default < 2 ^ 32 → instruction table shortest (br_table_text ls default) (br_table_row ls default)
-br_table_spelled ls default fits range = plain_spelled table (br_table_row ls default) (record { shape = Bt; opcode = refl; row = byte_shape 0x0E; parts = refl; arguments = (fits, range, tt) })
+br_table_spelled ls default fits range = plain_spelled table (br_table_row ls default) (record { shape = Bt; opcode = refl; row = byte_shape 0x0E; parts = refl; arguments = (fits, (range, tt)) })
 
 pub alone : UniqueReading (instruction table)
 alone = instruction-alone table
