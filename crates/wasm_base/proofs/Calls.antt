@@ -1,5 +1,5 @@
 -- What calls leave, step by step: lemmas that a caller cites.
-use Rattle.std.proofs.Common.{◌≡◌, ℕ, List, [], ◌∷◌, ◌++◌, refl, sym}
+use Rattle.std.proofs.Common.{◌≡◌, ℕ, List, [], ◌∷◌, ◌++◌, refl, sym, subst}
 use Rattle.wasm_base.specs.Calls.{ReadsOneMore, ReadsBack}
 use Rattle.wasm_base.specs.Formats.{Format, any_bytes, frame, wasm_module}
 use Rattle.wasm_base.specs.Modules.{SectionReading, reading_of, raw_reading, AreRead, ReadsSections, ReadsPayloads}
@@ -32,3 +32,7 @@ pub gains_raw : {readings : List SectionReading} {id : ℕ} {bytes old new : Lis
     → ReadsBack (frame any_bytes) (λ said. said ≡ bytes) (frame_text bytes) → ReadsSections (readings ++ raw_reading id bytes ∷ []) new
 gains_raw {bytes = bytes} before more fits reads =
     gains_section {F = any_bytes} before more bytes-payload (frame_text bytes) bytes refl (raw_framed bytes bytes fits refl) bytes (reads.for_each bytes refl)
+
+-- the bytes of a module
+pub finished : {readings : List SectionReading} {old bytes : List ℕ} → ReadsSections readings old → bytes ≡ old → ReadsSections readings bytes
+finished {readings = readings} before same = subst (λ s. ReadsSections readings s) (sym same) before

@@ -1,0 +1,6 @@
+//! Callers that prove what their modules are read as. `docs/CALLING.md` walks through them.
+#![tactic(auto, using(wasm_base::proofs::KnownLengths::drained_array))]
+
+mod first;
+
+pub use first::first_module;
