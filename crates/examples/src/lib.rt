@@ -2,5 +2,7 @@
 #![tactic(auto, using(wasm_base::proofs::KnownLengths::drained_array))]
 
 mod first;
+mod recursion;
 
 pub use first::first_module;
+pub use recursion::factorial;

@@ -5,6 +5,7 @@ use Rattle.std.proofs.lemmas.List.Elements.{All-nil, All-cons}
 use Rattle.std.specs.Array.Iter.{array_into_iter_items, array_steps}
 use Rattle.std.specs.Iterator.{Count, Drains}
 use Rattle.std.specs.List.{All, AllByRecursion, AllZip}
+use Rattle.std.specs.declared.alloc.Global.{Global}
 use Rattle.std.specs.declared.array.IntoIter.{IntoIter}
 use Rattle.wasm_base.specs.Calls.{ReadsOneMore, AddsEach}
 use Rattle.wasm_base.specs.Formats.{any_bytes, frame, vec}
@@ -22,7 +23,7 @@ use Rattle.wasm_insn.specs.Instructions.{instruction_text, IsPlainInstruction}
 use Rattle.wasm_insn.proofs.InstructionLaws.{br_table_spelled}
 use Rattle.wasm_code.specs.Bodies.{Run, IsRun, Body, body as body_format, IsPlainBody, and_then, Grows, GrowsBy, HasLocals, BeginsWithRuns}
 use Rattle.wasm_code.specs.Code.{HoldsBodies, SpellsBodies, ReadsCode, raw_code_reading, code_reading}
-use Rattle.wasm_code.specs.Expressions.{normal_row}
+use Rattle.wasm_code.specs.Expressions.{StoresInstructions, Stores, normal_row}
 use Rattle.wasm_code.specs.Laws.{HoldsMoreBodies, GrowsByText, GrowsByLabels, br_table_row}
 use Rattle.wasm_code.proofs.BodyLaws.{grows, grows_by}
 use Rattle.wasm_code.proofs.CodeLaws.{raw_code-payload, code_section-payload}
@@ -65,6 +66,16 @@ pub writes_labels : {old new ls : List ℕ} {default : ℕ} {x : Body} → IsPla
 writes_labels {old = old} {new = new} {ls = ls} {default = default} {x = x} body e fits range =
     (grows_by (br_table_text ls default) old new e).plain x (br_table_row ls default ∷ []) body
     (members_one (instruction_format table) shortest (br_table_text ls default) (br_table_row ls default) (br_table_spelled ls default fits range))
+
+-- ---- constant expressions
+
+-- an expression of one instruction
+pub one_constant : {i : Instruction Global} {bytes : List ℕ} → Stores i [] bytes → IsPlainInstruction i → StoresInstructions bytes (normal_row i ∷ [])
+one_constant stored plain = stored.plain plain [] refl
+
+-- one more instruction
+pub adds_constant : {i : Instruction Global} {old new : List ℕ} → (is : List Plain) → StoresInstructions old is → Stores i old new → IsPlainInstruction i → StoresInstructions new (is ++ normal_row i ∷ [])
+adds_constant is before stored plain = stored.plain plain is before
 
 -- ---- the code section
 
