@@ -18,6 +18,10 @@ row i = normal_row i
 abbrev pub first_body : Body
 first_body = record { runs = (1, I32) ∷ []; code = row End ∷ [] }
 
+-- the local of this index
+abbrev pub local_body : (index : ℕ) → Body
+local_body index = record { runs = []; code = row (LocalGet index) ∷ row End ∷ [] }
+
 -- the factorial of the one parameter, of the function of this index
 abbrev pub factorial_body : (itself : ℕ) → Body
 factorial_body itself = record {

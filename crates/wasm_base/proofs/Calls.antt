@@ -1,5 +1,7 @@
 -- What calls leave, step by step: lemmas that a caller cites.
-use Rattle.std.proofs.Common.{◌≡◌, ℕ, List, [], ◌∷◌, ◌++◌, refl, sym, subst}
+use Rattle.std.proofs.Common.{◌≡◌, ℕ, zero, suc, ◌<◌, List, [], ◌∷◌, ◌++◌, Bool, true, ltb, ◌&&◌, slice_index, IsUtf8, arith, refl, sym, subst}
+use Rattle.std.proofs.lemmas.Bool.{ltb-true, and_parts}
+use Rattle.std.proofs.lemmas.Str.{IsUtf8-from_ascii}
 use Rattle.wasm_base.specs.Calls.{ReadsOneMore, ReadsBack}
 use Rattle.wasm_base.specs.Formats.{Format, any_bytes, frame, wasm_module}
 use Rattle.wasm_base.specs.Modules.{SectionReading, reading_of, raw_reading, AreRead, ReadsSections, ReadsPayloads}
@@ -13,6 +15,19 @@ are_read-more [] [] reading section h e g = (e, g, tt)
 are_read-more [] (s ∷ sections) reading section h e g = absurd h
 are_read-more (r ∷ readings) [] reading section h e g = absurd h
 are_read-more (r ∷ readings) (s ∷ sections) reading section h e g = (h.0, h.1, are_read-more readings sections reading section h.2 e g)
+
+abbrev are_ascii : List ℕ → Bool
+are_ascii [] = true
+are_ascii (b ∷ bytes) = ltb b 0x80 && are_ascii bytes
+
+below_128 : (bytes : List ℕ) → are_ascii bytes ≡ true → (i : ℕ) → slice_index bytes i < 128
+below_128 [] e i = omega arith
+below_128 (b ∷ bytes) e zero = ltb-true b 0x80 (and_parts (ltb b 0x80) (are_ascii bytes) e).0
+below_128 (b ∷ bytes) e (suc i) = below_128 bytes (and_parts (ltb b 0x80) (are_ascii bytes) e).1 i
+
+-- the bytes of a literal of ASCII
+pub ascii : {bytes : List ℕ} → are_ascii bytes ≡ true → IsUtf8 bytes
+ascii {bytes = bytes} e = IsUtf8-from_ascii bytes (below_128 bytes e)
 
 -- a new module
 pub new_module : {bytes : List ℕ} → ReadsWhole wasm_module bytes [] → ReadsSections [] bytes

@@ -1,5 +1,5 @@
 -- What the sections of a module are read as.
-use Rattle.std.specs.Prelude.{◌≡◌, ℕ, List, [], ◌∷◌, ⊤}
+use Rattle.std.specs.Prelude.{◌≡◌, ℕ, List, [], ◌∷◌, ◌++◌, ⊤}
 use Rattle.wasm_base.specs.Formats.{Format, any_bytes, frame, wasm_module}
 use Rattle.wasm_base.specs.Reading.{ReadsAlone, ReadsWhole}
 use Rattle.wasm_base.specs.Texts.{IsFrameOf}
@@ -28,6 +28,12 @@ pub record ReadsSections (readings : List SectionReading) (bytes : List ℕ) : T
   pub sections : List (ℕ × List ℕ)
   pub read : ReadsWhole wasm_module bytes sections
   pub payloads : AreRead readings sections
+
+-- The bytes gain a text, which is read as x alone.
+pub record GainsReading {X : Type 0} (F : Format X) (x : X) (old new : List ℕ) : Type 0 where
+  pub text : List ℕ
+  pub added : new ≡ old ++ text
+  pub alone : ReadsAlone F text x
 
 -- Where a text frames these bytes and is read as x alone, the bytes are read as x alone.
 pub record ReadsPayloads {X : Type 0} (F : Format X) : Type 0 where

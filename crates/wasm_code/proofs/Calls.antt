@@ -1,15 +1,18 @@
 -- What calls leave, step by step: lemmas that a caller cites.
-use Rattle.std.proofs.Common.{◌≡◌, ℕ, ◌^◌, ◌<◌, ◌≤◌, List, [], ◌∷◌, ◌++◌, length, map, Ok, refl, sym, ap, subst, ◌∙◌, arith}
+use Rattle.std.proofs.Common.{◌≡◌, ℕ, ◌^◌, ◌<◌, ◌≤◌, List, [], ◌∷◌, ◌++◌, length, map, Result, Ok, Err, refl, sym, ap, subst, ◌∙◌, arith}
 use Rattle.std.proofs.lemmas.List.{map-append}
 use Rattle.std.proofs.lemmas.List.Elements.{All-nil, All-cons}
 use Rattle.std.specs.Array.Iter.{array_into_iter_items, array_steps}
 use Rattle.std.specs.Iterator.{Count, Drains}
 use Rattle.std.specs.List.{All, AllByRecursion, AllZip}
+use Rattle.std.specs.Prelude.{OnOk}
 use Rattle.std.specs.declared.alloc.Global.{Global}
+use Rattle.std.specs.declared.vec.Vec.{Vec}
+use Rattle.wasm_base.specs.declared.refused.Refused.{Refused}
 use Rattle.std.specs.declared.array.IntoIter.{IntoIter}
-use Rattle.wasm_base.specs.Calls.{ReadsOneMore, AddsEach}
+use Rattle.wasm_base.specs.Calls.{Appends, ReadsOneMore, AddsEach}
 use Rattle.wasm_base.specs.Formats.{any_bytes, frame, vec}
-use Rattle.wasm_base.specs.Modules.{SectionReading, ReadsSections}
+use Rattle.wasm_base.specs.Modules.{SectionReading, ReadsSections, GainsReading}
 use Rattle.wasm_base.specs.Numbers.{shortest}
 use Rattle.wasm_base.specs.Pieces.{SectionPayload, SectionFits, section_text, section_framed}
 use Rattle.wasm_base.specs.Texts.{longest, VecFits, frame_text, FrameFits}
@@ -22,7 +25,7 @@ use Rattle.wasm_insn.specs.Table.{table}
 use Rattle.wasm_insn.specs.Instructions.{instruction_text, IsPlainInstruction}
 use Rattle.wasm_insn.proofs.InstructionLaws.{br_table_spelled}
 use Rattle.wasm_code.specs.Bodies.{Run, IsRun, Body, body as body_format, IsPlainBody, and_then, Grows, GrowsBy, HasLocals, BeginsWithRuns}
-use Rattle.wasm_code.specs.Code.{HoldsBodies, SpellsBodies, ReadsCode, raw_code_reading, code_reading}
+use Rattle.wasm_code.specs.Code.{code_section, SpellsBodies, ReadsCode, code_reading}
 use Rattle.wasm_code.specs.Expressions.{StoresInstructions, Stores, normal_row}
 use Rattle.wasm_code.specs.Laws.{HoldsMoreBodies, GrowsByText, GrowsByLabels, br_table_row}
 use Rattle.wasm_code.proofs.BodyLaws.{grows, grows_by}
@@ -111,6 +114,13 @@ pub gains_code : {readings : List SectionReading} {id : ℕ} {old new : List ℕ
     → SectionFits entries → ReadsCode entries (section_text entries) → SpellsBodies entries bodies → ReadsSections (readings ++ (id, (code_reading bodies).1) ∷ []) new
 gains_code {entries = entries} {bodies = bodies} before more fits reads spelled =
     gains_section {F = vec (frame body_format)} before more code_section-payload (section_text entries) _ refl (section_framed entries _ fits refl) bodies (reads.bodies.for_each bodies spelled)
+
+-- a code section that a buffer has gained
+pub encodes_code : {A : Type 0} {fits : Type 0} {entries : List (List ℕ)} {old new : Vec ℕ A} {result : Result (Unit {0}) Refused} {bodies : List Body} → Appends (section_text entries) fits old new result
+    → OnOk result (ReadsCode entries (section_text entries)) → SpellsBodies entries bodies → OnOk result (GainsReading code_section bodies old.items new.items)
+encodes_code {entries = entries} {result = Ok u} {bodies = bodies} appends reads spelled =
+    record { text = section_text entries; added = appends.ok; alone = reads.bodies.for_each bodies spelled }
+encodes_code {result = Err e} appends reads spelled = tt
 
 -- ---- laws
 

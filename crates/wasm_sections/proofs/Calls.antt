@@ -1,13 +1,16 @@
 -- What calls leave, step by step: lemmas that a caller cites.
-use Rattle.std.proofs.Common.{◌≡◌, ℕ, ◌^◌, ◌<◌, List, [], ◌∷◌, ◌++◌, map, IsUtf8, None, Some, refl, sym, ap, subst, ◌∙◌}
+use Rattle.std.proofs.Common.{◌≡◌, ℕ, ◌^◌, ◌<◌, List, [], ◌∷◌, ◌++◌, map, IsUtf8, None, Some, Result, Ok, Err, refl, sym, ap, subst, ◌∙◌}
 use Rattle.std.proofs.lemmas.List.{map-append}
+use Rattle.std.specs.Prelude.{OnOk}
+use Rattle.std.specs.declared.vec.Vec.{Vec}
+use Rattle.wasm_base.specs.declared.refused.Refused.{Refused}
 use Rattle.std.specs.List.{AllByRecursion, AllZip}
-use Rattle.wasm_base.specs.Calls.{ReadsOneMore, ReadsBack, AddsEach}
+use Rattle.wasm_base.specs.Calls.{Appends, ReadsOneMore, ReadsBack, AddsEach}
 use Rattle.wasm_base.specs.Entries.{Entry, Given, Raw, entry_text, Means, HoldsItems, counted_format}
 use Rattle.wasm_base.specs.Formats.{Format, u32, vec, frame}
 use Rattle.wasm_base.specs.Laws.{FitsUnsigned}
 use Rattle.wasm_insn.specs.Plain.{Plain}
-use Rattle.wasm_base.specs.Modules.{SectionReading, reading_of, ReadsSections, ReadsPayloads}
+use Rattle.wasm_base.specs.Modules.{SectionReading, reading_of, ReadsSections, ReadsPayloads, GainsReading}
 use Rattle.wasm_base.specs.Numbers.{shortest, unsigned_text}
 use Rattle.wasm_base.specs.Pieces.{SectionPayload, SectionFits, section_text, section_framed}
 use Rattle.wasm_base.specs.Texts.{frame_text, FrameFits, raw_framed}
@@ -142,3 +145,10 @@ pub gains_number : {readings : List SectionReading} {id number : ℕ} {old new :
     → ReadsBack (frame u32) (λ said. said ≡ number) (frame_text (unsigned_text number)) → ReadsSections (readings ++ reading_of id u32 number ∷ []) new
 gains_number {number = number} before more fits reads =
     gains_section {F = u32} before more u32-payload (frame_text (unsigned_text number)) (unsigned_text number) refl (raw_framed (unsigned_text number) (unsigned_text number) fits refl) number (reads.for_each number refl)
+
+-- a section that a buffer has gained
+pub encodes_items : {A Record Item : Type 0} {text : Record → List ℕ} {IsPlain : Record → Type 0} {normal_form : Record → Item} {F : Format Item} {fits : Type 0} {entries : List (List ℕ)} {old new : Vec ℕ A} {result : Result (Unit {0}) Refused} {items : List Item}
+    → Appends (section_text entries) fits old new result → OnOk result (ReadsBack (counted_format F) (HoldsItems text IsPlain normal_form F entries) (section_text entries)) → HoldsItems text IsPlain normal_form F entries items
+    → OnOk result (GainsReading (counted_format F) items old.items new.items)
+encodes_items {entries = entries} {result = Ok u} {items = items} appends reads holds = record { text = section_text entries; added = appends.ok; alone = reads.for_each items holds }
+encodes_items {result = Err e} appends reads holds = tt
