@@ -1,5 +1,5 @@
 -- How many items an iterator of std gives: as many as it told.
-use Rattle.std.proofs.Common.{◌≡◌, ℕ, suc, ◌+◌, List, [], ◌∷◌, length, ap, ◌∙◌, Option, Some, None, arith}
+use Rattle.std.proofs.Common.{◌≡◌, ℕ, suc, ◌+◌, List, [], ◌∷◌, ◌++◌, length, refl, sym, ap, ◌∙◌, Option, Some, None, arith, append-nil}
 use Rattle.std.specs.Array.Iter.{array_into_iter_items, array_steps}
 use Rattle.std.specs.Iterator.{Drains, Yields}
 use Rattle.std.specs.Vec.Iter.{into_iter_len, into_iter_steps}
@@ -22,3 +22,16 @@ drained_array = drained_length array_steps (λ s. length (array_into_iter_items 
 
 pub drained_vec : {A Z : Type 0} (it : VecIter A Z) (xs : List A) → Drains (into_iter_steps {X = A} {Z = Z}) it xs → length xs ≡ into_iter_len it
 drained_vec = drained_length into_iter_steps into_iter_len (λ s x t g. omega (arith, g.1)) (λ s t g. g.0)
+
+-- ---- and which items: those of the array
+
+items_then : {A : Type 0} {n : ℕ} (it : IntoIter A n) (xs : List A) (left : IntoIter A n) → Yields array_steps it xs left → array_into_iter_items it ≡ xs ++ array_into_iter_items left
+items_then it [] left y = ap array_into_iter_items y
+items_then it (x ∷ xs) left y = y.1 ∙ ap (λ z. x ∷ z) (items_then y.0 xs left y.2)
+
+nothing_left : {A : Type 0} (xs : List A) → length xs ≡ 0 → xs ≡ []
+nothing_left [] e = refl
+nothing_left (x ∷ xs) e = absurd (omega (arith, e))
+
+pub array_items : {A : Type 0} {n : ℕ} (it : IntoIter A n) (xs : List A) → Drains array_steps it xs → xs ≡ array_into_iter_items it
+array_items it xs d = sym (items_then it xs d.1.0 d.1.1 ∙ ap (λ z. xs ++ z) (nothing_left (array_into_iter_items d.1.0) d.1.2.0) ∙ append-nil xs)

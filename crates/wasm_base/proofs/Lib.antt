@@ -6,6 +6,8 @@ pub mod EntryLaws
 pub mod ModuleLaws
 pub mod BaseLaws
 pub mod TypeLaws
+pub mod Payloads
+pub mod Calls
 pub mod Cut
 pub mod KnownLengths
 pub mod Members

@@ -5,6 +5,7 @@ pub mod Texts
 pub mod Iterators
 pub mod Pieces
 pub mod Calls
+pub mod Modules
 pub mod Entries
 pub mod SectionId
 pub mod Types

@@ -17,8 +17,10 @@ ghost use Rattle.wasm_base.specs.Formats.{
   frame,
   name,
   custom,
+  pair,
   wasm_module,
 };
+ghost use Rattle.wasm_base.specs.Modules.{ReadsPayloads};
 ghost use Rattle.wasm_base.specs.Laws.{FitsUnsigned, FitsBytes, FitsSigned32, FitsSigned64, NameFits};
 ghost use Rattle.wasm_base.specs.Numbers.{unsigned_text, signed_text};
 ghost use Rattle.wasm_base.specs.Reading.{UniqueReading, UniqueWholeReading, HasTexts, BeginsWith, IsUniqueWide, IsUniqueWholeWide};
@@ -63,6 +65,15 @@ pub fn frames()
     ensures frame_texts { HasTexts (frame any_bytes) FrameFits frame_text }
     ensures name_texts { HasTexts name NameFits frame_text }
     ensures module_texts { HasTexts wasm_module ModuleFits module_text }
+{}
+
+/// Where a module is read as ids and payloads, and the text that frames a payload as one value alone, the payload is read as this
+/// value alone.
+#[tactic(auto, using(crate::proofs::Payloads::payloads))]
+pub fn payloads()
+    ensures bytes { ReadsPayloads any_bytes }
+    ensures u32 { ReadsPayloads u32_format }
+    ensures custom { ReadsPayloads (pair name any_bytes) }
 {}
 
 /// Types are read uniquely: no index begins with a byte of theirs, nor with the 40 of an empty block type (hexadecimal).

@@ -44,6 +44,7 @@ impl<A: Allocator> Module<A> {
     pub fn section<S: Section>(&mut self, section: &S) -> R<()>
         ensures ok { OnOk result (self.new ≡ self.old ++ (S.id_of section.now ∷ S.text section.now)) }
         ensures read { OnOk result (ReadsOneMore (S.payload section.now) (S.id_of section.now) self.old self.new) }
+        ensures section { OnOk result (S.reading section.now) }
         ensures err { OnErr result (self.new ≡ self.old) }
 
         ensures fitted { OnOk result (S.fits section.now) }

@@ -4,10 +4,12 @@ use Rattle.std.specs.List.{AllZip}
 use Rattle.wasm_base.specs.Numbers.{shortest, unsigned_text}
 use Rattle.wasm_base.specs.Formats.{Format, any_bytes, frame, vec}
 use Rattle.wasm_base.specs.Reading.{ReadsAlone, UniqueReading, IsUniqueWide, IsUniqueWholeWide}
+use Rattle.wasm_base.specs.Modules.{ReadsPayloads}
 use Rattle.wasm_base.specs.Texts.{longest, frame_text}
 use Rattle.wasm_base.specs.Pieces.{joined, section_text, SectionFits}
 use Rattle.wasm_base.proofs.BaseLaws.{frame-bytes-alone, unique_wide, unique_whole_wide}
 use Rattle.wasm_base.proofs.FormatLaws.{vec-alone, frame-alone, whole_from_alone}
+use Rattle.wasm_base.proofs.Payloads.{counted-payload}
 use Rattle.wasm_base.proofs.TextLaws.{frame_spelled, section_alone}
 use Rattle.wasm_code.specs.Expressions.{expression}
 use Rattle.wasm_code.specs.Bodies.{body}
@@ -52,6 +54,16 @@ code_reads entries fits = record {
   raw = record { for_each = λ raw e. framed_alone any_bytes raw_code-alone entries raw raw e fits (same_bytes raw) };
   bodies = record { for_each = λ xs h. framed_alone body code_section-alone entries h.raw xs h.held fits h.spelled };
 }
+
+-- ---- payloads
+
+pub raw_code-payload : ReadsPayloads (vec (frame any_bytes))
+raw_code-payload = counted-payload frame-bytes-alone
+
+pub code_section-payload : ReadsPayloads (vec (frame body))
+code_section-payload = counted-payload frame-body-alone
+
+pub ruleset payloads = (raw_code-payload, code_section-payload)
 
 -- ---- padded numbers
 

@@ -4,6 +4,7 @@ pub mod RunLaws
 pub mod BodyLaws
 pub mod CodeLaws
 pub mod CodeTexts
+pub mod Calls
 pub mod NothingLaws
 pub mod Drained
 pub mod SameTypes

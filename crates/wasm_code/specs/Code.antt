@@ -3,7 +3,10 @@ use Rattle.std.specs.Prelude.{◌≡◌, ℕ, List, map}
 use Rattle.std.specs.List.{AllZip}
 use Rattle.wasm_base.specs.Calls.{ReadsBack}
 use Rattle.wasm_base.specs.Formats.{Format, any_bytes, frame, vec}
+use Rattle.wasm_base.specs.Modules.{SectionReading, reading_of}
+use Rattle.wasm_base.specs.SectionId.{number_of}
 use Rattle.wasm_base.specs.Texts.{frame_text}
+use Rattle.wasm_base.specs.declared.section_id.SectionId.TheVariants as ids
 use Rattle.wasm_code.specs.Bodies.{Body, body, IsPlainBody}
 
 -- a code section at the level of raw bodies: a frame of a vector of frames
@@ -28,3 +31,10 @@ pub record SpellsBodies (entries : List (List ℕ)) (bodies : List Body) : Type 
 pub record ReadsCode (entries : List (List ℕ)) (text : List ℕ) : Type 0 where
   pub raw : ReadsBack raw_code (HoldsBodies entries) text
   pub bodies : ReadsBack code_section (SpellsBodies entries) text
+
+-- a code section as a reader finds it: of raw bodies, and of bodies
+abbrev pub raw_code_reading : List (List ℕ) → SectionReading
+raw_code_reading bodies = reading_of (number_of ids.Code) (vec (frame any_bytes)) bodies
+
+abbrev pub code_reading : List Body → SectionReading
+code_reading bodies = reading_of (number_of ids.Code) (vec (frame body)) bodies

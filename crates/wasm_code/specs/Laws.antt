@@ -1,16 +1,20 @@
 -- What is promised of all lists of bytes.
-use Rattle.std.specs.Prelude.{◌≡◌, ◌≢◌, ℕ, List, [], ◌∷◌, ◌++◌}
-use Rattle.std.specs.List.{All, flat_map}
+use Rattle.std.specs.Prelude.{◌≡◌, ◌≢◌, ℕ, ◌^◌, ◌<◌, List, [], ◌∷◌, ◌++◌, map}
+use Rattle.std.specs.List.{All, AllZip, flat_map}
 use Rattle.wasm_base.specs.Numbers.{shortest}
 use Rattle.wasm_base.specs.Formats.{Format, members}
 use Rattle.wasm_base.specs.Reading.{ReadsNothing}
 use Rattle.wasm_base.specs.Texts.{vec_text, VecFits, frame_text, FrameFits}
 use Rattle.wasm_insn.specs.declared.instruction.Instruction.{Instruction}
+use Rattle.wasm_insn.specs.declared.op.Op.TheVariants.{Byte}
+use Rattle.wasm_insn.specs.Arguments.{labels, unsigned}
+use Rattle.wasm_insn.specs.Sink.{br_table_text}
 use Rattle.wasm_insn.specs.Plain.{Plain, IsPlain, normal, instruction, plain_text}
 use Rattle.wasm_insn.specs.Table.{table}
 use Rattle.wasm_insn.specs.Instructions.{instruction_text, IsPlainInstruction}
 use Rattle.wasm_code.specs.Expressions.{normal_row, IsNoEnd, expression_text}
-use Rattle.wasm_code.specs.Bodies.{Body, body, and_then, Run, expand, IsRun, IsRuns, locals_text}
+use Rattle.wasm_code.specs.Bodies.{Body, body, and_then, IsPlainBody, Grows, Run, expand, IsRun, IsRuns, locals_text}
+use Rattle.wasm_code.specs.Code.{SpellsBodies}
 
 -- No value stands at the front of the text, whatever follows.
 pub record NothingStands {X : Type 0} (F : Format X) (text : List ℕ) : Type 0 where
@@ -88,3 +92,27 @@ code_section_text bodies = frame_text (vec_text body_frame_text bodies)
 pub record CodeSectionFits (bodies : List Body) : Type 0 where
   pub members : VecFits BodyFrameFits bodies
   pub size : FrameFits (vec_text body_frame_text bodies)
+
+-- ---- calls
+
+-- A code section without entries holds no bodies, and an entry that is the frame of a raw body adds the body that this spells. The
+-- entries that `add_all` adds are added as one by one.
+pub record HoldsMoreBodies : Type 0 where
+  pub none : SpellsBodies [] []
+  pub given : (entries : List (List ℕ)) (bodies : List Body) (raw : List ℕ) (x : Body) → SpellsBodies entries bodies → IsPlainBody raw x
+      → SpellsBodies (entries ++ frame_text raw ∷ []) (bodies ++ x ∷ [])
+  pub all : (entries : List (List ℕ)) (bodies : List Body) (raw : List (List ℕ)) (xs : List Body) → SpellsBodies entries bodies → AllZip IsPlainBody raw xs
+      → SpellsBodies (entries ++ map frame_text raw) (bodies ++ xs)
+
+-- Where bytes gain the text of an instruction, a body gains the instruction.
+pub record GrowsByText {A : Type 0} (i : Instruction A) : Type 0 where
+  pub grows : (old : List ℕ) → Grows i old (old ++ instruction_text i)
+
+-- the row of `BrTable`
+abbrev pub br_table_row : List ℕ → ℕ → Plain
+br_table_row ls default = record { op = Byte 0x0E; arguments = labels ls ∷ unsigned default ∷ [] }
+
+-- Where bytes gain the text of `BrTable` of labels that can be counted, a body gains this instruction.
+pub record GrowsByLabels : Type 0 where
+  pub grows : (ls : List ℕ) (default : ℕ) (old : List ℕ) (x : Body) → VecFits (λ n. n < 2 ^ 32) ls → default < 2 ^ 32 → IsPlainBody old x
+      → IsPlainBody (old ++ br_table_text ls default) (and_then x (br_table_row ls default ∷ []))

@@ -4,7 +4,8 @@
 //! shortest and with padded numbers, and that a value has one shortest spelling; `UniqueWholeReading F` the same of a format whose
 //! spellings reach to the last byte. `HasTexts F fits text` says that the text of each value that fits is its shortest spelling.
 ghost use Rattle.std.specs.Prelude.{◌∷◌, [], List};
-ghost use Rattle.wasm_base.specs.Formats.{frame};
+ghost use Rattle.wasm_base.specs.Formats.{any_bytes, frame, vec};
+ghost use Rattle.wasm_base.specs.Modules.{ReadsPayloads};
 ghost use Rattle.wasm_base.specs.Reading.{UniqueReading, UniqueWholeReading, HasTexts, IsUniqueWide, IsUniqueWholeWide};
 ghost use Rattle.wasm_code.specs.Bodies.{Run, body};
 ghost use Rattle.wasm_code.specs.Code.{raw_code, code_section};
@@ -14,6 +15,9 @@ ghost use Rattle.wasm_code.specs.Laws.{
   HasOffsets,
   FindsAdded,
   HaveOneExpansion,
+  HoldsMoreBodies,
+  GrowsByText,
+  GrowsByLabels,
   PlainExpressionFits,
   plain_expression_text,
   BodyFits,
@@ -56,6 +60,21 @@ pub fn bodies()
 pub fn offset<A: Allocator>()
     ensures begins { HasOffsets }
     ensures added { (i : Instruction A) → FindsAdded i }
+{}
+
+/// Where a module is read as ids and payloads, and a code section as bodies alone, its payload is read as these alone.
+#[tactic(auto, using(crate::proofs::CodeLaws::payloads))]
+pub fn payloads()
+    ensures raw_code { ReadsPayloads (vec (frame any_bytes)) }
+    ensures code_section { ReadsPayloads (vec (frame body)) }
+{}
+
+/// What a code section holds, call by call, and what a body gains where a named call of a sink writes into it.
+#[tactic(auto, using(crate::proofs::Calls::calls))]
+pub fn calls<A: Allocator>()
+    ensures code { HoldsMoreBodies }
+    ensures instruction { (i : Instruction A) → GrowsByText i }
+    ensures labels { GrowsByLabels }
 {}
 
 /// With padded numbers too.

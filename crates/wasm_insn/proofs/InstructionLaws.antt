@@ -1,19 +1,24 @@
 -- The laws of the opcode table, and of instructions over it.
-use Rattle.std.proofs.Common.{◌≡◌, [], ◌∷◌, Bool, true, ◌&&◌, refl}
+use Rattle.std.proofs.Common.{◌≡◌, ℕ, ◌^◌, ◌<◌, List, [], ◌∷◌, Bool, true, ◌&&◌, refl}
 use Rattle.std.specs.List.{AllByRecursion}
 use Rattle.std.proofs.lemmas.Bool.{and_parts}
 use Rattle.wasm_base.specs.Numbers.{shortest}
 use Rattle.wasm_base.specs.Reading.{UniqueReading, IsUniqueWide}
+use Rattle.wasm_base.specs.Texts.{VecFits}
 use Rattle.wasm_base.proofs.BaseLaws.{unique_wide}
 use Rattle.wasm_insn.specs.declared.op.Op.{Op}
 use Rattle.wasm_insn.specs.declared.op.Op.TheVariants.{Byte, Prefixed}
+use Rattle.wasm_insn.specs.declared.op.Shape.TheVariants.{Bt}
 use Rattle.wasm_insn.specs.declared.instruction.Instruction.{Instruction}
 use Rattle.wasm_insn.specs.Opcodes.{op_text}
-use Rattle.wasm_insn.specs.Plain.{Table, IsOpcode, IsPlain, instruction}
+use Rattle.wasm_insn.specs.Plain.{Plain, Table, IsOpcode, IsPlain, instruction}
 use Rattle.wasm_insn.specs.Table.{table, IsTableOp, IsOpcodeTable, BeginsNoOther}
 use Rattle.wasm_insn.specs.Instructions.{row_of, IsPlainInstruction, ReadsInstruction, HaveOneText}
-use Rattle.wasm_insn.proofs.PlainLaws.{opcode-alone, opcode_spelled, instruction-alone, plain-alone, same_text, wide-opcode}
+use Rattle.wasm_insn.specs.Arguments.{labels, unsigned}
+use Rattle.wasm_insn.specs.Sink.{br_table_text}
+use Rattle.wasm_insn.proofs.PlainLaws.{opcode-alone, opcode_spelled, instruction-alone, plain_spelled, plain-alone, same_text, wide-opcode}
 use Rattle.wasm_insn.proofs.TableRows.{is_op, op_is, instruction_row}
+use Rattle.wasm_insn.proofs.TableRuns.{byte_shape}
 
 -- ---- the table
 
@@ -53,6 +58,13 @@ reads i = record { alone = λ h. plain-alone table (row_of i) (is_plain i h) }
 
 pub one_text : {A : Type 0} (i j : Instruction A) → HaveOneText i j
 one_text i j = record { exactly = λ h g. same_text table (row_of i) (row_of j) (is_plain i h) (is_plain j g) }
+
+abbrev br_table_row : List ℕ → ℕ → Plain
+br_table_row ls default = record { op = Byte 0x0E; arguments = labels ls ∷ unsigned default ∷ [] }
+
+-- The text of `BrTable` spells its row, where its labels can be counted.
+pub br_table_spelled : (ls : List ℕ) (default : ℕ) → VecFits (λ n. n < 2 ^ 32) ls → default < 2 ^ 32 → instruction table shortest (br_table_text ls default) (br_table_row ls default)
+br_table_spelled ls default fits range = plain_spelled table (br_table_row ls default) (record { shape = Bt; opcode = refl; row = byte_shape 0x0E; parts = refl; arguments = (fits, (range, tt)) })
 
 pub alone : UniqueReading (instruction table)
 alone = instruction-alone table

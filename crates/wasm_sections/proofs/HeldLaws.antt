@@ -1,7 +1,7 @@
 -- What a section holds as calls add to it.
-use Rattle.std.proofs.Common.{ℕ, List, [], ◌∷◌, ◌++◌, refl, sym, ap, ◌∙◌}
+use Rattle.std.proofs.Common.{ℕ, List, [], ◌∷◌, ◌++◌, map, refl, sym, ap, ◌∙◌, append_assoc, append-nil}
 use Rattle.std.proofs.lemmas.List.{map-append}
-use Rattle.std.specs.List.{AllZip}
+use Rattle.std.specs.List.{AllByRecursion, AllZip}
 use Rattle.wasm_base.specs.Entries.{Entry, Given, Raw, entry_text, Means, HoldsItems}
 use Rattle.wasm_base.specs.Formats.{Format, u32}
 use Rattle.wasm_base.specs.Laws.{FitsUnsigned}
@@ -29,11 +29,19 @@ module _ {Record Item : Type 0} (text : Record → List ℕ) (IsPlain : Record �
     meant = zip_more (Means IsPlain normal_form F) holds.entries items entry item holds.meant means;
   }
 
-  holds_more : HoldsMore text IsPlain normal_form F
+  all_more : (pieces : List (List ℕ)) (items : List Item) (given : List Record) → HoldsItems text IsPlain normal_form F pieces items → AllByRecursion IsPlain given
+      → HoldsItems text IsPlain normal_form F (pieces ++ map text given) (items ++ map normal_form given)
+  all_more pieces items [] holds plain = rw (append-nil pieces, append-nil items) holds
+  all_more pieces items (g ∷ given) holds plain =
+      let rest = all_more (pieces ++ text g ∷ []) (items ++ normal_form g ∷ []) given (one_more pieces items (Given g) (normal_form g) holds (plain.0, refl)) plain.1 in
+      rw (append_assoc pieces (text g ∷ []) (map text given), append_assoc items (normal_form g ∷ []) (map normal_form given)) at rest
+
+  pub holds_more : HoldsMore text IsPlain normal_form F
   holds_more = record {
     none = record { entries = []; held = refl; meant = tt };
     given = λ pieces items given holds plain. one_more pieces items (Given given) (normal_form given) holds (plain, refl);
     raw = λ pieces items piece item holds spelled. one_more pieces items (Raw piece) item holds spelled;
+    all = all_more;
   }
 
 pub functions-held : HoldsMore unsigned_text (FitsUnsigned 32) (λ index. index) u32

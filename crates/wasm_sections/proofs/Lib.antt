@@ -11,3 +11,5 @@ pub mod GlobalLaws
 pub mod ImportLaws
 pub mod SectionLaws
 pub mod HeldLaws
+pub mod Payloads
+pub mod Calls

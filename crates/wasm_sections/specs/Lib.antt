@@ -7,3 +7,4 @@ pub mod Exports
 pub mod Globals
 pub mod Imports
 pub mod Laws
+pub mod Readings

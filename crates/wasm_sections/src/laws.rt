@@ -2,8 +2,9 @@
 //!
 //! `ItemLaws` says of a kind of items that they are read uniquely, and that the text of a plain record spells what it says.
 ghost use Rattle.wasm_base.specs.Entries.{ItemLaws, counted_format};
-ghost use Rattle.wasm_base.specs.Formats.{u32 as u32_format, frame};
+ghost use Rattle.wasm_base.specs.Formats.{u32 as u32_format, frame, vec};
 ghost use Rattle.wasm_base.specs.Laws.{FitsUnsigned};
+ghost use Rattle.wasm_base.specs.Modules.{ReadsPayloads};
 ghost use Rattle.wasm_base.specs.Numbers.{unsigned_text};
 ghost use Rattle.wasm_base.specs.Reading.{UniqueReading, IsUniqueWide};
 ghost use Rattle.wasm_sections.specs.Exports.{export_text, IsExport, item_of, export};
@@ -64,4 +65,17 @@ pub fn calls()
     ensures exports { HoldsMore export_text IsExport item_of export }
     ensures imports { HoldsMore import_text IsImport (λ import. import) import_format }
     ensures tags { HoldsMore tag_text IsTag (λ tag. tag) tag_type }
+{}
+
+/// Where a module is read as ids and payloads, and a section as its items alone, its payload is read as these alone.
+#[tactic(auto, using(crate::proofs::Payloads::payloads))]
+pub fn payloads()
+    ensures functions { ReadsPayloads (vec u32_format) }
+    ensures tables { ReadsPayloads (vec table_item) }
+    ensures memories { ReadsPayloads (vec memory_type) }
+    ensures globals { ReadsPayloads (vec global_item) }
+    ensures exports { ReadsPayloads (vec export) }
+    ensures imports { ReadsPayloads (vec import_format) }
+    ensures tags { ReadsPayloads (vec tag_type) }
+    ensures numbers { ReadsPayloads u32_format }
 {}

@@ -1,0 +1,8 @@
+use Rattle.std.proofs.Common.{arith}
+use Rattle.wasm_sections.proofs.Calls.{new_functions, adds_item}
+use Rattle.examples.proofs.whole.functions.Goals as goal
+
+pub returns : goal.returns
+returns g c =
+    let first = adds_item (new_functions c.new-section.ensures) 1 c.in_ok-function.ensures.ok (omega arith) in
+    adds_item first 0 c.in_ok-function-2.ensures.ok (omega arith)

@@ -1,0 +1,45 @@
+-- The bodies of the examples.
+use Rattle.std.specs.Prelude.{ℕ, List, [], ◌∷◌, pos}
+use Rattle.std.specs.declared.alloc.Global.{Global}
+use Rattle.wasm_base.specs.declared.types.ValType.TheVariants.{I32}
+use Rattle.wasm_code.specs.Bodies.{Body}
+use Rattle.wasm_code.specs.Expressions.{normal_row}
+use Rattle.wasm_immediates.specs.declared.block_type.BlockType.TheVariants.{Empty}
+use Rattle.wasm_insn.specs.Plain.{Plain}
+use Rattle.wasm_insn.specs.declared.instruction.Instruction.{Instruction}
+use Rattle.wasm_insn.specs.declared.instruction.Instruction.TheVariants.{Block, LocalGet, Numeric, BrIf, I32Const, Call, Return, End}
+use Rattle.wasm_insn.specs.declared.numeric.Numeric.TheVariants.{I32Eqz, I32Sub, I32Mul}
+
+-- an instruction as a reader finds it
+abbrev pub row : Instruction Global → Plain
+row i = normal_row i
+
+-- one local, and `End`
+abbrev pub first_body : Body
+first_body = record { runs = (1, I32) ∷ []; code = row End ∷ [] }
+
+-- the local of this index
+abbrev pub local_body : (index : ℕ) → Body
+local_body index = record { runs = []; code = row (LocalGet index) ∷ row End ∷ [] }
+
+-- the factorial of the one parameter, of the function of this index
+abbrev pub factorial_body : (itself : ℕ) → Body
+factorial_body itself = record {
+  runs = [];
+  code =
+    row (Block Empty) ∷
+    row (LocalGet 0) ∷
+    row (Numeric I32Eqz) ∷
+    row (BrIf 0) ∷
+    row (LocalGet 0) ∷
+    row (LocalGet 0) ∷
+    row (I32Const (pos 1)) ∷
+    row (Numeric I32Sub) ∷
+    row (Call itself) ∷
+    row (Numeric I32Mul) ∷
+    row Return ∷
+    row End ∷
+    row (I32Const (pos 1)) ∷
+    row End ∷
+    [];
+}

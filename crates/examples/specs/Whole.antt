@@ -1,0 +1,60 @@
+-- The module of eight sections.
+use Rattle.std.specs.Prelude.{ℕ, List, [], ◌∷◌, true, false, None, pos}
+use Rattle.wasm_base.specs.Modules.{SectionReading, raw_reading}
+use Rattle.wasm_base.specs.declared.types.ValType.TheVariants.{I32}
+use Rattle.wasm_code.specs.Bodies.{Body}
+use Rattle.wasm_code.specs.Code.{code_reading}
+use Rattle.wasm_insn.specs.declared.instruction.Instruction.TheVariants.{GlobalGet, GlobalSet, I32Const, Call, End}
+use Rattle.wasm_sections.specs.Exports.{ExportItem}
+use Rattle.wasm_sections.specs.Globals.{GlobalItem}
+use Rattle.wasm_sections.specs.Imports.{ImportItem, single}
+use Rattle.wasm_sections.specs.Readings.{import_reading, function_reading, memory_reading, global_reading, export_reading, start_reading}
+use Rattle.wasm_sections.specs.declared.export.ExportKind.TheVariants.{Func, Memory}
+use Rattle.wasm_sections.specs.declared.import.EntityType.TheVariants.{Function}
+use Rattle.wasm_sections.specs.declared.memory.MemoryType.{MemoryType}
+use Rattle.examples.specs.Bodies.{row, factorial_body}
+
+-- two types: of nothing, and of a number and a number
+abbrev pub two_types : List ℕ
+two_types = 0x02 ∷ 0x60 ∷ 0x00 ∷ 0x00 ∷ 0x60 ∷ 0x01 ∷ 0x7F ∷ 0x01 ∷ 0x7F ∷ []
+
+-- a function of the type of this index
+abbrev pub import_of_function : (from name : List ℕ) (index : ℕ) → ImportItem
+import_of_function from name index = record { module_name = from; imported = single name (Function index) }
+
+-- `ready` of `host`, a function of the first type
+abbrev pub ready : ImportItem
+ready = import_of_function (104 ∷ 111 ∷ 115 ∷ 116 ∷ []) (114 ∷ 101 ∷ 97 ∷ 100 ∷ 121 ∷ []) 0
+
+-- one page
+abbrev pub one_page : MemoryType
+one_page = record { minimum = 1; maximum = None; memory64 = false; shared = false; page_size_log2 = None }
+
+-- a number that can be set, 5 at first
+abbrev pub five : GlobalItem
+five = record { global_type = record { val_type = I32; mutable = true; shared = false }; init = row (I32Const (pos 5)) ∷ [] }
+
+-- the function 1 as `factorial`
+abbrev pub factorial_export : ExportItem
+factorial_export = record { name = 102 ∷ 97 ∷ 99 ∷ 116 ∷ 111 ∷ 114 ∷ 105 ∷ 97 ∷ 108 ∷ []; kind = Func; index = 1 }
+
+-- the memory as `memory`
+abbrev pub memory_export : ExportItem
+memory_export = record { name = 109 ∷ 101 ∷ 109 ∷ 111 ∷ 114 ∷ 121 ∷ []; kind = Memory; index = 0 }
+
+-- the start function
+abbrev pub start_body : Body
+start_body = record { runs = []; code = row (GlobalGet 0) ∷ row (Call 1) ∷ row (GlobalSet 0) ∷ row (Call 0) ∷ row End ∷ [] }
+
+-- the sections in order
+abbrev pub whole_sections : List SectionReading
+whole_sections =
+    raw_reading 1 two_types
+    ∷ import_reading (ready ∷ [])
+    ∷ function_reading (1 ∷ 0 ∷ [])
+    ∷ memory_reading (one_page ∷ [])
+    ∷ global_reading (five ∷ [])
+    ∷ export_reading (factorial_export ∷ memory_export ∷ [])
+    ∷ start_reading 2
+    ∷ code_reading (factorial_body 1 ∷ start_body ∷ [])
+    ∷ []

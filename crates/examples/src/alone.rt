@@ -1,0 +1,41 @@
+// Sections without a module.
+ghost use Rattle.std.specs.Prelude.{[], ◌∷◌, OnOk};
+ghost use Rattle.wasm_base.specs.Entries.{counted_format};
+ghost use Rattle.wasm_base.specs.Modules.{GainsReading};
+ghost use Rattle.wasm_code.specs.Code.{code_section};
+ghost use Rattle.wasm_sections.specs.Imports.{import_format};
+ghost use Rattle.examples.specs.Bodies.{local_body};
+ghost use Rattle.examples.specs.Whole.{import_of_function};
+
+use std::alloc::Allocator;
+use wasm_base::{Encode, R};
+use wasm_code::{CodeSection, Function};
+use wasm_insn::Instruction;
+use wasm_sections::{EntityType, ImportSection};
+
+/// A code section of one function, which gives the local of this index.
+pub fn encode_local<A: Allocator + Copy>(sink: &mut Vec<u8, A>, index: u32) -> R<()>
+    ensures { OnOk result (GainsReading code_section (local_body index ∷ []) sink.old.items sink.new.items) }
+{
+    let alloc = *sink.allocator();
+    let mut function = Function::new(alloc, [])?;
+    function.instruction(&Instruction::LocalGet(index))?;
+    function.instruction(&Instruction::End)?;
+    let mut code = CodeSection::new(alloc);
+    code.function(&function)?;
+    code.encode(sink)
+}
+
+/// An import section of one function.
+pub fn encode_import<A: Allocator + Copy>(
+    sink: &mut Vec<u8, A>,
+    from: &str,
+    name: &str,
+    index: u32,
+) -> R<()>
+    ensures { OnOk result (GainsReading (counted_format import_format) (import_of_function from.now name.now index ∷ []) sink.old.items sink.new.items) }
+{
+    let mut section = ImportSection::new(*sink.allocator());
+    section.import(from, name, EntityType::Function(index))?;
+    section.encode(sink)
+}

@@ -1,0 +1,12 @@
+//! Callers that prove what their modules are read as. `docs/CALLING.md` walks through them.
+#![tactic(auto, using(wasm_base::proofs::KnownLengths::drained_array))]
+
+mod alone;
+mod first;
+mod recursion;
+mod whole;
+
+pub use alone::{encode_import, encode_local};
+pub use first::first_module;
+pub use recursion::factorial;
+pub use whole::whole_module;

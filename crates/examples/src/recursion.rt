@@ -1,0 +1,33 @@
+// A function that calls itself.
+ghost use Rattle.std.specs.Prelude.{IfOk};
+ghost use Rattle.wasm_code.specs.Bodies.{IsPlainBody};
+ghost use Rattle.examples.specs.Bodies.{factorial_body};
+
+use std::alloc::Allocator;
+use wasm_base::R;
+use wasm_code::Function;
+use wasm_insn::BlockType;
+
+/// The factorial of its one parameter: 1 where this is 0, and else this times the factorial of the number below. `itself` is the
+/// index that the function has in its module.
+pub fn factorial<A: Allocator>(alloc: A, itself: u32) -> R<Function<A>>
+    ensures { IfOk result (λ function. IsPlainBody function (factorial_body itself)) }
+{
+    let mut function = Function::new(alloc, [])?;
+    let mut sink = function.instructions();
+    sink.block(BlockType::Empty)?;
+    sink.local_get(0)?;
+    sink.i32_eqz()?;
+    sink.br_if(0)?;
+    sink.local_get(0)?;
+    sink.local_get(0)?;
+    sink.i32_const(1)?;
+    sink.i32_sub()?;
+    sink.call(itself)?;
+    sink.i32_mul()?;
+    sink.return_()?;
+    sink.end()?;
+    sink.i32_const(1)?;
+    sink.end()?;
+    Ok(function)
+}

@@ -1,0 +1,118 @@
+// A module of eight sections.
+ghost use Rattle.std.specs.Prelude.{IfOk, [], ◌∷◌};
+ghost use Rattle.wasm_base.specs.Modules.{ReadsSections};
+ghost use Rattle.wasm_code.specs.Bodies.{IsPlainBody};
+ghost use Rattle.wasm_code.specs.Code.{SpellsBodies};
+ghost use Rattle.wasm_sections.specs.Readings.{HoldsImports, HoldsFunctions, HoldsMemories, HoldsGlobals, HoldsExports};
+ghost use Rattle.examples.specs.Bodies.{factorial_body};
+ghost use Rattle.examples.specs.Whole.{ready, one_page, five, factorial_export, memory_export, start_body, whole_sections};
+
+use crate::recursion::factorial;
+use std::alloc::Allocator;
+use wasm_base::{Module, R, RawSection, ValType};
+use wasm_code::{CodeSection, ConstExpr, Function};
+use wasm_insn::Instruction;
+use wasm_sections::{
+    EntityType, ExportKind, ExportSection, FunctionSection, GlobalSection, GlobalType,
+    ImportSection, MemorySection, MemoryType, StartSection,
+};
+
+/// A module that imports a function, has a global and a memory, and replaces the global by its factorial when it starts.
+pub fn whole_module<A: Allocator + Copy>(alloc: A) -> R<Vec<u8, A>>
+    ensures { IfOk result (λ bytes. ReadsSections whole_sections bytes.items) }
+{
+    let mut module = Module::new(alloc)?;
+    module.section(&RawSection {
+        id: 1,
+        bytes: &[0x02, 0x60, 0x00, 0x00, 0x60, 0x01, 0x7F, 0x01, 0x7F],
+    })?;
+    module.section(&imports(alloc)?)?;
+    module.section(&functions(alloc)?)?;
+    module.section(&memories(alloc)?)?;
+    module.section(&globals(alloc)?)?;
+    module.section(&exports(alloc)?)?;
+    module.section(&StartSection { function_index: 2 })?;
+    module.section(&code(alloc)?)?;
+    Ok(module.finish())
+}
+
+/// The function 0, which the host has.
+fn imports<A: Allocator + Copy>(alloc: A) -> R<ImportSection<A>>
+    ensures { IfOk result (λ section. HoldsImports section (ready ∷ [])) }
+{
+    let mut section = ImportSection::new(alloc);
+    section.import("host", "ready", EntityType::Function(0))?;
+    Ok(section)
+}
+
+/// The types of the functions 1 and 2.
+fn functions<A: Allocator + Copy>(alloc: A) -> R<FunctionSection<A>>
+    ensures { IfOk result (λ section. HoldsFunctions section (1 ∷ 0 ∷ [])) }
+{
+    let mut section = FunctionSection::new(alloc);
+    section.function(1)?;
+    section.function(0)?;
+    Ok(section)
+}
+
+/// A memory of one page.
+fn memories<A: Allocator + Copy>(alloc: A) -> R<MemorySection<A>>
+    ensures { IfOk result (λ section. HoldsMemories section (one_page ∷ [])) }
+{
+    let mut section = MemorySection::new(alloc);
+    section.memory(MemoryType {
+        minimum: 1,
+        maximum: None,
+        memory64: false,
+        shared: false,
+        page_size_log2: None,
+    })?;
+    Ok(section)
+}
+
+/// A number that can be set, 5 at first.
+fn globals<A: Allocator + Copy>(alloc: A) -> R<GlobalSection<A>>
+    ensures { IfOk result (λ section. HoldsGlobals section (five ∷ [])) }
+{
+    let global_type = GlobalType {
+        val_type: ValType::I32,
+        mutable: true,
+        shared: false,
+    };
+    let mut section = GlobalSection::new(alloc);
+    section.global(global_type, &ConstExpr::i32_const(alloc, 5)?)?;
+    Ok(section)
+}
+
+/// The factorial and the memory.
+fn exports<A: Allocator + Copy>(alloc: A) -> R<ExportSection<A>>
+    ensures { IfOk result (λ section. HoldsExports section (factorial_export ∷ memory_export ∷ [])) }
+{
+    let mut section = ExportSection::new(alloc);
+    section.export("factorial", ExportKind::Func, 1)?;
+    section.export("memory", ExportKind::Memory, 0)?;
+    Ok(section)
+}
+
+/// The bodies of the functions 1 and 2.
+fn code<A: Allocator + Copy>(alloc: A) -> R<CodeSection<A>>
+    ensures { IfOk result (λ section. SpellsBodies section (factorial_body 1 ∷ start_body ∷ [])) }
+{
+    let mut section = CodeSection::new(alloc);
+    section.function(&factorial(alloc, 1)?)?;
+    section.function(&start(alloc)?)?;
+    Ok(section)
+}
+
+/// The start function: the global becomes its factorial, and the host is told.
+fn start<A: Allocator>(alloc: A) -> R<Function<A>>
+    ensures { IfOk result (λ function. IsPlainBody function start_body) }
+{
+    let mut function = Function::new(alloc, [])?;
+    function.instruction(&Instruction::GlobalGet(0))?;
+    function.instruction(&Instruction::Call(1))?;
+    function.instruction(&Instruction::GlobalSet(0))?;
+    function.instruction(&Instruction::Call(0))?;
+    function.instruction(&Instruction::End)?;
+    Ok(function)
+}

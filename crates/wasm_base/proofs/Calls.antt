@@ -1,0 +1,53 @@
+-- What calls leave, step by step: lemmas that a caller cites.
+use Rattle.std.proofs.Common.{◌≡◌, ℕ, zero, suc, ◌<◌, List, [], ◌∷◌, ◌++◌, Bool, true, ltb, ◌&&◌, slice_index, IsUtf8, arith, refl, sym, subst}
+use Rattle.std.proofs.lemmas.Bool.{ltb-true, and_parts}
+use Rattle.std.proofs.lemmas.Str.{IsUtf8-from_ascii}
+use Rattle.wasm_base.specs.Calls.{ReadsOneMore, ReadsBack}
+use Rattle.wasm_base.specs.Formats.{Format, any_bytes, frame, wasm_module}
+use Rattle.wasm_base.specs.Modules.{SectionReading, reading_of, raw_reading, AreRead, ReadsSections, ReadsPayloads}
+use Rattle.wasm_base.specs.Reading.{ReadsAlone, ReadsWhole}
+use Rattle.wasm_base.specs.Texts.{IsFrameOf, frame_text, FrameFits, raw_framed}
+use Rattle.wasm_base.proofs.Payloads.{bytes-payload}
+
+are_read-more : (readings : List SectionReading) (sections : List (ℕ × List ℕ)) (reading : SectionReading) (section : ℕ × List ℕ) → AreRead readings sections → section.0 ≡ reading.0 → reading.1 section.1
+    → AreRead (readings ++ reading ∷ []) (sections ++ section ∷ [])
+are_read-more [] [] reading section h e g = (e, g, tt)
+are_read-more [] (s ∷ sections) reading section h e g = absurd h
+are_read-more (r ∷ readings) [] reading section h e g = absurd h
+are_read-more (r ∷ readings) (s ∷ sections) reading section h e g = (h.0, h.1, are_read-more readings sections reading section h.2 e g)
+
+abbrev are_ascii : List ℕ → Bool
+are_ascii [] = true
+are_ascii (b ∷ bytes) = ltb b 0x80 && are_ascii bytes
+
+below_128 : (bytes : List ℕ) → are_ascii bytes ≡ true → (i : ℕ) → slice_index bytes i < 128
+below_128 [] e i = omega arith
+below_128 (b ∷ bytes) e zero = ltb-true b 0x80 (and_parts (ltb b 0x80) (are_ascii bytes) e).0
+below_128 (b ∷ bytes) e (suc i) = below_128 bytes (and_parts (ltb b 0x80) (are_ascii bytes) e).1 i
+
+-- the bytes of a literal of ASCII
+pub ascii : {bytes : List ℕ} → are_ascii bytes ≡ true → IsUtf8 bytes
+ascii {bytes = bytes} e = IsUtf8-from_ascii bytes (below_128 bytes e)
+
+-- a new module
+pub new_module : {bytes : List ℕ} → ReadsWhole wasm_module bytes [] → ReadsSections [] bytes
+new_module read = record { sections = []; read = read; payloads = tt }
+
+-- a module and one more section, whose text frames the payload and is read as x alone
+pub gains_section : {readings : List SectionReading} {Payload : List ℕ → Type 0} {id : ℕ} {old new : List ℕ} {X : Type 0} {F : Format X} → ReadsSections readings old → ReadsOneMore Payload id old new
+    → ReadsPayloads F → (text payload : List ℕ) → Payload payload → IsFrameOf text payload → (x : X) → ReadsAlone (frame F) text x → ReadsSections (readings ++ reading_of id F x ∷ []) new
+gains_section {readings = readings} {id = id} {F = F} before more payloads text payload pays framed x alone = record {
+  sections = before.sections ++ (id, payload) ∷ [];
+  read = more.for_each before.sections payload before.read pays;
+  payloads = are_read-more readings before.sections (reading_of id F x) (id, payload) before.payloads refl (payloads.alone text payload x framed alone);
+}
+
+-- a module and a section of given bytes
+pub gains_raw : {readings : List SectionReading} {id : ℕ} {bytes old new : List ℕ} → ReadsSections readings old → ReadsOneMore (λ payload. payload ≡ bytes) id old new → FrameFits bytes
+    → ReadsBack (frame any_bytes) (λ said. said ≡ bytes) (frame_text bytes) → ReadsSections (readings ++ raw_reading id bytes ∷ []) new
+gains_raw {bytes = bytes} before more fits reads =
+    gains_section {F = any_bytes} before more bytes-payload (frame_text bytes) bytes refl (raw_framed bytes bytes fits refl) bytes (reads.for_each bytes refl)
+
+-- the bytes of a module
+pub finished : {readings : List SectionReading} {old bytes : List ℕ} → ReadsSections readings old → bytes ≡ old → ReadsSections readings bytes
+finished {readings = readings} before same = subst (λ s. ReadsSections readings s) (sym same) before

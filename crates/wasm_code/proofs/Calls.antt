@@ -1,0 +1,140 @@
+-- What calls leave, step by step: lemmas that a caller cites.
+use Rattle.std.proofs.Common.{◌≡◌, ℕ, ◌^◌, ◌<◌, ◌≤◌, List, [], ◌∷◌, ◌++◌, length, map, Result, Ok, Err, refl, sym, ap, subst, ◌∙◌, arith}
+use Rattle.std.proofs.lemmas.List.{map-append}
+use Rattle.std.proofs.lemmas.List.Elements.{All-nil, All-cons}
+use Rattle.std.specs.Array.Iter.{array_into_iter_items, array_steps}
+use Rattle.std.specs.Iterator.{Count, Drains}
+use Rattle.std.specs.List.{All, AllByRecursion, AllZip}
+use Rattle.std.specs.Prelude.{OnOk}
+use Rattle.std.specs.declared.alloc.Global.{Global}
+use Rattle.std.specs.declared.vec.Vec.{Vec}
+use Rattle.wasm_base.specs.declared.refused.Refused.{Refused}
+use Rattle.std.specs.declared.array.IntoIter.{IntoIter}
+use Rattle.wasm_base.specs.Calls.{Appends, ReadsOneMore, AddsEach}
+use Rattle.wasm_base.specs.Formats.{any_bytes, frame, vec}
+use Rattle.wasm_base.specs.Modules.{SectionReading, ReadsSections, GainsReading}
+use Rattle.wasm_base.specs.Numbers.{shortest}
+use Rattle.wasm_base.specs.Pieces.{SectionPayload, SectionFits, section_text, section_framed}
+use Rattle.wasm_base.specs.Texts.{longest, VecFits, frame_text, FrameFits}
+use Rattle.wasm_base.proofs.Calls.{gains_section}
+use Rattle.wasm_base.proofs.KnownLengths.{array_items}
+use Rattle.wasm_insn.specs.declared.instruction.Instruction.{Instruction}
+use Rattle.wasm_insn.specs.Plain.{Plain, IsPlain, instruction as instruction_format}
+use Rattle.wasm_insn.specs.Sink.{br_table_text}
+use Rattle.wasm_insn.specs.Table.{table}
+use Rattle.wasm_insn.specs.Instructions.{instruction_text, IsPlainInstruction}
+use Rattle.wasm_insn.proofs.InstructionLaws.{br_table_spelled}
+use Rattle.wasm_code.specs.Bodies.{Run, IsRun, Body, body as body_format, IsPlainBody, and_then, Grows, GrowsBy, HasLocals, BeginsWithRuns}
+use Rattle.wasm_code.specs.Code.{code_section, SpellsBodies, ReadsCode, code_reading}
+use Rattle.wasm_code.specs.Expressions.{StoresInstructions, Stores, normal_row}
+use Rattle.wasm_code.specs.Laws.{HoldsMoreBodies, GrowsByText, GrowsByLabels, br_table_row}
+use Rattle.wasm_code.proofs.BodyLaws.{grows, grows_by}
+use Rattle.wasm_code.proofs.CodeLaws.{raw_code-payload, code_section-payload}
+use Rattle.wasm_code.proofs.ExpressionLaws.{members_one}
+
+-- ---- functions
+
+all_of : {X : Type 0} (P : X → Type 0) (xs : List X) → AllByRecursion P xs → All P xs
+all_of P [] h = All-nil P
+all_of P (x ∷ xs) h = All-cons P x xs h.0 (all_of P xs h.1)
+
+-- a raw body of known runs
+pub known_runs : {runs given : List Run} {bytes : List ℕ} → HasLocals given bytes → given ≡ runs → length given ≤ longest → AllByRecursion IsRun runs → IsPlainBody bytes (record { runs = runs; code = [] })
+known_runs {runs = runs} {bytes = bytes} locals e count are =
+    subst (λ rs. IsPlainBody bytes (record { runs = rs; code = [] })) e
+    (locals.plain count (subst (λ rs. All IsRun rs) (sym e) (all_of IsRun runs are)))
+
+-- a new function, whose runs are the elements of an array
+pub new_function : {n : ℕ} {becomes : List Run → IntoIter Run n → Type 0} {remaining : IntoIter Run n → Count} {runs : List Run} {bytes : List ℕ} → BeginsWithRuns becomes array_steps remaining runs (Ok bytes)
+    → ((it : IntoIter Run n) → becomes runs it → array_into_iter_items it ≡ runs) → AllByRecursion IsRun runs → IsPlainBody bytes (record { runs = runs; code = [] })
+new_function {runs = runs} made is are =
+    let given = made.ok in
+    known_runs given.5 (array_items given.0 given.1 given.3 ∙ is given.0 given.2) given.4 are
+
+-- one more instruction
+pub adds_instruction : {A : Type 0} {i : Instruction A} {old new : List ℕ} {x : Body} → IsPlainBody old x → Grows i old new → IsPlainInstruction i → IsPlainBody new (and_then x (normal_row i ∷ []))
+adds_instruction {x = x} body grown plain = grown.plain plain x body
+
+-- a body that a sink borrows, and gives back
+pub lent : {old new : List ℕ} {x : Body} → IsPlainBody old x → new ≡ old → IsPlainBody new x
+lent {x = x} body same = subst (λ s. IsPlainBody s x) (sym same) body
+
+-- one more instruction, that a named call of a sink has written
+pub writes_instruction : {A : Type 0} {old new : List ℕ} {x : Body} → IsPlainBody old x → (i : Instruction A) → new ≡ old ++ instruction_text i → IsPlainInstruction i → IsPlainBody new (and_then x (normal_row i ∷ []))
+writes_instruction {old = old} {new = new} {x = x} body i e plain = (grows i old new e).plain plain x body
+
+-- the instruction `BrTable`, that a sink has written
+pub writes_labels : {old new ls : List ℕ} {default : ℕ} {x : Body} → IsPlainBody old x → new ≡ old ++ br_table_text ls default → VecFits (λ n. n < 2 ^ 32) ls → default < 2 ^ 32
+    → IsPlainBody new (and_then x (br_table_row ls default ∷ []))
+writes_labels {old = old} {new = new} {ls = ls} {default = default} {x = x} body e fits range =
+    (grows_by (br_table_text ls default) old new e).plain x (br_table_row ls default ∷ []) body
+    (members_one (instruction_format table) shortest (br_table_text ls default) (br_table_row ls default) (br_table_spelled ls default fits range))
+
+-- ---- constant expressions
+
+-- an expression of one instruction
+pub one_constant : {i : Instruction Global} {bytes : List ℕ} → Stores i [] bytes → IsPlainInstruction i → StoresInstructions bytes (normal_row i ∷ [])
+one_constant stored plain = stored.plain plain [] refl
+
+-- one more instruction
+pub adds_constant : {i : Instruction Global} {old new : List ℕ} → (is : List Plain) → StoresInstructions old is → Stores i old new → IsPlainInstruction i → StoresInstructions new (is ++ normal_row i ∷ [])
+adds_constant is before stored plain = stored.plain plain is before
+
+-- ---- the code section
+
+-- a new code section
+pub new_code : {entries : List (List ℕ)} → entries ≡ [] → SpellsBodies entries []
+new_code e = record { raw = []; held = e; spelled = tt }
+
+zip_join : {X Y : Type 0} (R : X → Y → Type 0) (xs more : List X) (ys others : List Y) → AllZip R xs ys → AllZip R more others → AllZip R (xs ++ more) (ys ++ others)
+zip_join R [] more [] others h g = g
+zip_join R [] more (y ∷ ys) others h g = absurd h
+zip_join R (x ∷ xs) more [] others h g = absurd h
+zip_join R (x ∷ xs) more (y ∷ ys) others h g = (h.0, zip_join R xs more ys others h.1 g)
+
+all_bodies : (entries : List (List ℕ)) (bodies : List Body) (raw : List (List ℕ)) (xs : List Body) → SpellsBodies entries bodies → AllZip IsPlainBody raw xs → SpellsBodies (entries ++ map frame_text raw) (bodies ++ xs)
+all_bodies entries bodies raw xs before spelled = record {
+  raw = before.raw ++ raw;
+  held = ap (λ es. es ++ map frame_text raw) before.held ∙ sym (map-append frame_text before.raw raw);
+  spelled = zip_join IsPlainBody before.raw raw bodies xs before.spelled spelled;
+}
+
+-- one more function
+pub adds_body : {old new : List (List ℕ)} {raw : List ℕ} {bodies : List Body} {x : Body} → SpellsBodies old bodies → new ≡ old ++ frame_text raw ∷ [] → IsPlainBody raw x → SpellsBodies new (bodies ++ x ∷ [])
+adds_body {old = old} {new = new} {raw = raw} {bodies = bodies} {x = x} before e spelled =
+    subst (λ es. SpellsBodies es (bodies ++ x ∷ [])) (sym e) (all_bodies old bodies (raw ∷ []) (x ∷ []) before (spelled, tt))
+
+-- all functions of a list
+pub adds_bodies : {old new raw : List (List ℕ)} {bodies : List Body} → SpellsBodies old bodies → AddsEach frame_text FrameFits raw old new → (xs : List Body) → AllZip IsPlainBody raw xs → SpellsBodies new (bodies ++ xs)
+adds_bodies {old = old} {raw = raw} {bodies = bodies} before added xs spelled =
+    subst (λ es. SpellsBodies es (bodies ++ xs)) (sym added.is) (all_bodies old bodies raw xs before spelled)
+
+-- a module and a code section of these bodies
+pub gains_code : {readings : List SectionReading} {id : ℕ} {old new : List ℕ} {entries : List (List ℕ)} {bodies : List Body} → ReadsSections readings old → ReadsOneMore (SectionPayload entries) id old new
+    → SectionFits entries → ReadsCode entries (section_text entries) → SpellsBodies entries bodies → ReadsSections (readings ++ (id, (code_reading bodies).1) ∷ []) new
+gains_code {entries = entries} {bodies = bodies} before more fits reads spelled =
+    gains_section {F = vec (frame body_format)} before more code_section-payload (section_text entries) _ refl (section_framed entries _ fits refl) bodies (reads.bodies.for_each bodies spelled)
+
+-- a code section that a buffer has gained
+pub encodes_code : {A : Type 0} {fits : Type 0} {entries : List (List ℕ)} {old new : Vec ℕ A} {result : Result (Unit {0}) Refused} {bodies : List Body} → Appends (section_text entries) fits old new result
+    → OnOk result (ReadsCode entries (section_text entries)) → SpellsBodies entries bodies → OnOk result (GainsReading code_section bodies old.items new.items)
+encodes_code {entries = entries} {result = Ok u} {bodies = bodies} appends reads spelled =
+    record { text = section_text entries; added = appends.ok; alone = reads.bodies.for_each bodies spelled }
+encodes_code {result = Err e} appends reads spelled = tt
+
+-- ---- laws
+
+pub holds_more : HoldsMoreBodies
+holds_more = record {
+  none = record { raw = []; held = refl; spelled = tt };
+  given = λ entries bodies raw x before spelled. all_bodies entries bodies (raw ∷ []) (x ∷ []) before (spelled, tt);
+  all = all_bodies;
+}
+
+pub grows_by_text : {A : Type 0} (i : Instruction A) → GrowsByText i
+grows_by_text i = record { grows = λ old. grows i old (old ++ instruction_text i) refl }
+
+pub grows_by_labels : GrowsByLabels
+grows_by_labels = record { grows = λ ls default old x fits range body. writes_labels body refl fits range }
+
+pub ruleset calls = (holds_more, grows_by_text, grows_by_labels)

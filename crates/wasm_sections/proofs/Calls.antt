@@ -1,0 +1,154 @@
+-- What calls leave, step by step: lemmas that a caller cites.
+use Rattle.std.proofs.Common.{◌≡◌, ℕ, ◌^◌, ◌<◌, List, [], ◌∷◌, ◌++◌, map, IsUtf8, None, Some, Result, Ok, Err, refl, sym, ap, subst, ◌∙◌}
+use Rattle.std.proofs.lemmas.List.{map-append}
+use Rattle.std.specs.Prelude.{OnOk}
+use Rattle.std.specs.declared.vec.Vec.{Vec}
+use Rattle.wasm_base.specs.declared.refused.Refused.{Refused}
+use Rattle.std.specs.List.{AllByRecursion, AllZip}
+use Rattle.wasm_base.specs.Calls.{Appends, ReadsOneMore, ReadsBack, AddsEach}
+use Rattle.wasm_base.specs.Entries.{Entry, Given, Raw, entry_text, Means, HoldsItems, counted_format}
+use Rattle.wasm_base.specs.Formats.{Format, u32, vec, frame}
+use Rattle.wasm_base.specs.Laws.{FitsUnsigned}
+use Rattle.wasm_insn.specs.Plain.{Plain}
+use Rattle.wasm_base.specs.Modules.{SectionReading, reading_of, ReadsSections, ReadsPayloads, GainsReading}
+use Rattle.wasm_base.specs.Numbers.{shortest, unsigned_text}
+use Rattle.wasm_base.specs.Pieces.{SectionPayload, SectionFits, section_text, section_framed}
+use Rattle.wasm_base.specs.Texts.{frame_text, FrameFits, raw_framed}
+use Rattle.wasm_base.proofs.Calls.{gains_section}
+use Rattle.wasm_base.proofs.Payloads.{u32-payload}
+use Rattle.wasm_base.proofs.TextLaws.{u32_spelled, name_spelled}
+use Rattle.wasm_code.specs.Expressions.{expression_text, StoresInstructions}
+use Rattle.wasm_sections.specs.Exports.{kind_code, export_text, IsExport, ExportItem, item_of, export_of, export}
+use Rattle.wasm_sections.specs.Globals.{global_text, IsGlobal, GlobalItem, global_item_text, IsGivenGlobal, global_item_of, global_item}
+use Rattle.wasm_sections.specs.Imports.{ImportItem, import_text, IsImport, import_format}
+use Rattle.wasm_sections.specs.Memories.{memory_text, IsMemory, memory_type}
+use Rattle.wasm_sections.specs.Readings.{HoldsFunctions, HoldsTables, HoldsMemories, HoldsGlobals, HoldsExports, HoldsImports, HoldsTags, function_reading, table_reading, memory_reading, global_reading, export_reading, import_reading, tag_reading, start_reading, data_count_reading}
+use Rattle.wasm_sections.specs.Tables.{table_text, IsTable, TableItem, before_init, table_item_text, IsGivenTable, table_item_of, table_item}
+use Rattle.wasm_sections.specs.Tags.{tag_text, IsTag, tag_type}
+use Rattle.wasm_sections.specs.declared.memory.MemoryType.{MemoryType}
+use Rattle.wasm_sections.specs.declared.table.TableType.{TableType}
+use Rattle.wasm_sections.specs.declared.tag.TagType.{TagType}
+use Rattle.wasm_sections.proofs.HeldLaws.{holds_more}
+use Rattle.wasm_sections.proofs.Parts.{pair_spelled}
+use Rattle.wasm_sections.proofs.Payloads.{functions-payload, tables-payload, memories-payload, globals-payload, exports-payload, imports-payload, tags-payload}
+
+-- ---- a new section
+
+module _ {Record Item : Type 0} (text : Record → List ℕ) (IsPlain : Record → Type 0) (normal_form : Record → Item) (F : Format Item) where
+  nothing_held : {entries : List (List ℕ)} → entries ≡ [] → HoldsItems text IsPlain normal_form F entries []
+  nothing_held e = record { entries = []; held = e; meant = tt }
+
+pub new_functions : {entries : List (List ℕ)} → entries ≡ [] → HoldsFunctions entries []
+new_functions e = nothing_held _ _ _ _ e
+
+pub new_tables : {entries : List (List ℕ)} → entries ≡ [] → HoldsTables entries []
+new_tables e = nothing_held _ _ _ _ e
+
+pub new_memories : {entries : List (List ℕ)} → entries ≡ [] → HoldsMemories entries []
+new_memories e = nothing_held _ _ _ _ e
+
+pub new_globals : {entries : List (List ℕ)} → entries ≡ [] → HoldsGlobals entries []
+new_globals e = nothing_held _ _ _ _ e
+
+pub new_exports : {entries : List (List ℕ)} → entries ≡ [] → HoldsExports entries []
+new_exports e = nothing_held _ _ _ _ e
+
+pub new_imports : {entries : List (List ℕ)} → entries ≡ [] → HoldsImports entries []
+new_imports e = nothing_held _ _ _ _ e
+
+pub new_tags : {entries : List (List ℕ)} → entries ≡ [] → HoldsTags entries []
+new_tags e = nothing_held _ _ _ _ e
+
+-- ---- one more item
+
+-- an item that is the normal form of a plain record: a function's type, a memory, an import, a tag
+pub adds_item : {Record Item : Type 0} {text : Record → List ℕ} {IsPlain : Record → Type 0} {normal_form : Record → Item} {F : Format Item} {old new : List (List ℕ)} {items : List Item}
+    → HoldsItems text IsPlain normal_form F old items → (given : Record) → new ≡ old ++ text given ∷ [] → IsPlain given → HoldsItems text IsPlain normal_form F new (items ++ normal_form given ∷ [])
+adds_item {text = text} {IsPlain = IsPlain} {normal_form = normal_form} {F = F} {old = old} {items = items} before given e plain =
+    subst (λ entries. HoldsItems text IsPlain normal_form F entries (items ++ normal_form given ∷ [])) (sym e)
+    ((holds_more text IsPlain normal_form F).given old items given before plain)
+
+-- all items of a list
+pub adds_items : {Record Item : Type 0} {text : Record → List ℕ} {IsPlain : Record → Type 0} {normal_form : Record → Item} {F : Format Item} {Fits : Record → Type 0} {old new : List (List ℕ)} {items : List Item} {given : List Record}
+    → HoldsItems text IsPlain normal_form F old items → AddsEach text Fits given old new → AllByRecursion IsPlain given → HoldsItems text IsPlain normal_form F new (items ++ map normal_form given)
+adds_items {text = text} {IsPlain = IsPlain} {normal_form = normal_form} {F = F} {old = old} {items = items} {given = given} before added plain =
+    subst (λ entries. HoldsItems text IsPlain normal_form F entries (items ++ map normal_form given)) (sym added.is)
+    ((holds_more text IsPlain normal_form F).all old items given before plain)
+
+-- a table without a first value, and one with it
+pub adds_table : {old new : List (List ℕ)} {items : List TableItem} → HoldsTables old items → (table : TableType) → new ≡ old ++ table_text table ∷ [] → IsTable table
+    → HoldsTables new (items ++ record { table_type = table; init = None } ∷ [])
+adds_table before table e plain = adds_item before (record { table_type = table; init = None }) e (record { table_type = plain; init = tt })
+
+pub adds_table_with_init : {old new : List (List ℕ)} {items : List TableItem} → HoldsTables old items → (table : TableType) (is : List Plain) (bytes : List ℕ) → new ≡ old ++ (before_init ++ (table_text table ++ expression_text bytes)) ∷ [] → IsTable table
+    → StoresInstructions bytes is → HoldsTables new (items ++ record { table_type = table; init = Some is } ∷ [])
+adds_table_with_init before table is bytes e plain stored =
+    adds_item before (record { table_type = table; init = Some (record { bytes = bytes; instructions = is }) }) e (record { table_type = plain; init = stored })
+
+-- a global, of a first value that an expression stores
+pub adds_global : {old new : List (List ℕ)} {items : List GlobalItem} → HoldsGlobals old items → (global : GlobalItem) (bytes : List ℕ) → new ≡ old ++ (global_text global.global_type ++ expression_text bytes) ∷ []
+    → IsGlobal global.global_type → StoresInstructions bytes global.init → HoldsGlobals new (items ++ global ∷ [])
+adds_global before global bytes e plain stored =
+    adds_item before (record { global_type = global.global_type; init = record { bytes = bytes; instructions = global.init } }) e (record { global_type = plain; init = stored })
+
+-- an export, whose name the call has measured
+pub adds_export : {old new : List (List ℕ)} {items : List ExportItem} → HoldsExports old items → (item : ExportItem) → new ≡ old ++ (frame_text item.name ++ (kind_code item.kind ∷ [] ++ unsigned_text item.index)) ∷ []
+    → FrameFits item.name → IsUtf8 item.name → item.index < 2 ^ 32 → HoldsExports new (items ++ item ∷ [])
+adds_export {old = old} {items = items} before item e fits utf8 range =
+    let spelled : export shortest (frame_text item.name ++ (kind_code item.kind ∷ [] ++ unsigned_text item.index)) item = (
+      (item.name, (item.kind, item.index)),
+      refl,
+      pair_spelled _ _ (frame_text item.name) _ item.name (item.kind, item.index) (name_spelled item.name utf8 fits)
+          (pair_spelled _ u32 (kind_code item.kind ∷ []) (unsigned_text item.index) item.kind item.index refl (u32_spelled item.index range)),
+    ) in
+    subst (λ entries. HoldsExports entries (items ++ item ∷ [])) (sym e)
+    ((holds_more export_text IsExport item_of export).raw old items (frame_text item.name ++ (kind_code item.kind ∷ [] ++ unsigned_text item.index)) item before spelled)
+
+-- ---- a module and one more section
+
+module _ {Record Item : Type 0} {text : Record → List ℕ} {IsPlain : Record → Type 0} {normal_form : Record → Item} {F : Format Item} (payloads : ReadsPayloads (vec F)) where
+  gains_items : {readings : List SectionReading} {id : ℕ} {old new : List ℕ} {entries : List (List ℕ)} {items : List Item} → ReadsSections readings old → ReadsOneMore (SectionPayload entries) id old new → SectionFits entries
+      → ReadsBack (counted_format F) (HoldsItems text IsPlain normal_form F entries) (section_text entries) → HoldsItems text IsPlain normal_form F entries items → ReadsSections (readings ++ reading_of id (vec F) items ∷ []) new
+  gains_items {entries = entries} {items = items} before more fits reads holds =
+      gains_section {F = vec F} before more payloads (section_text entries) _ refl (section_framed entries _ fits refl) items (reads.for_each items holds)
+
+pub gains_functions : {readings : List SectionReading} {id : ℕ} {old new : List ℕ} {entries : List (List ℕ)} {items : List ℕ} → ReadsSections readings old → ReadsOneMore (SectionPayload entries) id old new → SectionFits entries
+    → ReadsBack (counted_format u32) (HoldsFunctions entries) (section_text entries) → HoldsFunctions entries items → ReadsSections (readings ++ reading_of id (vec u32) items ∷ []) new
+gains_functions before more fits reads holds = gains_items functions-payload before more fits reads holds
+
+pub gains_tables : {readings : List SectionReading} {id : ℕ} {old new : List ℕ} {entries : List (List ℕ)} {items : List TableItem} → ReadsSections readings old → ReadsOneMore (SectionPayload entries) id old new → SectionFits entries
+    → ReadsBack (counted_format table_item) (HoldsTables entries) (section_text entries) → HoldsTables entries items → ReadsSections (readings ++ reading_of id (vec table_item) items ∷ []) new
+gains_tables before more fits reads holds = gains_items tables-payload before more fits reads holds
+
+pub gains_memories : {readings : List SectionReading} {id : ℕ} {old new : List ℕ} {entries : List (List ℕ)} {items : List MemoryType} → ReadsSections readings old → ReadsOneMore (SectionPayload entries) id old new → SectionFits entries
+    → ReadsBack (counted_format memory_type) (HoldsMemories entries) (section_text entries) → HoldsMemories entries items → ReadsSections (readings ++ reading_of id (vec memory_type) items ∷ []) new
+gains_memories before more fits reads holds = gains_items memories-payload before more fits reads holds
+
+pub gains_globals : {readings : List SectionReading} {id : ℕ} {old new : List ℕ} {entries : List (List ℕ)} {items : List GlobalItem} → ReadsSections readings old → ReadsOneMore (SectionPayload entries) id old new → SectionFits entries
+    → ReadsBack (counted_format global_item) (HoldsGlobals entries) (section_text entries) → HoldsGlobals entries items → ReadsSections (readings ++ reading_of id (vec global_item) items ∷ []) new
+gains_globals before more fits reads holds = gains_items globals-payload before more fits reads holds
+
+pub gains_exports : {readings : List SectionReading} {id : ℕ} {old new : List ℕ} {entries : List (List ℕ)} {items : List ExportItem} → ReadsSections readings old → ReadsOneMore (SectionPayload entries) id old new → SectionFits entries
+    → ReadsBack (counted_format export) (HoldsExports entries) (section_text entries) → HoldsExports entries items → ReadsSections (readings ++ reading_of id (vec export) items ∷ []) new
+gains_exports before more fits reads holds = gains_items exports-payload before more fits reads holds
+
+pub gains_imports : {readings : List SectionReading} {id : ℕ} {old new : List ℕ} {entries : List (List ℕ)} {items : List ImportItem} → ReadsSections readings old → ReadsOneMore (SectionPayload entries) id old new → SectionFits entries
+    → ReadsBack (counted_format import_format) (HoldsImports entries) (section_text entries) → HoldsImports entries items → ReadsSections (readings ++ reading_of id (vec import_format) items ∷ []) new
+gains_imports before more fits reads holds = gains_items imports-payload before more fits reads holds
+
+pub gains_tags : {readings : List SectionReading} {id : ℕ} {old new : List ℕ} {entries : List (List ℕ)} {items : List TagType} → ReadsSections readings old → ReadsOneMore (SectionPayload entries) id old new → SectionFits entries
+    → ReadsBack (counted_format tag_type) (HoldsTags entries) (section_text entries) → HoldsTags entries items → ReadsSections (readings ++ reading_of id (vec tag_type) items ∷ []) new
+gains_tags before more fits reads holds = gains_items tags-payload before more fits reads holds
+
+-- a section of one number: the start function, the number of data segments
+pub gains_number : {readings : List SectionReading} {id number : ℕ} {old new : List ℕ} → ReadsSections readings old → ReadsOneMore (λ payload. payload ≡ unsigned_text number) id old new → FrameFits (unsigned_text number)
+    → ReadsBack (frame u32) (λ said. said ≡ number) (frame_text (unsigned_text number)) → ReadsSections (readings ++ reading_of id u32 number ∷ []) new
+gains_number {number = number} before more fits reads =
+    gains_section {F = u32} before more u32-payload (frame_text (unsigned_text number)) (unsigned_text number) refl (raw_framed (unsigned_text number) (unsigned_text number) fits refl) number (reads.for_each number refl)
+
+-- a section that a buffer has gained
+pub encodes_items : {A Record Item : Type 0} {text : Record → List ℕ} {IsPlain : Record → Type 0} {normal_form : Record → Item} {F : Format Item} {fits : Type 0} {entries : List (List ℕ)} {old new : Vec ℕ A} {result : Result (Unit {0}) Refused} {items : List Item}
+    → Appends (section_text entries) fits old new result → OnOk result (ReadsBack (counted_format F) (HoldsItems text IsPlain normal_form F entries) (section_text entries)) → HoldsItems text IsPlain normal_form F entries items
+    → OnOk result (GainsReading (counted_format F) items old.items new.items)
+encodes_items {entries = entries} {result = Ok u} {items = items} appends reads holds = record { text = section_text entries; added = appends.ok; alone = reads.for_each items holds }
+encodes_items {result = Err e} appends reads holds = tt

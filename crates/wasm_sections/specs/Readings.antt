@@ -1,0 +1,68 @@
+-- What sections hold, and how a reader finds them.
+use Rattle.std.specs.Prelude.{ℕ, List}
+use Rattle.wasm_base.specs.Entries.{HoldsItems}
+use Rattle.wasm_base.specs.Formats.{u32, vec}
+use Rattle.wasm_base.specs.Laws.{FitsUnsigned}
+use Rattle.wasm_base.specs.Modules.{SectionReading, reading_of}
+use Rattle.wasm_base.specs.Numbers.{unsigned_text}
+use Rattle.wasm_base.specs.SectionId.{number_of}
+use Rattle.wasm_base.specs.declared.section_id.SectionId.TheVariants as ids
+use Rattle.wasm_sections.specs.Exports.{export_text, IsExport, ExportItem, item_of, export}
+use Rattle.wasm_sections.specs.Globals.{global_item_text, IsGivenGlobal, GlobalItem, global_item_of, global_item}
+use Rattle.wasm_sections.specs.Imports.{ImportItem, import_text, IsImport, import_format}
+use Rattle.wasm_sections.specs.Memories.{memory_text, IsMemory, memory_type}
+use Rattle.wasm_sections.specs.Tables.{table_item_text, IsGivenTable, TableItem, table_item_of, table_item}
+use Rattle.wasm_sections.specs.Tags.{tag_text, IsTag, tag_type}
+use Rattle.wasm_sections.specs.declared.memory.MemoryType.{MemoryType}
+use Rattle.wasm_sections.specs.declared.tag.TagType.{TagType}
+
+-- The entries hold these items.
+abbrev pub HoldsFunctions : List (List ℕ) → List ℕ → Type 0
+HoldsFunctions = HoldsItems unsigned_text (FitsUnsigned 32) (λ index. index) u32
+
+abbrev pub HoldsTables : List (List ℕ) → List TableItem → Type 0
+HoldsTables = HoldsItems table_item_text IsGivenTable table_item_of table_item
+
+abbrev pub HoldsMemories : List (List ℕ) → List MemoryType → Type 0
+HoldsMemories = HoldsItems memory_text IsMemory (λ memory. memory) memory_type
+
+abbrev pub HoldsGlobals : List (List ℕ) → List GlobalItem → Type 0
+HoldsGlobals = HoldsItems global_item_text IsGivenGlobal global_item_of global_item
+
+abbrev pub HoldsExports : List (List ℕ) → List ExportItem → Type 0
+HoldsExports = HoldsItems export_text IsExport item_of export
+
+abbrev pub HoldsImports : List (List ℕ) → List ImportItem → Type 0
+HoldsImports = HoldsItems import_text IsImport (λ import. import) import_format
+
+abbrev pub HoldsTags : List (List ℕ) → List TagType → Type 0
+HoldsTags = HoldsItems tag_text IsTag (λ tag. tag) tag_type
+
+-- the section of these items, as a reader finds it
+abbrev pub function_reading : List ℕ → SectionReading
+function_reading types = reading_of (number_of ids.Function) (vec u32) types
+
+abbrev pub table_reading : List TableItem → SectionReading
+table_reading tables = reading_of (number_of ids.Table) (vec table_item) tables
+
+abbrev pub memory_reading : List MemoryType → SectionReading
+memory_reading memories = reading_of (number_of ids.Memory) (vec memory_type) memories
+
+abbrev pub global_reading : List GlobalItem → SectionReading
+global_reading globals = reading_of (number_of ids.Global) (vec global_item) globals
+
+abbrev pub export_reading : List ExportItem → SectionReading
+export_reading exports = reading_of (number_of ids.Export) (vec export) exports
+
+abbrev pub import_reading : List ImportItem → SectionReading
+import_reading imports = reading_of (number_of ids.Import) (vec import_format) imports
+
+abbrev pub tag_reading : List TagType → SectionReading
+tag_reading tags = reading_of (number_of ids.Tag) (vec tag_type) tags
+
+-- the section of this number, as a reader finds it
+abbrev pub start_reading : ℕ → SectionReading
+start_reading index = reading_of (number_of ids.Start) u32 index
+
+abbrev pub data_count_reading : ℕ → SectionReading
+data_count_reading count = reading_of (number_of ids.DataCount) u32 count
