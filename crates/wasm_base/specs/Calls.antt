@@ -7,7 +7,7 @@ use Rattle.wasm_base.specs.Texts.{longest}
 use Rattle.wasm_base.specs.declared.refused.Refused.{Refused}
 use Rattle.wasm_base.specs.declared.refused.Refused.TheVariants.{TooLong}
 
--- The buffer gains the text, or keeps what it has. Where it has room for the text, the call takes no memory and is accepted.
+-- The buffer gains the text, or keeps what it has. Where it has room for the text, and this fits, the call is accepted.
 pub record Appends {A : Type 0} (text : List ℕ) (fits : Type 0) (old new : Vec ℕ A) (result : Result (Unit {0}) Refused) : Type 0 where
   pub ok : OnOk result (new.items ≡ old.items ++ text)
   pub err : OnErr result (new.items ≡ old.items)

@@ -1,9 +1,28 @@
 // Layouts of several parts.
 ghost use Rattle.std.specs.Prelude.{◌++◌};
+ghost use Rattle.wasm_base.specs.Calls.{Appends};
 
 use crate::encode::Encode;
 use crate::refused::R;
 use std::alloc::Allocator;
+
+/// Appends one part and then the other, or neither.
+#[inline(always)]
+fn encode_both<S: Encode, T: Encode, A: Allocator>(
+    first: &S,
+    second: &T,
+    sink: &mut Vec<u8, A>,
+) -> R<()>
+    ensures { Appends (S.text first.now ++ T.text second.now) (S.fits first.now × T.fits second.now) sink.old sink.new result }
+{
+    let start = sink.len();
+    first.encode(sink)?;
+    if let Err(refused) = second.encode(sink) {
+        sink.truncate(start);
+        return Err(refused);
+    }
+    Ok(())
+}
 
 /// One part, and then the other.
 impl<S: Encode, T: Encode> Encode for (S, T) {
@@ -13,13 +32,7 @@ impl<S: Encode, T: Encode> Encode for (S, T) {
 
     #[inline]
     fn encode<A: Allocator>(&self, sink: &mut Vec<u8, A>) -> R<()> {
-        let start = sink.len();
-        self.0.encode(sink)?;
-        if let Err(refused) = self.1.encode(sink) {
-            sink.truncate(start);
-            return Err(refused);
-        }
-        Ok(())
+        encode_both(&self.0, &self.1, sink)
     }
 }
 
@@ -33,11 +46,7 @@ impl<S: Encode, T: Encode, U: Encode> Encode for (S, T, U) {
     fn encode<A: Allocator>(&self, sink: &mut Vec<u8, A>) -> R<()> {
         let start = sink.len();
         self.0.encode(sink)?;
-        if let Err(refused) = self.1.encode(sink) {
-            sink.truncate(start);
-            return Err(refused);
-        }
-        if let Err(refused) = self.2.encode(sink) {
+        if let Err(refused) = encode_both(&self.1, &self.2, sink) {
             sink.truncate(start);
             return Err(refused);
         }
