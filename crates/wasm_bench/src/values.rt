@@ -1,9 +1,4 @@
 // Instructions as values, by the words of a workload.
-ghost use Rattle.std.specs.Prelude.{◌≡◌, pos, IfOk};
-ghost use Rattle.wasm_bench.specs.Words.{text_of, TellsOne, TellsNext};
-ghost use Rattle.wasm_insn.specs.declared.instruction.Instruction.TheVariants as cases;
-ghost use Rattle.wasm_insn.specs.declared.vector_immediate.VectorImmediate.TheVariants as vectors;
-
 use crate::answers::Fault;
 use crate::calls::mem_arg;
 use crate::codes;
@@ -12,9 +7,7 @@ use wasm_base::{CowSlice, ValType};
 use wasm_insn::{BlockType, Ieee32, Ieee64, Instruction, Numeric, VectorImmediate};
 
 /// A branch by a table: the number of labels, these, and the default one.
-fn table<'a>(words: &mut Words<'a>) -> Result<Instruction<'a>, Fault>
-    ensures { IfOk result (λ instruction. TellsOne 23 words.old.rest.now words.new.rest.now (text_of instruction)) }
-{
+fn table<'a>(words: &mut Words<'a>) -> Result<Instruction<'a>, Fault> {
     let count = words.next()?;
     let labels = words.take(count)?;
     let default = words.next()?;
@@ -22,9 +15,7 @@ fn table<'a>(words: &mut Words<'a>) -> Result<Instruction<'a>, Fault>
 }
 
 /// A call through a table: the index of the table, and that of the type.
-fn indirect<'a>(words: &mut Words<'a>) -> Result<Instruction<'a>, Fault>
-    ensures { IfOk result (λ instruction. TellsOne 13 words.old.rest.now words.new.rest.now (text_of instruction)) }
-{
+fn indirect<'a>(words: &mut Words<'a>) -> Result<Instruction<'a>, Fault> {
     let table_index = words.next()?;
     let type_index = words.next()?;
     Ok(Instruction::CallIndirect {
@@ -35,9 +26,7 @@ fn indirect<'a>(words: &mut Words<'a>) -> Result<Instruction<'a>, Fault>
 
 /// Control; no other code is known.
 #[inline]
-fn control<'a>(code: u32, words: &mut Words<'a>) -> Result<Instruction<'a>, Fault>
-    ensures { IfOk result (λ instruction. TellsOne code words.old.rest.now words.new.rest.now (text_of instruction)) }
-{
+fn control<'a>(code: u32, words: &mut Words<'a>) -> Result<Instruction<'a>, Fault> {
     match code {
         codes::CALL => Ok(Instruction::Call(words.next()?)),
         codes::CALL_INDIRECT => indirect(words),
@@ -54,9 +43,7 @@ fn control<'a>(code: u32, words: &mut Words<'a>) -> Result<Instruction<'a>, Faul
 
 /// Accesses of memory, and instructions without operands; other codes go on.
 #[inline]
-fn plain<'a>(code: u32, words: &mut Words<'a>) -> Result<Instruction<'a>, Fault>
-    ensures { IfOk result (λ instruction. TellsOne code words.old.rest.now words.new.rest.now (text_of instruction)) }
-{
+fn plain<'a>(code: u32, words: &mut Words<'a>) -> Result<Instruction<'a>, Fault> {
     match code {
         codes::I32_LOAD => Ok(Instruction::I32Load(mem_arg(words)?)),
         codes::I32_STORE => Ok(Instruction::I32Store(mem_arg(words)?)),
@@ -71,17 +58,13 @@ fn plain<'a>(code: u32, words: &mut Words<'a>) -> Result<Instruction<'a>, Fault>
 }
 
 /// A vector of these low bits.
-fn vector<'a>(low: u32) -> Instruction<'a>
-    ensures { result ≡ cases.VectorImmediate (vectors.V128Const (pos low)) }
-{
+fn vector<'a>(low: u32) -> Instruction<'a> {
     Instruction::VectorImmediate(VectorImmediate::V128Const(i128::from(low)))
 }
 
 /// Constants; other codes go on.
 #[inline]
-fn constant<'a>(code: u32, words: &mut Words<'a>) -> Result<Instruction<'a>, Fault>
-    ensures { IfOk result (λ instruction. TellsOne code words.old.rest.now words.new.rest.now (text_of instruction)) }
-{
+fn constant<'a>(code: u32, words: &mut Words<'a>) -> Result<Instruction<'a>, Fault> {
     match code {
         codes::I32_CONST => Ok(Instruction::I32Const(words.next()?.cast_signed())),
         codes::I64_CONST => Ok(Instruction::I64Const(words.wide()?.cast_signed())),
@@ -95,9 +78,7 @@ fn constant<'a>(code: u32, words: &mut Words<'a>) -> Result<Instruction<'a>, Fau
 
 /// Locals and globals; other codes go on.
 #[inline]
-fn variable<'a>(code: u32, words: &mut Words<'a>) -> Result<Instruction<'a>, Fault>
-    ensures { IfOk result (λ instruction. TellsOne code words.old.rest.now words.new.rest.now (text_of instruction)) }
-{
+fn variable<'a>(code: u32, words: &mut Words<'a>) -> Result<Instruction<'a>, Fault> {
     match code {
         codes::LOCAL_GET => Ok(Instruction::LocalGet(words.next()?)),
         codes::LOCAL_SET => Ok(Instruction::LocalSet(words.next()?)),
@@ -110,9 +91,7 @@ fn variable<'a>(code: u32, words: &mut Words<'a>) -> Result<Instruction<'a>, Fau
 
 /// Reads an instruction. Each of the functions above knows some codes and hands the others on, so that the compiler makes one jump of
 /// them.
-pub(crate) fn value<'a>(words: &mut Words<'a>) -> Result<Instruction<'a>, Fault>
-    ensures { IfOk result (λ instruction. TellsNext words.old.rest.now words.new.rest.now (text_of instruction)) }
-{
+pub(crate) fn value<'a>(words: &mut Words<'a>) -> Result<Instruction<'a>, Fault> {
     let code = words.next()?;
     variable(code, words)
 }

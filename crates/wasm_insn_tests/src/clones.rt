@@ -1,36 +1,24 @@
 //! A clone takes memory for the lists that an instruction owns, and answers `Memory` where it is refused.
+use crate::checks::{check_refused, check_row};
 use std::alloc::Global;
 use std::process::Abort;
 use std::test::Fail;
 use test_support::Refusing;
-use wasm_base::{CowSlice, Encode, Refused, ValType};
+use wasm_base::{CowSlice, ValType};
 use wasm_insn::{BlockType, Catch, Handle, Instruction};
-
-/// The item has these bytes, in hexadecimal.
-fn check_bytes<T: Encode + Drop>(
-    rt: &impl Abort,
-    alloc: Global,
-    item: T,
-    row: &str,
-) -> Result<(), Fail> {
-    let mut bytes = Vec::new(alloc);
-    item.encode(&mut bytes)?;
-    assert_eq!(rt; hex::encode(alloc, bytes.as_slice())?.as_str(), row);
-    Ok(())
-}
 
 /// The clone's one request is refused, and then granted. The instruction is as it was.
 fn check_clone(
     rt: &impl Abort,
     alloc: Global,
     heap: &Refusing<Global>,
-    instruction: Instruction<'_, &Refusing<Global>>,
+    instruction: &Instruction<'_, &Refusing<Global>>,
     row: &str,
 ) -> Result<(), Fail> {
     heap.refuse(1);
-    assert_eq!(rt; instruction.clone().err(), Some(Refused::Memory));
-    check_bytes(rt, alloc, instruction.clone()?, row)?;
-    check_bytes(rt, alloc, instruction, row)
+    check_refused(rt, instruction.clone().err());
+    check_row(rt, alloc, &instruction.clone()?, row)?;
+    check_row(rt, alloc, instruction, row)
 }
 
 #[test]
@@ -41,7 +29,7 @@ fn labels(rt: HostRuntime) -> Result<(), Fail> {
         &rt,
         rt.alloc(),
         &heap,
-        Instruction::BrTable(labels, 3),
+        &Instruction::BrTable(labels, 3),
         "0e02010203",
     )
 }
@@ -54,7 +42,7 @@ fn types(rt: HostRuntime) -> Result<(), Fail> {
         &rt,
         rt.alloc(),
         &heap,
-        Instruction::TypedSelectMulti(types),
+        &Instruction::TypedSelectMulti(types),
         "1c027f7e",
     )
 }
@@ -64,7 +52,7 @@ fn catches(rt: HostRuntime) -> Result<(), Fail> {
     let heap = Refusing::new(rt.alloc());
     let catches = CowSlice::Owned(Vec::from_slice(&heap, &[Catch::All { label: 5 }])?);
     let instruction = Instruction::TryTable(BlockType::Empty, catches);
-    check_clone(&rt, rt.alloc(), &heap, instruction, "1f40010205")
+    check_clone(&rt, rt.alloc(), &heap, &instruction, "1f40010205")
 }
 
 #[test]
@@ -75,7 +63,7 @@ fn handles(rt: HostRuntime) -> Result<(), Fail> {
         cont_type_index: 1,
         resume_table,
     };
-    check_clone(&rt, rt.alloc(), &heap, instruction, "e301010102")
+    check_clone(&rt, rt.alloc(), &heap, &instruction, "e301010102")
 }
 
 #[test]
@@ -87,7 +75,7 @@ fn handles_of_a_throw(rt: HostRuntime) -> Result<(), Fail> {
         tag_index: 3,
         resume_table,
     };
-    check_clone(&rt, rt.alloc(), &heap, instruction, "e40103010102")
+    check_clone(&rt, rt.alloc(), &heap, &instruction, "e40103010102")
 }
 
 #[test]
@@ -98,7 +86,7 @@ fn handles_of_a_thrown_reference(rt: HostRuntime) -> Result<(), Fail> {
         cont_type_index: 1,
         resume_table,
     };
-    check_clone(&rt, rt.alloc(), &heap, instruction, "e501010102")
+    check_clone(&rt, rt.alloc(), &heap, &instruction, "e501010102")
 }
 
 /// An instruction that borrows its labels is cloned without memory.
@@ -108,5 +96,5 @@ fn borrowed_labels(rt: HostRuntime) -> Result<(), Fail> {
     let labels: CowSlice<'_, u32, &Refusing<Global>> = CowSlice::Borrowed(&[1, 2]);
     let instruction = Instruction::BrTable(labels, 3);
     heap.refuse_all();
-    check_bytes(&rt, rt.alloc(), instruction.clone()?, "0e02010203")
+    check_row(&rt, rt.alloc(), &instruction.clone()?, "0e02010203")
 }

@@ -1,8 +1,9 @@
 //! Instructions whose bytes are known from the format's documents.
+use crate::checks::check;
 use std::alloc::Global;
 use std::process::Abort;
 use std::test::Fail;
-use wasm_base::{AbstractHeapType, CowSlice, Encode, HeapType, RefType, ValType};
+use wasm_base::{AbstractHeapType, CowSlice, HeapType, RefType, ValType};
 use wasm_insn::{
     Atomic, BlockType, Catch, Handle, Ieee32, Instruction, MemArg, MemArgOrdering, MemArgTarget,
     Ordering, Vector, VectorImmediate,
@@ -231,21 +232,19 @@ const VECTORS: [Example; 4] = [
 ];
 
 /// The instruction has these bytes.
-fn check(
+fn check_instruction(
     rt: &impl Abort,
     alloc: Global,
     instruction: &Instruction<'_>,
     expected: &[u8],
 ) -> Result<(), Fail> {
-    let mut bytes = Vec::new(alloc);
-    instruction.encode(&mut bytes)?;
-    assert_eq!(rt; bytes.as_slice(), expected);
-    Ok(())
+    check(rt, alloc, instruction, expected)
 }
 
+/// The instructions in turn have these bytes.
 fn check_all(rt: &impl Abort, alloc: Global, examples: &[Example]) -> Result<(), Fail> {
     for (instruction, expected) in examples.iter() {
-        check(rt, alloc, instruction, expected)?;
+        check_instruction(rt, alloc, instruction, expected)?;
     }
     Ok(())
 }
@@ -278,18 +277,18 @@ fn vectors(rt: HostRuntime) -> Result<(), Fail> {
 /// Instructions without fields, by the names that they have on `Instruction`.
 #[test]
 fn names(rt: HostRuntime) -> Result<(), Fail> {
-    check(&rt, rt.alloc(), &Instruction::I32Add, &[0x6A])?;
-    check(&rt, rt.alloc(), &Instruction::ArrayLen, &[0xFB, 0x0F])?;
-    check(&rt, rt.alloc(), &Instruction::I64MulWideU, &[0xFC, 0x16])?;
-    check(&rt, rt.alloc(), &Instruction::I16x8Abs, &[0xFD, 0x80, 0x01])
+    check_instruction(&rt, rt.alloc(), &Instruction::I32Add, &[0x6A])?;
+    check_instruction(&rt, rt.alloc(), &Instruction::ArrayLen, &[0xFB, 0x0F])?;
+    check_instruction(&rt, rt.alloc(), &Instruction::I64MulWideU, &[0xFC, 0x16])?;
+    check_instruction(&rt, rt.alloc(), &Instruction::I16x8Abs, &[0xFD, 0x80, 0x01])
 }
 
 #[test]
 fn constants(rt: HostRuntime) -> Result<(), Fail> {
     let one = Instruction::F32Const(Ieee32::new(1065353216));
-    check(&rt, rt.alloc(), &one, &[0x43, 0x00, 0x00, 0x80, 0x3F])?;
+    check_instruction(&rt, rt.alloc(), &one, &[0x43, 0x00, 0x00, 0x80, 0x3F])?;
     let ones = Instruction::VectorImmediate(VectorImmediate::V128Const(-1));
     let mut expected = Vec::from_slice(rt.alloc(), &[0xFD, 0x0C])?;
     expected.resize(18, 0xFF)?;
-    check(&rt, rt.alloc(), &ones, &expected)
+    check_instruction(&rt, rt.alloc(), &ones, &expected)
 }

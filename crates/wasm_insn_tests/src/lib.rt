@@ -1,12 +1,20 @@
-//! Tests of `wasm_insn`: bytes that the format's documents give, requests for memory that are refused, and callers that prove what
-//! they append.
+//! Tests of `wasm_base`, `wasm_immediates` and `wasm_insn`: bytes that the format's documents give or that were worked out by hand,
+//! requests for memory that are refused, and callers that prove what they append.
 #![tactic(auto)]
 
+#[cfg(test)]
+mod base;
+#[cfg(test)]
+mod base_refusals;
 pub mod callers;
 #[cfg(test)]
 mod cases;
 #[cfg(test)]
+mod checks;
+#[cfg(test)]
 mod clones;
+#[cfg(test)]
+mod cows;
 #[cfg(test)]
 mod examples;
 #[cfg(test)]

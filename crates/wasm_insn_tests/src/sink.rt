@@ -1,13 +1,11 @@
 //! Each named call of the sink writes the bytes of its instruction, and leaves the buffer where memory is refused.
+use crate::checks::{MOST, check_sink};
 use std::alloc::Global;
 use std::process::Abort;
 use std::test::Fail;
 use test_support::Refusing;
-use wasm_base::{HeapType, R, Refused, ValType};
+use wasm_base::{HeapType, R, ValType};
 use wasm_insn::{BlockType, Buffer, Ieee32, Ieee64, InstructionSink, MemArg, MemArgTarget, Op};
-
-/// More requests than any call here makes.
-const MOST: u64 = 100;
 
 const MEMARG: MemArg = MemArg {
     offset: 4,
@@ -16,50 +14,53 @@ const MEMARG: MemArg = MemArg {
     ordering: None,
 };
 
-/// What each call appends, in hexadecimal.
-static ROWS: [&str; 42] = [
-    "fd8001",
-    "00",
-    "01",
-    "0240",
-    "033f",
-    "04c000",
-    "05",
-    "0b",
-    "0c01",
-    "0dac02",
-    "0e02000102",
-    "0f",
-    "1005",
-    "110102",
-    "1a",
-    "1b",
-    "1c017f",
-    "1c027f7e",
-    "2001",
-    "2102",
-    "2203",
-    "2304",
-    "2405",
-    "280204",
-    "360204",
-    "3f00",
-    "4001",
-    "4140",
-    "42c000",
-    "430000803f",
-    "44000000000000f03f",
-    "fd0cffffffffffffffffffffffffffffffff",
-    "45",
-    "6a",
-    "6b",
-    "6c",
-    "7c",
-    "7d",
-    "7e",
-    "d070",
-    "d1",
-    "d207",
+/// What each call appends.
+static ROWS: [&[u8]; 42] = [
+    &[0xFD, 0x80, 0x01],
+    &[0x00],
+    &[0x01],
+    &[0x02, 0x40],
+    &[0x03, 0x3F],
+    &[0x04, 0xC0, 0x00],
+    &[0x05],
+    &[0x0B],
+    &[0x0C, 0x01],
+    &[0x0D, 0xAC, 0x02],
+    &[0x0E, 0x02, 0x00, 0x01, 0x02],
+    &[0x0F],
+    &[0x10, 0x05],
+    &[0x11, 0x01, 0x02],
+    &[0x1A],
+    &[0x1B],
+    &[0x1C, 0x01, 0x7F],
+    &[0x1C, 0x02, 0x7F, 0x7E],
+    &[0x20, 0x01],
+    &[0x21, 0x02],
+    &[0x22, 0x03],
+    &[0x23, 0x04],
+    &[0x24, 0x05],
+    &[0x28, 0x02, 0x04],
+    &[0x36, 0x02, 0x04],
+    &[0x3F, 0x00],
+    &[0x40, 0x01],
+    &[0x41, 0x40],
+    &[0x42, 0xC0, 0x00],
+    &[0x43, 0x00, 0x00, 0x80, 0x3F],
+    &[0x44, 0x00, 0x00, 0x00, 0x00, 0x00, 0x00, 0xF0, 0x3F],
+    &[
+        0xFD, 0x0C, 0xFF, 0xFF, 0xFF, 0xFF, 0xFF, 0xFF, 0xFF, 0xFF, 0xFF, 0xFF, 0xFF, 0xFF, 0xFF,
+        0xFF, 0xFF, 0xFF,
+    ],
+    &[0x45],
+    &[0x6A],
+    &[0x6B],
+    &[0x6C],
+    &[0x7C],
+    &[0x7D],
+    &[0x7E],
+    &[0xD0, 0x70],
+    &[0xD1],
+    &[0xD2, 0x07],
 ];
 
 /// The call of this place in `ROWS`, and for those from 16 on `later_call`.
@@ -121,20 +122,15 @@ fn later_call<B: Buffer>(sink: &mut InstructionSink<'_, B>, place: usize) -> R<(
 }
 
 /// The call at this place, with each request for memory refused in turn.
-fn check(rt: &impl Abort, alloc: Global, place: usize, row: &str) -> Result<(), Fail> {
+fn check(rt: &impl Abort, alloc: Global, place: usize, row: &[u8]) -> Result<(), Fail> {
     let heap = Refusing::new(alloc);
     for nth in 1..MOST {
         let mut bytes = Vec::from_slice(&heap, &[7])?;
         heap.refuse(nth);
-        let result = call(&mut InstructionSink::new(&mut bytes), place);
-        if heap.is_waiting() {
-            assert_eq!(rt; result, Ok(()));
-            let text = hex::encode(alloc, bytes.as_slice())?;
-            assert_eq!(rt; text.as_str().strip_prefix("07"), Some(row));
+        let answer = call(&mut InstructionSink::new(&mut bytes), place);
+        if check_sink(rt, heap.is_waiting(), answer, &bytes, row) {
             return Ok(());
         }
-        assert_eq!(rt; result, Err(Refused::Memory));
-        assert_eq!(rt; bytes.as_slice(), [7].as_slice());
     }
     panic!(rt; "no call was granted")
 }

@@ -1,14 +1,16 @@
 //! Each instruction of the opcode table has the bytes of its row.
+use crate::checks::{check_hex, check_refusals, check_row};
 use crate::{cases, rows};
 use std::alloc::Global;
 use std::process::Abort;
 use std::test::Fail;
-use test_support::Refusing;
-use wasm_base::{Encode, R, Refused};
+use wasm_base::Encode;
 use wasm_insn::Instruction;
 
-/// More requests than any call here makes.
-const MOST: u64 = 100;
+/// The op is in the table.
+fn check_op(rt: &impl Abort, instruction: &Instruction<'_>, row: &str) {
+    assert!(rt; instruction.op().shape().is_some(), "{row}");
+}
 
 /// The instruction and its clone have these bytes, and the op is in the table. Where a request for memory is refused, each
 /// in turn, the sink is as it was.
@@ -18,28 +20,17 @@ fn check(
     instruction: &Instruction<'_>,
     row: &str,
 ) -> Result<(), Fail> {
+    check_op(rt, instruction, row);
+    check_row(rt, alloc, &instruction.clone()?, row)?;
     let mut bytes = Vec::new(alloc);
     instruction.encode(&mut bytes)?;
-    assert_eq!(rt; hex::encode(alloc, bytes.as_slice())?.as_str(), row);
-    let mut again = Vec::new(alloc);
-    instruction.clone()?.encode(&mut again)?;
-    assert_eq!(rt; again, bytes);
-    assert!(rt; instruction.op().shape().is_some(), "{row}");
+    check_hex(rt, alloc, &bytes, row)?;
+    check_refusals(rt, alloc, instruction, &bytes)
+}
 
-    let heap = Refusing::new(alloc);
-    for nth in 1..MOST {
-        let mut sink = Vec::from_slice(&heap, &[7])?;
-        heap.refuse(nth);
-        let result = instruction.encode(&mut sink);
-        if heap.is_waiting() {
-            assert_eq!(rt; result, Ok(()));
-            assert_eq!(rt; sink[1..], bytes[..]);
-            return Ok(());
-        }
-        assert_eq!(rt; result, Err(Refused::Memory));
-        assert_eq!(rt; sink.as_slice(), [7].as_slice());
-    }
-    panic!(rt; "no call was granted")
+/// There are as many instructions as rows.
+fn check_len(rt: &impl Abort, instructions: usize, rows: usize) {
+    assert_eq!(rt; instructions, rows);
 }
 
 /// The instructions in turn have these bytes.
@@ -49,7 +40,7 @@ fn check_all(
     instructions: &[Instruction<'_>],
     rows: &[&str],
 ) -> Result<(), Fail> {
-    assert_eq!(rt; instructions.len(), rows.len());
+    check_len(rt, instructions.len(), rows.len());
     for (instruction, row) in instructions.iter().zip(rows.iter()) {
         check(rt, alloc, instruction, row)?;
     }
@@ -158,7 +149,7 @@ fn floats(rt: HostRuntime) -> Result<(), Fail> {
 
 #[test]
 fn numerics(rt: HostRuntime) -> Result<(), Fail> {
-    assert_eq!(rt; cases::NUMERICS.len(), rows::NUMERICS.len());
+    check_len(&rt, cases::NUMERICS.len(), rows::NUMERICS.len());
     for (case, row) in cases::NUMERICS.iter().zip(rows::NUMERICS.iter()) {
         check(&rt, rt.alloc(), &Instruction::Numeric(*case), row)?;
     }
@@ -167,7 +158,7 @@ fn numerics(rt: HostRuntime) -> Result<(), Fail> {
 
 #[test]
 fn aggregates(rt: HostRuntime) -> Result<(), Fail> {
-    assert_eq!(rt; cases::AGGREGATES.len(), rows::AGGREGATES.len());
+    check_len(&rt, cases::AGGREGATES.len(), rows::AGGREGATES.len());
     for (case, row) in cases::AGGREGATES.iter().zip(rows::AGGREGATES.iter()) {
         check(&rt, rt.alloc(), &Instruction::Aggregate(*case), row)?;
     }
@@ -176,9 +167,10 @@ fn aggregates(rt: HostRuntime) -> Result<(), Fail> {
 
 #[test]
 fn prefixed_numerics(rt: HostRuntime) -> Result<(), Fail> {
-    assert_eq!(rt;
+    check_len(
+        &rt,
         cases::PREFIXED_NUMERICS.len(),
-        rows::PREFIXED_NUMERICS.len()
+        rows::PREFIXED_NUMERICS.len(),
     );
     for (case, row) in cases::PREFIXED_NUMERICS
         .iter()
@@ -191,7 +183,7 @@ fn prefixed_numerics(rt: HostRuntime) -> Result<(), Fail> {
 
 #[test]
 fn vectors(rt: HostRuntime) -> Result<(), Fail> {
-    assert_eq!(rt; cases::VECTORS.len(), rows::VECTORS.len());
+    check_len(&rt, cases::VECTORS.len(), rows::VECTORS.len());
     for (case, row) in cases::VECTORS.iter().zip(rows::VECTORS.iter()) {
         check(&rt, rt.alloc(), &Instruction::Vector(*case), row)?;
     }
@@ -200,9 +192,10 @@ fn vectors(rt: HostRuntime) -> Result<(), Fail> {
 
 #[test]
 fn vector_immediates(rt: HostRuntime) -> Result<(), Fail> {
-    assert_eq!(rt;
+    check_len(
+        &rt,
         cases::VECTOR_IMMEDIATES.len(),
-        rows::VECTOR_IMMEDIATES.len()
+        rows::VECTOR_IMMEDIATES.len(),
     );
     for (case, row) in cases::VECTOR_IMMEDIATES
         .iter()
@@ -215,7 +208,7 @@ fn vector_immediates(rt: HostRuntime) -> Result<(), Fail> {
 
 #[test]
 fn atomics(rt: HostRuntime) -> Result<(), Fail> {
-    assert_eq!(rt; cases::ATOMICS.len(), rows::ATOMICS.len());
+    check_len(&rt, cases::ATOMICS.len(), rows::ATOMICS.len());
     for (case, row) in cases::ATOMICS.iter().zip(rows::ATOMICS.iter()) {
         check(&rt, rt.alloc(), &Instruction::Atomic(*case), row)?;
     }

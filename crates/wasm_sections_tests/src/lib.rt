@@ -1,11 +1,27 @@
-//! Tests of `wasm_sections`, and of adding all of a list: bytes that were worked out by hand, requests for memory that are refused, and
-//! callers that prove what a reader finds.
+//! Tests of `wasm_code`, `wasm_sections` and `wasm_tool`: bytes that the format's documents give or that were worked out by hand, requests
+//! for memory that are refused, reads and writes that fail, and callers that prove what they append and what a reader finds.
 #![tactic(auto)]
 
+pub mod body_callers;
 pub mod callers;
 #[cfg(test)]
-mod refusals;
+mod checks;
 #[cfg(test)]
-mod rows;
+mod code;
+#[cfg(test)]
+mod code_refusals;
+#[cfg(test)]
+mod failures;
+#[cfg(test)]
+mod functions;
+#[cfg(test)]
+mod lengths;
+pub mod readings;
+#[cfg(test)]
+mod recipes;
 #[cfg(test)]
 mod samples;
+#[cfg(test)]
+mod section_refusals;
+#[cfg(test)]
+mod sections;

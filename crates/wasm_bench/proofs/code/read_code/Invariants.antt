@@ -1,5 +1,5 @@
-use Rattle.wasm_bench.proofs.CodeSteps.{TellsFunctions}
+use Rattle.std.proofs.Common.{◌≡◌, length}
 use Rattle.wasm_bench.proofs.code.read_code.Given as goal
 
 abbrev pub invariant-loop : goal.invariant-loop
-invariant-loop l = TellsFunctions l.counter l.initial.rest.rest.now l.rest.rest.now l.code
+invariant-loop l = length l.code ≡ l.counter

@@ -1,5 +1,5 @@
-use Rattle.wasm_bench.proofs.ExportSteps.{ToldExports}
+use Rattle.std.proofs.Common.{◌≡◌, length}
 use Rattle.wasm_bench.proofs.exports.build.Given as goal
 
 abbrev pub invariant-loop-i : goal.invariant-loop-i
-invariant-loop-i l = ToldExports l.names l.lens l.kinds l.indices l.i l.rest.rest.now l.section
+invariant-loop-i l = length l.section ≡ l.i

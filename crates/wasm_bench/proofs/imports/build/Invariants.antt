@@ -1,5 +1,5 @@
-use Rattle.wasm_bench.proofs.ImportSteps.{ToldImports}
+use Rattle.std.proofs.Common.{◌≡◌, length}
 use Rattle.wasm_bench.proofs.imports.build.Given as goal
 
 abbrev pub invariant-loop-i : goal.invariant-loop-i
-invariant-loop-i l = ToldImports l.names l.pairs l.kinds l.indices l.i l.rest.rest.now l.section
+invariant-loop-i l = length l.section ≡ l.i

@@ -1,0 +1,99 @@
+// What tests compare, over plain data: an assertion beside values that own memory takes far longer to prove.
+use std::alloc::Global;
+use std::process::Abort;
+use std::test::Fail;
+use test_support::Refusing;
+use wasm_base::{Encode, R, Refused};
+
+/// More requests than any call here makes.
+pub(crate) const MOST: u64 = 100;
+
+/// The bytes are these.
+pub(crate) fn check_bytes(rt: &impl Abort, bytes: &[u8], expected: &[u8]) {
+    assert_eq!(rt; bytes, expected);
+}
+
+/// The call was refused for want of memory.
+pub(crate) fn check_refused(rt: &impl Abort, refused: Option<Refused>) {
+    assert_eq!(rt; refused, Some(Refused::Memory));
+}
+
+/// What a call did to a sink that held the byte 7, where one request was to be refused: it appended these bytes, or nothing. Answers
+/// whether it was accepted.
+pub(crate) fn check_sink(
+    rt: &impl Abort,
+    granted: bool,
+    answer: R<()>,
+    sink: &[u8],
+    expected: &[u8],
+) -> bool {
+    let (wanted, appended): (R<()>, &[u8]) = if granted {
+        (Ok(()), expected)
+    } else {
+        (Err(Refused::Memory), &[])
+    };
+    assert_eq!(rt; answer, wanted);
+    assert_eq!(rt; sink.split_first(), Some((&7, appended)));
+    granted
+}
+
+/// The item is written as these bytes.
+pub(crate) fn check<T: Encode>(
+    rt: &impl Abort,
+    alloc: Global,
+    item: &T,
+    expected: &[u8],
+) -> Result<(), Fail> {
+    let mut sink = Vec::new(alloc);
+    item.encode(&mut sink)?;
+    check_bytes(rt, &sink, expected);
+    Ok(())
+}
+
+/// The text is this.
+fn check_text(rt: &impl Abort, text: &str, expected: &str) {
+    assert_eq!(rt; text, expected);
+}
+
+/// The bytes are these, in hexadecimal.
+pub(crate) fn check_hex(
+    rt: &impl Abort,
+    alloc: Global,
+    bytes: &[u8],
+    row: &str,
+) -> Result<(), Fail> {
+    let text = hex::encode(alloc, bytes)?;
+    check_text(rt, text.as_str(), row);
+    Ok(())
+}
+
+/// The item is written as these bytes, in hexadecimal.
+pub(crate) fn check_row<T: Encode>(
+    rt: &impl Abort,
+    alloc: Global,
+    item: &T,
+    row: &str,
+) -> Result<(), Fail> {
+    let mut sink = Vec::new(alloc);
+    item.encode(&mut sink)?;
+    check_hex(rt, alloc, &sink, row)
+}
+
+/// The item is written as these bytes, each request for memory refused in turn.
+pub(crate) fn check_refusals<T: Encode>(
+    rt: &impl Abort,
+    alloc: Global,
+    item: &T,
+    expected: &[u8],
+) -> Result<(), Fail> {
+    let heap = Refusing::new(alloc);
+    for nth in 1..MOST {
+        let mut sink = Vec::from_slice(&heap, &[7])?;
+        heap.refuse(nth);
+        let answer = item.encode(&mut sink);
+        if check_sink(rt, heap.is_waiting(), answer, &sink, expected) {
+            return Ok(());
+        }
+    }
+    panic!(rt; "no call was granted")
+}
