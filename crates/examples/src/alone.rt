@@ -1,17 +1,18 @@
 // Sections without a module.
-ghost use Rattle.std.specs.Prelude.{[], ◌∷◌, OnOk};
+ghost use Rattle.std.specs.Prelude.{[], ◌∷◌, map, OnOk};
 ghost use Rattle.wasm_base.specs.Entries.{counted_format};
 ghost use Rattle.wasm_base.specs.Modules.{GainsReading};
 ghost use Rattle.wasm_code.specs.Code.{code_section};
+ghost use Rattle.wasm_sections.specs.Exports.{item_of, export};
 ghost use Rattle.wasm_sections.specs.Imports.{import_format};
 ghost use Rattle.examples.specs.Bodies.{local_body};
 ghost use Rattle.examples.specs.Whole.{import_of_function};
 
 use std::alloc::Allocator;
-use wasm_base::{Encode, R};
+use wasm_base::{Encode, R, add_all};
 use wasm_code::{CodeSection, Function};
 use wasm_insn::Instruction;
-use wasm_sections::{EntityType, ImportSection};
+use wasm_sections::{EntityType, Export, ExportSection, ImportSection, laws};
 
 /// A code section of one function, which gives the local of this index.
 pub fn encode_local<A: Allocator + Copy>(sink: &mut Vec<u8, A>, index: u32) -> R<()>
@@ -38,4 +39,16 @@ pub fn encode_import<A: Allocator + Copy>(
     let mut section = ImportSection::new(*sink.allocator());
     section.import(from, name, EntityType::Function(index))?;
     section.encode(sink)
+}
+
+/// An export section of the exports of a list. The first call shows that they are plain.
+pub fn encode_exports<A: Allocator + Copy>(sink: &mut Vec<u8, A>, exports: &[Export<'_>]) -> R<()>
+    ensures { OnOk result (GainsReading (counted_format export) (map item_of exports.now) sink.old.items sink.new.items) }
+{
+    laws::plain_exports(exports);
+    let mut section = ExportSection::new(*sink.allocator());
+    match add_all(&mut section, exports) {
+        Ok(()) => section.encode(sink),
+        Err((_, refused)) => Err(refused),
+    }
 }

@@ -1,7 +1,9 @@
 -- What calls leave, step by step: lemmas that a caller cites.
 use Rattle.std.proofs.Common.{◌≡◌, ℕ, zero, suc, ◌<◌, List, [], ◌∷◌, ◌++◌, Bool, true, ltb, ◌&&◌, slice_index, IsUtf8, arith, refl, sym, subst}
 use Rattle.std.proofs.lemmas.Bool.{ltb-true, and_parts}
+use Rattle.std.proofs.lemmas.List.Elements.{All-head, All-tail}
 use Rattle.std.proofs.lemmas.Str.{IsUtf8-from_ascii}
+use Rattle.std.specs.List.{All, AllByRecursion}
 use Rattle.wasm_base.specs.Calls.{ReadsOneMore, ReadsBack}
 use Rattle.wasm_base.specs.Formats.{Format, any_bytes, frame, wasm_module}
 use Rattle.wasm_base.specs.Modules.{SectionReading, reading_of, raw_reading, AreRead, ReadsSections, ReadsPayloads}
@@ -28,6 +30,11 @@ below_128 (b ∷ bytes) e (suc i) = below_128 bytes (and_parts (ltb b 0x80) (are
 -- the bytes of a literal of ASCII
 pub ascii : {bytes : List ℕ} → are_ascii bytes ≡ true → IsUtf8 bytes
 ascii {bytes = bytes} e = IsUtf8-from_ascii bytes (below_128 bytes e)
+
+-- what holds of each element, one after another
+pub each : {X : Type 0} (P : X → Type 0) (xs : List X) → All P xs → AllByRecursion P xs
+each P [] h = tt
+each P (x ∷ xs) h = (All-head P x xs h, each P xs (All-tail P x xs h))
 
 -- a new module
 pub new_module : {bytes : List ℕ} → ReadsWhole wasm_module bytes [] → ReadsSections [] bytes

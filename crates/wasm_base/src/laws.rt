@@ -3,7 +3,7 @@
 //! `UniqueReading F` says that bytes begin with a spelling in the format `F` of one value alone, whatever follows, both with
 //! shortest and with padded numbers, and that a value has one shortest spelling. `HasTexts F fits text` says that the text of each
 //! value that fits is this spelling. No clause ranges over all formats, so vectors and frames are stated for those named here.
-ghost use Rattle.std.specs.Prelude.{pos};
+ghost use Rattle.std.specs.Prelude.{pos, All, IsUtf8};
 ghost use Rattle.wasm_base.specs.Formats.{
   u32 as u32_format,
   u64 as u64_format,
@@ -111,3 +111,17 @@ pub fn wide()
     ensures ref_type { IsUniqueWide ref_type }
     ensures val_type { IsUniqueWide val_type }
 {}
+
+/// A name is UTF-8. Where one lies behind a reference, as in a record, no clause shows it: this call does.
+pub fn plain_name(name: &str)
+    ensures { IsUtf8 name.now }
+{}
+
+/// Each name of a list is UTF-8.
+pub fn plain_names(names: &[&str])
+    ensures { All (λ name. IsUtf8 name.now) names.now }
+{
+    for name in names {
+        plain_name(name);
+    }
+}

@@ -2,8 +2,9 @@
 use Rattle.std.proofs.Common.{◌≡◌, ℕ, ◌^◌, ◌<◌, ◌≤◌, List, [], ◌∷◌, ◌++◌, length, map, Result, Ok, Err, refl, sym, ap, subst, ◌∙◌, arith}
 use Rattle.std.proofs.lemmas.List.{map-append}
 use Rattle.std.proofs.lemmas.List.Elements.{All-nil, All-cons}
-use Rattle.std.specs.Array.Iter.{array_into_iter_items, array_steps}
+use Rattle.std.specs.Array.Iter.{array_into_iter_items, array_steps, array_steps_back}
 use Rattle.std.specs.Iterator.{Count, Drains}
+use Rattle.std.specs.Iterator.Runs.{EveryRun, ItemsAre, ItemsAreReversed}
 use Rattle.std.specs.List.{All, AllByRecursion, AllZip}
 use Rattle.std.specs.Prelude.{OnOk}
 use Rattle.std.specs.declared.alloc.Global.{Global}
@@ -44,12 +45,18 @@ known_runs {runs = runs} {bytes = bytes} locals e count are =
     subst (λ rs. IsPlainBody bytes (record { runs = rs; code = [] })) e
     (locals.plain count (subst (λ rs. All IsRun rs) (sym e) (all_of IsRun runs are)))
 
+-- what the iterator of an array has: its elements, each of which is given in order
+abbrev becomes : {n : ℕ} → List Run → IntoIter Run n → Type 0
+becomes {n = n} runs it =
+    (array_into_iter_items it ≡ runs) × (length (array_into_iter_items it) ≡ n) × EveryRun (array_steps {A = Run} {n = n}) (λ p. ItemsAre p (array_into_iter_items p.from))
+    × EveryRun (array_steps_back {A = Run} {n = n}) (λ p. ItemsAreReversed p (array_into_iter_items p.from))
+
 -- a new function, whose runs are the elements of an array
-pub new_function : {n : ℕ} {becomes : List Run → IntoIter Run n → Type 0} {remaining : IntoIter Run n → Count} {runs : List Run} {bytes : List ℕ} → BeginsWithRuns becomes array_steps remaining runs (Ok bytes)
-    → ((it : IntoIter Run n) → becomes runs it → array_into_iter_items it ≡ runs) → AllByRecursion IsRun runs → IsPlainBody bytes (record { runs = runs; code = [] })
-new_function {runs = runs} made is are =
+pub new_function : {n : ℕ} {remaining : IntoIter Run n → Count} {runs : List Run} {bytes : List ℕ} → BeginsWithRuns becomes array_steps remaining runs (Ok bytes) → AllByRecursion IsRun runs
+    → IsPlainBody bytes (record { runs = runs; code = [] })
+new_function made are =
     let given = made.ok in
-    known_runs given.5 (array_items given.0 given.1 given.3 ∙ is given.0 given.2) given.4 are
+    known_runs given.5 (array_items given.0 given.1 given.3 ∙ given.2.0) given.4 are
 
 -- one more instruction
 pub adds_instruction : {A : Type 0} {i : Instruction A} {old new : List ℕ} {x : Body} → IsPlainBody old x → Grows i old new → IsPlainInstruction i → IsPlainBody new (and_then x (normal_row i ∷ []))
@@ -60,7 +67,7 @@ pub lent : {old new : List ℕ} {x : Body} → IsPlainBody old x → new ≡ old
 lent {x = x} body same = subst (λ s. IsPlainBody s x) (sym same) body
 
 -- one more instruction, that a named call of a sink has written
-pub writes_instruction : {A : Type 0} {old new : List ℕ} {x : Body} → IsPlainBody old x → (i : Instruction A) → new ≡ old ++ instruction_text i → IsPlainInstruction i → IsPlainBody new (and_then x (normal_row i ∷ []))
+pub writes_instruction : {old new : List ℕ} {x : Body} → IsPlainBody old x → (i : Instruction Global) → new ≡ old ++ instruction_text i → IsPlainInstruction i → IsPlainBody new (and_then x (normal_row i ∷ []))
 writes_instruction {old = old} {new = new} {x = x} body i e plain = (grows i old new e).plain plain x body
 
 -- the instruction `BrTable`, that a sink has written

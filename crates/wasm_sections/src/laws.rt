@@ -1,6 +1,7 @@
 //! What is promised of all lists of bytes, and not of a call: each function does nothing, and its clauses are the promise.
 //!
 //! `ItemLaws` says of a kind of items that they are read uniquely, and that the text of a plain record spells what it says.
+ghost use Rattle.std.specs.Prelude.{All};
 ghost use Rattle.wasm_base.specs.Entries.{ItemLaws, counted_format};
 ghost use Rattle.wasm_base.specs.Formats.{u32 as u32_format, frame, vec};
 ghost use Rattle.wasm_base.specs.Laws.{FitsUnsigned};
@@ -14,6 +15,9 @@ ghost use Rattle.wasm_sections.specs.Laws.{HoldsMore};
 ghost use Rattle.wasm_sections.specs.Memories.{memory_text, IsMemory, memory_type};
 ghost use Rattle.wasm_sections.specs.Tables.{table_type, table_item_text, IsGivenTable, table_item_of, table_item};
 ghost use Rattle.wasm_sections.specs.Tags.{tag_text, IsTag, tag_type};
+
+use crate::export::Export;
+use wasm_base::laws::plain_name;
 
 /// Sections are read uniquely, and so are their items, each of which has a text.
 #[tactic(auto, using(crate::proofs::SectionLaws::sections))]
@@ -79,3 +83,20 @@ pub fn payloads()
     ensures tags { ReadsPayloads (vec tag_type) }
     ensures numbers { ReadsPayloads u32_format }
 {}
+
+/// An export is plain: its name is UTF-8, and its index in range. The result is the index.
+pub fn plain_export(export: &Export<'_>) -> u32
+    ensures plain { IsExport export.now }
+{
+    plain_name(export.name);
+    export.index
+}
+
+/// Each export of a list is plain.
+pub fn plain_exports(exports: &[Export<'_>])
+    ensures { All IsExport exports.now }
+{
+    for export in exports {
+        plain_export(export);
+    }
+}

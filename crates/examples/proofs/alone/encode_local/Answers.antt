@@ -4,7 +4,7 @@ use Rattle.examples.proofs.alone.encode_local.Goals as goal
 
 pub returns : goal.returns
 returns g c =
-    let b0 = new_function c.in_ok-function.ensures (λ it is. is.0) tt in
+    let b0 = new_function c.in_ok-function.ensures tt in
     let b1 = adds_instruction b0 c.in_ok-instruction.ensures.ok (omega (arith, c.ranges.index.fits), tt) in
     let b2 = adds_instruction b1 c.in_ok-instruction-2.ensures.ok tt in
     let code = adds_body (new_code c.new-code.ensures) c.in_ok-function-2.ensures.ok b2 in

@@ -4,7 +4,7 @@ use Rattle.examples.proofs.whole.start.Goals as goal
 
 pub returns : goal.returns
 returns g c =
-    let b0 = new_function c.in_ok-function.ensures (λ it is. is.0) tt in
+    let b0 = new_function c.in_ok-function.ensures tt in
     let b1 = adds_instruction b0 c.in_ok-instruction.ensures.ok (omega arith, tt) in
     let b2 = adds_instruction b1 c.in_ok-instruction-2.ensures.ok (omega arith, tt) in
     let b3 = adds_instruction b2 c.in_ok-instruction-3.ensures.ok (omega arith, tt) in

@@ -1,0 +1,6 @@
+use Rattle.std.proofs.Common.{take, IsUtf8}
+use Rattle.std.specs.List.{All}
+use Rattle.wasm_base.proofs.laws.plain_names.Given as goal
+
+abbrev pub invariant-loop-name : goal.invariant-loop-name
+invariant-loop-name l = All (λ name. IsUtf8 name.now) (take l.name-index l.names)

@@ -1,0 +1,7 @@
+use Rattle.std.proofs.Common.{take}
+use Rattle.std.specs.List.{All}
+use Rattle.wasm_sections.specs.Exports.{IsExport}
+use Rattle.wasm_sections.proofs.laws.plain_exports.Given as goal
+
+abbrev pub invariant-loop-export : goal.invariant-loop-export
+invariant-loop-export l = All IsExport (take l.export-index l.exports)
