@@ -27,19 +27,19 @@ abbrev pub factorial_body : (itself : ℕ) → Body
 factorial_body itself = record {
   runs = [];
   code =
-    row (Block Empty) ∷
-    row (LocalGet 0) ∷
-    row (Numeric I32Eqz) ∷
-    row (BrIf 0) ∷
-    row (LocalGet 0) ∷
-    row (LocalGet 0) ∷
-    row (I32Const (pos 1)) ∷
-    row (Numeric I32Sub) ∷
-    row (Call itself) ∷
-    row (Numeric I32Mul) ∷
-    row Return ∷
-    row End ∷
-    row (I32Const (pos 1)) ∷
-    row End ∷
-    [];
+      row (Block Empty) ∷
+      row (LocalGet 0) ∷
+      row (Numeric I32Eqz) ∷
+      row (BrIf 0) ∷
+      row (LocalGet 0) ∷
+      row (LocalGet 0) ∷
+      row (I32Const (pos 1)) ∷
+      row (Numeric I32Sub) ∷
+      row (Call itself) ∷
+      row (Numeric I32Mul) ∷
+      row Return ∷
+      row End ∷
+      row (I32Const (pos 1)) ∷
+      row End ∷
+      [];
 }
