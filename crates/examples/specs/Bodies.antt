@@ -4,6 +4,7 @@ use Rattle.std.specs.declared.alloc.Global.{Global}
 use Rattle.wasm_base.specs.declared.types.ValType.TheVariants.{I32}
 use Rattle.wasm_code.specs.Bodies.{Body}
 use Rattle.wasm_code.specs.Expressions.{normal_row}
+use Rattle.wasm_code.specs.Laws.{br_table_row}
 use Rattle.wasm_immediates.specs.declared.block_type.BlockType.TheVariants.{Empty}
 use Rattle.wasm_insn.specs.Plain.{Plain}
 use Rattle.wasm_insn.specs.declared.instruction.Instruction.{Instruction}
@@ -43,3 +44,7 @@ factorial_body itself = record {
       row End ∷
       [];
 }
+
+-- two blocks, and a branch out of the inner one or of both
+abbrev pub choice_body : Body
+choice_body = record { runs = []; code = row (Block Empty) ∷ row (Block Empty) ∷ row (LocalGet 0) ∷ br_table_row (0 ∷ []) 1 ∷ row End ∷ row End ∷ row End ∷ [] }

@@ -7,7 +7,7 @@ use Rattle.wasm_code.specs.Code.{code_reading}
 use Rattle.wasm_insn.specs.declared.instruction.Instruction.TheVariants.{GlobalGet, GlobalSet, I32Const, Call, End}
 use Rattle.wasm_sections.specs.Exports.{ExportItem}
 use Rattle.wasm_sections.specs.Globals.{GlobalItem}
-use Rattle.wasm_sections.specs.Imports.{ImportItem, single}
+use Rattle.wasm_sections.specs.Imports.{ImportItem, single, alike}
 use Rattle.wasm_sections.specs.Readings.{import_reading, function_reading, memory_reading, global_reading, export_reading, start_reading}
 use Rattle.wasm_sections.specs.declared.export.ExportKind.TheVariants.{Func, Memory}
 use Rattle.wasm_sections.specs.declared.import.EntityType.TheVariants.{Function}
@@ -21,6 +21,10 @@ two_types = 0x02 ∷ 0x60 ∷ 0x00 ∷ 0x00 ∷ 0x60 ∷ 0x01 ∷ 0x7F ∷ 0x01 
 -- a function of the type of this index
 abbrev pub import_of_function : (from name : List ℕ) (index : ℕ) → ImportItem
 import_of_function from name index = record { module_name = from; imported = single name (Function index) }
+
+-- functions of the type of this index, in one group
+abbrev pub import_of_functions : (from : List ℕ) (names : List (List ℕ)) (index : ℕ) → ImportItem
+import_of_functions from names index = record { module_name = from; imported = alike (Function index) names }
 
 -- `ready` of `host`, a function of the first type
 abbrev pub ready : ImportItem

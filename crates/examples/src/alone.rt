@@ -6,13 +6,15 @@ ghost use Rattle.wasm_code.specs.Code.{code_section};
 ghost use Rattle.wasm_sections.specs.Exports.{item_of, export};
 ghost use Rattle.wasm_sections.specs.Imports.{import_format};
 ghost use Rattle.examples.specs.Bodies.{local_body};
-ghost use Rattle.examples.specs.Whole.{import_of_function};
+ghost use Rattle.examples.specs.Whole.{import_of_function, import_of_functions};
 
 use std::alloc::Allocator;
-use wasm_base::{Encode, R, add_all};
+use wasm_base::laws::plain_names;
+use wasm_base::{CowSlice, Encode, R, add_all};
 use wasm_code::{CodeSection, Function};
 use wasm_insn::Instruction;
-use wasm_sections::{EntityType, Export, ExportSection, ImportSection, laws};
+use wasm_sections::laws::plain_exports;
+use wasm_sections::{EntityType, Export, ExportSection, ImportSection, Imports};
 
 /// A code section of one function, which gives the local of this index.
 pub fn encode_local<A: Allocator + Copy>(sink: &mut Vec<u8, A>, index: u32) -> R<()>
@@ -45,10 +47,29 @@ pub fn encode_import<A: Allocator + Copy>(
 pub fn encode_exports<A: Allocator + Copy>(sink: &mut Vec<u8, A>, exports: &[Export<'_>]) -> R<()>
     ensures { OnOk result (GainsReading (counted_format export) (map item_of exports.now) sink.old.items sink.new.items) }
 {
-    laws::plain_exports(exports);
+    plain_exports(exports);
     let mut section = ExportSection::new(*sink.allocator());
     match add_all(&mut section, exports) {
         Ok(()) => section.encode(sink),
         Err((_, refused)) => Err(refused),
     }
+}
+
+/// An import section of functions of one type, in one group. The first call shows that their names are UTF-8.
+pub fn encode_group<A: Allocator + Copy>(
+    sink: &mut Vec<u8, A>,
+    from: &str,
+    names: &[&str],
+    index: u32,
+) -> R<()>
+    ensures { OnOk result (GainsReading (counted_format import_format) (import_of_functions from.now (map (λ name. name.now) names.now) index ∷ []) sink.old.items sink.new.items) }
+{
+    plain_names(names);
+    let mut section = ImportSection::new(*sink.allocator());
+    section.imports(Imports::Compact2 {
+        module: from,
+        ty: EntityType::Function(index),
+        names: CowSlice::Borrowed(names),
+    })?;
+    section.encode(sink)
 }

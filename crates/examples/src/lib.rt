@@ -6,7 +6,7 @@ mod first;
 mod recursion;
 mod whole;
 
-pub use alone::{encode_exports, encode_import, encode_local};
+pub use alone::{encode_exports, encode_group, encode_import, encode_local};
 pub use first::first_module;
-pub use recursion::factorial;
+pub use recursion::{choice, factorial};
 pub use whole::whole_module;

@@ -1,7 +1,7 @@
-// A function that calls itself.
+// Functions by named calls of a sink.
 ghost use Rattle.std.specs.Prelude.{IfOk};
 ghost use Rattle.wasm_code.specs.Bodies.{IsPlainBody};
-ghost use Rattle.examples.specs.Bodies.{factorial_body};
+ghost use Rattle.examples.specs.Bodies.{factorial_body, choice_body};
 
 use std::alloc::Allocator;
 use wasm_base::R;
@@ -28,6 +28,22 @@ pub fn factorial<A: Allocator>(alloc: A, itself: u32) -> R<Function<A>>
     sink.return_()?;
     sink.end()?;
     sink.i32_const(1)?;
+    sink.end()?;
+    Ok(function)
+}
+
+/// A branch out of the inner block where the one parameter is 0, and else out of both.
+pub fn choice<A: Allocator>(alloc: A) -> R<Function<A>>
+    ensures { IfOk result (λ function. IsPlainBody function choice_body) }
+{
+    let mut function = Function::new(alloc, [])?;
+    let mut sink = function.instructions();
+    sink.block(BlockType::Empty)?;
+    sink.block(BlockType::Empty)?;
+    sink.local_get(0)?;
+    sink.br_table([0], 1)?;
+    sink.end()?;
+    sink.end()?;
     sink.end()?;
     Ok(function)
 }

@@ -21,7 +21,7 @@ use Rattle.wasm_base.proofs.Calls.{gains_section}
 use Rattle.wasm_base.proofs.KnownLengths.{array_items}
 use Rattle.wasm_insn.specs.declared.instruction.Instruction.{Instruction}
 use Rattle.wasm_insn.specs.Plain.{Plain, IsPlain, instruction as instruction_format}
-use Rattle.wasm_insn.specs.Sink.{br_table_text}
+use Rattle.wasm_insn.specs.Sink.{br_table_text, WritesLabels}
 use Rattle.wasm_insn.specs.Table.{table}
 use Rattle.wasm_insn.specs.Instructions.{instruction_text, IsPlainInstruction}
 use Rattle.wasm_insn.proofs.InstructionLaws.{br_table_spelled}
@@ -46,10 +46,10 @@ known_runs {runs = runs} {bytes = bytes} locals e count are =
     (locals.plain count (subst (λ rs. All IsRun rs) (sym e) (all_of IsRun runs are)))
 
 -- what the iterator of an array has: its elements, each of which is given in order
-abbrev becomes : {n : ℕ} → List Run → IntoIter Run n → Type 0
-becomes {n = n} runs it =
-    (array_into_iter_items it ≡ runs) × (length (array_into_iter_items it) ≡ n) × EveryRun (array_steps {A = Run} {n = n}) (λ p. ItemsAre p (array_into_iter_items p.from))
-    × EveryRun (array_steps_back {A = Run} {n = n}) (λ p. ItemsAreReversed p (array_into_iter_items p.from))
+abbrev becomes : {X : Type 0} {n : ℕ} → List X → IntoIter X n → Type 0
+becomes {X = X} {n = n} items it =
+    (array_into_iter_items it ≡ items) × (length (array_into_iter_items it) ≡ n) × EveryRun (array_steps {A = X} {n = n}) (λ p. ItemsAre p (array_into_iter_items p.from))
+    × EveryRun (array_steps_back {A = X} {n = n}) (λ p. ItemsAreReversed p (array_into_iter_items p.from))
 
 -- a new function, whose runs are the elements of an array
 pub new_function : {n : ℕ} {remaining : IntoIter Run n → Count} {runs : List Run} {bytes : List ℕ} → BeginsWithRuns becomes array_steps remaining runs (Ok bytes) → AllByRecursion IsRun runs
@@ -70,12 +70,20 @@ lent {x = x} body same = subst (λ s. IsPlainBody s x) (sym same) body
 pub writes_instruction : {old new : List ℕ} {x : Body} → IsPlainBody old x → (i : Instruction Global) → new ≡ old ++ instruction_text i → IsPlainInstruction i → IsPlainBody new (and_then x (normal_row i ∷ []))
 writes_instruction {old = old} {new = new} {x = x} body i e plain = (grows i old new e).plain plain x body
 
--- the instruction `BrTable`, that a sink has written
-pub writes_labels : {old new ls : List ℕ} {default : ℕ} {x : Body} → IsPlainBody old x → new ≡ old ++ br_table_text ls default → VecFits (λ n. n < 2 ^ 32) ls → default < 2 ^ 32
+labels_written : {old new ls : List ℕ} {default : ℕ} {x : Body} → IsPlainBody old x → new ≡ old ++ br_table_text ls default → VecFits (λ n. n < 2 ^ 32) ls → default < 2 ^ 32
     → IsPlainBody new (and_then x (br_table_row ls default ∷ []))
-writes_labels {old = old} {new = new} {ls = ls} {default = default} {x = x} body e fits range =
+labels_written {old = old} {new = new} {ls = ls} {default = default} {x = x} body e fits range =
     (grows_by (br_table_text ls default) old new e).plain x (br_table_row ls default ∷ []) body
     (members_one (instruction_format table) shortest (br_table_text ls default) (br_table_row ls default) (br_table_spelled ls default fits range))
+
+-- the instruction `BrTable`, that a sink has written, of labels that are the elements of an array
+pub writes_labels : {n : ℕ} {remaining : IntoIter ℕ n → Count} {ls : List ℕ} {default : ℕ} {old new : List ℕ} {x : Body} → IsPlainBody old x
+    → WritesLabels becomes array_steps remaining ls default old new (Ok (tt {0})) → AllByRecursion (λ l. l < 2 ^ 32) ls → default < 2 ^ 32 → IsPlainBody new (and_then x (br_table_row ls default ∷ []))
+writes_labels {ls = ls} {default = default} {old = old} {new = new} {x = x} body wrote are range =
+    let given = wrote.ok in
+    let same = array_items given.0 given.1 given.3 ∙ given.2.0 in
+    labels_written body (subst (λ l. new ≡ old ++ br_table_text l default) same given.5)
+        (record { count = subst (λ l. length l ≤ longest) same given.4; members = all_of (λ l. l < 2 ^ 32) ls are }) range
 
 -- ---- constant expressions
 
@@ -142,6 +150,6 @@ pub grows_by_text : {A : Type 0} (i : Instruction A) → GrowsByText i
 grows_by_text i = record { grows = λ old. grows i old (old ++ instruction_text i) refl }
 
 pub grows_by_labels : GrowsByLabels
-grows_by_labels = record { grows = λ ls default old x fits range body. writes_labels body refl fits range }
+grows_by_labels = record { grows = λ ls default old x fits range body. labels_written body refl fits range }
 
 pub ruleset calls = (holds_more, grows_by_text, grows_by_labels)

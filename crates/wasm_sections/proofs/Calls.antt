@@ -1,26 +1,27 @@
 -- What calls leave, step by step: lemmas that a caller cites.
-use Rattle.std.proofs.Common.{◌≡◌, ℕ, ◌^◌, ◌<◌, List, [], ◌∷◌, ◌++◌, map, IsUtf8, None, Some, Result, Ok, Err, refl, sym, ap, subst, ◌∙◌}
-use Rattle.std.proofs.lemmas.List.{map-append}
+use Rattle.std.proofs.Common.{◌≡◌, ℕ, ◌^◌, ◌<◌, List, [], ◌∷◌, ◌++◌, map, IsUtf8, Bor, None, Some, Result, Ok, Err, refl, sym, ap, subst, ◌∙◌}
+use Rattle.std.proofs.lemmas.List.Elements.{All-map}
 use Rattle.std.specs.Prelude.{OnOk}
 use Rattle.std.specs.declared.vec.Vec.{Vec}
 use Rattle.wasm_base.specs.declared.refused.Refused.{Refused}
-use Rattle.std.specs.List.{AllByRecursion, AllZip}
+use Rattle.std.specs.List.{All, AllByRecursion}
 use Rattle.wasm_base.specs.Calls.{Appends, ReadsOneMore, ReadsBack, AddsEach}
 use Rattle.wasm_base.specs.Entries.{Entry, Given, Raw, entry_text, Means, HoldsItems, counted_format}
 use Rattle.wasm_base.specs.Formats.{Format, u32, vec, frame}
-use Rattle.wasm_base.specs.Laws.{FitsUnsigned}
+use Rattle.wasm_base.specs.Laws.{FitsUnsigned, NameFits}
 use Rattle.wasm_insn.specs.Plain.{Plain}
 use Rattle.wasm_base.specs.Modules.{SectionReading, reading_of, ReadsSections, ReadsPayloads, GainsReading}
 use Rattle.wasm_base.specs.Numbers.{shortest, unsigned_text}
 use Rattle.wasm_base.specs.Pieces.{SectionPayload, SectionFits, section_text, section_framed}
-use Rattle.wasm_base.specs.Texts.{frame_text, FrameFits, raw_framed}
+use Rattle.wasm_base.specs.Texts.{frame_text, FrameFits, VecFits, raw_framed}
 use Rattle.wasm_base.proofs.Calls.{gains_section}
 use Rattle.wasm_base.proofs.Payloads.{u32-payload}
 use Rattle.wasm_base.proofs.TextLaws.{u32_spelled, name_spelled}
 use Rattle.wasm_code.specs.Expressions.{expression_text, StoresInstructions}
 use Rattle.wasm_sections.specs.Exports.{kind_code, export_text, IsExport, ExportItem, item_of, export_of, export}
 use Rattle.wasm_sections.specs.Globals.{global_text, IsGlobal, GlobalItem, global_item_text, IsGivenGlobal, global_item_of, global_item}
-use Rattle.wasm_sections.specs.Imports.{ImportItem, import_text, IsImport, import_format}
+use Rattle.wasm_sections.specs.Imports.{ImportItem, alike, import_text, ImportFits, IsEntity, IsImport, import_format}
+use Rattle.wasm_sections.specs.declared.import.EntityType.{EntityType}
 use Rattle.wasm_sections.specs.Memories.{memory_text, IsMemory, memory_type}
 use Rattle.wasm_sections.specs.Readings.{HoldsFunctions, HoldsTables, HoldsMemories, HoldsGlobals, HoldsExports, HoldsImports, HoldsTags, function_reading, table_reading, memory_reading, global_reading, export_reading, import_reading, tag_reading, start_reading, data_count_reading}
 use Rattle.wasm_sections.specs.Tables.{table_text, IsTable, TableItem, before_init, table_item_text, IsGivenTable, table_item_of, table_item}
@@ -103,6 +104,17 @@ adds_export {old = old} {items = items} before item e fits utf8 range =
     ) in
     subst (λ entries. HoldsExports entries (items ++ item ∷ [])) (sym e)
     ((holds_more export_text IsExport item_of export).raw old items (frame_text item.name ++ (kind_code item.kind ∷ [] ++ unsigned_text item.index)) item before spelled)
+
+-- a group of imports of one type, whose names the call has measured
+pub adds_alike : {old new : List (List ℕ)} {items : List ImportItem} → HoldsImports old items → (from : List ℕ) (ty : EntityType) (names : List (Bor (List ℕ)))
+    → new ≡ old ++ import_text (record { module_name = from; imported = alike ty (map (λ n. n.now) names) }) ∷ [] → ImportFits (record { module_name = from; imported = alike ty (map (λ n. n.now) names) })
+    → IsUtf8 from → IsEntity ty → All (λ n. IsUtf8 n.now) names → HoldsImports new (items ++ record { module_name = from; imported = alike ty (map (λ n. n.now) names) } ∷ [])
+adds_alike before from ty names e fits utf8 range are =
+    let fitting : VecFits NameFits (map (λ n. n.now) names) = record { count = fits.1.count; members = both (map (λ n. n.now) names) (All-map IsUtf8 (λ n. n.now) names are) fits.1.members } in
+    adds_item before (record { module_name = from; imported = alike ty (map (λ n. n.now) names) }) e (utf8, (range, fitting))
+  where
+    both : (xs : List (List ℕ)) → All IsUtf8 xs → All FrameFits xs → All NameFits xs
+    both xs h g = λ k d l. (h k d l, g k d l)
 
 -- ---- a module and one more section
 
