@@ -16,7 +16,11 @@ fn check(rt: &impl Abort, bytes: &[u8], expected: &[u8]) {
 #[test]
 fn modules(rt: HostRuntime) -> Result<(), Fail> {
     let first = first_module(rt.alloc())?;
-    check(&rt, &first, b"\0asm\x01\0\0\0\x0A\x06\x01\x04\x01\x01\x7F\x0B");
+    check(
+        &rt,
+        &first,
+        b"\0asm\x01\0\0\0\x0A\x06\x01\x04\x01\x01\x7F\x0B",
+    );
     let whole = whole_module(rt.alloc())?;
     let header_and_types = b"\0asm\x01\0\0\0\x01\x09\x02\x60\0\0\x60\x01\x7F\x01\x7F";
     let imports = b"\x02\x0E\x01\x04host\x05ready\0\0";
@@ -25,7 +29,8 @@ fn modules(rt: HostRuntime) -> Result<(), Fail> {
     let globals = b"\x06\x06\x01\x7F\x01\x41\x05\x0B";
     let exports = b"\x07\x16\x02\x09factorial\0\x01\x06memory\x02\0";
     let start = b"\x08\x01\x02";
-    let code = b"\x0A\x24\x02\x17\0\x02\x40\x20\0\x45\x0D\0\x20\0\x20\0\x41\x01\x6B\x10\x01\x6C\x0F\x0B\x41\x01\x0B\x0A\0\x23\0\x10\x01\x24\0\x10\0\x0B";
+    let code =
+        b"\x0A\x24\x02\x17\0\x02\x40\x20\0\x45\x0D\0\x20\0\x20\0\x41\x01\x6B\x10\x01\x6C\x0F\x0B\x41\x01\x0B\x0A\0\x23\0\x10\x01\x24\0\x10\0\x0B";
     let mut expected = Vec::new(rt.alloc());
     for section in [
         header_and_types.as_slice(),
@@ -46,9 +51,17 @@ fn modules(rt: HostRuntime) -> Result<(), Fail> {
 #[test]
 fn functions(rt: HostRuntime) -> Result<(), Fail> {
     let body = factorial(rt.alloc(), 300)?.into_raw_body();
-    check(&rt, &body, b"\0\x02\x40\x20\0\x45\x0D\0\x20\0\x20\0\x41\x01\x6B\x10\xAC\x02\x6C\x0F\x0B\x41\x01\x0B");
+    check(
+        &rt,
+        &body,
+        b"\0\x02\x40\x20\0\x45\x0D\0\x20\0\x20\0\x41\x01\x6B\x10\xAC\x02\x6C\x0F\x0B\x41\x01\x0B",
+    );
     let body = choice(rt.alloc())?.into_raw_body();
-    check(&rt, &body, b"\0\x02\x40\x02\x40\x20\0\x0E\x01\0\x01\x0B\x0B\x0B");
+    check(
+        &rt,
+        &body,
+        b"\0\x02\x40\x02\x40\x20\0\x0E\x01\0\x01\x0B\x0B\x0B",
+    );
     Ok(())
 }
 

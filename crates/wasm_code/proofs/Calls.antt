@@ -83,7 +83,7 @@ writes_labels {ls = ls} {default = default} {old = old} {new = new} {x = x} body
     let given = wrote.ok in
     let same = array_items given.0 given.1 given.3 ∙ given.2.0 in
     labels_written body (subst (λ l. new ≡ old ++ br_table_text l default) same given.5)
-        (record { count = subst (λ l. length l ≤ longest) same given.4; members = all_of (λ l. l < 2 ^ 32) ls are }) range
+    (record { count = subst (λ l. length l ≤ longest) same given.4; members = all_of (λ l. l < 2 ^ 32) ls are }) range
 
 -- ---- constant expressions
 
