@@ -1,9 +1,9 @@
 -- What calls leave, step by step: lemmas that a caller cites.
-use Rattle.std.proofs.Common.{◌≡◌, ℕ, ◌^◌, ◌<◌, ◌≤◌, List, [], ◌∷◌, ◌++◌, length, map, Result, Ok, Err, refl, sym, ap, subst, ◌∙◌, arith}
+use Rattle.std.proofs.Common.{◌≡◌, ℕ, ◌^◌, ◌<◌, ◌≤◌, List, [], ◌∷◌, ◌++◌, length, map, Result, Ok, Err, refl, sym, ap, subst, ◌∙◌}
 use Rattle.std.proofs.lemmas.List.{map-append}
 use Rattle.std.proofs.lemmas.List.Elements.{All-nil, All-cons}
 use Rattle.std.specs.Array.Iter.{array_into_iter_items, array_steps, array_steps_back}
-use Rattle.std.specs.Iterator.{Count, Drains}
+use Rattle.std.specs.Iterator.{Count}
 use Rattle.std.specs.Iterator.Runs.{EveryRun, ItemsAre, ItemsAreReversed}
 use Rattle.std.specs.List.{All, AllByRecursion, AllZip}
 use Rattle.std.specs.Prelude.{OnOk}
@@ -12,7 +12,7 @@ use Rattle.std.specs.declared.vec.Vec.{Vec}
 use Rattle.wasm_base.specs.declared.refused.Refused.{Refused}
 use Rattle.std.specs.declared.array.IntoIter.{IntoIter}
 use Rattle.wasm_base.specs.Calls.{Appends, ReadsOneMore, AddsEach}
-use Rattle.wasm_base.specs.Formats.{any_bytes, frame, vec}
+use Rattle.wasm_base.specs.Formats.{frame, vec}
 use Rattle.wasm_base.specs.Modules.{SectionReading, ReadsSections, GainsReading}
 use Rattle.wasm_base.specs.Numbers.{shortest}
 use Rattle.wasm_base.specs.Pieces.{SectionPayload, SectionFits, section_text, section_framed}
@@ -20,17 +20,17 @@ use Rattle.wasm_base.specs.Texts.{longest, VecFits, frame_text, FrameFits}
 use Rattle.wasm_base.proofs.Calls.{gains_section}
 use Rattle.wasm_base.proofs.KnownLengths.{array_items}
 use Rattle.wasm_insn.specs.declared.instruction.Instruction.{Instruction}
-use Rattle.wasm_insn.specs.Plain.{Plain, IsPlain, instruction as instruction_format}
+use Rattle.wasm_insn.specs.Plain.{Plain, instruction as instruction_format}
 use Rattle.wasm_insn.specs.Sink.{br_table_text, WritesLabels}
 use Rattle.wasm_insn.specs.Table.{table}
 use Rattle.wasm_insn.specs.Instructions.{instruction_text, IsPlainInstruction}
 use Rattle.wasm_insn.proofs.InstructionLaws.{br_table_spelled}
-use Rattle.wasm_code.specs.Bodies.{Run, IsRun, Body, body as body_format, IsPlainBody, and_then, Grows, GrowsBy, HasLocals, BeginsWithRuns}
+use Rattle.wasm_code.specs.Bodies.{Run, IsRun, Body, body as body_format, IsPlainBody, and_then, Grows, HasLocals, BeginsWithRuns}
 use Rattle.wasm_code.specs.Code.{code_section, SpellsBodies, ReadsCode, code_reading}
 use Rattle.wasm_code.specs.Expressions.{StoresInstructions, Stores, normal_row}
 use Rattle.wasm_code.specs.Laws.{HoldsMoreBodies, GrowsByText, GrowsByLabels, br_table_row}
 use Rattle.wasm_code.proofs.BodyLaws.{grows, grows_by}
-use Rattle.wasm_code.proofs.CodeLaws.{raw_code-payload, code_section-payload}
+use Rattle.wasm_code.proofs.CodeLaws.{code_section-payload}
 use Rattle.wasm_code.proofs.ExpressionLaws.{members_one}
 
 -- ---- functions
@@ -83,7 +83,7 @@ writes_labels {ls = ls} {default = default} {old = old} {new = new} {x = x} body
     let given = wrote.ok in
     let same = array_items given.0 given.1 given.3 ∙ given.2.0 in
     labels_written body (subst (λ l. new ≡ old ++ br_table_text l default) same given.5)
-        (record { count = subst (λ l. length l ≤ longest) same given.4; members = all_of (λ l. l < 2 ^ 32) ls are }) range
+    (record { count = subst (λ l. length l ≤ longest) same given.4; members = all_of (λ l. l < 2 ^ 32) ls are }) range
 
 -- ---- constant expressions
 

@@ -1,14 +1,14 @@
 -- What calls leave, step by step: lemmas that a caller cites.
-use Rattle.std.proofs.Common.{◌≡◌, ℕ, ◌^◌, ◌<◌, List, [], ◌∷◌, ◌++◌, map, IsUtf8, Bor, None, Some, Result, Ok, Err, refl, sym, ap, subst, ◌∙◌}
+use Rattle.std.proofs.Common.{◌≡◌, ℕ, ◌^◌, ◌<◌, List, [], ◌∷◌, ◌++◌, map, IsUtf8, Bor, None, Some, Result, Ok, Err, refl, sym, subst}
 use Rattle.std.proofs.lemmas.List.Elements.{All-map}
 use Rattle.std.specs.Prelude.{OnOk}
 use Rattle.std.specs.declared.vec.Vec.{Vec}
 use Rattle.wasm_base.specs.declared.refused.Refused.{Refused}
 use Rattle.std.specs.List.{All, AllByRecursion}
 use Rattle.wasm_base.specs.Calls.{Appends, ReadsOneMore, ReadsBack, AddsEach}
-use Rattle.wasm_base.specs.Entries.{Entry, Given, Raw, entry_text, Means, HoldsItems, counted_format}
+use Rattle.wasm_base.specs.Entries.{HoldsItems, counted_format}
 use Rattle.wasm_base.specs.Formats.{Format, u32, vec, frame}
-use Rattle.wasm_base.specs.Laws.{FitsUnsigned, NameFits}
+use Rattle.wasm_base.specs.Laws.{NameFits}
 use Rattle.wasm_insn.specs.Plain.{Plain}
 use Rattle.wasm_base.specs.Modules.{SectionReading, reading_of, ReadsSections, ReadsPayloads, GainsReading}
 use Rattle.wasm_base.specs.Numbers.{shortest, unsigned_text}
@@ -18,14 +18,14 @@ use Rattle.wasm_base.proofs.Calls.{gains_section}
 use Rattle.wasm_base.proofs.Payloads.{u32-payload}
 use Rattle.wasm_base.proofs.TextLaws.{u32_spelled, name_spelled}
 use Rattle.wasm_code.specs.Expressions.{expression_text, StoresInstructions}
-use Rattle.wasm_sections.specs.Exports.{kind_code, export_text, IsExport, ExportItem, item_of, export_of, export}
-use Rattle.wasm_sections.specs.Globals.{global_text, IsGlobal, GlobalItem, global_item_text, IsGivenGlobal, global_item_of, global_item}
-use Rattle.wasm_sections.specs.Imports.{ImportItem, alike, import_text, ImportFits, IsEntity, IsImport, import_format}
+use Rattle.wasm_sections.specs.Exports.{kind_code, export_text, IsExport, ExportItem, item_of, export}
+use Rattle.wasm_sections.specs.Globals.{global_text, IsGlobal, GlobalItem, global_item}
+use Rattle.wasm_sections.specs.Imports.{ImportItem, alike, import_text, ImportFits, IsEntity, import_format}
 use Rattle.wasm_sections.specs.declared.import.EntityType.{EntityType}
-use Rattle.wasm_sections.specs.Memories.{memory_text, IsMemory, memory_type}
-use Rattle.wasm_sections.specs.Readings.{HoldsFunctions, HoldsTables, HoldsMemories, HoldsGlobals, HoldsExports, HoldsImports, HoldsTags, function_reading, table_reading, memory_reading, global_reading, export_reading, import_reading, tag_reading, start_reading, data_count_reading}
-use Rattle.wasm_sections.specs.Tables.{table_text, IsTable, TableItem, before_init, table_item_text, IsGivenTable, table_item_of, table_item}
-use Rattle.wasm_sections.specs.Tags.{tag_text, IsTag, tag_type}
+use Rattle.wasm_sections.specs.Memories.{memory_type}
+use Rattle.wasm_sections.specs.Readings.{HoldsFunctions, HoldsTables, HoldsMemories, HoldsGlobals, HoldsExports, HoldsImports, HoldsTags}
+use Rattle.wasm_sections.specs.Tables.{table_text, IsTable, TableItem, before_init, table_item}
+use Rattle.wasm_sections.specs.Tags.{tag_type}
 use Rattle.wasm_sections.specs.declared.memory.MemoryType.{MemoryType}
 use Rattle.wasm_sections.specs.declared.table.TableType.{TableType}
 use Rattle.wasm_sections.specs.declared.tag.TagType.{TagType}

@@ -1,4 +1,4 @@
-//! Tests of `wasm_code`, `wasm_sections` and `wasm_tool`: bytes that the format's documents give or that were worked out by hand, requests
+//! Tests of `wasm_code`, `wasm_sections`, `wasm_tool` and `examples`: bytes that the format's documents give or that were worked out by hand, requests
 //! for memory that are refused, reads and writes that fail, and callers that prove what they append and what a reader finds.
 #![tactic(auto)]
 
@@ -10,6 +10,8 @@ mod checks;
 mod code;
 #[cfg(test)]
 mod code_refusals;
+#[cfg(test)]
+mod example_bytes;
 #[cfg(test)]
 mod failures;
 #[cfg(test)]

@@ -2,7 +2,6 @@ use Rattle.std.proofs.Common.{arith, pos, rules}
 use Rattle.std.proofs.lemmas.Int.{ints}
 use Rattle.wasm_code.proofs.Calls.{new_function, lent, writes_instruction}
 use Rattle.wasm_immediates.specs.declared.block_type.BlockType.TheVariants.{Empty}
-use Rattle.wasm_insn.specs.declared.instruction.Instruction.{Instruction}
 use Rattle.wasm_insn.specs.declared.instruction.Instruction.TheVariants.{Block, LocalGet, Numeric, BrIf, I32Const, Call, Return, End}
 use Rattle.wasm_insn.specs.declared.numeric.Numeric.TheVariants.{I32Eqz, I32Sub, I32Mul}
 use Rattle.examples.proofs.recursion.factorial.Goals as goal

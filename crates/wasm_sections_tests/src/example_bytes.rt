@@ -1,0 +1,109 @@
+// Each example once, with ample memory.
+use crate::checks::check_bytes;
+use examples::{
+    choice, encode_exports, encode_group, encode_import, encode_local, factorial, first_module,
+    whole_module,
+};
+use std::alloc::Global;
+use std::test::Fail;
+use wasm_sections::{Export, ExportKind};
+
+#[test]
+fn module_of_one_section(rt: HostRuntime) -> Result<(), Fail> {
+    let first = first_module(rt.alloc())?;
+    check_bytes(
+        &rt,
+        &first,
+        b"\0asm\x01\0\0\0\x0A\x06\x01\x04\x01\x01\x7F\x0B",
+    );
+    Ok(())
+}
+
+#[test]
+fn module_of_eight_sections(rt: HostRuntime) -> Result<(), Fail> {
+    let whole = whole_module(rt.alloc())?;
+    let header_and_types = b"\0asm\x01\0\0\0\x01\x09\x02\x60\0\0\x60\x01\x7F\x01\x7F";
+    let imports = b"\x02\x0E\x01\x04host\x05ready\0\0";
+    let functions = b"\x03\x03\x02\x01\0";
+    let memories = b"\x05\x03\x01\0\x01";
+    let globals = b"\x06\x06\x01\x7F\x01\x41\x05\x0B";
+    let exports = b"\x07\x16\x02\x09factorial\0\x01\x06memory\x02\0";
+    let start = b"\x08\x01\x02";
+    let code =
+        b"\x0A\x24\x02\x17\0\x02\x40\x20\0\x45\x0D\0\x20\0\x20\0\x41\x01\x6B\x10\x01\x6C\x0F\x0B\x41\x01\x0B\x0A\0\x23\0\x10\x01\x24\0\x10\0\x0B";
+    let mut expected = Vec::new(rt.alloc());
+    for section in [
+        header_and_types.as_slice(),
+        imports,
+        functions,
+        memories,
+        globals,
+        exports,
+        start,
+        code,
+    ] {
+        expected.extend_from_slice(section)?;
+    }
+    check_bytes(&rt, &whole, &expected);
+    Ok(())
+}
+
+#[test]
+fn functions(rt: HostRuntime) -> Result<(), Fail> {
+    let body = factorial(rt.alloc(), 300)?.into_raw_body();
+    check_bytes(
+        &rt,
+        &body,
+        b"\0\x02\x40\x20\0\x45\x0D\0\x20\0\x20\0\x41\x01\x6B\x10\xAC\x02\x6C\x0F\x0B\x41\x01\x0B",
+    );
+    let body = choice(rt.alloc())?.into_raw_body();
+    check_bytes(
+        &rt,
+        &body,
+        b"\0\x02\x40\x02\x40\x20\0\x0E\x01\0\x01\x0B\x0B\x0B",
+    );
+    Ok(())
+}
+
+#[test]
+fn sections(rt: HostRuntime) -> Result<(), Fail> {
+    let mut sink = Vec::new(rt.alloc());
+    encode_local(&mut sink, 300)?;
+    check_bytes(&rt, &sink, b"\x07\x01\x05\0\x20\xAC\x02\x0B");
+    sink.clear();
+    encode_import(&mut sink, "a", "bc", 3)?;
+    check_bytes(&rt, &sink, b"\x08\x01\x01a\x02bc\0\x03");
+    sink.clear();
+    encode_group(&mut sink, "a", &["b", "cd"], 3)?;
+    check_bytes(&rt, &sink, b"\x0D\x01\x01a\0\x7E\0\x03\x02\x01b\x02cd");
+    sink.clear();
+    let exports = [
+        Export {
+            name: "f",
+            kind: ExportKind::Func,
+            index: 1,
+        },
+        Export {
+            name: "",
+            kind: ExportKind::Memory,
+            index: 0,
+        },
+    ];
+    encode_exports(&mut sink, &exports)?;
+    check_bytes(&rt, &sink, b"\x08\x02\x01f\0\x01\0\x02\0");
+    Ok(())
+}
+
+#[test]
+fn laws(_rt: HostRuntime) -> Result<(), Fail> {
+    wasm_base::laws::payloads();
+    wasm_code::laws::payloads();
+    wasm_code::laws::calls::<Global>();
+    wasm_sections::laws::payloads();
+    wasm_sections::laws::plain_export(&Export {
+        name: "f",
+        kind: ExportKind::Func,
+        index: 1,
+    });
+    Ok(())
+}
