@@ -10,9 +10,10 @@ use Rattle.std.specs.Prelude.{OnOk}
 use Rattle.std.specs.declared.alloc.Global.{Global}
 use Rattle.std.specs.declared.vec.Vec.{Vec}
 use Rattle.wasm_base.specs.declared.refused.Refused.{Refused}
+use Rattle.wasm_base.specs.declared.types.ValType.{ValType}
 use Rattle.std.specs.declared.array.IntoIter.{IntoIter}
 use Rattle.wasm_base.specs.Calls.{Appends, ReadsOneMore, AddsEach}
-use Rattle.wasm_base.specs.Formats.{frame, vec}
+use Rattle.wasm_base.specs.Formats.{any_bytes, frame, vec}
 use Rattle.wasm_base.specs.Modules.{SectionReading, ReadsSections, GainsReading}
 use Rattle.wasm_base.specs.Numbers.{shortest}
 use Rattle.wasm_base.specs.Pieces.{SectionPayload, SectionFits, section_text, section_framed}
@@ -25,12 +26,12 @@ use Rattle.wasm_insn.specs.Sink.{br_table_text, WritesLabels}
 use Rattle.wasm_insn.specs.Table.{table}
 use Rattle.wasm_insn.specs.Instructions.{instruction_text, IsPlainInstruction}
 use Rattle.wasm_insn.proofs.InstructionLaws.{br_table_spelled}
-use Rattle.wasm_code.specs.Bodies.{Run, IsRun, Body, body as body_format, IsPlainBody, and_then, Grows, HasLocals, BeginsWithRuns}
-use Rattle.wasm_code.specs.Code.{code_section, SpellsBodies, ReadsCode, code_reading}
+use Rattle.wasm_code.specs.Bodies.{Run, IsRun, IsRuns, expand, Body, body as body_format, IsPlainBody, and_then, Grows, HasLocals, BeginsWithRuns, BeginsWithTypes}
+use Rattle.wasm_code.specs.Code.{code_section, HoldsBodies, SpellsBodies, ReadsCode, raw_code_reading, code_reading}
 use Rattle.wasm_code.specs.Expressions.{StoresInstructions, Stores, normal_row}
 use Rattle.wasm_code.specs.Laws.{HoldsMoreBodies, GrowsByText, GrowsByLabels, br_table_row}
 use Rattle.wasm_code.proofs.BodyLaws.{grows, grows_by}
-use Rattle.wasm_code.proofs.CodeLaws.{code_section-payload}
+use Rattle.wasm_code.proofs.CodeLaws.{raw_code-payload, code_section-payload}
 use Rattle.wasm_code.proofs.ExpressionLaws.{members_one}
 
 -- ---- functions
@@ -57,6 +58,14 @@ pub new_function : {n : ℕ} {remaining : IntoIter Run n → Count} {runs : List
 new_function made are =
     let given = made.ok in
     known_runs given.5 (array_items given.0 given.1 given.3 ∙ given.2.0) given.4 are
+
+-- a new function, whose types of locals are the elements of an array, and have these runs
+pub new_function_of_types : {n : ℕ} {types : List ValType} {bytes : List ℕ} → BeginsWithTypes (becomes {n = n}) array_steps types (Ok bytes) → (runs : List Run) → IsRuns runs → expand runs ≡ types → AllByRecursion IsRun runs
+    → IsPlainBody bytes (record { runs = runs; code = [] })
+new_function_of_types made runs are_runs expanded are =
+    let given = made.ok in
+    let same = array_items given.0 given.1 given.3 ∙ given.2.0 in
+    known_runs given.7 (sym (given.5.only runs are_runs (expanded ∙ sym same))) given.6.count are
 
 -- one more instruction
 pub adds_instruction : {A : Type 0} {i : Instruction A} {old new : List ℕ} {x : Body} → IsPlainBody old x → Grows i old new → IsPlainInstruction i → IsPlainBody new (and_then x (normal_row i ∷ []))
@@ -129,6 +138,12 @@ pub gains_code : {readings : List SectionReading} {id : ℕ} {old new : List ℕ
     → SectionFits entries → ReadsCode entries (section_text entries) → SpellsBodies entries bodies → ReadsSections (readings ++ (id, (code_reading bodies).1) ∷ []) new
 gains_code {entries = entries} {bodies = bodies} before more fits reads spelled =
     gains_section {F = vec (frame body_format)} before more code_section-payload (section_text entries) _ refl (section_framed entries _ fits refl) bodies (reads.bodies.for_each bodies spelled)
+
+-- a module and a code section of these raw bodies, whatever they spell
+pub gains_raw_code : {readings : List SectionReading} {id : ℕ} {old new : List ℕ} {entries : List (List ℕ)} → ReadsSections readings old → ReadsOneMore (SectionPayload entries) id old new
+    → SectionFits entries → ReadsCode entries (section_text entries) → (raw : List (List ℕ)) → HoldsBodies entries raw → ReadsSections (readings ++ (id, (raw_code_reading raw).1) ∷ []) new
+gains_raw_code {entries = entries} before more fits reads raw held =
+    gains_section {F = vec (frame any_bytes)} before more raw_code-payload (section_text entries) _ refl (section_framed entries _ fits refl) raw (reads.raw.for_each raw held)
 
 -- a code section that a buffer has gained
 pub encodes_code : {A : Type 0} {fits : Type 0} {entries : List (List ℕ)} {old new : Vec ℕ A} {result : Result (Unit {0}) Refused} {bodies : List Body} → Appends (section_text entries) fits old new result

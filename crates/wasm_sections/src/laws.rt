@@ -17,7 +17,6 @@ ghost use Rattle.wasm_sections.specs.Tables.{table_type, table_item_text, IsGive
 ghost use Rattle.wasm_sections.specs.Tags.{tag_text, IsTag, tag_type};
 
 use crate::export::Export;
-use wasm_base::laws::plain_name;
 
 /// Sections are read uniquely, and so are their items, each of which has a text.
 #[tactic(auto, using(crate::proofs::SectionLaws::sections))]
@@ -88,7 +87,6 @@ pub fn payloads()
 pub fn plain_export(export: &Export<'_>) -> u32
     ensures plain { IsExport export.now }
 {
-    plain_name(export.name);
     export.index
 }
 
