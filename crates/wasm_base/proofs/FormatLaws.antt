@@ -182,16 +182,20 @@ AreApart P Q = (b : ℕ) → P b → Q b → ⊥
 abbrev pub HaveNoneInCommon : {X : Type 0} → Format X → Format X → Type 0
 HaveNoneInCommon {X} F G = (mode other : Mode) (s t : List ℕ) (x : X) → F mode s x → G other t x → ⊥
 
-pub one_of-alone : {X : Type 0} (P Q : ℕ → Type 0) {F G : Format X} → AreApart P Q → BeginsWith P F → BeginsWith Q G → HaveNoneInCommon F G → UniqueReading F → UniqueReading G → UniqueReading (one_of F G)
-one_of-alone {X} P Q {F} {G} apart p q none k l = record { alone = alone; spellings = record { one = one; wider = wider; shorter = shorter } }
-  where
-    clash : (mode : Mode) (s t r u : List ℕ) (x y : X) → F mode s x → G mode t y → s ++ r ≡ t ++ u → ⊥
-    clash mode s t r u x y h g e =
-        let a = p mode s x h in
-        let b = q mode t y g in
-        let f : a.0 ∷ (a.1 ++ r) ≡ b.0 ∷ (b.1 ++ u) = subst (λ z. z ++ r ≡ b.0 ∷ (b.1 ++ u)) a.2 (subst (λ z. s ++ r ≡ z ++ u) b.2 e) in
-        apart b.0 (subst P (cc f) a.3) b.3
+-- No bytes begin with spellings of both.
+abbrev pub BeginNeverAlike : {X : Type 0} → Format X → Format X → Type 0
+BeginNeverAlike {X} F G = (mode : Mode) (s t r u : List ℕ) (x y : X) → F mode s x → G mode t y → s ++ r ≡ t ++ u → ⊥
 
+pub begin_apart : {X : Type 0} (P Q : ℕ → Type 0) {F G : Format X} → AreApart P Q → BeginsWith P F → BeginsWith Q G → BeginNeverAlike F G
+begin_apart P Q {F} {G} apart p q mode s t r u x y h g e =
+    let a = p mode s x h in
+    let b = q mode t y g in
+    let f : a.0 ∷ (a.1 ++ r) ≡ b.0 ∷ (b.1 ++ u) = subst (λ z. z ++ r ≡ b.0 ∷ (b.1 ++ u)) a.2 (subst (λ z. s ++ r ≡ z ++ u) b.2 e) in
+    apart b.0 (subst P (cc f) a.3) b.3
+
+pub either-alone : {X : Type 0} {F G : Format X} → BeginNeverAlike F G → HaveNoneInCommon F G → UniqueReading F → UniqueReading G → UniqueReading (one_of F G)
+either-alone {X} {F} {G} clash none k l = record { alone = alone; spellings = record { one = one; wider = wider; shorter = shorter } }
+  where
     alone : (mode : Mode) → IsReadAlone (one_of F G mode)
     alone mode s t r u x y (inl h) (inl g) e = k.alone mode s t r u x y h g e
     alone mode s t r u x y (inl h) (inr g) e = absurd (clash mode s t r u x y h g e)
@@ -211,6 +215,9 @@ one_of-alone {X} P Q {F} {G} apart p q none k l = record { alone = alone; spelli
     shorter : IsShortenedBy (one_of F G wide) (one_of F G shortest)
     shorter s x (inl h) = let a = k.spellings.shorter s x h in (a.0, inl a.1, a.2)
     shorter s x (inr h) = let a = l.spellings.shorter s x h in (a.0, inr a.1, a.2)
+
+pub one_of-alone : {X : Type 0} (P Q : ℕ → Type 0) {F G : Format X} → AreApart P Q → BeginsWith P F → BeginsWith Q G → HaveNoneInCommon F G → UniqueReading F → UniqueReading G → UniqueReading (one_of F G)
+one_of-alone P Q {F} {G} apart p q none k l = either-alone (begin_apart P Q apart p q) none k l
 
 -- ---- bytes
 

@@ -2,3 +2,4 @@ pub mod TableRuns
 pub mod PlainLaws
 pub mod TableRows
 pub mod InstructionLaws
+pub mod CaseLaws

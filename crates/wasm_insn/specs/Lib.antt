@@ -11,3 +11,4 @@ pub mod VectorImmediate
 pub mod Atomic
 pub mod Instructions
 pub mod Sink
+pub mod Cases

@@ -3,6 +3,7 @@
 //! `UniqueReading F` says that bytes begin with a spelling in the format `F` of one value alone, whatever follows, both with
 //! shortest and with padded numbers, and that a value has one shortest spelling.
 ghost use Rattle.wasm_base.specs.Reading.{UniqueReading, IsUniqueWide};
+ghost use Rattle.wasm_insn.specs.Cases.{Given, all_cases, AreRows};
 ghost use Rattle.wasm_insn.specs.Plain.{opcode, instruction};
 ghost use Rattle.wasm_insn.specs.Table.{table, IsOpcodeTable, BeginsNoOther, IsRow};
 ghost use Rattle.wasm_insn.specs.Instructions.{row_of, ReadsInstruction, HaveOneText};
@@ -21,6 +22,12 @@ pub fn opcodes()
 /// Each instruction is a row of the table, with one argument for each part of its shape.
 pub fn rows<A: Allocator>()
     ensures { (i : Instruction A) → IsRow table (row_of i) }
+{}
+
+/// The cases of the enums and the rows of the table are one to one: in the table's order, they have its ops and the parts of its
+/// shapes.
+pub fn cases<A: Allocator>()
+    ensures { (given : Given A) → AreRows (all_cases given) table }
 {}
 
 /// Instructions are read uniquely over the table. The text of one that is plain is read as its normal form alone, and two that

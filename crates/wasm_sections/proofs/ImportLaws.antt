@@ -1,18 +1,17 @@
 -- Imports are read uniquely.
-use Rattle.std.proofs.Common.{◌≡◌, ◌≢◌, ℕ, ◌<◌, ◌≤◌, List, [], ◌∷◌, ◌++◌, Bool, true, false, refl, ap, subst, arith, lit<, inl, inr, length-append}
+use Rattle.std.proofs.Common.{◌≡◌, ◌≢◌, ℕ, ◌<◌, ◌≤◌, List, [], ◌∷◌, ◌++◌, refl, sym, ap, subst, ◌∙◌, arith, lit<, inl, inr, length-append}
 use Rattle.std.proofs.lemmas.Str.{IsUtf8-nil}
 use Rattle.wasm_base.specs.Entries.{ItemLaws}
-use Rattle.wasm_base.specs.Formats.{Format, name, byte, vec, tagged, impossible, pair, when}
+use Rattle.wasm_base.specs.Formats.{Format, name, byte, vec, tagged, impossible, mapped, pair, prefixed}
 use Rattle.wasm_base.specs.Laws.{NameFits}
-use Rattle.wasm_base.specs.Numbers.{shortest, unsigned_text}
+use Rattle.wasm_base.specs.Numbers.{Mode, shortest, unsigned_text}
 use Rattle.wasm_base.specs.Reading.{UniqueReading, BeginsWith}
 use Rattle.wasm_base.specs.Texts.{frame_text, FrameFits, vec_text}
 use Rattle.wasm_base.proofs.BaseLaws.{name-alone}
-use Rattle.wasm_base.proofs.FormatLaws.{TellsTag, AllValues, mapped-alone, pair-alone, vec-alone, when-alone, impossible-alone, byte-alone, one_of-alone, tagged-alone, choice_of, choice_begins, begins_mapped, values_mapped, values_tagged, none_in_common}
-use Rattle.wasm_base.proofs.NumberLaws.{u32-alone}
-use Rattle.wasm_base.proofs.NumberTexts.{groups_text-last}
+use Rattle.wasm_base.proofs.FormatLaws.{TellsTag, AllValues, BeginNeverAlike, begin_apart, mapped-alone, pair-alone, vec-alone, byte-alone, either-alone, prefixed-alone, tagged-alone, tagged_at, choice_of, choice_begins, begins_mapped, values_mapped, values_tagged, none_in_common}
+use Rattle.wasm_base.proofs.NumberLaws.{u32-alone, u32_small}
 use Rattle.wasm_base.proofs.TextLaws.{tagged_spelled, u32_spelled, name_spelled, vec_spelled}
-use Rattle.wasm_sections.specs.Imports.{entity_text, IsEntity, entity_tags, entity, Imported, single, named, alike, ImportItem, named_text, imported_text, import_text, IsNamed, IsImported, IsImport, is_empty, alike_of, group_tags, group, after_name, import_of, import_format}
+use Rattle.wasm_sections.specs.Imports.{entity_text, IsEntity, entity_tags, entity, Imported, single, named, alike, ImportItem, named_text, imported_text, import_text, IsNamed, IsImported, IsImport, alike_of, group_tags, group, named_entity, after_module, import_of, import_format}
 use Rattle.wasm_sections.specs.declared.import.EntityType.{EntityType}
 use Rattle.wasm_sections.specs.declared.import.EntityType.TheVariants.{Function, Table, Memory, Global, Tag, FunctionExact}
 use Rattle.wasm_sections.proofs.GlobalLaws.{global-alone, global_spelled}
@@ -45,10 +44,10 @@ entity_spelled (Global ty) plain = tagged_spelled shortest 0x03 _ (Global ty) (t
 entity_spelled (Tag ty) plain = tagged_spelled shortest 0x04 _ (Tag ty) (ty, refl, tag_spelled ty plain)
 entity_spelled (FunctionExact index) plain = tagged_spelled shortest 0x20 (unsigned_text index) (FunctionExact index) (index, refl, u32_spelled index plain)
 
-abbrev IsEntityByte : ℕ → Type 0
+abbrev pub IsEntityByte : ℕ → Type 0
 IsEntityByte b = b < 0x21
 
-entity_begins : BeginsWith IsEntityByte entity
+pub entity_begins : BeginsWith IsEntityByte entity
 entity_begins = choice_begins IsEntityByte entity_tags (λ b. impossible) (lit< tt, (lit< tt, (lit< tt, (lit< tt, (lit< tt, (lit< tt, tt)))))) (λ b mode s x h. absurd h)
 
 -- ---- groups
@@ -82,60 +81,61 @@ IsGroup x = group_code x ≢ 0
 group_values : AllValues IsGroup group
 group_values = values_tagged IsGroup group_tags (values_mapped IsGroup named _ (λ x e. omega (arith, e)), (values_mapped IsGroup alike_of _ (λ x e. omega (arith, e)), tt))
 
-when_begins : {X : Type 0} (P : ℕ → Type 0) (test : Bool) {F : Format X} → BeginsWith P F → BeginsWith P (when test F impossible)
-when_begins P true h = h
-when_begins P false h = λ mode s x k. absurd k
-
-when_values : {X : Type 0} (Q : X → Type 0) (test : Bool) {F : Format X} → AllValues Q F → AllValues Q (when test F impossible)
-when_values Q true h = h
-when_values Q false h = λ mode s x k. absurd k
-
 -- ---- imports
-
-after_name-alone : (item : List ℕ) → UniqueReading (after_name item)
-after_name-alone item =
-    one_of-alone IsEntityByte IsGroupByte (λ b p q. omega (arith, p, q)) (begins_mapped IsEntityByte (single item) entity_begins) (when_begins IsGroupByte (is_empty item) group_begins)
-    (none_in_common (λ x. group_code x ≡ 0) IsGroup (λ x p q. q p) (values_mapped (λ x. group_code x ≡ 0) (single item) entity (λ x. refl)) (when_values IsGroup (is_empty item) group_values))
-    (mapped-alone (single item) (λ x y e. cc) entity-alone) (when-alone (is_empty item) group-alone impossible-alone)
 
 abbrev item_name : Imported → List ℕ
 item_name (single n ty) = n
 item_name (named items) = []
 item_name (alike ty names) = []
 
-group_name : (x : Imported) → IsGroup x → [] ≡ item_name x
-group_name (single n ty) h = absurd (h refl)
-group_name (named items) h = refl
-group_name (alike ty names) h = refl
+name_tells : TellsTag (λ item. mapped (single item) entity) item_name
+name_tells mode item s x h = ap item_name h.1
 
-name_tells : TellsTag after_name item_name
-name_tells mode item s x (inl h) = ap item_name h.1
-name_tells mode [] s x (inr h) = group_name x (group_values mode s x h)
-name_tells mode (b ∷ bs) s x (inr h) = absurd h
+named_entity-alone : UniqueReading named_entity
+named_entity-alone = tagged-alone item_name name_tells name-alone (λ item. mapped-alone (single item) (λ x y e. cc) entity-alone)
+
+abbrev IsSingle : Imported → Type 0
+IsSingle x = group_code x ≡ 0
+
+named_entity_values : AllValues IsSingle named_entity
+named_entity_values mode s x h = subst IsSingle (h.2.second.1 ∙ h.1) refl
+
+after_zero_values : AllValues IsGroup (prefixed (0x00 ∷ []) group)
+after_zero_values mode s x h = subst IsGroup h.1 (group_values mode h.2.back h.0.1 h.2.second)
+
+pub empty_name : (mode : Mode) → name mode (0x00 ∷ []) []
+empty_name mode = (record { front = 0x00 ∷ []; content = []; joined = refl; size = u32_small mode 0 (omega arith); spelled = refl }, IsUtf8-nil)
+
+-- Behind the byte 00 the byte of an entity's kind is not that of a group.
+never_alike : BeginNeverAlike named_entity (prefixed (0x00 ∷ []) group)
+never_alike mode s t r u x y h g e =
+    let back = g.2.back in
+    let split : 0x00 ∷ (back ++ u) ≡ s ++ r = sym (e ∙ ap (λ z. z ++ u) (g.2.joined ∙ ap (λ z. z ++ back) g.2.first.0)) in
+    let found = tagged_at {F = name} {G = λ item. mapped (single item) entity} name-alone mode (0x00 ∷ []) [] (empty_name mode) (back ++ u) s r x split h in
+    begin_apart IsEntityByte IsGroupByte (λ b p q. omega (arith, p, q)) (begins_mapped IsEntityByte (single []) entity_begins) group_begins mode found.0 back r u x g.0.1 found.2 g.2.second (sym found.1)
+
+after_module-alone : UniqueReading after_module
+after_module-alone =
+    either-alone never_alike (none_in_common IsSingle IsGroup (λ x p q. q p) named_entity_values after_zero_values) named_entity-alone (prefixed-alone (0x00 ∷ []) group-alone)
 
 pub import-alone : UniqueReading import_format
-import-alone =
-    mapped-alone import_of (λ x y e. ap (λ i. (i.module_name, i.imported)) e)
-    (pair-alone name-alone (tagged-alone item_name name_tells name-alone after_name-alone))
+import-alone = mapped-alone import_of (λ x y e. ap (λ i. (i.module_name, i.imported)) e) (pair-alone name-alone after_module-alone)
 
 -- ---- texts
-
-empty_name : name shortest (0x00 ∷ []) []
-empty_name = subst (λ s. name shortest (s ++ []) []) (groups_text-last false 0x80 0 (lit< tt)) (name_spelled [] IsUtf8-nil (omega arith))
 
 named_spelled : (i : List ℕ × EntityType) → IsNamed i → pair name entity shortest (named_text i) i
 named_spelled i plain = pair_spelled name entity (frame_text i.0) (entity_text i.1) i.0 i.1 (name_spelled i.0 plain.0.0 plain.0.1) (entity_spelled i.1 plain.1)
 
--- what follows the name of a module, and after an empty name a group
-after_module : (item : List ℕ) (spelling back : List ℕ) (x : Imported) → name shortest spelling item → after_name item shortest back x → tagged name after_name shortest (spelling ++ back) x
-after_module item spelling back x h g = ((item, x), refl, record { front = spelling; back = back; joined = refl; first = h; second = g })
+group_spelled : (back : List ℕ) (x : Imported) → group shortest back x → after_module shortest (0x00 ∷ back) x
+group_spelled back x h = inr ((tt, x), refl, record { front = 0x00 ∷ []; back = back; joined = refl; first = (refl, refl); second = h })
 
-group_spelled : (back : List ℕ) (x : Imported) → group shortest back x → tagged name after_name shortest (0x00 ∷ back) x
-group_spelled back x h = after_module [] (0x00 ∷ []) back x empty_name (inr h)
-
-imported_spelled : (x : Imported) → IsImported x → FrameFits (imported_text x) → tagged name after_name shortest (imported_text x) x
+imported_spelled : (x : Imported) → IsImported x → FrameFits (imported_text x) → after_module shortest (imported_text x) x
 imported_spelled (single n ty) plain fits =
-    after_module n (frame_text n) (entity_text ty) (single n ty) (front_name_spelled n (entity_text ty) plain.0 fits) (inl (ty, refl, entity_spelled ty plain.1))
+    inl (
+      (n, single n ty),
+      refl,
+      record { front = frame_text n; back = entity_text ty; joined = refl; first = front_name_spelled n (entity_text ty) plain.0 fits; second = (ty, refl, entity_spelled ty plain.1) },
+    )
 imported_spelled (named items) plain fits =
     let content = vec_text named_text items in
     group_spelled (0x7F ∷ content) (named items) (tagged_spelled shortest 0x7F content (named items) (items, refl, vec_spelled (pair name entity) IsNamed named_text named_spelled items plain))
@@ -155,7 +155,7 @@ import_spelled i plain fits =
     let whole = length-append (frame_text i.module_name) back in (
       (i.module_name, i.imported),
       refl,
-      pair_spelled name (tagged name after_name) (frame_text i.module_name) back i.module_name i.imported
+      pair_spelled name after_module (frame_text i.module_name) back i.module_name i.imported
           (front_name_spelled i.module_name back plain.0 fits)
           (imported_spelled i.imported plain.1 (omega (arith, fits, whole))),
     )

@@ -13,3 +13,4 @@ pub mod SectionLaws
 pub mod HeldLaws
 pub mod Payloads
 pub mod Calls
+pub mod NothingLaws

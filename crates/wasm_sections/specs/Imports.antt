@@ -1,7 +1,7 @@
 -- Imports: their texts, and what spells them.
-use Rattle.std.specs.Prelude.{ℕ, ◌^◌, ◌<◌, List, [], ◌∷◌, ◌++◌, Bool, true, false, map, IsUtf8}
+use Rattle.std.specs.Prelude.{ℕ, ◌^◌, ◌<◌, List, [], ◌∷◌, ◌++◌, map, IsUtf8}
 use Rattle.wasm_base.specs.Cow.{items_of}
-use Rattle.wasm_base.specs.Formats.{Format, u32, name, byte, vec, mapped, tagged, choice, impossible, one_of, pair, when}
+use Rattle.wasm_base.specs.Formats.{Format, u32, name, byte, vec, mapped, tagged, choice, impossible, one_of, pair, prefixed}
 use Rattle.wasm_base.specs.Laws.{NameFits}
 use Rattle.wasm_base.specs.Numbers.{unsigned_text}
 use Rattle.wasm_base.specs.Texts.{frame_text, FrameFits, vec_text, VecFits}
@@ -107,10 +107,6 @@ imports_item (groups.Compact2 m ty names) = record { module_name = m.now; import
 
 -- ---- format
 
-abbrev pub is_empty : List ℕ → Bool
-is_empty [] = true
-is_empty (b ∷ bs) = false
-
 abbrev pub alike_of : EntityType × List (List ℕ) → Imported
 alike_of parts = alike parts.0 parts.1
 
@@ -121,13 +117,17 @@ group_tags = (0x7F, mapped named (vec (pair name entity))) ∷ (0x7E, mapped ali
 abbrev pub group : Format Imported
 group = tagged byte (choice group_tags (λ b. impossible))
 
--- what follows the name of an item: its entity, or after an empty name a group
-abbrev pub after_name : List ℕ → Format Imported
-after_name item = one_of (mapped (single item) entity) (when (is_empty item) group impossible)
+-- the name of an item, and its entity
+abbrev pub named_entity : Format Imported
+named_entity = tagged name (λ item. mapped (single item) entity)
+
+-- what follows the name of a module: an item, or after the byte 00 a group
+abbrev pub after_module : Format Imported
+after_module = one_of named_entity (prefixed (0x00 ∷ []) group)
 
 abbrev pub import_of : List ℕ × Imported → ImportItem
 import_of parts = record { module_name = parts.0; imported = parts.1 }
 
 -- import: the name of a module, the name of an item, and its entity; or a group
 abbrev pub import_format : Format ImportItem
-import_format = mapped import_of (pair name (tagged name after_name))
+import_format = mapped import_of (pair name after_module)

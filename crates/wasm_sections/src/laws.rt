@@ -1,7 +1,7 @@
 //! What is promised of all lists of bytes, and not of a call: each function does nothing, and its clauses are the promise.
 //!
 //! `ItemLaws` says of a kind of items that they are read uniquely, and that the text of a plain record spells what it says.
-ghost use Rattle.std.specs.Prelude.{All};
+ghost use Rattle.std.specs.Prelude.{All, ◌∷◌, []};
 ghost use Rattle.wasm_base.specs.Entries.{ItemLaws, counted_format};
 ghost use Rattle.wasm_base.specs.Formats.{u32 as u32_format, frame, vec};
 ghost use Rattle.wasm_base.specs.Laws.{FitsUnsigned};
@@ -11,7 +11,7 @@ ghost use Rattle.wasm_base.specs.Reading.{UniqueReading, IsUniqueWide};
 ghost use Rattle.wasm_sections.specs.Exports.{export_text, IsExport, item_of, export};
 ghost use Rattle.wasm_sections.specs.Globals.{global_type, global_item_text, IsGivenGlobal, global_item_of, global_item};
 ghost use Rattle.wasm_sections.specs.Imports.{import_text, IsImport, import_format, entity};
-ghost use Rattle.wasm_sections.specs.Laws.{HoldsMore};
+ghost use Rattle.wasm_sections.specs.Laws.{HoldsMore, NothingStandsWide};
 ghost use Rattle.wasm_sections.specs.Memories.{memory_text, IsMemory, memory_type};
 ghost use Rattle.wasm_sections.specs.Tables.{table_type, table_item_text, IsGivenTable, table_item_of, table_item};
 ghost use Rattle.wasm_sections.specs.Tags.{tag_text, IsTag, tag_type};
@@ -81,6 +81,14 @@ pub fn payloads()
     ensures imports { ReadsPayloads (vec import_format) }
     ensures tags { ReadsPayloads (vec tag_type) }
     ensures numbers { ReadsPayloads u32_format }
+{}
+
+/// No section of globals stands where bytes follow the first `End` of a constant expression, and none of imports where the byte 00
+/// before a group is padded.
+#[tactic(auto, using(crate::proofs::NothingLaws::nothing))]
+pub fn nothing_stands()
+    ensures inner_end { NothingStandsWide (counted_format global_item) (9 ∷ 1 ∷ 127 ∷ 0 ∷ 65 ∷ 1 ∷ 11 ∷ 65 ∷ 2 ∷ 11 ∷ []) }
+    ensures padded_group { NothingStandsWide (counted_format import_format) (6 ∷ 1 ∷ 0 ∷ 128 ∷ 0 ∷ 127 ∷ 0 ∷ []) }
 {}
 
 /// An export is plain: its name is UTF-8, and its index in range. The result is the index.

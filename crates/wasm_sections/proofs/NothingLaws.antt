@@ -1,0 +1,103 @@
+-- Where no section stands.
+use Rattle.std.proofs.Common.{◌≡◌, ℕ, ◌<◌, List, [], ◌∷◌, ◌++◌, length, false, pos, refl, sym, subst, ◌∙◌, append-nil, arith, lit<, inl, inr}
+use Rattle.std.proofs.lemmas.Int.{ints}
+use Rattle.std.proofs.lemmas.Str.{IsUtf8-nil}
+use Rattle.std.specs.declared.alloc.Global.{Global}
+use Rattle.wasm_base.specs.Entries.{counted_format}
+use Rattle.wasm_base.specs.Formats.{Format, name, vec, mapped, such}
+use Rattle.wasm_base.specs.Numbers.{Mode, shortest, wide}
+use Rattle.wasm_base.specs.Reading.{Reads, UniqueReading}
+use Rattle.wasm_base.specs.declared.types.ValType.TheVariants.{I32}
+use Rattle.wasm_base.proofs.BaseLaws.{name-alone}
+use Rattle.wasm_base.proofs.FormatLaws.{frame_of, vec_of_one, then_at, tagged_at, begins_mapped}
+use Rattle.wasm_base.proofs.NumberLaws.{u32_small}
+use Rattle.wasm_base.proofs.NumberTexts.{groups_text-last}
+use Rattle.wasm_insn.specs.Plain.{instruction}
+use Rattle.wasm_insn.specs.Table.{table}
+use Rattle.wasm_insn.specs.declared.instruction.Instruction.{Instruction}
+use Rattle.wasm_insn.specs.declared.instruction.Instruction.TheVariants.{I32Const}
+use Rattle.wasm_code.specs.Expressions.{IsNoEnd, normal_row}
+use Rattle.wasm_code.proofs.ExpressionLaws.{members_one, normal_spelled}
+use Rattle.wasm_sections.specs.Globals.{GivenGlobal, GlobalItem, global_item_of, global_item}
+use Rattle.wasm_sections.specs.Imports.{Imported, ImportItem, single, entity, after_module, import_format}
+use Rattle.wasm_sections.specs.Laws.{NothingStandsWide}
+use Rattle.wasm_sections.proofs.GlobalLaws.{global_item-alone, global_item_spelled}
+use Rattle.wasm_sections.proofs.ImportLaws.{IsEntityByte, entity_begins, empty_name, import-alone}
+use Rattle.wasm_sections.proofs.SectionLaws.{globals-alone, imports-alone}
+
+-- What padded numbers don't spell, shortest ones don't either.
+nothing_wide : {X : Type 0} {F : Format X} (text : List ℕ) → UniqueReading F → ((after rest : List ℕ) (x : X) → Reads F wide (text ++ after) x rest → ⊥) → NothingStandsWide F text
+nothing_wide {X} {F} text k none = record { none = λ mode after. record { none = λ x rest h. none after rest x (in_wide mode (text ++ after) rest x h) } }
+  where
+    in_wide : (mode : Mode) (bytes rest : List ℕ) (x : X) → Reads F mode bytes x rest → Reads F wide bytes x rest
+    in_wide shortest bytes rest x h = record { front = h.front; split = h.split; spelled = k.spellings.wider h.front x h.spelled }
+    in_wide wide bytes rest x h = h
+
+-- What the one item of a section spells, where size and count are one byte each.
+one_item : {X : Type 0} {F : Format X} (size : ℕ) (content after rest s : List ℕ) (xs : List X) → size < 128 → length (1 ∷ content) ≡ size → (size ∷ 1 ∷ content) ++ after ≡ s ++ rest
+    → counted_format F wide s xs → (x : X) × F wide content x
+one_item {X} {F} size content after rest s xs low all e h =
+    vec_of_one {F = F} wide content xs (u32_small wide 1 (omega arith)) (frame_of {F = vec F} wide size (1 ∷ content) after s rest xs (u32_small wide size low) all e h)
+
+-- ---- a global behind whose first `End` bytes are left
+
+abbrev one : Instruction Global
+one = I32Const (pos 1)
+
+one_spelled : such IsNoEnd (instruction table) shortest (0x41 ∷ 0x01 ∷ []) (normal_row one)
+one_spelled = (subst (λ s. instruction table shortest (0x41 ∷ (s ++ [])) (normal_row one)) (groups_text-last false 0x40 1 (lit< tt)) (normal_spelled one ((omega (arith, ints), omega (arith, ints)), tt)), refl)
+
+abbrev first : GivenGlobal
+first = record { global_type = record { val_type = I32; mutable = false; shared = false }; init = record { bytes = 0x41 ∷ 0x01 ∷ []; instructions = normal_row one ∷ [] } }
+
+first_spelled : global_item shortest (0x7F ∷ 0x00 ∷ 0x41 ∷ 0x01 ∷ 0x0B ∷ []) (global_item_of first)
+first_spelled = global_item_spelled first (record { global_type = tt; init = members_one (such IsNoEnd (instruction table)) shortest (0x41 ∷ 0x01 ∷ []) (normal_row one) one_spelled })
+
+no_global : (x : GlobalItem) → global_item wide (0x7F ∷ 0x00 ∷ 0x41 ∷ 0x01 ∷ 0x0B ∷ 0x41 ∷ 0x02 ∷ 0x0B ∷ []) x → ⊥
+no_global x h =
+    let known = global_item-alone.spellings.wider (0x7F ∷ 0x00 ∷ 0x41 ∷ 0x01 ∷ 0x0B ∷ []) (global_item_of first) first_spelled in
+    let apart = global_item-alone.alone wide (0x7F ∷ 0x00 ∷ 0x41 ∷ 0x01 ∷ 0x0B ∷ []) (0x7F ∷ 0x00 ∷ 0x41 ∷ 0x01 ∷ 0x0B ∷ 0x41 ∷ 0x02 ∷ 0x0B ∷ []) (0x41 ∷ 0x02 ∷ 0x0B ∷ []) [] (global_item_of first) x known h refl in
+    absurd (cc apart.2)
+
+pub inner_end : NothingStandsWide (counted_format global_item) (9 ∷ 1 ∷ 127 ∷ 0 ∷ 65 ∷ 1 ∷ 11 ∷ 65 ∷ 2 ∷ 11 ∷ [])
+inner_end =
+    nothing_wide {F = counted_format global_item} (9 ∷ 1 ∷ 127 ∷ 0 ∷ 65 ∷ 1 ∷ 11 ∷ 65 ∷ 2 ∷ 11 ∷ []) globals-alone
+    (λ after rest xs h. let x = one_item {F = global_item} 9 (127 ∷ 0 ∷ 65 ∷ 1 ∷ 11 ∷ 65 ∷ 2 ∷ 11 ∷ []) after rest h.front xs (omega arith) refl h.split h.spelled in no_global x.0 x.1)
+
+-- ---- a padded 00 before a group
+
+padded_name : name wide (0x80 ∷ 0x00 ∷ []) []
+padded_name = (
+  record {
+    front = 0x80 ∷ 0x00 ∷ [];
+    content = [];
+    joined = refl;
+    size = record { groups = (omega arith, omega arith, omega arith); total = refl; range = omega arith; size = omega arith };
+    spelled = refl;
+  },
+  IsUtf8-nil,
+)
+
+no_group : (s : List ℕ) (x : Imported) → 0x80 ∷ 0x00 ∷ 0x7F ∷ 0x00 ∷ [] ≡ s ++ [] → after_module wide s x → ⊥
+no_group s x e (inl h) =
+    let found = tagged_at {F = name} {G = λ item. mapped (single item) entity} name-alone wide (0x80 ∷ 0x00 ∷ []) [] padded_name (0x7F ∷ 0x00 ∷ []) s [] x e h in
+    let kind = begins_mapped IsEntityByte (single []) entity_begins wide found.0 x found.2 in
+    let same : 0x7F ∷ 0x00 ∷ [] ≡ kind.0 ∷ kind.1 = found.1 ∙ append-nil found.0 ∙ kind.2 in
+    let low : 0x7F < 0x21 = subst IsEntityByte (sym (cc same)) kind.3 in
+    omega (arith, low)
+no_group s x e (inr h) =
+    let same : 0x80 ∷ 0x00 ∷ 0x7F ∷ 0x00 ∷ [] ≡ 0x00 ∷ h.2.back = e ∙ append-nil s ∙ subst (λ z. s ≡ z ++ h.2.back) h.2.first.0 h.2.joined in
+    let zero : ◌≡◌ {A = ℕ} 0x80 0x00 = cc same in
+    omega (arith, zero)
+
+no_import : (x : ImportItem) → import_format wide (0x00 ∷ 0x80 ∷ 0x00 ∷ 0x7F ∷ 0x00 ∷ []) x → ⊥
+no_import x h =
+    let found = then_at {F = name} {G = λ n. after_module} name-alone wide (0x00 ∷ []) [] (empty_name wide) (0x80 ∷ 0x00 ∷ 0x7F ∷ 0x00 ∷ []) (0x00 ∷ 0x80 ∷ 0x00 ∷ 0x7F ∷ 0x00 ∷ []) [] h.0 refl h.2 in
+    no_group found.0 h.0.1 found.1 found.2
+
+pub padded_group : NothingStandsWide (counted_format import_format) (6 ∷ 1 ∷ 0 ∷ 128 ∷ 0 ∷ 127 ∷ 0 ∷ [])
+padded_group =
+    nothing_wide {F = counted_format import_format} (6 ∷ 1 ∷ 0 ∷ 128 ∷ 0 ∷ 127 ∷ 0 ∷ []) imports-alone
+    (λ after rest xs h. let x = one_item {F = import_format} 6 (0 ∷ 128 ∷ 0 ∷ 127 ∷ 0 ∷ []) after rest h.front xs (omega arith) refl h.split h.spelled in no_import x.0 x.1)
+
+pub ruleset nothing = (inner_end, padded_group)
