@@ -1,11 +1,13 @@
 #!/usr/bin/env python3
 """Writes a value of each instruction, and the bytes that it must have.
 
-usage: instruction_rows.py TABLE FOLDER
+usage, at the top of the repository, and then `rt fmt` in crates/wasm_insn_tests:
+  tools/instruction_rows.py tools/opcodes.tsv crates/wasm_insn_tests/src
 
-TABLE has a line for each instruction: op (a byte in hexadecimal, or a prefix in hexadecimal and a number), name, shape and the
-names of the fields, with tabs between them. FOLDER is the `src` of the tests: `cases.rt` gets the values, and `rows.rt` their
-bytes. The bytes are worked out here, from the layouts alone, and not by the encoder.
+The table has a line for each instruction: op (a byte in hexadecimal, or a prefix in hexadecimal and a number), name, shape and the
+names of the fields, with tabs between them. In the folder, the `src` of the tests, `cases.rt` gets the values, and `rows.rt` their
+bytes. The bytes are worked out here, from the layouts alone, and not by the encoder. A case of another enum than `Instruction` that has
+no fields is a constant of `Instruction` too, so it is there twice.
 """
 import re
 import sys
@@ -145,28 +147,46 @@ def constant(enum):
     return re.sub(r"(?<!^)([A-Z])", r"_\1", enum).upper() + "S"
 
 
-# So many instructions stand in one constant: a function that uses a longer one is proved slowly.
+# So many instructions stand in one constant, and so many without fields: a function that uses a longer one is proved slowly.
 STEP = 12
+NAMES_STEP = 61
+
+
+def named_cases(groups):
+    """The cases of the other enums that have no fields, as constants of `Instruction`: the value, and its bytes."""
+    enums = ["Numeric", "Aggregate", "PrefixedNumeric", "Vector", "Atomic"]
+    found = [(name, "Instruction::<Global>::" + name, bytes) for enum in enums for name, value, bytes in groups[enum] if value == "%s::%s" % (enum, name)]
+    assert len(found) == 366
+    return found
+
+
+def constants(name, step, of):
+    """Constants of so many instructions each, since a static can hold nothing that is dropped."""
+    text = ""
+    for start in range(0, len(of), step):
+        part = of[start : start + step]
+        values = "".join("    %s,\n" % value for _, value, _ in part)
+        text += "\npub const %s_%d: [Instruction<'static>; %d] = [\n%s];\n" % (name, start, len(part), values)
+    return text
 
 
 def write(groups, folder):
     note = "// Written by tools/instruction_rows.py from the opcode table: do not edit.\n"
     order = ["Instruction", "Numeric", "Aggregate", "PrefixedNumeric", "Vector", "VectorImmediate", "Atomic"]
     cases = note + "//! A value of each instruction, in the order of their opcodes within each enum.\n"
+    cases += "use std::alloc::Global;\n"
     cases += "use wasm_base::{AbstractHeapType, CowSlice, HeapType, RefType, ValType};\n"
     cases += "use wasm_insn::{\n    %s, BlockType, Catch, Handle, Ieee32, Ieee64, MemArg, MemArgTarget, Ordering,\n};\n\n" % ", ".join(order)
     cases += "const MEMARG: MemArg = MemArg { offset: 300, align: 2, target: MemArgTarget::Memory(1), ordering: None };\n"
     rows = note + "//! The bytes of each instruction, in hexadecimal, in the order of `cases.rt`.\n"
-    for enum in order + ["Float"]:
-        of = groups[enum]
+    for enum, of in [(enum, groups[enum]) for enum in order + ["Float"]] + [("Name", named_cases(groups))]:
         rows += "\npub static %s: [&str; %d] = [\n" % (constant(enum), len(of))
         rows += "".join('    "%s", // %s\n' % ("".join("%02x" % b for b in bytes), name) for name, _, bytes in of) + "];\n"
         values = "".join("    %s,\n" % value for _, value, _ in of)
         if enum == "Instruction":
-            for start in range(0, len(of), STEP):
-                part = of[start : start + STEP]
-                values = "".join("    %s,\n" % value for _, value, _ in part)
-                cases += "\npub const FROM_%d: [Instruction<'static>; %d] = [\n%s];\n" % (start, len(part), values)
+            cases += constants("FROM", STEP, of)
+        elif enum == "Name":
+            cases += constants("NAMES", NAMES_STEP, of)
         elif enum == "Float":
             cases += "\npub fn floats() -> [Instruction<'static>; %d] {\n    [\n%s    ]\n}\n" % (len(of), values)
         else:

@@ -1,11 +1,11 @@
 -- The laws of this crate's formats.
-use Rattle.std.proofs.Common.{pos, refl, arith}
+use Rattle.std.proofs.Common.{ℕ, List, [], ◌∷◌, ◌++◌, length, pos, refl, arith}
 use Rattle.std.specs.Prelude.{IsUtf8}
-use Rattle.wasm_base.specs.Numbers.{wide, unsigned_text, signed_text}
-use Rattle.wasm_base.specs.Formats.{Format, u32, u64, s32, s64, s33, little_endian, byte, any_bytes, vec, frame, name, custom, wasm_module}
+use Rattle.wasm_base.specs.Numbers.{shortest, wide, unsigned_text, signed_text}
+use Rattle.wasm_base.specs.Formats.{Format, u32, u64, s32, s64, s33, little_endian, byte, any_bytes, members, pair, vec, frame, name, custom, wasm_module}
 use Rattle.wasm_base.specs.Reading.{UniqueReading, UniqueWholeReading, HasTexts, IsUniqueWide, IsUniqueWholeWide}
 use Rattle.wasm_base.specs.Texts.{vec_text, VecFits, frame_text, FrameFits, little_endian_text}
-use Rattle.wasm_base.specs.Laws.{FitsUnsigned, FitsBytes, FitsSigned32, FitsSigned64, NameFits}
+use Rattle.wasm_base.specs.Laws.{FitsUnsigned, FitsBytes, FitsSigned32, FitsSigned64, NameFits, custom_text, CustomFits}
 use Rattle.wasm_base.proofs.NumberLaws.{unsigned-alone, signed-alone, u32-alone}
 use Rattle.wasm_base.proofs.FormatLaws.{little_endian-alone, byte-alone, any_bytes-whole, pair-whole, vec-alone, frame-alone, such-alone}
 use Rattle.wasm_base.proofs.TextLaws.{little_endian_spelled, u32_spelled, u64_spelled, s32_spelled, s64_spelled, s33_spelled, frame_spelled, name_spelled, vec_spelled}
@@ -107,7 +107,23 @@ vec-u32-texts = record { spelled = vec_spelled u32 (FitsUnsigned 32) unsigned_te
 pub vec-names-texts : HasTexts (vec name) (VecFits NameFits) (vec_text frame_text)
 vec-names-texts = record { spelled = vec_spelled name NameFits frame_text (λ bytes h. name_spelled bytes h.0 h.1) }
 
-pub ruleset frames = (fixed_4-alone, fixed_8-alone, fixed_16-alone, fixed_4-texts, fixed_8-texts, fixed_16-texts, frame-bytes-alone, name-alone, vec-bytes-alone, vec-u32-alone, vec-names-alone, custom-alone, module-whole, module-texts, frame-texts, name-texts, vec-u32-texts, vec-names-texts)
+members_bytes : (bytes : List ℕ) → members byte shortest bytes bytes
+members_bytes [] = refl
+members_bytes (b ∷ bs) = (b ∷ [], bs, refl, refl, members_bytes bs)
+
+pub vec-bytes-texts : HasTexts (vec byte) FrameFits frame_text
+vec-bytes-texts = record {
+  spelled = λ bytes h. record { front = unsigned_text (length bytes); back = bytes; joined = refl; first = u32_spelled (length bytes) (omega (arith, h)); second = members_bytes bytes };
+}
+
+pub custom-texts : HasTexts custom CustomFits custom_text
+custom-texts = record {
+  spelled = λ c h.
+      frame_spelled (pair name any_bytes) (frame_text c.0 ++ c.1) c h.size
+      (record { front = frame_text c.0; back = c.1; joined = refl; first = name_spelled c.0 h.name.0 h.name.1; second = refl });
+}
+
+pub ruleset frames = (vec-bytes-texts, custom-texts, fixed_4-alone, fixed_8-alone, fixed_16-alone, fixed_4-texts, fixed_8-texts, fixed_16-texts, frame-bytes-alone, name-alone, vec-bytes-alone, vec-u32-alone, vec-names-alone, custom-alone, module-whole, module-texts, frame-texts, name-texts, vec-u32-texts, vec-names-texts)
 
 -- ---- padded numbers
 

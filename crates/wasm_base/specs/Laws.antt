@@ -1,6 +1,6 @@
 -- What texts are spelled, for the laws.
-use Rattle.std.specs.Prelude.{ℕ, ◌^◌, ◌<◌, ℤ, pos, neg_ℤ, ◌≤ℤ◌, ◌<ℤ◌, List, IsUtf8}
-use Rattle.wasm_base.specs.Texts.{FrameFits}
+use Rattle.std.specs.Prelude.{ℕ, ◌^◌, ◌<◌, ℤ, pos, neg_ℤ, ◌≤ℤ◌, ◌<ℤ◌, List, ◌++◌, IsUtf8}
+use Rattle.wasm_base.specs.Texts.{frame_text, FrameFits}
 
 -- a number of so many bits
 abbrev pub FitsUnsigned : ℕ → ℕ → Type 0
@@ -19,3 +19,12 @@ FitsSigned64 v = (neg_ℤ (pos (2 ^ 63)) ≤ℤ v) × (v <ℤ pos (2 ^ 63))
 -- UTF-8 whose length can be spelled
 abbrev pub NameFits : List ℕ → Type 0
 NameFits bytes = IsUtf8 bytes × FrameFits bytes
+
+-- a name and data, in a frame
+abbrev pub custom_text : List ℕ × List ℕ → List ℕ
+custom_text c = frame_text (frame_text c.0 ++ c.1)
+
+-- a name and data whose lengths can be spelled
+pub record CustomFits (c : List ℕ × List ℕ) : Type 0 where
+  pub name : NameFits c.0
+  pub size : FrameFits (frame_text c.0 ++ c.1)

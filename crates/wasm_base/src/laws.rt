@@ -21,7 +21,7 @@ ghost use Rattle.wasm_base.specs.Formats.{
   wasm_module,
 };
 ghost use Rattle.wasm_base.specs.Modules.{ReadsPayloads};
-ghost use Rattle.wasm_base.specs.Laws.{FitsUnsigned, FitsBytes, FitsSigned32, FitsSigned64, NameFits};
+ghost use Rattle.wasm_base.specs.Laws.{FitsUnsigned, FitsBytes, FitsSigned32, FitsSigned64, NameFits, custom_text, CustomFits};
 ghost use Rattle.wasm_base.specs.Numbers.{unsigned_text, signed_text};
 ghost use Rattle.wasm_base.specs.Reading.{UniqueReading, UniqueWholeReading, HasTexts, BeginsWith, IsUniqueWide, IsUniqueWholeWide};
 ghost use Rattle.wasm_base.specs.Types.{heap_type, ref_type, val_type, heap_text, ref_text, val_text, IsHeap, IsRef, IsVal, IsIndexByte};
@@ -60,10 +60,12 @@ pub fn frames()
     ensures fixed_4_texts { HasTexts (little_endian 4) (FitsBytes 4) (little_endian_text 4) }
     ensures fixed_8_texts { HasTexts (little_endian 8) (FitsBytes 8) (little_endian_text 8) }
     ensures fixed_16_texts { HasTexts (little_endian 16) (FitsBytes 16) (little_endian_text 16) }
+    ensures vec_bytes_texts { HasTexts (vec byte) FrameFits frame_text }
     ensures vec_u32_texts { HasTexts (vec u32_format) (VecFits (FitsUnsigned 32)) (vec_text unsigned_text) }
     ensures vec_names_texts { HasTexts (vec name) (VecFits NameFits) (vec_text frame_text) }
     ensures frame_texts { HasTexts (frame any_bytes) FrameFits frame_text }
     ensures name_texts { HasTexts name NameFits frame_text }
+    ensures custom_texts { HasTexts custom CustomFits custom_text }
     ensures module_texts { HasTexts wasm_module ModuleFits module_text }
 {}
 

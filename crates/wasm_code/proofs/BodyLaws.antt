@@ -10,7 +10,7 @@ use Rattle.wasm_base.specs.Calls.{ReadsBack}
 use Rattle.wasm_base.specs.Iterators.{AppendsVec}
 use Rattle.wasm_base.specs.Texts.{longest, frame_text, FrameFits}
 use Rattle.wasm_base.specs.Types.{val_type, val_text}
-use Rattle.wasm_base.proofs.FormatLaws.{mapped-whole, pair-alone, pair-whole, vec-alone, frame-alone, members-whole, members_go_on}
+use Rattle.wasm_base.proofs.FormatLaws.{mapped-whole, pair-alone, pair-whole, vec-alone, frame-alone, members_go_on}
 use Rattle.wasm_base.proofs.NumberLaws.{u32-alone}
 use Rattle.wasm_base.proofs.NumberTexts.{groups_text-last}
 use Rattle.wasm_base.proofs.TypeLaws.{val-alone, val-texts}
@@ -19,11 +19,11 @@ use Rattle.wasm_insn.specs.declared.instruction.Instruction.{Instruction}
 use Rattle.wasm_insn.specs.Plain.{Plain, instruction}
 use Rattle.wasm_insn.specs.Table.{table}
 use Rattle.wasm_insn.specs.Instructions.{instruction_text, IsPlainInstruction}
-use Rattle.wasm_insn.proofs.InstructionLaws.{alone}
+use Rattle.wasm_insn.proofs.InstructionLaws.{alone, any_begins, lists-whole}
 use Rattle.wasm_code.specs.Expressions.{normal_row}
 use Rattle.wasm_code.specs.Bodies.{Run, run_text, locals_text, IsRun, Body, body_of, body, IsPlainBody, and_then, Grows, GrowsBy, HasLocals, BeginsWithRuns}
 use Rattle.wasm_code.specs.Laws.{GoesOnWith, HasOffsets, FindsAdded}
-use Rattle.wasm_code.proofs.ExpressionLaws.{any_begins, members_join, members_one, normal_spelled}
+use Rattle.wasm_code.proofs.ExpressionLaws.{members_join, members_one, normal_spelled}
 
 -- ---- unique reading
 
@@ -33,8 +33,7 @@ runs-alone = vec-alone (pair-alone u32-alone val-alone)
 pub body-whole : UniqueWholeReading body
 body-whole =
     mapped-whole body_of (λ x y e. ap (λ b. (b.runs, b.code)) e)
-    (pair-whole runs-alone
-    (members-whole (λ b. Unit {0}) any_begins alone))
+    (pair-whole runs-alone lists-whole)
 
 pub frame-body-alone : UniqueReading (frame body)
 frame-body-alone = frame-alone body-whole

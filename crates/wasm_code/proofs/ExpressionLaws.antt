@@ -24,12 +24,6 @@ use Rattle.wasm_code.specs.Expressions.{IsNoEnd, expression, expression_text, St
 end_is : (mode : Mode) (s : List ℕ) (op : Op) → op_after 0x0B mode s op → op ≡ Byte 0x0B
 end_is mode s op h = h.1
 
--- An instruction begins with the byte of its op.
-pub any_begins : BeginsWith (λ b. Unit {0}) (instruction table)
-any_begins mode s i h =
-    let op = h.2.first in
-    (op.0.0, op.2.back ++ h.2.back, h.2.joined ∙ ap (λ z. z ++ h.2.back) (op.2.joined ∙ ap (λ z. z ++ op.2.back) op.2.first), tt)
-
 no_end : (op : Op) → same_op op (Byte 0x0B) ≡ false → op ≢ Byte 0x0B
 no_end op other e = let same : true ≡ false = subst (λ o. same_op o (Byte 0x0B) ≡ false) e other in absurd (cc same)
 

@@ -3,7 +3,7 @@ use Rattle.std.proofs.Common.{◌≡◌, ℕ, zero, suc, ◌+◌, ◌*◌, ◌%�
 use Rattle.std.proofs.lemmas.Bool.{lt-ltb, ne_eqb}
 use Rattle.std.proofs.lemmas.Nat.{or_shifted, or_comm}
 use Rattle.std.specs.Int.RustNames.{bit_or}
-use Rattle.std.specs.Prelude.{nat_lt}
+use Rattle.std.specs.Prelude.{nat_lt, ⊤}
 use Rattle.wasm_base.specs.Numbers.{shortest, unsigned_text}
 use Rattle.wasm_base.specs.Formats.{u32, byte, tagged, pair, optional, choice}
 use Rattle.wasm_base.specs.Reading.{HasTexts, IsUniqueWide}
@@ -12,7 +12,7 @@ use Rattle.wasm_base.specs.declared.types.ValType.{ValType}
 use Rattle.wasm_base.proofs.BaseLaws.{unique_wide}
 use Rattle.wasm_base.proofs.NumberTexts.{one_group}
 use Rattle.wasm_base.proofs.TypeLaws.{val_bytes, val-texts}
-use Rattle.wasm_base.proofs.TextLaws.{u32_spelled, u64_spelled, s33_spelled, little_endian_spelled, tagged_spelled}
+use Rattle.wasm_base.proofs.TextLaws.{reads_alone, u32_spelled, u64_spelled, s33_spelled, little_endian_spelled, tagged_spelled}
 use Rattle.wasm_immediates.specs.declared.memory.Ordering.TheVariants.{AcqRel, SeqCst}
 use Rattle.wasm_immediates.specs.declared.memory.MemArgOrdering.{MemArgOrdering}
 use Rattle.wasm_immediates.specs.declared.memory.MemArgOrdering.TheVariants as orders
@@ -26,7 +26,7 @@ use Rattle.wasm_immediates.specs.declared.control.Catch.TheVariants.{One, OneRef
 use Rattle.wasm_immediates.specs.declared.control.Handle.{Handle}
 use Rattle.wasm_immediates.specs.declared.control.Handle.TheVariants.{OnLabel, OnSwitch}
 use Rattle.wasm_immediates.specs.Immediates.{mem_ordering_code, index_of, has_ordering, is_array, has_memory, where_set, mem_flags, optional_text, mem_arg_text, block_text, catch_text, handle_text, twos_complement, vector_text}
-use Rattle.wasm_immediates.specs.PlainImmediates.{IsNormalMemory, ordering_format, vector_format, normal_ordering, normal_order, normal_memory, IsPlainTarget, IsPlainMemory, IsPlainBlock, IsPlainCatch, IsPlainHandle, IsVector, block_type, mem_ordering, bit, target_of, mem_arg_with, after_flags, mem_arg, catch, handle}
+use Rattle.wasm_immediates.specs.PlainImmediates.{IsNormalMemory, ReadsMemoryArgument, ordering_text, ordering_format, vector_format, normal_ordering, normal_order, normal_memory, IsPlainTarget, IsPlainMemory, IsPlainBlock, IsPlainCatch, IsPlainHandle, IsVector, block_type, mem_ordering, bit, target_of, mem_arg_with, after_flags, mem_arg, catch, handle}
 use Rattle.wasm_immediates.proofs.ImmediateLaws.{ordering-alone, mem_arg-alone, block-alone, catch-alone, handle-alone, vector-alone, block_tags, block_result}
 
 -- ---- the texts of memory arguments
@@ -182,7 +182,13 @@ memory-texts = record { spelled = λ m h. subst (λ x. mem_arg shortest (mem_arg
 pub vector-texts : HasTexts vector_format IsVector vector_text
 vector-texts = record { spelled = vector_spelled }
 
-pub ruleset immediates = (ordering-alone, mem_arg-alone, block-alone, catch-alone, handle-alone, vector-alone, memory-texts, block-texts, catch-texts, handle-texts, vector-texts)
+pub ordering-texts : HasTexts ordering_format (λ o. ⊤) ordering_text
+ordering-texts = record { spelled = λ o h. refl }
+
+pub memory_arguments : (m : MemArg) → ReadsMemoryArgument m
+memory_arguments m = record { alone = λ h. reads_alone mem_arg-alone (memory_spelled m h) }
+
+pub ruleset immediates = (ordering-texts, ordering-alone, mem_arg-alone, block-alone, catch-alone, handle-alone, vector-alone, memory-texts, block-texts, catch-texts, handle-texts, vector-texts)
 
 pub wide-ordering : IsUniqueWide ordering_format
 wide-ordering = unique_wide ordering-alone

@@ -1,6 +1,7 @@
 -- Plain immediates: their normal form, and which bytes spell them.
 use Rattle.std.specs.Prelude.{◌≡◌, ℕ, ◌/◌, ◌%◌, ◌^◌, ◌<◌, ℤ, pos, negsuc, List, [], ◌∷◌, Bool, true, false, ◌==◌, nat_lt, Option, Some, None, ⊤}
 use Rattle.wasm_base.specs.Formats.{Format, u32, u64, s33, byte, little_endian, fixed, impossible, coded, mapped, such, when, choice, tagged, one_of, pair, optional}
+use Rattle.wasm_base.specs.Reading.{ReadsAlone}
 use Rattle.wasm_base.specs.Types.{val_tags, val_ref, IsVal}
 use Rattle.wasm_immediates.specs.declared.memory.Ordering.{Ordering}
 use Rattle.wasm_immediates.specs.declared.memory.Ordering.TheVariants.{AcqRel, SeqCst}
@@ -15,7 +16,7 @@ use Rattle.wasm_immediates.specs.declared.control.Catch.{Catch}
 use Rattle.wasm_immediates.specs.declared.control.Catch.TheVariants.{One, OneRef, All, AllRef}
 use Rattle.wasm_immediates.specs.declared.control.Handle.{Handle}
 use Rattle.wasm_immediates.specs.declared.control.Handle.TheVariants.{OnLabel, OnSwitch}
-use Rattle.wasm_immediates.specs.Immediates.{ordering_code, twos_complement}
+use Rattle.wasm_immediates.specs.Immediates.{ordering_code, mem_arg_text, twos_complement}
 
 -- ---- normal form
 
@@ -68,6 +69,10 @@ IsVector (negsuc n) = n < 2 ^ 127
 pub record IsNormalMemory (m : MemArg) : Type 0 where
   pub plain : IsPlainMemory m
   pub normal : normal_memory m ≡ m
+
+-- the byte of an ordering
+abbrev pub ordering_text : Ordering → List ℕ
+ordering_text o = ordering_code o ∷ []
 
 -- ---- formats
 
@@ -137,3 +142,9 @@ handle = tagged byte (choice handle_tags (λ b. impossible))
 -- vector: sixteen bytes, in two's complement
 abbrev pub vector_format : Format ℤ
 vector_format mode s v = little_endian 16 mode s (twos_complement 128 v) × IsVector v
+
+-- ---- laws
+
+-- Where the memory argument is plain, its text is read as its normal form alone.
+pub record ReadsMemoryArgument (m : MemArg) : Type 0 where
+  pub alone : IsPlainMemory m → ReadsAlone mem_arg (mem_arg_text m) (normal_memory m)

@@ -3,6 +3,7 @@
 //! `UniqueReading F` says that bytes begin with a spelling in the format `F` of one value alone, whatever follows, both with
 //! shortest and with padded numbers, and that a value has one shortest spelling. `HasTexts F fits text` says that the text of each
 //! value that fits is this spelling.
+ghost use Rattle.std.specs.Prelude.{⊤};
 ghost use Rattle.wasm_base.specs.Reading.{UniqueReading, HasTexts, IsUniqueWide};
 ghost use Rattle.wasm_immediates.specs.Immediates.{mem_arg_text, block_text, catch_text, handle_text, vector_text};
 ghost use Rattle.wasm_immediates.specs.PlainImmediates.{
@@ -17,7 +18,10 @@ ghost use Rattle.wasm_immediates.specs.PlainImmediates.{
   IsPlainCatch,
   IsPlainHandle,
   IsVector,
+  ordering_text,
+  ReadsMemoryArgument,
 };
+ghost use Rattle.wasm_immediates.specs.declared.memory.MemArg.{MemArg};
 
 /// Immediates are read uniquely.
 #[tactic(auto, using(crate::proofs::ImmediateTexts::immediates))]
@@ -33,7 +37,13 @@ pub fn immediates()
     ensures block_texts { HasTexts block_type IsPlainBlock block_text }
     ensures catch_texts { HasTexts catch IsPlainCatch catch_text }
     ensures handle_texts { HasTexts handle IsPlainHandle handle_text }
+    ensures ordering_texts { HasTexts ordering_format (λ o. ⊤) ordering_text }
     ensures vector_texts { HasTexts vector_format IsVector vector_text }
+{}
+
+/// The text of a memory argument that is plain is read as its normal form alone.
+pub fn memory_arguments()
+    ensures { (m : MemArg) → ReadsMemoryArgument m }
 {}
 
 /// With padded numbers too.

@@ -1,17 +1,19 @@
 -- The laws of the opcode table, and of instructions over it.
-use Rattle.std.proofs.Common.{◌≡◌, ℕ, ◌^◌, ◌<◌, List, [], ◌∷◌, Bool, true, ◌&&◌, refl}
+use Rattle.std.proofs.Common.{◌≡◌, ℕ, ◌^◌, ◌<◌, List, [], ◌∷◌, ◌++◌, Bool, true, ◌&&◌, refl, ap, ◌∙◌}
 use Rattle.std.specs.List.{AllByRecursion}
 use Rattle.std.proofs.lemmas.Bool.{and_parts}
 use Rattle.wasm_base.specs.Numbers.{shortest}
-use Rattle.wasm_base.specs.Reading.{UniqueReading, IsUniqueWide}
+use Rattle.wasm_base.specs.Formats.{members}
+use Rattle.wasm_base.specs.Reading.{UniqueReading, UniqueWholeReading, HasTexts, IsUniqueWide, IsUniqueWholeWide, BeginsWith}
 use Rattle.wasm_base.specs.Texts.{VecFits}
-use Rattle.wasm_base.proofs.BaseLaws.{unique_wide}
+use Rattle.wasm_base.proofs.BaseLaws.{unique_wide, unique_whole_wide}
+use Rattle.wasm_base.proofs.FormatLaws.{members-whole}
 use Rattle.wasm_insn.specs.declared.op.Op.{Op}
 use Rattle.wasm_insn.specs.declared.op.Op.TheVariants.{Byte, Prefixed}
 use Rattle.wasm_insn.specs.declared.op.Shape.TheVariants.{Bt}
 use Rattle.wasm_insn.specs.declared.instruction.Instruction.{Instruction}
 use Rattle.wasm_insn.specs.Opcodes.{op_text}
-use Rattle.wasm_insn.specs.Plain.{Plain, Table, IsOpcode, IsPlain, instruction}
+use Rattle.wasm_insn.specs.Plain.{Plain, Table, IsOpcode, IsPlain, opcode, instruction}
 use Rattle.wasm_insn.specs.Table.{table, IsTableOp, IsOpcodeTable, BeginsNoOther}
 use Rattle.wasm_insn.specs.Instructions.{row_of, IsPlainInstruction, ReadsInstruction, HaveOneText}
 use Rattle.wasm_insn.specs.Arguments.{labels, unsigned}
@@ -44,7 +46,10 @@ apart = record {
       (opcode-alone.alone shortest (op_text a) (op_text b) x y a b (opcode_spelled a (as_opcode a h)) (opcode_spelled b (as_opcode b g)) e).0;
 }
 
-pub ruleset opcodes = (table-is, apart, opcode-alone)
+pub opcode-texts : HasTexts opcode IsOpcode op_text
+opcode-texts = record { spelled = opcode_spelled }
+
+pub ruleset opcodes = (opcode-texts, table-is, apart, opcode-alone)
 
 -- ---- instructions
 
@@ -72,4 +77,18 @@ alone = instruction-alone table
 pub wide-instruction : IsUniqueWide (instruction table)
 wide-instruction = unique_wide alone
 
-pub ruleset wide = (wide-opcode, wide-instruction)
+-- An instruction begins with the byte of its op.
+pub any_begins : BeginsWith (λ b. Unit {0}) (instruction table)
+any_begins mode s i h =
+    let op = h.2.first in
+    (op.0.0, op.2.back ++ h.2.back, h.2.joined ∙ ap (λ z. z ++ h.2.back) (op.2.joined ∙ ap (λ z. z ++ op.2.back) op.2.first), tt)
+
+pub lists-whole : UniqueWholeReading (members (instruction table))
+lists-whole = members-whole (λ b. Unit {0}) any_begins alone
+
+pub ruleset lists = (lists-whole)
+
+pub wide-lists : IsUniqueWholeWide (members (instruction table))
+wide-lists = unique_whole_wide lists-whole
+
+pub ruleset wide = (wide-lists, wide-opcode, wide-instruction)

@@ -4,6 +4,7 @@ ghost use Rattle.wasm_base.specs.Calls.{Appends};
 ghost use Rattle.wasm_insn.specs.Arguments.{arguments_text, arguments_fit};
 ghost use Rattle.wasm_insn.specs.Atomic.{atomic_row};
 
+use crate::instruction::Instruction;
 use crate::op::Op;
 use std::alloc::Allocator;
 use wasm_base::{Encode, R};
@@ -573,4 +574,11 @@ impl Atomic {
             Atomic::Pause | Atomic::RefI31Shared => Ok(()),
         }
     }
+}
+
+/// The names of those without fields as instructions.
+impl Instruction<'static> {
+    pub const Pause: Self = Instruction::Atomic(Atomic::Pause);
+
+    pub const RefI31Shared: Self = Instruction::Atomic(Atomic::RefI31Shared);
 }

@@ -1,10 +1,13 @@
 //! What is promised of all lists of bytes, and not of a call: each function does nothing, and its clauses are the promise.
 //!
 //! `UniqueReading F` says that bytes begin with a spelling in the format `F` of one value alone, whatever follows, both with
-//! shortest and with padded numbers, and that a value has one shortest spelling.
-ghost use Rattle.wasm_base.specs.Reading.{UniqueReading, IsUniqueWide};
+//! shortest and with padded numbers, and that a value has one shortest spelling; `UniqueWholeReading F` the same of a format whose
+//! spellings reach to the last byte. `HasTexts F fits text` says that the text of each value that fits is its shortest spelling.
+ghost use Rattle.wasm_base.specs.Formats.{members};
+ghost use Rattle.wasm_base.specs.Reading.{UniqueReading, UniqueWholeReading, HasTexts, IsUniqueWide, IsUniqueWholeWide};
 ghost use Rattle.wasm_insn.specs.Cases.{Given, all_cases, AreRows};
-ghost use Rattle.wasm_insn.specs.Plain.{opcode, instruction};
+ghost use Rattle.wasm_insn.specs.Opcodes.{op_text};
+ghost use Rattle.wasm_insn.specs.Plain.{opcode, instruction, IsOpcode};
 ghost use Rattle.wasm_insn.specs.Table.{table, IsOpcodeTable, BeginsNoOther, IsRow};
 ghost use Rattle.wasm_insn.specs.Instructions.{row_of, ReadsInstruction, HaveOneText};
 ghost use Rattle.wasm_insn.specs.declared.instruction.Instruction.{Instruction};
@@ -15,6 +18,7 @@ use std::alloc::Allocator;
 #[tactic(auto, using(crate::proofs::InstructionLaws::opcodes))]
 pub fn opcodes()
     ensures alone { UniqueReading opcode }
+    ensures texts { HasTexts opcode IsOpcode op_text }
     ensures table { IsOpcodeTable table }
     ensures apart { BeginsNoOther }
 {}
@@ -43,4 +47,11 @@ pub fn instructions<A: Allocator>()
 pub fn wide()
     ensures opcode { IsUniqueWide opcode }
     ensures instruction { IsUniqueWide (instruction table) }
+    ensures list { IsUniqueWholeWide (members (instruction table)) }
+{}
+
+/// Instructions one after another, up to the last byte, are read uniquely.
+#[tactic(auto, using(crate::proofs::InstructionLaws::lists))]
+pub fn lists()
+    ensures { UniqueWholeReading (members (instruction table)) }
 {}

@@ -214,3 +214,33 @@ fn atomics(rt: HostRuntime) -> Result<(), Fail> {
     }
     Ok(())
 }
+
+#[test]
+fn names_from_0(rt: HostRuntime) -> Result<(), Fail> {
+    check_all(&rt, rt.alloc(), &cases::NAMES_0, &rows::NAMES[0..61])
+}
+
+#[test]
+fn names_from_61(rt: HostRuntime) -> Result<(), Fail> {
+    check_all(&rt, rt.alloc(), &cases::NAMES_61, &rows::NAMES[61..122])
+}
+
+#[test]
+fn names_from_122(rt: HostRuntime) -> Result<(), Fail> {
+    check_all(&rt, rt.alloc(), &cases::NAMES_122, &rows::NAMES[122..183])
+}
+
+#[test]
+fn names_from_183(rt: HostRuntime) -> Result<(), Fail> {
+    check_all(&rt, rt.alloc(), &cases::NAMES_183, &rows::NAMES[183..244])
+}
+
+#[test]
+fn names_from_244(rt: HostRuntime) -> Result<(), Fail> {
+    check_all(&rt, rt.alloc(), &cases::NAMES_244, &rows::NAMES[244..305])
+}
+
+#[test]
+fn names_from_305(rt: HostRuntime) -> Result<(), Fail> {
+    check_all(&rt, rt.alloc(), &cases::NAMES_305, &rows::NAMES[305..366])
+}
