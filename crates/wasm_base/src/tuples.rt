@@ -45,8 +45,8 @@ impl<S: Encode, T: Encode, U: Encode> Encode for (S, T, U) {
     #[inline]
     fn encode<A: Allocator>(&self, sink: &mut Vec<u8, A>) -> R<()> {
         let start = sink.len();
-        self.0.encode(sink)?;
-        if let Err(refused) = encode_both(&self.1, &self.2, sink) {
+        encode_both(&self.0, &self.1, sink)?;
+        if let Err(refused) = self.2.encode(sink) {
             sink.truncate(start);
             return Err(refused);
         }
