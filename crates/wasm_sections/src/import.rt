@@ -23,7 +23,10 @@ use crate::memory::MemoryType;
 use crate::table::TableType;
 use crate::tag::TagType;
 use std::alloc::{Allocator, Global};
-use wasm_base::{CowSlice, Encode, R, SectionId};
+use wasm_base::{
+    CORE_FUNCTION_EXACT_SORT, CORE_FUNCTION_SORT, CORE_GLOBAL_SORT, CORE_MEMORY_SORT,
+    CORE_TABLE_SORT, CORE_TAG_SORT, CowSlice, Encode, R, SectionId,
+};
 
 /// What a module imports.
 ///
@@ -91,12 +94,12 @@ impl Encode for EntityType {
 
     fn encode<A: Allocator>(&self, sink: &mut Vec<u8, A>) -> R<()> {
         match *self {
-            EntityType::Function(index) => (0x00u8, index).encode(sink),
-            EntityType::Table(ty) => (0x01u8, ty).encode(sink),
-            EntityType::Memory(ty) => (0x02u8, ty).encode(sink),
-            EntityType::Global(ty) => (0x03u8, ty).encode(sink),
-            EntityType::Tag(ty) => (0x04u8, ty).encode(sink),
-            EntityType::FunctionExact(index) => (0x20u8, index).encode(sink),
+            EntityType::Function(index) => (CORE_FUNCTION_SORT, index).encode(sink),
+            EntityType::Table(ty) => (CORE_TABLE_SORT, ty).encode(sink),
+            EntityType::Memory(ty) => (CORE_MEMORY_SORT, ty).encode(sink),
+            EntityType::Global(ty) => (CORE_GLOBAL_SORT, ty).encode(sink),
+            EntityType::Tag(ty) => (CORE_TAG_SORT, ty).encode(sink),
+            EntityType::FunctionExact(index) => (CORE_FUNCTION_EXACT_SORT, index).encode(sink),
         }
     }
 }

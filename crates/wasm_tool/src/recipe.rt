@@ -112,14 +112,14 @@ fn put_counted<K: ItemKind, A: Allocator, B: Allocator>(
     target.section(section)
 }
 
-/// The raw body of a function without locals, of these instructions.
-fn raw_body<A: Allocator>(alloc: A, instructions: Vec<u8, A>) -> R<Vec<u8, A>>
-    ensures ok { IfOk result (λ body. body.items ≡ 0 ∷ instructions.items) }
+/// A function without locals, of these instructions.
+fn function_of<A: Allocator>(alloc: A, instructions: Vec<u8, A>) -> R<Function<A>>
+    ensures ok { IfOk result (λ function. function ≡ 0 ∷ instructions.items) }
     ensures memory { result ≢ Err refusals.TooLong }
 {
     let mut function = Function::new(alloc, [])?;
     function.raw(instructions)?;
-    Ok(function.into_raw_body())
+    Ok(function)
 }
 
 impl<A: Allocator + Copy> Recipe<A> {
@@ -214,8 +214,8 @@ impl<A: Allocator + Copy> Recipe<A> {
     {
         let word = words.next().ok_or(RecipeCause::MissingWord)?;
         let instructions = hex_bytes(alloc, word)?;
-        let body = raw_body(alloc, instructions)?;
-        self.code.raw(&body)?;
+        let function = function_of(alloc, instructions)?;
+        self.code.function(&function)?;
         Ok(())
     }
 

@@ -2,7 +2,7 @@ use Rattle.std.proofs.Common.{◌++◌, length, ap, ap₂, ◌∙◌}
 use Rattle.wasm_base.proofs.KnownLengths.{drained_array}
 use Rattle.wasm_code.proofs.Drained.{drained_vec}
 use Rattle.wasm_code.proofs.BodyLaws.{no_locals}
-use Rattle.wasm_tool.proofs.recipe.raw_body.Goals as goal
+use Rattle.wasm_tool.proofs.recipe.function_of.Goals as goal
 
 pub new-requires : goal.new-requires
 new-requires g c = record { can = λ it b. tt; told = λ it xs b d. drained_array it xs d }
@@ -13,4 +13,4 @@ returns-clause-ok g c =
     let given = drained_vec c.args.instructions.items raw.0 raw.1 raw.2.0 (raw.2.1 ∙ c.args.instructions.ok.0) raw.3 in
     let made = c.in_ok-function.ensures.ok in
     let none = no_locals made.1 _ (drained_array made.0 made.1 made.3 ∙ ap length made.2.0) made.5 in
-    c.into_raw_body.ensures ∙ raw.4.bytes ∙ ap₂ ◌++◌ none given
+    raw.4.bytes ∙ ap₂ ◌++◌ none given
