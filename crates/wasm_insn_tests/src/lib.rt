@@ -20,6 +20,8 @@ mod examples;
 #[cfg(test)]
 mod immediates;
 #[cfg(test)]
+mod lengths;
+#[cfg(test)]
 mod rows;
 #[cfg(test)]
 mod sink;
