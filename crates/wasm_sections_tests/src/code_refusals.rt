@@ -231,10 +231,10 @@ fn check_function(
 }
 
 /// The call of `begun` of this place.
-fn check_begun(
+fn check_begun<'a>(
     rt: &impl Abort,
-    heap: Heap<'_>,
-    given: &Function<Heap<'_>>,
+    heap: Heap<'a>,
+    given: &Function<Heap<'a>>,
     place: usize,
 ) -> Result<(), Fail> {
     for nth in 1..MOST {

@@ -1,6 +1,6 @@
 // Requests for memory that are refused, and reads and writes that fail in mid-stream.
 use crate::checks::{Heap, MOST, check_that};
-use std::alloc::Allocator;
+use std::alloc::Global;
 use std::io::{Read, Write};
 use std::process::Abort;
 use test_support::{EndlessReader, FailingReader, FailingWriter, Refusing};
@@ -119,9 +119,9 @@ fn an_endless_input(rt: HostRuntime) {
 }
 
 /// A run where one write fails: what it writes goes no further. Answers whether no write failed.
-fn check_write<A: Allocator + Copy>(
+fn check_write(
     rt: &impl Abort,
-    alloc: A,
+    alloc: Global,
     failing: u64,
     text: &str,
     expected: &[u8],
@@ -129,7 +129,8 @@ fn check_write<A: Allocator + Copy>(
 ) -> bool {
     let mut out = FailingWriter::new(alloc, failing);
     let mut err = FailingWriter::new(alloc, failing);
-    let status = run(alloc, &[], &mut text.as_bytes(), &mut out, &mut err);
+    let mut input = text.as_bytes();
+    let status = run(alloc, &[], &mut input, &mut out, &mut err);
     check_that(rt, status == 0 || status == 1);
     check_that(rt, expected.starts_with(out.bytes()));
     check_that(rt, message.starts_with(err.bytes()));
@@ -139,13 +140,7 @@ fn check_write<A: Allocator + Copy>(
 }
 
 /// Each write of the run fails in turn, until none does.
-fn check_writes<A: Allocator + Copy>(
-    rt: &impl Abort,
-    alloc: A,
-    text: &str,
-    expected: &[u8],
-    message: &[u8],
-) {
+fn check_writes(rt: &impl Abort, alloc: Global, text: &str, expected: &[u8], message: &[u8]) {
     for failing in 1..MOST {
         if check_write(rt, alloc, failing, text, expected, message) {
             check_that(rt, failing > 1);
