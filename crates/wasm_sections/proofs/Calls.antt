@@ -29,8 +29,8 @@ use Rattle.wasm_sections.specs.Tags.{tag_type}
 use Rattle.wasm_sections.specs.declared.memory.MemoryType.{MemoryType}
 use Rattle.wasm_sections.specs.declared.table.TableType.{TableType}
 use Rattle.wasm_sections.specs.declared.tag.TagType.{TagType}
-use Rattle.wasm_sections.proofs.HeldLaws.{holds_more}
-use Rattle.wasm_sections.proofs.Parts.{pair_spelled}
+use Rattle.wasm_base.proofs.HeldLaws.{holds_more}
+use Rattle.wasm_base.proofs.PartLaws.{pair_spelled}
 use Rattle.wasm_sections.proofs.Payloads.{functions-payload, tables-payload, memories-payload, globals-payload, exports-payload, imports-payload, tags-payload}
 
 -- ---- a new section

@@ -1,4 +1,3 @@
-pub mod Parts
 pub mod ViewedLists
 pub mod FlagLaws
 pub mod NumberLaws

@@ -6,5 +6,4 @@ pub mod Tables
 pub mod Exports
 pub mod Globals
 pub mod Imports
-pub mod Laws
 pub mod Readings

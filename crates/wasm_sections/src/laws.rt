@@ -11,7 +11,7 @@ ghost use Rattle.wasm_base.specs.Reading.{UniqueReading, IsUniqueWide};
 ghost use Rattle.wasm_sections.specs.Exports.{export_text, IsExport, item_of, export};
 ghost use Rattle.wasm_sections.specs.Globals.{global_type, global_item_text, IsGivenGlobal, global_item_of, global_item};
 ghost use Rattle.wasm_sections.specs.Imports.{import_text, IsImport, import_format, entity};
-ghost use Rattle.wasm_sections.specs.Laws.{HoldsMore, NothingStandsWide};
+ghost use Rattle.wasm_base.specs.Laws.{HoldsMore, NothingStandsWide};
 ghost use Rattle.wasm_sections.specs.Memories.{memory_text, IsMemory, memory_type};
 ghost use Rattle.wasm_sections.specs.Tables.{table_type, table_item_text, IsGivenTable, table_item_of, table_item};
 ghost use Rattle.wasm_sections.specs.Tags.{tag_text, IsTag, tag_type};

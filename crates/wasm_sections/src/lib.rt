@@ -8,7 +8,6 @@ mod functions;
 mod global;
 mod import;
 pub mod laws;
-mod lent;
 mod memory;
 mod numbers;
 mod table;
