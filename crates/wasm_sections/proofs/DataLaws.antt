@@ -1,6 +1,7 @@
 -- Data segments are read uniquely.
 use Rattle.std.proofs.Common.{◌≡◌, ◌≢◌, ℕ, zero, suc, ◌^◌, ◌<◌, List, [], ◌∷◌, ◌++◌, length, Result, Ok, Err, Option, refl, sym, ap, subst, ◌∙◌, append_assoc, arith, length-append}
-use Rattle.std.specs.Iterator.{Count}
+use Rattle.std.specs.Iterator.{Count, Drains, size}
+use Rattle.wasm_base.specs.Calls.{Adds}
 use Rattle.wasm_base.specs.Entries.{ItemLaws}
 use Rattle.wasm_base.specs.Formats.{u32, byte, such, pair, vec, members}
 use Rattle.wasm_base.specs.Numbers.{shortest, unsigned_text}
@@ -84,6 +85,23 @@ same_texts {old = old} {new = new} (Ok x) e h = record {
   too_many = h.too_many;
 }
 same_texts (Err x) e h = record { ok = h.ok; err = h.err; counted = h.counted; too_long = h.too_long; too_many = h.too_many }
+
+-- what a call adds whose elements give these bytes
+pub adds_these : {U S : Type 0} {becomes : U → S → Type 0} {gives : S → Option ℕ → S → Type 0} {remaining : S → Count} {elements : U} {text : List ℕ → List ℕ} {old new : List (List ℕ)} (result : Result (Unit {0}) Refused) (bytes : List ℕ)
+    → ((it : S) (xs : List ℕ) → becomes elements it → Drains gives it xs → xs ≡ bytes) → ((it : S) → becomes elements it → size (remaining it) ≡ length bytes) → AddsBytes becomes gives remaining elements text old new result
+    → Adds (text bytes) (FrameFits bytes) old new result
+adds_these {text = text} {old = old} {new = new} (Ok x) bytes same counts h =
+    let given = h.ok in
+    let is = same given.0 given.1 given.2 given.3 in
+    record {
+      ok = subst (λ bs. new ≡ old ++ text bs ∷ []) is given.5;
+      err = h.err;
+      fitted = subst FrameFits is given.4;
+      counted = h.counted;
+      too_long = λ fits room. h.too_long (λ it b. omega (arith, counts it b, fits)) room;
+    }
+adds_these (Err e) bytes same counts h =
+    record { ok = h.ok; err = h.err; fitted = h.ok; counted = h.counted; too_long = λ fits room. h.too_long (λ it b. omega (arith, counts it b, fits)) room }
 
 -- the text of a segment of another memory than 0
 pub other_memory : (memory : ℕ) (offset bytes : List ℕ) → memory ≢ 0 → (0x02 ∷ (unsigned_text memory ++ expression_text offset)) ++ frame_text bytes ≡ active_text memory offset bytes
