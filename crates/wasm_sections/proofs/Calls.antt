@@ -1,5 +1,6 @@
 -- What calls leave, step by step: lemmas that a caller cites.
-use Rattle.std.proofs.Common.{◌≡◌, ℕ, ◌^◌, ◌<◌, List, [], ◌∷◌, ◌++◌, map, IsUtf8, Bor, None, Some, Result, Ok, Err, refl, sym, subst, ◌∙◌}
+use Rattle.std.proofs.Common.{◌≡◌, ℕ, ◌^◌, ◌<◌, List, [], ◌∷◌, ◌++◌, map, IsUtf8, Bor, None, Some, Result, Ok, Err, refl, sym, subst, ◌∙◌, arith}
+use Rattle.std.proofs.lemmas.List.{length-map}
 use Rattle.std.proofs.lemmas.List.Elements.{All-map}
 use Rattle.std.specs.Prelude.{OnOk}
 use Rattle.std.specs.Array.Iter.{array_into_iter_items, array_steps}
@@ -21,14 +22,17 @@ use Rattle.wasm_base.specs.Modules.{SectionReading, reading_of, ReadsSections, R
 use Rattle.wasm_base.specs.Numbers.{shortest, unsigned_text}
 use Rattle.wasm_base.specs.Pieces.{SectionPayload, SectionFits, section_text, section_framed}
 use Rattle.wasm_base.specs.Texts.{frame_text, FrameFits, VecFits, raw_framed}
+use Rattle.wasm_base.specs.Types.{IsRef}
+use Rattle.wasm_base.specs.declared.types.RefType.{RefType}
 use Rattle.wasm_base.proofs.Calls.{gains_section}
 use Rattle.wasm_base.proofs.KnownLengths.{array_items, copied_items}
 use Rattle.wasm_base.proofs.Payloads.{u32-payload}
 use Rattle.wasm_base.proofs.TextLaws.{u32_spelled, name_spelled}
+use Rattle.wasm_code.proofs.Calls.{all_of}
 use Rattle.wasm_code.specs.Expressions.{expression_text, StoresInstructions}
-use Rattle.wasm_sections.specs.Constants.{Stored}
+use Rattle.wasm_sections.specs.Constants.{Stored, IsStored}
 use Rattle.wasm_sections.specs.DataSegments.{AddsBytes, active_text, passive_text, DataItem, active, passive, given_active, given_passive, data_item}
-use Rattle.wasm_sections.specs.Elements.{Segment, settled, settled_text, IsSegment, element_of, element}
+use Rattle.wasm_sections.specs.Elements.{Segment, Place, functions, expressions, ElementsFit, IsPlace, settled, settled_text, IsSegment, element_of, element}
 use Rattle.wasm_sections.specs.Exports.{kind_code, export_text, IsExport, ExportItem, item_of, export}
 use Rattle.wasm_sections.specs.Globals.{global_text, IsGlobal, GlobalItem, global_item}
 use Rattle.wasm_sections.specs.Imports.{ImportItem, alike, import_text, ImportFits, IsEntity, import_format}
@@ -42,7 +46,7 @@ use Rattle.wasm_sections.specs.declared.table.TableType.{TableType}
 use Rattle.wasm_sections.specs.declared.tag.TagType.{TagType}
 use Rattle.wasm_base.proofs.HeldLaws.{holds_more}
 use Rattle.wasm_base.proofs.PartLaws.{pair_spelled}
-use Rattle.wasm_sections.proofs.ElementLaws.{stored_by, stored_same}
+use Rattle.wasm_sections.proofs.ElementLaws.{elements_by, stored_by, stored_same}
 use Rattle.wasm_sections.proofs.Payloads.{functions-payload, tables-payload, memories-payload, globals-payload, exports-payload, elements-payload, data-payload, imports-payload, tags-payload}
 
 -- ---- a new section
@@ -127,6 +131,19 @@ adds_export {old = old} {items = items} before item e fits utf8 range =
 pub adds_element : {old new : List (List ℕ)} {items : List (Segment (List Plain))} → HoldsElements old items → (given : Segment Stored) → new ≡ old ++ settled_text expression_text (settled (stored_by given)) ∷ []
     → IsSegment given → HoldsElements new (items ++ element_of given ∷ [])
 adds_element {old = old} {new = new} before given e plain = adds_item before given (subst (λ s. new ≡ old ++ s ∷ []) (sym (stored_same given)) e) plain
+
+-- a segment of functions, and one of expressions, whose numbers the call has counted
+pub adds_functions : {old new : List (List ℕ)} {items : List (Segment (List Plain))} → HoldsElements old items → (place : Place Stored) (indices : List ℕ)
+    → new ≡ old ++ settled_text expression_text (settled (stored_by (record { place = place; elements = functions indices }))) ∷ [] → ElementsFit {E = List ℕ} (functions indices) → IsPlace place → AllByRecursion (λ f. f < 2 ^ 32) indices
+    → HoldsElements new (items ++ element_of (record { place = place; elements = functions indices }) ∷ [])
+adds_functions before place indices e fits placed are =
+    adds_element before (record { place = place; elements = functions indices }) e (record { place = placed; elements = record { count = fits.count; members = all_of (λ f. f < 2 ^ 32) indices are } })
+
+pub adds_expressions : {old new : List (List ℕ)} {items : List (Segment (List Plain))} → HoldsElements old items → (place : Place Stored) (ty : RefType) (stored : List Stored)
+    → new ≡ old ++ settled_text expression_text (settled (stored_by (record { place = place; elements = expressions ty stored }))) ∷ [] → ElementsFit (elements_by (expressions ty stored)) → IsPlace place → IsRef ty → AllByRecursion IsStored stored
+    → HoldsElements new (items ++ element_of (record { place = place; elements = expressions ty stored }) ∷ [])
+adds_expressions before place ty stored e fits placed range are =
+    adds_element before (record { place = place; elements = expressions ty stored }) e (record { place = placed; elements = (range, record { count = omega (arith, fits.count, length-map stored (λ e. e.bytes)); members = all_of IsStored stored are }) })
 
 -- an active segment of bytes, at a place that an expression stores, and a passive one
 pub adds_active : {old new : List (List ℕ)} {items : List DataItem} → HoldsSegments old items → (memory : ℕ) (is : List Plain) (offset bytes : List ℕ) → new ≡ old ++ active_text memory offset bytes ∷ [] → memory < 2 ^ 32

@@ -205,12 +205,12 @@ element_laws = record { alone = element-alone; spelled = λ s plain fits. elemen
 
 -- ---- the bytes of a segment's expressions
 
-abbrev place_by : Place Stored → Place (List ℕ)
+abbrev pub place_by : Place Stored → Place (List ℕ)
 place_by passive = passive
 place_by declared = declared
 place_by (active table offset) = active table offset.bytes
 
-abbrev elements_by : ElementList Stored → ElementList (List ℕ)
+abbrev pub elements_by : ElementList Stored → ElementList (List ℕ)
 elements_by (functions fs) = functions fs
 elements_by (expressions r es) = expressions r (map (λ e. e.bytes) es)
 

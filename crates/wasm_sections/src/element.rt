@@ -295,11 +295,11 @@ impl<A: Allocator> ElementSection<A> {
     }
 
     /// Adds a segment whose references are put in this table when the module is instantiated.
-    pub fn active<B: Allocator>(
+    pub fn active<'a, B: Allocator>(
         &mut self,
         table: Option<u32>,
-        offset: &ConstExpr<B>,
-        elements: Elements<'_, B>,
+        offset: &'a ConstExpr<B>,
+        elements: Elements<'a, B>,
     ) -> R<()>
         ensures { Adds (given_text (record { mode = modes.Active table offset.entry; elements = elements.entry })) (ElementsFit (list_in elements.entry)) self.old self.new result }
     {
