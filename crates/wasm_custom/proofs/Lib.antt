@@ -12,3 +12,4 @@ pub mod CoreStackLaws
 pub mod SectionLaws
 pub mod HeldLaws
 pub mod NothingLaws
+pub mod Calls

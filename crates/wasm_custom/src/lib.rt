@@ -14,6 +14,7 @@ mod linking;
 mod lists;
 mod names;
 mod producers;
+mod raw_custom;
 mod subsections;
 mod symbols;
 
@@ -22,11 +23,12 @@ pub use core_dumps::{
 };
 pub use core_stack::CoreDumpStackSection;
 pub use core_values::CoreDumpValue;
-pub use custom_section::{CustomSection, RawCustomSection};
+pub use custom_section::CustomSection;
 pub use entries::{CustomEntries, CustomKind};
 pub use hints::{BranchHint, BranchHints, HintItems};
 pub use linking::{LinkingItems, LinkingSection};
 pub use lists::{CountedList, ListKind};
 pub use names::{IndirectMembers, IndirectNameMap, NameItems, NameMap, NameMembers, NameSection};
 pub use producers::{ProducerItems, ProducersField, ProducersSection, ValueMembers};
+pub use raw_custom::RawCustomSection;
 pub use symbols::{DataSymbolDefinition, SymbolMembers, SymbolTable};

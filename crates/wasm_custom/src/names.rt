@@ -203,7 +203,7 @@ impl<A: Allocator> NameSection<A> {
     pub fn tag<B: Allocator>(&mut self, names: &NameMap<B>) -> R<()>
         ensures { Adds (subsection_text 11 (list_text names.now)) (FrameFits (list_text names.now) × ⊤) self.old self.new result }
     {
-        self.map(11, names)
+        self.tags(names)
     }
 
     /// Adds the names of tags. A refused call leaves the section as it was.
