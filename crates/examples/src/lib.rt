@@ -3,10 +3,12 @@
 
 mod alone;
 mod first;
+mod names;
 mod recursion;
 mod whole;
 
 pub use alone::{encode_exports, encode_group, encode_import, encode_local};
 pub use first::first_module;
+pub use names::named_module;
 pub use recursion::{choice, factorial};
 pub use whole::whole_module;

@@ -67,7 +67,12 @@ fn hints(rt: HostRuntime) -> Result<(), Fail> {
     let mut section = BranchHints::new(rt.alloc());
     let answer = section.function_hints(0, copies_of(HINT, TOO_MANY, &asked));
     check_too_long(&rt, answer, &asked);
-    check_text(&rt, rt.alloc(), &section, b"\x1B\x19metadata.code.branch_hint\x00")
+    check_text(
+        &rt,
+        rt.alloc(),
+        &section,
+        b"\x1B\x19metadata.code.branch_hint\x00",
+    )
 }
 
 #[test]
@@ -96,7 +101,12 @@ fn locals(rt: HostRuntime) -> Result<(), Fail> {
     let locals = copies_of(missing, TOO_MANY, &asked);
     let answer = section.frame(0, 42, 51, locals, copies_of(missing, 1, &asked));
     check_too_long(&rt, answer, &asked);
-    check_text(&rt, rt.alloc(), &section, b"\x11\x09corestack\x00\x04main\x00")
+    check_text(
+        &rt,
+        rt.alloc(),
+        &section,
+        b"\x11\x09corestack\x00\x04main\x00",
+    )
 }
 
 #[test]
@@ -107,5 +117,10 @@ fn stack(rt: HostRuntime) -> Result<(), Fail> {
     let locals = copies_of(missing, 1, &asked);
     let answer = section.frame(0, 42, 51, locals, copies_of(missing, TOO_MANY, &asked));
     check_too_long(&rt, answer, &asked);
-    check_text(&rt, rt.alloc(), &section, b"\x11\x09corestack\x00\x04main\x00")
+    check_text(
+        &rt,
+        rt.alloc(),
+        &section,
+        b"\x11\x09corestack\x00\x04main\x00",
+    )
 }

@@ -57,9 +57,7 @@ fn check_map<F: Fn(&mut NameSection, &NameMap) -> R<()>>(
         rt,
         alloc,
         &section,
-        &[
-            11, 4, b'n', b'a', b'm', b'e', id, 4, 1, 0, 1, b't',
-        ],
+        &[11, 4, b'n', b'a', b'm', b'e', id, 4, 1, 0, 1, b't'],
     )
 }
 
@@ -95,9 +93,7 @@ fn check_indirect_map<F: Fn(&mut NameSection, &IndirectNameMap) -> R<()>>(
         rt,
         alloc,
         &section,
-        &[
-            13, 4, b'n', b'a', b'm', b'e', id, 6, 1, 0, 1, 1, 1, b'x',
-        ],
+        &[13, 4, b'n', b'a', b'm', b'e', id, 6, 1, 0, 1, 1, 1, b'x'],
     )
 }
 

@@ -6,16 +6,13 @@ use std::test::Fail;
 use test_support::Refusing;
 use wasm_base::{Encode, R, Section};
 use wasm_custom::{
-    BranchHint, BranchHints, CoreDumpInstancesSection, CoreDumpModulesSection, CountedList,
-    CustomEntries, CustomKind, DataSymbolDefinition, IndirectNameMap, LinkingSection, ListKind,
-    NameMap, NameSection, ProducersField, ProducersSection, SymbolTable,
+    BranchHint, BranchHints, CoreDumpInstancesSection, CoreDumpModulesSection, CustomEntries,
+    CustomKind, DataSymbolDefinition, IndirectNameMap, LinkingSection, NameMap, NameSection,
+    ProducersField, ProducersSection, SymbolTable,
 };
 
 /// A section that takes its memory from an allocator that refuses.
 type LentEntries<'h, K> = CustomEntries<K, &'h Refusing<Global>>;
-
-/// A list that does.
-type LentList<'h, K> = CountedList<K, &'h Refusing<Global>>;
 
 /// The item is written as these bytes, where no request is refused.
 pub(crate) fn check_written<T: Encode>(
@@ -143,40 +140,52 @@ pub(crate) fn check_copy<T: Encode + Drop>(
     }
 }
 
-/// An adding call makes a list of these bytes of an empty one. Where a request is refused, the list is as it was.
-fn check_member<'h, K: ListKind, F: Fn(&mut LentList<'h, K>) -> R<()>>(
-    rt: &impl Abort,
-    heap: Heap<'h>,
-    expected: &[u8],
+/// What is done with lists of one type: one is made, an entry is added, and a copy is made.
+#[derive(Drop)]
+struct Calls<N, F, C> {
+    new: N,
     add: F,
+    copy: C,
+}
+
+/// An adding call makes a list of these bytes of an empty one. Where a request is refused, the list is as it was.
+fn check_member<L: Encode + Drop, N: Fn() -> L, F: Fn(&mut L) -> R<()>, C: Fn(&L) -> R<L>>(
+    rt: &impl Abort,
+    heap: Heap<'_>,
+    expected: &[u8],
+    calls: &Calls<N, F, C>,
 ) -> Result<(), Fail>
-    requires { F.IsAlwaysCallable add }
+    requires new { N.IsAlwaysCallable calls.now.new }
+    requires add { F.IsAlwaysCallable calls.now.add }
+    requires copy { C.IsAlwaysCallable calls.now.copy }
 {
     for nth in 1..MOST {
-        let mut list = CountedList::new(heap);
+        let mut list = (calls.new)();
         heap.refuse(nth);
-        let answer = add(&mut list);
+        let answer = (calls.add)(&mut list);
         let granted = check_answer(rt, heap, nth, answer);
-        check_number(rt, granted, list.len());
         check_written(rt, heap, &list, if granted { expected } else { &[0] })?;
         if granted {
-            return check_list(rt, heap, &list, expected);
+            check_encode(rt, heap, &list)?;
+            return check_copies(rt, heap, &list, expected, &calls.copy);
         }
     }
     panic!(rt; "no call was granted")
 }
 
-/// What is done with a list of these bytes.
-fn check_list<'h, K: ListKind>(
+/// A copy of the item has these bytes.
+fn check_copies<L: Encode + Drop, C: Fn(&L) -> R<L>>(
     rt: &impl Abort,
-    heap: Heap<'h>,
-    list: &LentList<'h, K>,
+    heap: Heap<'_>,
+    item: &L,
     expected: &[u8],
-) -> Result<(), Fail> {
-    check_encode(rt, heap, list)?;
+    copy: &C,
+) -> Result<(), Fail>
+    requires { C.IsAlwaysCallable copy.now }
+{
     for nth in 1..MOST {
         heap.refuse(nth);
-        if check_copy(rt, heap, nth, list.clone(), expected)? {
+        if check_copy(rt, heap, nth, copy(item), expected)? {
             return Ok(());
         }
     }
@@ -186,9 +195,16 @@ fn check_list<'h, K: ListKind>(
 #[test]
 fn name_maps(rt: HostRuntime) -> Result<(), Fail> {
     let heap = Refusing::new(rt.alloc());
-    check_member(&rt, &heap, b"\x01\x00\x01t", |map: &mut NameMap<_>| {
-        map.append(0, "t")
-    })
+    check_member(
+        &rt,
+        &heap,
+        b"\x01\x00\x01t",
+        &Calls {
+            new: || NameMap::new(&heap),
+            add: |map: &mut NameMap<_>| map.append(0, "t"),
+            copy: |map: &NameMap<_>| map.clone(),
+        },
+    )
 }
 
 #[test]
@@ -200,16 +216,27 @@ fn indirect_name_maps(rt: HostRuntime) -> Result<(), Fail> {
         &rt,
         &heap,
         b"\x01\x00\x01\x01\x01x",
-        |map: &mut IndirectNameMap<_>| map.append(0, &inner),
+        &Calls {
+            new: || IndirectNameMap::new(&heap),
+            add: |map: &mut IndirectNameMap<_>| map.append(0, &inner),
+            copy: |map: &IndirectNameMap<_>| map.clone(),
+        },
     )
 }
 
 #[test]
 fn producers_fields(rt: HostRuntime) -> Result<(), Fail> {
     let heap = Refusing::new(rt.alloc());
-    check_member(&rt, &heap, b"\x01\x01a\x011", |field: &mut ProducersField<_>| {
-        field.value("a", "1")
-    })
+    check_member(
+        &rt,
+        &heap,
+        b"\x01\x01a\x011",
+        &Calls {
+            new: || ProducersField::new(&heap),
+            add: |field: &mut ProducersField<_>| field.value("a", "1"),
+            copy: |field: &ProducersField<_>| field.clone(),
+        },
+    )
 }
 
 const DEFINITION: DataSymbolDefinition = DataSymbolDefinition {
@@ -218,19 +245,46 @@ const DEFINITION: DataSymbolDefinition = DataSymbolDefinition {
     size: 3,
 };
 
+/// A call adds a symbol of these bytes.
+fn check_symbol<'h, F: Fn(&mut SymbolTable<Heap<'h>>) -> R<()> + Drop>(
+    rt: &impl Abort,
+    heap: Heap<'h>,
+    expected: &[u8],
+    add: F,
+) -> Result<(), Fail>
+    requires { F.IsAlwaysCallable add }
+{
+    check_member(
+        rt,
+        heap,
+        expected,
+        &Calls {
+            new: || SymbolTable::new(heap),
+            add,
+            copy: |symbols: &SymbolTable<_>| symbols.clone(),
+        },
+    )
+}
+
 #[test]
 fn symbol_tables(rt: HostRuntime) -> Result<(), Fail> {
     let heap = Refusing::new(rt.alloc());
-    check_member(&rt, &heap, b"\x01\x00\x20\x01\x01f", |symbols: &mut SymbolTable<_>| {
+    check_symbol(&rt, &heap, b"\x01\x00\x20\x01\x01f", |symbols| {
         symbols.function(0x20, 1, Some("f"))
     })?;
-    check_member(&rt, &heap, &[1, 2, 16, 1], |symbols: &mut SymbolTable<_>| {
-        symbols.global(16, 1, None)
-    })?;
-    check_member(&rt, &heap, &[1, 5, 16, 1], |symbols: &mut SymbolTable<_>| {
-        symbols.table(16, 1, None)
-    })?;
-    check_member(&rt, &heap, b"\x01\x01\x00\x01d\x01\x02\x03", |symbols: &mut SymbolTable<_>| {
+    check_symbol(
+        &rt,
+        &heap,
+        &[1, 2, 16, 1],
+        |symbols| symbols.global(16, 1, None),
+    )?;
+    check_symbol(
+        &rt,
+        &heap,
+        &[1, 5, 16, 1],
+        |symbols| symbols.table(16, 1, None),
+    )?;
+    check_symbol(&rt, &heap, b"\x01\x01\x00\x01d\x01\x02\x03", |symbols| {
         symbols.data(0, "d", Some(DEFINITION))
     })
 }

@@ -185,12 +185,7 @@ fn producers(rt: HostRuntime) -> Result<(), Fail> {
 }
 
 /// A section of one hint is written as these bytes.
-fn check_hint(
-    rt: &impl Abort,
-    alloc: Global,
-    value: u32,
-    expected: &[u8],
-) -> Result<(), Fail> {
+fn check_hint(rt: &impl Abort, alloc: Global, value: u32, expected: &[u8]) -> Result<(), Fail> {
     let hint = BranchHint {
         branch_func_offset: 3,
         branch_hint_value: value,
