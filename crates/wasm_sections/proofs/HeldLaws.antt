@@ -4,6 +4,8 @@ use Rattle.wasm_base.specs.Formats.{u32}
 use Rattle.wasm_base.specs.Laws.{FitsUnsigned, HoldsMore}
 use Rattle.wasm_base.specs.Numbers.{unsigned_text}
 use Rattle.wasm_base.proofs.HeldLaws.{holds_more}
+use Rattle.wasm_sections.specs.DataSegments.{data_text, IsGivenData, data_of, data_item}
+use Rattle.wasm_sections.specs.Elements.{element_text, IsSegment, element_of, element}
 use Rattle.wasm_sections.specs.Exports.{export_text, IsExport, item_of, export}
 use Rattle.wasm_sections.specs.Globals.{global_item_text, IsGivenGlobal, global_item_of, global_item}
 use Rattle.wasm_sections.specs.Imports.{import_text, IsImport, import_format}
@@ -32,4 +34,10 @@ imports-held = holds_more import_text IsImport (λ import. import) import_format
 pub tags-held : HoldsMore tag_text IsTag (λ tag. tag) tag_type
 tags-held = holds_more tag_text IsTag (λ tag. tag) tag_type
 
-pub ruleset calls = (functions-held, tables-held, memories-held, globals-held, exports-held, imports-held, tags-held)
+pub data-held : HoldsMore data_text IsGivenData data_of data_item
+data-held = holds_more data_text IsGivenData data_of data_item
+
+pub elements-held : HoldsMore element_text IsSegment element_of element
+elements-held = holds_more element_text IsSegment element_of element
+
+pub ruleset calls = (data-held, elements-held, functions-held, tables-held, memories-held, globals-held, exports-held, imports-held, tags-held)

@@ -8,6 +8,8 @@ pub mod TableLaws
 pub mod ExportLaws
 pub mod GlobalLaws
 pub mod ImportLaws
+pub mod DataLaws
+pub mod ElementLaws
 pub mod SectionLaws
 pub mod HeldLaws
 pub mod Payloads

@@ -90,4 +90,11 @@ impl<A: Allocator> GlobalSection<A> {
     {
         self.add_record(&(global_type, Lent(init)))
     }
+
+    /// Adds a global that is spelled already. A refused call leaves the section as it was.
+    pub fn raw(&mut self, global: &[u8]) -> R<()>
+        ensures { Adds global.now ⊤ self.old self.new result }
+    {
+        self.add_piece(global)
+    }
 }
