@@ -245,48 +245,64 @@ const DEFINITION: DataSymbolDefinition = DataSymbolDefinition {
     size: 3,
 };
 
-/// A call adds a symbol of these bytes.
-fn check_symbol<'h, F: Fn(&mut SymbolTable<Heap<'h>>) -> R<()> + Drop>(
-    rt: &impl Abort,
-    heap: Heap<'h>,
-    expected: &[u8],
-    add: F,
-) -> Result<(), Fail>
-    requires { F.IsAlwaysCallable add }
-{
+#[test]
+fn function_symbols(rt: HostRuntime) -> Result<(), Fail> {
+    let heap = Refusing::new(rt.alloc());
     check_member(
-        rt,
-        heap,
-        expected,
+        &rt,
+        &heap,
+        b"\x01\x00\x20\x01\x01f",
         &Calls {
-            new: || SymbolTable::new(heap),
-            add,
+            new: || SymbolTable::new(&heap),
+            add: |symbols: &mut SymbolTable<_>| symbols.function(0x20, 1, Some("f")),
             copy: |symbols: &SymbolTable<_>| symbols.clone(),
         },
     )
 }
 
 #[test]
-fn symbol_tables(rt: HostRuntime) -> Result<(), Fail> {
+fn global_symbols(rt: HostRuntime) -> Result<(), Fail> {
     let heap = Refusing::new(rt.alloc());
-    check_symbol(&rt, &heap, b"\x01\x00\x20\x01\x01f", |symbols| {
-        symbols.function(0x20, 1, Some("f"))
-    })?;
-    check_symbol(
+    check_member(
         &rt,
         &heap,
         &[1, 2, 16, 1],
-        |symbols| symbols.global(16, 1, None),
-    )?;
-    check_symbol(
+        &Calls {
+            new: || SymbolTable::new(&heap),
+            add: |symbols: &mut SymbolTable<_>| symbols.global(16, 1, None),
+            copy: |symbols: &SymbolTable<_>| symbols.clone(),
+        },
+    )
+}
+
+#[test]
+fn table_symbols(rt: HostRuntime) -> Result<(), Fail> {
+    let heap = Refusing::new(rt.alloc());
+    check_member(
         &rt,
         &heap,
         &[1, 5, 16, 1],
-        |symbols| symbols.table(16, 1, None),
-    )?;
-    check_symbol(&rt, &heap, b"\x01\x01\x00\x01d\x01\x02\x03", |symbols| {
-        symbols.data(0, "d", Some(DEFINITION))
-    })
+        &Calls {
+            new: || SymbolTable::new(&heap),
+            add: |symbols: &mut SymbolTable<_>| symbols.table(16, 1, None),
+            copy: |symbols: &SymbolTable<_>| symbols.clone(),
+        },
+    )
+}
+
+#[test]
+fn data_symbols(rt: HostRuntime) -> Result<(), Fail> {
+    let heap = Refusing::new(rt.alloc());
+    check_member(
+        &rt,
+        &heap,
+        b"\x01\x01\x00\x01d\x01\x02\x03",
+        &Calls {
+            new: || SymbolTable::new(&heap),
+            add: |symbols: &mut SymbolTable<_>| symbols.data(0, "d", Some(DEFINITION)),
+            copy: |symbols: &SymbolTable<_>| symbols.clone(),
+        },
+    )
 }
 
 const NO_NAMES: [u8; 6] = [5, 4, b'n', b'a', b'm', b'e'];
@@ -310,76 +326,158 @@ fn module_names(rt: HostRuntime) -> Result<(), Fail> {
     )
 }
 
-/// A call that adds the map {0: "t"} as a subsection of this id.
-fn check_map<'h, F: Fn(&mut NameSection<&'h Refusing<Global>>, &NameMap) -> R<()>>(
-    rt: &impl Abort,
-    heap: Heap<'h>,
-    alloc: Global,
-    id: u8,
-    add: F,
-) -> Result<(), Fail>
-    requires { F.IsAlwaysCallable add }
-{
+/// The map {0: "t"}.
+fn one_name(alloc: Global) -> Result<NameMap, Fail> {
     let mut map = NameMap::new(alloc);
     map.append(0, "t")?;
+    Ok(map)
+}
+
+/// The name section of that map as a subsection of this id.
+fn map_bytes(id: u8) -> [u8; 12] {
+    [11, 4, b'n', b'a', b'm', b'e', id, 4, 1, 0, 1, b't']
+}
+
+#[test]
+fn names_of_code(rt: HostRuntime) -> Result<(), Fail> {
+    let heap = Refusing::new(rt.alloc());
+    let map = one_name(rt.alloc())?;
     check_adding(
-        rt,
-        heap,
+        &rt,
+        &heap,
         &NO_NAMES,
-        &[11, 4, b'n', b'a', b'm', b'e', id, 4, 1, 0, 1, b't'],
-        |section: &mut NameSection<_>| add(section, &map),
+        &map_bytes(1),
+        |names: &mut NameSection<_>| names.functions(&map),
+    )?;
+    check_adding(
+        &rt,
+        &heap,
+        &NO_NAMES,
+        &map_bytes(4),
+        |names: &mut NameSection<_>| names.types(&map),
+    )?;
+    check_adding(
+        &rt,
+        &heap,
+        &NO_NAMES,
+        &map_bytes(5),
+        |names: &mut NameSection<_>| names.tables(&map),
     )
 }
 
 #[test]
-fn maps(rt: HostRuntime) -> Result<(), Fail> {
+fn names_of_memory(rt: HostRuntime) -> Result<(), Fail> {
     let heap = Refusing::new(rt.alloc());
-    check_map(&rt, &heap, rt.alloc(), 1, |names, map| names.functions(map))?;
-    check_map(&rt, &heap, rt.alloc(), 4, |names, map| names.types(map))?;
-    check_map(&rt, &heap, rt.alloc(), 5, |names, map| names.tables(map))?;
-    check_map(&rt, &heap, rt.alloc(), 6, |names, map| names.memories(map))?;
-    check_map(&rt, &heap, rt.alloc(), 7, |names, map| names.globals(map))?;
-    check_map(&rt, &heap, rt.alloc(), 8, |names, map| names.elements(map))?;
-    check_map(&rt, &heap, rt.alloc(), 9, |names, map| names.data(map))?;
-    check_map(&rt, &heap, rt.alloc(), 11, |names, map| names.tag(map))?;
-    check_map(&rt, &heap, rt.alloc(), 11, |names, map| names.tags(map))
+    let map = one_name(rt.alloc())?;
+    check_adding(
+        &rt,
+        &heap,
+        &NO_NAMES,
+        &map_bytes(6),
+        |names: &mut NameSection<_>| names.memories(&map),
+    )?;
+    check_adding(
+        &rt,
+        &heap,
+        &NO_NAMES,
+        &map_bytes(7),
+        |names: &mut NameSection<_>| names.globals(&map),
+    )?;
+    check_adding(
+        &rt,
+        &heap,
+        &NO_NAMES,
+        &map_bytes(9),
+        |names: &mut NameSection<_>| names.data(&map),
+    )
 }
 
-/// A call that adds the map {0: {1: "x"}} as a subsection of this id.
-fn check_indirect_map<'h, F: Fn(&mut NameSection<&'h Refusing<Global>>, &IndirectNameMap) -> R<()>>(
-    rt: &impl Abort,
-    heap: Heap<'h>,
-    alloc: Global,
-    id: u8,
-    add: F,
-) -> Result<(), Fail>
-    requires { F.IsAlwaysCallable add }
-{
+#[test]
+fn names_of_others(rt: HostRuntime) -> Result<(), Fail> {
+    let heap = Refusing::new(rt.alloc());
+    let map = one_name(rt.alloc())?;
+    check_adding(
+        &rt,
+        &heap,
+        &NO_NAMES,
+        &map_bytes(8),
+        |names: &mut NameSection<_>| names.elements(&map),
+    )?;
+    check_adding(
+        &rt,
+        &heap,
+        &NO_NAMES,
+        &map_bytes(11),
+        |names: &mut NameSection<_>| names.tag(&map),
+    )?;
+    check_adding(
+        &rt,
+        &heap,
+        &NO_NAMES,
+        &map_bytes(11),
+        |names: &mut NameSection<_>| names.tags(&map),
+    )
+}
+
+/// The map {0: {1: "x"}}.
+fn one_name_inside(alloc: Global) -> Result<IndirectNameMap, Fail> {
     let mut inner: NameMap = NameMap::new(alloc);
     inner.append(1, "x")?;
     let mut map = IndirectNameMap::new(alloc);
     map.append(0, &inner)?;
+    Ok(map)
+}
+
+/// The name section of that map as a subsection of this id.
+fn indirect_map_bytes(id: u8) -> [u8; 14] {
+    [13, 4, b'n', b'a', b'm', b'e', id, 6, 1, 0, 1, 1, 1, b'x']
+}
+
+#[test]
+fn names_in_functions(rt: HostRuntime) -> Result<(), Fail> {
+    let heap = Refusing::new(rt.alloc());
+    let map = one_name_inside(rt.alloc())?;
     check_adding(
-        rt,
-        heap,
+        &rt,
+        &heap,
         &NO_NAMES,
-        &[13, 4, b'n', b'a', b'm', b'e', id, 6, 1, 0, 1, 1, 1, b'x'],
-        |section: &mut NameSection<_>| add(section, &map),
+        &indirect_map_bytes(2),
+        |names: &mut NameSection<_>| names.locals(&map),
+    )?;
+    check_adding(
+        &rt,
+        &heap,
+        &NO_NAMES,
+        &indirect_map_bytes(3),
+        |names: &mut NameSection<_>| names.labels(&map),
     )
 }
 
 #[test]
-fn indirect_maps(rt: HostRuntime) -> Result<(), Fail> {
+fn names_in_types(rt: HostRuntime) -> Result<(), Fail> {
     let heap = Refusing::new(rt.alloc());
-    check_indirect_map(&rt, &heap, rt.alloc(), 2, |names, map| names.locals(map))?;
-    check_indirect_map(&rt, &heap, rt.alloc(), 3, |names, map| names.labels(map))?;
-    check_indirect_map(&rt, &heap, rt.alloc(), 10, |names, map| names.fields(map))?;
-    check_indirect_map(&rt, &heap, rt.alloc(), 12, |names, map| {
-        names.parameters(map)
-    })?;
-    check_indirect_map(&rt, &heap, rt.alloc(), 13, |names, map| {
-        names.tag_parameters(map)
-    })
+    let map = one_name_inside(rt.alloc())?;
+    check_adding(
+        &rt,
+        &heap,
+        &NO_NAMES,
+        &indirect_map_bytes(10),
+        |names: &mut NameSection<_>| names.fields(&map),
+    )?;
+    check_adding(
+        &rt,
+        &heap,
+        &NO_NAMES,
+        &indirect_map_bytes(12),
+        |names: &mut NameSection<_>| names.parameters(&map),
+    )?;
+    check_adding(
+        &rt,
+        &heap,
+        &NO_NAMES,
+        &indirect_map_bytes(13),
+        |names: &mut NameSection<_>| names.tag_parameters(&map),
+    )
 }
 
 #[test]
