@@ -14,7 +14,7 @@ use Rattle.wasm_base.specs.Formats.{Format, frame, name, pair, any_bytes, custom
 use Rattle.wasm_base.specs.Laws.{FitsUnsigned}
 use Rattle.wasm_base.specs.Modules.{SectionReading, reading_of, ReadsSections, ReadsPayloads, GainsReading}
 use Rattle.wasm_base.specs.Numbers.{unsigned_text}
-use Rattle.wasm_base.specs.Texts.{longest, frame_text, FrameFits, vec_text, VecFits}
+use Rattle.wasm_base.specs.Texts.{IsFrameOf, longest, frame_text, FrameFits, vec_text, VecFits}
 use Rattle.wasm_base.specs.declared.refused.Refused.{Refused}
 use Rattle.wasm_base.proofs.Calls.{gains_section}
 use Rattle.wasm_base.proofs.HeldLaws.{holds_more}
@@ -35,6 +35,7 @@ use Rattle.wasm_custom.specs.Readings.{AreNamings, AreInsides, AreSymbols, ArePr
 use Rattle.wasm_custom.specs.Symbols.{Symbol, symbol_text, IsGivenSymbol, IsAsFlagged, IsSymbol}
 use Rattle.wasm_custom.specs.declared.core_values.CoreDumpValue.{CoreDumpValue}
 use Rattle.wasm_custom.specs.declared.hints.BranchHint.{BranchHint}
+use Rattle.wasm_custom.proofs.CustomLaws.{custom_back}
 use Rattle.wasm_custom.proofs.ListLaws.{lists_none, lists_more, list_vector}
 use Rattle.wasm_custom.proofs.SectionLaws.{name-payload, linking-payload, producers-payload, hints-payload, modules-payload, instances-payload, core-payload, stack-payload}
 
@@ -268,6 +269,14 @@ pub gains_given : {readings : List SectionReading} {id : ℕ} {old new n content
     → ReadsBack custom (λ said. IsUtf8 n × (said ≡ (n, content))) (named_text n content) → IsUtf8 n → ReadsSections (readings ++ reading_of id (pair name any_bytes) (n, content) ∷ []) new
 gains_given {n = n} {content = content} before more fits reads utf8 =
     gains_section {F = pair name any_bytes} before more custom-payload (named_text n content) (frame_text n ++ content) refl (named_framed n content (frame_text n ++ content) fits refl) (n, content) (reads.for_each (n, content) (utf8, refl))
+
+-- a section of bytes that are given, which are the text of one of a name and data
+pub gains_given_raw : {readings : List SectionReading} {id : ℕ} {bytes old new : List ℕ} → ReadsSections readings old → ReadsOneMore (IsFrameOf bytes) id old new → (n content : List ℕ) → bytes ≡ named_text n content → NamedFits n content → IsUtf8 n
+    → ReadsSections (readings ++ reading_of id (pair name any_bytes) (n, content) ∷ []) new
+gains_given_raw {id = id} {old = old} {new = new} before more n content e fits utf8 =
+    let framed = named_framed n content (frame_text n ++ content) fits refl in
+    gains_section {F = pair name any_bytes} before (subst (λ b. ReadsOneMore (IsFrameOf b) id old new) e more) custom-payload (named_text n content) (frame_text n ++ content) framed framed (n, content)
+    ((custom_back n content fits).for_each (n, content) (utf8, refl))
 
 -- a section that a buffer has gained
 pub encodes_custom : {A X : Type 0} (F : Format X) (Says : X → Type 0) {text : List ℕ} {fits : Type 0} {old new : Vec ℕ A} {result : Result (Unit {0}) Refused} {x : X}
