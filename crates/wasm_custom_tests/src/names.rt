@@ -113,6 +113,7 @@ fn entries_of_maps(rt: HostRuntime) -> Result<(), Fail> {
     check_text(&rt, rt.alloc(), &map, &[0])?;
     map.append(300, "b")?;
     map.append(2, "")?;
+    map.holds();
     check_len(&rt, map.len(), map.is_empty(), 2);
     check_text(&rt, rt.alloc(), &map.clone()?, b"\x02\xAC\x02\x01b\x02\x00")
 }
