@@ -1,0 +1,4 @@
+pub mod ReadArguments
+pub mod ReadInstructions
+pub mod ReadLists
+pub mod WalkLaws

@@ -1,0 +1,16 @@
+//! Reads instructions, exactly: an opcode and an argument for each part of its shape, padded numbers too. [`Plain`] is an instruction,
+//! [`Expression`] a constant expression, [`Code`] a list up to the last byte, [`Body`] a function's body; [`Instructions`] goes over those of a body or an expression
+//! without keeping them.
+#![tactic(auto)]
+
+mod arguments;
+mod body;
+mod expression;
+mod instruction;
+mod walk;
+
+pub use arguments::Arg;
+pub use body::{Body, Code};
+pub use expression::Expression;
+pub use instruction::Plain;
+pub use walk::{Instructions, Step};
