@@ -1,3 +1,5 @@
+pub mod Calls
+pub mod PlaceLaws
 pub mod ReadArguments
 pub mod ReadInstructions
 pub mod ReadLists

@@ -1,2 +1,3 @@
 pub mod Arguments
 pub mod Walks
+pub mod Laws

@@ -1,12 +1,14 @@
-//! Reads instructions, exactly: an opcode and an argument for each part of its shape, padded numbers too. [`Plain`] is an instruction,
-//! [`Expression`] a constant expression, [`Code`] a list up to the last byte, [`Body`] a function's body; [`Instructions`] goes over those of a body or an expression
-//! without keeping them.
+//! Reads instructions, exactly: an opcode and an argument for each part of its shape, padded numbers too.
+//!
+//! [`Plain`] is an instruction, [`Expression`] a constant expression, [`Code`] a list up to the last byte, [`Body`] a function's body.
+//! [`Instructions`] goes over the instructions of a body or an expression and keeps one of them; [`laws`] says what its places are.
 #![tactic(auto)]
 
 mod arguments;
 mod body;
 mod expression;
 mod instruction;
+pub mod laws;
 mod walk;
 
 pub use arguments::Arg;

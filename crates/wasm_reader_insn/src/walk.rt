@@ -1,5 +1,5 @@
 // Walks over instructions.
-ghost use Rattle.std.specs.Prelude.{◌≡◌, ◌≢◌, ◌≤◌, ◌<◌, ◌+◌, [], ◌∷◌, IfOk, IfErr, IfSome, Ok, None, drop, length, map};
+ghost use Rattle.std.specs.Prelude.{◌≡◌, ◌≢◌, ◌≤◌, ◌<◌, ◌+◌, [], ◌∷◌, IfOk, IfErr, IfSome, None, drop, length, map};
 ghost use Rattle.wasm_base.specs.Formats.{u32, pair, such, vec};
 ghost use Rattle.wasm_base.specs.Going.{FillsNothing};
 ghost use Rattle.wasm_base.specs.Numbers.{wide};
@@ -71,6 +71,7 @@ impl<'a, A: Allocator + Copy> Instructions<'a, A> {
     pub fn of_body(bytes: &'a [u8], alloc: A) -> Result<(Vec<(u32, ValType), A>, Self), ReadFault>
         ensures found { IfOk result (λ x. Reads (vec (pair u32 val_type)) wide bytes.now x.0.items (ahead x.1)) }
         ensures same { IfOk result (λ x. x.1.bytes ≡ bytes.now) }
+        ensures within { IfOk result (λ x. x.1.place ≤ length bytes.now) }
         ensures none { IfErr result (λ e. e ≢ Memory → FillsNothing body bytes.now) }
     {
         let (runs, rest) = <Vec<(u32, ValType), A> as Readable<'a, A>>::read(bytes, alloc)?;
@@ -103,7 +104,7 @@ impl<'a, A: Allocator + Copy> Instructions<'a, A> {
         ensures place { IfOk result (λ next. IfSome next (λ step. step.place ≡ self.old.place)) }
         ensures found { IfOk result (λ next. IfSome next (λ step. Reads (instruction table) wide (ahead self.old) (record { op = step.op; arguments = self.new.arguments }) (ahead self.new))) }
         ensures further { IfOk result (λ next. IfSome next (λ _. (self.old.place < self.new.place) × (self.new.place ≤ length self.new.bytes))) }
-        ensures end { result ≡ Ok None → ahead self.old ≡ [] }
+        ensures end { IfOk result (λ next. next ≡ None → ahead self.old ≡ []) }
         ensures same { self.new.bytes ≡ self.old.bytes }
         ensures stays { IfErr result (λ _. self.new.place ≡ self.old.place) }
         ensures none { IfErr result (λ e. e ≢ Memory → ReadsNothing (instruction table) wide (ahead self.old)) }
@@ -122,7 +123,7 @@ impl<'a, A: Allocator + Copy> Instructions<'a, A> {
         ensures place { IfOk result (λ next. IfSome next (λ step. step.place ≡ self.old.place)) }
         ensures found { IfOk result (λ next. IfSome next (λ step. Reads (such IsNoEnd (instruction table)) wide (ahead self.old) (record { op = step.op; arguments = self.new.arguments }) (ahead self.new))) }
         ensures further { IfOk result (λ next. IfSome next (λ _. (self.old.place < self.new.place) × (self.new.place ≤ length self.new.bytes))) }
-        ensures end { result ≡ Ok None → ahead self.old ≡ 0x0B ∷ drop (self.old.place + 1) self.old.bytes }
+        ensures end { IfOk result (λ next. next ≡ None → ahead self.old ≡ 0x0B ∷ drop (self.old.place + 1) self.old.bytes) }
         ensures same { self.new.bytes ≡ self.old.bytes }
         ensures stays { IfErr result (λ _. self.new.place ≡ self.old.place) }
         ensures none { IfErr result (λ e. e ≢ Memory → ReadsNothing expression wide (ahead self.old)) }
