@@ -1,4 +1,4 @@
-use Rattle.std.proofs.Common.{◌≡◌, ◌≤◌, ◌-◌, List, length, drop}
+use Rattle.std.proofs.Common.{◌≡◌, ◌≤◌, ◌-◌, List, length}
 use Rattle.wasm_insn.specs.Plain.{Plain}
 use Rattle.wasm_reader_insn.specs.Walks.{ahead}
 use Rattle.wasm_reader_insn.proofs.Calls.{HasWalked}
