@@ -1,2 +1,3 @@
 pub mod Bodies
 pub mod Whole
+pub mod Filled

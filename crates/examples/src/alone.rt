@@ -3,18 +3,22 @@ ghost use Rattle.std.specs.Prelude.{[], ◌∷◌, map, OnOk};
 ghost use Rattle.wasm_base.specs.Entries.{counted_format};
 ghost use Rattle.wasm_base.specs.Modules.{GainsReading};
 ghost use Rattle.wasm_code.specs.Code.{code_section};
+ghost use Rattle.wasm_sections.specs.Elements.{element};
 ghost use Rattle.wasm_sections.specs.Exports.{item_of, export};
 ghost use Rattle.wasm_sections.specs.Imports.{import_format};
 ghost use Rattle.examples.specs.Bodies.{local_body};
+ghost use Rattle.examples.specs.Filled.{later};
 ghost use Rattle.examples.specs.Whole.{import_of_function, import_of_functions};
 
 use std::alloc::Allocator;
 use wasm_base::laws::plain_names;
-use wasm_base::{CowSlice, Encode, R, add_all};
-use wasm_code::{CodeSection, Function};
+use wasm_base::{CowSlice, Encode, R, RefType, add_all};
+use wasm_code::{CodeSection, ConstExpr, Function};
 use wasm_insn::Instruction;
 use wasm_sections::laws::plain_exports;
-use wasm_sections::{EntityType, Export, ExportSection, ImportSection, Imports};
+use wasm_sections::{
+    ElementSection, Elements, EntityType, Export, ExportSection, ImportSection, Imports,
+};
 
 /// A code section of one function, which gives the local of this index.
 pub fn encode_local<A: Allocator + Copy>(sink: &mut Vec<u8, A>, index: u32) -> R<()>
@@ -71,5 +75,19 @@ pub fn encode_group<A: Allocator + Copy>(
         ty: EntityType::Function(index),
         names: CowSlice::Borrowed(names),
     })?;
+    section.encode(sink)
+}
+
+/// An element section of one reference, which code puts in a table.
+pub fn encode_reference(sink: &mut Vec<u8>, index: u32) -> R<()>
+    ensures { OnOk result (GainsReading (counted_format element) (later index ∷ []) sink.old.items sink.new.items) }
+{
+    let alloc = *sink.allocator();
+    let references = [ConstExpr::ref_func(alloc, index)?];
+    let mut section = ElementSection::new(alloc);
+    section.passive(Elements::Expressions(
+        RefType::FUNCREF,
+        CowSlice::Borrowed(&references),
+    ))?;
     section.encode(sink)
 }

@@ -2,11 +2,13 @@
 #![tactic(auto, using(wasm_base::proofs::KnownLengths::drained_array))]
 
 mod alone;
+mod filled;
 mod first;
 mod recursion;
 mod whole;
 
-pub use alone::{encode_exports, encode_group, encode_import, encode_local};
+pub use alone::{encode_exports, encode_group, encode_import, encode_local, encode_reference};
+pub use filled::filled_module;
 pub use first::first_module;
 pub use recursion::{choice, factorial};
 pub use whole::whole_module;

@@ -37,7 +37,7 @@ pub fn whole_module<A: Allocator + Copy>(alloc: A) -> R<Vec<u8, A>>
 }
 
 /// The function 0, which the host has.
-fn imports<A: Allocator + Copy>(alloc: A) -> R<ImportSection<A>>
+pub(crate) fn imports<A: Allocator + Copy>(alloc: A) -> R<ImportSection<A>>
     ensures { IfOk result (λ section. HoldsImports section (ready ∷ [])) }
 {
     let mut section = ImportSection::new(alloc);
@@ -56,7 +56,7 @@ fn functions<A: Allocator + Copy>(alloc: A) -> R<FunctionSection<A>>
 }
 
 /// A memory of one page.
-fn memories<A: Allocator + Copy>(alloc: A) -> R<MemorySection<A>>
+pub(crate) fn memories<A: Allocator + Copy>(alloc: A) -> R<MemorySection<A>>
     ensures { IfOk result (λ section. HoldsMemories section (one_page ∷ [])) }
 {
     let mut section = MemorySection::new(alloc);

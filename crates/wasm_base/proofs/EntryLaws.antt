@@ -19,12 +19,12 @@ pub content_fits : (pieces : List (List ℕ)) → SectionFits pieces → length 
 content_fits pieces fits = omega (arith, fits.size, length-append (unsigned_text (length pieces)) (joined pieces))
 
 module _ {Record Item : Type 0} (text : Record → List ℕ) (IsPlain : Record → Type 0) (normal_form : Record → Item) (F : Format Item) (laws : ItemLaws text IsPlain normal_form F) where
-  entry_spelled : (entry : Entry Record) (item : Item) → length (entry_text text entry) ≤ longest → Means IsPlain normal_form F entry item → F shortest (entry_text text entry) item
+  pub entry_spelled : (entry : Entry Record) (item : Item) → length (entry_text text entry) ≤ longest → Means IsPlain normal_form F entry item → F shortest (entry_text text entry) item
   entry_spelled (Given given) item fits means = subst (λ x. F shortest (text given) x) (sym means.1) (laws.spelled given means.0 fits)
   entry_spelled (Raw piece) item fits means = means
 
   -- each entry spells its item
-  entries_spelled : (entries : List (Entry Record)) (items : List Item) → length (joined (map (entry_text text) entries)) ≤ longest
+  pub entries_spelled : (entries : List (Entry Record)) (items : List Item) → length (joined (map (entry_text text) entries)) ≤ longest
       → AllZip (Means IsPlain normal_form F) entries items → AllZip (F shortest) (map (entry_text text) entries) items
   entries_spelled [] [] fits means = tt
   entries_spelled [] (item ∷ items) fits means = absurd means

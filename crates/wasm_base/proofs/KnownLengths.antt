@@ -1,9 +1,16 @@
 -- How many items an iterator of std gives: as many as it told.
 use Rattle.std.proofs.Common.{◌≡◌, ℕ, suc, ◌+◌, List, [], ◌∷◌, ◌++◌, length, refl, sym, ap, ◌∙◌, Option, Some, None, arith, append-nil}
+use Rattle.std.proofs.lemmas.Iterator.{YieldsList-from_slice, items_from_drains}
+use Rattle.std.proofs.lemmas.Iterator.Consumers.{YieldsList-from_copied}
+use Rattle.std.proofs.lemmas.List.{map-id}
 use Rattle.std.specs.Array.Iter.{array_into_iter_items, array_steps}
 use Rattle.std.specs.Iterator.{Drains, Yields}
+use Rattle.std.specs.Iterator.Adapters.{copied_source, copied_steps}
+use Rattle.std.specs.Slice.Iter.{iter_rest, iter_steps}
 use Rattle.std.specs.Vec.Iter.{into_iter_len, into_iter_steps}
 use Rattle.std.specs.declared.array.IntoIter.{IntoIter}
+use Rattle.std.specs.declared.iter.Copied.{Copied}
+use Rattle.std.specs.declared.slice.Iter.{Iter}
 use Rattle.std.specs.declared.vec.IntoIter.{IntoIter as VecIter}
 
 module _ {S A : Type 0} (gives : S → Option A → S → Type 0) (left : S → ℕ)
@@ -35,3 +42,11 @@ nothing_left (x ∷ xs) e = absurd (omega (arith, e))
 
 pub array_items : {A : Type 0} {n : ℕ} (it : IntoIter A n) (xs : List A) → Drains array_steps it xs → xs ≡ array_into_iter_items it
 array_items it xs d = sym (items_then it xs d.1.0 d.1.1 ∙ ap (λ z. xs ++ z) (nothing_left (array_into_iter_items d.1.0) d.1.2.0) ∙ append-nil xs)
+
+-- ---- a slice, whose members are copied
+
+pub copied_items : {A : Type 0} (it : Copied (Iter A)) (xs : List A) → Drains (copied_steps iter_steps) it xs → xs ≡ iter_rest (copied_source it)
+copied_items it xs d = sym (map-id xs) ∙ items_from_drains xs (d.1.0, d.1.1, λ w. (d.0, d.1.2)) (YieldsList-from_copied (YieldsList-from_slice (iter_rest (copied_source it)) refl))
+
+pub drained_copied : {A : Type 0} (it : Copied (Iter A)) (xs : List A) → Drains (copied_steps iter_steps) it xs → length xs ≡ length (iter_rest (copied_source it))
+drained_copied it xs d = ap length (copied_items it xs d)

@@ -3,6 +3,10 @@ pub mod FormatLaws
 pub mod NumberTexts
 pub mod TextLaws
 pub mod EntryLaws
+pub mod AfterLaws
+pub mod PartLaws
+pub mod HeldLaws
+pub mod NothingLaws
 pub mod ModuleLaws
 pub mod BaseLaws
 pub mod TypeLaws

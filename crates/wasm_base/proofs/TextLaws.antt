@@ -187,13 +187,13 @@ little_endian_spelled (suc n) v h =
 
 -- ---- pieces, one for each item
 
-joined_spelled : {X : Type 0} (F : Format X) (pieces : List (List ℕ)) (xs : List X) → AllZip (F shortest) pieces xs → members F shortest (joined pieces) xs
+pub joined_spelled : {X : Type 0} (F : Format X) (pieces : List (List ℕ)) (xs : List X) → AllZip (F shortest) pieces xs → members F shortest (joined pieces) xs
 joined_spelled F [] [] h = refl
 joined_spelled F [] (x ∷ xs) h = absurd h
 joined_spelled F (p ∷ ps) [] h = absurd h
 joined_spelled F (p ∷ ps) (x ∷ xs) h = (p, joined ps, refl, h.0, joined_spelled F ps xs h.1)
 
-as_many_items : {X : Type 0} (F : Format X) (pieces : List (List ℕ)) (xs : List X) → AllZip (F shortest) pieces xs → length pieces ≡ length xs
+pub as_many_items : {X : Type 0} (F : Format X) (pieces : List (List ℕ)) (xs : List X) → AllZip (F shortest) pieces xs → length pieces ≡ length xs
 as_many_items F [] [] h = refl
 as_many_items F [] (x ∷ xs) h = absurd h
 as_many_items F (p ∷ ps) [] h = absurd h

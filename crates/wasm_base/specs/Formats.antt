@@ -1,5 +1,5 @@
 -- What bytes spell: formats, and how they are put together.
-use Rattle.std.specs.Prelude.{◌≡◌, ◌⊎◌, ℕ, ◌+◌, ◌*◌, ◌<◌, List, [], ◌∷◌, ◌++◌, length, IsUtf8, ℤ, pos, Option, Some, None, Bool, cond, ◌==◌}
+use Rattle.std.specs.Prelude.{◌≡◌, ◌⊎◌, ℕ, ◌+◌, ◌*◌, ◌<◌, List, [], ◌∷◌, ◌++◌, length, IsUtf8, ℤ, pos, Option, Some, None, Bool, true, false, cond, ◌==◌}
 use Rattle.std.specs.List.{AllByRecursion}
 use Rattle.wasm_base.specs.Numbers.{Mode, Unsigned, Signed}
 
@@ -129,6 +129,11 @@ ended stop F mode s (x ∷ xs) = (front back : List ℕ) × (s ≡ front ++ back
 abbrev pub optional : {X : Type 0} → Bool → Format X → Format (Option X)
 optional flag F = when flag (mapped Some F) (fixed [] None)
 
+-- whether a part is given
+abbrev pub is_given : {X : Type 0} → Option X → Bool
+is_given None = false
+is_given (Some x) = true
+
 -- what either format spells
 abbrev pub one_of : {X : Type 0} → Format X → Format X → Format X
 one_of F G mode s x = F mode s x ⊎ G mode s x
@@ -136,6 +141,18 @@ one_of F G mode s x = F mode s x ⊎ G mode s x
 -- one byte, the code of the value
 abbrev pub coded : {X : Type 0} → (X → ℕ) → Format X
 coded code mode s x = s ≡ code x ∷ []
+
+-- a number, the code of the value
+abbrev pub numbered : {X : Type 0} → (X → ℕ) → Format X
+numbered code mode s x = u32 mode s (code x)
+
+-- the spelling of x, which says nothing
+abbrev pub just : {X : Type 0} → X → Format X → Format (Unit {0})
+just x F mode s u = F mode s x
+
+-- the spelling of x, and then a value
+abbrev pub after : {X Y : Type 0} → X → Format X → Format Y → Format Y
+after x F G = tagged (just x F) (λ u. G)
 
 -- ---- names and modules
 

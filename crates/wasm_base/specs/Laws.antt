@@ -1,5 +1,10 @@
 -- What texts are spelled, for the laws.
-use Rattle.std.specs.Prelude.{ℕ, ◌^◌, ◌<◌, ℤ, pos, neg_ℤ, ◌≤ℤ◌, ◌<ℤ◌, List, ◌++◌, IsUtf8}
+use Rattle.std.specs.Prelude.{ℕ, ◌^◌, ◌<◌, ℤ, pos, neg_ℤ, ◌≤ℤ◌, ◌<ℤ◌, List, [], ◌∷◌, ◌++◌, map, IsUtf8}
+use Rattle.std.specs.List.{AllByRecursion}
+use Rattle.wasm_base.specs.Entries.{HoldsItems}
+use Rattle.wasm_base.specs.Formats.{Format}
+use Rattle.wasm_base.specs.Numbers.{Mode, shortest}
+use Rattle.wasm_base.specs.Reading.{ReadsNothing}
 use Rattle.wasm_base.specs.Texts.{frame_text, FrameFits}
 
 -- a number of so many bits
@@ -28,3 +33,20 @@ custom_text c = frame_text (frame_text c.0 ++ c.1)
 pub record CustomFits (c : List ℕ × List ℕ) : Type 0 where
   pub name : NameFits c.0
   pub size : FrameFits (frame_text c.0 ++ c.1)
+
+-- ---- what sections hold, and where none stands
+
+-- A section without entries holds no items. An entry that is the text of a plain record adds what this says, and an entry of given
+-- bytes adds the item that they spell. The records that `add_all` adds are added as one by one.
+pub record HoldsMore {Record Item : Type 0} (text : Record → List ℕ) (IsPlain : Record → Type 0) (normal_form : Record → Item) (F : Format Item) : Type 0 where
+  pub none : HoldsItems text IsPlain normal_form F [] []
+  pub given : (pieces : List (List ℕ)) (items : List Item) (given : Record) → HoldsItems text IsPlain normal_form F pieces items → IsPlain given
+      → HoldsItems text IsPlain normal_form F (pieces ++ text given ∷ []) (items ++ normal_form given ∷ [])
+  pub raw : (pieces : List (List ℕ)) (items : List Item) (piece : List ℕ) (item : Item) → HoldsItems text IsPlain normal_form F pieces items → F shortest piece item
+      → HoldsItems text IsPlain normal_form F (pieces ++ piece ∷ []) (items ++ item ∷ [])
+  pub all : (pieces : List (List ℕ)) (items : List Item) (given : List Record) → HoldsItems text IsPlain normal_form F pieces items → AllByRecursion IsPlain given
+      → HoldsItems text IsPlain normal_form F (pieces ++ map text given) (items ++ map normal_form given)
+
+-- No value stands at the front of the text, whatever follows, and with padded numbers neither.
+pub record NothingStandsWide {X : Type 0} (F : Format X) (text : List ℕ) : Type 0 where
+  pub none : (mode : Mode) (after : List ℕ) → ReadsNothing F mode (text ++ after)

@@ -7,6 +7,7 @@ pub mod Pieces
 pub mod Calls
 pub mod Modules
 pub mod Entries
+pub mod Once
 pub mod SectionId
 pub mod Types
 pub mod Cow

@@ -1,5 +1,5 @@
 -- text: the bytes that a layout gives for a value.
-use Rattle.std.specs.Prelude.{◌≡◌, ℕ, zero, suc, ◌/◌, ◌%◌, ◌≤◌, List, [], ◌∷◌, ◌++◌, length}
+use Rattle.std.specs.Prelude.{◌≡◌, ℕ, zero, suc, ◌/◌, ◌%◌, ◌≤◌, List, [], ◌∷◌, ◌++◌, length, Option, Some, None}
 use Rattle.std.proofs.Common.{sym, ap, subst}
 use Rattle.std.specs.List.{All, flat_map}
 use Rattle.wasm_base.specs.Numbers.{unsigned_text}
@@ -17,6 +17,11 @@ vec_text text xs = unsigned_text (length xs) ++ flat_map text xs
 pub record VecFits {T : Type 0} (Fits : T → Type 0) (xs : List T) : Type 0 where
   pub count : length xs ≤ longest
   pub members : All Fits xs
+
+-- a part that may be missing
+abbrev pub optional_text : {X : Type 0} → (X → List ℕ) → Option X → List ℕ
+optional_text text None = []
+optional_text text (Some x) = text x
 
 -- frame: a size, and then that many bytes
 abbrev pub frame_text : List ℕ → List ℕ

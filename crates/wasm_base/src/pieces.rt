@@ -2,11 +2,13 @@
 ghost use Rattle.std.specs.Prelude.{◌≡◌, ◌≢◌, ℕ, ◌≤◌, List, [], ◌∷◌, ◌++◌, length, IfOk, IsTrue, ◌↔◌, slice_get, slice_index, ⊤};
 ghost use Rattle.std.specs.Option.{option_copied};
 ghost use Rattle.wasm_base.specs.Calls.{Adds};
+ghost use Rattle.wasm_base.specs.Once.{AddsOnce};
 ghost use Rattle.wasm_base.specs.Pieces.{joined, cut_from, IsCut, section_text, SectionFits};
 ghost use Rattle.wasm_base.specs.Texts.{longest};
 
 use crate::encode::Encode;
 use crate::frames::encode_section;
+use crate::once::EncodeOnce;
 use crate::refused::{R, Refused};
 use std::alloc::{Allocator, Global};
 use std::marker::Model;
@@ -102,6 +104,21 @@ impl<A: Allocator> Pieces<A> {
         }
         self.ends.reserve(1)?;
         item.encode(&mut self.bytes)?;
+        let end = self.bytes.len();
+        self.ends.push_reserved(end);
+        Ok(())
+    }
+
+    /// Adds an entry that is a text of the item, which is written straight into the buffer.
+    pub fn add_once<T: EncodeOnce + Drop>(&mut self, item: T) -> R<()>
+        requires { T.lawful item }
+        ensures { AddsOnce (T.gives item) (T.fits item) self.old self.new result }
+    {
+        if self.ends.len() >= MOST_ENTRIES {
+            return Err(Refused::TooLong);
+        }
+        self.ends.reserve(1)?;
+        item.encode_once(&mut self.bytes)?;
         let end = self.bytes.len();
         self.ends.push_reserved(end);
         Ok(())

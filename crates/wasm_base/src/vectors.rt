@@ -3,7 +3,8 @@ ghost use Rattle.wasm_base.specs.Iterators.{HasKnownLength, AppendsVec};
 ghost use Rattle.wasm_base.specs.Texts.{vec_text, VecFits};
 
 use crate::encode::Encode;
-use crate::refused::{R, Refused};
+use crate::once::{EncodeOnce, vec_of};
+use crate::refused::R;
 use std::alloc::Allocator;
 
 /// The vector of the members.
@@ -36,17 +37,5 @@ where
     requires { HasKnownLength V.into_iter_gives V.IntoIter.can_next V.IntoIter.next_gives V.IntoIter.remaining elements }
     ensures { AppendsVec V.into_iter_gives V.IntoIter.next_gives V.IntoIter.remaining T.fits T.text elements sink.old sink.new result }
 {
-    let elements = elements.into_iter();
-    let start = sink.len();
-    let Ok(count) = u32::try_from(elements.len()) else {
-        return Err(Refused::TooLong);
-    };
-    count.encode(sink)?;
-    for element in elements {
-        if let Err(refused) = element.encode(sink) {
-            sink.truncate(start);
-            return Err(refused);
-        }
-    }
-    Ok(())
+    vec_of(elements)?.encode_once(sink)
 }

@@ -7,6 +7,7 @@ use Rattle.std.specs.Prelude.{nat_lt, ⊤}
 use Rattle.wasm_base.specs.Numbers.{shortest, unsigned_text}
 use Rattle.wasm_base.specs.Formats.{u32, byte, tagged, pair, optional, choice}
 use Rattle.wasm_base.specs.Reading.{HasTexts, IsUniqueWide}
+use Rattle.wasm_base.specs.Texts.{optional_text}
 use Rattle.wasm_base.specs.Types.{val_type, val_text, val_tags, val_ref}
 use Rattle.wasm_base.specs.declared.types.ValType.{ValType}
 use Rattle.wasm_base.proofs.BaseLaws.{unique_wide}
@@ -25,7 +26,7 @@ use Rattle.wasm_immediates.specs.declared.control.Catch.{Catch}
 use Rattle.wasm_immediates.specs.declared.control.Catch.TheVariants.{One, OneRef, All, AllRef}
 use Rattle.wasm_immediates.specs.declared.control.Handle.{Handle}
 use Rattle.wasm_immediates.specs.declared.control.Handle.TheVariants.{OnLabel, OnSwitch}
-use Rattle.wasm_immediates.specs.Immediates.{mem_ordering_code, index_of, has_ordering, is_array, has_memory, where_set, mem_flags, optional_text, mem_arg_text, block_text, catch_text, handle_text, twos_complement, vector_text}
+use Rattle.wasm_immediates.specs.Immediates.{mem_ordering_code, index_of, has_ordering, is_array, has_memory, where_set, mem_flags, mem_arg_text, block_text, catch_text, handle_text, twos_complement, vector_text}
 use Rattle.wasm_immediates.specs.PlainImmediates.{IsNormalMemory, ReadsMemoryArgument, ordering_text, ordering_format, vector_format, normal_ordering, normal_order, normal_memory, IsPlainTarget, IsPlainMemory, IsPlainBlock, IsPlainCatch, IsPlainHandle, IsVector, block_type, mem_ordering, bit, target_of, mem_arg_with, after_flags, mem_arg, catch, handle}
 use Rattle.wasm_immediates.proofs.ImmediateLaws.{ordering-alone, mem_arg-alone, block-alone, catch-alone, handle-alone, vector-alone, block_tags, block_result}
 

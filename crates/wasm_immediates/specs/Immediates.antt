@@ -2,7 +2,7 @@
 use Rattle.std.specs.Prelude.{ℕ, zero, suc, ◌-◌, ◌^◌, ℤ, pos, negsuc, List, [], ◌∷◌, ◌++◌, Option, Some, None, Bool, true, false}
 use Rattle.std.specs.Int.RustNames.{bit_or}
 use Rattle.wasm_base.specs.Numbers.{unsigned_text, signed_text}
-use Rattle.wasm_base.specs.Texts.{little_endian_text}
+use Rattle.wasm_base.specs.Texts.{little_endian_text, optional_text}
 use Rattle.wasm_base.specs.Types.{val_text}
 use Rattle.wasm_immediates.specs.declared.memory.Ordering.{Ordering}
 use Rattle.wasm_immediates.specs.declared.memory.Ordering.TheVariants.{AcqRel, SeqCst}
@@ -61,11 +61,6 @@ where_set false weight = 0
 -- the alignment, with those bits set
 abbrev pub mem_flags : MemArg → ℕ
 mem_flags m = bit_or (bit_or m.align (where_set (has_ordering m.ordering) 0x10)) (bit_or (where_set (is_array m.target) 0x20) (where_set (has_memory m.target) 0x40))
-
--- a part that may be missing
-abbrev pub optional_text : {X : Type 0} → (X → List ℕ) → Option X → List ℕ
-optional_text text None = []
-optional_text text (Some x) = text x
 
 abbrev pub mem_arg_text : MemArg → List ℕ
 mem_arg_text m =

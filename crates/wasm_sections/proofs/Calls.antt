@@ -1,7 +1,15 @@
 -- What calls leave, step by step: lemmas that a caller cites.
-use Rattle.std.proofs.Common.{◌≡◌, ℕ, ◌^◌, ◌<◌, List, [], ◌∷◌, ◌++◌, map, IsUtf8, Bor, None, Some, Result, Ok, Err, refl, sym, subst}
+use Rattle.std.proofs.Common.{◌≡◌, ℕ, ◌^◌, ◌<◌, List, [], ◌∷◌, ◌++◌, map, IsUtf8, Bor, None, Some, Result, Ok, Err, refl, sym, subst, ◌∙◌, arith}
+use Rattle.std.proofs.lemmas.List.{length-map}
 use Rattle.std.proofs.lemmas.List.Elements.{All-map}
 use Rattle.std.specs.Prelude.{OnOk}
+use Rattle.std.specs.Array.Iter.{array_into_iter_items, array_steps}
+use Rattle.std.specs.Iterator.{Count}
+use Rattle.std.specs.Iterator.Adapters.{copied_source, copied_steps}
+use Rattle.std.specs.Slice.Iter.{iter_rest, iter_steps}
+use Rattle.std.specs.declared.array.IntoIter.{IntoIter}
+use Rattle.std.specs.declared.iter.Copied.{Copied}
+use Rattle.std.specs.declared.slice.Iter.{Iter}
 use Rattle.std.specs.declared.vec.Vec.{Vec}
 use Rattle.wasm_base.specs.declared.refused.Refused.{Refused}
 use Rattle.std.specs.List.{All, AllByRecursion}
@@ -14,24 +22,32 @@ use Rattle.wasm_base.specs.Modules.{SectionReading, reading_of, ReadsSections, R
 use Rattle.wasm_base.specs.Numbers.{shortest, unsigned_text}
 use Rattle.wasm_base.specs.Pieces.{SectionPayload, SectionFits, section_text, section_framed}
 use Rattle.wasm_base.specs.Texts.{frame_text, FrameFits, VecFits, raw_framed}
+use Rattle.wasm_base.specs.Types.{IsRef}
+use Rattle.wasm_base.specs.declared.types.RefType.{RefType}
 use Rattle.wasm_base.proofs.Calls.{gains_section}
+use Rattle.wasm_base.proofs.KnownLengths.{array_items, copied_items}
 use Rattle.wasm_base.proofs.Payloads.{u32-payload}
 use Rattle.wasm_base.proofs.TextLaws.{u32_spelled, name_spelled}
+use Rattle.wasm_code.proofs.Calls.{all_of}
 use Rattle.wasm_code.specs.Expressions.{expression_text, StoresInstructions}
+use Rattle.wasm_sections.specs.Constants.{Stored, IsStored}
+use Rattle.wasm_sections.specs.DataSegments.{AddsBytes, active_text, passive_text, DataItem, active, passive, given_active, given_passive, data_item}
+use Rattle.wasm_sections.specs.Elements.{Segment, Place, functions, expressions, ElementsFit, IsPlace, settled, settled_text, IsSegment, element_of, element}
 use Rattle.wasm_sections.specs.Exports.{kind_code, export_text, IsExport, ExportItem, item_of, export}
 use Rattle.wasm_sections.specs.Globals.{global_text, IsGlobal, GlobalItem, global_item}
 use Rattle.wasm_sections.specs.Imports.{ImportItem, alike, import_text, ImportFits, IsEntity, import_format}
 use Rattle.wasm_sections.specs.declared.import.EntityType.{EntityType}
 use Rattle.wasm_sections.specs.Memories.{memory_type}
-use Rattle.wasm_sections.specs.Readings.{HoldsFunctions, HoldsTables, HoldsMemories, HoldsGlobals, HoldsExports, HoldsImports, HoldsTags}
+use Rattle.wasm_sections.specs.Readings.{HoldsFunctions, HoldsTables, HoldsMemories, HoldsGlobals, HoldsExports, HoldsElements, HoldsSegments, HoldsImports, HoldsTags}
 use Rattle.wasm_sections.specs.Tables.{table_text, IsTable, TableItem, before_init, table_item}
 use Rattle.wasm_sections.specs.Tags.{tag_type}
 use Rattle.wasm_sections.specs.declared.memory.MemoryType.{MemoryType}
 use Rattle.wasm_sections.specs.declared.table.TableType.{TableType}
 use Rattle.wasm_sections.specs.declared.tag.TagType.{TagType}
-use Rattle.wasm_sections.proofs.HeldLaws.{holds_more}
-use Rattle.wasm_sections.proofs.Parts.{pair_spelled}
-use Rattle.wasm_sections.proofs.Payloads.{functions-payload, tables-payload, memories-payload, globals-payload, exports-payload, imports-payload, tags-payload}
+use Rattle.wasm_base.proofs.HeldLaws.{holds_more}
+use Rattle.wasm_base.proofs.PartLaws.{pair_spelled}
+use Rattle.wasm_sections.proofs.ElementLaws.{elements_by, stored_by, stored_same}
+use Rattle.wasm_sections.proofs.Payloads.{functions-payload, tables-payload, memories-payload, globals-payload, exports-payload, elements-payload, data-payload, imports-payload, tags-payload}
 
 -- ---- a new section
 
@@ -53,6 +69,12 @@ new_globals e = nothing_held _ _ _ _ e
 
 pub new_exports : {entries : List (List ℕ)} → entries ≡ [] → HoldsExports entries []
 new_exports e = nothing_held _ _ _ _ e
+
+pub new_elements : {entries : List (List ℕ)} → entries ≡ [] → HoldsElements entries []
+new_elements e = nothing_held _ _ _ _ e
+
+pub new_segments : {entries : List (List ℕ)} → entries ≡ [] → HoldsSegments entries []
+new_segments e = nothing_held _ _ _ _ e
 
 pub new_imports : {entries : List (List ℕ)} → entries ≡ [] → HoldsImports entries []
 new_imports e = nothing_held _ _ _ _ e
@@ -105,6 +127,45 @@ adds_export {old = old} {items = items} before item e fits utf8 range =
     subst (λ entries. HoldsExports entries (items ++ item ∷ [])) (sym e)
     ((holds_more export_text IsExport item_of export).raw old items (frame_text item.name ++ (kind_code item.kind ∷ [] ++ unsigned_text item.index)) item before spelled)
 
+-- a segment of references, whose expressions are stored
+pub adds_element : {old new : List (List ℕ)} {items : List (Segment (List Plain))} → HoldsElements old items → (given : Segment Stored) → new ≡ old ++ settled_text expression_text (settled (stored_by given)) ∷ []
+    → IsSegment given → HoldsElements new (items ++ element_of given ∷ [])
+adds_element {old = old} {new = new} before given e plain = adds_item before given (subst (λ s. new ≡ old ++ s ∷ []) (sym (stored_same given)) e) plain
+
+-- a segment of functions, and one of expressions, whose numbers the call has counted
+pub adds_functions : {old new : List (List ℕ)} {items : List (Segment (List Plain))} → HoldsElements old items → (place : Place Stored) (indices : List ℕ)
+    → new ≡ old ++ settled_text expression_text (settled (stored_by (record { place = place; elements = functions indices }))) ∷ [] → ElementsFit {E = List ℕ} (functions indices) → IsPlace place → AllByRecursion (λ f. f < 2 ^ 32) indices
+    → HoldsElements new (items ++ element_of (record { place = place; elements = functions indices }) ∷ [])
+adds_functions before place indices e fits placed are =
+    adds_element before (record { place = place; elements = functions indices }) e (record { place = placed; elements = record { count = fits.count; members = all_of (λ f. f < 2 ^ 32) indices are } })
+
+pub adds_expressions : {old new : List (List ℕ)} {items : List (Segment (List Plain))} → HoldsElements old items → (place : Place Stored) (ty : RefType) (stored : List Stored)
+    → new ≡ old ++ settled_text expression_text (settled (stored_by (record { place = place; elements = expressions ty stored }))) ∷ [] → ElementsFit (elements_by (expressions ty stored)) → IsPlace place → IsRef ty → AllByRecursion IsStored stored
+    → HoldsElements new (items ++ element_of (record { place = place; elements = expressions ty stored }) ∷ [])
+adds_expressions before place ty stored e fits placed range are =
+    adds_element before (record { place = place; elements = expressions ty stored }) e (record { place = placed; elements = (range, record { count = omega (arith, fits.count, length-map stored (λ e. e.bytes)); members = all_of IsStored stored are }) })
+
+-- an active segment of bytes, at a place that an expression stores, and a passive one
+pub adds_active : {old new : List (List ℕ)} {items : List DataItem} → HoldsSegments old items → (memory : ℕ) (is : List Plain) (offset bytes : List ℕ) → new ≡ old ++ active_text memory offset bytes ∷ [] → memory < 2 ^ 32
+    → StoresInstructions offset is → HoldsSegments new (items ++ active memory is bytes ∷ [])
+adds_active before memory is offset bytes e range stored = adds_item before (given_active memory (record { bytes = offset; instructions = is }) bytes) e (range, stored)
+
+pub adds_passive : {old new : List (List ℕ)} {items : List DataItem} → HoldsSegments old items → (bytes : List ℕ) → new ≡ old ++ passive_text bytes ∷ [] → HoldsSegments new (items ++ passive bytes ∷ [])
+adds_passive before bytes e = adds_item before (given_passive bytes) e tt
+
+-- the bytes that a call has added: those of an array, and those of a slice, which it copies
+pub array_added : {U : Type 0} {n : ℕ} {becomes : U → IntoIter ℕ n → Type 0} {remaining : IntoIter ℕ n → Count} {elements : U} {text : List ℕ → List ℕ} {old new : List (List ℕ)}
+    → AddsBytes becomes array_steps remaining elements text old new (Ok (tt {0})) → (bytes : List ℕ) → ((it : IntoIter ℕ n) → becomes elements it → array_into_iter_items it ≡ bytes) → new ≡ old ++ text bytes ∷ []
+array_added {text = text} {old = old} {new = new} added bytes are =
+    let given = added.ok in
+    subst (λ bs. new ≡ old ++ text bs ∷ []) (array_items given.0 given.1 given.3 ∙ are given.0 given.2) given.5
+
+pub copied_added : {U : Type 0} {becomes : U → Copied (Iter ℕ) → Type 0} {remaining : Copied (Iter ℕ) → Count} {elements : U} {text : List ℕ → List ℕ} {old new : List (List ℕ)}
+    → AddsBytes becomes (copied_steps iter_steps) remaining elements text old new (Ok (tt {0})) → (bytes : List ℕ) → ((it : Copied (Iter ℕ)) → becomes elements it → iter_rest (copied_source it) ≡ bytes) → new ≡ old ++ text bytes ∷ []
+copied_added {text = text} {old = old} {new = new} added bytes are =
+    let given = added.ok in
+    subst (λ bs. new ≡ old ++ text bs ∷ []) (copied_items given.0 given.1 given.3 ∙ are given.0 given.2) given.5
+
 -- a group of imports of one type, whose names the call has measured
 pub adds_alike : {old new : List (List ℕ)} {items : List ImportItem} → HoldsImports old items → (from : List ℕ) (ty : EntityType) (names : List (Bor (List ℕ)))
     → new ≡ old ++ import_text (record { module_name = from; imported = alike ty (map (λ n. n.now) names) }) ∷ [] → ImportFits (record { module_name = from; imported = alike ty (map (λ n. n.now) names) })
@@ -143,6 +204,14 @@ gains_globals before more fits reads holds = gains_items globals-payload before 
 pub gains_exports : {readings : List SectionReading} {id : ℕ} {old new : List ℕ} {entries : List (List ℕ)} {items : List ExportItem} → ReadsSections readings old → ReadsOneMore (SectionPayload entries) id old new → SectionFits entries
     → ReadsBack (counted_format export) (HoldsExports entries) (section_text entries) → HoldsExports entries items → ReadsSections (readings ++ reading_of id (vec export) items ∷ []) new
 gains_exports before more fits reads holds = gains_items exports-payload before more fits reads holds
+
+pub gains_elements : {readings : List SectionReading} {id : ℕ} {old new : List ℕ} {entries : List (List ℕ)} {items : List (Segment (List Plain))} → ReadsSections readings old → ReadsOneMore (SectionPayload entries) id old new → SectionFits entries
+    → ReadsBack (counted_format element) (HoldsElements entries) (section_text entries) → HoldsElements entries items → ReadsSections (readings ++ reading_of id (vec element) items ∷ []) new
+gains_elements before more fits reads holds = gains_items elements-payload before more fits reads holds
+
+pub gains_segments : {readings : List SectionReading} {id : ℕ} {old new : List ℕ} {entries : List (List ℕ)} {items : List DataItem} → ReadsSections readings old → ReadsOneMore (SectionPayload entries) id old new → SectionFits entries
+    → ReadsBack (counted_format data_item) (HoldsSegments entries) (section_text entries) → HoldsSegments entries items → ReadsSections (readings ++ reading_of id (vec data_item) items ∷ []) new
+gains_segments before more fits reads holds = gains_items data-payload before more fits reads holds
 
 pub gains_imports : {readings : List SectionReading} {id : ℕ} {old new : List ℕ} {entries : List (List ℕ)} {items : List ImportItem} → ReadsSections readings old → ReadsOneMore (SectionPayload entries) id old new → SectionFits entries
     → ReadsBack (counted_format import_format) (HoldsImports entries) (section_text entries) → HoldsImports entries items → ReadsSections (readings ++ reading_of id (vec import_format) items ∷ []) new

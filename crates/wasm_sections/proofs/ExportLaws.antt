@@ -13,7 +13,7 @@ use Rattle.wasm_sections.specs.Exports.{kind_code, export_text, IsExport, item_o
 use Rattle.wasm_sections.specs.declared.export.Export.{Export}
 use Rattle.wasm_sections.specs.declared.export.ExportKind.{ExportKind}
 use Rattle.wasm_sections.specs.declared.export.ExportKind.TheVariants.{Func, Table, Memory, Global, Tag}
-use Rattle.wasm_sections.proofs.Parts.{pair_spelled, front_name_spelled}
+use Rattle.wasm_base.proofs.PartLaws.{pair_spelled, front_name_spelled}
 
 decode : ℕ → ExportKind
 decode zero = Func

@@ -12,7 +12,7 @@ use Rattle.wasm_code.proofs.ExpressionLaws.{expression-alone, expression_spelled
 use Rattle.wasm_immediates.specs.PlainImmediates.{bit}
 use Rattle.wasm_sections.specs.Globals.{GlobalFlags, global_code, global_flags, global_text, IsGlobal, global_of, global_type, GivenGlobal, global_item_text, IsGivenGlobal, global_item_of, global_from, global_item}
 use Rattle.wasm_sections.specs.declared.global.GlobalType.{GlobalType}
-use Rattle.wasm_sections.proofs.Parts.{pair_spelled}
+use Rattle.wasm_base.proofs.PartLaws.{pair_spelled}
 
 decode : ℕ → GlobalFlags
 decode n = record { mutable = bit 0 n; shared = bit 1 n }

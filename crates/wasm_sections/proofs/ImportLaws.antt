@@ -18,7 +18,7 @@ use Rattle.wasm_sections.proofs.GlobalLaws.{global-alone, global_spelled}
 use Rattle.wasm_sections.proofs.MemoryLaws.{memory-alone, memory_spelled}
 use Rattle.wasm_sections.proofs.TableLaws.{table-alone, table_spelled}
 use Rattle.wasm_sections.proofs.TagLaws.{tag-alone, tag_spelled}
-use Rattle.wasm_sections.proofs.Parts.{pair_spelled, front_name_spelled}
+use Rattle.wasm_base.proofs.PartLaws.{pair_spelled, front_name_spelled}
 
 -- ---- entities
 

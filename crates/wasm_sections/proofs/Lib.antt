@@ -1,4 +1,3 @@
-pub mod Parts
 pub mod ViewedLists
 pub mod FlagLaws
 pub mod NumberLaws
@@ -9,6 +8,8 @@ pub mod TableLaws
 pub mod ExportLaws
 pub mod GlobalLaws
 pub mod ImportLaws
+pub mod DataLaws
+pub mod ElementLaws
 pub mod SectionLaws
 pub mod HeldLaws
 pub mod Payloads

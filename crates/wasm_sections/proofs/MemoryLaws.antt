@@ -1,19 +1,19 @@
 -- Memory types are read uniquely.
 use Rattle.std.proofs.Common.{◌≡◌, ℕ, ◌^◌, ◌<◌, [], ◌∷◌, ◌++◌, Option, refl, ap, ◌∙◌}
 use Rattle.wasm_base.specs.Entries.{ItemLaws}
-use Rattle.wasm_base.specs.Formats.{u32, u64, optional}
+use Rattle.wasm_base.specs.Formats.{u32, u64, optional, is_given}
 use Rattle.wasm_base.specs.Numbers.{shortest, unsigned_text}
 use Rattle.wasm_base.specs.Reading.{UniqueReading}
 use Rattle.wasm_base.proofs.BaseLaws.{u64-alone}
 use Rattle.wasm_base.proofs.FormatLaws.{TellsTag, tagged-alone, mapped-alone, pair-alone, optional-alone}
 use Rattle.wasm_base.proofs.NumberLaws.{u32-alone}
 use Rattle.wasm_base.proofs.TextLaws.{u32_spelled, u64_spelled}
-use Rattle.wasm_immediates.specs.Immediates.{optional_text}
-use Rattle.wasm_sections.specs.Flags.{flags_code, is_given}
+use Rattle.wasm_base.specs.Texts.{optional_text}
+use Rattle.wasm_sections.specs.Flags.{flags_code}
 use Rattle.wasm_sections.specs.Memories.{memory_flags, memory_text, IsMemory, memory_of, after_memory_flags, memory_type}
 use Rattle.wasm_sections.specs.declared.memory.MemoryType.{MemoryType}
 use Rattle.wasm_sections.proofs.FlagLaws.{flags-alone}
-use Rattle.wasm_sections.proofs.Parts.{pair_spelled, optional_spelled, optional_tells}
+use Rattle.wasm_base.proofs.PartLaws.{pair_spelled, optional_spelled, optional_tells}
 
 abbrev parts_of : MemoryType → ℕ × (Option ℕ × Option ℕ)
 parts_of m = (m.minimum, (m.maximum, m.page_size_log2))

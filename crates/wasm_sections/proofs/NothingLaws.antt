@@ -4,13 +4,14 @@ use Rattle.std.proofs.lemmas.Int.{ints}
 use Rattle.std.proofs.lemmas.Str.{IsUtf8-nil}
 use Rattle.std.specs.declared.alloc.Global.{Global}
 use Rattle.wasm_base.specs.Entries.{counted_format}
-use Rattle.wasm_base.specs.Formats.{Format, name, vec, mapped, such}
+use Rattle.wasm_base.specs.Formats.{Format, u32, impossible, choice, name, mapped, such}
+use Rattle.wasm_base.specs.Laws.{NothingStandsWide}
 use Rattle.wasm_base.specs.Numbers.{Mode, shortest, wide}
-use Rattle.wasm_base.specs.Reading.{Reads, UniqueReading}
 use Rattle.wasm_base.specs.declared.types.ValType.TheVariants.{I32}
 use Rattle.wasm_base.proofs.BaseLaws.{name-alone}
-use Rattle.wasm_base.proofs.FormatLaws.{frame_of, vec_of_one, then_at, tagged_at, begins_mapped}
-use Rattle.wasm_base.proofs.NumberLaws.{u32_small}
+use Rattle.wasm_base.proofs.FormatLaws.{then_at, tagged_at, begins_mapped}
+use Rattle.wasm_base.proofs.NumberLaws.{u32-alone, u32_small}
+use Rattle.wasm_base.proofs.NothingLaws.{nothing_wide, one_item}
 use Rattle.wasm_base.proofs.NumberTexts.{groups_text-last}
 use Rattle.wasm_insn.specs.Plain.{instruction}
 use Rattle.wasm_insn.specs.Table.{table}
@@ -18,26 +19,12 @@ use Rattle.wasm_insn.specs.declared.instruction.Instruction.{Instruction}
 use Rattle.wasm_insn.specs.declared.instruction.Instruction.TheVariants.{I32Const}
 use Rattle.wasm_code.specs.Expressions.{IsNoEnd, normal_row}
 use Rattle.wasm_code.proofs.ExpressionLaws.{members_one, normal_spelled}
+use Rattle.wasm_sections.specs.DataSegments.{DataItem, data_tags, data_item}
 use Rattle.wasm_sections.specs.Globals.{GivenGlobal, GlobalItem, global_item_of, global_item}
 use Rattle.wasm_sections.specs.Imports.{Imported, ImportItem, single, entity, after_module, import_format}
-use Rattle.wasm_sections.specs.Laws.{NothingStandsWide}
 use Rattle.wasm_sections.proofs.GlobalLaws.{global_item-alone, global_item_spelled}
 use Rattle.wasm_sections.proofs.ImportLaws.{IsEntityByte, entity_begins, empty_name, import-alone}
-use Rattle.wasm_sections.proofs.SectionLaws.{globals-alone, imports-alone}
-
--- What padded numbers don't spell, shortest ones don't either.
-nothing_wide : {X : Type 0} {F : Format X} (text : List ℕ) → UniqueReading F → ((after rest : List ℕ) (x : X) → Reads F wide (text ++ after) x rest → ⊥) → NothingStandsWide F text
-nothing_wide {X} {F} text k none = record { none = λ mode after. record { none = λ x rest h. none after rest x (in_wide mode (text ++ after) rest x h) } }
-  where
-    in_wide : (mode : Mode) (bytes rest : List ℕ) (x : X) → Reads F mode bytes x rest → Reads F wide bytes x rest
-    in_wide shortest bytes rest x h = record { front = h.front; split = h.split; spelled = k.spellings.wider h.front x h.spelled }
-    in_wide wide bytes rest x h = h
-
--- What the one item of a section spells, where size and count are one byte each.
-one_item : {X : Type 0} {F : Format X} (size : ℕ) (content after rest s : List ℕ) (xs : List X) → size < 128 → length (1 ∷ content) ≡ size → (size ∷ 1 ∷ content) ++ after ≡ s ++ rest
-    → counted_format F wide s xs → (x : X) × F wide content x
-one_item {X} {F} size content after rest s xs low all e h =
-    vec_of_one {F = F} wide content xs (u32_small wide 1 (omega arith)) (frame_of {F = vec F} wide size (1 ∷ content) after s rest xs (u32_small wide size low) all e h)
+use Rattle.wasm_sections.proofs.SectionLaws.{globals-alone, imports-alone, segments-alone}
 
 -- ---- a global behind whose first `End` bytes are left
 
@@ -100,4 +87,18 @@ padded_group =
     nothing_wide {F = counted_format import_format} (6 ∷ 1 ∷ 0 ∷ 128 ∷ 0 ∷ 127 ∷ 0 ∷ []) imports-alone
     (λ after rest xs h. let x = one_item {F = import_format} 6 (0 ∷ 128 ∷ 0 ∷ 127 ∷ 0 ∷ []) after rest h.front xs (omega arith) refl h.split h.spelled in no_import x.0 x.1)
 
-pub ruleset nothing = (inner_end, padded_group)
+-- ---- a segment that names memory 0
+
+no_segment : (x : DataItem) → data_item wide (2 ∷ 0 ∷ 65 ∷ 0 ∷ 11 ∷ 1 ∷ 9 ∷ []) x → ⊥
+no_segment x h =
+    let flag = tagged_at {F = u32} {G = choice data_tags (λ flag. impossible)} u32-alone wide (2 ∷ []) 2 (u32_small wide 2 (omega arith)) (0 ∷ 65 ∷ 0 ∷ 11 ∷ 1 ∷ 9 ∷ []) (2 ∷ 0 ∷ 65 ∷ 0 ∷ 11 ∷ 1 ∷ 9 ∷ []) [] x refl h in
+    let parts = flag.2.2 in
+    let memory = u32-alone.alone wide (0 ∷ []) parts.front (65 ∷ 0 ∷ 11 ∷ 1 ∷ 9 ∷ []) parts.back 0 flag.2.0.0 (u32_small wide 0 (omega arith)) parts.first.0 (flag.1 ∙ append-nil flag.0 ∙ parts.joined) in
+    omega (arith, memory.0, parts.first.1)
+
+pub named_first_memory : NothingStandsWide (counted_format data_item) (8 ∷ 1 ∷ 2 ∷ 0 ∷ 65 ∷ 0 ∷ 11 ∷ 1 ∷ 9 ∷ [])
+named_first_memory =
+    nothing_wide {F = counted_format data_item} (8 ∷ 1 ∷ 2 ∷ 0 ∷ 65 ∷ 0 ∷ 11 ∷ 1 ∷ 9 ∷ []) segments-alone
+    (λ after rest xs h. let x = one_item {F = data_item} 8 (2 ∷ 0 ∷ 65 ∷ 0 ∷ 11 ∷ 1 ∷ 9 ∷ []) after rest h.front xs (omega arith) refl h.split h.spelled in no_segment x.0 x.1)
+
+pub ruleset nothing = (inner_end, padded_group, named_first_memory)

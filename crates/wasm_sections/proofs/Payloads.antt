@@ -3,12 +3,16 @@ use Rattle.wasm_base.specs.Formats.{u32, vec}
 use Rattle.wasm_base.specs.Modules.{ReadsPayloads}
 use Rattle.wasm_base.proofs.NumberLaws.{u32-alone}
 use Rattle.wasm_base.proofs.Payloads.{counted-payload, u32-payload}
+use Rattle.wasm_sections.specs.DataSegments.{data_item}
+use Rattle.wasm_sections.specs.Elements.{element}
 use Rattle.wasm_sections.specs.Exports.{export}
 use Rattle.wasm_sections.specs.Globals.{global_item}
 use Rattle.wasm_sections.specs.Imports.{import_format}
 use Rattle.wasm_sections.specs.Memories.{memory_type}
 use Rattle.wasm_sections.specs.Tables.{table_item}
 use Rattle.wasm_sections.specs.Tags.{tag_type}
+use Rattle.wasm_sections.proofs.DataLaws.{data-alone}
+use Rattle.wasm_sections.proofs.ElementLaws.{element-alone}
 use Rattle.wasm_sections.proofs.ExportLaws.{export-alone}
 use Rattle.wasm_sections.proofs.GlobalLaws.{global_item-alone}
 use Rattle.wasm_sections.proofs.ImportLaws.{import-alone}
@@ -37,4 +41,10 @@ imports-payload = counted-payload import-alone
 pub tags-payload : ReadsPayloads (vec tag_type)
 tags-payload = counted-payload tag-alone
 
-pub ruleset payloads = (functions-payload, tables-payload, memories-payload, globals-payload, exports-payload, imports-payload, tags-payload, u32-payload)
+pub data-payload : ReadsPayloads (vec data_item)
+data-payload = counted-payload data-alone
+
+pub elements-payload : ReadsPayloads (vec element)
+elements-payload = counted-payload element-alone
+
+pub ruleset payloads = (data-payload, elements-payload, functions-payload, tables-payload, memories-payload, globals-payload, exports-payload, imports-payload, tags-payload, u32-payload)

@@ -5,12 +5,16 @@ use Rattle.wasm_base.specs.Reading.{UniqueReading, IsUniqueWide}
 use Rattle.wasm_base.proofs.BaseLaws.{unique_wide}
 use Rattle.wasm_base.proofs.EntryLaws.{counted-alone}
 use Rattle.wasm_base.proofs.NumberLaws.{u32-alone}
+use Rattle.wasm_sections.specs.DataSegments.{data_item}
+use Rattle.wasm_sections.specs.Elements.{element}
 use Rattle.wasm_sections.specs.Exports.{export}
 use Rattle.wasm_sections.specs.Globals.{global_type, global_item}
 use Rattle.wasm_sections.specs.Imports.{import_format, entity}
 use Rattle.wasm_sections.specs.Memories.{memory_type}
 use Rattle.wasm_sections.specs.Tables.{table_type, table_item}
 use Rattle.wasm_sections.specs.Tags.{tag_type}
+use Rattle.wasm_sections.proofs.DataLaws.{data-alone, data_laws}
+use Rattle.wasm_sections.proofs.ElementLaws.{element-alone, element_laws}
 use Rattle.wasm_sections.proofs.ExportLaws.{export-alone, export_laws}
 use Rattle.wasm_sections.proofs.FunctionLaws.{function_laws}
 use Rattle.wasm_sections.proofs.GlobalLaws.{global-alone, global_item-alone, global_laws}
@@ -41,7 +45,13 @@ tags-alone = counted-alone tag-alone
 pub imports-alone : UniqueReading (counted_format import_format)
 imports-alone = counted-alone import-alone
 
-pub ruleset sections = (imports-alone, entity-alone, global-alone, table-alone, import_laws, functions-alone, tables-alone, globals-alone, memories-alone, exports-alone, tags-alone, number-alone, function_laws, table_laws, global_laws, memory_laws, export_laws, tag_laws)
+pub segments-alone : UniqueReading (counted_format data_item)
+segments-alone = counted-alone data-alone
+
+pub elements-alone : UniqueReading (counted_format element)
+elements-alone = counted-alone element-alone
+
+pub ruleset sections = (segments-alone, elements-alone, data_laws, element_laws, imports-alone, entity-alone, global-alone, table-alone, import_laws, functions-alone, tables-alone, globals-alone, memories-alone, exports-alone, tags-alone, number-alone, function_laws, table_laws, global_laws, memory_laws, export_laws, tag_laws)
 
 pub wide-functions : IsUniqueWide (counted_format u32)
 wide-functions = unique_wide functions-alone
@@ -76,4 +86,10 @@ wide-globals = unique_wide globals-alone
 pub wide-global_types : IsUniqueWide global_type
 wide-global_types = unique_wide global-alone
 
-pub ruleset wide_sections = (wide-imports, wide-entities, wide-globals, wide-global_types, wide-functions, wide-tables, wide-table_types, wide-memories, wide-exports, wide-tags, wide-numbers)
+pub wide-data : IsUniqueWide (counted_format data_item)
+wide-data = unique_wide segments-alone
+
+pub wide-elements : IsUniqueWide (counted_format element)
+wide-elements = unique_wide elements-alone
+
+pub ruleset wide_sections = (wide-data, wide-elements, wide-imports, wide-entities, wide-globals, wide-global_types, wide-functions, wide-tables, wide-table_types, wide-memories, wide-exports, wide-tags, wide-numbers)

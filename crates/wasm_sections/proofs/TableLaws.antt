@@ -2,9 +2,10 @@
 use Rattle.std.proofs.Common.{◌≡◌, ℕ, ◌^◌, ◌<◌, List, [], ◌∷◌, ◌++◌, Bool, true, false, Option, Some, None, refl, ap, ◌∙◌, arith, inl, inr}
 use Rattle.std.specs.Prelude.{IfSome}
 use Rattle.wasm_base.specs.Entries.{ItemLaws}
-use Rattle.wasm_base.specs.Formats.{u64, impossible, mapped, pair, optional, when, prefixed}
+use Rattle.wasm_base.specs.Formats.{u64, impossible, mapped, pair, optional, when, prefixed, is_given}
 use Rattle.wasm_base.specs.Numbers.{shortest, unsigned_text}
 use Rattle.wasm_base.specs.Reading.{UniqueReading, BeginsWith}
+use Rattle.wasm_base.specs.Texts.{optional_text}
 use Rattle.wasm_base.specs.Types.{ref_type, ref_tags, ref_text}
 use Rattle.wasm_base.proofs.BaseLaws.{u64-alone}
 use Rattle.wasm_base.proofs.FormatLaws.{TellsTag, tagged-alone, mapped-alone, when-alone, impossible-alone, pair-alone, optional-alone, prefixed-alone, one_of-alone, begins_then, begins_mapped, begins_fixed, choice_begins, none_in_common, values_mapped}
@@ -12,14 +13,13 @@ use Rattle.wasm_base.proofs.TextLaws.{u64_spelled}
 use Rattle.wasm_base.proofs.TypeLaws.{ref-alone, ref-texts}
 use Rattle.wasm_code.specs.Expressions.{expression, expression_text}
 use Rattle.wasm_code.proofs.ExpressionLaws.{expression-alone, expression_spelled}
-use Rattle.wasm_immediates.specs.Immediates.{optional_text}
 use Rattle.wasm_insn.specs.Plain.{Plain}
 use Rattle.wasm_sections.specs.Constants.{Stored, IsStored}
-use Rattle.wasm_sections.specs.Flags.{Flags, flags_code, is_given}
+use Rattle.wasm_sections.specs.Flags.{Flags, flags_code}
 use Rattle.wasm_sections.specs.Tables.{table_flags, table_text, IsTable, Limits, limits_of, after_limits_flags, limits, table_of, table_type, before_init, table_init_text, table_item_text, IsGivenTable, init_of, table_item_of, without_init, with_init, table_item}
 use Rattle.wasm_sections.specs.declared.table.TableType.{TableType}
 use Rattle.wasm_sections.proofs.FlagLaws.{flags-alone}
-use Rattle.wasm_sections.proofs.Parts.{pair_spelled, optional_spelled, optional_tells}
+use Rattle.wasm_base.proofs.PartLaws.{pair_spelled, optional_spelled, optional_tells}
 
 abbrev limits_flags : Limits → Flags
 limits_flags l = record { has_maximum = is_given l.maximum; shared = l.shared; is_64 = l.table64; has_page_size = false }

@@ -11,7 +11,7 @@ use Rattle.wasm_sections.specs.Tags.{tag_code, tag_text, IsTag, tag_of, tag_type
 use Rattle.wasm_sections.specs.declared.tag.TagKind.{TagKind}
 use Rattle.wasm_sections.specs.declared.tag.TagKind.TheVariants.{Exception}
 use Rattle.wasm_sections.specs.declared.tag.TagType.{TagType}
-use Rattle.wasm_sections.proofs.Parts.{pair_spelled}
+use Rattle.wasm_base.proofs.PartLaws.{pair_spelled}
 
 back : (kind : TagKind) → Exception ≡ kind
 back Exception = refl

@@ -1,5 +1,5 @@
 -- flags of limits: one byte, each bit of which has a name.
-use Rattle.std.specs.Prelude.{ℕ, ◌+◌, Bool, true, false, Option, Some, None}
+use Rattle.std.specs.Prelude.{ℕ, ◌+◌, Bool}
 use Rattle.wasm_base.specs.Formats.{Format, coded}
 use Rattle.wasm_immediates.specs.Immediates.{where_set}
 
@@ -15,8 +15,3 @@ flags_code f = where_set f.has_maximum 0x01 + where_set f.shared 0x02 + where_se
 
 abbrev pub flags : Format Flags
 flags = coded flags_code
-
--- whether a part is given
-abbrev pub is_given : {X : Type 0} → Option X → Bool
-is_given None = false
-is_given (Some x) = true

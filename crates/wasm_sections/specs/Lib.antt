@@ -6,5 +6,7 @@ pub mod Tables
 pub mod Exports
 pub mod Globals
 pub mod Imports
-pub mod Laws
+pub mod DataSegments
+pub mod Elements
+pub mod GivenElements
 pub mod Readings

@@ -1,9 +1,9 @@
 -- Memory types: their text, and what spells them.
 use Rattle.std.specs.Prelude.{ℕ, ◌^◌, ◌<◌, List, ◌∷◌, ◌++◌, Option, Some, None, IfSome}
-use Rattle.wasm_base.specs.Formats.{Format, u32, u64, mapped, tagged, pair, optional}
+use Rattle.wasm_base.specs.Formats.{Format, u32, u64, mapped, tagged, pair, optional, is_given}
 use Rattle.wasm_base.specs.Numbers.{unsigned_text}
-use Rattle.wasm_immediates.specs.Immediates.{optional_text}
-use Rattle.wasm_sections.specs.Flags.{Flags, flags, flags_code, is_given}
+use Rattle.wasm_base.specs.Texts.{optional_text}
+use Rattle.wasm_sections.specs.Flags.{Flags, flags, flags_code}
 use Rattle.wasm_sections.specs.declared.memory.MemoryType.{MemoryType}
 
 abbrev pub memory_flags : MemoryType → Flags

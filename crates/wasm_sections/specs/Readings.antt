@@ -7,6 +7,9 @@ use Rattle.wasm_base.specs.Modules.{SectionReading, reading_of}
 use Rattle.wasm_base.specs.Numbers.{unsigned_text}
 use Rattle.wasm_base.specs.SectionId.{number_of}
 use Rattle.wasm_base.specs.declared.section_id.SectionId.TheVariants as ids
+use Rattle.wasm_insn.specs.Plain.{Plain}
+use Rattle.wasm_sections.specs.DataSegments.{data_text, IsGivenData, DataItem, data_of, data_item}
+use Rattle.wasm_sections.specs.Elements.{element_text, IsSegment, Segment, element_of, element}
 use Rattle.wasm_sections.specs.Exports.{export_text, IsExport, ExportItem, item_of, export}
 use Rattle.wasm_sections.specs.Globals.{global_item_text, IsGivenGlobal, GlobalItem, global_item_of, global_item}
 use Rattle.wasm_sections.specs.Imports.{ImportItem, import_text, IsImport, import_format}
@@ -32,6 +35,12 @@ HoldsGlobals = HoldsItems global_item_text IsGivenGlobal global_item_of global_i
 abbrev pub HoldsExports : List (List ℕ) → List ExportItem → Type 0
 HoldsExports = HoldsItems export_text IsExport item_of export
 
+abbrev pub HoldsElements : List (List ℕ) → List (Segment (List Plain)) → Type 0
+HoldsElements = HoldsItems element_text IsSegment element_of element
+
+abbrev pub HoldsSegments : List (List ℕ) → List DataItem → Type 0
+HoldsSegments = HoldsItems data_text IsGivenData data_of data_item
+
 abbrev pub HoldsImports : List (List ℕ) → List ImportItem → Type 0
 HoldsImports = HoldsItems import_text IsImport (λ import. import) import_format
 
@@ -53,6 +62,12 @@ global_reading globals = reading_of (number_of ids.Global) (vec global_item) glo
 
 abbrev pub export_reading : List ExportItem → SectionReading
 export_reading exports = reading_of (number_of ids.Export) (vec export) exports
+
+abbrev pub element_reading : List (Segment (List Plain)) → SectionReading
+element_reading segments = reading_of (number_of ids.Element) (vec element) segments
+
+abbrev pub data_reading : List DataItem → SectionReading
+data_reading segments = reading_of (number_of ids.Data) (vec data_item) segments
 
 abbrev pub import_reading : List ImportItem → SectionReading
 import_reading imports = reading_of (number_of ids.Import) (vec import_format) imports

@@ -1,16 +1,16 @@
 -- Table types and tables: their texts, and what spells them.
 use Rattle.std.specs.Prelude.{ℕ, ◌^◌, ◌<◌, List, [], ◌∷◌, ◌++◌, Bool, true, false, Option, Some, None, IfSome}
-use Rattle.wasm_base.specs.Formats.{Format, u64, impossible, mapped, tagged, pair, optional, when, one_of, prefixed}
+use Rattle.wasm_base.specs.Formats.{Format, u64, impossible, mapped, tagged, pair, optional, when, one_of, prefixed, is_given}
 use Rattle.wasm_base.specs.Numbers.{unsigned_text}
+use Rattle.wasm_base.specs.Texts.{optional_text}
 use Rattle.wasm_base.specs.Types.{ref_type, ref_text, IsRef}
 use Rattle.wasm_base.specs.declared.types.RefType.{RefType}
 use Rattle.wasm_base.specs.declared.types.ValType.{ValType}
 use Rattle.wasm_base.specs.declared.types.ValType.TheVariants.{I32, I64}
 use Rattle.wasm_code.specs.Expressions.{expression, expression_text}
-use Rattle.wasm_immediates.specs.Immediates.{optional_text}
 use Rattle.wasm_insn.specs.Plain.{Plain}
 use Rattle.wasm_sections.specs.Constants.{Stored, IsStored}
-use Rattle.wasm_sections.specs.Flags.{Flags, flags, flags_code, is_given}
+use Rattle.wasm_sections.specs.Flags.{Flags, flags, flags_code}
 use Rattle.wasm_sections.specs.declared.table.TableType.{TableType}
 
 -- A table has no page size.

@@ -1,47 +1,25 @@
 // Sections of counted items: what they have in common.
-ghost use Rattle.std.specs.Prelude.{◌≡◌, ◌≢◌, ℕ, List, [], ◌∷◌, length, IfOk, IsTrue, ◌↔◌, slice_get};
+ghost use Rattle.std.specs.Prelude.{◌≡◌, ◌≢◌, ℕ, List, [], ◌∷◌, length, IfOk, IsTrue, ◌↔◌, slice_get, ⊤};
 ghost use Rattle.std.proofs.Common.{refl};
 ghost use Rattle.std.specs.Option.{option_copied};
 ghost use Rattle.wasm_base.specs.Calls.{Adds, ReadsBack};
-ghost use Rattle.wasm_base.specs.Entries.{HoldsItems, ItemLaws, counted_format};
-ghost use Rattle.wasm_base.specs.Numbers.{Mode};
+ghost use Rattle.wasm_base.specs.Entries.{HoldsItems, counted_format};
+ghost use Rattle.wasm_base.specs.Once.{AddsOnce};
 ghost use Rattle.wasm_base.specs.Pieces.{section_text, SectionFits};
 ghost use Rattle.wasm_base.specs.declared.refused.Refused.TheVariants.{TooLong};
 
 use std::alloc::{Allocator, Global};
 use std::marker::{Model, PhantomData};
-use wasm_base::{Counted, Encode, Pieces, R, Section};
+use wasm_base::{Counted, Encode, EncodeOnce, Items, Pieces, R, Section};
 
-/// A kind of items that a section counts: how they are written, and what they say.
-pub trait ItemKind {
-    /// What a call hands in.
-    ghost Record: { Type 0 };
-
-    /// What a section says.
-    ghost Item: { Type 0 };
-
-    /// text: the bytes of a record.
-    ghost record_text: { Record → List ℕ };
-
-    /// plain: its numbers are in range, and its names are UTF-8.
-    ghost is_plain: { Record → Type 0 };
-
-    /// normal form: what a plain record says.
-    ghost normal_form: { Record → Item };
-
-    /// How an item is spelled.
-    ghost item_format: { Mode → List ℕ → Item → Type 0 };
-
+/// A kind of items that a section counts.
+pub trait ItemKind: Items {
     /// The id of the section of these items.
     ghost section_id: { ℕ };
 
     /// The id of the section of these items.
     fn id() -> u8
         ensures { result ≡ section_id };
-
-    /// Items are read uniquely, and the text of a plain record spells what it says. The function does nothing.
-    fn laws()
-        ensures { ItemLaws record_text is_plain normal_form item_format };
 }
 
 /// A record that can be added to a section of items of the kind `K`.
@@ -87,6 +65,21 @@ impl<K, A: Allocator> CountedSection<K, A> {
         ensures { Adds (T.text given.now) (T.fits given.now) self.old self.new result }
     {
         self.pieces.add_encoded(given)
+    }
+
+    /// Adds an entry that is a text of the item, which is written once. A refused call leaves the section as it was.
+    pub(crate) fn add_once<T: EncodeOnce + Drop>(&mut self, item: T) -> R<()>
+        requires { T.lawful item }
+        ensures { AddsOnce (T.gives item) (T.fits item) self.old self.new result }
+    {
+        self.pieces.add_once(item)
+    }
+
+    /// Adds an entry that is spelled already. A refused call leaves the section as it was.
+    pub(crate) fn add_piece(&mut self, piece: &[u8]) -> R<()>
+        ensures { Adds piece.now ⊤ self.old self.new result }
+    {
+        self.pieces.add(piece)
     }
 }
 

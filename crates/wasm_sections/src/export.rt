@@ -8,7 +8,7 @@ ghost use Rattle.wasm_sections.specs.declared.export.Export.{Export as Given};
 
 use crate::counted_section::{CountedSection, ItemKind, RecordOf};
 use std::alloc::{Allocator, Global};
-use wasm_base::{Encode, R, SectionId};
+use wasm_base::{Encode, Items, R, SectionId};
 
 /// What a module exports.
 ///
@@ -63,10 +63,7 @@ impl Encode for Export<'_> {
     }
 }
 
-impl ItemKind for ExportItems {
-    ghost use Rattle.wasm_base.specs.SectionId.{number_of};
-    ghost use Rattle.wasm_base.specs.declared.section_id.SectionId.TheVariants as ids;
-
+impl Items for ExportItems {
     ghost Record = { Given };
 
     ghost Item = { ExportItem };
@@ -79,14 +76,19 @@ impl ItemKind for ExportItems {
 
     ghost item_format = { export };
 
+    #[tactic(auto, using(crate::proofs::ExportLaws::export_laws))]
+    fn laws() {}
+}
+
+impl ItemKind for ExportItems {
+    ghost use Rattle.wasm_base.specs.SectionId.{number_of};
+    ghost use Rattle.wasm_base.specs.declared.section_id.SectionId.TheVariants as ids;
+
     ghost section_id = { number_of ids.Export };
 
     fn id() -> u8 {
         SectionId::Export.into()
     }
-
-    #[tactic(auto, using(crate::proofs::ExportLaws::export_laws))]
-    fn laws() {}
 }
 
 impl RecordOf<ExportItems> for Export<'_> {}

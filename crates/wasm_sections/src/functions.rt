@@ -7,7 +7,7 @@ ghost use Rattle.wasm_base.specs.Numbers.{unsigned_text};
 
 use crate::counted_section::{CountedSection, ItemKind, RecordOf};
 use std::alloc::{Allocator, Global};
-use wasm_base::{Encode, R, SectionId};
+use wasm_base::{Encode, Items, R, SectionId};
 
 /// The types of the functions that a module defines, in the order of their bodies.
 ///
@@ -22,10 +22,7 @@ pub type FunctionSection<A = Global> = CountedSection<FunctionItems, A>;
 #[derive(Clone, Copy, Debug)]
 pub struct FunctionItems;
 
-impl ItemKind for FunctionItems {
-    ghost use Rattle.wasm_base.specs.SectionId.{number_of};
-    ghost use Rattle.wasm_base.specs.declared.section_id.SectionId.TheVariants as ids;
-
+impl Items for FunctionItems {
     ghost Record = { ℕ };
 
     ghost Item = { ℕ };
@@ -38,14 +35,19 @@ impl ItemKind for FunctionItems {
 
     ghost item_format = { u32_format };
 
+    #[tactic(auto, using(crate::proofs::FunctionLaws::function_laws))]
+    fn laws() {}
+}
+
+impl ItemKind for FunctionItems {
+    ghost use Rattle.wasm_base.specs.SectionId.{number_of};
+    ghost use Rattle.wasm_base.specs.declared.section_id.SectionId.TheVariants as ids;
+
     ghost section_id = { number_of ids.Function };
 
     fn id() -> u8 {
         SectionId::Function.into()
     }
-
-    #[tactic(auto, using(crate::proofs::FunctionLaws::function_laws))]
-    fn laws() {}
 }
 
 impl RecordOf<FunctionItems> for u32 {}

@@ -6,9 +6,8 @@ ghost use Rattle.wasm_sections.specs.Globals.{global_flags, global_code, global_
 
 use crate::counted_section::{CountedSection, ItemKind};
 use crate::flags::where_set;
-use crate::lent::Lent;
 use std::alloc::{Allocator, Global};
-use wasm_base::{Encode, R, SectionId, ValType};
+use wasm_base::{Encode, Items, Lent, R, SectionId, ValType};
 use wasm_code::ConstExpr;
 
 /// The globals that a module defines.
@@ -56,10 +55,7 @@ impl Encode for GlobalType {
     }
 }
 
-impl ItemKind for GlobalItems {
-    ghost use Rattle.wasm_base.specs.SectionId.{number_of};
-    ghost use Rattle.wasm_base.specs.declared.section_id.SectionId.TheVariants as ids;
-
+impl Items for GlobalItems {
     ghost Record = { GivenGlobal };
 
     ghost Item = { GlobalItem };
@@ -72,14 +68,19 @@ impl ItemKind for GlobalItems {
 
     ghost item_format = { global_item };
 
+    #[tactic(auto, using(crate::proofs::GlobalLaws::global_laws))]
+    fn laws() {}
+}
+
+impl ItemKind for GlobalItems {
+    ghost use Rattle.wasm_base.specs.SectionId.{number_of};
+    ghost use Rattle.wasm_base.specs.declared.section_id.SectionId.TheVariants as ids;
+
     ghost section_id = { number_of ids.Global };
 
     fn id() -> u8 {
         SectionId::Global.into()
     }
-
-    #[tactic(auto, using(crate::proofs::GlobalLaws::global_laws))]
-    fn laws() {}
 }
 
 impl<A: Allocator> GlobalSection<A> {
@@ -88,5 +89,12 @@ impl<A: Allocator> GlobalSection<A> {
         ensures { Adds (global_text global_type ++ expression_text init.now) ⊤ self.old self.new result }
     {
         self.add_record(&(global_type, Lent(init)))
+    }
+
+    /// Adds a global that is spelled already. A refused call leaves the section as it was.
+    pub fn raw(&mut self, global: &[u8]) -> R<()>
+        ensures { Adds global.now ⊤ self.old self.new result }
+    {
+        self.add_piece(global)
     }
 }

@@ -25,7 +25,7 @@ use crate::tag::TagType;
 use std::alloc::{Allocator, Global};
 use wasm_base::{
     CORE_FUNCTION_EXACT_SORT, CORE_FUNCTION_SORT, CORE_GLOBAL_SORT, CORE_MEMORY_SORT,
-    CORE_TABLE_SORT, CORE_TAG_SORT, CowSlice, Encode, R, SectionId,
+    CORE_TABLE_SORT, CORE_TAG_SORT, CowSlice, Encode, Items, R, SectionId,
 };
 
 /// What a module imports.
@@ -198,10 +198,7 @@ impl<A: Allocator> Encode for Imports<'_, A> {
     }
 }
 
-impl ItemKind for ImportItems {
-    ghost use Rattle.wasm_base.specs.SectionId.{number_of};
-    ghost use Rattle.wasm_base.specs.declared.section_id.SectionId.TheVariants as ids;
-
+impl Items for ImportItems {
     ghost Record = { ImportItem };
 
     ghost Item = { ImportItem };
@@ -214,14 +211,19 @@ impl ItemKind for ImportItems {
 
     ghost item_format = { import_format };
 
+    #[tactic(auto, using(crate::proofs::ImportLaws::import_laws))]
+    fn laws() {}
+}
+
+impl ItemKind for ImportItems {
+    ghost use Rattle.wasm_base.specs.SectionId.{number_of};
+    ghost use Rattle.wasm_base.specs.declared.section_id.SectionId.TheVariants as ids;
+
     ghost section_id = { number_of ids.Import };
 
     fn id() -> u8 {
         SectionId::Import.into()
     }
-
-    #[tactic(auto, using(crate::proofs::ImportLaws::import_laws))]
-    fn laws() {}
 }
 
 impl RecordOf<ImportItems> for Import<'_> {}

@@ -8,10 +8,12 @@ ghost use Rattle.wasm_base.specs.Laws.{FitsUnsigned};
 ghost use Rattle.wasm_base.specs.Modules.{ReadsPayloads};
 ghost use Rattle.wasm_base.specs.Numbers.{unsigned_text};
 ghost use Rattle.wasm_base.specs.Reading.{UniqueReading, IsUniqueWide};
+ghost use Rattle.wasm_sections.specs.DataSegments.{data_text, IsGivenData, data_of, data_item};
+ghost use Rattle.wasm_sections.specs.Elements.{element_text, IsSegment, element_of, element};
 ghost use Rattle.wasm_sections.specs.Exports.{export_text, IsExport, item_of, export};
 ghost use Rattle.wasm_sections.specs.Globals.{global_type, global_item_text, IsGivenGlobal, global_item_of, global_item};
 ghost use Rattle.wasm_sections.specs.Imports.{import_text, IsImport, import_format, entity};
-ghost use Rattle.wasm_sections.specs.Laws.{HoldsMore, NothingStandsWide};
+ghost use Rattle.wasm_base.specs.Laws.{HoldsMore, NothingStandsWide};
 ghost use Rattle.wasm_sections.specs.Memories.{memory_text, IsMemory, memory_type};
 ghost use Rattle.wasm_sections.specs.Tables.{table_type, table_item_text, IsGivenTable, table_item_of, table_item};
 ghost use Rattle.wasm_sections.specs.Tags.{tag_text, IsTag, tag_type};
@@ -26,6 +28,8 @@ pub fn sections()
     ensures memories { UniqueReading (counted_format memory_type) }
     ensures globals { UniqueReading (counted_format global_item) }
     ensures exports { UniqueReading (counted_format export) }
+    ensures elements { UniqueReading (counted_format element) }
+    ensures segments { UniqueReading (counted_format data_item) }
     ensures tags { UniqueReading (counted_format tag_type) }
     ensures imports { UniqueReading (counted_format import_format) }
     ensures entities { UniqueReading entity }
@@ -38,6 +42,8 @@ pub fn sections()
     ensures memory_items { ItemLaws memory_text IsMemory (λ memory. memory) memory_type }
     ensures global_items { ItemLaws global_item_text IsGivenGlobal global_item_of global_item }
     ensures export_items { ItemLaws export_text IsExport item_of export }
+    ensures element_items { ItemLaws element_text IsSegment element_of element }
+    ensures data_items { ItemLaws data_text IsGivenData data_of data_item }
     ensures import_items { ItemLaws import_text IsImport (λ import. import) import_format }
     ensures tag_items { ItemLaws tag_text IsTag (λ tag. tag) tag_type }
 {}
@@ -50,6 +56,8 @@ pub fn wide()
     ensures memories { IsUniqueWide (counted_format memory_type) }
     ensures globals { IsUniqueWide (counted_format global_item) }
     ensures exports { IsUniqueWide (counted_format export) }
+    ensures elements { IsUniqueWide (counted_format element) }
+    ensures segments { IsUniqueWide (counted_format data_item) }
     ensures tags { IsUniqueWide (counted_format tag_type) }
     ensures imports { IsUniqueWide (counted_format import_format) }
     ensures entities { IsUniqueWide entity }
@@ -66,6 +74,8 @@ pub fn calls()
     ensures memories { HoldsMore memory_text IsMemory (λ memory. memory) memory_type }
     ensures globals { HoldsMore global_item_text IsGivenGlobal global_item_of global_item }
     ensures exports { HoldsMore export_text IsExport item_of export }
+    ensures elements { HoldsMore element_text IsSegment element_of element }
+    ensures segments { HoldsMore data_text IsGivenData data_of data_item }
     ensures imports { HoldsMore import_text IsImport (λ import. import) import_format }
     ensures tags { HoldsMore tag_text IsTag (λ tag. tag) tag_type }
 {}
@@ -78,16 +88,19 @@ pub fn payloads()
     ensures memories { ReadsPayloads (vec memory_type) }
     ensures globals { ReadsPayloads (vec global_item) }
     ensures exports { ReadsPayloads (vec export) }
+    ensures elements { ReadsPayloads (vec element) }
+    ensures segments { ReadsPayloads (vec data_item) }
     ensures imports { ReadsPayloads (vec import_format) }
     ensures tags { ReadsPayloads (vec tag_type) }
     ensures numbers { ReadsPayloads u32_format }
 {}
 
-/// No section of globals stands where bytes follow the first `End` of a constant expression, and none of imports where the byte 00
-/// before a group is padded.
+/// No section of globals stands where bytes follow the first `End` of a constant expression, none of imports where the byte 00
+/// before a group is padded, and none of data where a segment that names its memory names memory 0.
 #[tactic(auto, using(crate::proofs::NothingLaws::nothing))]
 pub fn nothing_stands()
     ensures inner_end { NothingStandsWide (counted_format global_item) (9 ∷ 1 ∷ 127 ∷ 0 ∷ 65 ∷ 1 ∷ 11 ∷ 65 ∷ 2 ∷ 11 ∷ []) }
+    ensures named_first_memory { NothingStandsWide (counted_format data_item) (8 ∷ 1 ∷ 2 ∷ 0 ∷ 65 ∷ 0 ∷ 11 ∷ 1 ∷ 9 ∷ []) }
     ensures padded_group { NothingStandsWide (counted_format import_format) (6 ∷ 1 ∷ 0 ∷ 128 ∷ 0 ∷ 127 ∷ 0 ∷ []) }
 {}
 

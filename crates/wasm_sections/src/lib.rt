@@ -2,19 +2,22 @@
 #![tactic(auto)]
 
 mod counted_section;
+mod data;
+mod element;
 mod export;
 mod flags;
 mod functions;
 mod global;
 mod import;
 pub mod laws;
-mod lent;
 mod memory;
 mod numbers;
 mod table;
 mod tag;
 
 pub use counted_section::{CountedSection, ItemKind, RecordOf};
+pub use data::{DataItems, DataSection, DataSegment, DataSegmentMode};
+pub use element::{ElementItems, ElementMode, ElementSection, ElementSegment, Elements};
 pub use export::{Export, ExportItems, ExportKind, ExportSection};
 pub use functions::{FunctionItems, FunctionSection};
 pub use global::{GlobalItems, GlobalSection, GlobalType};

@@ -6,9 +6,9 @@ ghost use Rattle.wasm_sections.specs.Memories.{memory_flags, memory_text, IsMemo
 ghost use Rattle.wasm_sections.specs.declared.memory.MemoryType.{MemoryType as Memory};
 
 use crate::counted_section::{CountedSection, ItemKind, RecordOf};
-use crate::flags::{Optional, where_set};
+use crate::flags::where_set;
 use std::alloc::{Allocator, Global};
-use wasm_base::{Encode, R, SectionId};
+use wasm_base::{Encode, Items, Optional, R, SectionId};
 
 /// The memories that a module defines.
 ///
@@ -80,10 +80,7 @@ impl Encode for MemoryType {
     }
 }
 
-impl ItemKind for MemoryItems {
-    ghost use Rattle.wasm_base.specs.SectionId.{number_of};
-    ghost use Rattle.wasm_base.specs.declared.section_id.SectionId.TheVariants as ids;
-
+impl Items for MemoryItems {
     ghost Record = { Memory };
 
     ghost Item = { Memory };
@@ -96,14 +93,19 @@ impl ItemKind for MemoryItems {
 
     ghost item_format = { memory_type };
 
+    #[tactic(auto, using(crate::proofs::MemoryLaws::memory_laws))]
+    fn laws() {}
+}
+
+impl ItemKind for MemoryItems {
+    ghost use Rattle.wasm_base.specs.SectionId.{number_of};
+    ghost use Rattle.wasm_base.specs.declared.section_id.SectionId.TheVariants as ids;
+
     ghost section_id = { number_of ids.Memory };
 
     fn id() -> u8 {
         SectionId::Memory.into()
     }
-
-    #[tactic(auto, using(crate::proofs::MemoryLaws::memory_laws))]
-    fn laws() {}
 }
 
 impl RecordOf<MemoryItems> for MemoryType {}

@@ -17,10 +17,9 @@ ghost use Rattle.wasm_sections.specs.Tables.{
 };
 
 use crate::counted_section::{CountedSection, ItemKind, RecordOf};
-use crate::flags::{Optional, where_set};
-use crate::lent::Lent;
+use crate::flags::where_set;
 use std::alloc::{Allocator, Global};
-use wasm_base::{Encode, R, RefType, SectionId, ValType};
+use wasm_base::{Encode, Items, Lent, Optional, R, RefType, SectionId, ValType};
 use wasm_code::ConstExpr;
 
 /// The tables that a module defines.
@@ -85,10 +84,7 @@ impl Encode for TableType {
     }
 }
 
-impl ItemKind for TableItems {
-    ghost use Rattle.wasm_base.specs.SectionId.{number_of};
-    ghost use Rattle.wasm_base.specs.declared.section_id.SectionId.TheVariants as ids;
-
+impl Items for TableItems {
     ghost Record = { GivenTable };
 
     ghost Item = { TableItem };
@@ -101,14 +97,19 @@ impl ItemKind for TableItems {
 
     ghost item_format = { table_item };
 
+    #[tactic(auto, using(crate::proofs::TableLaws::table_laws))]
+    fn laws() {}
+}
+
+impl ItemKind for TableItems {
+    ghost use Rattle.wasm_base.specs.SectionId.{number_of};
+    ghost use Rattle.wasm_base.specs.declared.section_id.SectionId.TheVariants as ids;
+
     ghost section_id = { number_of ids.Table };
 
     fn id() -> u8 {
         SectionId::Table.into()
     }
-
-    #[tactic(auto, using(crate::proofs::TableLaws::table_laws))]
-    fn laws() {}
 }
 
 impl RecordOf<TableItems> for TableType {}

@@ -6,7 +6,7 @@ ghost use Rattle.wasm_sections.specs.declared.tag.TagType.{TagType as Tag};
 
 use crate::counted_section::{CountedSection, ItemKind, RecordOf};
 use std::alloc::{Allocator, Global};
-use wasm_base::{Encode, R, SectionId};
+use wasm_base::{Encode, Items, R, SectionId};
 
 /// The tags that a module defines.
 ///
@@ -58,10 +58,7 @@ impl Encode for TagType {
     }
 }
 
-impl ItemKind for TagItems {
-    ghost use Rattle.wasm_base.specs.SectionId.{number_of};
-    ghost use Rattle.wasm_base.specs.declared.section_id.SectionId.TheVariants as ids;
-
+impl Items for TagItems {
     ghost Record = { Tag };
 
     ghost Item = { Tag };
@@ -74,14 +71,19 @@ impl ItemKind for TagItems {
 
     ghost item_format = { tag_type };
 
+    #[tactic(auto, using(crate::proofs::TagLaws::tag_laws))]
+    fn laws() {}
+}
+
+impl ItemKind for TagItems {
+    ghost use Rattle.wasm_base.specs.SectionId.{number_of};
+    ghost use Rattle.wasm_base.specs.declared.section_id.SectionId.TheVariants as ids;
+
     ghost section_id = { number_of ids.Tag };
 
     fn id() -> u8 {
         SectionId::Tag.into()
     }
-
-    #[tactic(auto, using(crate::proofs::TagLaws::tag_laws))]
-    fn laws() {}
 }
 
 impl RecordOf<TagItems> for TagType {}

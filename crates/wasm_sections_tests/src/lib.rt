@@ -27,3 +27,7 @@ mod samples;
 mod section_refusals;
 #[cfg(test)]
 mod sections;
+#[cfg(test)]
+mod segment_refusals;
+#[cfg(test)]
+mod segments;

@@ -14,7 +14,7 @@ use wasm_sections::{
 };
 
 /// A section that takes its memory from an allocator that refuses.
-type Lent<'h, K> = CountedSection<K, &'h Refusing<Global>>;
+pub(crate) type OnHeap<'h, K> = CountedSection<K, &'h Refusing<Global>>;
 
 /// The section has this entry alone, or none.
 fn check_entry(rt: &impl Abort, granted: bool, len: u32, piece: Option<&[u8]>, entry: &[u8]) {
@@ -23,7 +23,7 @@ fn check_entry(rt: &impl Abort, granted: bool, len: u32, piece: Option<&[u8]>, e
 }
 
 /// An adding call makes an entry of these bytes. Where a request is refused, the section is as it was.
-fn check_adding<'h, K: ItemKind, F: Fn(&mut Lent<'h, K>) -> R<()>>(
+pub(crate) fn check_adding<'h, K: ItemKind, F: Fn(&mut OnHeap<'h, K>) -> R<()>>(
     rt: &impl Abort,
     heap: &'h Refusing<Global>,
     entry: &[u8],
@@ -48,7 +48,7 @@ fn check_adding<'h, K: ItemKind, F: Fn(&mut Lent<'h, K>) -> R<()>>(
 fn check_whole<'h, K: ItemKind>(
     rt: &impl Abort,
     heap: &'h Refusing<Global>,
-    section: &Lent<'h, K>,
+    section: &OnHeap<'h, K>,
     entry: &[u8],
 ) -> Result<(), Fail> {
     check_clone(rt, heap, section, entry)?;
@@ -60,7 +60,7 @@ fn check_whole<'h, K: ItemKind>(
 fn check_clone<'h, K: ItemKind>(
     rt: &impl Abort,
     heap: &'h Refusing<Global>,
-    section: &Lent<'h, K>,
+    section: &OnHeap<'h, K>,
     entry: &[u8],
 ) -> Result<(), Fail> {
     for nth in 1..MOST {
@@ -77,7 +77,7 @@ fn check_copy<'h, K: ItemKind>(
     rt: &impl Abort,
     heap: &'h Refusing<Global>,
     nth: u64,
-    copy: R<Lent<'h, K>>,
+    copy: R<OnHeap<'h, K>>,
     entry: &[u8],
 ) -> bool {
     match copy {
@@ -291,7 +291,7 @@ fn groups(rt: HostRuntime) -> Result<(), Fail> {
 }
 
 /// `encode` of a part appends these bytes. Where a request is refused, the sink is as it was.
-fn check_part<T: Encode>(
+pub(crate) fn check_part<T: Encode>(
     rt: &impl Abort,
     heap: &Refusing<Global>,
     part: &T,

@@ -14,7 +14,7 @@ use wasm_sections::{
 };
 
 /// The section has this id and these bytes.
-fn check<S: Section>(
+pub(crate) fn check<S: Section>(
     rt: &impl Abort,
     alloc: Global,
     section: &S,
@@ -364,4 +364,6 @@ fn laws_do_nothing(_rt: HostRuntime) {
     laws::sections();
     laws::wide();
     laws::calls();
+    laws::payloads();
+    laws::nothing_stands();
 }

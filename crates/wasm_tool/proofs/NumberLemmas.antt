@@ -1,12 +1,15 @@
 -- What `parse` says of a word that begins with no plus sign.
-use Rattle.std.proofs.Common.{◌≡◌, ◌≢◌, ℕ, ◌<◌, ◌≤◌, ◌^◌, Bool, true, false, ◌&&◌, cond, List, [], ◌∷◌, length, get_or, Option, Some, None, Result, Ok, Err, refl, ap, sym, subst, arith}
-use Rattle.std.specs.Prelude.{MatchResult, nat_lt}
+use Rattle.std.proofs.Common.{◌≡◌, ◌≢◌, ℕ, ◌<◌, ◌≤◌, ◌^◌, Bool, true, false, ◌&&◌, cond, List, [], ◌∷◌, length, get_or, suc, ℤ, pos, neg_ℤ, ◌-◌, ◌==◌, Option, Some, None, Result, Ok, Err, refl, ap, sym, subst, ◌∙◌, eq-eqb, arith}
+use borrow.Author.Tests.{ne_eqb, eqb-true}
+use mir.Syntax.{w32}
+use Rattle.std.specs.Prelude.{MatchResult, nat_lt, option_map}
+use Rattle.std.specs.Result.{OkIff}
 use Rattle.std.specs.Str.{all_ascii_digits}
-use Rattle.std.specs.Str.Parse.{ParsesUnsigned, digits_value}
+use Rattle.std.specs.Str.Parse.{ParsesUnsigned, ParsesSigned, digits_value}
 use Rattle.std.proofs.lemmas.Bool.{and_parts, lt-ltb, le-ltb, ltb-true, ltb-false}
-use Rattle.std.proofs.lemmas.Str.Parse.{numerals_by_value, parse_plain, tells_all_ascii_digits}
+use Rattle.std.proofs.lemmas.Str.Parse.{numerals_by_value, parse_plain, parse_signed_minus, parse_signed_plain, tells_all_ascii_digits}
 use Rattle.wasm_tool.specs.Lines.{is_word}
-use Rattle.wasm_tool.specs.Recipe.{below, number_of}
+use Rattle.wasm_tool.specs.Recipe.{below, number_of, value_of, at_most, signed_of}
 
 is_word-some : (word : List ℕ) → 0 < length word → is_word word ≡ true
 is_word-some [] h = absurd (omega arith)
@@ -67,3 +70,58 @@ narrow_none (Some m) e = go (nat_lt m (2 ^ 64)) refl e
     go : (test : Bool) → nat_lt m (2 ^ 64) ≡ test → cond test (Some m) None ≡ None → below 32 (Some m) ≡ None
     go true is e = absurd (cc e)
     go false is e = let large = le-ltb m (2 ^ 32) (omega (arith, ltb-false m (2 ^ 64) is)) in rw large refl
+
+-- ---- a number with a sign
+
+none_at_most : (most : ℕ) (b : Bool) (n : ℕ) → (b ≡ true → ¬ (nat_lt n (suc most) ≡ true)) → at_most most (cond b (Some n) None) ≡ None
+none_at_most most true n h = none_unless (nat_lt n (suc most)) n (h refl)
+none_at_most most false n h = refl
+
+-- the value of digits that is at most so large, and none of other words
+value_at_most : (most : ℕ) (word : List ℕ) → all_ascii_digits word ≡ true → 0 < length word → digits_value 10 word ≤ most → at_most most (value_of word) ≡ Some (digits_value 10 word)
+value_at_most most word digits some low =
+    let word_is = is_word-some word some in
+    let small = lt-ltb (digits_value 10 word) (suc most) (omega (arith, low)) in
+    rw (word_is, digits, small) refl
+
+no_value_at_most : (most : ℕ) (word : List ℕ) → ¬ ((all_ascii_digits word ≡ true) × (0 < length word) × (digits_value 10 word ≤ most)) → at_most most (value_of word) ≡ None
+no_value_at_most most word says =
+    none_at_most most (is_word word && all_ascii_digits word) (digits_value 10 word) (λ spells low.
+    let parts = and_parts (is_word word) (all_ascii_digits word) spells in
+    says (parts.1, some_from_is_word word parts.0, omega (arith, ltb-true (digits_value 10 word) (suc most) low)))
+
+minus_first : (c : ℕ) (cs : List ℕ) → c ≡ 45 → signed_of (c ∷ cs) ≡ option_map (λ n. neg_ℤ (pos n)) (at_most (2 ^ 31) (value_of cs))
+minus_first c cs e = subst (λ d. signed_of (d ∷ cs) ≡ option_map (λ n. neg_ℤ (pos n)) (at_most (2 ^ 31) (value_of cs))) (sym e) refl
+
+other_first : (c : ℕ) (cs : List ℕ) → c ≢ 45 → signed_of (c ∷ cs) ≡ option_map pos (at_most (2 ^ 31 - 1) (value_of (c ∷ cs)))
+other_first c cs n = ap (λ b. cond b (option_map (λ m. neg_ℤ (pos m)) (at_most (2 ^ 31) (value_of cs))) (option_map pos (at_most (2 ^ 31 - 1) (value_of (c ∷ cs))))) (ne_eqb c 45 n)
+
+module _ {E : Type 0} where
+  behind_minus : (cs : List ℕ) (r : Result ℤ E) → OkIff r ((all_ascii_digits cs ≡ true) × (0 < length cs) × (digits_value 10 cs ≤ 2 ^ 31)) (neg_ℤ (pos (digits_value 10 cs)))
+      → MatchResult r (λ z. option_map (λ n. neg_ℤ (pos n)) (at_most (2 ^ 31) (value_of cs)) ≡ Some z) (λ _. option_map (λ n. neg_ℤ (pos n)) (at_most (2 ^ 31) (value_of cs)) ≡ None)
+  behind_minus cs (Ok z) says = ap (option_map (λ n. neg_ℤ (pos n))) (value_at_most (2 ^ 31) cs says.0.0 says.0.1 says.0.2) ∙ ap Some (sym says.1)
+  behind_minus cs (Err e) says = ap (option_map (λ n. neg_ℤ (pos n))) (no_value_at_most (2 ^ 31) cs says)
+
+  without_sign : (word : List ℕ) (r : Result ℤ E) → OkIff r ((all_ascii_digits word ≡ true) × (0 < length word) × (digits_value 10 word < 2 ^ 31)) (pos (digits_value 10 word))
+      → MatchResult r (λ z. option_map pos (at_most (2 ^ 31 - 1) (value_of word)) ≡ Some z) (λ _. option_map pos (at_most (2 ^ 31 - 1) (value_of word)) ≡ None)
+  without_sign word (Ok z) says = ap (option_map pos) (value_at_most (2 ^ 31 - 1) word says.0.0 says.0.1 (omega (arith, says.0.2))) ∙ ap Some (sym says.1)
+  without_sign word (Err e) says = ap (option_map pos) (no_value_at_most (2 ^ 31 - 1) word (λ q. says (q.0, q.1, omega (arith, q.2))))
+
+  pub signed_of-parse : (word : List ℕ) (r : Result ℤ E) → ParsesSigned w32 10 word r → get_or word 0 0 ≢ 43 → MatchResult r (λ z. signed_of word ≡ Some z) (λ _. signed_of word ≡ None)
+  signed_of-parse [] (Ok z) parsed plain = absurd (omega (arith, parsed.0.0.0))
+  signed_of-parse [] (Err e) parsed plain = refl
+  signed_of-parse (c ∷ cs) r parsed plain = go (c == 45) refl
+    where
+      go : (test : Bool) → (c == 45) ≡ test → MatchResult r (λ z. signed_of (c ∷ cs) ≡ Some z) (λ _. signed_of (c ∷ cs) ≡ None)
+      go true is =
+          let minus : c ≡ 45 = eqb-true c 45 is in
+          subst (λ s. MatchResult r (λ z. s ≡ Some z) (λ _. s ≡ None)) (sym (minus_first c cs minus))
+          (behind_minus cs r (parse_signed_minus (numerals_by_value _ tells_all_ascii_digits) {E = E} w32 (c ∷ cs) r parsed minus))
+      go false is =
+          let other : c ≢ 45 = λ e. let yes = eq-eqb c 45 e in cc in
+          subst (λ s. MatchResult r (λ z. s ≡ Some z) (λ _. s ≡ None)) (sym (other_first c cs other))
+          (without_sign (c ∷ cs) r (parse_signed_plain (numerals_by_value _ tells_all_ascii_digits) {E = E} w32 (c ∷ cs) r parsed plain other))
+
+pub signed_of-plus : (word : List ℕ) → get_or word 0 0 ≡ 43 → signed_of word ≡ None
+signed_of-plus [] h = absurd (omega arith)
+signed_of-plus (c ∷ cs) h = subst (λ d. signed_of (d ∷ cs) ≡ None) (sym h) refl

@@ -2,6 +2,12 @@
 use Rattle.std.proofs.Common.{◌≡◌, ℕ, ◌+◌, ◌-◌, ◌<◌, ◌≤◌, length, List, [], ◌∷◌, ◌++◌, take, filter, map, Option, Some, None, Ok, Err, Result, refl, ap, ◌∙◌, sym, subst, arith, append_assoc, append-nil}
 use Rattle.std.proofs.Common.{◌==◌, false, cond}
 use borrow.Author.Tests.{ne_eqb}
+use Rattle.std.specs.Iterator.{Yields}
+use Rattle.std.specs.List.{slice_split}
+use Rattle.std.proofs.Common.{Bor}
+use Rattle.std.proofs.lemmas.Iterator.{YieldsList}
+use Rattle.std.proofs.lemmas.Iterator.Consumers.{YieldsList-end}
+use Rattle.wasm_tool.proofs.LineLemmas.{all_lines}
 use Rattle.std.specs.Prelude.{All, IsOk, IsOkAnd, IsErrAnd, IfErr, option_map}
 use Rattle.wasm_tool.specs.declared.fault.RecipeFault.{RecipeFault}
 use Rattle.wasm_base.specs.declared.refused.Refused.{Refused}
@@ -29,9 +35,11 @@ pub record HoldsItems {A : Type 0} (lines : List (List ℕ)) (recipe : Recipe A)
   pub types : recipe.types ≡ items_of 1 (entries_of lines)
   pub functions : recipe.functions ≡ items_of 3 (entries_of lines)
   pub memories : recipe.memories ≡ items_of 5 (entries_of lines)
+  pub globals : recipe.globals ≡ items_of 6 (entries_of lines)
   pub exports : recipe.exports ≡ items_of 7 (entries_of lines)
   pub start : start_items recipe.start ≡ last_of (items_of 8 (entries_of lines))
   pub code : recipe.code ≡ items_of 10 (entries_of lines)
+  pub segments : recipe.segments ≡ items_of 11 (entries_of lines)
 
 good_line : (line : List ℕ) (entries : List Entry) → entry_of line ≡ Ok entries → IsGood line
 unfolding IsGood
@@ -57,9 +65,11 @@ holds_none recipe empty = record {
   types = empty.types;
   functions = empty.functions;
   memories = empty.memories;
+  globals = empty.globals;
   exports = empty.exports;
   start = empty.start;
   code = empty.code;
+  segments = empty.segments;
 }
 
 more_items : (id : ℕ) (lines : List (List ℕ)) (line : List ℕ) (entries : List Entry) → entry_of line ≡ Ok entries
@@ -92,10 +102,12 @@ holds_more_of lines line old new entries holds says adds =
       types = more 1 old.types new.types adds.types holds.types;
       functions = more 3 old.functions new.functions adds.functions holds.functions;
       memories = more 5 old.memories new.memories adds.memories holds.memories;
+      globals = more 6 old.globals new.globals adds.globals holds.globals;
       exports = more 7 old.exports new.exports adds.exports holds.exports;
       start = adds.start ∙ ap (λ items. replaced items (items_of 8 entries)) holds.start ∙ replaced-last (items_of 8 (entries_of lines)) (items_of 8 entries)
           ∙ ap last_of (sym (items_of-push 8 lines line entries says));
       code = more 10 old.code new.code adds.code holds.code;
+      segments = more 11 old.segments new.segments adds.segments holds.segments;
     }
 
 with_value : {T E : Type 0} (r : Result T E) (P : T → Type 0) (Q : Type 0) → ((x : T) → r ≡ Ok x → P x → Q) → IsOkAnd r P → Q
@@ -117,9 +129,17 @@ fits_with lines line old entries holds says fits =
       types = with 1 old.types holds.types fits.types;
       functions = with 3 old.functions holds.functions fits.functions;
       memories = with 5 old.memories holds.memories fits.memories;
+      globals = with 6 old.globals holds.globals fits.globals;
       exports = with 7 old.exports holds.exports fits.exports;
       code = with 10 old.code holds.code fits.code;
+      segments = with 11 old.segments holds.segments fits.segments;
     }
+
+-- all lines were read, where no part of the text is left
+pub all_read : {S A : Type 0} {steps : S → Option (Bor (List ℕ)) → S → Type 0} {s t u : S} {recipe : Recipe A} {number : ℕ} {next : Option (Bor (List ℕ))} (text : List ℕ) (parts : List (Bor (List ℕ)))
+    → YieldsList steps (λ part. part.now) s (slice_split (λ b. b == 0x0A) text) → Yields steps s parts t → next ≡ None → steps t next u → number ≡ length parts → HoldsItems (take number (lines_of text)) recipe → HoldsItems (lines_of text) recipe
+all_read {t = t} {u = u} {recipe = recipe} {number = number} {next = next} text parts road so_far none stop count holds =
+    subst (λ lines. HoldsItems lines recipe) (all_lines text number (count ∙ (YieldsList-end road parts t so_far next u none stop).1)) holds
 
 not_zero : (n : ℕ) → (n + 1 == 0) ≡ false
 not_zero n = ne_eqb (n + 1) 0 (λ e. omega arith)
@@ -172,9 +192,11 @@ sections_fit lines recipe holds fits = record {
   types = subst SectionFits (sym holds.types) fits.types;
   functions = subst SectionFits (sym holds.functions) fits.functions;
   memories = subst SectionFits (sym holds.memories) fits.memories;
+  globals = subst SectionFits (sym holds.globals) fits.globals;
   exports = subst SectionFits (sym holds.exports) fits.exports;
   start = subst (All FrameFits) (sym holds.start) fits.start;
   code = subst SectionFits (sym holds.code) fits.code;
+  segments = subst SectionFits (sym holds.segments) fits.segments;
 }
 
 pub recipe_fits : {A : Type 0} (lines : List (List ℕ)) (recipe : Recipe A) → HoldsItems lines recipe → FitsSections recipe → RecipeFits (entries_of lines)
@@ -182,9 +204,11 @@ recipe_fits lines recipe holds fits = record {
   types = subst SectionFits holds.types fits.types;
   functions = subst SectionFits holds.functions fits.functions;
   memories = subst SectionFits holds.memories fits.memories;
+  globals = subst SectionFits holds.globals fits.globals;
   exports = subst SectionFits holds.exports fits.exports;
   start = subst (All FrameFits) holds.start fits.start;
   code = subst SectionFits holds.code fits.code;
+  segments = subst SectionFits holds.segments fits.segments;
 }
 
 explains_at_end : {A : Type 0} (text : List ℕ) (recipe : Recipe A) (refused : Refused) → HoldsItems (lines_of text) recipe
@@ -209,7 +233,7 @@ pub listed-holds : {A : Type 0} (lines : List (List ℕ)) (recipe : Recipe A) �
 listed-holds lines recipe holds =
     let start : start_of (start_items recipe.start) ≡ start_of (items_of 8 (entries_of lines)) =
     ap (λ items. map (λ item. (8, item)) items) (ap last_of holds.start ∙ last_of-again (items_of 8 (entries_of lines))) in
-    rw (holds.types, holds.functions, holds.memories, holds.exports, holds.code, start) refl
+    rw (holds.types, holds.functions, holds.memories, holds.globals, holds.exports, holds.code, holds.segments, start) refl
 
 pub module_text-holds : {A : Type 0} (lines : List (List ℕ)) (recipe : Recipe A) → HoldsItems lines recipe → module_text (listed recipe) ≡ recipe_module (entries_of lines)
 unfolding recipe_module
@@ -226,8 +250,9 @@ start_of-fits (Some index) fits = All-push AnySectionFits [] _ (All-nil AnySecti
 listed-fits : {A : Type 0} (recipe : Recipe A) → FitsSections recipe → ModuleFits (listed recipe)
 listed-fits recipe fits =
     let more = All-append AnySectionFits in
-    more _ _ (more _ _ (more _ _ (more _ _ (more _ _ (section_of-fits 1 recipe.types fits.types) (section_of-fits 3 recipe.functions fits.functions)) (section_of-fits 5 recipe.memories fits.memories))
-    (section_of-fits 7 recipe.exports fits.exports)) (start_of-fits recipe.start fits.start)) (section_of-fits 10 recipe.code fits.code)
+    let limits = more _ _ (more _ _ (section_of-fits 1 recipe.types fits.types) (section_of-fits 3 recipe.functions fits.functions)) (section_of-fits 5 recipe.memories fits.memories) in
+    let before_start = more _ _ (more _ _ limits (section_of-fits 6 recipe.globals fits.globals)) (section_of-fits 7 recipe.exports fits.exports) in
+    more _ _ (more _ _ (more _ _ before_start (start_of-fits recipe.start fits.start)) (section_of-fits 10 recipe.code fits.code)) (section_of-fits 11 recipe.segments fits.segments)
 
 -- and is read as these sections alone
 pub module_reads : {A : Type 0} (lines : List (List ℕ)) (recipe : Recipe A) (bytes : List ℕ) → HoldsItems lines recipe → FitsSections recipe → bytes ≡ module_text (listed recipe)

@@ -12,6 +12,8 @@ use Rattle.wasm_base.specs.declared.refused.Refused.{Refused}
 use Rattle.wasm_base.specs.declared.refused.Refused.TheVariants.{TooLong}
 use Rattle.std.specs.Prelude.{All}
 use Rattle.std.proofs.lemmas.List.Elements.{All-nil, All-push, All-head}
+use Rattle.wasm_code.specs.Expressions.{expression_text}
+use Rattle.wasm_sections.specs.DataSegments.{active_text}
 use Rattle.wasm_tool.specs.Recipe.{section_of, start_of}
 use Rattle.wasm_tool.specs.Steps.{Puts}
 
@@ -33,6 +35,11 @@ fits_frame items bytes h =
 pub fits_name : (items : List (List ℕ)) (name rest : List ℕ) → SectionFits (items ++ (frame_text name ++ rest) ∷ []) → FrameFits name
 fits_name items name rest h =
     omega (arith, fits_item items (frame_text name ++ rest) h, length-append (frame_text name) rest, length-append (unsigned_text (length name)) name)
+
+-- nor are the bytes of a data segment
+pub fits_segment : (items : List (List ℕ)) (place bytes : List ℕ) → SectionFits (items ++ active_text 0 place bytes ∷ []) → FrameFits bytes
+fits_segment items place bytes h =
+    omega (arith, fits_item items (active_text 0 place bytes) h, length-append (expression_text place) (frame_text bytes), length-append (unsigned_text (length bytes)) bytes)
 
 -- the text of a section that has items, and of one that has none
 pub section_of-some : (id : ℕ) (items : List (List ℕ)) → 0 < length items → flat_map any_section_text (section_of id items) ≡ id ∷ section_text items

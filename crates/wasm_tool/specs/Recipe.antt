@@ -1,6 +1,7 @@
 -- recipe: an entry for each line of a text, and the module of the sections that the entries add to.
-use Rattle.std.specs.Prelude.{All, length, ℕ, ◌-◌, ◌^◌, ◌==◌, ◌&&◌, ◌≤◌, ◌++◌, Bool, false, codes, if◌then◌else◌, nat_lt, List, [], ◌∷◌, filter, map, take, Option, Some, None, Result, Ok, Err, IsOk}
+use Rattle.std.specs.Prelude.{All, length, ℕ, suc, ℤ, pos, neg_ℤ, ◌-◌, ◌^◌, ◌==◌, ◌&&◌, ◌≤◌, ◌++◌, Bool, false, codes, if◌then◌else◌, nat_lt, List, [], ◌∷◌, filter, map, take, Option, Some, None, option_map, Result, Ok, Err, IsOk}
 use Rattle.std.specs.List.{flat_map}
+use Rattle.std.specs.declared.alloc.Global.{Global}
 use Rattle.std.specs.Result.{result_unwrap_or}
 use Rattle.std.specs.Str.{all_ascii_digits, bytes_eq}
 use Rattle.std.specs.Str.Parse.{digits_value}
@@ -8,9 +9,16 @@ use Rattle.hex.specs.Hex.{decode_of}
 use Rattle.wasm_base.specs.Numbers.{unsigned_text}
 use Rattle.wasm_base.specs.Texts.{frame_text, FrameFits, module_text}
 use Rattle.wasm_base.specs.Pieces.{joined, SectionFits}
+use Rattle.wasm_base.specs.declared.types.ValType.TheVariants.{I32}
+use Rattle.wasm_code.specs.Expressions.{expression_text}
+use Rattle.wasm_insn.specs.Instructions.{instruction_text}
+use Rattle.wasm_insn.specs.declared.instruction.Instruction.TheVariants.{I32Const}
+use Rattle.wasm_sections.specs.DataSegments.{active_text}
 use Rattle.wasm_sections.specs.Exports.{kind_code}
 use Rattle.wasm_sections.specs.declared.export.ExportKind.{ExportKind}
-use Rattle.wasm_sections.specs.declared.export.ExportKind.TheVariants.{Func, Table, Memory, Global, Tag}
+use Rattle.wasm_sections.specs.declared.export.ExportKind.TheVariants as kinds
+use Rattle.wasm_sections.specs.Globals.{global_text}
+use Rattle.wasm_sections.specs.declared.global.GlobalType.{GlobalType}
 use Rattle.wasm_sections.specs.Memories.{memory_text}
 use Rattle.wasm_sections.specs.declared.memory.MemoryType.{MemoryType}
 use Rattle.wasm_tool.specs.declared.fault.RecipeCause.{RecipeCause}
@@ -51,6 +59,21 @@ abbrev pub from_number : Option ℕ → (ℕ → Result (List Entry) RecipeCause
 from_number (Some n) make = make n
 from_number None make = Err BadNumber
 
+-- a value that is at most so large
+abbrev pub at_most : ℕ → Option ℕ → Option ℕ
+at_most most None = None
+at_most most (Some n) = if nat_lt n (suc most) then Some n else None
+
+-- the number of 32 bits that a word of decimal digits spells, behind '-' a negative one
+abbrev pub signed_of : List ℕ → Option ℤ
+signed_of [] = None
+signed_of (c ∷ cs) = if c == 0x2D then option_map (λ n. neg_ℤ (pos n)) (at_most (2 ^ 31) (value_of cs)) else option_map pos (at_most (2 ^ 31 - 1) (value_of (c ∷ cs)))
+
+-- what a signed number makes, or the fault of a word that is none
+abbrev pub from_signed : Option ℤ → (ℤ → Result (List Entry) RecipeCause) → Result (List Entry) RecipeCause
+from_signed (Some z) make = make z
+from_signed None make = Err BadNumber
+
 -- `type HEX`: an entry of the type section
 abbrev pub type_entry : List (List ℕ) → Result (List Entry) RecipeCause
 type_entry [] = Err MissingWord
@@ -75,14 +98,32 @@ abbrev pub memory_entry : List (List ℕ) → Result (List Entry) RecipeCause
 memory_entry [] = Err MissingWord
 memory_entry (size ∷ more) = from_number (number_of 64 size) (λ n. adds 5 (memory_text (memory_of_size n)))
 
+-- the stored bytes of an expression that computes this number
+abbrev pub constant_bytes : ℤ → List ℕ
+constant_bytes z = instruction_text {A = Global} (I32Const z)
+
+-- the type of a number that no one sets
+abbrev pub constant_type : GlobalType
+constant_type = record { val_type = I32; mutable = false; shared = false }
+
+-- `global I`: a global of this value
+abbrev pub global_entry : List (List ℕ) → Result (List Entry) RecipeCause
+global_entry [] = Err MissingWord
+global_entry (value ∷ more) = from_signed (signed_of value) (λ z. adds 6 (global_text constant_type ++ expression_text (constant_bytes z)))
+
+-- `data I HEX`: bytes at this place of memory 0
+abbrev pub data_entry : List (List ℕ) → Result (List Entry) RecipeCause
+data_entry (place ∷ hex ∷ more) = from_signed (signed_of place) (λ z. from_hex (decode_of hex) (λ bytes. adds 11 (active_text 0 (constant_bytes z) bytes)))
+data_entry words = Err MissingWord
+
 -- what a word says that names what is exported
 abbrev pub kind_of : List ℕ → Option ExportKind
 kind_of word =
-    if bytes_eq word (codes "func") then Some Func
-    else if bytes_eq word (codes "table") then Some Table
-    else if bytes_eq word (codes "memory") then Some Memory
-    else if bytes_eq word (codes "global") then Some Global
-    else if bytes_eq word (codes "tag") then Some Tag
+    if bytes_eq word (codes "func") then Some kinds.Func
+    else if bytes_eq word (codes "table") then Some kinds.Table
+    else if bytes_eq word (codes "memory") then Some kinds.Memory
+    else if bytes_eq word (codes "global") then Some kinds.Global
+    else if bytes_eq word (codes "tag") then Some kinds.Tag
     else None
 
 -- what a kind makes, or the fault of a word that is none
@@ -108,9 +149,11 @@ entry_of_words (command ∷ words) rest =
     if bytes_eq command (codes "type") then type_entry words
     else if bytes_eq command (codes "func") then function_entry words
     else if bytes_eq command (codes "memory") then memory_entry words
+    else if bytes_eq command (codes "global") then global_entry words
     else if bytes_eq command (codes "export") then export_entry words
     else if bytes_eq command (codes "start") then start_entry words
     else if bytes_eq command (codes "body") then body_entry words
+    else if bytes_eq command (codes "data") then data_entry words
     else Err UnknownCommand
 
 -- the entry of a line, if it has any, or its fault
@@ -147,13 +190,14 @@ abbrev pub start_of : List (List ℕ) → List (ℕ × List ℕ)
 start_of items = map (λ item. (8, item)) (last_of items)
 
 -- sections of these items, in the order of the standard
-abbrev pub in_order : (types functions memories exports start code : List (List ℕ)) → List (ℕ × List ℕ)
-in_order types functions memories exports start code =
-    ((((section_of 1 types ++ section_of 3 functions) ++ section_of 5 memories) ++ section_of 7 exports) ++ start_of start) ++ section_of 10 code
+abbrev pub in_order : (types functions memories globals exports start code segments : List (List ℕ)) → List (ℕ × List ℕ)
+in_order types functions memories globals exports start code segments =
+    ((((((section_of 1 types ++ section_of 3 functions) ++ section_of 5 memories) ++ section_of 6 globals) ++ section_of 7 exports) ++ start_of start) ++ section_of 10 code) ++ section_of 11 segments
 
 -- the sections of some entries
 abbrev pub sections_of : List Entry → List (ℕ × List ℕ)
-sections_of entries = in_order (items_of 1 entries) (items_of 3 entries) (items_of 5 entries) (items_of 7 entries) (items_of 8 entries) (items_of 10 entries)
+sections_of entries =
+    in_order (items_of 1 entries) (items_of 3 entries) (items_of 5 entries) (items_of 6 entries) (items_of 7 entries) (items_of 8 entries) (items_of 10 entries) (items_of 11 entries)
 
 -- the module of some entries
 unfoldable pub recipe_module : List Entry → List ℕ
@@ -164,9 +208,11 @@ pub record RecipeFits (entries : List Entry) : Type 0 where
   pub types : SectionFits (items_of 1 entries)
   pub functions : SectionFits (items_of 3 entries)
   pub memories : SectionFits (items_of 5 entries)
+  pub globals : SectionFits (items_of 6 entries)
   pub exports : SectionFits (items_of 7 entries)
   pub start : All FrameFits (last_of (items_of 8 entries))
   pub code : SectionFits (items_of 10 entries)
+  pub segments : SectionFits (items_of 11 entries)
 
 -- ---- the lines about a fault, which is of a line counted from 1, or of all lines for 0
 

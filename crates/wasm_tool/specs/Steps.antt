@@ -29,39 +29,47 @@ pub record AddsEntries {A : Type 0} (old new : Recipe A) (entries : List Entry) 
   pub types : new.types ≡ old.types ++ items_of 1 entries
   pub functions : new.functions ≡ old.functions ++ items_of 3 entries
   pub memories : new.memories ≡ old.memories ++ items_of 5 entries
+  pub globals : new.globals ≡ old.globals ++ items_of 6 entries
   pub exports : new.exports ≡ old.exports ++ items_of 7 entries
   pub start : start_items new.start ≡ replaced (start_items old.start) (items_of 8 entries)
   pub code : new.code ≡ old.code ++ items_of 10 entries
+  pub segments : new.segments ≡ old.segments ++ items_of 11 entries
 
 -- The old items and those of the entries fit their sections.
 pub record FitsWith {A : Type 0} (old : Recipe A) (entries : List Entry) : Type 0 where
   pub types : SectionFits (old.types ++ items_of 1 entries)
   pub functions : SectionFits (old.functions ++ items_of 3 entries)
   pub memories : SectionFits (old.memories ++ items_of 5 entries)
+  pub globals : SectionFits (old.globals ++ items_of 6 entries)
   pub exports : SectionFits (old.exports ++ items_of 7 entries)
   pub code : SectionFits (old.code ++ items_of 10 entries)
+  pub segments : SectionFits (old.segments ++ items_of 11 entries)
 
 -- No section has an item.
 pub record IsEmpty {A : Type 0} (recipe : Recipe A) : Type 0 where
   pub types : recipe.types ≡ []
   pub functions : recipe.functions ≡ []
   pub memories : recipe.memories ≡ []
+  pub globals : recipe.globals ≡ []
   pub exports : recipe.exports ≡ []
   pub start : start_items recipe.start ≡ []
   pub code : recipe.code ≡ []
+  pub segments : recipe.segments ≡ []
 
 -- The items fit their sections.
 pub record FitsSections {A : Type 0} (recipe : Recipe A) : Type 0 where
   pub types : SectionFits recipe.types
   pub functions : SectionFits recipe.functions
   pub memories : SectionFits recipe.memories
+  pub globals : SectionFits recipe.globals
   pub exports : SectionFits recipe.exports
   pub start : All FrameFits (start_items recipe.start)
   pub code : SectionFits recipe.code
+  pub segments : SectionFits recipe.segments
 
 -- the sections of the recipe, in order
 abbrev pub listed : {A : Type 0} → Recipe A → List (ℕ × List ℕ)
-listed recipe = in_order recipe.types recipe.functions recipe.memories recipe.exports (start_items recipe.start) recipe.code
+listed recipe = in_order recipe.types recipe.functions recipe.memories recipe.globals recipe.exports (start_items recipe.start) recipe.code recipe.segments
 
 -- What a call that reads a line answers and leaves, where the line says `said`.
 abbrev pub Follows : {A : Type 0} → Result (List Entry) RecipeCause → Recipe A → Recipe A → Result (Unit {0}) RecipeCause → Type 0

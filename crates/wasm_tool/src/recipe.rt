@@ -2,22 +2,27 @@
 ghost use Rattle.std.specs.Prelude.{◌≡◌, ◌≢◌, ◌⊎◌, ◌++◌, ◌∷◌, [], All, IfOk, IfErr, IsErr, OnOk, MatchResult, Some, None, length};
 ghost use Rattle.std.specs.Str.Lines.{strip_carriage_return};
 ghost use Rattle.hex.specs.Hex.{decode_of};
+ghost use Rattle.wasm_base.specs.Calls.{Adds};
 ghost use Rattle.wasm_base.specs.Formats.{wasm_module};
 ghost use Rattle.wasm_base.specs.Reading.{ReadsWhole};
 ghost use Rattle.wasm_base.specs.Pieces.{SectionFits};
 ghost use Rattle.wasm_base.specs.Texts.{FrameFits, module_text};
 ghost use Rattle.wasm_base.specs.declared.refused.Refused.TheVariants as refusals;
+ghost use Rattle.wasm_sections.specs.DataSegments.{active_text};
 ghost use Rattle.wasm_tool.specs.Lines.{words_of, lines_of};
 ghost use Rattle.wasm_tool.specs.Recipe.{
   entry_of,
   type_entry,
   function_entry,
   memory_entry,
+  global_entry,
   export_entry,
   start_entry,
   body_entry,
+  data_entry,
   kind_of,
   number_of,
+  signed_of,
   IsGood,
   entries_of,
   section_of,
@@ -32,11 +37,11 @@ use crate::fault::{RecipeCause, RecipeFault};
 use crate::words::Words;
 use hex::FromHexError;
 use std::alloc::Allocator;
-use wasm_base::{Encode, Module, Pieces, R, RawSection, SectionId};
-use wasm_code::{CodeSection, Function};
+use wasm_base::{Encode, Module, Pieces, R, RawSection, SectionId, ValType};
+use wasm_code::{CodeSection, ConstExpr, Function};
 use wasm_sections::{
-    CountedSection, ExportKind, ExportSection, FunctionSection, ItemKind, MemorySection,
-    MemoryType, StartSection,
+    CountedSection, DataSection, ExportKind, ExportSection, FunctionSection, GlobalSection,
+    GlobalType, ItemKind, MemorySection, MemoryType, StartSection,
 };
 
 /// The sections to which the lines read so far have added.
@@ -45,9 +50,11 @@ pub(crate) struct Recipe<A: Allocator> {
     types: Pieces<A>,
     functions: FunctionSection<A>,
     memories: MemorySection<A>,
+    globals: GlobalSection<A>,
     exports: ExportSection<A>,
     start: Option<u32>,
     code: CodeSection<A>,
+    segments: DataSection<A>,
 }
 
 /// The bytes of a word of hexadecimal digits.
@@ -80,6 +87,20 @@ fn index(word: &str) -> Result<u32, RecipeCause>
     ensures { MatchResult result (λ n. number_of 32 word.now ≡ Some n) (λ cause. (cause ≡ RecipeCause.BadNumber) × (number_of 32 word.now ≡ None)) }
 {
     let Ok(n) = u32::try_from(number(word)?) else {
+        return Err(RecipeCause::BadNumber);
+    };
+    Ok(n)
+}
+
+/// The number of 32 bits that a word of decimal digits spells, behind `-` a negative one.
+fn signed(word: &str) -> Result<i32, RecipeCause>
+    ensures { MatchResult result (λ n. signed_of word.now ≡ Some n) (λ cause. (cause ≡ RecipeCause.BadNumber) × (signed_of word.now ≡ None)) }
+{
+    // `parse` takes a plus sign, which a number of a recipe lacks.
+    if word.starts_with('+') {
+        return Err(RecipeCause::BadNumber);
+    }
+    let Ok(n) = word.parse() else {
         return Err(RecipeCause::BadNumber);
     };
     Ok(n)
@@ -122,6 +143,17 @@ fn function_of<A: Allocator>(alloc: A, instructions: Vec<u8, A>) -> R<Function<A
     Ok(function)
 }
 
+/// Adds bytes at this place of memory 0.
+fn add_data<A: Allocator>(
+    segments: &mut DataSection<A>,
+    offset: &ConstExpr<A>,
+    bytes: Vec<u8, A>,
+) -> R<()>
+    ensures { Adds (active_text 0 offset.now bytes.items) (FrameFits bytes.items) segments.old segments.new result }
+{
+    segments.active(0, offset, bytes)
+}
+
 impl<A: Allocator + Copy> Recipe<A> {
     fn new(alloc: A) -> Self
         ensures { IsEmpty result }
@@ -130,9 +162,11 @@ impl<A: Allocator + Copy> Recipe<A> {
             types: Pieces::new(alloc),
             functions: FunctionSection::new(alloc),
             memories: MemorySection::new(alloc),
+            globals: GlobalSection::new(alloc),
             exports: ExportSection::new(alloc),
             start: None,
             code: CodeSection::new(alloc),
+            segments: DataSection::new(alloc),
         }
     }
 
@@ -148,9 +182,11 @@ impl<A: Allocator + Copy> Recipe<A> {
             "type" => self.read_type(alloc, words),
             "func" => self.read_function(words),
             "memory" => self.read_memory(words),
+            "global" => self.read_global(alloc, words),
             "export" => self.read_export(words),
             "start" => self.read_start(words),
             "body" => self.read_body(alloc, words),
+            "data" => self.read_data(alloc, words),
             _ => Err(RecipeCause::UnknownCommand),
         }
     }
@@ -188,6 +224,20 @@ impl<A: Allocator + Copy> Recipe<A> {
         Ok(())
     }
 
+    fn read_global(&mut self, alloc: A, mut words: Words<'_>) -> Result<(), RecipeCause>
+        ensures { Follows (global_entry (words_of words.entry.rest.now)) self.old self.new result }
+    {
+        let word = words.next().ok_or(RecipeCause::MissingWord)?;
+        let init = ConstExpr::i32_const(alloc, signed(word)?)?;
+        let global_type = GlobalType {
+            val_type: ValType::I32,
+            mutable: false,
+            shared: false,
+        };
+        self.globals.global(global_type, &init)?;
+        Ok(())
+    }
+
     fn read_export(&mut self, mut words: Words<'_>) -> Result<(), RecipeCause>
         ensures { Follows (export_entry (words_of words.entry.rest.now)) self.old self.new result }
     {
@@ -216,6 +266,17 @@ impl<A: Allocator + Copy> Recipe<A> {
         let instructions = hex_bytes(alloc, word)?;
         let function = function_of(alloc, instructions)?;
         self.code.function(&function)?;
+        Ok(())
+    }
+
+    fn read_data(&mut self, alloc: A, mut words: Words<'_>) -> Result<(), RecipeCause>
+        ensures { Follows (data_entry (words_of words.entry.rest.now)) self.old self.new result }
+    {
+        let place = words.next().ok_or(RecipeCause::MissingWord)?;
+        let word = words.next().ok_or(RecipeCause::MissingWord)?;
+        let offset = ConstExpr::i32_const(alloc, signed(place)?)?;
+        let bytes = hex_bytes(alloc, word)?;
+        add_data(&mut self.segments, &offset, bytes)?;
         Ok(())
     }
 
@@ -263,9 +324,11 @@ impl<A: Allocator + Copy> Recipe<A> {
         self.put_types(alloc, &mut module)?;
         put_counted(&self.functions, &mut module)?;
         put_counted(&self.memories, &mut module)?;
+        put_counted(&self.globals, &mut module)?;
         put_counted(&self.exports, &mut module)?;
         self.put_start(&mut module)?;
         self.put_code(&mut module)?;
+        put_counted(&self.segments, &mut module)?;
         Ok(module.finish())
     }
 }
@@ -280,9 +343,9 @@ fn without_return(line: &str) -> &str
 /// The module that a recipe makes, or its first faulty line.
 ///
 /// Each line is a command and its words. `type HEX` adds a type to the type section, `func N` a function of the type N, `memory MIN`
-/// a memory of at least so many pages, `export NAME KIND N` the export of a `func`, `table`, `memory`, `global` or `tag`, and `body HEX`
-/// a function without locals and with these instructions to the code section. `start N` names the function that is run first; a later
-/// line replaces it. Sections that received an item are written in the order of the standard. A line without words is skipped, and
+/// a memory of at least so many pages, `global I` a number of 32 bits that is never set, `export NAME KIND N` the export of a `func`,
+/// `table`, `memory`, `global` or `tag`, `body HEX` a function without locals and with these instructions to the code section, and
+/// `data I HEX` bytes at the place I of memory 0. `start N` names the function that is run first; a later line replaces it. Sections that received an item are written in the order of the standard. A line without words is skipped, and
 /// words past those needed are ignored.
 ///
 /// ```rust

@@ -1,0 +1,48 @@
+-- The module whose table and memory are filled.
+use Rattle.std.specs.Prelude.{ℕ, List, [], ◌∷◌, false, None, pos}
+use Rattle.wasm_base.specs.Modules.{SectionReading, raw_reading}
+use Rattle.wasm_base.specs.Types.{FUNCREF}
+use Rattle.wasm_insn.specs.Plain.{Plain}
+use Rattle.wasm_insn.specs.declared.instruction.Instruction.TheVariants.{I32Const, RefFunc}
+use Rattle.wasm_sections.specs.DataSegments as segments
+use Rattle.wasm_sections.specs.Elements as elements
+use Rattle.wasm_sections.specs.Readings.{import_reading, table_reading, memory_reading, element_reading, data_count_reading, data_reading}
+use Rattle.wasm_sections.specs.Tables.{TableItem}
+use Rattle.examples.specs.Bodies.{row}
+use Rattle.examples.specs.Whole.{ready, one_page}
+
+-- a type of nothing
+abbrev pub one_type : List ℕ
+one_type = 0x01 ∷ 0x60 ∷ 0x00 ∷ 0x00 ∷ []
+
+-- a table of three functions
+abbrev pub three_places : TableItem
+three_places = record { table_type = record { element_type = FUNCREF; table64 = false; minimum = 3; maximum = None; shared = false }; init = None }
+
+-- the function 0, put at the front of table 0
+abbrev pub ready_at_0 : elements.Segment (List Plain)
+ready_at_0 = record { place = elements.active None (row (I32Const (pos 0)) ∷ []); elements = elements.functions (0 ∷ []) }
+
+-- a reference to the function of this index, put in a table when code says so
+abbrev pub later : ℕ → elements.Segment (List Plain)
+later index = record { place = elements.passive; elements = elements.expressions FUNCREF ((row (RefFunc index) ∷ []) ∷ []) }
+
+-- these bytes, put at the place 8 of memory 0
+abbrev pub bytes_at_8 : List ℕ → segments.DataItem
+bytes_at_8 bytes = segments.active 0 (row (I32Const (pos 8)) ∷ []) bytes
+
+-- three bytes, put in a memory when code says so
+abbrev pub bytes_later : segments.DataItem
+bytes_later = segments.passive (1 ∷ 2 ∷ 3 ∷ [])
+
+-- the sections in order
+abbrev pub filled_sections : List ℕ → List SectionReading
+filled_sections bytes =
+    raw_reading 1 one_type
+    ∷ import_reading (ready ∷ [])
+    ∷ table_reading (three_places ∷ [])
+    ∷ memory_reading (one_page ∷ [])
+    ∷ element_reading (ready_at_0 ∷ [])
+    ∷ data_count_reading 2
+    ∷ data_reading (bytes_at_8 bytes ∷ bytes_later ∷ [])
+    ∷ []

@@ -1,0 +1,69 @@
+// A module whose table and memory are filled.
+ghost use Rattle.std.specs.Prelude.{IfOk, [], ◌∷◌};
+ghost use Rattle.wasm_base.specs.Modules.{ReadsSections};
+ghost use Rattle.wasm_sections.specs.Readings.{HoldsTables, HoldsElements, HoldsSegments};
+ghost use Rattle.examples.specs.Filled.{three_places, ready_at_0, bytes_at_8, bytes_later, filled_sections};
+
+use crate::whole::{imports, memories};
+use std::alloc::Allocator;
+use wasm_base::{CowSlice, Module, R, RawSection, RefType};
+use wasm_code::ConstExpr;
+use wasm_sections::{
+    DataCountSection, DataSection, ElementSection, Elements, TableSection, TableType,
+};
+
+/// A module that puts a function that it imports in a table, and bytes in a memory.
+pub fn filled_module<A: Allocator + Copy>(alloc: A, bytes: &[u8]) -> R<Vec<u8, A>>
+    ensures { IfOk result (λ made. ReadsSections (filled_sections bytes.now) made.items) }
+{
+    let mut module = Module::new(alloc)?;
+    module.section(&RawSection {
+        id: 1,
+        bytes: &[0x01, 0x60, 0x00, 0x00],
+    })?;
+    module.section(&imports(alloc)?)?;
+    module.section(&tables(alloc)?)?;
+    module.section(&memories(alloc)?)?;
+    module.section(&elements(alloc)?)?;
+    module.section(&DataCountSection { count: 2 })?;
+    module.section(&segments(alloc, bytes)?)?;
+    Ok(module.finish())
+}
+
+/// A table of three functions.
+fn tables<A: Allocator + Copy>(alloc: A) -> R<TableSection<A>>
+    ensures { IfOk result (λ section. HoldsTables section (three_places ∷ [])) }
+{
+    let mut section = TableSection::new(alloc);
+    section.table(TableType {
+        element_type: RefType::FUNCREF,
+        table64: false,
+        minimum: 3,
+        maximum: None,
+        shared: false,
+    })?;
+    Ok(section)
+}
+
+/// The function 0, at the front of the table.
+fn elements<A: Allocator + Copy>(alloc: A) -> R<ElementSection<A>>
+    ensures { IfOk result (λ section. HoldsElements section (ready_at_0 ∷ [])) }
+{
+    let mut section = ElementSection::new(alloc);
+    let offset = ConstExpr::i32_const(alloc, 0)?;
+    let functions = Elements::Functions(CowSlice::Borrowed(&[0]));
+    section.active(None, &offset, functions)?;
+    Ok(section)
+}
+
+/// The bytes at the place 8, and others for a later call.
+#[tactic(auto, using(wasm_base::proofs::KnownLengths::drained_array, wasm_base::proofs::KnownLengths::drained_copied))]
+fn segments<A: Allocator + Copy>(alloc: A, bytes: &[u8]) -> R<DataSection<A>>
+    ensures { IfOk result (λ section. HoldsSegments section (bytes_at_8 bytes.now ∷ bytes_later ∷ [])) }
+{
+    let mut section = DataSection::new(alloc);
+    let offset = ConstExpr::i32_const(alloc, 8)?;
+    section.active(0, &offset, bytes.iter().copied())?;
+    section.passive([1u8, 2, 3])?;
+    Ok(section)
+}

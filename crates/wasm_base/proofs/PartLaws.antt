@@ -1,0 +1,52 @@
+-- What parts spell, one after another.
+use Rattle.std.proofs.Common.{◌≡◌, ℕ, List, ◌++◌, length, ◌<◌, [], ◌∷◌, Bool, true, false, Option, Some, None, IsUtf8, refl, sym, ap, subst, ◌∙◌, arith, length-append}
+use Rattle.std.specs.Prelude.{IfSome}
+use Rattle.wasm_base.specs.Formats.{Format, u32, byte, name, pair, optional, numbered, vec, members, is_given}
+use Rattle.wasm_base.specs.Numbers.{Mode, shortest, unsigned_text}
+use Rattle.wasm_base.specs.Texts.{frame_text, FrameFits, optional_text}
+use Rattle.wasm_base.specs.Reading.{UniqueReading}
+use Rattle.wasm_base.proofs.NumberLaws.{u32-alone}
+use Rattle.wasm_base.proofs.NumberTexts.{groups_text-last}
+use Rattle.wasm_base.proofs.TextLaws.{name_spelled, u32_spelled}
+
+pub pair_spelled : {X Y : Type 0} (F : Format X) (G : Format Y) (front back : List ℕ) (x : X) (y : Y) → F shortest front x → G shortest back y → pair F G shortest (front ++ back) (x, y)
+pair_spelled F G front back x y h g = record { front = front; back = back; joined = refl; first = h; second = g }
+
+-- a name, in a text that fits
+pub front_name_spelled : (bytes rest : List ℕ) → IsUtf8 bytes → FrameFits (frame_text bytes ++ rest) → name shortest (frame_text bytes) bytes
+front_name_spelled bytes rest utf8 fits = name_spelled bytes utf8 (omega (arith, fits, length-append (frame_text bytes) rest, length-append (unsigned_text (length bytes)) bytes))
+
+pub optional_spelled : {X : Type 0} (F : Format X) (Fits : X → Type 0) (text : X → List ℕ) → ((x : X) → Fits x → F shortest (text x) x) → (part : Option X) → IfSome part Fits
+    → optional (is_given part) F shortest (optional_text text part) part
+optional_spelled F Fits text f None fits = (refl, refl)
+optional_spelled F Fits text f (Some x) fits = (x, refl, f x fits)
+
+-- An optional part tells whether it is given.
+pub optional_tells : {X : Type 0} (F : Format X) (given : Bool) (mode : Mode) (s : List ℕ) (part : Option X) → optional given F mode s part → given ≡ is_given part
+optional_tells F true mode s None h = absurd (cc (h.1))
+optional_tells F true mode s (Some x) h = refl
+optional_tells F false mode s None h = refl
+optional_tells F false mode s (Some x) h = absurd (cc (h.1))
+
+-- a number that is a code of its value, which tells the value
+pub numbered-alone : {X : Type 0} (code : X → ℕ) (decode : ℕ → X) → ((x : X) → decode (code x) ≡ x) → UniqueReading (numbered code)
+numbered-alone code decode back = record {
+  alone = λ mode s t r q x y h g e. let a = u32-alone.alone mode s t r q (code x) (code y) h g e in (sym (back x) ∙ ap decode a.0 ∙ back y, a.1, a.2);
+  spellings = record {
+    one = λ s t x h g. u32-alone.spellings.one s t (code x) h g;
+    wider = λ s x h. u32-alone.spellings.wider s (code x) h;
+    shorter = λ s x h. u32-alone.spellings.shorter s (code x) h;
+  };
+}
+
+-- a number of one byte
+pub flag_spelled : (n : ℕ) → n < 128 → u32 shortest (n ∷ []) n
+flag_spelled n h = subst (λ s. u32 shortest s n) (groups_text-last false 0x80 n h) (u32_spelled n (omega (arith, h)))
+
+each_spelled : (bytes : List ℕ) → members byte shortest bytes bytes
+each_spelled [] = refl
+each_spelled (b ∷ bytes) = (b ∷ [], bytes, refl, refl, each_spelled bytes)
+
+-- The frame of bytes is their vector.
+pub bytes_spelled : (bytes : List ℕ) → FrameFits bytes → vec byte shortest (frame_text bytes) bytes
+bytes_spelled bytes fits = record { front = unsigned_text (length bytes); back = bytes; joined = refl; first = u32_spelled (length bytes) (omega (arith, fits)); second = each_spelled bytes }

@@ -1,0 +1,63 @@
+-- Values that are written once, since an iterator in them gives its items but once, and the calls that write them.
+use Rattle.std.specs.Prelude.{◌≡◌, ◌≢◌, ℕ, ◌<◌, ◌≤◌, List, [], ◌∷◌, ◌++◌, length, vec_capacity, Result, Err, OnOk, OnErr, Option}
+use Rattle.std.specs.Iterator.{Count, Drains, Yields, IsFinite}
+use Rattle.std.specs.List.{All}
+use Rattle.std.specs.declared.vec.Vec.{Vec}
+use Rattle.wasm_base.specs.Texts.{longest, vec_text, VecFits, frame_text, FrameFits}
+use Rattle.wasm_base.specs.declared.refused.Refused.{Refused}
+use Rattle.wasm_base.specs.declared.refused.Refused.TheVariants.{TooLong}
+
+-- The buffer gains one of the texts that the value may have, or keeps what it has.
+pub record AppendsOnce {A : Type 0} (Gives : List ℕ → Type 0) (fits : Type 0) (old new : Vec ℕ A) (result : Result (Unit {0}) Refused) : Type 0 where
+  pub ok : OnOk result ((text : List ℕ) × Gives text × (new.items ≡ old.items ++ text))
+  pub err : OnErr result (new.items ≡ old.items)
+  pub too_long : fits → result ≢ Err TooLong
+  pub capacity : vec_capacity old ≤ vec_capacity new
+
+-- The builder gains an entry of one of these texts, or keeps what it has. The number of its entries has 32 bits.
+pub record AddsOnce (Gives : List ℕ → Type 0) (fits : Type 0) (old new : List (List ℕ)) (result : Result (Unit {0}) Refused) : Type 0 where
+  pub ok : OnOk result ((text : List ℕ) × Gives text × (new ≡ old ++ text ∷ []))
+  pub err : OnErr result (new ≡ old)
+  pub counted : OnOk result (length old < longest)
+  pub too_long : fits → length old < longest → result ≢ Err TooLong
+
+-- The iterator may be called, ends, and gives as many items as were counted, whose number can be spelled.
+pub record TellsCount {S T : Type 0} (can_next : S → Type 0) (gives : S → Option T → S → Type 0) (remaining : S → Count) (it : S) (count : ℕ) : Type 0 where
+  pub can : can_next it
+  pub finite : IsFinite (remaining it)
+  pub told : (xs : List T) → Drains gives it xs → length xs ≡ count
+  pub counted : count ≤ longest
+
+-- the vector of the items that the iterator gives
+pub record GivesVec {S T : Type 0} (gives : S → Option T → S → Type 0) (Fits : T → Type 0) (text : T → List ℕ) (it : S) (s : List ℕ) : Type 0 where
+  pub items : List T
+  pub drained : Drains gives it items
+  pub fits : VecFits Fits items
+  pub is : s ≡ vec_text text items
+
+-- the vector of the bytes that the iterator gives, which is their frame
+pub record GivesBytes {S : Type 0} (gives : S → Option ℕ → S → Type 0) (it : S) (s : List ℕ) : Type 0 where
+  pub bytes : List ℕ
+  pub drained : Drains gives it bytes
+  pub fits : FrameFits bytes
+  pub is : s ≡ frame_text bytes
+
+-- a text, and then one of the others
+pub record GivesPair (front : List ℕ) (fits : Type 0) (Gives : List ℕ → Type 0) (s : List ℕ) : Type 0 where
+  pub back : List ℕ
+  pub fitted : fits
+  pub given : Gives back
+  pub is : s ≡ front ++ back
+
+-- a text, and then one of each
+pub record GivesTriple (front : List ℕ) (fits : Type 0) (First Second : List ℕ → Type 0) (s : List ℕ) : Type 0 where
+  pub middle : List ℕ
+  pub back : List ℕ
+  pub fitted : fits
+  pub first : First middle
+  pub second : Second back
+  pub is : s ≡ front ++ (middle ++ back)
+
+-- Whatever items the iterator yields, they fit.
+abbrev pub YieldsFitting : {S T : Type 0} → (S → Option T → S → Type 0) → (T → Type 0) → S → Type 0
+YieldsFitting {S} {T} gives Fits it = (left : S) (xs : List T) → Yields gives it xs left → All Fits xs

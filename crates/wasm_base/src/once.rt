@@ -1,0 +1,172 @@
+// Values that are written once.
+ghost use Rattle.std.specs.Prelude.{◌≡◌, ◌≢◌, ℕ, ◌<◌, ◌≤◌, List, IfOk, IfErr};
+ghost use Rattle.std.specs.Iterator.{size, IsFinite};
+ghost use Rattle.wasm_base.specs.Once.{AppendsOnce, TellsCount, GivesVec, GivesBytes, GivesPair, GivesTriple, YieldsFitting};
+ghost use Rattle.wasm_base.specs.Texts.{longest};
+ghost use Rattle.wasm_base.specs.declared.refused.Refused.TheVariants.{TooLong};
+
+use crate::encode::Encode;
+use crate::refused::{R, Refused};
+use std::alloc::Allocator;
+
+/// A value with a layout that is used up where it is written, since an iterator in it gives its items but once.
+pub trait EncodeOnce {
+    /// What its iterators promise.
+    ghost lawful: { Self → Type 0 };
+
+    /// The texts that it may have.
+    ghost gives: { Self → List ℕ → Type 0 };
+
+    /// fits: whatever its iterators give, every count, run and length of the text can be spelled.
+    ghost fits: { Self → Type 0 };
+
+    /// Appends a text of the value. A refused call leaves the bytes of the sink as they were.
+    fn encode_once<A: Allocator>(self, sink: &mut Vec<u8, A>) -> R<()>
+        requires { lawful self }
+        ensures { AppendsOnce (gives self) (fits self) sink.old sink.new result };
+}
+
+/// The vector of the items of an iterator, which told their number before any was asked for: see [`vec_of`].
+#[derive(Drop)]
+pub struct VecOf<I> {
+    items: I,
+    count: u32,
+}
+
+/// The vector of the bytes of an iterator, which told their number before any was asked for: see [`bytes_of`].
+#[derive(Drop)]
+pub struct BytesOf<I> {
+    items: I,
+    count: u32,
+}
+
+/// How many items the iterator tells, where so many can be counted.
+fn count_of<I: ExactSizeIterator>(items: &I) -> R<u32>
+    ensures ok { IfOk result (λ count. IsFinite (I.remaining items.now) × (size (I.remaining items.now) ≡ count) × (count ≤ longest)) }
+    ensures too_long { size (I.remaining items.now) ≤ longest → result ≢ Err TooLong }
+    ensures too_many { longest < size (I.remaining items.now) → result ≡ Err TooLong }
+    ensures refused { IfErr result (λ refused. refused ≡ TooLong) }
+{
+    let Ok(count) = u32::try_from(items.len()) else {
+        return Err(Refused::TooLong);
+    };
+    Ok(count)
+}
+
+/// The vector of the elements, to be written once. It takes no memory and asks for no element; it is refused where there are
+/// too many.
+pub fn vec_of<V: IntoIterator>(elements: V) -> R<VecOf<V::IntoIter>>
+where
+    V::IntoIter: ExactSizeIterator + Drop,
+    ensures ok { IfOk result (λ v. V.into_iter_gives elements v.items × IsFinite (V.IntoIter.remaining v.items) × (size (V.IntoIter.remaining v.items) ≡ v.count) × (v.count ≤ longest)) }
+    ensures too_long { ((it : V.IntoIter) → V.into_iter_gives elements it → size (V.IntoIter.remaining it) ≤ longest) → result ≢ Err TooLong }
+    ensures too_many { ((it : V.IntoIter) → V.into_iter_gives elements it → longest < size (V.IntoIter.remaining it)) → result ≡ Err TooLong }
+    ensures refused { IfErr result (λ refused. refused ≡ TooLong) }
+{
+    let items = elements.into_iter();
+    let count = count_of(&items)?;
+    Ok(VecOf { items, count })
+}
+
+/// The vector of the bytes, to be written once, as a whole where the iterator lends them so. It takes no memory and asks for no
+/// byte; it is refused where there are too many.
+pub fn bytes_of<V: IntoIterator>(bytes: V) -> R<BytesOf<V::IntoIter>>
+where
+    V::IntoIter: ExactSizeIterator + Drop,
+    ensures ok { IfOk result (λ v. V.into_iter_gives bytes v.items × IsFinite (V.IntoIter.remaining v.items) × (size (V.IntoIter.remaining v.items) ≡ v.count) × (v.count ≤ longest)) }
+    ensures too_long { ((it : V.IntoIter) → V.into_iter_gives bytes it → size (V.IntoIter.remaining it) ≤ longest) → result ≢ Err TooLong }
+    ensures too_many { ((it : V.IntoIter) → V.into_iter_gives bytes it → longest < size (V.IntoIter.remaining it)) → result ≡ Err TooLong }
+    ensures refused { IfErr result (λ refused. refused ≡ TooLong) }
+{
+    let items = bytes.into_iter();
+    let count = count_of(&items)?;
+    Ok(BytesOf { items, count })
+}
+
+impl<T: Encode + Drop, I: Iterator<Item = T> + Drop> EncodeOnce for VecOf<I> {
+    ghost lawful = { λ v. TellsCount I.can_next I.next_gives I.remaining v.items v.count };
+
+    ghost gives = { λ v. GivesVec I.next_gives T.fits T.text v.items };
+
+    ghost fits = { λ v. YieldsFitting I.next_gives T.fits v.items };
+
+    fn encode_once<A: Allocator>(self, sink: &mut Vec<u8, A>) -> R<()> {
+        let VecOf { items, count } = self;
+        let start = sink.len();
+        count.encode(sink)?;
+        for item in items {
+            if let Err(refused) = item.encode(sink) {
+                sink.truncate(start);
+                return Err(refused);
+            }
+        }
+        Ok(())
+    }
+}
+
+/// The largest number of bytes of a spelled count.
+const COUNT_BYTES: usize = 5;
+
+impl<I: Iterator<Item = u8> + Drop> EncodeOnce for BytesOf<I> {
+    ghost lawful = { λ v. TellsCount I.can_next I.next_gives I.remaining v.items v.count };
+
+    ghost gives = { λ v. GivesBytes I.next_gives v.items };
+
+    ghost fits = { λ _. Unit {0} };
+
+    fn encode_once<A: Allocator>(self, sink: &mut Vec<u8, A>) -> R<()> {
+        let BytesOf { items, count } = self;
+        let start = sink.len();
+        sink.reserve((count as usize).saturating_add(COUNT_BYTES))?;
+        count.encode(sink)?;
+        let Ok(()) = sink.extend(items) else {
+            sink.truncate(start);
+            return Err(Refused::Memory);
+        };
+        Ok(())
+    }
+}
+
+/// A part, and then one that is written once.
+impl<S: Encode + Drop, T: EncodeOnce + Drop> EncodeOnce for (S, T) {
+    ghost lawful = { λ p. T.lawful p.1 };
+
+    ghost gives = { λ p. GivesPair (S.text p.0) (S.fits p.0) (T.gives p.1) };
+
+    ghost fits = { λ p. S.fits p.0 × T.fits p.1 };
+
+    fn encode_once<A: Allocator>(self, sink: &mut Vec<u8, A>) -> R<()> {
+        let (front, back) = self;
+        let start = sink.len();
+        front.encode(sink)?;
+        if let Err(refused) = back.encode_once(sink) {
+            sink.truncate(start);
+            return Err(refused);
+        }
+        Ok(())
+    }
+}
+
+/// A part, and then two that are written once.
+impl<S: Encode + Drop, T: EncodeOnce + Drop, U: EncodeOnce + Drop> EncodeOnce for (S, T, U) {
+    ghost lawful = { λ p. T.lawful p.1 × U.lawful p.2 };
+
+    ghost gives = { λ p. GivesTriple (S.text p.0) (S.fits p.0) (T.gives p.1) (U.gives p.2) };
+
+    ghost fits = { λ p. S.fits p.0 × T.fits p.1 × U.fits p.2 };
+
+    fn encode_once<A: Allocator>(self, sink: &mut Vec<u8, A>) -> R<()> {
+        let (front, middle, back) = self;
+        let start = sink.len();
+        front.encode(sink)?;
+        if let Err(refused) = middle.encode_once(sink) {
+            sink.truncate(start);
+            return Err(refused);
+        }
+        if let Err(refused) = back.encode_once(sink) {
+            sink.truncate(start);
+            return Err(refused);
+        }
+        Ok(())
+    }
+}

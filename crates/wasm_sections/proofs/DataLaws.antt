@@ -1,0 +1,109 @@
+-- Data segments are read uniquely.
+use Rattle.std.proofs.Common.{◌≡◌, ◌≢◌, ℕ, zero, suc, ◌^◌, ◌<◌, List, [], ◌∷◌, ◌++◌, length, Result, Ok, Err, Option, refl, sym, ap, subst, ◌∙◌, append_assoc, arith, length-append}
+use Rattle.std.specs.Iterator.{Count, Drains, size}
+use Rattle.wasm_base.specs.Calls.{Adds}
+use Rattle.wasm_base.specs.Entries.{ItemLaws}
+use Rattle.wasm_base.specs.Formats.{u32, byte, such, pair, vec, members}
+use Rattle.wasm_base.specs.Numbers.{shortest, unsigned_text}
+use Rattle.wasm_base.specs.Reading.{UniqueReading}
+use Rattle.wasm_base.specs.Texts.{frame_text, FrameFits}
+use Rattle.wasm_base.specs.declared.refused.Refused.{Refused}
+use Rattle.wasm_base.proofs.BaseLaws.{vec-bytes-alone}
+use Rattle.wasm_base.proofs.FormatLaws.{mapped-alone, pair-alone, such-alone, choice_of}
+use Rattle.wasm_base.proofs.NumberLaws.{u32-alone}
+use Rattle.wasm_base.proofs.NumberTexts.{groups_text-last}
+use Rattle.wasm_base.proofs.TextLaws.{u32_spelled}
+use Rattle.wasm_code.specs.Expressions.{expression, expression_text}
+use Rattle.wasm_code.proofs.ExpressionLaws.{expression-alone, expression_spelled}
+use Rattle.wasm_insn.specs.Plain.{Plain}
+use Rattle.wasm_sections.specs.Constants.{Stored, IsStored}
+use Rattle.wasm_sections.specs.DataSegments.{GivenData, given_active, given_passive, DataItem, active, passive, AddsBytes, active_text, data_text, IsGivenData, data_of, in_first, in_memory, data_tags, data_item}
+use Rattle.wasm_base.proofs.PartLaws.{pair_spelled, flag_spelled, bytes_spelled}
+
+-- ---- reading
+
+abbrev flag_of : DataItem → ℕ
+flag_of (active zero offset bytes) = 0
+flag_of (active (suc n) offset bytes) = 2
+flag_of (passive bytes) = 1
+
+not_first : (n : ℕ) (offset : List Plain) (bytes : List ℕ) → 0 < n → flag_of (active n offset bytes) ≡ 2
+not_first zero offset bytes h = absurd (omega (arith, h))
+not_first (suc n) offset bytes h = refl
+
+abbrev active_parts : DataItem → ℕ × (List Plain × List ℕ)
+active_parts (active n offset bytes) = (n, (offset, bytes))
+active_parts (passive bytes) = (0, ([], bytes))
+
+pub data-alone : UniqueReading data_item
+data-alone =
+    let rest = pair-alone expression-alone vec-bytes-alone in
+    choice_of u32 flag_of data_tags u32-alone
+    (mapped-alone in_first (λ x y e. ap (λ s. (active_parts s).1) e) rest, (mapped-alone passive (λ x y e. cc) vec-bytes-alone, (mapped-alone in_memory (λ x y e. ap active_parts e) (pair-alone (such-alone (λ n. 0 < n) u32-alone) rest), tt)))
+    (λ mode s x h. ap flag_of h.1, (λ mode s x h. ap flag_of h.1, (λ mode s x h. sym (not_first h.0.0 h.0.1.0 h.0.1.1 h.2.first.1) ∙ ap flag_of h.1, tt)))
+
+-- ---- texts
+
+-- bytes at the end of a text that fits
+last_fit : (front bytes : List ℕ) → FrameFits (front ++ frame_text bytes) → FrameFits bytes
+last_fit front bytes fits = omega (arith, fits, length-append front (frame_text bytes), length-append (unsigned_text (length bytes)) bytes)
+
+placed : (e : Stored) (bytes : List ℕ) → IsStored e → FrameFits bytes → pair expression (vec byte) shortest (expression_text e.bytes ++ frame_text bytes) (e.instructions, bytes)
+placed e bytes plain fits = pair_spelled expression (vec byte) (expression_text e.bytes) (frame_text bytes) e.instructions bytes (expression_spelled shortest e.bytes e.instructions plain) (bytes_spelled bytes fits)
+
+active_spelled : (memory : ℕ) (e : Stored) (bytes : List ℕ) → memory < 2 ^ 32 → IsStored e → FrameFits (active_text memory e.bytes bytes) → data_item shortest (active_text memory e.bytes bytes) (active memory e.instructions bytes)
+active_spelled zero e bytes range plain fits =
+    let back = expression_text e.bytes ++ frame_text bytes in
+    let inside = last_fit (0x00 ∷ expression_text e.bytes) bytes fits in
+    ((0, active 0 e.instructions bytes), refl, record { front = 0x00 ∷ []; back = back; joined = refl; first = flag_spelled 0 (omega arith); second = ((e.instructions, bytes), refl, placed e bytes plain inside) })
+active_spelled (suc n) e bytes range plain fits =
+    let rest = expression_text e.bytes ++ frame_text bytes in
+    let whole = length-append (unsigned_text (suc n)) rest in
+    let inside = last_fit (expression_text e.bytes) bytes (omega (arith, fits, whole)) in
+    let numbered : pair (such (λ m. 0 < m) u32) (pair expression (vec byte)) shortest (unsigned_text (suc n) ++ rest) (suc n, (e.instructions, bytes)) =
+    pair_spelled (such (λ m. 0 < m) u32) (pair expression (vec byte)) (unsigned_text (suc n)) rest (suc n) (e.instructions, bytes) (u32_spelled (suc n) range, omega arith) (placed e bytes plain inside) in
+    ((2, active (suc n) e.instructions bytes), refl, record { front = 0x02 ∷ []; back = unsigned_text (suc n) ++ rest; joined = refl; first = flag_spelled 2 (omega arith); second = ((suc n, (e.instructions, bytes)), refl, numbered) })
+
+data_spelled : (g : GivenData) → IsGivenData g → FrameFits (data_text g) → data_item shortest (data_text g) (data_of g)
+data_spelled (given_active memory e bytes) plain fits = active_spelled memory e bytes plain.0 plain.1 fits
+data_spelled (given_passive bytes) plain fits =
+    ((1, passive bytes), refl, record { front = 0x01 ∷ []; back = frame_text bytes; joined = refl; first = flag_spelled 1 (omega arith); second = (bytes, refl, bytes_spelled bytes (last_fit (0x01 ∷ []) bytes fits)) })
+
+pub data_laws : ItemLaws data_text IsGivenData data_of data_item
+data_laws = record { alone = data-alone; spelled = data_spelled }
+
+-- ---- calls
+
+-- the same entry, by another name of its text
+pub same_texts : {U S : Type 0} {becomes : U → S → Type 0} {gives : S → Option ℕ → S → Type 0} {remaining : S → Count} {elements : U} {text same : List ℕ → List ℕ} {old new : List (List ℕ)} (result : Result (Unit {0}) Refused)
+    → ((bytes : List ℕ) → text bytes ≡ same bytes) → AddsBytes becomes gives remaining elements text old new result → AddsBytes becomes gives remaining elements same old new result
+same_texts {old = old} {new = new} (Ok x) e h = record {
+  ok = (h.ok.0, h.ok.1, h.ok.2, h.ok.3, h.ok.4, subst (λ t. new ≡ old ++ t ∷ []) (e h.ok.1) h.ok.5);
+  err = h.err;
+  counted = h.counted;
+  too_long = h.too_long;
+  too_many = h.too_many;
+}
+same_texts (Err x) e h = record { ok = h.ok; err = h.err; counted = h.counted; too_long = h.too_long; too_many = h.too_many }
+
+-- what a call adds whose elements give these bytes
+pub adds_these : {U S : Type 0} {becomes : U → S → Type 0} {gives : S → Option ℕ → S → Type 0} {remaining : S → Count} {elements : U} {text : List ℕ → List ℕ} {old new : List (List ℕ)} (result : Result (Unit {0}) Refused) (bytes : List ℕ)
+    → ((it : S) (xs : List ℕ) → becomes elements it → Drains gives it xs → xs ≡ bytes) → ((it : S) → becomes elements it → size (remaining it) ≡ length bytes) → AddsBytes becomes gives remaining elements text old new result
+    → Adds (text bytes) (FrameFits bytes) old new result
+adds_these {text = text} {old = old} {new = new} (Ok x) bytes same counts h =
+    let given = h.ok in
+    let is = same given.0 given.1 given.2 given.3 in
+    record {
+      ok = subst (λ bs. new ≡ old ++ text bs ∷ []) is given.5;
+      err = h.err;
+      fitted = subst FrameFits is given.4;
+      counted = h.counted;
+      too_long = λ fits room. h.too_long (λ it b. omega (arith, counts it b, fits)) room;
+    }
+adds_these (Err e) bytes same counts h =
+    record { ok = h.ok; err = h.err; fitted = h.ok; counted = h.counted; too_long = λ fits room. h.too_long (λ it b. omega (arith, counts it b, fits)) room }
+
+-- the text of a segment of another memory than 0
+pub other_memory : (memory : ℕ) (offset bytes : List ℕ) → memory ≢ 0 → (0x02 ∷ (unsigned_text memory ++ expression_text offset)) ++ frame_text bytes ≡ active_text memory offset bytes
+other_memory zero offset bytes h = absurd (h refl)
+other_memory (suc n) offset bytes h = ap (λ s. 0x02 ∷ s) (append_assoc (unsigned_text (suc n)) (expression_text offset) (frame_text bytes))

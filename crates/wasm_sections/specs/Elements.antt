@@ -1,0 +1,178 @@
+-- Element segments: their texts, and what spells them.
+use Rattle.std.specs.Prelude.{ℕ, ◌+◌, ◌^◌, ◌<◌, List, [], ◌∷◌, ◌++◌, map, Bool, true, false, cond, Option, Some, None, IfSome}
+use Rattle.wasm_base.specs.Formats.{Format, u32, mapped, pair, tagged, prefixed, fixed, vec, when, numbered, is_given}
+use Rattle.wasm_base.specs.Laws.{FitsUnsigned}
+use Rattle.wasm_base.specs.Numbers.{unsigned_text}
+use Rattle.wasm_base.specs.Texts.{vec_text, VecFits, optional_text}
+use Rattle.wasm_base.specs.Types.{ref_type, ref_text, IsRef, FUNCREF}
+use Rattle.wasm_base.specs.declared.types.AbstractHeapType.TheVariants as kinds
+use Rattle.wasm_base.specs.declared.types.HeapType.{HeapType}
+use Rattle.wasm_base.specs.declared.types.HeapType.TheVariants.{Abstract}
+use Rattle.wasm_base.specs.declared.types.RefType.{RefType}
+use Rattle.wasm_code.specs.Expressions.{expression, expression_text}
+use Rattle.wasm_immediates.specs.Immediates.{where_set}
+use Rattle.wasm_insn.specs.Plain.{Plain}
+use Rattle.wasm_sections.specs.Constants.{Stored, IsStored}
+
+-- ---- tables
+
+-- the type of nullable references to unshared functions, which the forms without a type stand for
+abbrev pub is_nullable_func : Bool → HeapType → Bool
+is_nullable_func true (Abstract false kinds.Func) = true
+is_nullable_func _ _ = false
+
+abbrev pub is_funcref : RefType → Bool
+is_funcref r = is_nullable_func r.nullable r.heap_type
+
+-- the table that is named: table 0 where one is needed and none is given
+abbrev pub settled_table : Bool → Option ℕ → Option ℕ
+settled_table needed (Some table) = Some table
+settled_table true None = Some 0
+settled_table false None = None
+
+-- ---- segments, over whatever stands for an expression
+
+-- where elements go: in a table, or nowhere before code says so, or nowhere at all
+pub data Place (E : Type 0) : Type 0 where
+  passive : Place E
+  declared : Place E
+  active : Option ℕ → E → Place E
+
+pub data ElementList (E : Type 0) : Type 0 where
+  functions : List ℕ → ElementList E
+  expressions : RefType → List E → ElementList E
+
+pub record Segment (E : Type 0) : Type 0 where
+  pub place : Place E
+  pub elements : ElementList E
+
+-- ---- normal form
+
+-- Elements that no short form is for need a table.
+abbrev pub needs_table : {E : Type 0} → ElementList E → Bool
+needs_table (functions fs) = false
+needs_table (expressions r es) = cond (is_funcref r) false true
+
+abbrev pub settled_place : {E : Type 0} → Bool → Place E → Place E
+settled_place needed passive = passive
+settled_place needed declared = declared
+settled_place needed (active table offset) = active (settled_table needed table) offset
+
+-- the segment with table 0 where it needs a table and has none
+abbrev pub settled : {E : Type 0} → Segment E → Segment E
+settled s = record { place = settled_place (needs_table s.elements) s.place; elements = s.elements }
+
+-- ---- flags
+
+pub record ElementFlag : Type 0 where
+  pub not_active : Bool
+  pub second : Bool
+  pub expressions : Bool
+
+abbrev pub flag_code : ElementFlag → ℕ
+flag_code f = where_set f.not_active 1 + where_set f.second 2 + where_set f.expressions 4
+
+-- the kind of the elements is told where the flag isn't 0 or 4
+abbrev pub tells_kind : ElementFlag → Bool
+tells_kind f = cond f.not_active true f.second
+
+abbrev pub is_inactive : {E : Type 0} → Place E → Bool
+is_inactive passive = true
+is_inactive declared = true
+is_inactive (active table offset) = false
+
+abbrev pub is_second : {E : Type 0} → Place E → Bool
+is_second passive = false
+is_second declared = true
+is_second (active table offset) = is_given table
+
+abbrev pub are_expressions : {E : Type 0} → ElementList E → Bool
+are_expressions (functions fs) = false
+are_expressions (expressions r es) = true
+
+abbrev pub flag_of : {E : Type 0} → Segment E → ElementFlag
+flag_of s = record { not_active = is_inactive s.place; second = is_second s.place; expressions = are_expressions s.elements }
+
+-- ---- text
+
+module _ {E : Type 0} (text : E → List ℕ) where
+  abbrev pub place_text : Place E → List ℕ
+  place_text passive = []
+  place_text declared = []
+  place_text (active table offset) = optional_text unsigned_text table ++ text offset
+
+  -- the kind, where it is told, and the elements
+  abbrev pub elements_text : Bool → ElementList E → List ℕ
+  elements_text told (functions fs) = cond told (0x00 ∷ []) [] ++ vec_text unsigned_text fs
+  elements_text told (expressions r es) = cond told (ref_text r) [] ++ vec_text text es
+
+  abbrev pub settled_text : Segment E → List ℕ
+  settled_text s = flag_code (flag_of s) ∷ (place_text s.place ++ elements_text (tells_kind (flag_of s)) s.elements)
+
+abbrev pub ElementsFit : {E : Type 0} → ElementList E → Type 0
+ElementsFit (functions fs) = VecFits (λ f. Unit {0}) fs
+ElementsFit (expressions r es) = VecFits (λ e. Unit {0}) es
+
+-- ---- what calls hand in, and what a section says
+
+abbrev pub stored_text : Stored → List ℕ
+stored_text e = expression_text e.bytes
+
+abbrev pub element_text : Segment Stored → List ℕ
+element_text s = settled_text stored_text (settled s)
+
+abbrev pub IsPlace : Place Stored → Type 0
+IsPlace passive = Unit {0}
+IsPlace declared = Unit {0}
+IsPlace (active table offset) = IfSome table (λ t. t < 2 ^ 32) × IsStored offset
+
+abbrev pub AreElements : ElementList Stored → Type 0
+AreElements (functions fs) = VecFits (FitsUnsigned 32) fs
+AreElements (expressions r es) = IsRef r × VecFits IsStored es
+
+-- The numbers are in range, and the expressions are plain.
+pub record IsSegment (s : Segment Stored) : Type 0 where
+  pub place : IsPlace s.place
+  pub elements : AreElements s.elements
+
+abbrev pub place_of : Place Stored → Place (List Plain)
+place_of passive = passive
+place_of declared = declared
+place_of (active table offset) = active table offset.instructions
+
+abbrev pub elements_of : ElementList Stored → ElementList (List Plain)
+elements_of (functions fs) = functions fs
+elements_of (expressions r es) = expressions r (map (λ e. e.instructions) es)
+
+abbrev pub said_by : Segment Stored → Segment (List Plain)
+said_by s = record { place = place_of s.place; elements = elements_of s.elements }
+
+-- normal form: what the segment says, settled
+abbrev pub element_of : Segment Stored → Segment (List Plain)
+element_of s = said_by (settled s)
+
+-- ---- format
+
+abbrev pub in_no_table : List Plain → Place (List Plain)
+in_no_table offset = active None offset
+
+abbrev pub in_table : ℕ × List Plain → Place (List Plain)
+in_table parts = active (Some parts.0) parts.1
+
+abbrev pub place : ElementFlag → Format (Place (List Plain))
+place f = when f.not_active (when f.second (fixed [] declared) (fixed [] passive)) (when f.second (mapped in_table (pair u32 expression)) (mapped in_no_table expression))
+
+abbrev pub list_of : RefType × List (List Plain) → ElementList (List Plain)
+list_of parts = expressions parts.0 parts.1
+
+abbrev pub elements_as : (told of_expressions : Bool) → Format (ElementList (List Plain))
+elements_as told of_expressions =
+    when of_expressions (mapped list_of (pair (when told ref_type (fixed [] FUNCREF)) (vec expression)))
+    (mapped functions (prefixed (cond told (0x00 ∷ []) []) (vec u32)))
+
+abbrev pub segment_of : Place (List Plain) × ElementList (List Plain) → Segment (List Plain)
+segment_of parts = record { place = parts.0; elements = parts.1 }
+
+-- element segment: a flag, and what it tells of
+abbrev pub element : Format (Segment (List Plain))
+element = tagged (numbered flag_code) (λ f. mapped segment_of (pair (place f) (elements_as (tells_kind f) f.expressions)))

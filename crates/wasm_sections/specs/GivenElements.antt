@@ -1,0 +1,25 @@
+-- What the types of element segments hand in, by the bytes of their expressions.
+use Rattle.std.specs.Prelude.{ℕ, List}
+use Rattle.wasm_base.specs.Cow.{items_of}
+use Rattle.wasm_code.specs.Expressions.{expression_text}
+use Rattle.wasm_sections.specs.Elements.{Place, passive, declared, active, ElementList, functions, expressions, Segment, settled, settled_text}
+use Rattle.wasm_sections.specs.declared.element.ElementMode.{ElementMode}
+use Rattle.wasm_sections.specs.declared.element.ElementMode.TheVariants as modes
+use Rattle.wasm_sections.specs.declared.element.ElementSegment.{ElementSegment}
+use Rattle.wasm_sections.specs.declared.element.Elements.{Elements}
+use Rattle.wasm_sections.specs.declared.element.Elements.TheVariants as lists
+
+abbrev pub mode_of : {A : Type 0} → ElementMode A → Place (List ℕ)
+mode_of modes.Passive = passive
+mode_of modes.Declared = declared
+mode_of (modes.Active table offset) = active table offset.now
+
+abbrev pub list_in : {A : Type 0} → Elements A → ElementList (List ℕ)
+list_in (lists.Functions fs) = functions (items_of fs)
+list_in (lists.Expressions r es) = expressions r (items_of es)
+
+abbrev pub segment_in : {A : Type 0} → ElementSegment A → Segment (List ℕ)
+segment_in s = record { place = mode_of s.mode; elements = list_in s.elements }
+
+abbrev pub given_text : {A : Type 0} → ElementSegment A → List ℕ
+given_text s = settled_text expression_text (settled (segment_in s))

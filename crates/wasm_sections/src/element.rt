@@ -1,0 +1,338 @@
+// Element segments and the element section.
+ghost use Rattle.std.specs.Prelude.{◌≡◌, ◌≢◌, ◌≤◌, IfOk, ⊤};
+ghost use Rattle.wasm_base.specs.Calls.{Adds};
+ghost use Rattle.wasm_base.specs.declared.refused.Refused.TheVariants.{TooLong};
+ghost use Rattle.wasm_code.specs.Expressions.{expression_text};
+ghost use Rattle.wasm_immediates.specs.Immediates.{where_set};
+ghost use Rattle.wasm_sections.specs.Elements.{is_funcref, needs_table, settled_table, are_expressions, elements_text, ElementsFit};
+ghost use Rattle.wasm_code.specs.Expressions.{expression_text};
+
+use crate::counted_section::{CountedSection, ItemKind};
+use crate::flags::where_set;
+use std::alloc::{Allocator, Global};
+use wasm_base::{AbstractHeapType, CowSlice, Encode, HeapType, Items, Lent, R, RefType, SectionId};
+use wasm_code::ConstExpr;
+
+/// The references that a module puts in tables.
+///
+/// ```rust
+/// let mut elements = ElementSection::new(alloc);
+/// let offset = ConstExpr::i32_const(alloc, 0)?;
+/// elements.active(None, &offset, Elements::Functions(CowSlice::Borrowed(&[0, 1])))?;
+/// module.section(&elements)?;
+/// ```
+pub type ElementSection<A = Global> = CountedSection<ElementItems, A>;
+
+/// The items of an element section: segments of references.
+#[derive(Clone, Copy, Debug)]
+pub struct ElementItems;
+
+/// The references of a segment.
+#[derive(Drop, Debug)]
+pub enum Elements<'a, A: Allocator = Global> {
+    /// References to the functions of these indices.
+    Functions(CowSlice<'a, u32, A>),
+    /// References of this type, each computed by an expression.
+    Expressions(RefType, CowSlice<'a, ConstExpr<A>, A>),
+}
+
+/// When the references of a segment are put in a table.
+#[derive(Drop, Debug)]
+pub enum ElementMode<'a, A: Allocator = Global> {
+    /// When an instruction `TableInit` says so.
+    Passive,
+    /// Never: the segment declares that code may refer to these functions.
+    Declared,
+    /// When the module is instantiated.
+    Active {
+        /// `None` is table 0, and is written in a form without a table where there is one: for functions, and for expressions of the
+        /// type [`RefType::FUNCREF`].
+        table: Option<u32>,
+        /// Computes the place of the first reference.
+        offset: &'a ConstExpr<A>,
+    },
+}
+
+/// A segment of references.
+#[derive(Drop, Debug)]
+pub struct ElementSegment<'a, A: Allocator = Global> {
+    pub mode: ElementMode<'a, A>,
+    pub elements: Elements<'a, A>,
+}
+
+/// The same expressions, each in memory of its own.
+fn clone_each<A: Allocator + Copy>(
+    alloc: A,
+    expressions: &[ConstExpr<A>],
+) -> R<Vec<ConstExpr<A>, A>>
+    ensures same { IfOk result (λ v. v.items ≡ expressions.now) }
+    ensures memory { result ≢ Err TooLong }
+{
+    let mut cloned = Vec::with_capacity(alloc, expressions.len())?;
+    for expression in expressions {
+        let copy = expression.clone()?;
+        cloned.push(copy)?;
+    }
+    Ok(cloned)
+}
+
+impl<'a, A: Allocator + Copy> Elements<'a, A> {
+    ghost use Rattle.wasm_sections.specs.GivenElements.{list_in};
+
+    /// The same references: owned ones in memory of their own.
+    pub fn clone(&self) -> R<Self>
+        ensures same { IfOk result (λ elements. list_in elements ≡ list_in self.now) }
+        ensures memory { result ≢ Err TooLong }
+    {
+        match self {
+            Elements::Functions(functions) => Ok(Elements::Functions(functions.clone()?)),
+            Elements::Expressions(ty, CowSlice::Borrowed(expressions)) => Ok(Elements::Expressions(
+                *ty,
+                CowSlice::Borrowed(expressions),
+            )),
+            Elements::Expressions(ty, CowSlice::Owned(expressions)) => {
+                let cloned = clone_each(*expressions.allocator(), expressions.as_slice())?;
+                Ok(Elements::Expressions(*ty, CowSlice::Owned(cloned)))
+            }
+        }
+    }
+}
+
+impl<'a, A: Allocator> ElementMode<'a, A> {
+    /// The same mode.
+    pub fn clone(&self) -> R<Self>
+        ensures same { IfOk result (λ mode. mode ≡ self.now) }
+        ensures memory { result ≢ Err TooLong }
+    {
+        Ok(match self {
+            ElementMode::Passive => ElementMode::Passive,
+            ElementMode::Declared => ElementMode::Declared,
+            ElementMode::Active { table, offset } => ElementMode::Active {
+                table: *table,
+                offset,
+            },
+        })
+    }
+}
+
+impl<'a, A: Allocator + Copy> ElementSegment<'a, A> {
+    ghost use Rattle.wasm_sections.specs.GivenElements.{segment_in};
+
+    /// The same segment: owned references in memory of their own.
+    pub fn clone(&self) -> R<Self>
+        ensures same { IfOk result (λ segment. segment_in segment ≡ segment_in self.now) }
+        ensures memory { result ≢ Err TooLong }
+    {
+        Ok(ElementSegment {
+            mode: self.mode.clone()?,
+            elements: self.elements.clone()?,
+        })
+    }
+}
+
+/// Whether it is the type [`RefType::FUNCREF`], for which there are forms that tell no type.
+fn has_short_form(ty: RefType) -> bool
+    ensures { result ≡ is_funcref ty }
+{
+    match ty.heap_type {
+        HeapType::Abstract {
+            shared: false,
+            ty: AbstractHeapType::Func,
+        } => ty.nullable,
+        _ => false,
+    }
+}
+
+/// The table that is named: table 0 where one is needed and none is given.
+fn named_table(table: Option<u32>, needed: bool) -> Option<u32>
+    ensures { result ≡ settled_table needed table }
+{
+    match table {
+        Some(table) => Some(table),
+        None if needed => Some(0),
+        None => None,
+    }
+}
+
+impl<A: Allocator> Elements<'_, A> {
+    ghost use Rattle.wasm_sections.specs.GivenElements.{list_in};
+
+    /// Whether an active segment of these names its table.
+    fn needs_table(&self) -> bool
+        ensures { result ≡ needs_table (list_in self.now) }
+    {
+        match self {
+            Elements::Functions(_) => false,
+            Elements::Expressions(ty, _) => !has_short_form(*ty),
+        }
+    }
+
+    /// The bit of the flag that says that these are expressions.
+    fn flag(&self) -> u8
+        ensures is { result ≡ where_set (are_expressions (list_in self.now)) 4 }
+        ensures small { result ≤ 4 }
+    {
+        match self {
+            Elements::Functions(_) => 0,
+            Elements::Expressions(_, _) => EXPRESSIONS,
+        }
+    }
+}
+
+// Parts of the flag of a segment.
+const PASSIVE: u8 = 0x01;
+const WITH_TABLE: u8 = 0x02;
+const DECLARED: u8 = 0x03;
+const EXPRESSIONS: u8 = 0x04;
+
+/// The byte that tells of functions, where expressions have a type.
+const FUNCTIONS: u8 = 0x00;
+
+/// References, and whether their type is told before them.
+#[derive(Drop)]
+struct Told<'a, 'b, A: Allocator> {
+    told: bool,
+    elements: &'b Elements<'a, A>,
+}
+
+/// The type, where it is told, and the references.
+impl<A: Allocator> Encode for Told<'_, '_, A> {
+    ghost use Rattle.wasm_sections.specs.GivenElements.{list_in};
+
+    ghost text = { λ t. elements_text expression_text t.told (list_in t.elements.now) };
+
+    ghost fits = { λ t. ElementsFit (list_in t.elements.now) };
+
+    fn encode<B: Allocator>(&self, sink: &mut Vec<u8, B>) -> R<()> {
+        match (self.elements, self.told) {
+            (Elements::Functions(functions), true) => {
+                (FUNCTIONS, functions.as_slice()).encode(sink)
+            }
+            (Elements::Functions(functions), false) => functions.as_slice().encode(sink),
+            (Elements::Expressions(ty, expressions), true) => {
+                (*ty, expressions.as_slice()).encode(sink)
+            }
+            (Elements::Expressions(_, expressions), false) => expressions.as_slice().encode(sink),
+        }
+    }
+}
+
+/// A flag, the table and the place where they are told, and the references.
+impl<A: Allocator> Encode for ElementSegment<'_, A> {
+    ghost use Rattle.wasm_sections.specs.GivenElements.{given_text, list_in};
+
+    ghost text = { given_text };
+
+    ghost fits = { λ s. ElementsFit (list_in s.elements) };
+
+    fn encode<B: Allocator>(&self, sink: &mut Vec<u8, B>) -> R<()> {
+        let flag = self.elements.flag();
+        let elements = &self.elements;
+        match &self.mode {
+            ElementMode::Passive => {
+                (flag + PASSIVE, Told { told: true, elements }).encode(sink)
+            }
+            ElementMode::Declared => {
+                (flag + DECLARED, Told { told: true, elements }).encode(sink)
+            }
+            ElementMode::Active { table, offset } => {
+                match named_table(*table, elements.needs_table()) {
+                    Some(table) => {
+                        let place = (table, Lent(*offset));
+                        (flag + WITH_TABLE, place, Told { told: true, elements }).encode(sink)
+                    }
+                    None => (flag, Lent(*offset), Told { told: false, elements }).encode(sink),
+                }
+            }
+        }
+    }
+}
+
+impl Items for ElementItems {
+    ghost use Rattle.std.specs.Prelude.{List};
+    ghost use Rattle.wasm_insn.specs.Plain.{Plain};
+    ghost use Rattle.wasm_sections.specs.Constants.{Stored};
+    ghost use Rattle.wasm_sections.specs.Elements.{Segment, element_text, IsSegment, element_of, element};
+
+    ghost Record = { Segment Stored };
+
+    ghost Item = { Segment (List Plain) };
+
+    ghost record_text = { element_text };
+
+    ghost is_plain = { IsSegment };
+
+    ghost normal_form = { element_of };
+
+    ghost item_format = { element };
+
+    #[tactic(auto, using(crate::proofs::ElementLaws::element_laws))]
+    fn laws() {}
+}
+
+impl ItemKind for ElementItems {
+    ghost use Rattle.wasm_base.specs.SectionId.{number_of};
+    ghost use Rattle.wasm_base.specs.declared.section_id.SectionId.TheVariants as ids;
+
+    ghost section_id = { number_of ids.Element };
+
+    fn id() -> u8 {
+        SectionId::Element.into()
+    }
+}
+
+/// Adding calls. A refused one leaves the section as it was. The layout is that of "Element Section".
+impl<A: Allocator> ElementSection<A> {
+    ghost use Rattle.wasm_sections.specs.declared.element.ElementMode.{ElementMode as Mode};
+    ghost use Rattle.wasm_sections.specs.declared.element.ElementMode.TheVariants as modes;
+    ghost use Rattle.wasm_sections.specs.GivenElements.{given_text, list_in};
+
+    /// Adds a segment.
+    pub fn segment<B: Allocator>(&mut self, segment: ElementSegment<'_, B>) -> R<()>
+        ensures { Adds (given_text segment.entry) (ElementsFit (list_in segment.entry.elements)) self.old self.new result }
+    {
+        self.add_record(&segment)
+    }
+
+    /// Adds a segment whose references are put in this table when the module is instantiated.
+    pub fn active<'a, B: Allocator>(
+        &mut self,
+        table: Option<u32>,
+        offset: &'a ConstExpr<B>,
+        elements: Elements<'a, B>,
+    ) -> R<()>
+        ensures { Adds (given_text (record { mode = modes.Active table offset.entry; elements = elements.entry })) (ElementsFit (list_in elements.entry)) self.old self.new result }
+    {
+        self.segment(ElementSegment {
+            mode: ElementMode::Active { table, offset },
+            elements,
+        })
+    }
+
+    /// Adds a segment whose references are put in a table when code says so.
+    pub fn passive<B: Allocator>(&mut self, elements: Elements<'_, B>) -> R<()>
+        ensures { Adds (given_text (record { mode = modes.Passive; elements = elements.entry })) (ElementsFit (list_in elements.entry)) self.old self.new result }
+    {
+        self.segment(ElementSegment {
+            mode: ElementMode::Passive,
+            elements,
+        })
+    }
+
+    /// Adds a segment that declares that code may refer to its functions.
+    pub fn declared<B: Allocator>(&mut self, elements: Elements<'_, B>) -> R<()>
+        ensures { Adds (given_text (record { mode = modes.Declared; elements = elements.entry })) (ElementsFit (list_in elements.entry)) self.old self.new result }
+    {
+        self.segment(ElementSegment {
+            mode: ElementMode::Declared,
+            elements,
+        })
+    }
+
+    /// Adds a segment that is spelled already.
+    pub fn raw(&mut self, segment: &[u8]) -> R<()>
+        ensures { Adds segment.now ⊤ self.old self.new result }
+    {
+        self.add_piece(segment)
+    }
+}

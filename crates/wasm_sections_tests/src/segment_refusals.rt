@@ -1,0 +1,218 @@
+// Requests for memory that are refused to calls that add segments, and lengths that are too long.
+ghost use Rattle.std.specs.Prelude.{◌≡◌, ◌+◌, MatchOption};
+ghost use Rattle.std.specs.Iterator.{at_most};
+
+use crate::checks::{MOST, check_answer, check_bytes, check_number, check_refused, check_that};
+use crate::section_refusals::{check_adding, check_part};
+use std::alloc::Global;
+use std::cell::Cell;
+use std::process::Abort;
+use std::test::Fail;
+use test_support::Refusing;
+use wasm_base::{CowSlice, Encode, R, RefType, Refused};
+use wasm_code::ConstExpr;
+use wasm_sections::{
+    DataSection, DataSegment, DataSegmentMode, ElementMode, ElementSection, ElementSegment,
+    Elements, GlobalSection,
+};
+
+const BYTES: [u8; 2] = [8, 9];
+
+#[test]
+#[tactic(auto, using(wasm_base::proofs::KnownLengths::drained_array))]
+fn active_data(rt: HostRuntime) -> Result<(), Fail> {
+    let heap = Refusing::new(rt.alloc());
+    let offset = ConstExpr::i32_const(rt.alloc(), 0)?;
+    let first = [0, 65, 0, 11, 2, 8, 9];
+    check_adding(&rt, &heap, &first, |section: &mut DataSection<_>| {
+        section.active(0, &offset, BYTES)
+    })?;
+    let other = [2, 1, 65, 0, 11, 2, 8, 9];
+    check_adding(&rt, &heap, &other, |section: &mut DataSection<_>| {
+        section.active(1, &offset, BYTES)
+    })
+}
+
+#[test]
+#[tactic(auto, using(wasm_base::proofs::KnownLengths::drained_array))]
+fn passive_data(rt: HostRuntime) -> Result<(), Fail> {
+    let heap = Refusing::new(rt.alloc());
+    check_adding(&rt, &heap, &[1, 2, 8, 9], |section: &mut DataSection<_>| {
+        section.passive(BYTES)
+    })?;
+    check_adding(&rt, &heap, &[1, 2, 8, 9], |section: &mut DataSection<_>| {
+        let mode: DataSegmentMode<'_> = DataSegmentMode::Passive;
+        section.segment(DataSegment { mode, bytes: BYTES })
+    })?;
+    check_adding(&rt, &heap, &[1, 0], |section: &mut DataSection<_>| {
+        section.raw(&[1, 0])
+    })
+}
+
+#[test]
+fn raw_globals(rt: HostRuntime) -> Result<(), Fail> {
+    let heap = Refusing::new(rt.alloc());
+    let entry = [127, 0, 65, 42, 11];
+    check_adding(&rt, &heap, &entry, |section: &mut GlobalSection<_>| {
+        section.raw(&entry)
+    })
+}
+
+/// The function 7.
+fn seventh<'a>() -> Elements<'a> {
+    Elements::Functions(CowSlice::Borrowed(&[7]))
+}
+
+#[test]
+fn elements(rt: HostRuntime) -> Result<(), Fail> {
+    let heap = Refusing::new(rt.alloc());
+    let offset = ConstExpr::i32_const(rt.alloc(), 0)?;
+    let active = [2, 7, 65, 0, 11, 0, 1, 7];
+    check_adding(&rt, &heap, &active, |section: &mut ElementSection<_>| {
+        section.active(Some(7), &offset, seventh())
+    })?;
+    check_adding(&rt, &heap, &[1, 0, 1, 7], |section: &mut ElementSection<_>| {
+        section.passive(seventh())
+    })?;
+    check_adding(&rt, &heap, &[3, 0, 1, 7], |section: &mut ElementSection<_>| {
+        section.declared(seventh())
+    })?;
+    check_adding(&rt, &heap, &[1, 0, 0], |section: &mut ElementSection<_>| {
+        section.raw(&[1, 0, 0])
+    })
+}
+
+/// Expressions whose list and members are in memory that is refused.
+type OwnedElements<'h> = Elements<'h, &'h Refusing<Global>>;
+
+/// One expression, owned.
+fn third<'h>(heap: &'h Refusing<Global>) -> R<OwnedElements<'h>> {
+    let mut listed = Vec::new(heap);
+    listed.push(ConstExpr::ref_func(heap, 3)?)?;
+    Ok(Elements::Expressions(
+        RefType::FUNCREF,
+        CowSlice::Owned(listed),
+    ))
+}
+
+/// A clone answers a segment of these bytes, or `Memory` where a request was refused.
+fn check_clone<'h>(
+    rt: &impl Abort,
+    heap: &'h Refusing<Global>,
+    nth: u64,
+    copy: R<ElementSegment<'h, &'h Refusing<Global>>>,
+    expected: &[u8],
+) -> Result<bool, Fail> {
+    let granted = heap.is_waiting();
+    match copy {
+        Ok(segment) => check_part(rt, heap, &segment, expected)?,
+        Err(refused) => check_refused(rt, Some(refused)),
+    }
+    check_that(rt, !granted || nth > 1);
+    Ok(granted)
+}
+
+#[test]
+fn clones(rt: HostRuntime) -> Result<(), Fail> {
+    let heap = Refusing::new(rt.alloc());
+    let segment = ElementSegment {
+        mode: ElementMode::Passive,
+        elements: third(&heap)?,
+    };
+    for nth in 1..MOST {
+        heap.refuse(nth);
+        if check_clone(&rt, &heap, nth, segment.clone(), &[5, 112, 1, 210, 3, 11])? {
+            return check_part(&rt, &heap, &segment, &[5, 112, 1, 210, 3, 11]);
+        }
+    }
+    panic!(rt; "no call was granted")
+}
+
+/// 128 zero bytes go into a sink that has room for their section, where no memory is given; into one of a byte less they do not.
+#[test]
+#[tactic(auto, using(wasm_base::proofs::KnownLengths::drained_array))]
+fn exact_room(rt: HostRuntime) -> Result<(), Fail> {
+    let mut section = DataSection::new(rt.alloc());
+    section.passive([0u8; 128])?;
+    let heap = Refusing::new(rt.alloc());
+    let mut sink = Vec::with_capacity(&heap, 134)?;
+    heap.refuse(1);
+    section.encode(&mut sink)?;
+    check_bytes(&rt, &sink[..6], &[0x84, 1, 1, 1, 0x80, 1]);
+    check_number(&rt, sink.len(), 134);
+    heap.refuse(0);
+    let mut short = Vec::with_capacity(&heap, 133)?;
+    heap.refuse(1);
+    check_refused(&rt, section.encode(&mut short).err());
+    check_bytes(&rt, &short, &[]);
+    Ok(())
+}
+
+/// Zero bytes, which count how often one was asked for.
+#[derive(Drop)]
+struct CountedBytes<'a> {
+    left: usize,
+    asked: &'a Cell<u64>,
+}
+
+impl Iterator for CountedBytes<'_> {
+    type Item = u8;
+
+    ghost next_gives = { λ s r t. MatchOption r ((s.left ≡ 0) × (t.left ≡ 0)) (λ _. s.left ≡ t.left + 1) };
+
+    ghost remaining = { λ s. at_most s.left };
+
+    fn next(&mut self) -> Option<u8> {
+        self.asked.set(self.asked.get().saturating_add(1));
+        if self.left == 0 {
+            return None;
+        }
+        self.left -= 1;
+        Some(0)
+    }
+}
+
+impl ExactSizeIterator for CountedBytes<'_> {
+    fn len(&self) -> usize {
+        self.left
+    }
+}
+
+/// The section has one entry of two zero bytes, and a byte was asked for so often.
+fn check_asked(rt: &impl Abort, section: &DataSection, asked: &Cell<u64>, expected: u64) {
+    assert_eq!(rt; section.piece(0), Some([1, 2, 0, 0].as_slice()));
+    assert_eq!(rt; (section.len(), asked.get()), (1, expected));
+}
+
+/// A length that is too long is answered before any byte is asked for, and the section stays as it was.
+#[test]
+fn too_many_bytes(rt: HostRuntime) -> Result<(), Fail> {
+    let asked = Cell::new(0);
+    let mut section: DataSection = DataSection::new(rt.alloc());
+    section.passive(CountedBytes {
+        left: 2,
+        asked: &asked,
+    })?;
+    check_that(&rt, asked.get() >= 2);
+    asked.set(0);
+    let refused = section.passive(CountedBytes {
+        left: 4294967296,
+        asked: &asked,
+    });
+    check_that(&rt, refused == Err(Refused::TooLong));
+    check_asked(&rt, &section, &asked, 0);
+    Ok(())
+}
+
+/// The first growth refused, to 128 bytes.
+#[test]
+#[tactic(auto, using(wasm_base::proofs::KnownLengths::drained_array))]
+fn first_growth(rt: HostRuntime) -> Result<(), Fail> {
+    let heap = Refusing::new(rt.alloc());
+    let mut section = DataSection::new(&heap);
+    heap.refuse(1);
+    let answer = section.passive([0u8; 128]);
+    check_that(&rt, !check_answer(&rt, &heap, 1, answer));
+    check_that(&rt, section.is_empty());
+    Ok(())
+}
