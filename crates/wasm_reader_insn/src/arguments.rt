@@ -16,7 +16,7 @@ use wasm_reader_base::{ReadFault, Readable};
 /// An argument of an instruction. Each is given for a part of the instruction's shape.
 #[derive(Debug, Drop)]
 pub enum Arg<A: Allocator = Global> {
-    /// An index, a label, a number of lanes or of locals: a number of 32 bits.
+    /// A number of 32 bits: an index, a label or a length.
     U32(u32),
     /// A constant of 32 bits.
     S32(i32),
@@ -38,7 +38,7 @@ pub enum Arg<A: Allocator = Global> {
     Catches(Vec<Catch, A>),
     Types(Vec<ValType, A>),
     Handles(Vec<Handle, A>),
-    /// The flags of a cast, below 4: bit 0 is set where the type before it is nullable, bit 1 where the one after it is.
+    /// The flags of a cast, below 4: bit 0 is set where the first of its two types is nullable, bit 1 where the second is.
     Flag(u8),
 }
 

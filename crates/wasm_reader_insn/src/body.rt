@@ -40,7 +40,7 @@ impl<'a, A: Allocator + Copy> Filling<'a, A> for Code<A> {
     }
 }
 
-/// A function's body: the runs of its locals, each a count and a type, and its instructions, of which the last is `End`.
+/// A function's body: the runs of its locals, each a count and a type, and its instructions, each `End` among them.
 #[derive(Debug, Drop)]
 pub struct Body<A: Allocator = Global> {
     pub runs: Vec<(u32, ValType), A>,
