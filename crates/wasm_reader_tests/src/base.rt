@@ -1,9 +1,37 @@
 // Numbers, fixed bytes, names, types and immediates, with ample memory.
 use crate::checks::{check_fault, check_read, check_text};
+use std::process::Abort;
 use std::test::Fail;
-use wasm_base::{AbstractHeapType, HeapType, RefType, ValType};
+use wasm_base::{AbstractHeapType, HeapType, NoGroups, RefType, ValType, read_groups};
 use wasm_immediates::{BlockType, Catch, Handle, Ieee32, Ieee64, MemArg, MemArgOrdering, Ordering};
 use wasm_reader_base::ReadFault;
+
+/// These groups were read, and so many bytes are left.
+fn check_groups(rt: &impl Abort, expected: (u128, u128, u8), left: usize, bytes: &[u8]) {
+    match read_groups(bytes, 5) {
+        Ok((groups, rest)) => {
+            assert_eq!(rt; (groups.sum, groups.power, groups.last), expected);
+            assert_eq!(rt; rest.len(), left);
+        }
+        Err(_) => panic!(rt; "no groups"),
+    }
+}
+
+/// No groups were read, for this cause.
+fn check_no_groups(rt: &impl Abort, cause: NoGroups, bytes: &[u8]) {
+    match read_groups(bytes, 2) {
+        Ok(_) => panic!(rt; "groups"),
+        Err(none) => assert_eq!(rt; none, cause),
+    }
+}
+
+#[test]
+fn groups(rt: HostRuntime) {
+    check_groups(&rt, (5, 128, 5), 1, &[5, 9]);
+    check_groups(&rt, (624485, 2097152, 0x26), 0, &[0xE5, 0x8E, 0x26]);
+    check_no_groups(&rt, NoGroups::Ended, &[0xE5]);
+    check_no_groups(&rt, NoGroups::TooMany, &[0xE5, 0x8E, 0x26]);
+}
 
 #[test]
 fn unsigned_numbers(rt: HostRuntime) -> Result<(), Fail> {

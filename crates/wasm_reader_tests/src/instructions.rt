@@ -4,7 +4,7 @@ use std::alloc::Global;
 use std::process::Abort;
 use std::test::Fail;
 use wasm_base::ValType;
-use wasm_insn::Op;
+use wasm_insn::{Op, Part, Shape};
 use wasm_reader_base::{Filling, Framed, ReadFault, Readable};
 use wasm_reader_insn::{Arg, Body, Code, Expression, Plain};
 
@@ -67,6 +67,17 @@ fn check(
         check_arg(rt, &plain.args, at, *wanted);
     }
     Ok(())
+}
+
+#[test]
+fn parts_of_shapes(rt: HostRuntime) {
+    let cast = [Part::Flag, Part::Unsigned, Part::Heap, Part::Heap];
+    assert_eq!(rt; Shape::K.parts(), cast.as_slice());
+    assert_eq!(rt;
+        Shape::Bt.parts(),
+        [Part::Labels, Part::Unsigned].as_slice()
+    );
+    assert_eq!(rt; Shape::Nothing.parts(), [].as_slice());
 }
 
 #[test]

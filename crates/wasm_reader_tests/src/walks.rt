@@ -4,7 +4,7 @@ use std::process::Abort;
 use std::test::Fail;
 use wasm_insn::Op;
 use wasm_reader_base::ReadFault;
-use wasm_reader_insn::{Instructions, Step};
+use wasm_reader_insn::{Instructions, Step, laws};
 
 /// The step is this.
 fn check_step(rt: &impl Abort, given: Option<Step>, place: usize, op: Op) {
@@ -54,6 +54,11 @@ fn expressions(rt: HostRuntime) -> Result<(), Fail> {
     check_end(&rt, walk.next_before_end()?, walk.place(), 21);
     check_count(&rt, walk.rest().len(), 2);
     Ok(())
+}
+
+#[test]
+fn laws_take_no_memory() {
+    laws::places();
 }
 
 #[test]
