@@ -77,9 +77,12 @@ unsafe extern "C" {
 const NO_ANSWER: u64 = u64::MAX;
 const HEADER: [u8; 8] = *b"\0asm\x01\0\0\0";
 const SIZES: [usize; 3] = [10_000, 100_000, 1_000_000];
-const NAMES: [&str; 6] = ["calls", "values", "line", "functions", "exports", "imports"];
+const NAMES: [&str; 9] = [
+    "calls", "values", "line", "functions", "exports", "imports", "segments", "pages", "block",
+];
 const INSTRUCTIONS_OF_A_FUNCTION: usize = 50;
 const CALLS_OF_A_ROW: usize = 8;
+const BYTES_OF_A_SEGMENT: usize = 64;
 const WINDOW: Duration = Duration::from_secs(3);
 
 /// Names that lie one after another, and a kind and an index for each entry.
@@ -98,6 +101,7 @@ enum Input {
     Functions(Vec<u32>),
     Exports(Entries),
     Imports(Entries),
+    Data { bytes: Vec<u8>, segment: u32 },
 }
 
 impl Input {
@@ -137,6 +141,9 @@ impl Input {
                     o,
                     n,
                 ),
+                Input::Data { bytes, segment } => {
+                    wb_data(bytes.as_ptr(), bytes.len(), *segment, phase, o, n)
+                }
             }
         }
     }
@@ -149,6 +156,7 @@ impl Input {
             Input::Functions(types) => (types.len() as u32, straight_functions(types)),
             Input::Exports(e) => (e.kinds.len() as u32, straight_exports(e)),
             Input::Imports(e) => (e.kinds.len() as u32, straight_imports(e)),
+            Input::Data { bytes, segment } => straight_data(bytes, *segment as usize),
         }
     }
 
@@ -159,6 +167,7 @@ impl Input {
             Input::Functions(_) => 3,
             Input::Exports(_) => 7,
             Input::Imports(_) => 2,
+            Input::Data { .. } => 11,
         }
     }
 
@@ -384,6 +393,18 @@ fn straight_imports(e: &Entries) -> Vec<u8> {
     entries
 }
 
+fn straight_data(bytes: &[u8], segment: usize) -> (u32, Vec<u8>) {
+    let mut entries = Vec::new();
+    for (i, part) in bytes.chunks(segment).enumerate() {
+        entries.extend_from_slice(&[0x00, 0x41]);
+        signed(&mut entries, (i * segment) as i64);
+        entries.push(0x0B);
+        unsigned(&mut entries, part.len() as u64);
+        entries.extend_from_slice(part);
+    }
+    (bytes.len().div_ceil(segment) as u32, entries)
+}
+
 // ---- inputs
 
 /// Numbers that look random, and are the same in each run.
@@ -524,6 +545,14 @@ fn input(name: &str, items: usize) -> Input {
         "functions" => Input::Functions((0..items).map(|_| numbers.index()).collect()),
         "exports" => Input::Exports(entries(items, false)),
         "imports" => Input::Imports(entries(items, true)),
+        "segments" | "pages" | "block" => Input::Data {
+            bytes: (0..items * BYTES_OF_A_SEGMENT).map(|_| numbers.below(256) as u8).collect(),
+            segment: match name {
+                "segments" => BYTES_OF_A_SEGMENT as u32,
+                "pages" => 65536,
+                _ => u32::MAX,
+            },
+        },
         _ => fail(&format!(
             "no workload is named {name}: there are {}",
             NAMES.join(", ")
@@ -610,6 +639,8 @@ fn check_wrong_inputs() {
     wrong = one.clone();
     wrong.names[0] = 0xFF;
     check_wrong("a name that is no UTF-8", Input::Exports(wrong.clone()));
+    let bytes = vec![7; 9];
+    check_wrong("a segment of no bytes", Input::Data { bytes, segment: 0 });
     check_wrong("one length an import", Input::Imports(one.clone()));
     let (p, n) = (one.names.as_ptr(), one.names.len());
     let (lens, indices) = (one.lens.as_ptr(), one.indices.as_ptr());
@@ -617,9 +648,6 @@ fn check_wrong_inputs() {
     let out = no_room.as_mut_ptr();
     if unsafe { wb_names(p, n, lens, 1, indices, 1, 1, out, 0) } != NO_ANSWER {
         fail("wb_names has an answer: measure it");
-    }
-    if unsafe { wb_data(p, n, 4, 1, out, 0) } != NO_ANSWER {
-        fail("wb_data has an answer: measure it");
     }
 }
 

@@ -85,9 +85,6 @@ pub fn encode_reference(sink: &mut Vec<u8>, index: u32) -> R<()>
     let alloc = *sink.allocator();
     let references = [ConstExpr::ref_func(alloc, index)?];
     let mut section = ElementSection::new(alloc);
-    section.passive(Elements::Expressions(
-        RefType::FUNCREF,
-        CowSlice::Borrowed(&references),
-    ))?;
+    section.passive(Elements::Expressions(RefType::FUNCREF, CowSlice::Borrowed(&references)))?;
     section.encode(sink)
 }

@@ -1,2 +1,1 @@
-pub mod Drained
 pub mod PieceLengths

@@ -1,5 +1,5 @@
 -- What workloads answer.
-use Rattle.std.specs.Prelude.{◌≡◌, ℕ, ◌≤◌, ◌∷◌, List, ◌++◌, length, drop, map, Result, IfOk, OnErr, if◌then◌else◌, ◌⊎◌, nat_le}
+use Rattle.std.specs.Prelude.{◌≡◌, ℕ, ◌<◌, ◌≤◌, ◌∷◌, List, ◌++◌, length, drop, map, Result, IfOk, OnErr, if◌then◌else◌, ◌⊎◌, nat_le}
 use Rattle.wasm_base.specs.Formats.{header}
 use Rattle.wasm_base.specs.Numbers.{unsigned_text}
 use Rattle.wasm_base.specs.Pieces.{joined, section_text}
@@ -40,3 +40,9 @@ pub record CountedAnswer (id count phase : ℕ) (old new : List ℕ) (n : ℕ) :
   pub pieces : List (List ℕ)
   pub counted : length pieces ≡ count
   pub has : HasAnswer id pieces phase old new n
+
+-- the answer of a section of data, whose segments have bytes
+pub record DataAnswer (segment phase : ℕ) (old new : List ℕ) (n : ℕ) : Type 0 where
+  pub some : 0 < segment
+  pub pieces : List (List ℕ)
+  pub has : HasAnswer 11 pieces phase old new n

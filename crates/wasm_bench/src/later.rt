@@ -19,18 +19,3 @@ pub extern "C" fn wb_names(
 {
     NO_ANSWER
 }
-
-/// A data section is not built yet.
-#[unsafe(no_mangle)]
-pub extern "C" fn wb_data(
-    _alloc: Global,
-    _bytes: &[u8],
-    _segment: u32,
-    _phase: u32,
-    _out: &mut [u8],
-) -> u64
-    ensures none { result ≡ NO_ANSWER }
-    ensures same { _out.new ≡ _out.old }
-{
-    NO_ANSWER
-}

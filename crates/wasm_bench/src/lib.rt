@@ -6,6 +6,7 @@ mod bodies;
 mod calls;
 mod code;
 mod codes;
+mod data;
 mod exports;
 mod functions;
 mod imports;

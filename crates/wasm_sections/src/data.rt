@@ -188,5 +188,7 @@ impl<A: Allocator> DataSection<A> {
 
 // Flags of a segment.
 const ACTIVE: u8 = 0x00;
+
 const PASSIVE: u8 = 0x01;
+
 const ACTIVE_IN_MEMORY: u8 = 0x02;

@@ -181,8 +181,11 @@ impl<A: Allocator> Elements<'_, A> {
 
 // Parts of the flag of a segment.
 const PASSIVE: u8 = 0x01;
+
 const WITH_TABLE: u8 = 0x02;
+
 const DECLARED: u8 = 0x03;
+
 const EXPRESSIONS: u8 = 0x04;
 
 /// The byte that tells of functions, where expressions have a type.
@@ -230,18 +233,48 @@ impl<A: Allocator> Encode for ElementSegment<'_, A> {
         let elements = &self.elements;
         match &self.mode {
             ElementMode::Passive => {
-                (flag + PASSIVE, Told { told: true, elements }).encode(sink)
+                (
+                    flag + PASSIVE,
+                    Told {
+                        told: true,
+                        elements,
+                    },
+                )
+                    .encode(sink)
             }
             ElementMode::Declared => {
-                (flag + DECLARED, Told { told: true, elements }).encode(sink)
+                (
+                    flag + DECLARED,
+                    Told {
+                        told: true,
+                        elements,
+                    },
+                )
+                    .encode(sink)
             }
             ElementMode::Active { table, offset } => {
                 match named_table(*table, elements.needs_table()) {
                     Some(table) => {
                         let place = (table, Lent(*offset));
-                        (flag + WITH_TABLE, place, Told { told: true, elements }).encode(sink)
+                        (
+                            flag + WITH_TABLE,
+                            place,
+                            Told {
+                                told: true,
+                                elements,
+                            },
+                        )
+                            .encode(sink)
                     }
-                    None => (flag, Lent(*offset), Told { told: false, elements }).encode(sink),
+                    None => (
+                        flag,
+                        Lent(*offset),
+                        Told {
+                            told: false,
+                            elements,
+                        },
+                    )
+                        .encode(sink),
                 }
             }
         }

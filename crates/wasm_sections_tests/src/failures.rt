@@ -21,22 +21,28 @@ fn check_fault(rt: &impl Abort, last: usize, fault: Option<RecipeFault>) -> usiz
     line
 }
 
-#[test]
-fn each_request_refused(rt: HostRuntime) {
-    let heap = Refusing::new(rt.alloc());
+/// Each request that a recipe of two lines, with an empty one between, makes is refused in turn.
+fn check_recipe(rt: &impl Abort, alloc: Global, text: &str) {
+    let heap = Refusing::new(alloc);
     let mut last = 1;
     for nth in 1..MOST {
         heap.refuse(nth);
-        let fault = assemble(&heap, "type 600000\n\nbody 0b").err();
+        let fault = assemble(&heap, text).err();
         if heap.is_waiting() {
-            check_that(&rt, fault.is_none());
+            check_that(rt, fault.is_none());
             // The sections are written after the last line.
-            check_that(&rt, last == 0);
+            check_that(rt, last == 0);
             return;
         }
-        last = check_fault(&rt, last, fault);
+        last = check_fault(rt, last, fault);
     }
     panic!(rt; "no call was granted")
+}
+
+#[test]
+fn each_request_refused(rt: HostRuntime) {
+    check_recipe(&rt, rt.alloc(), "type 600000\n\nbody 0b");
+    check_recipe(&rt, rt.alloc(), "global -1\n\ndata 8 6869");
 }
 
 /// What the program answered and wrote: the module, where it answered 0.

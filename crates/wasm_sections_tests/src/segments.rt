@@ -46,10 +46,7 @@ fn check_segment(
     mode: DataSegmentMode<'_>,
     expected: &[u8],
 ) -> Result<(), Fail> {
-    let segment = DataSegment {
-        mode,
-        bytes: [7u8],
-    };
+    let segment = DataSegment { mode, bytes: [7u8] };
     let mut section = DataSection::new(alloc);
     section.segment(segment.clone()?)?;
     check(rt, alloc, &section, 11, expected)?;
@@ -133,10 +130,22 @@ fn active_expressions(rt: HostRuntime) -> Result<(), Fail> {
     let short = [6, 1, 4, 65, 0, 11, 0];
     check_active(&rt, alloc, None, no_expressions(RefType::FUNCREF), &short)?;
     let named = [8, 1, 6, 0, 65, 0, 11, 112, 0];
-    check_active(&rt, alloc, Some(0), no_expressions(RefType::FUNCREF), &named)?;
+    check_active(
+        &rt,
+        alloc,
+        Some(0),
+        no_expressions(RefType::FUNCREF),
+        &named,
+    )?;
     let external = [8, 1, 6, 0, 65, 0, 11, 111, 0];
     for table in [None, Some(0)] {
-        check_active(&rt, alloc, table, no_expressions(RefType::EXTERNREF), &external)?;
+        check_active(
+            &rt,
+            alloc,
+            table,
+            no_expressions(RefType::EXTERNREF),
+            &external,
+        )?;
     }
     Ok(())
 }
@@ -154,10 +163,7 @@ fn expressions_without_null(rt: HostRuntime) -> Result<(), Fail> {
 
 /// A passive or declared segment of the function 7.
 fn seventh(alloc: Global) -> R<Elements<'static>> {
-    Ok(Elements::Functions(CowSlice::Owned(Vec::from_slice(
-        alloc,
-        &[7],
-    )?)))
+    Ok(Elements::Functions(CowSlice::Owned(Vec::from_slice(alloc, &[7])?)))
 }
 
 #[test]

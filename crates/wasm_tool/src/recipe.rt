@@ -1,5 +1,5 @@
 // Recipes: from lines of text to a module.
-ghost use Rattle.std.specs.Prelude.{◌≡◌, ◌≢◌, ◌⊎◌, ◌++◌, ◌∷◌, [], All, IfOk, IfErr, IsErr, OnOk, MatchResult, Some, None, length};
+ghost use Rattle.std.specs.Prelude.{get_or, ◌≡◌, ◌≢◌, ◌⊎◌, ◌++◌, ◌∷◌, [], All, IfOk, IfErr, IsErr, OnOk, MatchResult, Some, None, length};
 ghost use Rattle.std.specs.Str.Lines.{strip_carriage_return};
 ghost use Rattle.hex.specs.Hex.{decode_of};
 ghost use Rattle.wasm_base.specs.Calls.{Adds};
@@ -68,15 +68,21 @@ fn hex_bytes<A: Allocator>(alloc: A, word: &str) -> Result<Vec<u8, A>, RecipeCau
     })
 }
 
+/// The word, unless it begins with a plus sign: `parse` takes one, and a number of a recipe has none.
+fn numeral(word: &str) -> Result<&str, RecipeCause>
+    ensures { MatchResult result (λ same. (same.now ≡ word.now) × (get_or word.now 0 0 ≢ 43)) (λ cause. (cause ≡ RecipeCause.BadNumber) × (get_or word.now 0 0 ≡ 43)) }
+{
+    if word.starts_with('+') {
+        return Err(RecipeCause::BadNumber);
+    }
+    Ok(word)
+}
+
 /// The number that a word of decimal digits spells.
 fn number(word: &str) -> Result<u64, RecipeCause>
     ensures { MatchResult result (λ n. number_of 64 word.now ≡ Some n) (λ cause. (cause ≡ RecipeCause.BadNumber) × (number_of 64 word.now ≡ None)) }
 {
-    // `parse` takes a plus sign, which a number of a recipe lacks.
-    if word.starts_with('+') {
-        return Err(RecipeCause::BadNumber);
-    }
-    let Ok(n) = word.parse() else {
+    let Ok(n) = numeral(word)?.parse() else {
         return Err(RecipeCause::BadNumber);
     };
     Ok(n)
@@ -96,14 +102,10 @@ fn index(word: &str) -> Result<u32, RecipeCause>
 fn signed(word: &str) -> Result<i32, RecipeCause>
     ensures { MatchResult result (λ n. signed_of word.now ≡ Some n) (λ cause. (cause ≡ RecipeCause.BadNumber) × (signed_of word.now ≡ None)) }
 {
-    // `parse` takes a plus sign, which a number of a recipe lacks.
-    if word.starts_with('+') {
-        return Err(RecipeCause::BadNumber);
-    }
-    let Ok(n) = word.parse() else {
+    let Ok(value) = numeral(word)?.parse() else {
         return Err(RecipeCause::BadNumber);
     };
-    Ok(n)
+    Ok(value)
 }
 
 /// What a word names that can be exported.

@@ -1,18 +1,19 @@
-use Rattle.std.proofs.Common.{◌≢◌, Ok, Err, lit<, refl, get_or, arith}
+use Rattle.std.proofs.Common.{Ok, Err, refl, subst, arith}
 use Rattle.std.proofs.lemmas.Int.{to_z-of_z}
-use Rattle.std.proofs.lemmas.Str.Pattern.{starts_char}
+use Rattle.std.specs.Str.Parse.{ParsesSigned}
+use mir.Syntax.{w32}
 use Rattle.wasm_tool.proofs.NumberLemmas.{signed_of-parse}
 use Rattle.wasm_tool.proofs.recipe.signed.Goals as goal
 
 pub returns-in_default : goal.returns-in_default
 returns-in_default c =
-    let tells = starts_char 43 c.args.word.now c.starts_with.result c.starts_with.ensures.cases (lit< tt) (lit< tt) in
-    let plain : get_or c.args.word.now 0 0 ≢ 43 = λ e. let yes = tells.1 e in let no = c.if-starts_with.false in cc in
-    (refl, signed_of-parse c.args.word.now (Err c.in_default.field-0) c.in_default.ensures.value.0 plain)
+    let same = c.in_ok-numeral.ensures in
+    let parsed = subst (λ word. ParsesSigned w32 10 word (Err c.in_default.field-0)) same.0 c.in_default.ensures.value.0 in
+    (refl, signed_of-parse c.args.word.now (Err c.in_default.field-0) parsed same.1)
 
 pub returns : goal.returns
 returns c =
-    let tells = starts_char 43 c.args.word.now c.starts_with.result c.starts_with.ensures.cases (lit< tt) (lit< tt) in
-    let plain : get_or c.args.word.now 0 0 ≢ 43 = λ e. let yes = tells.1 e in let no = c.if-starts_with.false in cc in
-    let parsed = signed_of-parse {E = Unit {0}} c.args.word.now (Ok c.in-Ok.n) c.in-Ok.ensures.value.0 plain in
-    grind (arith, to_z-of_z, parsed)
+    let same = c.in_ok-numeral.ensures in
+    let parsed = subst (λ word. ParsesSigned {E = Unit {0}} w32 10 word (Ok c.in-Ok.value)) same.0 c.in-Ok.ensures.value.0 in
+    let said = signed_of-parse {E = Unit {0}} c.args.word.now (Ok c.in-Ok.value) parsed same.1 in
+    grind (arith, to_z-of_z, said)
