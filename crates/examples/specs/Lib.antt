@@ -1,3 +1,4 @@
 pub mod Bodies
 pub mod Whole
 pub mod Filled
+pub mod Named

@@ -4,11 +4,13 @@
 mod alone;
 mod filled;
 mod first;
+mod names;
 mod recursion;
 mod whole;
 
 pub use alone::{encode_exports, encode_group, encode_import, encode_local, encode_reference};
 pub use filled::filled_module;
 pub use first::first_module;
+pub use names::named_module;
 pub use recursion::{choice, factorial};
 pub use whole::whole_module;

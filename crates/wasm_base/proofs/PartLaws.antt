@@ -1,10 +1,10 @@
 -- What parts spell, one after another.
 use Rattle.std.proofs.Common.{◌≡◌, ℕ, List, ◌++◌, length, ◌<◌, [], ◌∷◌, Bool, true, false, Option, Some, None, IsUtf8, refl, sym, ap, subst, ◌∙◌, arith, length-append}
 use Rattle.std.specs.Prelude.{IfSome}
-use Rattle.wasm_base.specs.Formats.{Format, u32, byte, name, pair, optional, numbered, vec, members, is_given}
+use Rattle.wasm_base.specs.Formats.{Format, u32, byte, name, pair, tagged, prefixed, optional, numbered, vec, members, is_given}
 use Rattle.wasm_base.specs.Numbers.{Mode, shortest, unsigned_text}
 use Rattle.wasm_base.specs.Texts.{frame_text, FrameFits, optional_text}
-use Rattle.wasm_base.specs.Reading.{UniqueReading}
+use Rattle.wasm_base.specs.Reading.{UniqueReading, BeginsWith}
 use Rattle.wasm_base.proofs.NumberLaws.{u32-alone}
 use Rattle.wasm_base.proofs.NumberTexts.{groups_text-last}
 use Rattle.wasm_base.proofs.TextLaws.{name_spelled, u32_spelled}
@@ -50,3 +50,11 @@ each_spelled (b ∷ bytes) = (b ∷ [], bytes, refl, refl, each_spelled bytes)
 -- The frame of bytes is their vector.
 pub bytes_spelled : (bytes : List ℕ) → FrameFits bytes → vec byte shortest (frame_text bytes) bytes
 bytes_spelled bytes fits = record { front = unsigned_text (length bytes); back = bytes; joined = refl; first = u32_spelled (length bytes) (omega (arith, fits)); second = each_spelled bytes }
+
+-- fixed bytes, and then a value
+pub prefixed_spelled : {X : Type 0} (bytes : List ℕ) (F : Format X) (back : List ℕ) (x : X) → F shortest back x → prefixed bytes F shortest (bytes ++ back) x
+prefixed_spelled bytes F back x h = ((tt, x), refl, record { front = bytes; back = back; joined = refl; first = (refl, refl); second = h })
+
+-- A value behind a tag of one byte is not empty.
+pub tagged_begins : {X : Type 0} {G : ℕ → Format X} → BeginsWith (λ b. Unit {0}) (tagged byte G)
+tagged_begins mode s x h = (h.0.0, h.2.back, h.2.joined ∙ ap (λ z. z ++ h.2.back) h.2.first, tt)

@@ -9,7 +9,7 @@ use Rattle.std.specs.Str.Parse.{ParsesUnsigned, ParsesSigned, digits_value}
 use Rattle.std.proofs.lemmas.Bool.{and_parts, lt-ltb, le-ltb, ltb-true, ltb-false}
 use Rattle.std.proofs.lemmas.Str.Parse.{numerals_by_value, parse_plain, parse_signed_minus, parse_signed_plain, tells_all_ascii_digits}
 use Rattle.wasm_tool.specs.Lines.{is_word}
-use Rattle.wasm_tool.specs.Recipe.{below, number_of, value_of, at_most, signed_of}
+use Rattle.wasm_tool.specs.Recipe.{below, decimal_of, value_of, at_most, signed_of}
 
 is_word-some : (word : List ℕ) → 0 < length word → is_word word ≡ true
 is_word-some [] h = absurd (omega arith)
@@ -27,23 +27,23 @@ none_below : (bits : ℕ) (b : Bool) (n : ℕ) → (b ≡ true → ¬ (nat_lt n 
 none_below bits true n h = none_unless (nat_lt n (2 ^ bits)) n (h refl)
 none_below bits false n h = refl
 
-pub number_of-parse : {E : Type 0} (bits : ℕ) (word : List ℕ) (r : Result ℕ E) → ParsesUnsigned bits 10 word r → get_or word 0 0 ≢ 43
-    → MatchResult r (λ n. number_of bits word ≡ Some n) (λ _. number_of bits word ≡ None)
-number_of-parse {E} bits word (Ok n) parsed plain =
+pub decimal_of-parse : {E : Type 0} (bits : ℕ) (word : List ℕ) (r : Result ℕ E) → ParsesUnsigned bits 10 word r → get_or word 0 0 ≢ 43
+    → MatchResult r (λ n. decimal_of bits word ≡ Some n) (λ _. decimal_of bits word ≡ None)
+decimal_of-parse {E} bits word (Ok n) parsed plain =
     let says = parse_plain (numerals_by_value _ tells_all_ascii_digits) {E = E} bits word (Ok n) parsed plain in
     let word_is = is_word-some word says.0.1 in
     let digits = says.0.0 in
     let low = lt-ltb (digits_value 10 word) (2 ^ bits) says.0.2 in
     rw (word_is, digits, low) (ap Some (sym says.1))
-number_of-parse {E} bits word (Err e) parsed plain =
+decimal_of-parse {E} bits word (Err e) parsed plain =
     let says = parse_plain (numerals_by_value _ tells_all_ascii_digits) {E = E} bits word (Err e) parsed plain in
     none_below bits (is_word word && all_ascii_digits word) (digits_value 10 word) (λ spells low.
     let parts = and_parts (is_word word) (all_ascii_digits word) spells in
     says (parts.1, some_from_is_word word parts.0, ltb-true (digits_value 10 word) (2 ^ bits) low))
 
-pub number_of-plus : (bits : ℕ) (word : List ℕ) → get_or word 0 0 ≡ 43 → number_of bits word ≡ None
-number_of-plus bits [] h = absurd (omega arith)
-number_of-plus bits (c ∷ cs) h = subst (λ d. number_of bits (d ∷ cs) ≡ None) (sym h) refl
+pub decimal_of-plus : (bits : ℕ) (word : List ℕ) → get_or word 0 0 ≡ 43 → decimal_of bits word ≡ None
+decimal_of-plus bits [] h = absurd (omega arith)
+decimal_of-plus bits (c ∷ cs) h = subst (λ d. decimal_of bits (d ∷ cs) ≡ None) (sym h) refl
 
 -- ---- a number of 64 bits as one of 32
 

@@ -11,7 +11,7 @@ use Rattle.wasm_tool.proofs.LineLemmas.{all_lines}
 use Rattle.std.specs.Prelude.{All, IsOk, IsOkAnd, IsErrAnd, IfErr, option_map}
 use Rattle.wasm_tool.specs.declared.fault.RecipeFault.{RecipeFault}
 use Rattle.wasm_base.specs.declared.refused.Refused.{Refused}
-use Rattle.wasm_base.specs.declared.refused.Refused.TheVariants as R
+use Rattle.wasm_base.specs.declared.refused.Refused.TheVariants as refusals
 use Rattle.std.specs.List.{slice_get, flat_map}
 use Rattle.std.proofs.lemmas.List.Elements.{All-nil, All-push, All-head, All-append, filter-append}
 use Rattle.std.proofs.lemmas.List.{map-append}
@@ -26,40 +26,40 @@ use Rattle.wasm_base.specs.Formats.{wasm_module, header}
 use Rattle.wasm_base.specs.Reading.{ReadsWhole}
 use Rattle.wasm_base.specs.Pieces.{SectionFits}
 use Rattle.wasm_base.proofs.ModuleLaws.{module_text-reads}
-use Rattle.wasm_tool.specs.Recipe.{Entry, IsGood, RecipeFits, entries_of, entry_of, items_of, last_of, section_of, start_of, sections_of, recipe_module, lines_before, lines_through}
+use Rattle.wasm_tool.specs.Recipe.{Addition, IsGood, RecipeFits, entries_of, entry_of, added_to, last_of, section_of, start_of, sections_of, recipe_module, lines_before, lines_through}
 use Rattle.wasm_tool.specs.Steps.{AddsEntries, Explains, FitsWith, FitsSections, IsEmpty, Follows, SaysCause, cause_of, listed, replaced, start_items}
 
 -- no line of these has a fault, and the sections have their items
-pub record HoldsItems {A : Type 0} (lines : List (List ℕ)) (recipe : Recipe A) : Type 0 where
+pub record HoldsLines {A : Type 0} (lines : List (List ℕ)) (recipe : Recipe A) : Type 0 where
   pub good : All IsGood lines
-  pub types : recipe.types ≡ items_of 1 (entries_of lines)
-  pub functions : recipe.functions ≡ items_of 3 (entries_of lines)
-  pub memories : recipe.memories ≡ items_of 5 (entries_of lines)
-  pub globals : recipe.globals ≡ items_of 6 (entries_of lines)
-  pub exports : recipe.exports ≡ items_of 7 (entries_of lines)
-  pub start : start_items recipe.start ≡ last_of (items_of 8 (entries_of lines))
-  pub code : recipe.code ≡ items_of 10 (entries_of lines)
-  pub segments : recipe.segments ≡ items_of 11 (entries_of lines)
+  pub types : recipe.types ≡ added_to 1 (entries_of lines)
+  pub functions : recipe.functions ≡ added_to 3 (entries_of lines)
+  pub memories : recipe.memories ≡ added_to 5 (entries_of lines)
+  pub globals : recipe.globals ≡ added_to 6 (entries_of lines)
+  pub exports : recipe.exports ≡ added_to 7 (entries_of lines)
+  pub start : start_items recipe.start ≡ last_of (added_to 8 (entries_of lines))
+  pub code : recipe.code ≡ added_to 10 (entries_of lines)
+  pub segments : recipe.segments ≡ added_to 11 (entries_of lines)
 
-good_line : (line : List ℕ) (entries : List Entry) → entry_of line ≡ Ok entries → IsGood line
+good_line : (line : List ℕ) (entries : List Addition) → entry_of line ≡ Ok entries → IsGood line
 unfolding IsGood
 good_line line entries says = subst IsOk (sym says) refl
 
-items_of-append : (id : ℕ) (xs ys : List Entry) → items_of id (xs ++ ys) ≡ items_of id xs ++ items_of id ys
-items_of-append id xs ys =
+added_to-append : (id : ℕ) (xs ys : List Addition) → added_to id (xs ++ ys) ≡ added_to id xs ++ added_to id ys
+added_to-append id xs ys =
     ap (map (λ entry. entry.item)) (filter-append _ xs ys) ∙ map-append _ (filter _ xs) (filter _ ys)
 
-entries_of-push : (lines : List (List ℕ)) (line : List ℕ) (entries : List Entry) → entry_of line ≡ Ok entries
+entries_of-push : (lines : List (List ℕ)) (line : List ℕ) (entries : List Addition) → entry_of line ≡ Ok entries
     → entries_of (lines ++ line ∷ []) ≡ entries_of lines ++ entries
 entries_of-push lines line entries says = grind (arith, common_steps, says)
 
 -- the items of a section after one more line
-items_of-push : (id : ℕ) (lines : List (List ℕ)) (line : List ℕ) (entries : List Entry) → entry_of line ≡ Ok entries
-    → items_of id (entries_of (lines ++ line ∷ [])) ≡ items_of id (entries_of lines) ++ items_of id entries
-items_of-push id lines line entries says =
-    ap (items_of id) (entries_of-push lines line entries says) ∙ items_of-append id (entries_of lines) entries
+added_to-push : (id : ℕ) (lines : List (List ℕ)) (line : List ℕ) (entries : List Addition) → entry_of line ≡ Ok entries
+    → added_to id (entries_of (lines ++ line ∷ [])) ≡ added_to id (entries_of lines) ++ added_to id entries
+added_to-push id lines line entries says =
+    ap (added_to id) (entries_of-push lines line entries says) ∙ added_to-append id (entries_of lines) entries
 
-pub holds_none : {A : Type 0} (recipe : Recipe A) → IsEmpty recipe → HoldsItems [] recipe
+pub holds_none : {A : Type 0} (recipe : Recipe A) → IsEmpty recipe → HoldsLines [] recipe
 holds_none recipe empty = record {
   good = All-nil IsGood;
   types = empty.types;
@@ -72,10 +72,10 @@ holds_none recipe empty = record {
   segments = empty.segments;
 }
 
-more_items : (id : ℕ) (lines : List (List ℕ)) (line : List ℕ) (entries : List Entry) → entry_of line ≡ Ok entries
-    → {old new : List (List ℕ)} → new ≡ old ++ items_of id entries → old ≡ items_of id (entries_of lines) → new ≡ items_of id (entries_of (lines ++ line ∷ []))
+more_items : (id : ℕ) (lines : List (List ℕ)) (line : List ℕ) (entries : List Addition) → entry_of line ≡ Ok entries
+    → {old new : List (List ℕ)} → new ≡ old ++ added_to id entries → old ≡ added_to id (entries_of lines) → new ≡ added_to id (entries_of (lines ++ line ∷ []))
 more_items id lines line entries says added held =
-    added ∙ ap (λ items. items ++ items_of id entries) held ∙ sym (items_of-push id lines line entries says)
+    added ∙ ap (λ items. items ++ added_to id entries) held ∙ sym (added_to-push id lines line entries says)
 
 -- the last item of two lists
 last_of-after : (xs : List (List ℕ)) (y : List ℕ) (ys : List (List ℕ)) → last_of (y ∷ ys) ≡ last_of (xs ++ y ∷ ys)
@@ -93,8 +93,8 @@ last_of-again (x ∷ []) = refl
 last_of-again (x ∷ y ∷ xs) = last_of-again (y ∷ xs)
 
 -- one more line was read
-holds_more_of : {A : Type 0} (lines : List (List ℕ)) (line : List ℕ) (old new : Recipe A) (entries : List Entry) → HoldsItems lines old
-    → entry_of line ≡ Ok entries → AddsEntries old new entries → HoldsItems (lines ++ line ∷ []) new
+holds_more_of : {A : Type 0} (lines : List (List ℕ)) (line : List ℕ) (old new : Recipe A) (entries : List Addition) → HoldsLines lines old
+    → entry_of line ≡ Ok entries → AddsEntries old new entries → HoldsLines (lines ++ line ∷ []) new
 holds_more_of lines line old new entries holds says adds =
     let more = λ (id : ℕ) (was is : List (List ℕ)). more_items id lines line entries says {old = was} {new = is} in
     record {
@@ -104,8 +104,8 @@ holds_more_of lines line old new entries holds says adds =
       memories = more 5 old.memories new.memories adds.memories holds.memories;
       globals = more 6 old.globals new.globals adds.globals holds.globals;
       exports = more 7 old.exports new.exports adds.exports holds.exports;
-      start = adds.start ∙ ap (λ items. replaced items (items_of 8 entries)) holds.start ∙ replaced-last (items_of 8 (entries_of lines)) (items_of 8 entries)
-          ∙ ap last_of (sym (items_of-push 8 lines line entries says));
+      start = adds.start ∙ ap (λ items. replaced items (added_to 8 entries)) holds.start ∙ replaced-last (added_to 8 (entries_of lines)) (added_to 8 entries)
+          ∙ ap last_of (sym (added_to-push 8 lines line entries says));
       code = more 10 old.code new.code adds.code holds.code;
       segments = more 11 old.segments new.segments adds.segments holds.segments;
     }
@@ -114,17 +114,17 @@ with_value : {T E : Type 0} (r : Result T E) (P : T → Type 0) (Q : Type 0) →
 with_value (Ok x) P Q f h = f x refl h
 with_value (Err e) P Q f h = absurd h
 
-pub holds_more : {A : Type 0} (lines : List (List ℕ)) (line : List ℕ) (old new : Recipe A) → HoldsItems lines old
-    → Follows (entry_of line) old new (Ok tt) → HoldsItems (lines ++ line ∷ []) new
+pub holds_more : {A : Type 0} (lines : List (List ℕ)) (line : List ℕ) (old new : Recipe A) → HoldsLines lines old
+    → Follows (entry_of line) old new (Ok tt) → HoldsLines (lines ++ line ∷ []) new
 holds_more lines line old new holds follows =
-    with_value (entry_of line) (AddsEntries old new) (HoldsItems (lines ++ line ∷ []) new) (λ entries says adds. holds_more_of lines line old new entries holds says adds) follows
+    with_value (entry_of line) (AddsEntries old new) (HoldsLines (lines ++ line ∷ []) new) (λ entries says adds. holds_more_of lines line old new entries holds says adds) follows
 
 -- a module that fits has room for the items of its last line
-fits_with : {A : Type 0} (lines : List (List ℕ)) (line : List ℕ) (old : Recipe A) (entries : List Entry) → HoldsItems lines old
+fits_with : {A : Type 0} (lines : List (List ℕ)) (line : List ℕ) (old : Recipe A) (entries : List Addition) → HoldsLines lines old
     → entry_of line ≡ Ok entries → RecipeFits (entries_of (lines ++ line ∷ [])) → FitsWith old entries
 fits_with lines line old entries holds says fits =
-    let with = λ (id : ℕ) (items : List (List ℕ)) (held : items ≡ items_of id (entries_of lines)).
-    subst SectionFits (items_of-push id lines line entries says ∙ ap (λ xs. xs ++ items_of id entries) (sym held)) in
+    let with = λ (id : ℕ) (items : List (List ℕ)) (held : items ≡ added_to id (entries_of lines)).
+    subst SectionFits (added_to-push id lines line entries says ∙ ap (λ xs. xs ++ added_to id entries) (sym held)) in
     record {
       types = with 1 old.types holds.types fits.types;
       functions = with 3 old.functions holds.functions fits.functions;
@@ -137,9 +137,9 @@ fits_with lines line old entries holds says fits =
 
 -- all lines were read, where no part of the text is left
 pub all_read : {S A : Type 0} {steps : S → Option (Bor (List ℕ)) → S → Type 0} {s t u : S} {recipe : Recipe A} {number : ℕ} {next : Option (Bor (List ℕ))} (text : List ℕ) (parts : List (Bor (List ℕ)))
-    → YieldsList steps (λ part. part.now) s (slice_split (λ b. b == 0x0A) text) → Yields steps s parts t → next ≡ None → steps t next u → number ≡ length parts → HoldsItems (take number (lines_of text)) recipe → HoldsItems (lines_of text) recipe
+    → YieldsList steps (λ part. part.now) s (slice_split (λ b. b == 0x0A) text) → Yields steps s parts t → next ≡ None → steps t next u → number ≡ length parts → HoldsLines (take number (lines_of text)) recipe → HoldsLines (lines_of text) recipe
 all_read {t = t} {u = u} {recipe = recipe} {number = number} {next = next} text parts road so_far none stop count holds =
-    subst (λ lines. HoldsItems lines recipe) (all_lines text number (count ∙ (YieldsList-end road parts t so_far next u none stop).1)) holds
+    subst (λ lines. HoldsLines lines recipe) (all_lines text number (count ∙ (YieldsList-end road parts t so_far next u none stop).1)) holds
 
 not_zero : (n : ℕ) → (n + 1 == 0) ≡ false
 not_zero n = ne_eqb (n + 1) 0 (λ e. omega arith)
@@ -152,7 +152,7 @@ lines_through-next text n = ap (λ b. cond b (lines_of text) (take (n + 1) (line
 
 -- what is known where the line of index `number` is read, whose lines before have no fault
 module _ {A : Type 0} (text : List ℕ) (number : ℕ) (line : List ℕ) (old new : Recipe A)
-    (holds : HoldsItems (take number (lines_of text)) old) (at : slice_get (lines_of text) number ≡ Some line)
+    (holds : HoldsLines (take number (lines_of text)) old) (at : slice_get (lines_of text) number ≡ Some line)
     (next : take (number + 1) (lines_of text) ≡ take number (lines_of text) ++ line ∷ []) (within : number < length (lines_of text)) where
   through : lines_through (number + 1) text ≡ take number (lines_of text) ++ line ∷ []
   through = lines_through-next text number ∙ next
@@ -169,7 +169,7 @@ module _ {A : Type 0} (text : List ℕ) (number : ℕ) (line : List ℕ) (old ne
       let index : number + 1 - 1 ≡ number = omega arith in
       (omega arith, ap (λ k. option_map (λ l. entry_of l) (slice_get (lines_of text) k)) index ∙ ap (option_map (λ l. entry_of l)) at ∙ ap Some says)
 
-  too_long : (entries : List Entry) → entry_of line ≡ Ok entries → ¬ (FitsWith old entries) → SaysCause text (number + 1) TooLong
+  too_long : (entries : List Addition) → entry_of line ≡ Ok entries → ¬ (FitsWith old entries) → SaysCause text (number + 1) TooLong
   too_long entries says full = (
     subst (All IsGood) (sym through) (All-push IsGood (take number (lines_of text)) line holds.good (good_line line entries says)),
     λ fits. full (fits_with (take number (lines_of text)) line old entries holds says (subst (λ lines. RecipeFits (entries_of lines)) through fits)),
@@ -187,7 +187,7 @@ module _ {A : Type 0} (text : List ℕ) (number : ℕ) (line : List ℕ) (old ne
 
 -- ---- once all lines are read
 
-sections_fit : {A : Type 0} (lines : List (List ℕ)) (recipe : Recipe A) → HoldsItems lines recipe → RecipeFits (entries_of lines) → FitsSections recipe
+sections_fit : {A : Type 0} (lines : List (List ℕ)) (recipe : Recipe A) → HoldsLines lines recipe → RecipeFits (entries_of lines) → FitsSections recipe
 sections_fit lines recipe holds fits = record {
   types = subst SectionFits (sym holds.types) fits.types;
   functions = subst SectionFits (sym holds.functions) fits.functions;
@@ -199,7 +199,7 @@ sections_fit lines recipe holds fits = record {
   segments = subst SectionFits (sym holds.segments) fits.segments;
 }
 
-pub recipe_fits : {A : Type 0} (lines : List (List ℕ)) (recipe : Recipe A) → HoldsItems lines recipe → FitsSections recipe → RecipeFits (entries_of lines)
+pub recipe_fits : {A : Type 0} (lines : List (List ℕ)) (recipe : Recipe A) → HoldsLines lines recipe → FitsSections recipe → RecipeFits (entries_of lines)
 recipe_fits lines recipe holds fits = record {
   types = subst SectionFits holds.types fits.types;
   functions = subst SectionFits holds.functions fits.functions;
@@ -211,17 +211,17 @@ recipe_fits lines recipe holds fits = record {
   segments = subst SectionFits holds.segments fits.segments;
 }
 
-explains_at_end : {A : Type 0} (text : List ℕ) (recipe : Recipe A) (refused : Refused) → HoldsItems (lines_of text) recipe
-    → (refused ≡ R.TooLong → ¬ (FitsSections recipe)) → Explains text 0 (cause_of refused)
+explains_at_end : {A : Type 0} (text : List ℕ) (recipe : Recipe A) (refused : Refused) → HoldsLines (lines_of text) recipe
+    → (refused ≡ refusals.TooLong → ¬ (FitsSections recipe)) → Explains text 0 (cause_of refused)
 explains_at_end text recipe refused holds full = record { within = omega arith; before = holds.good; says = says refused full }
   where
-    says : (refused : Refused) → (refused ≡ R.TooLong → ¬ (FitsSections recipe)) → SaysCause text 0 (cause_of refused)
-    says R.Memory full = tt
-    says R.TooLong full = (holds.good, λ fits. full refl (sections_fit (lines_of text) recipe holds fits))
+    says : (refused : Refused) → (refused ≡ refusals.TooLong → ¬ (FitsSections recipe)) → SaysCause text 0 (cause_of refused)
+    says refusals.Memory full = tt
+    says refusals.TooLong full = (holds.good, λ fits. full refl (sections_fit (lines_of text) recipe holds fits))
 
 -- a refusal after the last line, made a fault
-pub refused_at_end : {X A : Type 0} (text : List ℕ) (recipe : Recipe A) (refused : Refused) (result : Result X RecipeFault) → HoldsItems (lines_of text) recipe
-    → (refused ≡ R.TooLong → ¬ (FitsSections recipe))
+pub refused_at_end : {X A : Type 0} (text : List ℕ) (recipe : Recipe A) (refused : Refused) (result : Result X RecipeFault) → HoldsLines (lines_of text) recipe
+    → (refused ≡ refusals.TooLong → ¬ (FitsSections recipe))
     → IsErrAnd result (λ fault. (fault.line ≡ 0) × (fault.cause ≡ cause_of refused)) → IfErr result (λ fault. Explains text fault.line fault.cause)
 refused_at_end text recipe refused (Ok x) holds full made = absurd made
 refused_at_end text recipe refused (Err fault) holds full made =
@@ -229,13 +229,13 @@ refused_at_end text recipe refused (Err fault) holds full made =
     rw (made.0, made.1) at_zero
 
 -- the module of the sections is that of the entries
-pub listed-holds : {A : Type 0} (lines : List (List ℕ)) (recipe : Recipe A) → HoldsItems lines recipe → listed recipe ≡ sections_of (entries_of lines)
+pub listed-holds : {A : Type 0} (lines : List (List ℕ)) (recipe : Recipe A) → HoldsLines lines recipe → listed recipe ≡ sections_of (entries_of lines)
 listed-holds lines recipe holds =
-    let start : start_of (start_items recipe.start) ≡ start_of (items_of 8 (entries_of lines)) =
-    ap (λ items. map (λ item. (8, item)) items) (ap last_of holds.start ∙ last_of-again (items_of 8 (entries_of lines))) in
+    let start : start_of (start_items recipe.start) ≡ start_of (added_to 8 (entries_of lines)) =
+    ap (λ items. map (λ item. (8, item)) items) (ap last_of holds.start ∙ last_of-again (added_to 8 (entries_of lines))) in
     rw (holds.types, holds.functions, holds.memories, holds.globals, holds.exports, holds.code, holds.segments, start) refl
 
-pub module_text-holds : {A : Type 0} (lines : List (List ℕ)) (recipe : Recipe A) → HoldsItems lines recipe → module_text (listed recipe) ≡ recipe_module (entries_of lines)
+pub module_text-holds : {A : Type 0} (lines : List (List ℕ)) (recipe : Recipe A) → HoldsLines lines recipe → module_text (listed recipe) ≡ recipe_module (entries_of lines)
 unfolding recipe_module
 module_text-holds lines recipe holds = ap module_text (listed-holds lines recipe holds)
 
@@ -255,7 +255,7 @@ listed-fits recipe fits =
     more _ _ (more _ _ (more _ _ before_start (start_of-fits recipe.start fits.start)) (section_of-fits 10 recipe.code fits.code)) (section_of-fits 11 recipe.segments fits.segments)
 
 -- and is read as these sections alone
-pub module_reads : {A : Type 0} (lines : List (List ℕ)) (recipe : Recipe A) (bytes : List ℕ) → HoldsItems lines recipe → FitsSections recipe → bytes ≡ module_text (listed recipe)
+pub module_reads : {A : Type 0} (lines : List (List ℕ)) (recipe : Recipe A) (bytes : List ℕ) → HoldsLines lines recipe → FitsSections recipe → bytes ≡ module_text (listed recipe)
     → ReadsWhole wasm_module bytes (sections_of (entries_of lines))
 module_reads lines recipe bytes holds fits is =
     subst (λ sections. ReadsWhole wasm_module bytes sections) (listed-holds lines recipe holds)

@@ -26,18 +26,18 @@ use Rattle.wasm_tool.specs.declared.fault.RecipeCause.TheVariants.{UnknownComman
 use Rattle.wasm_tool.specs.Lines.{is_word, lines_of, rest_of, words_of}
 
 -- an item, and the id of the section that it is added to
-pub record Entry : Type 0 where
+pub record Addition : Type 0 where
   pub section : ℕ
   pub item : List ℕ
 
 -- ---- lines
 
 -- the one entry of a line
-abbrev pub adds : ℕ → List ℕ → Result (List Entry) RecipeCause
+abbrev pub adds : ℕ → List ℕ → Result (List Addition) RecipeCause
 adds section item = Ok (record { section = section; item = item } ∷ [])
 
 -- what the bytes of a word of hexadecimal digits make, or the fault of a word that is none
-abbrev pub from_hex : {E : Type 0} → Result (List ℕ) E → (List ℕ → Result (List Entry) RecipeCause) → Result (List Entry) RecipeCause
+abbrev pub from_hex : {E : Type 0} → Result (List ℕ) E → (List ℕ → Result (List Addition) RecipeCause) → Result (List Addition) RecipeCause
 from_hex (Ok bytes) make = make bytes
 from_hex (Err e) make = Err BadHex
 
@@ -51,11 +51,11 @@ below bits None = None
 below bits (Some n) = if nat_lt n (2 ^ bits) then Some n else None
 
 -- the number of so many bits that a word of decimal digits spells
-abbrev pub number_of : ℕ → List ℕ → Option ℕ
-number_of bits word = below bits (value_of word)
+abbrev pub decimal_of : ℕ → List ℕ → Option ℕ
+decimal_of bits word = below bits (value_of word)
 
 -- what a number makes, or the fault of a word that is none
-abbrev pub from_number : Option ℕ → (ℕ → Result (List Entry) RecipeCause) → Result (List Entry) RecipeCause
+abbrev pub from_number : Option ℕ → (ℕ → Result (List Addition) RecipeCause) → Result (List Addition) RecipeCause
 from_number (Some n) make = make n
 from_number None make = Err BadNumber
 
@@ -70,33 +70,33 @@ signed_of [] = None
 signed_of (c ∷ cs) = if c == 0x2D then option_map (λ n. neg_ℤ (pos n)) (at_most (2 ^ 31) (value_of cs)) else option_map pos (at_most (2 ^ 31 - 1) (value_of (c ∷ cs)))
 
 -- what a signed number makes, or the fault of a word that is none
-abbrev pub from_signed : Option ℤ → (ℤ → Result (List Entry) RecipeCause) → Result (List Entry) RecipeCause
+abbrev pub from_signed : Option ℤ → (ℤ → Result (List Addition) RecipeCause) → Result (List Addition) RecipeCause
 from_signed (Some z) make = make z
 from_signed None make = Err BadNumber
 
 -- `type HEX`: an entry of the type section
-abbrev pub type_entry : List (List ℕ) → Result (List Entry) RecipeCause
+abbrev pub type_entry : List (List ℕ) → Result (List Addition) RecipeCause
 type_entry [] = Err MissingWord
 type_entry (hex ∷ more) = from_hex (decode_of hex) (λ bytes. adds 1 bytes)
 
 -- `body HEX`: a function without locals, in the code section
-abbrev pub body_entry : List (List ℕ) → Result (List Entry) RecipeCause
+abbrev pub body_entry : List (List ℕ) → Result (List Addition) RecipeCause
 body_entry [] = Err MissingWord
 body_entry (hex ∷ more) = from_hex (decode_of hex) (λ bytes. adds 10 (frame_text (0x00 ∷ bytes)))
 
 -- `func N`: a function of this type
-abbrev pub function_entry : List (List ℕ) → Result (List Entry) RecipeCause
+abbrev pub function_entry : List (List ℕ) → Result (List Addition) RecipeCause
 function_entry [] = Err MissingWord
-function_entry (index ∷ more) = from_number (number_of 32 index) (λ n. adds 3 (unsigned_text n))
+function_entry (index ∷ more) = from_number (decimal_of 32 index) (λ n. adds 3 (unsigned_text n))
 
 -- a memory of so many pages, and no other limits
 abbrev pub memory_of_size : ℕ → MemoryType
 memory_of_size minimum = record { minimum = minimum; maximum = None; memory64 = false; shared = false; page_size_log2 = None }
 
 -- `memory MIN`: a memory of this minimum
-abbrev pub memory_entry : List (List ℕ) → Result (List Entry) RecipeCause
+abbrev pub memory_entry : List (List ℕ) → Result (List Addition) RecipeCause
 memory_entry [] = Err MissingWord
-memory_entry (size ∷ more) = from_number (number_of 64 size) (λ n. adds 5 (memory_text (memory_of_size n)))
+memory_entry (size ∷ more) = from_number (decimal_of 64 size) (λ n. adds 5 (memory_text (memory_of_size n)))
 
 -- the stored bytes of an expression that computes this number
 abbrev pub constant_bytes : ℤ → List ℕ
@@ -107,12 +107,12 @@ abbrev pub constant_type : GlobalType
 constant_type = record { val_type = I32; mutable = false; shared = false }
 
 -- `global I`: a global of this value
-abbrev pub global_entry : List (List ℕ) → Result (List Entry) RecipeCause
+abbrev pub global_entry : List (List ℕ) → Result (List Addition) RecipeCause
 global_entry [] = Err MissingWord
 global_entry (value ∷ more) = from_signed (signed_of value) (λ z. adds 6 (global_text constant_type ++ expression_text (constant_bytes z)))
 
 -- `data I HEX`: bytes at this place of memory 0
-abbrev pub data_entry : List (List ℕ) → Result (List Entry) RecipeCause
+abbrev pub data_entry : List (List ℕ) → Result (List Addition) RecipeCause
 data_entry (place ∷ hex ∷ more) = from_signed (signed_of place) (λ z. from_hex (decode_of hex) (λ bytes. adds 11 (active_text 0 (constant_bytes z) bytes)))
 data_entry words = Err MissingWord
 
@@ -127,23 +127,23 @@ kind_of word =
     else None
 
 -- what a kind makes, or the fault of a word that is none
-abbrev pub from_kind : Option ExportKind → (ExportKind → Result (List Entry) RecipeCause) → Result (List Entry) RecipeCause
+abbrev pub from_kind : Option ExportKind → (ExportKind → Result (List Addition) RecipeCause) → Result (List Addition) RecipeCause
 from_kind (Some kind) make = make kind
 from_kind None make = Err UnknownCommand
 
 -- `export NAME KIND N`: an export
-abbrev pub export_entry : List (List ℕ) → Result (List Entry) RecipeCause
+abbrev pub export_entry : List (List ℕ) → Result (List Addition) RecipeCause
 export_entry (name ∷ kind ∷ index ∷ more) =
-    from_kind (kind_of kind) (λ k. from_number (number_of 32 index) (λ n. adds 7 (frame_text name ++ (kind_code k ∷ [] ++ unsigned_text n))))
+    from_kind (kind_of kind) (λ k. from_number (decimal_of 32 index) (λ n. adds 7 (frame_text name ++ (kind_code k ∷ [] ++ unsigned_text n))))
 export_entry words = Err MissingWord
 
 -- `start N`: the function that the module runs when it is instantiated
-abbrev pub start_entry : List (List ℕ) → Result (List Entry) RecipeCause
+abbrev pub start_entry : List (List ℕ) → Result (List Addition) RecipeCause
 start_entry [] = Err MissingWord
-start_entry (index ∷ more) = from_number (number_of 32 index) (λ n. adds 8 (unsigned_text n))
+start_entry (index ∷ more) = from_number (decimal_of 32 index) (λ n. adds 8 (unsigned_text n))
 
 -- the entry of a line of these words, if it has any, or its fault; what follows the first word is also given as text
-abbrev pub entry_of_words : List (List ℕ) → List ℕ → Result (List Entry) RecipeCause
+abbrev pub entry_of_words : List (List ℕ) → List ℕ → Result (List Addition) RecipeCause
 entry_of_words [] rest = Ok []
 entry_of_words (command ∷ words) rest =
     if bytes_eq command (codes "type") then type_entry words
@@ -157,7 +157,7 @@ entry_of_words (command ∷ words) rest =
     else Err UnknownCommand
 
 -- the entry of a line, if it has any, or its fault
-abbrev pub entry_of : List ℕ → Result (List Entry) RecipeCause
+abbrev pub entry_of : List ℕ → Result (List Addition) RecipeCause
 entry_of line = entry_of_words (words_of line) (rest_of line)
 
 -- a line without a fault
@@ -165,14 +165,14 @@ unfoldable pub IsGood : List ℕ → Type 0
 IsGood line = IsOk (entry_of line)
 
 -- the entries of some lines
-abbrev pub entries_of : List (List ℕ) → List Entry
+abbrev pub entries_of : List (List ℕ) → List Addition
 entries_of lines = flat_map (λ line. result_unwrap_or (entry_of line) []) lines
 
 -- ---- sections
 
 -- the items that the entries add to a section
-abbrev pub items_of : ℕ → List Entry → List (List ℕ)
-items_of id entries = map (λ entry. entry.item) (filter (λ entry. entry.section == id) entries)
+abbrev pub added_to : ℕ → List Addition → List (List ℕ)
+added_to id entries = map (λ entry. entry.item) (filter (λ entry. entry.section == id) entries)
 
 -- a section of some items as its id and its payload, which is there where it has any
 abbrev pub section_of : ℕ → List (List ℕ) → List (ℕ × List ℕ)
@@ -195,24 +195,24 @@ in_order types functions memories globals exports start code segments =
     ((((((section_of 1 types ++ section_of 3 functions) ++ section_of 5 memories) ++ section_of 6 globals) ++ section_of 7 exports) ++ start_of start) ++ section_of 10 code) ++ section_of 11 segments
 
 -- the sections of some entries
-abbrev pub sections_of : List Entry → List (ℕ × List ℕ)
+abbrev pub sections_of : List Addition → List (ℕ × List ℕ)
 sections_of entries =
-    in_order (items_of 1 entries) (items_of 3 entries) (items_of 5 entries) (items_of 6 entries) (items_of 7 entries) (items_of 8 entries) (items_of 10 entries) (items_of 11 entries)
+    in_order (added_to 1 entries) (added_to 3 entries) (added_to 5 entries) (added_to 6 entries) (added_to 7 entries) (added_to 8 entries) (added_to 10 entries) (added_to 11 entries)
 
 -- the module of some entries
-unfoldable pub recipe_module : List Entry → List ℕ
+unfoldable pub recipe_module : List Addition → List ℕ
 recipe_module entries = module_text (sections_of entries)
 
 -- Every count and size that this module needs can be spelled.
-pub record RecipeFits (entries : List Entry) : Type 0 where
-  pub types : SectionFits (items_of 1 entries)
-  pub functions : SectionFits (items_of 3 entries)
-  pub memories : SectionFits (items_of 5 entries)
-  pub globals : SectionFits (items_of 6 entries)
-  pub exports : SectionFits (items_of 7 entries)
-  pub start : All FrameFits (last_of (items_of 8 entries))
-  pub code : SectionFits (items_of 10 entries)
-  pub segments : SectionFits (items_of 11 entries)
+pub record RecipeFits (entries : List Addition) : Type 0 where
+  pub types : SectionFits (added_to 1 entries)
+  pub functions : SectionFits (added_to 3 entries)
+  pub memories : SectionFits (added_to 5 entries)
+  pub globals : SectionFits (added_to 6 entries)
+  pub exports : SectionFits (added_to 7 entries)
+  pub start : All FrameFits (last_of (added_to 8 entries))
+  pub code : SectionFits (added_to 10 entries)
+  pub segments : SectionFits (added_to 11 entries)
 
 -- ---- the lines about a fault, which is of a line counted from 1, or of all lines for 0
 

@@ -10,7 +10,7 @@ use Rattle.wasm_tool.specs.declared.fault.RecipeCause.{RecipeCause}
 use Rattle.wasm_tool.specs.declared.fault.RecipeCause.TheVariants.{Memory, TooLong}
 use Rattle.wasm_tool.specs.declared.recipe.Recipe.{Recipe}
 use Rattle.wasm_tool.specs.Lines.{lines_of}
-use Rattle.wasm_tool.specs.Recipe.{Entry, IsGood, RecipeFits, entries_of, entry_of, in_order, items_of, last_of, lines_before, lines_through}
+use Rattle.wasm_tool.specs.Recipe.{Addition, IsGood, RecipeFits, entries_of, entry_of, in_order, added_to, last_of, lines_before, lines_through}
 
 -- ---- lines
 
@@ -25,25 +25,25 @@ replaced old [] = old
 replaced old (item ∷ items) = last_of (item ∷ items)
 
 -- The recipe has the old items and those of the entries.
-pub record AddsEntries {A : Type 0} (old new : Recipe A) (entries : List Entry) : Type 0 where
-  pub types : new.types ≡ old.types ++ items_of 1 entries
-  pub functions : new.functions ≡ old.functions ++ items_of 3 entries
-  pub memories : new.memories ≡ old.memories ++ items_of 5 entries
-  pub globals : new.globals ≡ old.globals ++ items_of 6 entries
-  pub exports : new.exports ≡ old.exports ++ items_of 7 entries
-  pub start : start_items new.start ≡ replaced (start_items old.start) (items_of 8 entries)
-  pub code : new.code ≡ old.code ++ items_of 10 entries
-  pub segments : new.segments ≡ old.segments ++ items_of 11 entries
+pub record AddsEntries {A : Type 0} (old new : Recipe A) (entries : List Addition) : Type 0 where
+  pub types : new.types ≡ old.types ++ added_to 1 entries
+  pub functions : new.functions ≡ old.functions ++ added_to 3 entries
+  pub memories : new.memories ≡ old.memories ++ added_to 5 entries
+  pub globals : new.globals ≡ old.globals ++ added_to 6 entries
+  pub exports : new.exports ≡ old.exports ++ added_to 7 entries
+  pub start : start_items new.start ≡ replaced (start_items old.start) (added_to 8 entries)
+  pub code : new.code ≡ old.code ++ added_to 10 entries
+  pub segments : new.segments ≡ old.segments ++ added_to 11 entries
 
 -- The old items and those of the entries fit their sections.
-pub record FitsWith {A : Type 0} (old : Recipe A) (entries : List Entry) : Type 0 where
-  pub types : SectionFits (old.types ++ items_of 1 entries)
-  pub functions : SectionFits (old.functions ++ items_of 3 entries)
-  pub memories : SectionFits (old.memories ++ items_of 5 entries)
-  pub globals : SectionFits (old.globals ++ items_of 6 entries)
-  pub exports : SectionFits (old.exports ++ items_of 7 entries)
-  pub code : SectionFits (old.code ++ items_of 10 entries)
-  pub segments : SectionFits (old.segments ++ items_of 11 entries)
+pub record FitsWith {A : Type 0} (old : Recipe A) (entries : List Addition) : Type 0 where
+  pub types : SectionFits (old.types ++ added_to 1 entries)
+  pub functions : SectionFits (old.functions ++ added_to 3 entries)
+  pub memories : SectionFits (old.memories ++ added_to 5 entries)
+  pub globals : SectionFits (old.globals ++ added_to 6 entries)
+  pub exports : SectionFits (old.exports ++ added_to 7 entries)
+  pub code : SectionFits (old.code ++ added_to 10 entries)
+  pub segments : SectionFits (old.segments ++ added_to 11 entries)
 
 -- No section has an item.
 pub record IsEmpty {A : Type 0} (recipe : Recipe A) : Type 0 where
@@ -72,7 +72,7 @@ abbrev pub listed : {A : Type 0} → Recipe A → List (ℕ × List ℕ)
 listed recipe = in_order recipe.types recipe.functions recipe.memories recipe.globals recipe.exports (start_items recipe.start) recipe.code recipe.segments
 
 -- What a call that reads a line answers and leaves, where the line says `said`.
-abbrev pub Follows : {A : Type 0} → Result (List Entry) RecipeCause → Recipe A → Recipe A → Result (Unit {0}) RecipeCause → Type 0
+abbrev pub Follows : {A : Type 0} → Result (List Addition) RecipeCause → Recipe A → Recipe A → Result (Unit {0}) RecipeCause → Type 0
 Follows said old new (Ok done) = IsOkAnd said (AddsEntries old new)
 Follows said old new (Err Memory) = ⊤
 Follows said old new (Err TooLong) = IsOkAnd said (λ entries. ¬ (FitsWith old entries))

@@ -21,7 +21,7 @@ ghost use Rattle.wasm_tool.specs.Recipe.{
   body_entry,
   data_entry,
   kind_of,
-  number_of,
+  decimal_of,
   signed_of,
   IsGood,
   entries_of,
@@ -80,7 +80,7 @@ fn numeral(word: &str) -> Result<&str, RecipeCause>
 
 /// The number that a word of decimal digits spells.
 fn number(word: &str) -> Result<u64, RecipeCause>
-    ensures { MatchResult result (λ n. number_of 64 word.now ≡ Some n) (λ cause. (cause ≡ RecipeCause.BadNumber) × (number_of 64 word.now ≡ None)) }
+    ensures { MatchResult result (λ n. decimal_of 64 word.now ≡ Some n) (λ cause. (cause ≡ RecipeCause.BadNumber) × (decimal_of 64 word.now ≡ None)) }
 {
     let Ok(n) = numeral(word)?.parse() else {
         return Err(RecipeCause::BadNumber);
@@ -90,7 +90,7 @@ fn number(word: &str) -> Result<u64, RecipeCause>
 
 /// The number of 32 bits that a word of decimal digits spells.
 fn index(word: &str) -> Result<u32, RecipeCause>
-    ensures { MatchResult result (λ n. number_of 32 word.now ≡ Some n) (λ cause. (cause ≡ RecipeCause.BadNumber) × (number_of 32 word.now ≡ None)) }
+    ensures { MatchResult result (λ n. decimal_of 32 word.now ≡ Some n) (λ cause. (cause ≡ RecipeCause.BadNumber) × (decimal_of 32 word.now ≡ None)) }
 {
     let Ok(n) = u32::try_from(number(word)?) else {
         return Err(RecipeCause::BadNumber);

@@ -4,7 +4,7 @@ use Rattle.std.proofs.lemmas.Iterator.Consumers.{YieldsList-at, YieldsList-turn}
 use Rattle.std.proofs.lemmas.Iterator.Splits.{YieldsList-from_str_split}
 use Rattle.wasm_tool.specs.Lines.{lines_of}
 use Rattle.wasm_tool.proofs.LineLemmas.{line_at, one_more_line, part_at, within}
-use Rattle.wasm_tool.proofs.RecipeLemmas.{HoldsItems, explains, holds_more, module_reads, module_text-holds, recipe_fits, refused_at_end, all_read}
+use Rattle.wasm_tool.proofs.RecipeLemmas.{HoldsLines, explains, holds_more, module_reads, module_text-holds, recipe_fits, refused_at_end, all_read}
 use Rattle.wasm_tool.proofs.recipe.assemble.Goals as goal
 
 pub returns-in-Err-clause-fault : goal.returns-in-Err-clause-fault
@@ -24,7 +24,7 @@ loop-line-preserved g c =
     record {
       steps = (tt, tt);
       number = grind (arith, common_steps, c.loop-line.invariant.number);
-      holds = subst (λ lines. HoldsItems lines c.read_line.new.self) (sym (one_more_line found c.without_return.ensures)) more;
+      holds = subst (λ lines. HoldsLines lines c.read_line.new.self) (sym (one_more_line found c.without_return.ensures)) more;
     }
 
 pub returns-clause-good : goal.returns-clause-good

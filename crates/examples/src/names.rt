@@ -1,0 +1,51 @@
+// A module with names for debuggers.
+ghost use Rattle.std.specs.Prelude.{[], ◌∷◌, IfOk};
+ghost use Rattle.wasm_base.specs.Modules.{ReadsSections};
+ghost use Rattle.wasm_code.specs.Code.{SpellsBodies, code_reading};
+ghost use Rattle.wasm_custom.specs.Readings.{HoldsNames, name_reading};
+ghost use Rattle.examples.specs.Bodies.{first_body};
+ghost use Rattle.examples.specs.Named.{names_of};
+
+use std::alloc::Allocator;
+use wasm_base::{Module, R, ValType};
+use wasm_code::{CodeSection, Function};
+use wasm_custom::{IndirectNameMap, NameMap, NameSection};
+use wasm_insn::Instruction;
+
+/// A module of one function, which does nothing, and of its names.
+pub fn named_module<A: Allocator + Copy>(alloc: A, name: &str) -> R<Vec<u8, A>>
+    ensures { IfOk result (λ bytes. ReadsSections (code_reading (first_body ∷ []) ∷ name_reading (names_of name.now) ∷ []) bytes.items) }
+{
+    let mut module = Module::new(alloc)?;
+    module.section(&code(alloc)?)?;
+    module.section(&names(alloc, name)?)?;
+    Ok(module.finish())
+}
+
+/// A function of one local.
+fn code<A: Allocator + Copy>(alloc: A) -> R<CodeSection<A>>
+    ensures { IfOk result (λ section. SpellsBodies section (first_body ∷ [])) }
+{
+    let mut function = Function::new(alloc, [(1, ValType::I32)])?;
+    function.instruction(&Instruction::End)?;
+    let mut section = CodeSection::new(alloc);
+    section.function(&function)?;
+    Ok(section)
+}
+
+/// The names of the module, of its function, and of the local of this.
+fn names<A: Allocator + Copy>(alloc: A, name: &str) -> R<NameSection<A>>
+    ensures { IfOk result (λ section. HoldsNames section (names_of name.now)) }
+{
+    let mut functions = NameMap::new(alloc);
+    functions.append(0, name)?;
+    let mut inside = NameMap::new(alloc);
+    inside.append(0, "x")?;
+    let mut locals = IndirectNameMap::new(alloc);
+    locals.append(0, &inside)?;
+    let mut section = NameSection::new(alloc);
+    section.module("m")?;
+    section.functions(&functions)?;
+    section.locals(&locals)?;
+    Ok(section)
+}

@@ -1,0 +1,285 @@
+-- What calls leave, step by step: lemmas that a caller cites.
+use Rattle.std.proofs.Common.{◌≡◌, ℕ, ◌^◌, ◌<◌, ◌≤◌, List, [], ◌∷◌, ◌++◌, length, true, false, IsUtf8, Result, Ok, Err, refl, sym, ap, ap₂, subst, ◌∙◌}
+use Rattle.std.proofs.lemmas.List.Elements.{All-nil, All-cons}
+use Rattle.std.specs.Array.Iter.{array_into_iter_items, array_steps, array_steps_back}
+use Rattle.std.specs.Iterator.{Count}
+use Rattle.std.specs.Iterator.Runs.{EveryRun, ItemsAre, ItemsAreReversed}
+use Rattle.std.specs.List.{All, AllByRecursion}
+use Rattle.std.specs.Prelude.{OnOk}
+use Rattle.std.specs.declared.array.IntoIter.{IntoIter}
+use Rattle.std.specs.declared.vec.Vec.{Vec}
+use Rattle.wasm_base.specs.Calls.{Appends, ReadsOneMore, ReadsBack}
+use Rattle.wasm_base.specs.Entries.{HoldsItems}
+use Rattle.wasm_base.specs.Formats.{Format, frame, name, pair, any_bytes, custom}
+use Rattle.wasm_base.specs.Laws.{FitsUnsigned}
+use Rattle.wasm_base.specs.Modules.{SectionReading, reading_of, ReadsSections, ReadsPayloads, GainsReading}
+use Rattle.wasm_base.specs.Numbers.{unsigned_text}
+use Rattle.wasm_base.specs.Texts.{IsFrameOf, longest, frame_text, FrameFits, vec_text, VecFits}
+use Rattle.wasm_base.specs.declared.refused.Refused.{Refused}
+use Rattle.wasm_base.proofs.Calls.{gains_section}
+use Rattle.wasm_base.proofs.HeldLaws.{holds_more}
+use Rattle.wasm_base.proofs.KnownLengths.{array_items}
+use Rattle.wasm_base.proofs.Payloads.{custom-payload}
+use Rattle.wasm_custom.specs.Adding.{AddsList, AddsTwoLists}
+use Rattle.wasm_custom.specs.CoreDumps.{modules_name, instances_name, marked_text, core_name, SaysProcess, marked_name, IsModule, Instance, instance_text, IsInstance, instance}
+use Rattle.wasm_custom.specs.CoreStacks.{Frame, frame_entry, IsFrame, stack_frame, stack_name, SaysStack}
+use Rattle.wasm_custom.specs.CoreValues.{value_text, IsValue}
+use Rattle.wasm_custom.specs.Customs.{named_payload, named_text, NamedFits, NamedPayload, named_framed, subsection_text}
+use Rattle.wasm_custom.specs.Entries.{entries_text}
+use Rattle.wasm_custom.specs.Hints.{hints_name, Hints, hint_text, IsHint, hints_text, AreHints, hints}
+use Rattle.wasm_custom.specs.Linking.{linking_name, version, LinkItem, Symbols, Target, link_text, IsLink, link}
+use Rattle.wasm_custom.specs.Lists.{list_text, IsListOf}
+use Rattle.wasm_custom.specs.Names.{name_name, Naming, Inside, NameItem, Module, Map, Indirect, Other, name_text, IsName, subsection, of_map, of_indirect, of_other, kind_of}
+use Rattle.wasm_custom.specs.Producers.{producers_name, Producer, Field, field_text, IsField, field}
+use Rattle.wasm_custom.specs.Readings.{AreNamings, AreInsides, AreSymbols, AreProducers, HoldsNames, HoldsLinks, HoldsFields, HoldsHints, HoldsModules, HoldsInstances, name_payload, linking_payload, producers_payload, hints_payload, modules_payload, instances_payload, core_payload, stack_payload}
+use Rattle.wasm_custom.specs.Symbols.{Symbol, symbol_text, IsGivenSymbol, IsAsFlagged, IsSymbol}
+use Rattle.wasm_custom.specs.declared.core_values.CoreDumpValue.{CoreDumpValue}
+use Rattle.wasm_custom.specs.declared.hints.BranchHint.{BranchHint}
+use Rattle.wasm_custom.proofs.CustomLaws.{custom_back}
+use Rattle.wasm_custom.proofs.ListLaws.{lists_none, lists_more, list_vector}
+use Rattle.wasm_custom.proofs.SectionLaws.{name-payload, linking-payload, producers-payload, hints-payload, modules-payload, instances-payload, core-payload, stack-payload}
+
+-- ---- lists
+
+new_list : {X : Type 0} {text : X → List ℕ} {Is : X → Type 0} {entries : List (List ℕ)} → entries ≡ [] → IsListOf text Is entries []
+new_list {text = text} {Is = Is} e = subst (λ ps. IsListOf text Is ps []) (sym e) lists_none
+
+pub new_map : {entries : List (List ℕ)} → entries ≡ [] → AreNamings entries []
+new_map e = new_list e
+
+pub new_indirect_map : {entries : List (List ℕ)} → entries ≡ [] → AreInsides entries []
+new_indirect_map e = new_list e
+
+pub new_symbols : {entries : List (List ℕ)} → entries ≡ [] → AreSymbols entries []
+new_symbols e = new_list e
+
+pub new_field : {entries : List (List ℕ)} → entries ≡ [] → AreProducers entries []
+new_field e = new_list e
+
+-- one more member, whose text the call has added
+adds_member : {X : Type 0} {text : X → List ℕ} {Is : X → Type 0} {old new : List (List ℕ)} {xs : List X} → IsListOf text Is old xs → (x : X) → new ≡ old ++ text x ∷ [] → length old < longest → Is x → IsListOf text Is new (xs ++ x ∷ [])
+adds_member {text = text} {Is = Is} {xs = xs} before x e room is = subst (λ ps. IsListOf text Is ps (xs ++ x ∷ [])) (sym e) (lists_more x before room refl is)
+
+-- a name, which the call has measured
+pub adds_name : {old new : List (List ℕ)} {names : List Naming} → AreNamings old names → (naming : Naming) → new ≡ old ++ (unsigned_text naming.0 ++ frame_text naming.1) ∷ [] → length old < longest → FrameFits naming.1
+    → naming.0 < 2 ^ 32 → IsUtf8 naming.1 → AreNamings new (names ++ naming ∷ [])
+adds_name before naming e room fits range utf8 = adds_member before naming e room (range, (utf8, fits))
+
+-- the names of what is inside, which a map holds
+pub adds_inside : {old new entries : List (List ℕ)} {insides : List Inside} {names : List Naming} → AreInsides old insides → (index : ℕ) → AreNamings entries names → new ≡ old ++ (unsigned_text index ++ list_text entries) ∷ [] → length old < longest
+    → index < 2 ^ 32 → AreInsides new (insides ++ (index, names) ∷ [])
+adds_inside {old = old} {names = names} before index held e room range =
+    adds_member before (index, names) (e ∙ ap (λ s. old ++ (unsigned_text index ++ s) ∷ []) (list_vector held)) room (range, held.fits)
+
+-- a symbol
+pub adds_symbol : {old new : List (List ℕ)} {symbols : List Symbol} → AreSymbols old symbols → (symbol : Symbol) → new ≡ old ++ symbol_text symbol ∷ [] → length old < longest → IsGivenSymbol symbol → AreSymbols new (symbols ++ symbol ∷ [])
+adds_symbol before symbol e room given = adds_member before symbol e room given
+
+-- a value of a field, which the call has measured
+pub adds_value : {old new : List (List ℕ)} {values : List Producer} → AreProducers old values → (value : Producer) → new ≡ old ++ (frame_text value.0 ++ frame_text value.1) ∷ [] → length old < longest → FrameFits value.0 × FrameFits value.1
+    → IsUtf8 value.0 → IsUtf8 value.1 → AreProducers new (values ++ value ∷ [])
+adds_value before value e room fits name version = adds_member before value e room ((name, fits.0), (version, fits.1))
+
+-- ---- new sections
+
+module _ {Record Item : Type 0} (text : Record → List ℕ) (IsPlain : Record → Type 0) (normal_form : Record → Item) (F : Format Item) where
+  nothing_held : {entries : List (List ℕ)} → entries ≡ [] → HoldsItems text IsPlain normal_form F entries []
+  nothing_held e = record { entries = []; held = e; meant = tt }
+
+pub new_names : {entries : List (List ℕ)} → entries ≡ [] → HoldsNames entries []
+new_names e = nothing_held _ _ _ _ e
+
+pub new_linking : {entries : List (List ℕ)} → entries ≡ [] → HoldsLinks entries []
+new_linking e = nothing_held _ _ _ _ e
+
+pub new_producers : {entries : List (List ℕ)} → entries ≡ [] → HoldsFields entries []
+new_producers e = nothing_held _ _ _ _ e
+
+pub new_hints : {entries : List (List ℕ)} → entries ≡ [] → HoldsHints entries []
+new_hints e = nothing_held _ _ _ _ e
+
+pub new_modules : {entries : List (List ℕ)} → entries ≡ [] → HoldsModules entries []
+new_modules e = nothing_held _ _ _ _ e
+
+pub new_instances : {entries : List (List ℕ)} → entries ≡ [] → HoldsInstances entries []
+new_instances e = nothing_held _ _ _ _ e
+
+-- ---- one more item
+
+module _ {Record Item : Type 0} (text : Record → List ℕ) (IsPlain : Record → Type 0) (normal_form : Record → Item) (F : Format Item) where
+  adds_record : {old new : List (List ℕ)} {items : List Item} → HoldsItems text IsPlain normal_form F old items → (given : Record) → new ≡ old ++ text given ∷ [] → IsPlain given → HoldsItems text IsPlain normal_form F new (items ++ normal_form given ∷ [])
+  adds_record {old = old} {items = items} before given e plain =
+      subst (λ entries. HoldsItems text IsPlain normal_form F entries (items ++ normal_form given ∷ [])) (sym e)
+      ((holds_more text IsPlain normal_form F).given old items given before plain)
+
+-- the name of the module
+pub adds_module_name : {old new : List (List ℕ)} {items : List NameItem} → HoldsNames old items → (n : List ℕ) → new ≡ old ++ subsection_text 0 (frame_text n) ∷ [] → IsUtf8 n → HoldsNames new (items ++ Module n ∷ [])
+adds_module_name before n e utf8 = adds_record name_text IsName (λ item. item) subsection before (Module n) e utf8
+
+-- names that a map holds; that the id is one of such a map is `refl`
+pub adds_names : {old new entries : List (List ℕ)} {items : List NameItem} {names : List Naming} → HoldsNames old items → (id : ℕ) → AreNamings entries names → new ≡ old ++ subsection_text id (list_text entries) ∷ []
+    → kind_of id ≡ of_map → HoldsNames new (items ++ Map id names ∷ [])
+adds_names {old = old} {names = names} before id held e kind =
+    adds_record name_text IsName (λ item. item) subsection before (Map id names) (e ∙ ap (λ s. old ++ subsection_text id s ∷ []) (list_vector held)) (kind, held.fits)
+
+-- names of what is inside, that an indirect map holds
+pub adds_names_inside : {old new entries : List (List ℕ)} {items : List NameItem} {insides : List Inside} → HoldsNames old items → (id : ℕ) → AreInsides entries insides → new ≡ old ++ subsection_text id (list_text entries) ∷ []
+    → kind_of id ≡ of_indirect → HoldsNames new (items ++ Indirect id insides ∷ [])
+adds_names_inside {old = old} {insides = insides} before id held e kind =
+    adds_record name_text IsName (λ item. item) subsection before (Indirect id insides) (e ∙ ap (λ s. old ++ subsection_text id s ∷ []) (list_vector held)) (kind, held.fits)
+
+-- the bytes of a subsection that no call names
+pub adds_other_names : {old new : List (List ℕ)} {items : List NameItem} → HoldsNames old items → (id : ℕ) (content : List ℕ) → new ≡ old ++ subsection_text id content ∷ [] → kind_of id ≡ of_other → HoldsNames new (items ++ Other id content ∷ [])
+adds_other_names before id content e kind = adds_record name_text IsName (λ item. item) subsection before (Other id content) e kind
+
+all_symbols : (symbols : List Symbol) → All IsGivenSymbol symbols → AllByRecursion IsAsFlagged symbols → All IsSymbol symbols
+all_symbols symbols given flagged = λ k d l. (given k d l, all_of symbols flagged k d l)
+  where
+    all_of : (xs : List Symbol) → AllByRecursion IsAsFlagged xs → All IsAsFlagged xs
+    all_of [] h = All-nil IsAsFlagged
+    all_of (x ∷ xs) h = All-cons IsAsFlagged x xs h.0 (all_of xs h.1)
+
+-- symbols that a table holds, each as its flags say
+pub adds_symbols : {old new entries : List (List ℕ)} {items : List LinkItem} {symbols : List Symbol} → HoldsLinks old items → AreSymbols entries symbols → new ≡ old ++ subsection_text 8 (list_text entries) ∷ []
+    → AllByRecursion IsAsFlagged symbols → HoldsLinks new (items ++ Symbols symbols ∷ [])
+adds_symbols {old = old} {symbols = symbols} before held e flagged =
+    adds_record link_text IsLink (λ item. item) link before (Symbols symbols) (e ∙ ap (λ s. old ++ subsection_text 8 s ∷ []) (list_vector held))
+    (record { count = held.fits.count; members = all_symbols symbols held.fits.members flagged })
+
+-- the architecture of the target
+pub adds_target : {old new : List (List ℕ)} {items : List LinkItem} → HoldsLinks old items → (n : List ℕ) → new ≡ old ++ subsection_text 9 (frame_text n) ∷ [] → IsUtf8 n → HoldsLinks new (items ++ Target n ∷ [])
+adds_target before n e utf8 = adds_record link_text IsLink (λ item. item) link before (Target n) e utf8
+
+-- a field of producers, whose name the call has measured
+pub adds_field : {old new entries : List (List ℕ)} {items : List Field} {values : List Producer} → HoldsFields old items → (n : List ℕ) → AreProducers entries values → new ≡ old ++ (frame_text n ++ list_text entries) ∷ [] → FrameFits n → IsUtf8 n
+    → HoldsFields new (items ++ (n, values) ∷ [])
+adds_field {old = old} {values = values} before n held e fits utf8 =
+    adds_record field_text IsField (λ item. item) field before (n, values) (e ∙ ap (λ s. old ++ (frame_text n ++ s) ∷ []) (list_vector held)) ((utf8, fits), held.fits)
+
+-- a module of a core dump, whose name the call has measured
+pub adds_core_module : {old new : List (List ℕ)} {items : List (List ℕ)} → HoldsModules old items → (n : List ℕ) → new ≡ old ++ marked_text n ∷ [] → FrameFits n → IsUtf8 n → HoldsModules new (items ++ n ∷ [])
+adds_core_module before n e fits utf8 = adds_record marked_text IsModule (λ item. item) marked_name before n e (utf8, fits)
+
+-- ---- what the elements of arrays give
+
+-- what the iterator of an array has: its elements, each of which is given in order
+abbrev becomes : {X : Type 0} {n : ℕ} → List X → IntoIter X n → Type 0
+becomes {X = X} {n = n} items it =
+    (array_into_iter_items it ≡ items) × (length (array_into_iter_items it) ≡ n) × EveryRun (array_steps {A = X} {n = n}) (λ p. ItemsAre p (array_into_iter_items p.from))
+    × EveryRun (array_steps_back {A = X} {n = n}) (λ p. ItemsAreReversed p (array_into_iter_items p.from))
+
+list_fits : {X : Type 0} (P : X → Type 0) {given xs : List X} → given ≡ xs → VecFits (λ x. Unit {0}) given → AllByRecursion P xs → VecFits P xs
+list_fits {X} P {xs = xs} e fits are = record { count = subst (λ l. length l ≤ longest) e fits.count; members = all_of xs are }
+  where
+    all_of : (xs : List X) → AllByRecursion P xs → All P xs
+    all_of [] h = All-nil P
+    all_of (x ∷ xs) h = All-cons P x xs h.0 (all_of xs h.1)
+
+-- the hints of a function
+pub adds_hints : {n : ℕ} {remaining : IntoIter BranchHint n → Count} {hs : List BranchHint} {old new : List (List ℕ)} {items : List Hints} → HoldsHints old items → (index : ℕ)
+    → AddsList becomes array_steps remaining hs (λ h. Unit {0}) (λ xs. unsigned_text index ++ vec_text hint_text xs) old new (Ok (tt {0})) → index < 2 ^ 32 → AllByRecursion IsHint hs → HoldsHints new (items ++ (index, hs) ∷ [])
+adds_hints {hs = hs} {old = old} before index added range are =
+    let given = added.ok in
+    let same = array_items given.0 given.1 given.3 ∙ given.2.0 in
+    adds_record hints_text AreHints (λ item. item) hints before (index, hs) (given.5 ∙ ap (λ xs. old ++ (unsigned_text index ++ vec_text hint_text xs) ∷ []) same) (range, list_fits IsHint same given.4 are)
+
+-- an instance of a core dump
+pub adds_instance : {n m : ℕ} {remaining : IntoIter ℕ n → Count} {left : IntoIter ℕ m → Count} {old new : List (List ℕ)} {items : List Instance} → HoldsInstances old items → (i : Instance)
+    → AddsTwoLists becomes array_steps remaining i.memories becomes array_steps left i.globals (λ x. Unit {0}) (λ x. Unit {0}) (λ xs ys. (0x00 ∷ unsigned_text i.module_index) ++ (vec_text unsigned_text xs ++ vec_text unsigned_text ys)) old new (Ok (tt {0}))
+    → i.module_index < 2 ^ 32 → AllByRecursion (FitsUnsigned 32) i.memories → AllByRecursion (FitsUnsigned 32) i.globals → HoldsInstances new (items ++ i ∷ [])
+adds_instance {old = old} before i added range memories globals =
+    let given = added.ok in
+    let first = array_items given.0 given.1 given.5 ∙ given.4.0 in
+    let second = array_items given.2 given.3 given.8 ∙ given.7.0 in
+    adds_record instance_text IsInstance (λ item. item) instance before i
+    (given.10 ∙ ap₂ (λ xs ys. old ++ ((0x00 ∷ unsigned_text i.module_index) ++ (vec_text unsigned_text xs ++ vec_text unsigned_text ys)) ∷ []) first second)
+    (record { module_index = range; memories = list_fits (FitsUnsigned 32) first given.6 memories; globals = list_fits (FitsUnsigned 32) second given.9 globals })
+
+-- ---- stacks
+
+pub new_stack : {n : List ℕ} {stack : List ℕ × List (List ℕ)} → stack ≡ (marked_text n, []) → IsUtf8 n → SaysStack stack.0 stack.1 (n, [])
+new_stack e utf8 = (utf8, ap (λ s. s.0) e, nothing_held frame_entry IsFrame (λ f. f) stack_frame (ap (λ s. s.1) e))
+
+-- one more frame, whose numbers are in range
+pub adds_frame : {n m : ℕ} {remaining : IntoIter CoreDumpValue n → Count} {left : IntoIter CoreDumpValue m → Count} {old new : List ℕ × List (List ℕ)} {thread : List ℕ} {frames : List Frame} → SaysStack old.0 old.1 (thread, frames) → (f : Frame)
+    → AddsTwoLists becomes array_steps remaining f.locals becomes array_steps left f.stack (λ x. Unit {0}) (λ x. Unit {0})
+    (λ xs ys. (0x00 ∷ (unsigned_text f.instance ++ (unsigned_text f.function ++ unsigned_text f.offset))) ++ (vec_text value_text xs ++ vec_text value_text ys)) old.1 new.1 (Ok (tt {0}))
+    → new.0 ≡ old.0 → f.instance < 2 ^ 32 → f.function < 2 ^ 32 → f.offset < 2 ^ 32 → AllByRecursion IsValue f.locals → AllByRecursion IsValue f.stack → SaysStack new.0 new.1 (thread, frames ++ f ∷ [])
+adds_frame {old = old} before f added same instance function offset locals stack =
+    let given = added.ok in
+    let first = array_items given.0 given.1 given.5 ∙ given.4.0 in
+    let second = array_items given.2 given.3 given.8 ∙ given.7.0 in (
+      before.0,
+      same ∙ before.1,
+      adds_record frame_entry IsFrame (λ f. f) stack_frame before.2 f
+          (given.10 ∙ ap₂ (λ xs ys. old.1 ++ ((0x00 ∷ (unsigned_text f.instance ++ (unsigned_text f.function ++ unsigned_text f.offset))) ++ (vec_text value_text xs ++ vec_text value_text ys)) ∷ []) first second)
+          (record { instance = instance; function = function; offset = offset; locals = list_fits IsValue first given.6 locals; stack = list_fits IsValue second given.9 stack }),
+    )
+
+-- ---- a module and one more section
+
+gains_custom : {X : Type 0} {F : Format X} {Says : X → Type 0} {readings : List SectionReading} {id : ℕ} {old new n : List ℕ} {x : X} → ReadsPayloads (named_payload n F) → ReadsSections readings old → (content : List ℕ)
+    → ReadsOneMore (NamedPayload n content) id old new → NamedFits n content → ReadsBack (frame (named_payload n F)) Says (named_text n content) → Says x → ReadsSections (readings ++ reading_of id (named_payload n F) x ∷ []) new
+gains_custom {F = F} {n = n} {x = x} payloads before content more fits reads says =
+    gains_section {F = named_payload n F} before more payloads (named_text n content) (frame_text n ++ content) refl (named_framed n content (frame_text n ++ content) fits refl) x (reads.for_each x says)
+
+pub gains_names : {readings : List SectionReading} {id : ℕ} {old new : List ℕ} {entries : List (List ℕ)} {items : List NameItem} → ReadsSections readings old
+    → ReadsOneMore (NamedPayload name_name (entries_text [] false entries)) id old new → NamedFits name_name (entries_text [] false entries) → ReadsBack (frame name_payload) (HoldsNames entries) (named_text name_name (entries_text [] false entries))
+    → HoldsNames entries items → ReadsSections (readings ++ reading_of id name_payload items ∷ []) new
+gains_names before more fits reads holds = gains_custom name-payload before _ more fits reads holds
+
+pub gains_linking : {readings : List SectionReading} {id : ℕ} {old new : List ℕ} {entries : List (List ℕ)} {items : List LinkItem} → ReadsSections readings old
+    → ReadsOneMore (NamedPayload linking_name (entries_text (version ∷ []) false entries)) id old new → NamedFits linking_name (entries_text (version ∷ []) false entries) → ReadsBack (frame linking_payload) (HoldsLinks entries) (named_text linking_name (entries_text (version ∷ []) false entries))
+    → HoldsLinks entries items → ReadsSections (readings ++ reading_of id linking_payload items ∷ []) new
+gains_linking before more fits reads holds = gains_custom linking-payload before _ more fits reads holds
+
+pub gains_producers : {readings : List SectionReading} {id : ℕ} {old new : List ℕ} {entries : List (List ℕ)} {items : List Field} → ReadsSections readings old
+    → ReadsOneMore (NamedPayload producers_name (entries_text [] true entries)) id old new → NamedFits producers_name (entries_text [] true entries) → ReadsBack (frame producers_payload) (HoldsFields entries) (named_text producers_name (entries_text [] true entries))
+    → HoldsFields entries items → ReadsSections (readings ++ reading_of id producers_payload items ∷ []) new
+gains_producers before more fits reads holds = gains_custom producers-payload before _ more fits reads holds
+
+pub gains_hints : {readings : List SectionReading} {id : ℕ} {old new : List ℕ} {entries : List (List ℕ)} {items : List Hints} → ReadsSections readings old
+    → ReadsOneMore (NamedPayload hints_name (entries_text [] true entries)) id old new → NamedFits hints_name (entries_text [] true entries) → ReadsBack (frame hints_payload) (HoldsHints entries) (named_text hints_name (entries_text [] true entries))
+    → HoldsHints entries items → ReadsSections (readings ++ reading_of id hints_payload items ∷ []) new
+gains_hints before more fits reads holds = gains_custom hints-payload before _ more fits reads holds
+
+pub gains_modules : {readings : List SectionReading} {id : ℕ} {old new : List ℕ} {entries : List (List ℕ)} {items : List (List ℕ)} → ReadsSections readings old
+    → ReadsOneMore (NamedPayload modules_name (entries_text [] true entries)) id old new → NamedFits modules_name (entries_text [] true entries) → ReadsBack (frame modules_payload) (HoldsModules entries) (named_text modules_name (entries_text [] true entries))
+    → HoldsModules entries items → ReadsSections (readings ++ reading_of id modules_payload items ∷ []) new
+gains_modules before more fits reads holds = gains_custom modules-payload before _ more fits reads holds
+
+pub gains_instances : {readings : List SectionReading} {id : ℕ} {old new : List ℕ} {entries : List (List ℕ)} {items : List Instance} → ReadsSections readings old
+    → ReadsOneMore (NamedPayload instances_name (entries_text [] true entries)) id old new → NamedFits instances_name (entries_text [] true entries) → ReadsBack (frame instances_payload) (HoldsInstances entries) (named_text instances_name (entries_text [] true entries))
+    → HoldsInstances entries items → ReadsSections (readings ++ reading_of id instances_payload items ∷ []) new
+gains_instances before more fits reads holds = gains_custom instances-payload before _ more fits reads holds
+
+-- the process of a core dump, of the name that was handed in
+pub gains_process : {readings : List SectionReading} {id : ℕ} {old new content : List ℕ} → ReadsSections readings old → ReadsOneMore (NamedPayload core_name content) id old new → NamedFits core_name content
+    → ReadsBack (frame core_payload) (SaysProcess content) (named_text core_name content) → (n : List ℕ) → content ≡ marked_text n → IsUtf8 n → ReadsSections (readings ++ reading_of id core_payload n ∷ []) new
+gains_process before more fits reads n e utf8 = gains_custom core-payload before _ more fits reads (utf8, e)
+
+-- the stack of a thread
+pub gains_stack : {readings : List SectionReading} {id : ℕ} {old new n : List ℕ} {stack : List ℕ × List (List ℕ)} {frames : List Frame} → ReadsSections readings old
+    → ReadsOneMore (NamedPayload stack_name (entries_text stack.0 true stack.1)) id old new → NamedFits stack_name (entries_text stack.0 true stack.1)
+    → ReadsBack (frame stack_payload) (SaysStack stack.0 stack.1) (named_text stack_name (entries_text stack.0 true stack.1)) → SaysStack stack.0 stack.1 (n, frames) → ReadsSections (readings ++ reading_of id stack_payload (n, frames) ∷ []) new
+gains_stack before more fits reads says = gains_custom stack-payload before _ more fits reads says
+
+-- a section of a name and data
+pub gains_given : {readings : List SectionReading} {id : ℕ} {old new n content : List ℕ} → ReadsSections readings old → ReadsOneMore (NamedPayload n content) id old new → NamedFits n content
+    → ReadsBack custom (λ said. IsUtf8 n × (said ≡ (n, content))) (named_text n content) → IsUtf8 n → ReadsSections (readings ++ reading_of id (pair name any_bytes) (n, content) ∷ []) new
+gains_given {n = n} {content = content} before more fits reads utf8 =
+    gains_section {F = pair name any_bytes} before more custom-payload (named_text n content) (frame_text n ++ content) refl (named_framed n content (frame_text n ++ content) fits refl) (n, content) (reads.for_each (n, content) (utf8, refl))
+
+-- a section of bytes that are given, which are the text of one of a name and data
+pub gains_given_raw : {readings : List SectionReading} {id : ℕ} {bytes old new : List ℕ} → ReadsSections readings old → ReadsOneMore (IsFrameOf bytes) id old new → (n content : List ℕ) → bytes ≡ named_text n content → NamedFits n content → IsUtf8 n
+    → ReadsSections (readings ++ reading_of id (pair name any_bytes) (n, content) ∷ []) new
+gains_given_raw {id = id} {old = old} {new = new} before more n content e fits utf8 =
+    let framed = named_framed n content (frame_text n ++ content) fits refl in
+    gains_section {F = pair name any_bytes} before (subst (λ b. ReadsOneMore (IsFrameOf b) id old new) e more) custom-payload (named_text n content) (frame_text n ++ content) framed framed (n, content)
+    ((custom_back n content fits).for_each (n, content) (utf8, refl))
+
+-- a section that a buffer has gained
+pub encodes_custom : {A X : Type 0} (F : Format X) (Says : X → Type 0) {text : List ℕ} {fits : Type 0} {old new : Vec ℕ A} {result : Result (Unit {0}) Refused} {x : X}
+    → Appends text fits old new result → OnOk result (ReadsBack F Says text) → Says x → OnOk result (GainsReading F x old.items new.items)
+encodes_custom F Says {text = text} {result = Ok u} {x = x} appends reads says = record { text = text; added = appends.ok; alone = reads.for_each x says }
+encodes_custom F Says {result = Err e} appends reads says = tt

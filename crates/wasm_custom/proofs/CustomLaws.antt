@@ -1,0 +1,49 @@
+-- Custom sections of a name are read uniquely.
+use Rattle.std.proofs.Common.{◌≡◌, ℕ, ◌+◌, ◌≤◌, List, ◌++◌, length, IsUtf8, refl, sym, subst, arith, length-append}
+use Rattle.wasm_base.specs.Calls.{ReadsBack}
+use Rattle.wasm_base.specs.Formats.{Format, after, name, any_bytes, pair, custom}
+use Rattle.wasm_base.specs.Numbers.{shortest, unsigned_text}
+use Rattle.wasm_base.specs.Reading.{UniqueReading, UniqueWholeReading, ReadsAlone}
+use Rattle.wasm_base.specs.Texts.{longest, frame_text, FrameFits}
+use Rattle.wasm_base.proofs.AfterLaws.{after-whole, after_spelled}
+use Rattle.wasm_base.proofs.BaseLaws.{name-alone, custom-alone}
+use Rattle.wasm_base.proofs.FormatLaws.{frame-alone}
+use Rattle.wasm_base.proofs.TextLaws.{reads_alone, frame_spelled}
+use Rattle.wasm_custom.specs.Customs.{named_section, named_text, NamedFits, subsection_text}
+use Rattle.wasm_base.proofs.PartLaws.{pair_spelled, front_name_spelled}
+
+pub named-alone : {X : Type 0} (n : List ℕ) {F : Format X} → UniqueWholeReading F → UniqueReading (named_section n F)
+named-alone n f = frame-alone (after-whole n name-alone f)
+
+pub named_spelled : {X : Type 0} (n : List ℕ) (F : Format X) (content : List ℕ) (x : X) → IsUtf8 n → NamedFits n content → F shortest content x → named_section n F shortest (named_text n content) x
+unfolding named_text
+named_spelled n F content x utf8 fits h =
+    frame_spelled (after n name F) (frame_text n ++ content) x fits
+    (after_spelled n name F (frame_text n) content x (front_name_spelled n content utf8 fits) h)
+
+-- the data are no longer than the section
+pub data_fits : (n content : List ℕ) → NamedFits n content → length content ≤ 4294967295
+data_fits n content fits = omega (arith, fits, length-append (frame_text n) content)
+
+-- a section of a name and data that are given is read as these alone
+pub custom_back : (n content : List ℕ) → NamedFits n content → ReadsBack custom (λ said. IsUtf8 n × (said ≡ (n, content))) (named_text n content)
+unfolding named_text
+custom_back n content fits = record {
+  for_each = λ said h.
+      subst (λ x. ReadsAlone custom (frame_text (frame_text n ++ content)) x) (sym h.1)
+      (reads_alone {F = custom} custom-alone
+      (frame_spelled (pair name any_bytes) (frame_text n ++ content) (n, content) fits (pair_spelled name any_bytes (frame_text n) content n content (front_name_spelled n content h.0 fits) refl)));
+}
+
+-- whose size was told of other lists that are these
+pub fits_of : (n content told given : List ℕ) (size : ℕ) → told ≡ n → given ≡ content → size ≡ length given → length (frame_text told) + size ≤ longest → NamedFits n content
+fits_of n content told given size e f l h =
+    subst (λ z. NamedFits z content) e (subst (λ z. NamedFits told z) f (omega (arith, h, l, length-append (frame_text told) given)))
+
+-- a section of bytes that are given is read as what they spell
+pub raw_back : (bytes : List ℕ) → ReadsBack custom (custom shortest bytes) bytes
+raw_back bytes = record { for_each = λ said h. reads_alone {F = custom} custom-alone h }
+
+-- the frame in a subsection fits where the subsection does
+pub content_fits : (id : ℕ) (content : List ℕ) → FrameFits (subsection_text id content) → FrameFits content
+content_fits id content fits = omega (arith, fits, length-append (unsigned_text (length content)) content)

@@ -1,0 +1,15 @@
+pub mod CustomLaws
+pub mod EntriesLaws
+pub mod ListLaws
+pub mod AddingLaws
+pub mod NameLaws
+pub mod SymbolLaws
+pub mod LinkLaws
+pub mod ProducerLaws
+pub mod HintLaws
+pub mod CoreDumpLaws
+pub mod CoreStackLaws
+pub mod SectionLaws
+pub mod HeldLaws
+pub mod NothingLaws
+pub mod Calls

@@ -1,0 +1,106 @@
+-- Names are read uniquely.
+use Rattle.std.proofs.Common.{◌≡◌, ℕ, List, [], length, Bool, true, false, cond, eqb, refl, sym, ap, subst, ◌∙◌, arith, length-append}
+use Rattle.std.proofs.lemmas.Bool.{eqb-true}
+use Rattle.wasm_base.specs.Entries.{ItemLaws}
+use Rattle.wasm_base.specs.Formats.{u32, any_bytes, name, pair, fixed}
+use Rattle.wasm_base.specs.Numbers.{shortest, unsigned_text}
+use Rattle.wasm_base.specs.Reading.{UniqueReading}
+use Rattle.wasm_base.specs.Texts.{frame_text, FrameFits, vec_text, VecFits}
+use Rattle.wasm_base.proofs.BaseLaws.{name-alone}
+use Rattle.wasm_base.proofs.FormatLaws.{TellsTag, mapped-alone, pair-alone, vec-alone, frame-alone, whole_from_alone, byte-alone, any_bytes-whole, tagged-alone, fixed-alone}
+use Rattle.wasm_base.proofs.NumberLaws.{u32-alone}
+use Rattle.wasm_base.proofs.TextLaws.{tagged_spelled, u32_spelled, name_spelled, vec_spelled, frame_spelled}
+use Rattle.wasm_custom.specs.Customs.{subsection_text}
+use Rattle.wasm_custom.specs.Entries.{FrameLaws}
+use Rattle.wasm_custom.specs.Names.{Naming, Inside, naming_text, inside_text, IsNaming, IsInside, naming, name_map, indirect_map, NameItem, Module, Map, Indirect, Other, NameKind, of_module, of_map, of_indirect, of_other, is_one_of, map_ids, indirect_ids, kind_of, after_id, subsection, name_text, IsName, name_name}
+use Rattle.wasm_base.proofs.Calls.{ascii}
+use Rattle.wasm_base.proofs.PartLaws.{pair_spelled, tagged_begins}
+use Rattle.wasm_custom.proofs.CustomLaws.{content_fits}
+
+pub naming-alone : UniqueReading naming
+naming-alone = pair-alone u32-alone name-alone
+
+pub map-alone : UniqueReading name_map
+map-alone = vec-alone naming-alone
+
+pub indirect-alone : UniqueReading indirect_map
+indirect-alone = vec-alone (pair-alone u32-alone map-alone)
+
+-- ---- subsections
+
+abbrev id_of : NameItem → ℕ
+id_of (Module n) = 0
+id_of (Map id names) = id
+id_of (Indirect id names) = id
+id_of (Other id content) = id
+
+not_module : (a b : Bool) → cond a of_map (cond b of_indirect of_other) ≡ of_module → ⊥
+not_module true b e = absurd (cc e)
+not_module false true e = absurd (cc e)
+not_module false false e = absurd (cc e)
+
+is_zero : (id : ℕ) → kind_of id ≡ of_module → id ≡ 0
+is_zero id e = go (eqb id 0) refl e
+  where
+    go : (test : Bool) → eqb id 0 ≡ test → cond test of_module (cond (is_one_of map_ids id) of_map (cond (is_one_of indirect_ids id) of_indirect of_other)) ≡ of_module → id ≡ 0
+    go true t e = eqb-true id 0 t
+    go false t e = absurd (not_module (is_one_of map_ids id) (is_one_of indirect_ids id) e)
+
+tells : TellsTag (λ id. after_id (kind_of id) id) id_of
+tells mode id s x h = go (kind_of id) refl h
+  where
+    go : (k : NameKind) → kind_of id ≡ k → after_id k id mode s x → id ≡ id_of x
+    go of_module e h = is_zero id e ∙ ap id_of h.1
+    go of_map e h = ap id_of h.1
+    go of_indirect e h = ap id_of h.1
+    go of_other e h = ap id_of h.1
+
+after_id-alone : (k : NameKind) (id : ℕ) → UniqueReading (after_id k id)
+after_id-alone of_module id = mapped-alone Module (λ x y e. cc) (frame-alone (whole_from_alone name-alone))
+after_id-alone of_map id = mapped-alone (Map id) (λ x y e. cc) (frame-alone (whole_from_alone map-alone))
+after_id-alone of_indirect id = mapped-alone (Indirect id) (λ x y e. cc) (frame-alone (whole_from_alone indirect-alone))
+after_id-alone of_other id = mapped-alone (Other id) (λ x y e. cc) (frame-alone any_bytes-whole)
+
+pub subsection-alone : UniqueReading subsection
+subsection-alone = tagged-alone id_of tells byte-alone (λ id. after_id-alone (kind_of id) id)
+
+-- ---- texts
+
+naming_spelled : (n : Naming) → IsNaming n → naming shortest (naming_text n) n
+naming_spelled n plain = pair_spelled u32 name (unsigned_text n.0) (frame_text n.1) n.0 n.1 (u32_spelled n.0 plain.0) (name_spelled n.1 plain.1.0 plain.1.1)
+
+map_spelled : (names : List Naming) → VecFits IsNaming names → name_map shortest (vec_text naming_text names) names
+map_spelled names plain = vec_spelled naming IsNaming naming_text naming_spelled names plain
+
+inside_spelled : (i : Inside) → IsInside i → pair u32 name_map shortest (inside_text i) i
+inside_spelled i plain = pair_spelled u32 name_map (unsigned_text i.0) (vec_text naming_text i.1) i.0 i.1 (u32_spelled i.0 plain.0) (map_spelled i.1 plain.1)
+
+indirect_spelled : (names : List Inside) → VecFits IsInside names → indirect_map shortest (vec_text inside_text names) names
+indirect_spelled names plain = vec_spelled (pair u32 name_map) IsInside inside_text inside_spelled names plain
+
+-- what follows the id, of the kind that this has
+of_kind : (k : NameKind) (id : ℕ) (content : List ℕ) (x : NameItem) → kind_of id ≡ k → after_id k id shortest (frame_text content) x → subsection shortest (subsection_text id content) x
+of_kind k id content x e h = tagged_spelled {G = λ id. after_id (kind_of id) id} shortest id (frame_text content) x (subst (λ k. after_id k id shortest (frame_text content) x) (sym e) h)
+
+name_item_spelled : (x : NameItem) → IsName x → FrameFits (name_text x) → subsection shortest (name_text x) x
+name_item_spelled (Module n) plain fits =
+    let inside = content_fits 0 (frame_text n) fits in
+    of_kind of_module 0 (frame_text n) (Module n) refl
+    (n, refl, frame_spelled name (frame_text n) n inside (name_spelled n plain (omega (arith, inside, length-append (unsigned_text (length n)) n))))
+name_item_spelled (Map id names) plain fits =
+    of_kind of_map id (vec_text naming_text names) (Map id names) plain.0 (names, refl, frame_spelled name_map (vec_text naming_text names) names (content_fits id _ fits) (map_spelled names plain.1))
+name_item_spelled (Indirect id names) plain fits =
+    of_kind of_indirect id (vec_text inside_text names) (Indirect id names) plain.0 (names, refl, frame_spelled indirect_map (vec_text inside_text names) names (content_fits id _ fits) (indirect_spelled names plain.1))
+name_item_spelled (Other id content) plain fits =
+    of_kind of_other id content (Other id content) plain (content, refl, frame_spelled any_bytes content content (content_fits id content fits) refl)
+
+pub name_items : ItemLaws name_text IsName (λ x. x) subsection
+name_items = record { alone = subsection-alone; spelled = name_item_spelled }
+
+pub name_frame : FrameLaws subsection name_name [] (fixed [] (tt {0})) false
+name_frame = record {
+  name_utf8 = ascii {bytes = name_name} refl;
+  front_alone = fixed-alone [] (tt {0});
+  front_spelled = (refl, refl);
+  begins = λ e. tagged_begins;
+}

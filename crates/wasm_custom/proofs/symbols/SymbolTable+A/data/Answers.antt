@@ -1,0 +1,6 @@
+use Rattle.std.proofs.Common.{refl, arith}
+use Rattle.wasm_custom.specs.Symbols.{of_data}
+use Rattle.wasm_custom.proofs.symbols.SymbolTable+A.data.Goals as goal
+
+pub add_record-requires : goal.add_record-requires
+add_record-requires g c fits = record { member = of_data c.args.flags c.args.name.now c.args.definition; is = refl; fits = (omega (arith, c.ranges.flags.fits), (c.utf8.name, fits.1), c.given_definition.ensures) }

@@ -1,0 +1,63 @@
+-- Core dumps: their texts, and what spells them.
+use Rattle.std.specs.Prelude.{◌≡◌, ℕ, ◌^◌, ◌<◌, List, [], ◌∷◌, ◌++◌, IsUtf8, codes}
+use Rattle.wasm_base.specs.Formats.{Format, u32, name, mapped, pair, prefixed, vec}
+use Rattle.wasm_base.specs.Laws.{FitsUnsigned, NameFits}
+use Rattle.wasm_base.specs.Numbers.{unsigned_text}
+use Rattle.wasm_base.specs.Texts.{frame_text, vec_text, VecFits}
+use Rattle.wasm_custom.specs.Customs.{named_section}
+
+-- ---- names of processes, modules and threads
+
+-- the byte 00, and a name
+abbrev pub marked_text : List ℕ → List ℕ
+marked_text n = 0x00 ∷ frame_text n
+
+abbrev pub marked_name : Format (List ℕ)
+marked_name = prefixed (0x00 ∷ []) name
+
+-- "core"
+abbrev pub core_name : List ℕ
+core_name = codes "core"
+
+-- the process: its name
+abbrev pub core_section : Format (List ℕ)
+core_section = named_section core_name marked_name
+
+-- The data are this name of a process.
+abbrev pub SaysProcess : List ℕ → List ℕ → Type 0
+SaysProcess content n = IsUtf8 n × (content ≡ marked_text n)
+
+-- plain: The name is UTF-8 whose length can be spelled.
+abbrev pub IsModule : List ℕ → Type 0
+IsModule = NameFits
+
+-- "coremodules"
+abbrev pub modules_name : List ℕ
+modules_name = codes "coremodules"
+
+-- ---- instances
+
+-- an instance: the index of its module, its memories and its globals
+pub record Instance : Type 0 where
+  pub module_index : ℕ
+  pub memories : List ℕ
+  pub globals : List ℕ
+
+abbrev pub instance_text : Instance → List ℕ
+instance_text i = (0x00 ∷ unsigned_text i.module_index) ++ (vec_text unsigned_text i.memories ++ vec_text unsigned_text i.globals)
+
+-- plain: Its numbers are in range, and the lists can be counted.
+pub record IsInstance (i : Instance) : Type 0 where
+  pub module_index : i.module_index < 2 ^ 32
+  pub memories : VecFits (FitsUnsigned 32) i.memories
+  pub globals : VecFits (FitsUnsigned 32) i.globals
+
+abbrev pub instance_of : ℕ × (List ℕ × List ℕ) → Instance
+instance_of parts = record { module_index = parts.0; memories = parts.1.0; globals = parts.1.1 }
+
+abbrev pub instance : Format Instance
+instance = mapped instance_of (prefixed (0x00 ∷ []) (pair u32 (pair (vec u32) (vec u32))))
+
+-- "coreinstances"
+abbrev pub instances_name : List ℕ
+instances_name = codes "coreinstances"

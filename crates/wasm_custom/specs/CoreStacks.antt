@@ -1,0 +1,51 @@
+-- Stacks of core dumps: their texts, and what spells them.
+use Rattle.std.specs.Prelude.{◌≡◌, ℕ, ◌^◌, ◌<◌, List, [], ◌∷◌, ◌++◌, IsUtf8, codes}
+use Rattle.wasm_base.specs.Entries.{HoldsItems}
+use Rattle.wasm_base.specs.Formats.{Format, u32, mapped, pair, prefixed, vec}
+use Rattle.wasm_base.specs.Numbers.{unsigned_text}
+use Rattle.wasm_base.specs.Texts.{vec_text, VecFits}
+use Rattle.wasm_custom.specs.CoreDumps.{marked_text, marked_name}
+use Rattle.wasm_custom.specs.CoreValues.{value_text, IsValue, value}
+use Rattle.wasm_custom.specs.Customs.{named_section}
+use Rattle.wasm_custom.specs.declared.core_values.CoreDumpValue.{CoreDumpValue}
+
+-- a frame: where it is, its locals, and its part of the stack
+pub record Frame : Type 0 where
+  pub instance : ℕ
+  pub function : ℕ
+  pub offset : ℕ
+  pub locals : List CoreDumpValue
+  pub stack : List CoreDumpValue
+
+abbrev pub frame_entry : Frame → List ℕ
+frame_entry f = (0x00 ∷ (unsigned_text f.instance ++ (unsigned_text f.function ++ unsigned_text f.offset))) ++ (vec_text value_text f.locals ++ vec_text value_text f.stack)
+
+-- plain: Its numbers are in range, and the lists can be counted.
+pub record IsFrame (f : Frame) : Type 0 where
+  pub instance : f.instance < 2 ^ 32
+  pub function : f.function < 2 ^ 32
+  pub offset : f.offset < 2 ^ 32
+  pub locals : VecFits IsValue f.locals
+  pub stack : VecFits IsValue f.stack
+
+-- the instance, the function, and how far into it
+abbrev pub Place : Type 0
+Place = ℕ × (ℕ × ℕ)
+
+abbrev pub frame_of : Place × (List CoreDumpValue × List CoreDumpValue) → Frame
+frame_of p = record { instance = p.0.0; function = p.0.1.0; offset = p.0.1.1; locals = p.1.0; stack = p.1.1 }
+
+abbrev pub stack_frame : Format Frame
+stack_frame = mapped frame_of (pair (prefixed (0x00 ∷ []) (pair u32 (pair u32 u32))) (pair (vec value) (vec value)))
+
+-- "corestack"
+abbrev pub stack_name : List ℕ
+stack_name = codes "corestack"
+
+-- the stack: the name of its thread, and its frames
+abbrev pub stack_section : Format (List ℕ × List Frame)
+stack_section = named_section stack_name (pair marked_name (vec stack_frame))
+
+-- The section has this name of its thread, and holds these frames.
+abbrev pub SaysStack : List ℕ → List (List ℕ) → List ℕ × List Frame → Type 0
+SaysStack front frames said = IsUtf8 said.0 × (front ≡ marked_text said.0) × HoldsItems frame_entry IsFrame (λ f. f) stack_frame frames said.1

@@ -1,0 +1,38 @@
+-- Branch hints: their text, and what spells them.
+use Rattle.std.specs.Prelude.{ℕ, ◌^◌, ◌<◌, List, [], ◌∷◌, ◌++◌, codes}
+use Rattle.wasm_base.specs.Formats.{Format, u32, byte, mapped, pair, prefixed, such, vec}
+use Rattle.wasm_base.specs.Numbers.{unsigned_text}
+use Rattle.wasm_base.specs.Texts.{vec_text, VecFits}
+use Rattle.wasm_custom.specs.declared.hints.BranchHint.{BranchHint}
+
+abbrev pub hint_text : BranchHint → List ℕ
+hint_text h = unsigned_text h.branch_func_offset ++ (0x01 ∷ unsigned_text h.branch_hint_value)
+
+-- plain: The value has one byte.
+pub record IsHint (h : BranchHint) : Type 0 where
+  pub offset : h.branch_func_offset < 2 ^ 32
+  pub value : h.branch_hint_value < 128
+
+-- a function, and the hints of its branches
+abbrev pub Hints : Type 0
+Hints = ℕ × List BranchHint
+
+abbrev pub hints_text : Hints → List ℕ
+hints_text h = unsigned_text h.0 ++ vec_text hint_text h.1
+
+abbrev pub AreHints : Hints → Type 0
+AreHints h = (h.0 < 2 ^ 32) × VecFits IsHint h.1
+
+abbrev pub hint_of : ℕ × ℕ → BranchHint
+hint_of parts = record { branch_func_offset = parts.0; branch_hint_value = parts.1 }
+
+-- hint: an offset, the byte 01, and a value of one byte
+abbrev pub hint : Format BranchHint
+hint = mapped hint_of (pair u32 (prefixed (0x01 ∷ []) (such (λ b. b < 128) byte)))
+
+abbrev pub hints : Format Hints
+hints = pair u32 (vec hint)
+
+-- "metadata.code.branch_hint"
+abbrev pub hints_name : List ℕ
+hints_name = codes "metadata.code.branch_hint"

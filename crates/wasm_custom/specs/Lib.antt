@@ -1,0 +1,13 @@
+pub mod Customs
+pub mod Entries
+pub mod Lists
+pub mod Adding
+pub mod Names
+pub mod Symbols
+pub mod Linking
+pub mod Producers
+pub mod Hints
+pub mod CoreDumps
+pub mod CoreValues
+pub mod CoreStacks
+pub mod Readings

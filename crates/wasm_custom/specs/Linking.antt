@@ -1,0 +1,34 @@
+-- The linking section: its text, and what spells it.
+use Rattle.std.specs.Prelude.{ℕ, List, [], ◌∷◌, IsUtf8, codes}
+use Rattle.wasm_base.specs.Formats.{Format, byte, name, impossible, mapped, tagged, choice, vec, frame}
+use Rattle.wasm_base.specs.Texts.{frame_text, vec_text, VecFits}
+use Rattle.wasm_custom.specs.Customs.{subsection_text}
+use Rattle.wasm_custom.specs.Symbols.{Symbol, symbol_text, IsSymbol, symbol}
+
+-- what a subsection says: symbols, or the architecture of the target
+pub data LinkItem : Type 0 where
+  Symbols : List Symbol → LinkItem
+  Target : List ℕ → LinkItem
+
+abbrev pub link_text : LinkItem → List ℕ
+link_text (Symbols symbols) = subsection_text 8 (vec_text symbol_text symbols)
+link_text (Target n) = subsection_text 9 (frame_text n)
+
+-- plain: The symbols are plain, and the name is UTF-8.
+abbrev pub IsLink : LinkItem → Type 0
+IsLink (Symbols symbols) = VecFits IsSymbol symbols
+IsLink (Target n) = IsUtf8 n
+
+abbrev pub link_tags : List (ℕ × Format LinkItem)
+link_tags = (8, mapped Symbols (frame (vec symbol))) ∷ (9, mapped Target (frame name)) ∷ []
+
+-- subsection: an id, and the frame of what it holds
+abbrev pub link : Format LinkItem
+link = tagged byte (choice link_tags (λ b. impossible))
+
+-- "linking", and the version that stands before its subsections
+abbrev pub linking_name : List ℕ
+linking_name = codes "linking"
+
+abbrev pub version : ℕ
+version = 2

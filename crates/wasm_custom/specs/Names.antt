@@ -1,0 +1,100 @@
+-- Names of the parts of a module.
+use Rattle.std.specs.Prelude.{◌≡◌, ℕ, ◌^◌, ◌<◌, List, [], ◌∷◌, ◌++◌, Bool, true, false, cond, ◌==◌, IsUtf8, codes}
+use Rattle.wasm_base.specs.Formats.{Format, u32, byte, any_bytes, name, mapped, pair, tagged, vec, frame}
+use Rattle.wasm_base.specs.Laws.{NameFits}
+use Rattle.wasm_base.specs.Numbers.{unsigned_text}
+use Rattle.wasm_base.specs.Texts.{frame_text, vec_text, VecFits}
+use Rattle.wasm_custom.specs.Customs.{subsection_text}
+
+-- an index, and its name
+abbrev pub Naming : Type 0
+Naming = ℕ × List ℕ
+
+-- an index, and the names of what is inside
+abbrev pub Inside : Type 0
+Inside = ℕ × List Naming
+
+abbrev pub naming_text : Naming → List ℕ
+naming_text n = unsigned_text n.0 ++ frame_text n.1
+
+abbrev pub inside_text : Inside → List ℕ
+inside_text i = unsigned_text i.0 ++ vec_text naming_text i.1
+
+-- The index is in range, and the name is UTF-8 whose length can be spelled.
+abbrev pub IsNaming : Naming → Type 0
+IsNaming n = (n.0 < 2 ^ 32) × NameFits n.1
+
+abbrev pub IsInside : Inside → Type 0
+IsInside i = (i.0 < 2 ^ 32) × VecFits IsNaming i.1
+
+abbrev pub naming : Format Naming
+naming = pair u32 name
+
+abbrev pub name_map : Format (List Naming)
+name_map = vec naming
+
+abbrev pub indirect_map : Format (List Inside)
+indirect_map = vec (pair u32 name_map)
+
+-- ---- subsections
+
+-- what a subsection says: the name of the module, or names by the id of what they name, or the bytes of another id
+pub data NameItem : Type 0 where
+  Module : List ℕ → NameItem
+  Map : ℕ → List Naming → NameItem
+  Indirect : ℕ → List Inside → NameItem
+  Other : ℕ → List ℕ → NameItem
+
+-- what a subsection holds
+pub data NameKind : Type 0 where
+  of_module : NameKind
+  of_map : NameKind
+  of_indirect : NameKind
+  of_other : NameKind
+
+-- whether the id is in the list
+abbrev pub is_one_of : List ℕ → ℕ → Bool
+is_one_of [] id = false
+is_one_of (i ∷ is) id = cond (id == i) true (is_one_of is id)
+
+-- functions, types, tables, memories, globals, elements, data, tags
+abbrev pub map_ids : List ℕ
+map_ids = 1 ∷ 4 ∷ 5 ∷ 6 ∷ 7 ∷ 8 ∷ 9 ∷ 11 ∷ []
+
+-- locals, labels, fields, parameters, tags' parameters
+abbrev pub indirect_ids : List ℕ
+indirect_ids = 2 ∷ 3 ∷ 10 ∷ 12 ∷ 13 ∷ []
+
+-- what a subsection of the id holds
+abbrev pub kind_of : ℕ → NameKind
+kind_of id = cond (id == 0) of_module (cond (is_one_of map_ids id) of_map (cond (is_one_of indirect_ids id) of_indirect of_other))
+
+-- what follows the id of a subsection that holds this
+abbrev pub after_id : NameKind → ℕ → Format NameItem
+after_id of_module id = mapped Module (frame name)
+after_id of_map id = mapped (Map id) (frame name_map)
+after_id of_indirect id = mapped (Indirect id) (frame indirect_map)
+after_id of_other id = mapped (Other id) (frame any_bytes)
+
+-- subsection: an id, and the frame of what it holds
+abbrev pub subsection : Format NameItem
+subsection = tagged byte (λ id. after_id (kind_of id) id)
+
+-- ---- texts
+
+abbrev pub name_text : NameItem → List ℕ
+name_text (Module n) = subsection_text 0 (frame_text n)
+name_text (Map id names) = subsection_text id (vec_text naming_text names)
+name_text (Indirect id names) = subsection_text id (vec_text inside_text names)
+name_text (Other id content) = subsection_text id content
+
+-- plain: The id is one of what is named, and the names are UTF-8.
+abbrev pub IsName : NameItem → Type 0
+IsName (Module n) = IsUtf8 n
+IsName (Map id names) = (kind_of id ≡ of_map) × VecFits IsNaming names
+IsName (Indirect id names) = (kind_of id ≡ of_indirect) × VecFits IsInside names
+IsName (Other id content) = kind_of id ≡ of_other
+
+-- "name"
+abbrev pub name_name : List ℕ
+name_name = codes "name"

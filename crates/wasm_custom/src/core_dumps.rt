@@ -1,0 +1,243 @@
+// Core dumps: the process, its modules and its instances.
+ghost use Rattle.std.specs.Prelude.{◌≡◌, ◌≢◌, ℕ, List, [], ◌∷◌, ◌++◌, IfOk, true, ⊤};
+ghost use Rattle.wasm_base.specs.Calls.{Adds, ReadsBack};
+ghost use Rattle.wasm_base.specs.Cow.{items_of, text_of};
+ghost use Rattle.wasm_base.specs.Formats.{fixed};
+ghost use Rattle.wasm_base.specs.Iterators.{HasKnownLength};
+ghost use Rattle.wasm_base.specs.Numbers.{unsigned_text};
+ghost use Rattle.wasm_base.specs.Texts.{frame_text, FrameFits, vec_text};
+ghost use Rattle.wasm_base.specs.declared.refused.Refused.TheVariants.{TooLong};
+ghost use Rattle.wasm_custom.specs.Adding.{AddsTwoLists};
+ghost use Rattle.wasm_custom.specs.CoreDumps.{marked_text, core_name, core_section, SaysProcess, IsModule, marked_name, modules_name, Instance, instance_text, IsInstance, instance, instances_name};
+ghost use Rattle.wasm_custom.specs.Customs.{named_text, NamedFits};
+ghost use Rattle.wasm_custom.specs.Entries.{entries_text};
+
+use crate::custom_section::{CustomSection, begin_custom};
+use crate::entries::{CustomEntries, CustomKind};
+use std::alloc::{Allocator, Global};
+use std::marker::Model;
+use wasm_base::{Encode, Items, R, Section, SectionId, vec_of};
+
+/// The process that was dumped, seen as the data of its section: the byte 00, and its name.
+#[derive(Drop, Debug)]
+pub struct CoreDumpSection<A: Allocator = Global> {
+    data: Vec<u8, A>,
+}
+
+impl<A: Allocator> Model for CoreDumpSection<A> {
+    ghost Value = { List ℕ };
+
+    ghost view = { λ s. s.data.items };
+}
+
+impl<A: Allocator> CoreDumpSection<A> {
+    /// The process of this name.
+    pub fn new(alloc: A, name: &str) -> R<Self>
+        ensures is { IfOk result (λ s. s ≡ marked_text name.now) }
+        ensures too_long { FrameFits name.now → result ≢ Err TooLong }
+    {
+        let mut data = Vec::new(alloc);
+        (0x00u8, name).encode(&mut data)?;
+        Ok(CoreDumpSection { data })
+    }
+
+    /// The same process, in memory of its own.
+    pub fn clone(&self) -> R<Self>
+    where
+        A: Copy,
+        ensures same { IfOk result (λ s. s ≡ self.now) }
+        ensures memory { result ≢ Err TooLong }
+    {
+        Ok(CoreDumpSection {
+            data: Vec::from_slice(*self.data.allocator(), &self.data)?,
+        })
+    }
+}
+
+/// The frame of the name of the section, and of the data.
+impl<A: Allocator> Encode for CoreDumpSection<A> {
+    ghost text = { λ s. named_text core_name s };
+
+    ghost fits = { λ s. NamedFits core_name s };
+
+    ghost reading = { λ s. ReadsBack core_section (SaysProcess s) (named_text core_name s) };
+
+    #[tactic(auto, unfolding(crate::specs::Customs::named_text))]
+    fn encode<B: Allocator>(&self, sink: &mut Vec<u8, B>) -> R<()> {
+        let data = self.data.as_slice();
+        begin_custom(sink, "core", data.len())?;
+        sink.extend_from_slice(data).unwrap();
+        Ok(())
+    }
+}
+
+impl<A: Allocator> Section for CoreDumpSection<A> {
+    ghost use Rattle.wasm_base.specs.SectionId.{number_of};
+    ghost use Rattle.wasm_base.specs.declared.section_id.SectionId.TheVariants as ids;
+    ghost use Rattle.wasm_custom.specs.CoreDumps.{core_name, core_section, SaysProcess};
+    ghost use Rattle.wasm_custom.specs.Customs.{NamedPayload, named_framed};
+
+    ghost id_of = { λ _. number_of ids.Custom };
+
+    ghost Items = { List ℕ };
+
+    ghost format = { core_section };
+
+    ghost says = { SaysProcess };
+
+    ghost payload = { NamedPayload core_name };
+
+    fn id(&self) -> u8 {
+        SectionId::Custom.into()
+    }
+
+    ghost framed = { λ s bytes fits pays. named_framed core_name s bytes fits pays };
+
+    ghost reads_back = { λ s promised. promised };
+}
+
+/// The modules of the process, by their names.
+pub type CoreDumpModulesSection<A = Global> = CustomEntries<ModuleItems, A>;
+
+/// The items of a section of modules: their names.
+#[derive(Clone, Copy, Debug)]
+pub struct ModuleItems;
+
+impl Items for ModuleItems {
+    ghost Record = { List ℕ };
+
+    ghost Item = { List ℕ };
+
+    ghost record_text = { marked_text };
+
+    ghost is_plain = { IsModule };
+
+    ghost normal_form = { λ item. item };
+
+    ghost item_format = { marked_name };
+
+    #[tactic(auto, using(crate::proofs::CoreDumpLaws::module_items))]
+    fn laws() {}
+}
+
+impl CustomKind for ModuleItems {
+    ghost name = { modules_name };
+
+    ghost front = { [] };
+
+    ghost front_format = { fixed [] (tt {0}) };
+
+    ghost counted = { true };
+
+    fn name() -> &'static str {
+        "coremodules"
+    }
+
+    fn front() -> &'static [u8] {
+        &[]
+    }
+
+    fn counted() -> bool {
+        true
+    }
+
+    #[tactic(auto, using(crate::proofs::CoreDumpLaws::module_frame))]
+    fn frame_laws() {}
+}
+
+impl<A: Allocator> CoreDumpModulesSection<A> {
+    /// Adds a module. A refused call leaves the section as it was.
+    pub fn module(&mut self, name: &str) -> R<()>
+        ensures { Adds (marked_text name.now) (⊤ × FrameFits name.now) self.old self.new result }
+    {
+        self.add_record(&(0x00u8, name))
+    }
+
+    /// The section as a custom section, whose data are in memory of their own.
+    pub fn as_custom<B: Allocator>(&self, alloc: B) -> R<CustomSection<'_, B>>
+        ensures same { IfOk result (λ s. (text_of s.name ≡ modules_name) × (items_of s.bytes ≡ entries_text [] true self.now)) }
+        ensures memory { result ≢ Err TooLong }
+    {
+        self.owned(alloc)
+    }
+}
+
+/// The instances of the process. `len` is their number.
+pub type CoreDumpInstancesSection<A = Global> = CustomEntries<InstanceItems, A>;
+
+/// The items of a section of instances.
+#[derive(Clone, Copy, Debug)]
+pub struct InstanceItems;
+
+impl Items for InstanceItems {
+    ghost Record = { Instance };
+
+    ghost Item = { Instance };
+
+    ghost record_text = { instance_text };
+
+    ghost is_plain = { IsInstance };
+
+    ghost normal_form = { λ item. item };
+
+    ghost item_format = { instance };
+
+    #[tactic(auto, using(crate::proofs::CoreDumpLaws::instance_items))]
+    fn laws() {}
+}
+
+impl CustomKind for InstanceItems {
+    ghost name = { instances_name };
+
+    ghost front = { [] };
+
+    ghost front_format = { fixed [] (tt {0}) };
+
+    ghost counted = { true };
+
+    fn name() -> &'static str {
+        "coreinstances"
+    }
+
+    fn front() -> &'static [u8] {
+        &[]
+    }
+
+    fn counted() -> bool {
+        true
+    }
+
+    #[tactic(auto, using(crate::proofs::CoreDumpLaws::instance_frame))]
+    fn frame_laws() {}
+}
+
+impl<A: Allocator> CoreDumpInstancesSection<A> {
+    /// Adds an instance of the module, with these memories and globals. A refused call leaves the section as it was; where there are
+    /// too many of either, none is asked for.
+    pub fn instance<M: IntoIterator<Item = u32>, G: IntoIterator<Item = u32> + Drop>(
+        &mut self,
+        module_index: u32,
+        memories: M,
+        globals: G,
+    ) -> R<()>
+    where
+        M::IntoIter: ExactSizeIterator + Drop,
+        G::IntoIter: ExactSizeIterator + Drop,
+        requires memories { HasKnownLength M.into_iter_gives M.IntoIter.can_next M.IntoIter.next_gives M.IntoIter.remaining memories }
+        requires globals { HasKnownLength G.into_iter_gives G.IntoIter.can_next G.IntoIter.next_gives G.IntoIter.remaining globals }
+        ensures { AddsTwoLists M.into_iter_gives M.IntoIter.next_gives M.IntoIter.remaining memories G.into_iter_gives G.IntoIter.next_gives G.IntoIter.remaining globals (λ _. ⊤) (λ _. ⊤)
+            (λ xs ys. (0x00 ∷ unsigned_text module_index) ++ (vec_text unsigned_text xs ++ vec_text unsigned_text ys)) self.old self.new result }
+    {
+        let memories = vec_of(memories)?;
+        let globals = vec_of(globals)?;
+        self.add_once(((0x00u8, module_index), memories, globals))
+    }
+
+    /// The section as a custom section, whose data are in memory of their own.
+    pub fn as_custom<B: Allocator>(&self, alloc: B) -> R<CustomSection<'_, B>>
+        ensures same { IfOk result (λ s. (text_of s.name ≡ instances_name) × (items_of s.bytes ≡ entries_text [] true self.now)) }
+        ensures memory { result ≢ Err TooLong }
+    {
+        self.owned(alloc)
+    }
+}

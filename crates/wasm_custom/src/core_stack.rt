@@ -1,0 +1,140 @@
+// The stack of a core dump.
+ghost use Rattle.std.specs.Prelude.{◌≡◌, ◌≢◌, ℕ, List, [], ◌∷◌, ◌++◌, IfOk, true, ⊤};
+ghost use Rattle.wasm_base.specs.Calls.{ReadsBack};
+ghost use Rattle.wasm_base.specs.Cow.{items_of, text_of};
+ghost use Rattle.wasm_base.specs.Iterators.{HasKnownLength};
+ghost use Rattle.wasm_base.specs.Numbers.{unsigned_text};
+ghost use Rattle.wasm_base.specs.Texts.{FrameFits, vec_text};
+ghost use Rattle.wasm_base.specs.declared.refused.Refused.TheVariants.{TooLong};
+ghost use Rattle.wasm_custom.specs.Adding.{AddsTwoLists};
+ghost use Rattle.wasm_custom.specs.CoreDumps.{marked_text};
+ghost use Rattle.wasm_custom.specs.CoreStacks.{stack_name, stack_section, SaysStack};
+ghost use Rattle.wasm_custom.specs.CoreValues.{value_text};
+ghost use Rattle.wasm_custom.specs.Customs.{named_text, NamedFits};
+ghost use Rattle.wasm_custom.specs.Entries.{entries_text};
+
+use crate::core_values::CoreDumpValue;
+use crate::custom_section::CustomSection;
+use crate::entries::{data_of, encode_entries};
+use std::alloc::{Allocator, Global};
+use std::marker::Model;
+use wasm_base::{CowSlice, CowStr, Encode, Pieces, R, Section, SectionId, vec_of};
+
+/// The stack of a thread, seen as what stands before its frames, which is the byte 00 and the name of the thread, and the bytes of
+/// each frame.
+///
+/// ```rust
+/// let mut stack = CoreDumpStackSection::new(alloc, "main")?;
+/// stack.frame(0, 42, 51, [CoreDumpValue::I32(1)], [CoreDumpValue::Missing])?;
+/// ```
+#[derive(Drop, Debug)]
+pub struct CoreDumpStackSection<A: Allocator = Global> {
+    front: Vec<u8, A>,
+    frames: Pieces<A>,
+}
+
+impl<A: Allocator> Model for CoreDumpStackSection<A> {
+    ghost Value = { List ℕ × List (List ℕ) };
+
+    ghost view = { λ s. (s.front.items, s.frames) };
+}
+
+impl<A: Allocator + Copy> CoreDumpStackSection<A> {
+    /// The stack of the thread of this name, without frames.
+    pub fn new(alloc: A, thread_name: &str) -> R<Self>
+        ensures is { IfOk result (λ s. s ≡ (marked_text thread_name.now, [])) }
+        ensures too_long { FrameFits thread_name.now → result ≢ Err TooLong }
+    {
+        let mut front = Vec::new(alloc);
+        (0x00u8, thread_name).encode(&mut front)?;
+        Ok(CoreDumpStackSection {
+            front,
+            frames: Pieces::new(alloc),
+        })
+    }
+
+    /// The same stack, in memory of its own.
+    pub fn clone(&self) -> R<Self>
+        ensures same { IfOk result (λ s. s ≡ self.now) }
+        ensures memory { result ≢ Err TooLong }
+    {
+        Ok(CoreDumpStackSection {
+            front: Vec::from_slice(*self.front.allocator(), &self.front)?,
+            frames: self.frames.clone()?,
+        })
+    }
+}
+
+impl<A: Allocator> CoreDumpStackSection<A> {
+    /// Adds a frame: the instance and the function where it is, how far into the function, its locals, and its part of the stack. A
+    /// refused call leaves the section as it was; where there are too many values of either list, none is asked for.
+    pub fn frame<
+        L: IntoIterator<Item = CoreDumpValue>,
+        S: IntoIterator<Item = CoreDumpValue> + Drop,
+    >(&mut self, instanceidx: u32, funcidx: u32, codeoffset: u32, locals: L, stack: S) -> R<()>
+    where
+        L::IntoIter: ExactSizeIterator + Drop,
+        S::IntoIter: ExactSizeIterator + Drop,
+        requires locals { HasKnownLength L.into_iter_gives L.IntoIter.can_next L.IntoIter.next_gives L.IntoIter.remaining locals }
+        requires stack { HasKnownLength S.into_iter_gives S.IntoIter.can_next S.IntoIter.next_gives S.IntoIter.remaining stack }
+        ensures adds { AddsTwoLists L.into_iter_gives L.IntoIter.next_gives L.IntoIter.remaining locals S.into_iter_gives S.IntoIter.next_gives S.IntoIter.remaining stack (λ _. ⊤) (λ _. ⊤)
+            (λ xs ys. (0x00 ∷ (unsigned_text instanceidx ++ (unsigned_text funcidx ++ unsigned_text codeoffset))) ++ (vec_text value_text xs ++ vec_text value_text ys)) self.old.1 self.new.1 result }
+        ensures same_thread { self.new.0 ≡ self.old.0 }
+    {
+        let locals = vec_of(locals)?;
+        let stack = vec_of(stack)?;
+        let place = (instanceidx, funcidx, codeoffset);
+        self.frames.add_once(((0x00u8, place), locals, stack))
+    }
+
+    /// The section as a custom section, whose data are in memory of their own.
+    pub fn as_custom<B: Allocator>(&self, alloc: B) -> R<CustomSection<'_, B>>
+        ensures same { IfOk result (λ s. (text_of s.name ≡ stack_name) × (items_of s.bytes ≡ entries_text self.now.0 true self.now.1)) }
+        ensures memory { result ≢ Err TooLong }
+    {
+        let data = data_of(alloc, &self.front, true, &self.frames)?;
+        Ok(CustomSection {
+            name: CowStr::Borrowed("corestack"),
+            bytes: CowSlice::Owned(data),
+        })
+    }
+}
+
+/// The frame of the name of the section, and of the data: the name of the thread, the number of frames, and these.
+impl<A: Allocator> Encode for CoreDumpStackSection<A> {
+    ghost text = { λ s. named_text stack_name (entries_text s.0 true s.1) };
+
+    ghost fits = { λ s. NamedFits stack_name (entries_text s.0 true s.1) };
+
+    ghost reading = { λ s. ReadsBack stack_section (SaysStack s.0 s.1) (named_text stack_name (entries_text s.0 true s.1)) };
+
+    fn encode<B: Allocator>(&self, sink: &mut Vec<u8, B>) -> R<()> {
+        encode_entries(sink, "corestack", &self.front, true, &self.frames)
+    }
+}
+
+impl<A: Allocator> Section for CoreDumpStackSection<A> {
+    ghost use Rattle.wasm_base.specs.SectionId.{number_of};
+    ghost use Rattle.wasm_base.specs.declared.section_id.SectionId.TheVariants as ids;
+    ghost use Rattle.wasm_custom.specs.CoreStacks.{Frame, stack_name, stack_section, SaysStack};
+    ghost use Rattle.wasm_custom.specs.Customs.{NamedPayload, named_framed};
+    ghost use Rattle.wasm_custom.specs.Entries.{entries_text};
+
+    ghost id_of = { λ _. number_of ids.Custom };
+
+    ghost Items = { List ℕ × List Frame };
+
+    ghost format = { stack_section };
+
+    ghost says = { λ s. SaysStack s.0 s.1 };
+
+    ghost payload = { λ s. NamedPayload stack_name (entries_text s.0 true s.1) };
+
+    fn id(&self) -> u8 {
+        SectionId::Custom.into()
+    }
+
+    ghost framed = { λ s bytes fits pays. named_framed stack_name (entries_text s.0 true s.1) bytes fits pays };
+
+    ghost reads_back = { λ s promised. promised };
+}

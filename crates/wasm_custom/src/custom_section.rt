@@ -1,0 +1,133 @@
+// Custom sections: a name, and data up to the end of the frame.
+ghost use Rattle.std.specs.Prelude.{◌≡◌, ◌≢◌, ℕ, ◌+◌, ◌≤◌, List, ◌++◌, length, vec_len, vec_capacity, OnOk, OnErr, IfOk, IsOk, IsUtf8};
+ghost use Rattle.wasm_base.specs.Calls.{ReadsBack};
+ghost use Rattle.wasm_base.specs.Cow.{items_of, text_of};
+ghost use Rattle.wasm_base.specs.Formats.{custom};
+ghost use Rattle.wasm_base.specs.Numbers.{unsigned_text};
+ghost use Rattle.wasm_base.specs.Texts.{longest, frame_text};
+ghost use Rattle.wasm_custom.specs.Customs.{named_text, NamedFits};
+
+use std::alloc::{Allocator, Global};
+use wasm_base::{
+    CowSlice, CowStr, Encode, R, Refused, Section, SectionId, begin_frame, encoding_size,
+};
+
+/// Appends the size and the name of a custom section, and makes room for data of `size` bytes that are to follow.
+pub(crate) fn begin_custom<A: Allocator>(sink: &mut Vec<u8, A>, name: &str, size: usize) -> R<()>
+    ensures ok { OnOk result (sink.new.items ≡ sink.old.items ++ (unsigned_text (length (frame_text name.now) + size) ++ frame_text name.now)) }
+    ensures made_room { OnOk result (vec_len sink.new + size ≤ vec_capacity sink.new) }
+    ensures err { OnErr result (sink.new.items ≡ sink.old.items) }
+
+    ensures fitted { OnOk result (length (frame_text name.now) + size ≤ longest) }
+    ensures too_long { length (frame_text name.now) + size ≤ longest → result ≢ Err Refused.TooLong }
+
+    ensures room { length (frame_text name.now) + size ≤ longest
+        → vec_len sink.old + (length (unsigned_text (length (frame_text name.now) + size)) + (length (frame_text name.now) + size)) ≤ vec_capacity sink.old
+        → IsOk result }
+    ensures capacity { vec_capacity sink.old ≤ vec_capacity sink.new }
+{
+    let Ok(short) = u32::try_from(name.len()) else {
+        return Err(Refused::TooLong);
+    };
+    begin_frame(
+        sink,
+        (encoding_size(short) + name.len()).saturating_add(size),
+    )?;
+    name.encode(sink).unwrap();
+    Ok(())
+}
+
+/// A custom section of any name and data.
+///
+/// ```rust
+/// module.section(&CustomSection {
+///     name: CowStr::Borrowed("test"),
+///     bytes: CowSlice::Borrowed(&[11, 22, 33, 44]),
+/// })?;
+/// ```
+#[derive(Drop, Debug)]
+pub struct CustomSection<'a, A: Allocator = Global> {
+    pub name: CowStr<'a, A>,
+    /// The data.
+    pub bytes: CowSlice<'a, u8, A>,
+}
+
+impl<'a, A: Allocator + Copy> CustomSection<'a, A> {
+    /// The same name and data: what is owned in memory of its own.
+    pub fn clone(&self) -> R<Self>
+        ensures same { IfOk result (λ s. (text_of s.name ≡ text_of self.now.name) × (items_of s.bytes ≡ items_of self.now.bytes)) }
+        ensures memory { result ≢ Err Refused.TooLong }
+    {
+        Ok(CustomSection {
+            name: self.name.clone()?,
+            bytes: self.bytes.clone()?,
+        })
+    }
+}
+
+/// Sections are equal where their names and data have equal bytes.
+impl<A: Allocator> PartialEq for CustomSection<'_, A> {
+    ghost use Rattle.std.proofs.Common.{rules};
+    ghost use Rattle.std.specs.Cmp.Rules.{comparing};
+    ghost use Rattle.wasm_custom.specs.Customs.{same_section};
+
+    ghost eq = { same_section };
+
+    ghost laws = { Prim.search (comparing, rules) };
+
+    fn eq(&self, other: &Self) -> bool {
+        self.name.as_str().as_bytes() == other.name.as_str().as_bytes()
+            && self.bytes.as_slice() == other.bytes.as_slice()
+    }
+}
+
+impl<A: Allocator> Eq for CustomSection<'_, A> {
+    ghost use Rattle.std.proofs.Common.{rules};
+    ghost use Rattle.std.specs.Cmp.Rules.{comparing};
+
+    ghost laws = { Prim.search (comparing, rules) };
+}
+
+/// The frame of the name and the data.
+impl<A: Allocator> Encode for CustomSection<'_, A> {
+    ghost text = { λ s. named_text (text_of s.name) (items_of s.bytes) };
+
+    ghost fits = { λ s. NamedFits (text_of s.name) (items_of s.bytes) };
+
+    ghost reading = { λ s. ReadsBack custom (λ said. IsUtf8 (text_of s.name) × (said ≡ (text_of s.name, items_of s.bytes))) (named_text (text_of s.name) (items_of s.bytes)) };
+
+    #[tactic(auto, unfolding(crate::specs::Customs::named_text))]
+    fn encode<B: Allocator>(&self, sink: &mut Vec<u8, B>) -> R<()> {
+        let bytes = self.bytes.as_slice();
+        begin_custom(sink, self.name.as_str(), bytes.len())?;
+        sink.extend_from_slice(bytes).unwrap();
+        Ok(())
+    }
+}
+
+impl<A: Allocator> Section for CustomSection<'_, A> {
+    ghost use Rattle.std.specs.Prelude.{IsUtf8};
+    ghost use Rattle.wasm_base.specs.Cow.{items_of, text_of};
+    ghost use Rattle.wasm_base.specs.Formats.{custom};
+    ghost use Rattle.wasm_base.specs.SectionId.{number_of};
+    ghost use Rattle.wasm_base.specs.declared.section_id.SectionId.TheVariants as ids;
+    ghost use Rattle.wasm_custom.specs.Customs.{NamedPayload, named_framed};
+
+    ghost id_of = { λ _. number_of ids.Custom };
+
+    ghost Items = { List ℕ × List ℕ };
+
+    ghost format = { custom };
+
+    ghost says = { λ s said. IsUtf8 (text_of s.name) × (said ≡ (text_of s.name, items_of s.bytes)) };
+
+    ghost payload = { λ s. NamedPayload (text_of s.name) (items_of s.bytes) };
+
+    fn id(&self) -> u8 {
+        SectionId::Custom.into()
+    }
+
+    ghost framed = { λ s bytes fits pays. named_framed (text_of s.name) (items_of s.bytes) bytes fits pays };
+
+    ghost reads_back = { λ s promised. promised };
+}

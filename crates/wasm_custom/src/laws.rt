@@ -1,0 +1,107 @@
+//! What is promised of all lists of bytes, and not of a call: each function does nothing, and its clauses are the promise.
+//!
+//! `ItemLaws` says of a kind of items that they are read uniquely, and that the text of a plain record spells what it says.
+ghost use Rattle.std.specs.Prelude.{◌++◌, ◌∷◌, []};
+ghost use Rattle.wasm_base.specs.Entries.{ItemLaws};
+ghost use Rattle.wasm_base.specs.Formats.{custom, frame, pair, name, any_bytes};
+ghost use Rattle.wasm_base.specs.Laws.{HoldsMore, NothingStandsWide};
+ghost use Rattle.wasm_base.specs.Modules.{ReadsPayloads};
+ghost use Rattle.wasm_base.specs.Reading.{UniqueReading, IsUniqueWide};
+ghost use Rattle.wasm_custom.specs.CoreDumps.{marked_text, marked_name, IsModule, instance_text, IsInstance, instance};
+ghost use Rattle.wasm_custom.specs.CoreStacks.{frame_entry, IsFrame, stack_frame};
+ghost use Rattle.wasm_custom.specs.CoreValues.{value};
+ghost use Rattle.wasm_custom.specs.Hints.{hints_text, AreHints, hints, hints_name};
+ghost use Rattle.wasm_custom.specs.Linking.{link_text, IsLink, link, linking_name};
+ghost use Rattle.wasm_custom.specs.Lists.{IsVectorOf, ListMore};
+ghost use Rattle.wasm_custom.specs.Names.{naming_text, IsNaming, inside_text, IsInside, name_text, IsName, subsection};
+ghost use Rattle.wasm_custom.specs.Producers.{producer_text, IsProducer, field_text, IsField, field};
+ghost use Rattle.wasm_custom.specs.Readings.{name_payload, linking_payload, producers_payload, hints_payload, modules_payload, instances_payload, core_payload, stack_payload};
+ghost use Rattle.wasm_custom.specs.Symbols.{symbol_text, IsGivenSymbol, symbol};
+
+/// Sections are read uniquely, and so are their items, each of which has a text.
+#[tactic(auto, using(crate::proofs::SectionLaws::sections))]
+pub fn sections()
+    ensures names { UniqueReading (frame name_payload) }
+    ensures linking { UniqueReading (frame linking_payload) }
+    ensures producers { UniqueReading (frame producers_payload) }
+    ensures hints { UniqueReading (frame hints_payload) }
+    ensures modules { UniqueReading (frame modules_payload) }
+    ensures instances { UniqueReading (frame instances_payload) }
+    ensures core { UniqueReading (frame core_payload) }
+    ensures stack { UniqueReading (frame stack_payload) }
+    ensures customs { UniqueReading custom }
+    ensures subsections { UniqueReading subsection }
+    ensures links { UniqueReading link }
+    ensures symbols { UniqueReading symbol }
+    ensures fields { UniqueReading field }
+    ensures functions_hints { UniqueReading hints }
+    ensures marked_names { UniqueReading marked_name }
+    ensures single_instances { UniqueReading instance }
+    ensures frames { UniqueReading stack_frame }
+    ensures values { UniqueReading value }
+
+    ensures name_items { ItemLaws name_text IsName (λ item. item) subsection }
+    ensures linking_items { ItemLaws link_text IsLink (λ item. item) link }
+    ensures producer_items { ItemLaws field_text IsField (λ field. field) field }
+    ensures hint_items { ItemLaws hints_text AreHints (λ hints. hints) hints }
+    ensures module_items { ItemLaws marked_text IsModule (λ n. n) marked_name }
+    ensures instance_items { ItemLaws instance_text IsInstance (λ instance. instance) instance }
+    ensures frame_items { ItemLaws frame_entry IsFrame (λ frame. frame) stack_frame }
+{}
+
+/// With padded numbers too, sections are read uniquely, and what shortest numbers spell is among it.
+#[tactic(auto, using(crate::proofs::SectionLaws::wide_sections))]
+pub fn wide()
+    ensures names { IsUniqueWide (frame name_payload) }
+    ensures linking { IsUniqueWide (frame linking_payload) }
+    ensures producers { IsUniqueWide (frame producers_payload) }
+    ensures hints { IsUniqueWide (frame hints_payload) }
+    ensures modules { IsUniqueWide (frame modules_payload) }
+    ensures instances { IsUniqueWide (frame instances_payload) }
+    ensures core { IsUniqueWide (frame core_payload) }
+    ensures stack { IsUniqueWide (frame stack_payload) }
+    ensures customs { IsUniqueWide custom }
+{}
+
+/// What sections and lists hold, call by call: at first nothing, and after a call that adds a plain record what this says too. The text
+/// of a list is the vector of its members.
+#[tactic(auto, using(crate::proofs::HeldLaws::calls))]
+pub fn calls()
+    ensures names { HoldsMore name_text IsName (λ item. item) subsection }
+    ensures linking { HoldsMore link_text IsLink (λ item. item) link }
+    ensures producers { HoldsMore field_text IsField (λ field. field) field }
+    ensures hints { HoldsMore hints_text AreHints (λ hints. hints) hints }
+    ensures modules { HoldsMore marked_text IsModule (λ n. n) marked_name }
+    ensures instances { HoldsMore instance_text IsInstance (λ instance. instance) instance }
+    ensures frames { HoldsMore frame_entry IsFrame (λ frame. frame) stack_frame }
+    ensures name_maps { ListMore naming_text IsNaming }
+    ensures indirect_maps { ListMore inside_text IsInside }
+    ensures symbol_tables { ListMore symbol_text IsGivenSymbol }
+    ensures producer_fields { ListMore producer_text IsProducer }
+    ensures name_maps_text { IsVectorOf naming_text IsNaming }
+    ensures indirect_maps_text { IsVectorOf inside_text IsInside }
+    ensures symbol_tables_text { IsVectorOf symbol_text IsGivenSymbol }
+    ensures producer_fields_text { IsVectorOf producer_text IsProducer }
+{}
+
+/// Where a module is read as ids and payloads, and a section as its items alone, its payload is read as these alone.
+#[tactic(auto, using(crate::proofs::SectionLaws::payloads))]
+pub fn payloads()
+    ensures names { ReadsPayloads name_payload }
+    ensures linking { ReadsPayloads linking_payload }
+    ensures producers { ReadsPayloads producers_payload }
+    ensures hints { ReadsPayloads hints_payload }
+    ensures modules { ReadsPayloads modules_payload }
+    ensures instances { ReadsPayloads instances_payload }
+    ensures core { ReadsPayloads core_payload }
+    ensures stack { ReadsPayloads stack_payload }
+    ensures customs { ReadsPayloads (pair name any_bytes) }
+{}
+
+/// No section of branch hints stands where a value is spelled by two bytes, and no linking section where a function that is defined has
+/// no name.
+#[tactic(auto, using(crate::proofs::NothingLaws::nothing))]
+pub fn nothing_stands()
+    ensures long_value { NothingStandsWide (frame hints_payload) (33 ∷ 25 ∷ (hints_name ++ (1 ∷ 0 ∷ 1 ∷ 3 ∷ 1 ∷ 128 ∷ 1 ∷ []))) }
+    ensures no_name { NothingStandsWide (frame linking_payload) (15 ∷ 7 ∷ (linking_name ++ (2 ∷ 8 ∷ 4 ∷ 1 ∷ 0 ∷ 0 ∷ 1 ∷ []))) }
+{}

@@ -1,0 +1,34 @@
+//! The custom sections of a WebAssembly module: names, linking, producers, branch hints and core dumps.
+//!
+//! The name section is that of the WebAssembly core specification, "Custom Sections"; the others are those of the tool conventions.
+#![tactic(auto)]
+
+mod core_dumps;
+mod core_stack;
+mod core_values;
+mod custom_section;
+mod entries;
+mod hints;
+pub mod laws;
+mod linking;
+mod lists;
+mod names;
+mod producers;
+mod raw_custom;
+mod subsections;
+mod symbols;
+
+pub use core_dumps::{
+    CoreDumpInstancesSection, CoreDumpModulesSection, CoreDumpSection, InstanceItems, ModuleItems,
+};
+pub use core_stack::CoreDumpStackSection;
+pub use core_values::CoreDumpValue;
+pub use custom_section::CustomSection;
+pub use entries::{CustomEntries, CustomKind};
+pub use hints::{BranchHint, BranchHints, HintItems};
+pub use linking::{LinkingItems, LinkingSection};
+pub use lists::{CountedList, ListKind};
+pub use names::{IndirectMembers, IndirectNameMap, NameItems, NameMap, NameMembers, NameSection};
+pub use producers::{ProducerItems, ProducersField, ProducersSection, ValueMembers};
+pub use raw_custom::RawCustomSection;
+pub use symbols::{DataSymbolDefinition, SymbolMembers, SymbolTable};

@@ -1,0 +1,118 @@
+// Lists of counted entries that are handed in as a whole.
+ghost use Rattle.std.specs.Prelude.{◌≡◌, ◌≢◌, ℕ, ◌≤◌, List, [], ◌++◌, length, IfOk, IsTrue, ◌↔◌, ⊤};
+ghost use Rattle.wasm_base.specs.Calls.{Adds};
+ghost use Rattle.wasm_base.specs.Numbers.{unsigned_text};
+ghost use Rattle.wasm_base.specs.Texts.{longest};
+ghost use Rattle.wasm_base.specs.declared.refused.Refused.TheVariants.{TooLong};
+ghost use Rattle.wasm_custom.specs.Lists.{list_text, HoldsList, IsTextOf};
+
+use crate::subsections::Content;
+use std::alloc::{Allocator, Global};
+use std::marker::{Model, PhantomData};
+use wasm_base::{Encode, Pieces, R, encoding_size};
+
+/// A kind of members of a list: how they are written.
+pub trait ListKind {
+    /// What a call hands in.
+    ghost Member: { Type 0 };
+
+    /// text: the bytes of a member.
+    ghost member_text: { Member → List ℕ };
+
+    /// What holds of each member that is handed in.
+    ghost is_member: { Member → Type 0 };
+}
+
+/// A list of counted members of the kind `K`, seen as the bytes of each.
+#[derive(Drop, Debug)]
+pub struct CountedList<K: ListKind, A: Allocator = Global> {
+    pieces: Pieces<A>,
+    kind: PhantomData<K>,
+}
+
+/// There is a list whose texts the entries are.
+impl<K: ListKind, A: Allocator> Model for CountedList<K, A> {
+    ghost Value = { List (List ℕ) };
+
+    ghost view = { λ l. l.pieces };
+
+    ghost invariant = { λ l. HoldsList K.member_text K.is_member l.pieces };
+}
+
+impl<K: ListKind, A: Allocator> CountedList<K, A> {
+    /// The number of entries.
+    pub fn len(&self) -> u32
+        ensures { result ≡ length self.now }
+    {
+        self.pieces.len()
+    }
+
+    /// Whether there is no entry.
+    pub fn is_empty(&self) -> bool
+        ensures { IsTrue result ↔ (length self.now ≡ 0) }
+    {
+        self.pieces.is_empty()
+    }
+
+    /// Adds an entry that is the text of the record. A refused call leaves the list as it was.
+    pub(crate) fn add_record<T: Encode>(&mut self, given: &T) -> R<()>
+        requires { T.fits given.now → IsTextOf K.member_text K.is_member (T.text given.now) }
+        ensures { Adds (T.text given.now) (T.fits given.now) self.old self.new result }
+    {
+        self.pieces.add_encoded(given)?;
+        Ok(())
+    }
+
+    /// There is a list whose texts the entries are. The function does nothing.
+    pub fn holds(&self)
+        ensures { HoldsList K.member_text K.is_member self.now }
+    {
+        let _ = self.pieces.len();
+    }
+}
+
+impl<K: ListKind, A: Allocator + Copy> CountedList<K, A> {
+    /// A list of no entries. It takes no memory.
+    pub fn new(alloc: A) -> Self
+        ensures { result ≡ [] }
+    {
+        CountedList {
+            pieces: Pieces::new(alloc),
+            kind: PhantomData,
+        }
+    }
+
+    /// A list of the same entries, in memory of its own.
+    pub fn clone(&self) -> R<Self>
+        ensures same { IfOk result (λ l. l ≡ self.now) }
+        ensures memory { result ≢ Err TooLong }
+    {
+        Ok(CountedList {
+            pieces: self.pieces.clone()?,
+            kind: PhantomData,
+        })
+    }
+}
+
+/// The vector of the entries.
+impl<K: ListKind, A: Allocator> Encode for CountedList<K, A> {
+    ghost text = { list_text };
+
+    ghost fits = { λ _. ⊤ };
+
+    #[tactic(auto, unfolding(crate::specs::Lists::list_text))]
+    fn encode<B: Allocator>(&self, sink: &mut Vec<u8, B>) -> R<()> {
+        let count = self.pieces.len();
+        sink.reserve(encoding_size(count).saturating_add(self.pieces.raw_len()))?;
+        count.encode(sink).unwrap();
+        sink.extend_from_slice(self.pieces.bytes()).unwrap();
+        Ok(())
+    }
+}
+
+impl<K: ListKind, A: Allocator> Content for CountedList<K, A> {
+    #[tactic(auto, unfolding(crate::specs::Lists::list_text))]
+    fn size(&self) -> usize {
+        encoding_size(self.pieces.len()).saturating_add(self.pieces.raw_len())
+    }
+}

@@ -1,0 +1,102 @@
+// The producers section.
+ghost use Rattle.std.specs.Prelude.{◌≡◌, ◌++◌, [], true, ⊤};
+ghost use Rattle.wasm_base.specs.Calls.{Adds};
+ghost use Rattle.wasm_base.specs.Formats.{fixed};
+ghost use Rattle.wasm_base.specs.Texts.{frame_text, FrameFits};
+ghost use Rattle.wasm_custom.specs.Lists.{list_text};
+ghost use Rattle.wasm_custom.specs.Producers.{Producer, producer_text, IsProducer, Field, field_text, IsField, field, producers_name};
+
+use crate::entries::{CustomEntries, CustomKind};
+use crate::lists::{CountedList, ListKind};
+use std::alloc::{Allocator, Global};
+use wasm_base::{Items, Lent, R};
+
+/// The values of a field: what has produced the module, and in which version.
+pub type ProducersField<A = Global> = CountedList<ValueMembers, A>;
+
+/// The members of a field: a name, and its version.
+#[derive(Clone, Copy, Debug)]
+pub struct ValueMembers;
+
+impl ListKind for ValueMembers {
+    ghost Member = { Producer };
+
+    ghost member_text = { producer_text };
+
+    ghost is_member = { IsProducer };
+}
+
+impl<A: Allocator> ProducersField<A> {
+    /// Adds a value. A refused call leaves the field as it was.
+    pub fn value(&mut self, name: &str, version: &str) -> R<()>
+        ensures { Adds (frame_text name.now ++ frame_text version.now) (FrameFits name.now × FrameFits version.now) self.old self.new result }
+    {
+        self.add_record(&(name, version))
+    }
+}
+
+/// What has produced the module.
+///
+/// ```rust
+/// let mut field = ProducersField::new(alloc);
+/// field.value("clang", "14.0.4")?;
+/// let mut producers = ProducersSection::new(alloc);
+/// producers.field("processed-by", &field)?;
+/// module.section(&producers)?;
+/// ```
+pub type ProducersSection<A = Global> = CustomEntries<ProducerItems, A>;
+
+/// The items of a producers section: fields.
+#[derive(Clone, Copy, Debug)]
+pub struct ProducerItems;
+
+impl Items for ProducerItems {
+    ghost Record = { Field };
+
+    ghost Item = { Field };
+
+    ghost record_text = { field_text };
+
+    ghost is_plain = { IsField };
+
+    ghost normal_form = { λ item. item };
+
+    ghost item_format = { field };
+
+    #[tactic(auto, using(crate::proofs::ProducerLaws::producer_items))]
+    fn laws() {}
+}
+
+impl CustomKind for ProducerItems {
+    ghost name = { producers_name };
+
+    ghost front = { [] };
+
+    ghost front_format = { fixed [] (tt {0}) };
+
+    ghost counted = { true };
+
+    fn name() -> &'static str {
+        "producers"
+    }
+
+    fn front() -> &'static [u8] {
+        &[]
+    }
+
+    fn counted() -> bool {
+        true
+    }
+
+    #[tactic(auto, using(crate::proofs::ProducerLaws::producer_frame))]
+    fn frame_laws() {}
+}
+
+impl<A: Allocator> ProducersSection<A> {
+    /// Adds a field, as `language`, `processed-by` or `sdk`. A refused call leaves the section as it was.
+    pub fn field<B: Allocator>(&mut self, name: &str, values: &ProducersField<B>) -> R<()>
+        ensures { Adds (frame_text name.now ++ list_text values.now) (FrameFits name.now × ⊤) self.old self.new result }
+    {
+        self.add_record(&(name, Lent(values)))
+    }
+}

@@ -1,0 +1,55 @@
+// Custom sections whose bytes are given.
+ghost use Rattle.std.specs.Prelude.{ℕ, List, ⊤};
+ghost use Rattle.wasm_base.specs.Calls.{ReadsBack};
+ghost use Rattle.wasm_base.specs.Formats.{custom};
+ghost use Rattle.wasm_base.specs.Numbers.{shortest};
+
+use std::alloc::Allocator;
+use wasm_base::{Encode, R, Section, SectionId};
+
+/// A custom section whose bytes are given as they are, its size among them. Where they are no frame of a name and data, a reader of
+/// the module finds something else there, or nothing.
+#[derive(Clone, Copy, Debug)]
+pub struct RawCustomSection<'a>(pub &'a [u8]);
+
+/// The bytes.
+impl Encode for RawCustomSection<'_> {
+    ghost text = { λ s. s.0.now };
+
+    ghost fits = { λ _. ⊤ };
+
+    ghost reading = { λ s. ReadsBack custom (custom shortest s.0.now) s.0.now };
+
+    #[tactic(auto, using(crate::proofs::CustomLaws::raw_back))]
+    fn encode<A: Allocator>(&self, sink: &mut Vec<u8, A>) -> R<()> {
+        sink.extend_from_slice(self.0)?;
+        Ok(())
+    }
+}
+
+/// Its payload is what its bytes frame.
+impl Section for RawCustomSection<'_> {
+    ghost use Rattle.wasm_base.specs.Formats.{custom};
+    ghost use Rattle.wasm_base.specs.Numbers.{shortest};
+    ghost use Rattle.wasm_base.specs.SectionId.{number_of};
+    ghost use Rattle.wasm_base.specs.Texts.{IsFrameOf};
+    ghost use Rattle.wasm_base.specs.declared.section_id.SectionId.TheVariants as ids;
+
+    ghost id_of = { λ _. number_of ids.Custom };
+
+    ghost Items = { List ℕ × List ℕ };
+
+    ghost format = { custom };
+
+    ghost says = { λ s. custom shortest s.0.now };
+
+    ghost payload = { λ s. IsFrameOf s.0.now };
+
+    fn id(&self) -> u8 {
+        SectionId::Custom.into()
+    }
+
+    ghost framed = { λ s bytes fits pays. pays };
+
+    ghost reads_back = { λ s promised. promised };
+}

@@ -1,0 +1,86 @@
+// Subsections: an id, and a frame.
+ghost use Rattle.std.specs.Prelude.{◌≡◌, ◌≤◌, length, ⊤};
+ghost use Rattle.wasm_base.specs.Calls.{Appends};
+ghost use Rattle.wasm_base.specs.Texts.{longest, frame_text, FrameFits};
+ghost use Rattle.wasm_custom.specs.Customs.{subsection_text};
+
+use std::alloc::Allocator;
+use wasm_base::{Encode, R, begin_frame, encoding_size};
+
+/// What a subsection holds: its size is told before it is written.
+pub(crate) trait Content: Encode {
+    /// The number of its bytes, where that can be spelled.
+    fn size(&self) -> usize
+        ensures told { result ≤ longest → result ≡ length (Self.text self.now) }
+        ensures small { length (Self.text self.now) ≤ longest → result ≡ length (Self.text self.now) };
+}
+
+/// The name.
+impl Content for &str {
+    fn size(&self) -> usize {
+        let len = self.len();
+        match u32::try_from(len) {
+            Ok(short) => encoding_size(short) + len,
+            Err(_) => len,
+        }
+    }
+}
+
+/// Bytes that are spelled already.
+#[derive(Clone, Copy)]
+pub(crate) struct Spelled<'a>(pub &'a [u8]);
+
+/// The bytes.
+impl Encode for Spelled<'_> {
+    ghost text = { λ s. s.0.now };
+
+    ghost fits = { λ _. ⊤ };
+
+    fn encode<A: Allocator>(&self, sink: &mut Vec<u8, A>) -> R<()> {
+        sink.extend_from_slice(self.0)?;
+        Ok(())
+    }
+}
+
+impl Content for Spelled<'_> {
+    fn size(&self) -> usize {
+        self.0.len()
+    }
+}
+
+/// Appends the frame of the content.
+fn encode_content<T: Content, A: Allocator>(sink: &mut Vec<u8, A>, content: &T) -> R<()>
+    ensures { Appends (frame_text (T.text content.now)) (FrameFits (T.text content.now) × T.fits content.now) sink.old sink.new result }
+{
+    let start = sink.len();
+    begin_frame(sink, content.size())?;
+    if let Err(refused) = content.encode(sink) {
+        sink.truncate(start);
+        return Err(refused);
+    }
+    Ok(())
+}
+
+/// A subsection: an id, and what is lent.
+#[derive(Drop)]
+pub(crate) struct Subsection<'a, T> {
+    pub id: u8,
+    pub content: &'a T,
+}
+
+/// The id, and the frame of the content.
+impl<T: Content> Encode for Subsection<'_, T> {
+    ghost text = { λ s. subsection_text s.id (T.text s.content.now) };
+
+    ghost fits = { λ s. FrameFits (T.text s.content.now) × T.fits s.content.now };
+
+    fn encode<A: Allocator>(&self, sink: &mut Vec<u8, A>) -> R<()> {
+        let start = sink.len();
+        sink.push(self.id)?;
+        if let Err(refused) = encode_content(sink, self.content) {
+            sink.truncate(start);
+            return Err(refused);
+        }
+        Ok(())
+    }
+}
