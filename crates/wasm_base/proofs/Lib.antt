@@ -17,3 +17,6 @@ pub mod KnownLengths
 pub mod Members
 pub mod Outcomes
 pub mod Yielded
+pub mod ReadingSteps
+pub mod Tags
+pub mod GroupLaws

@@ -65,7 +65,7 @@ begins_s33 mode (b ∷ c ∷ s) n h = (b, c ∷ s, refl, inr h.groups.0)
 
 -- ---- heap types
 
-abstract_bytes : (x : AbstractHeapType) → (0x68 ≤ abstract_code x) × (abstract_code x < 0x76)
+pub abstract_bytes : (x : AbstractHeapType) → (0x68 ≤ abstract_code x) × (abstract_code x < 0x76)
 abstract_bytes kinds.Func = (omega arith, omega arith)
 abstract_bytes kinds.Extern = (omega arith, omega arith)
 abstract_bytes kinds.Any = (omega arith, omega arith)

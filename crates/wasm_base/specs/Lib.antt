@@ -12,3 +12,5 @@ pub mod SectionId
 pub mod Types
 pub mod Cow
 pub mod Laws
+pub mod Groups
+pub mod Going

@@ -1,5 +1,5 @@
 pub mod ExpressionLaws
-pub mod Groups
+pub mod RefFuncLaws
 pub mod RunLaws
 pub mod BodyLaws
 pub mod CodeLaws

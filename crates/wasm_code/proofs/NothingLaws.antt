@@ -14,7 +14,7 @@ use Rattle.wasm_immediates.specs.declared.memory.MemArgOrdering.{MemArgOrdering}
 use Rattle.wasm_immediates.specs.declared.memory.MemArgTarget.TheVariants.{Memory}
 use Rattle.wasm_insn.specs.declared.op.Op.TheVariants.{Byte}
 use Rattle.wasm_insn.specs.Arguments.{Argument}
-use Rattle.wasm_insn.specs.Parts as parts
+use Rattle.wasm_insn.specs.declared.part.Part.TheVariants as parts
 use Rattle.wasm_immediates.specs.PlainImmediates.{mem_ordering, mem_arg, after_flags}
 use Rattle.wasm_insn.specs.Plain.{Plain, part, arguments, arguments_after, shape_of, instruction}
 use Rattle.wasm_insn.specs.Table.{table, IsRow}
@@ -58,7 +58,7 @@ load_row : IsRow table (row_of load)
 load_row = instruction_row load
 
 -- `I32Load` has a memory argument alone.
-load_arguments : (s : List ℕ) (xs : List Argument) → arguments_after (shape_of table (Byte 0x28)) shortest s xs → arguments (parts.memory ∷ []) shortest s xs
+load_arguments : (s : List ℕ) (xs : List Argument) → arguments_after (shape_of table (Byte 0x28)) shortest s xs → arguments (parts.Memory ∷ []) shortest s xs
 load_arguments s xs h = subst (λ ps. arguments ps shortest s xs) (sym load_row.parts) (subst (λ o. arguments_after o shortest s xs) load_row.row h)
 
 cut_load : (s back : List ℕ) (i : Plain) → 0x28 ∷ 0x10 ∷ 0x00 ∷ [] ≡ s ++ back → instruction table shortest s i → ⊥
@@ -67,7 +67,7 @@ cut_load s back i e h =
     let given = load_arguments args.0 h.0.1 args.2 in
     cut_args args.0 back given.0 args.1 given.2
   where
-    cut_args : (s back : List ℕ) (p : Argument × List Argument) → 0x10 ∷ 0x00 ∷ [] ≡ s ++ back → pair (part parts.memory) (arguments []) shortest s p → ⊥
+    cut_args : (s back : List ℕ) (p : Argument × List Argument) → 0x10 ∷ 0x00 ∷ [] ≡ s ++ back → pair (part parts.Memory) (arguments []) shortest s p → ⊥
     cut_args s back p e h = cut_flags h.front (h.back ++ back) h.first.0 (e ∙ regrouped s h.front h.back back h.joined) h.first.2
 
 -- ---- sections of one body

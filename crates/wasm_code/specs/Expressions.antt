@@ -1,9 +1,9 @@
 -- Constant expressions.
-use Rattle.std.specs.Prelude.{◌≡◌, ◌≢◌, ◌↔◌, ◌≤◌, ℕ, List, [], ◌∷◌, ◌++◌, length, Result, Err, IfOk, Option, Some, OnOk, map, false}
+use Rattle.std.specs.Prelude.{◌≡◌, ◌≢◌, ◌↔◌, ℕ, List, [], ◌∷◌, ◌++◌, Result, Err, IfOk, Option, Some, OnOk, map, false}
 use Rattle.std.specs.Iterator.{Drains, Yields}
 use Rattle.std.specs.List.{All, flat_map}
 use Rattle.std.specs.declared.alloc.Global.{Global}
-use Rattle.wasm_base.specs.Numbers.{shortest, wide, AreGroups, groups_sum}
+use Rattle.wasm_base.specs.Numbers.{shortest, wide}
 use Rattle.wasm_base.specs.Formats.{Format, u32, such, members, ended, prefixed}
 use Rattle.wasm_base.specs.Reading.{Reads}
 use Rattle.wasm_base.specs.declared.refused.Refused.{Refused}
@@ -67,17 +67,6 @@ pub record StoresGiven {U S : Type 0} (becomes : U → S → Type 0) (gives : S 
   pub too_long : ((it left : S) (is : List (Instruction Global)) → becomes elements it → Yields gives it is left → All InstructionFits is) → result ≢ Err TooLong
 
 -- ---- the index of `RefFunc`
-
--- groups of seven bits, of which there are at most so many
-abbrev pub groups : ℕ → Format (List ℕ)
-groups limit mode s x = (s ≡ x) × AreGroups s × (length s ≤ limit)
-
--- The bytes begin with at most so many groups, of which the sum is n.
-pub record HasGroups (limit : ℕ) (bytes : List ℕ) (n : ℕ) : Type 0 where
-  pub front : List ℕ
-  pub rest : List ℕ
-  pub read : Reads (groups limit) wide bytes front rest
-  pub total : groups_sum front ≡ n
 
 -- `RefFunc` and an index, padded or not
 abbrev pub ref_func : Format ℕ

@@ -3,15 +3,13 @@ ghost use Rattle.std.specs.Prelude.{◌≡◌, ◌≢◌, ◌<◌, ◌≤◌, �
 ghost use Rattle.std.specs.Iterator.{Drains, IsFinite};
 ghost use Rattle.wasm_base.specs.Calls.{ReadsBack};
 ghost use Rattle.wasm_base.specs.declared.refused.Refused.TheVariants.{TooLong};
-ghost use Rattle.wasm_base.specs.Numbers.{wide};
-ghost use Rattle.wasm_base.specs.Reading.{ReadsNothing};
-ghost use Rattle.wasm_code.specs.Expressions.{IsNoEnd, expression, expression_text, StoresInstructions, Stores, StoresGiven, AppendsEach, groups, HasGroups, IsRefFunc};
+ghost use Rattle.wasm_code.specs.Expressions.{IsNoEnd, expression, expression_text, StoresInstructions, Stores, StoresGiven, AppendsEach, IsRefFunc};
 ghost use Rattle.wasm_insn.specs.Instructions.{row_of, InstructionFits};
 
 use crate::function::append_all;
 use std::alloc::{Allocator, Global};
 use std::marker::Model;
-use wasm_base::{Encode, HeapType, R};
+use wasm_base::{Encode, HeapType, R, read_groups};
 use wasm_insn::{Ieee32, Ieee64, Instruction, Numeric, VectorImmediate};
 
 /// A constant expression, seen as the bytes that are stored: those of its instructions, without the `End` that is written after
@@ -256,7 +254,7 @@ impl<A: Allocator> ConstExpr<A> {
     }
 
     /// The index of `RefFunc`, where the expression begins with it.
-    #[tactic(auto, using(crate::proofs::Groups::ref_func_steps))]
+    #[tactic(auto, using(crate::proofs::RefFuncLaws::ref_func_steps))]
     pub fn get_ref_func(&self) -> Option<u32>
         ensures { IsRefFunc self.now result }
     {
@@ -266,9 +264,11 @@ impl<A: Allocator> ConstExpr<A> {
         if *op != 0xD2 {
             return None;
         }
-        let index = read_groups(rest, 5)?;
-        if index < 1 << 32 {
-            Some(index as u32)
+        let Ok((index, _)) = read_groups(rest, 5) else {
+            return None;
+        };
+        if index.sum < 1 << 32 {
+            Some(index.sum as u32)
         } else {
             None
         }
@@ -289,27 +289,6 @@ where
         element.encode(sink)?;
     }
     Ok(())
-}
-
-/// The sum of the groups of seven bits at the front, where at most `limit` of them are there.
-#[tactic(auto, using(crate::proofs::Groups::group_steps))]
-fn read_groups(bytes: &[u8], limit: u8) -> Option<u64>
-    requires { limit ≤ 5 }
-    ensures found { IfSome result (HasGroups limit bytes.now) }
-    ensures range { IfSome result (λ n. n < 128 ^ limit) }
-    ensures none { result ≡ None → ReadsNothing (groups limit) wide bytes.now }
-{
-    if limit == 0 {
-        return None;
-    }
-    let [byte, rest @ ..] = bytes else {
-        return None;
-    };
-    if *byte < 0x80 {
-        return Some(u64::from(*byte));
-    }
-    let more = read_groups(rest, limit - 1)?;
-    Some(u64::from(*byte % 128) + 128 * more)
 }
 
 impl<A: Allocator + Copy> ConstExpr<A> {

@@ -49,7 +49,7 @@ mem_ordering-alone =
 
 -- ---- memory arguments
 
-target-alone : (array other : Bool) → UniqueReading (target_of array other)
+pub target-alone : (array other : Bool) → UniqueReading (target_of array other)
 target-alone false false = fixed-alone [] (Memory 0)
 target-alone true false = mapped-alone Array (λ x y e. cc) u32-alone
 target-alone false true = mapped-alone Memory (λ x y e. cc) (such-alone (λ n. 0 < n) u32-alone)

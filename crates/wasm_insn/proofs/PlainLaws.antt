@@ -18,8 +18,9 @@ use Rattle.wasm_immediates.specs.PlainImmediates.{normal_memory, IsPlainCatch, I
 use Rattle.wasm_immediates.proofs.ImmediateLaws.{ordering-alone, mem_arg-alone, block-alone, catch-alone, handle-alone, vector-alone}
 use Rattle.wasm_immediates.proofs.ImmediateTexts.{memory_spelled, block_spelled, catch_spelled, handle_spelled, vector_spelled}
 use Rattle.wasm_insn.specs.Opcodes.{op_text}
-use Rattle.wasm_insn.specs.Parts as parts
-use Rattle.wasm_insn.specs.Parts.{Part, parts_of}
+use Rattle.wasm_insn.specs.declared.part.Part.TheVariants as parts
+use Rattle.wasm_insn.specs.declared.part.Part.{Part}
+use Rattle.wasm_insn.specs.Parts.{parts_of}
 use Rattle.wasm_insn.specs.Arguments.{Argument, unsigned, signed32, signed64, float32, float64, vector, memory, lane, lanes, block, heap, ordering, labels, catches, types, handles, flag, part_of, argument_text, arguments_text}
 use Rattle.wasm_insn.specs.Plain.{Plain, IsPlain, plain_text, normal_argument, normal_arguments, normal, IsPlainArgument, ArePlain, float32_of, float64_of, part, cons, arguments, is_prefix, IsOpcode, op_after, opcode, Table, shape_of, arguments_after, plain_of, instruction}
 
@@ -51,23 +52,23 @@ float_bits (float64 float) = float.bits
 float_bits _ = 0
 
 pub part-alone : (p : Part) → UniqueReading (part p)
-part-alone parts.unsigned = mapped-alone unsigned (λ x y e. cc) u32-alone
-part-alone parts.signed32 = mapped-alone signed32 (λ x y e. cc) s32-alone
-part-alone parts.signed64 = mapped-alone signed64 (λ x y e. cc) s64-alone
-part-alone parts.float32 = mapped-alone float32_of (λ x y e. ap float_bits e) (little_endian-alone 4)
-part-alone parts.float64 = mapped-alone float64_of (λ x y e. ap float_bits e) (little_endian-alone 8)
-part-alone parts.vector = mapped-alone vector (λ x y e. cc) vector-alone
-part-alone parts.memory = mapped-alone memory (λ x y e. cc) mem_arg-alone
-part-alone parts.lane = mapped-alone lane (λ x y e. cc) byte-alone
-part-alone parts.lanes = mapped-alone lanes (λ x y e. cc) (raw_bytes-alone 16)
-part-alone parts.block = mapped-alone block (λ x y e. cc) block-alone
-part-alone parts.heap = mapped-alone heap (λ x y e. cc) heap-alone
-part-alone parts.ordering = mapped-alone ordering (λ x y e. cc) ordering-alone
-part-alone parts.labels = mapped-alone labels (λ x y e. cc) (vec-alone u32-alone)
-part-alone parts.catches = mapped-alone catches (λ x y e. cc) (vec-alone catch-alone)
-part-alone parts.types = mapped-alone types (λ x y e. cc) (vec-alone val-alone)
-part-alone parts.handles = mapped-alone handles (λ x y e. cc) (vec-alone handle-alone)
-part-alone parts.flag = mapped-alone flag (λ x y e. cc) (such-alone (λ b. b < 4) byte-alone)
+part-alone parts.Unsigned = mapped-alone unsigned (λ x y e. cc) u32-alone
+part-alone parts.Signed32 = mapped-alone signed32 (λ x y e. cc) s32-alone
+part-alone parts.Signed64 = mapped-alone signed64 (λ x y e. cc) s64-alone
+part-alone parts.Float32 = mapped-alone float32_of (λ x y e. ap float_bits e) (little_endian-alone 4)
+part-alone parts.Float64 = mapped-alone float64_of (λ x y e. ap float_bits e) (little_endian-alone 8)
+part-alone parts.Vector = mapped-alone vector (λ x y e. cc) vector-alone
+part-alone parts.Memory = mapped-alone memory (λ x y e. cc) mem_arg-alone
+part-alone parts.Lane = mapped-alone lane (λ x y e. cc) byte-alone
+part-alone parts.Lanes = mapped-alone lanes (λ x y e. cc) (raw_bytes-alone 16)
+part-alone parts.Block = mapped-alone block (λ x y e. cc) block-alone
+part-alone parts.Heap = mapped-alone heap (λ x y e. cc) heap-alone
+part-alone parts.Ordering = mapped-alone ordering (λ x y e. cc) ordering-alone
+part-alone parts.Labels = mapped-alone labels (λ x y e. cc) (vec-alone u32-alone)
+part-alone parts.Catches = mapped-alone catches (λ x y e. cc) (vec-alone catch-alone)
+part-alone parts.Types = mapped-alone types (λ x y e. cc) (vec-alone val-alone)
+part-alone parts.Handles = mapped-alone handles (λ x y e. cc) (vec-alone handle-alone)
+part-alone parts.Flag = mapped-alone flag (λ x y e. cc) (such-alone (λ b. b < 4) byte-alone)
 
 cons_apart : {X : Type 0} (x y : X × List X) → cons x ≡ cons y → x ≡ y
 cons_apart x y e =

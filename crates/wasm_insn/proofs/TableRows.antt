@@ -18,7 +18,8 @@ use Rattle.wasm_insn.specs.declared.vector_immediate.VectorImmediate.{VectorImme
 use Rattle.wasm_insn.specs.declared.vector_immediate.VectorImmediate.TheVariants as vector_immediate
 use Rattle.wasm_insn.specs.declared.atomic.Atomic.{Atomic}
 use Rattle.wasm_insn.specs.declared.atomic.Atomic.TheVariants as atomic
-use Rattle.wasm_insn.specs.Parts.{Part, parts_of}
+use Rattle.wasm_insn.specs.declared.part.Part.{Part}
+use Rattle.wasm_insn.specs.Parts.{parts_of}
 use Rattle.wasm_insn.specs.Arguments.{part_of}
 use Rattle.wasm_insn.specs.Plain.{Plain, is_prefix, shape_of}
 use Rattle.wasm_insn.specs.Instructions.{row_of}

@@ -13,8 +13,8 @@ use Rattle.wasm_immediates.specs.declared.block_type.BlockType.{BlockType}
 use Rattle.wasm_immediates.specs.declared.control.Catch.{Catch}
 use Rattle.wasm_immediates.specs.declared.control.Handle.{Handle}
 use Rattle.wasm_immediates.specs.Immediates.{ordering_code, mem_arg_text, block_text, catch_text, handle_text, vector_text}
-use Rattle.wasm_insn.specs.Parts as parts
-use Rattle.wasm_insn.specs.Parts.{Part}
+use Rattle.wasm_insn.specs.declared.part.Part.TheVariants as parts
+use Rattle.wasm_insn.specs.declared.part.Part.{Part}
 
 pub data Argument : Type 0 where
   unsigned : ℕ → Argument
@@ -37,23 +37,23 @@ pub data Argument : Type 0 where
 
 -- the part that an argument is given for
 abbrev pub part_of : Argument → Part
-part_of (unsigned n) = parts.unsigned
-part_of (signed32 v) = parts.signed32
-part_of (signed64 v) = parts.signed64
-part_of (float32 float) = parts.float32
-part_of (float64 float) = parts.float64
-part_of (vector v) = parts.vector
-part_of (memory m) = parts.memory
-part_of (lane n) = parts.lane
-part_of (lanes ns) = parts.lanes
-part_of (block type) = parts.block
-part_of (heap type) = parts.heap
-part_of (ordering o) = parts.ordering
-part_of (labels ns) = parts.labels
-part_of (catches cs) = parts.catches
-part_of (types ts) = parts.types
-part_of (handles hs) = parts.handles
-part_of (flag n) = parts.flag
+part_of (unsigned n) = parts.Unsigned
+part_of (signed32 v) = parts.Signed32
+part_of (signed64 v) = parts.Signed64
+part_of (float32 float) = parts.Float32
+part_of (float64 float) = parts.Float64
+part_of (vector v) = parts.Vector
+part_of (memory m) = parts.Memory
+part_of (lane n) = parts.Lane
+part_of (lanes ns) = parts.Lanes
+part_of (block type) = parts.Block
+part_of (heap type) = parts.Heap
+part_of (ordering o) = parts.Ordering
+part_of (labels ns) = parts.Labels
+part_of (catches cs) = parts.Catches
+part_of (types ts) = parts.Types
+part_of (handles hs) = parts.Handles
+part_of (flag n) = parts.Flag
 
 abbrev pub argument_text : Argument → List ℕ
 argument_text (unsigned n) = unsigned_text n

@@ -1,50 +1,32 @@
--- The parts of instructions, and the shapes that say which of them follow an opcode.
+-- The parts of shapes: what follows an opcode.
 use Rattle.std.specs.Prelude.{List, [], ◌∷◌}
 use Rattle.wasm_insn.specs.declared.op.Shape.{Shape}
 use Rattle.wasm_insn.specs.declared.op.Shape.TheVariants.{Nothing, U, Uu, M, Ml, L, B, H, O, Ou, Ouu, C32, C64, F32, F64, V, Ls, Bt, Tt, Ts, K, Uh, Uuh}
-
--- what can follow an opcode
-pub data Part : Type 0 where
-  unsigned : Part
-  signed32 : Part
-  signed64 : Part
-  float32 : Part
-  float64 : Part
-  vector : Part
-  memory : Part
-  lane : Part
-  lanes : Part
-  block : Part
-  heap : Part
-  ordering : Part
-  labels : Part
-  catches : Part
-  types : Part
-  handles : Part
-  flag : Part
+use Rattle.wasm_insn.specs.declared.part.Part.{Part}
+use Rattle.wasm_insn.specs.declared.part.Part.TheVariants as parts
 
 -- the parts of a shape, in order
 abbrev pub parts_of : Shape → List Part
 parts_of Nothing = []
-parts_of U = unsigned ∷ []
-parts_of Uu = unsigned ∷ unsigned ∷ []
-parts_of M = memory ∷ []
-parts_of Ml = memory ∷ lane ∷ []
-parts_of L = lane ∷ []
-parts_of B = block ∷ []
-parts_of H = heap ∷ []
-parts_of O = ordering ∷ []
-parts_of Ou = ordering ∷ unsigned ∷ []
-parts_of Ouu = ordering ∷ unsigned ∷ unsigned ∷ []
-parts_of C32 = signed32 ∷ []
-parts_of C64 = signed64 ∷ []
-parts_of F32 = float32 ∷ []
-parts_of F64 = float64 ∷ []
-parts_of V = vector ∷ []
-parts_of Ls = lanes ∷ []
-parts_of Bt = labels ∷ unsigned ∷ []
-parts_of Tt = block ∷ catches ∷ []
-parts_of Ts = types ∷ []
-parts_of K = flag ∷ unsigned ∷ heap ∷ heap ∷ []
-parts_of Uh = unsigned ∷ handles ∷ []
-parts_of Uuh = unsigned ∷ unsigned ∷ handles ∷ []
+parts_of U = parts.Unsigned ∷ []
+parts_of Uu = parts.Unsigned ∷ parts.Unsigned ∷ []
+parts_of M = parts.Memory ∷ []
+parts_of Ml = parts.Memory ∷ parts.Lane ∷ []
+parts_of L = parts.Lane ∷ []
+parts_of B = parts.Block ∷ []
+parts_of H = parts.Heap ∷ []
+parts_of O = parts.Ordering ∷ []
+parts_of Ou = parts.Ordering ∷ parts.Unsigned ∷ []
+parts_of Ouu = parts.Ordering ∷ parts.Unsigned ∷ parts.Unsigned ∷ []
+parts_of C32 = parts.Signed32 ∷ []
+parts_of C64 = parts.Signed64 ∷ []
+parts_of F32 = parts.Float32 ∷ []
+parts_of F64 = parts.Float64 ∷ []
+parts_of V = parts.Vector ∷ []
+parts_of Ls = parts.Lanes ∷ []
+parts_of Bt = parts.Labels ∷ parts.Unsigned ∷ []
+parts_of Tt = parts.Block ∷ parts.Catches ∷ []
+parts_of Ts = parts.Types ∷ []
+parts_of K = parts.Flag ∷ parts.Unsigned ∷ parts.Heap ∷ parts.Heap ∷ []
+parts_of Uh = parts.Unsigned ∷ parts.Handles ∷ []
+parts_of Uuh = parts.Unsigned ∷ parts.Unsigned ∷ parts.Handles ∷ []

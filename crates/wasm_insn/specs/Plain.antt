@@ -10,8 +10,9 @@ use Rattle.wasm_insn.specs.declared.op.Op.{Op}
 use Rattle.wasm_insn.specs.declared.op.Op.TheVariants.{Byte, Prefixed}
 use Rattle.wasm_insn.specs.declared.op.Shape.{Shape}
 use Rattle.wasm_insn.specs.Opcodes.{op_text}
-use Rattle.wasm_insn.specs.Parts as parts
-use Rattle.wasm_insn.specs.Parts.{Part, parts_of}
+use Rattle.wasm_insn.specs.declared.part.Part.TheVariants as parts
+use Rattle.wasm_insn.specs.declared.part.Part.{Part}
+use Rattle.wasm_insn.specs.Parts.{parts_of}
 use Rattle.wasm_insn.specs.Arguments.{Argument, unsigned, signed32, signed64, float32, float64, vector, memory, lane, lanes, block, heap, ordering, labels, catches, types, handles, flag, part_of, arguments_text}
 
 -- ---- normal form
@@ -66,23 +67,23 @@ abbrev pub float64_of : ℕ → Argument
 float64_of bits = float64 (record { bits = bits })
 
 abbrev pub part : Part → Format Argument
-part parts.unsigned = mapped unsigned u32
-part parts.signed32 = mapped signed32 s32
-part parts.signed64 = mapped signed64 s64
-part parts.float32 = mapped float32_of (little_endian 4)
-part parts.float64 = mapped float64_of (little_endian 8)
-part parts.vector = mapped vector vector_format
-part parts.memory = mapped memory mem_arg
-part parts.lane = mapped lane byte
-part parts.lanes = mapped lanes (raw_bytes 16)
-part parts.block = mapped block block_type
-part parts.heap = mapped heap heap_type
-part parts.ordering = mapped ordering ordering_format
-part parts.labels = mapped labels (vec u32)
-part parts.catches = mapped catches (vec catch)
-part parts.types = mapped types (vec val_type)
-part parts.handles = mapped handles (vec handle)
-part parts.flag = mapped flag (such (λ b. b < 4) byte)
+part parts.Unsigned = mapped unsigned u32
+part parts.Signed32 = mapped signed32 s32
+part parts.Signed64 = mapped signed64 s64
+part parts.Float32 = mapped float32_of (little_endian 4)
+part parts.Float64 = mapped float64_of (little_endian 8)
+part parts.Vector = mapped vector vector_format
+part parts.Memory = mapped memory mem_arg
+part parts.Lane = mapped lane byte
+part parts.Lanes = mapped lanes (raw_bytes 16)
+part parts.Block = mapped block block_type
+part parts.Heap = mapped heap heap_type
+part parts.Ordering = mapped ordering ordering_format
+part parts.Labels = mapped labels (vec u32)
+part parts.Catches = mapped catches (vec catch)
+part parts.Types = mapped types (vec val_type)
+part parts.Handles = mapped handles (vec handle)
+part parts.Flag = mapped flag (such (λ b. b < 4) byte)
 
 abbrev pub cons : {X : Type 0} → X × List X → List X
 cons p = p.0 ∷ p.1

@@ -1,0 +1,7 @@
+pub mod Faults
+pub mod ReadFixed
+pub mod ReadFrames
+pub mod ReadImmediates
+pub mod ReadNumbers
+pub mod ReadTypes
+pub mod ReadVectors

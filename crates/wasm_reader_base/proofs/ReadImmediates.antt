@@ -1,0 +1,260 @@
+-- How immediates are read.
+use Rattle.std.proofs.Common.{◌≡◌, ◌≢◌, ◌⊎◌, inl, inr, ℕ, ◌<◌, ◌≤◌, ◌%◌, List, Bool, true, false, Option, Some, None, option_map, refl, sym, subst, arith}
+use Rattle.std.proofs.lemmas.Bool.{lt-ltb, le-ltb}
+use Rattle.wasm_base.specs.Numbers.{wide}
+use Rattle.wasm_base.specs.Formats.{Format, u32, u64, byte, s33, choice, impossible, mapped, tagged, pair, optional, when}
+use Rattle.wasm_base.specs.Reading.{Reads, ReadsNothing}
+use Rattle.wasm_base.specs.Types.{val_tags, val_ref, IsIndexByte}
+use Rattle.wasm_base.specs.declared.types.ValType.{ValType}
+use Rattle.wasm_base.proofs.FormatLaws.{byte-alone, optional-alone}
+use Rattle.wasm_base.proofs.NumberLaws.{u32-alone}
+use Rattle.wasm_base.proofs.TypeLaws.{begins_s33, val_begins}
+use Rattle.wasm_immediates.specs.declared.memory.Ordering.{Ordering}
+use Rattle.wasm_immediates.specs.declared.memory.Ordering.TheVariants.{AcqRel, SeqCst}
+use Rattle.wasm_immediates.specs.declared.memory.MemArgOrdering.{MemArgOrdering}
+use Rattle.wasm_immediates.specs.declared.memory.MemArgOrdering.TheVariants as orders
+use Rattle.wasm_immediates.specs.declared.memory.MemArgTarget.{MemArgTarget}
+use Rattle.wasm_immediates.specs.declared.memory.MemArgTarget.TheVariants.{Memory, Array}
+use Rattle.wasm_immediates.specs.declared.memory.MemArg.{MemArg}
+use Rattle.wasm_immediates.specs.declared.block_type.BlockType.{BlockType}
+use Rattle.wasm_immediates.specs.declared.block_type.BlockType.TheVariants as blocks
+use Rattle.wasm_immediates.specs.declared.control.Catch.{Catch}
+use Rattle.wasm_immediates.specs.declared.control.Catch.TheVariants.{One, OneRef, All, AllRef}
+use Rattle.wasm_immediates.specs.declared.control.Handle.{Handle}
+use Rattle.wasm_immediates.specs.declared.control.Handle.TheVariants.{OnLabel, OnSwitch}
+use Rattle.wasm_immediates.specs.Immediates.{ordering_code}
+use Rattle.wasm_immediates.specs.PlainImmediates.{block_type, ordering_format, mem_orderings, mem_ordering, bit, target_of, mem_arg_of, mem_arg_with, after_flags, mem_arg, one_of_pair, one_ref_of_pair, catch_tags, catch, on_label_of_pair, handle_tags, handle}
+use Rattle.wasm_immediates.proofs.ImmediateLaws.{target-alone, mem_ordering-alone, block_tags, block_result}
+use Rattle.wasm_reader_base.proofs.ReadTypes.{no_index_byte}
+use Rattle.wasm_base.proofs.ReadingSteps.{then_reads, then_nothing_first, then_nothing_second, mapped_reads, mapped_nothing, such_reads, such_none, such_nothing}
+use Rattle.wasm_base.proofs.Tags.{tagged_reads, tagged_none, tagged_nothing, no_choice, choice_other, fixed_reads, impossible_nothing, one_of_nothing, one_of_left, one_of_right, not_begun, no_bytes, code_reads, code_none, code_unknown}
+
+-- ---- orderings
+
+pub ordering_reads : (bytes rest : List ℕ) (b : ℕ) (o : Ordering) → Reads byte wide bytes b rest → b ≡ ordering_code o → Reads ordering_format wide bytes o rest
+ordering_reads = code_reads ordering_code
+
+pub ordering_none : (bytes : List ℕ) → ReadsNothing byte wide bytes → ReadsNothing ordering_format wide bytes
+ordering_none = code_none ordering_code
+
+pub ordering_unknown : (bytes rest : List ℕ) (b : ℕ) → Reads byte wide bytes b rest → 2 ≤ b → ReadsNothing ordering_format wide bytes
+ordering_unknown bytes rest b h l = code_unknown ordering_code bytes rest b h other
+  where
+    other : (o : Ordering) → b ≢ ordering_code o
+    other SeqCst e = omega (arith, l, e)
+    other AcqRel e = omega (arith, l, e)
+
+pub ruleset ordering_steps = (ordering_reads, ordering_none, ordering_unknown)
+
+abbrev after_order : ℕ → Format MemArgOrdering
+after_order b = choice mem_orderings (λ c. impossible) b
+
+mem_tag : (bytes rest : List ℕ) (b c : ℕ) (o : MemArgOrdering) → Reads byte wide bytes b rest → b ≡ c → Reads (after_order c) wide rest o rest → Reads mem_ordering wide bytes o rest
+mem_tag bytes rest b c o h e g = tagged_reads {G = after_order} h (subst (λ c. Reads (after_order c) wide rest o rest) (sym e) g)
+
+pub mem_seq_cst : (bytes rest : List ℕ) (b : ℕ) → Reads byte wide bytes b rest → b ≡ 0x00 → Reads mem_ordering wide bytes (orders.Op SeqCst) rest
+mem_seq_cst bytes rest b h e = mem_tag bytes rest b 0x00 (orders.Op SeqCst) h e (fixed_reads rest (orders.Op SeqCst))
+
+pub mem_acq_rel : (bytes rest : List ℕ) (b : ℕ) → Reads byte wide bytes b rest → b ≡ 0x01 → Reads mem_ordering wide bytes (orders.Op AcqRel) rest
+mem_acq_rel bytes rest b h e = mem_tag bytes rest b 0x01 (orders.Op AcqRel) h e (fixed_reads rest (orders.Op AcqRel))
+
+pub mem_rmw : (bytes rest : List ℕ) (b : ℕ) → Reads byte wide bytes b rest → b ≡ 0x11 → Reads mem_ordering wide bytes (orders.Rmw AcqRel) rest
+mem_rmw bytes rest b h e = mem_tag bytes rest b 0x11 (orders.Rmw AcqRel) h e (fixed_reads rest (orders.Rmw AcqRel))
+
+pub mem_order_none : (bytes : List ℕ) → ReadsNothing byte wide bytes → ReadsNothing mem_ordering wide bytes
+mem_order_none bytes n = tagged_none byte after_order bytes n
+
+pub mem_order_unknown : (bytes rest : List ℕ) (b : ℕ) → Reads byte wide bytes b rest → b ≢ 0x00 → b ≢ 0x01 → b ≢ 0x11 → ReadsNothing mem_ordering wide bytes
+mem_order_unknown bytes rest b h p q r = tagged_nothing {G = after_order} byte-alone h (no_choice mem_orderings b rest (p, (q, (r, tt))))
+
+pub ruleset mem_ordering_steps = (mem_seq_cst, mem_acq_rel, mem_rmw, mem_order_none, mem_order_unknown)
+
+-- ---- targets
+
+pub target_memory_0 : (array other : Bool) (bytes : List ℕ) → array ≡ false → other ≡ false → Reads (target_of array other) wide bytes (Memory 0) bytes
+target_memory_0 array other bytes e f = rw (e, f) (fixed_reads bytes (Memory 0))
+
+pub target_array : (array other : Bool) (bytes rest : List ℕ) (n : ℕ) → array ≡ true → other ≡ false → Reads u32 wide bytes n rest → Reads (target_of array other) wide bytes (Array n) rest
+target_array array other bytes rest n e f h = rw (e, f) (mapped_reads Array h)
+
+pub target_memory : (array other : Bool) (bytes rest : List ℕ) (n : ℕ) → array ≡ false → other ≡ true → Reads u32 wide bytes n rest → n ≢ 0 → Reads (target_of array other) wide bytes (Memory n) rest
+target_memory array other bytes rest n e f h p = rw (e, f) (mapped_reads Memory (such_reads (λ n. 0 < n) h (omega (arith, p))))
+
+pub target_both : (array other : Bool) (bytes : List ℕ) → array ≡ true → other ≡ true → ReadsNothing (target_of array other) wide bytes
+target_both array other bytes e f = rw (e, f) (impossible_nothing bytes)
+
+pub target_no_array : (array other : Bool) (bytes : List ℕ) → array ≡ true → other ≡ false → ReadsNothing u32 wide bytes → ReadsNothing (target_of array other) wide bytes
+target_no_array array other bytes e f n = rw (e, f) (mapped_nothing Array n)
+
+pub target_no_memory : (array other : Bool) (bytes : List ℕ) → array ≡ false → other ≡ true → ReadsNothing u32 wide bytes → ReadsNothing (target_of array other) wide bytes
+target_no_memory array other bytes e f n = rw (e, f) (mapped_nothing Memory (such_none (λ n. 0 < n) n))
+
+pub target_zero : (array other : Bool) (bytes rest : List ℕ) (n : ℕ) → array ≡ false → other ≡ true → Reads u32 wide bytes n rest → n ≡ 0 → ReadsNothing (target_of array other) wide bytes
+target_zero array other bytes rest n e f h p = rw (e, f) (mapped_nothing Memory (such_nothing (λ n. 0 < n) u32-alone h (λ l. omega (arith, l, p))))
+
+pub ruleset target_steps = (target_memory_0, target_array, target_memory, target_both, target_no_array, target_no_memory, target_zero)
+
+-- ---- memory arguments
+
+pub option_same : {X : Type 0} (x : Option X) → option_map (λ n. n) x ≡ x
+option_same (Some n) = refl
+option_same None = refl
+
+abbrev mem_parts : ℕ → Format (MemArgTarget × (Option MemArgOrdering × ℕ))
+mem_parts flags = pair (target_of (bit 5 flags) (bit 6 flags)) (pair (optional (bit 4 flags) mem_ordering) u64)
+
+abbrev pub mem_after : ℕ → Bool → Format MemArg
+mem_after flags low = when low (mem_arg_with (flags % 16) (bit 4 flags) (bit 5 flags) (bit 6 flags)) impossible
+
+pub memory_reads : (bytes start next last end : List ℕ) (flags offset : ℕ) (t : MemArgTarget) (o : Option MemArgOrdering) → Reads u32 wide bytes flags start → flags < 0x80 → Reads (target_of (bit 5 flags) (bit 6 flags)) wide start t next
+    → Reads (optional (bit 4 flags) mem_ordering) wide next (option_map (λ n. n) o) last → Reads u64 wide last offset end → Reads mem_arg wide bytes (record { offset = offset; align = flags % 16; target = t; ordering = o }) end
+memory_reads bytes start next last end flags offset t o h l g k j =
+    tagged_reads {G = after_flags} h
+    (subst (λ low. Reads (mem_after flags low) wide start (mem_arg_of (flags % 16) (t, (o, offset))) end) (sym (lt-ltb flags 0x80 l))
+    (mapped_reads (mem_arg_of (flags % 16)) (then_reads g (then_reads (subst (λ z. Reads (optional (bit 4 flags) mem_ordering) wide next z last) (option_same o) k) j))))
+
+pub memory_none : (bytes : List ℕ) → ReadsNothing u32 wide bytes → ReadsNothing mem_arg wide bytes
+memory_none bytes n = tagged_none u32 after_flags bytes n
+
+pub memory_unknown : (bytes rest : List ℕ) (flags : ℕ) → Reads u32 wide bytes flags rest → 0x80 ≤ flags → ReadsNothing mem_arg wide bytes
+memory_unknown bytes rest flags h l = tagged_nothing {G = after_flags} u32-alone h (subst (λ low. ReadsNothing (mem_after flags low) wide rest) (sym (le-ltb flags 0x80 l)) (impossible_nothing rest))
+
+memory_nothing : (bytes start : List ℕ) (flags : ℕ) → Reads u32 wide bytes flags start → flags < 0x80 → ReadsNothing (mem_parts flags) wide start → ReadsNothing mem_arg wide bytes
+memory_nothing bytes start flags h l n =
+    tagged_nothing {G = after_flags} u32-alone h (subst (λ low. ReadsNothing (mem_after flags low) wide start) (sym (lt-ltb flags 0x80 l)) (mapped_nothing (mem_arg_of (flags % 16)) n))
+
+pub memory_no_target : (bytes start : List ℕ) (flags : ℕ) → Reads u32 wide bytes flags start → flags < 0x80 → ReadsNothing (target_of (bit 5 flags) (bit 6 flags)) wide start → ReadsNothing mem_arg wide bytes
+memory_no_target bytes start flags h l n = memory_nothing bytes start flags h l (then_nothing_first n)
+
+pub memory_no_ordering : (bytes start next : List ℕ) (flags : ℕ) (t : MemArgTarget) → Reads u32 wide bytes flags start → flags < 0x80 → Reads (target_of (bit 5 flags) (bit 6 flags)) wide start t next
+    → ReadsNothing (optional (bit 4 flags) mem_ordering) wide next → ReadsNothing mem_arg wide bytes
+memory_no_ordering bytes start next flags t h l g n = memory_nothing bytes start flags h l (then_nothing_second (target-alone (bit 5 flags) (bit 6 flags)) g (then_nothing_first n))
+
+pub memory_no_offset : (bytes start next last : List ℕ) (flags : ℕ) (t : MemArgTarget) (o : Option MemArgOrdering) → Reads u32 wide bytes flags start → flags < 0x80 → Reads (target_of (bit 5 flags) (bit 6 flags)) wide start t next
+    → Reads (optional (bit 4 flags) mem_ordering) wide next (option_map (λ n. n) o) last → ReadsNothing u64 wide last → ReadsNothing mem_arg wide bytes
+memory_no_offset bytes start next last flags t o h l g k n =
+    memory_nothing bytes start flags h l (then_nothing_second (target-alone (bit 5 flags) (bit 6 flags)) g (then_nothing_second (optional-alone (bit 4 flags) mem_ordering-alone) k n))
+
+pub ruleset memory_steps = (memory_reads, memory_none, memory_unknown, memory_no_target, memory_no_ordering, memory_no_offset)
+
+-- ---- block types
+
+abbrev pub after_block : ℕ → Format BlockType
+after_block b = choice block_tags block_result b
+
+abbrev tagged_block : Format BlockType
+tagged_block = tagged byte after_block
+
+block_told : {bytes rest : List ℕ} {x : BlockType} → Reads tagged_block wide bytes x rest → Reads block_type wide bytes x rest
+block_told r = one_of_left (mapped blocks.FunctionType s33) r
+
+is_result : (b : ℕ) → b ≢ 0x40 → after_block b ≡ block_result b
+is_result b p = choice_other block_tags block_result b (p, tt)
+
+pub block_empty : (bytes rest : List ℕ) (b : ℕ) → Reads byte wide bytes b rest → b ≡ 0x40 → Reads block_type wide bytes blocks.Empty rest
+block_empty bytes rest b h e = block_told (tagged_reads {G = after_block} h (subst (λ c. Reads (after_block c) wide rest blocks.Empty rest) (sym e) (fixed_reads rest blocks.Empty)))
+
+pub block_result_reads : (bytes rest last : List ℕ) (b : ℕ) (v : ValType) → Reads byte wide bytes b rest → b ≢ 0x40 → Reads (choice val_tags val_ref b) wide rest v last → Reads block_type wide bytes (blocks.Result v) last
+block_result_reads bytes rest last b v h p g = block_told (tagged_reads {G = after_block} h (subst (λ F. Reads {X = BlockType} F wide rest (blocks.Result v) last) (sym (is_result b p)) (mapped_reads blocks.Result g)))
+
+pub block_index : (bytes rest : List ℕ) (n : ℕ) → Reads s33 wide bytes n rest → Reads block_type wide bytes (blocks.FunctionType n) rest
+block_index bytes rest n h = one_of_right tagged_block (mapped_reads blocks.FunctionType h)
+
+pub block_none : (bytes : List ℕ) → ReadsNothing byte wide bytes → ReadsNothing block_type wide bytes
+block_none bytes n = one_of_nothing (tagged_none byte after_block bytes n) (mapped_nothing blocks.FunctionType (no_bytes IsIndexByte s33 begins_s33 n))
+
+pub block_no_result : (bytes rest : List ℕ) (b : ℕ) → Reads byte wide bytes b rest → 0x40 < b → b < 0x80 → ReadsNothing (choice val_tags val_ref b) wide rest → ReadsNothing block_type wide bytes
+block_no_result bytes rest b h l u n =
+    one_of_nothing
+    (tagged_nothing {G = after_block} byte-alone h (subst (λ F. ReadsNothing {X = BlockType} F wide rest) (sym (is_result b (omega (arith, l)))) (mapped_nothing blocks.Result n)))
+    (mapped_nothing blocks.FunctionType (not_begun IsIndexByte s33 begins_s33 h (no_index_byte b (omega (arith, l)) u)))
+
+no_value : (bytes : List ℕ) (b : ℕ) → (b < 0x40) ⊎ (0x80 ≤ b) → ReadsNothing (choice val_tags val_ref b) wide bytes
+no_value bytes b h = record {
+  none = λ x rest g.
+      let p = val_begins b wide g.front x g.spelled in
+      elim h [ inl l ↦ omega (arith, l, p.0) | inr l ↦ omega (arith, l, p.1) ];
+}
+
+pub block_no_index : (bytes rest : List ℕ) (b : ℕ) → Reads byte wide bytes b rest → (b < 0x40) ⊎ (0x80 ≤ b) → ReadsNothing s33 wide bytes → ReadsNothing block_type wide bytes
+block_no_index bytes rest b h other n =
+    let p : b ≢ 0x40 = λ e. elim other [ inl l ↦ omega (arith, l, e) | inr l ↦ omega (arith, l, e) ] in
+    one_of_nothing
+    (tagged_nothing {G = after_block} byte-alone h (subst (λ F. ReadsNothing {X = BlockType} F wide rest) (sym (is_result b p)) (mapped_nothing blocks.Result (no_value rest b other))))
+    (mapped_nothing blocks.FunctionType n)
+
+pub ruleset block_steps = (block_empty, block_result_reads, block_index, block_none, block_no_result, block_no_index)
+
+-- ---- catches
+
+abbrev pub after_catch : ℕ → Format Catch
+after_catch b = choice catch_tags (λ c. impossible) b
+
+catch_is : (bytes rest last : List ℕ) (b c : ℕ) (x : Catch) → Reads byte wide bytes b rest → b ≡ c → Reads (after_catch c) wide rest x last → Reads catch wide bytes x last
+catch_is bytes rest last b c x h e g = tagged_reads {G = after_catch} h (subst (λ c. Reads (after_catch c) wide rest x last) (sym e) g)
+
+catch_is_not : (bytes rest : List ℕ) (b c : ℕ) → Reads byte wide bytes b rest → b ≡ c → ReadsNothing (after_catch c) wide rest → ReadsNothing catch wide bytes
+catch_is_not bytes rest b c h e n = tagged_nothing {G = after_catch} byte-alone h (subst (λ c. ReadsNothing (after_catch c) wide rest) (sym e) n)
+
+pub catch_one : (bytes rest last : List ℕ) (b : ℕ) (tag label : ℕ) → Reads byte wide bytes b rest → b ≡ 0x00 → Reads (pair u32 u32) wide rest (tag, label) last → Reads catch wide bytes (One tag label) last
+catch_one bytes rest last b tag label h e g = catch_is bytes rest last b 0x00 (One tag label) h e (mapped_reads one_of_pair g)
+
+pub catch_one_ref : (bytes rest last : List ℕ) (b : ℕ) (tag label : ℕ) → Reads byte wide bytes b rest → b ≡ 0x01 → Reads (pair u32 u32) wide rest (tag, label) last → Reads catch wide bytes (OneRef tag label) last
+catch_one_ref bytes rest last b tag label h e g = catch_is bytes rest last b 0x01 (OneRef tag label) h e (mapped_reads one_ref_of_pair g)
+
+pub catch_all : (bytes rest last : List ℕ) (b label : ℕ) → Reads byte wide bytes b rest → b ≡ 0x02 → Reads u32 wide rest label last → Reads catch wide bytes (All label) last
+catch_all bytes rest last b label h e g = catch_is bytes rest last b 0x02 (All label) h e (mapped_reads All g)
+
+pub catch_all_ref : (bytes rest last : List ℕ) (b label : ℕ) → Reads byte wide bytes b rest → b ≡ 0x03 → Reads u32 wide rest label last → Reads catch wide bytes (AllRef label) last
+catch_all_ref bytes rest last b label h e g = catch_is bytes rest last b 0x03 (AllRef label) h e (mapped_reads AllRef g)
+
+pub catch_none : (bytes : List ℕ) → ReadsNothing byte wide bytes → ReadsNothing catch wide bytes
+catch_none bytes n = tagged_none byte after_catch bytes n
+
+pub catch_no_one : (bytes rest : List ℕ) (b : ℕ) → Reads byte wide bytes b rest → b ≡ 0x00 → ReadsNothing (pair u32 u32) wide rest → ReadsNothing catch wide bytes
+catch_no_one bytes rest b h e n = catch_is_not bytes rest b 0x00 h e (mapped_nothing one_of_pair n)
+
+pub catch_no_one_ref : (bytes rest : List ℕ) (b : ℕ) → Reads byte wide bytes b rest → b ≡ 0x01 → ReadsNothing (pair u32 u32) wide rest → ReadsNothing catch wide bytes
+catch_no_one_ref bytes rest b h e n = catch_is_not bytes rest b 0x01 h e (mapped_nothing one_ref_of_pair n)
+
+pub catch_no_all : (bytes rest : List ℕ) (b : ℕ) → Reads byte wide bytes b rest → b ≡ 0x02 → ReadsNothing u32 wide rest → ReadsNothing catch wide bytes
+catch_no_all bytes rest b h e n = catch_is_not bytes rest b 0x02 h e (mapped_nothing All n)
+
+pub catch_no_all_ref : (bytes rest : List ℕ) (b : ℕ) → Reads byte wide bytes b rest → b ≡ 0x03 → ReadsNothing u32 wide rest → ReadsNothing catch wide bytes
+catch_no_all_ref bytes rest b h e n = catch_is_not bytes rest b 0x03 h e (mapped_nothing AllRef n)
+
+pub catch_unknown : (bytes rest : List ℕ) (b : ℕ) → Reads byte wide bytes b rest → 4 ≤ b → ReadsNothing catch wide bytes
+catch_unknown bytes rest b h l = tagged_nothing {G = after_catch} byte-alone h (no_choice catch_tags b rest (omega arith, (omega arith, (omega arith, (omega arith, tt)))))
+
+pub ruleset catch_steps = (catch_one, catch_one_ref, catch_all, catch_all_ref, catch_none, catch_no_one, catch_no_one_ref, catch_no_all, catch_no_all_ref, catch_unknown)
+
+-- ---- handles
+
+abbrev pub after_handle : ℕ → Format Handle
+after_handle b = choice handle_tags (λ c. impossible) b
+
+handle_is : (bytes rest last : List ℕ) (b c : ℕ) (x : Handle) → Reads byte wide bytes b rest → b ≡ c → Reads (after_handle c) wide rest x last → Reads handle wide bytes x last
+handle_is bytes rest last b c x h e g = tagged_reads {G = after_handle} h (subst (λ c. Reads (after_handle c) wide rest x last) (sym e) g)
+
+handle_is_not : (bytes rest : List ℕ) (b c : ℕ) → Reads byte wide bytes b rest → b ≡ c → ReadsNothing (after_handle c) wide rest → ReadsNothing handle wide bytes
+handle_is_not bytes rest b c h e n = tagged_nothing {G = after_handle} byte-alone h (subst (λ c. ReadsNothing (after_handle c) wide rest) (sym e) n)
+
+pub handle_on_label : (bytes rest last : List ℕ) (b : ℕ) (tag label : ℕ) → Reads byte wide bytes b rest → b ≡ 0x00 → Reads (pair u32 u32) wide rest (tag, label) last → Reads handle wide bytes (OnLabel tag label) last
+handle_on_label bytes rest last b tag label h e g = handle_is bytes rest last b 0x00 (OnLabel tag label) h e (mapped_reads on_label_of_pair g)
+
+pub handle_on_switch : (bytes rest last : List ℕ) (b tag : ℕ) → Reads byte wide bytes b rest → b ≡ 0x01 → Reads u32 wide rest tag last → Reads handle wide bytes (OnSwitch tag) last
+handle_on_switch bytes rest last b tag h e g = handle_is bytes rest last b 0x01 (OnSwitch tag) h e (mapped_reads OnSwitch g)
+
+pub handle_none : (bytes : List ℕ) → ReadsNothing byte wide bytes → ReadsNothing handle wide bytes
+handle_none bytes n = tagged_none byte after_handle bytes n
+
+pub handle_no_label : (bytes rest : List ℕ) (b : ℕ) → Reads byte wide bytes b rest → b ≡ 0x00 → ReadsNothing (pair u32 u32) wide rest → ReadsNothing handle wide bytes
+handle_no_label bytes rest b h e n = handle_is_not bytes rest b 0x00 h e (mapped_nothing on_label_of_pair n)
+
+pub handle_no_switch : (bytes rest : List ℕ) (b : ℕ) → Reads byte wide bytes b rest → b ≡ 0x01 → ReadsNothing u32 wide rest → ReadsNothing handle wide bytes
+handle_no_switch bytes rest b h e n = handle_is_not bytes rest b 0x01 h e (mapped_nothing OnSwitch n)
+
+pub handle_unknown : (bytes rest : List ℕ) (b : ℕ) → Reads byte wide bytes b rest → 2 ≤ b → ReadsNothing handle wide bytes
+handle_unknown bytes rest b h l = tagged_nothing {G = after_handle} byte-alone h (no_choice handle_tags b rest (omega arith, (omega arith, tt)))
+
+pub ruleset handle_steps = (handle_on_label, handle_on_switch, handle_none, handle_no_label, handle_no_switch, handle_unknown)

@@ -1,0 +1,172 @@
+-- How groups make numbers.
+use Rattle.std.proofs.Common.{◌≡◌, inl, inr, ℕ, ◌<◌, ◌^◌, List, ◌∷◌, length, ◌-◌, ◌≤◌, ◌≢◌, ℤ, pos, neg_ℤ, ◌-ℤ◌, ◌≤ℤ◌, ◌<ℤ◌, nat_lt, cond, refl, sym, ap, ap₂, subst, ◌∙◌, arith}
+use Rattle.std.proofs.lemmas.Bool.{lt-ltb, le-ltb, cases_lt}
+use Rattle.std.proofs.lemmas.Int.{ints}
+use Rattle.wasm_base.specs.Numbers.{wide, Unsigned, Signed, signed_sum, groups_sum, byte_limit}
+use Rattle.wasm_base.specs.Formats.{u32, u64, s32, s64, s33}
+use Rattle.wasm_base.specs.Reading.{Reads, ReadsNothing}
+use Rattle.wasm_base.proofs.NumberLaws.{groups_apart}
+use Rattle.wasm_base.specs.Groups.{groups, HasGroups, signed_of}
+use Rattle.wasm_base.proofs.GroupLaws.{groups_last}
+use Rattle.wasm_base.proofs.ReadingSteps.{front_and_rest}
+
+-- ---- numbers without a sign
+
+module _ (bits : ℕ) where
+  unsigned_reads : (bytes rest : List ℕ) (sum power last : ℕ) → HasGroups (byte_limit bits) bytes sum power last rest → sum < 2 ^ bits → Reads (λ mode. Unsigned mode bits) wide bytes sum rest
+  unsigned_reads bytes rest sum power last g l = record {
+    front = g.read.front;
+    split = g.read.split;
+    spelled = record { groups = g.read.spelled.1; total = ap groups_sum g.read.spelled.0 ∙ g.total; range = l; size = g.read.spelled.2 };
+  }
+
+  unsigned_none : (bytes : List ℕ) → ReadsNothing (groups (byte_limit bits)) wide bytes → ReadsNothing (λ mode. Unsigned mode bits) wide bytes
+  unsigned_none bytes none = record { none = λ v rest h. none.none h.front rest (record { front = h.front; split = h.split; spelled = (refl, h.spelled.groups, h.spelled.size) }) }
+
+  unsigned_large : (bytes rest : List ℕ) (sum power last : ℕ) → HasGroups (byte_limit bits) bytes sum power last rest → 2 ^ bits ≤ sum → ReadsNothing (λ mode. Unsigned mode bits) wide bytes
+  unsigned_large bytes rest sum power last h l = record {
+    none = λ v q g.
+        let same = groups_apart h.read.front g.front rest q h.read.spelled.1 g.spelled.groups (sym h.read.split ∙ g.split) in
+        omega (arith, l, g.spelled.range, g.spelled.total, ap groups_sum same.0, ap groups_sum h.read.spelled.0, h.total);
+  }
+
+  unsigned_byte : (bytes rest : List ℕ) (b n : ℕ) → bytes ≡ b ∷ rest → b < 128 → n ≡ b → byte_limit bits ≢ 0 → 128 ≤ 2 ^ bits → Reads (λ mode. Unsigned mode bits) wide bytes n rest
+  unsigned_byte bytes rest b n e l is some wide_enough = unsigned_reads bytes rest n 128 b (groups_last (byte_limit bits) b n bytes rest e l some is) (omega (arith, l, is, wide_enough))
+
+pub u32_reads : (bytes rest : List ℕ) (sum power last : ℕ) → HasGroups 5 bytes sum power last rest → sum < 2 ^ 32 → Reads u32 wide bytes sum rest
+u32_reads = unsigned_reads 32
+
+pub u32_byte : (bytes rest : List ℕ) (b n : ℕ) → bytes ≡ b ∷ rest → b < 128 → n ≡ b → Reads u32 wide bytes n rest
+u32_byte bytes rest b n e l is = unsigned_byte 32 bytes rest b n e l is (omega arith) (omega arith)
+
+pub u32_none : (bytes : List ℕ) → ReadsNothing (groups 5) wide bytes → ReadsNothing u32 wide bytes
+u32_none = unsigned_none 32
+
+pub u32_large : (bytes rest : List ℕ) (sum power last : ℕ) → HasGroups 5 bytes sum power last rest → 2 ^ 32 ≤ sum → ReadsNothing u32 wide bytes
+u32_large = unsigned_large 32
+
+pub ruleset u32_steps = (u32_reads, u32_byte, u32_none, u32_large, front_and_rest)
+
+pub u64_reads : (bytes rest : List ℕ) (sum power last : ℕ) → HasGroups 10 bytes sum power last rest → sum < 2 ^ 64 → Reads u64 wide bytes sum rest
+u64_reads = unsigned_reads 64
+
+pub u64_byte : (bytes rest : List ℕ) (b n : ℕ) → bytes ≡ b ∷ rest → b < 128 → n ≡ b → Reads u64 wide bytes n rest
+u64_byte bytes rest b n e l is = unsigned_byte 64 bytes rest b n e l is (omega arith) (omega arith)
+
+pub u64_none : (bytes : List ℕ) → ReadsNothing (groups 10) wide bytes → ReadsNothing u64 wide bytes
+u64_none = unsigned_none 64
+
+pub u64_large : (bytes rest : List ℕ) (sum power last : ℕ) → HasGroups 10 bytes sum power last rest → 2 ^ 64 ≤ sum → ReadsNothing u64 wide bytes
+u64_large = unsigned_large 64
+
+pub ruleset u64_steps = (u64_reads, u64_byte, u64_none, u64_large, front_and_rest)
+
+-- ---- signed numbers
+
+-- what the sign does
+not_negative : (sum power last : ℕ) → last < 64 → signed_of sum power last ≡ pos sum
+not_negative sum power last l = rw (lt-ltb last 64 l) refl
+
+negative : (sum power last : ℕ) → 64 ≤ last → signed_of sum power last ≡ pos sum -ℤ pos power
+negative sum power last l = rw (le-ltb last 64 l) refl
+
+sum_of : {limit : ℕ} {bytes rest : List ℕ} {sum power last : ℕ} → (g : HasGroups limit bytes sum power last rest) → signed_sum g.read.front ≡ signed_of sum power last
+sum_of {sum = sum} {power = power} {last = last} g =
+    ap signed_sum g.read.spelled.0 ∙ ap (λ l. cond (nat_lt l 64) (pos (groups_sum g.front)) (pos (groups_sum g.front) -ℤ pos (128 ^ length g.front))) g.end
+    ∙ ap₂ (λ s p. cond (nat_lt last 64) (pos s) (pos s -ℤ pos p)) g.total g.count
+
+module _ (bits : ℕ) where
+  signed_reads : (bytes rest : List ℕ) (sum power last : ℕ) → HasGroups (byte_limit bits) bytes sum power last rest → neg_ℤ (pos (2 ^ (bits - 1))) ≤ℤ signed_of sum power last → signed_of sum power last <ℤ pos (2 ^ (bits - 1))
+      → Reads (λ mode. Signed mode bits) wide bytes (signed_of sum power last) rest
+  signed_reads bytes rest sum power last g l u = record {
+    front = g.read.front;
+    split = g.read.split;
+    spelled = record { groups = g.read.spelled.1; total = sum_of g; above = l; below = u; size = g.read.spelled.2 };
+  }
+
+  signed_none : (bytes : List ℕ) → ReadsNothing (groups (byte_limit bits)) wide bytes → ReadsNothing (λ mode. Signed mode bits) wide bytes
+  signed_none bytes none = record { none = λ v rest h. none.none h.front rest (record { front = h.front; split = h.split; spelled = (refl, h.spelled.groups, h.spelled.size) }) }
+
+  -- another value would be out of range
+  signed_is : (bytes rest : List ℕ) (sum power last : ℕ) → HasGroups (byte_limit bits) bytes sum power last rest → (v : ℤ) (q : List ℕ) → Reads (λ mode. Signed mode bits) wide bytes v q → v ≡ signed_of sum power last
+  signed_is bytes rest sum power last h v q g =
+      let same = groups_apart h.read.front g.front rest q h.read.spelled.1 g.spelled.groups (sym h.read.split ∙ g.split) in
+      sym g.spelled.total ∙ ap signed_sum (sym same.0) ∙ sum_of h
+
+  signed_low : (bytes rest : List ℕ) (sum power last : ℕ) → HasGroups (byte_limit bits) bytes sum power last rest → signed_of sum power last <ℤ neg_ℤ (pos (2 ^ (bits - 1))) → ReadsNothing (λ mode. Signed mode bits) wide bytes
+  signed_low bytes rest sum power last h l = record { none = λ v q g. omega (arith, ints, l, g.spelled.above, signed_is bytes rest sum power last h v q g) }
+
+  signed_high : (bytes rest : List ℕ) (sum power last : ℕ) → HasGroups (byte_limit bits) bytes sum power last rest → pos (2 ^ (bits - 1)) ≤ℤ signed_of sum power last → ReadsNothing (λ mode. Signed mode bits) wide bytes
+  signed_high bytes rest sum power last h l = record { none = λ v q g. omega (arith, ints, l, g.spelled.below, signed_is bytes rest sum power last h v q g) }
+
+pub s32_reads : (bytes rest : List ℕ) (sum power last : ℕ) (v : ℤ) → HasGroups 5 bytes sum power last rest → v ≡ signed_of sum power last → neg_ℤ (pos (2 ^ 31)) ≤ℤ v → v <ℤ pos (2 ^ 31) → Reads s32 wide bytes v rest
+s32_reads bytes rest sum power last v g e l u = subst (λ z. Reads s32 wide bytes z rest) (sym e) (signed_reads 32 bytes rest sum power last g (rw e at l) (rw e at u))
+
+pub s32_none : (bytes : List ℕ) → ReadsNothing (groups 5) wide bytes → ReadsNothing s32 wide bytes
+s32_none = signed_none 32
+
+pub s32_low : (bytes rest : List ℕ) (sum power last : ℕ) (v : ℤ) → HasGroups 5 bytes sum power last rest → v ≡ signed_of sum power last → v <ℤ neg_ℤ (pos (2 ^ 31)) → ReadsNothing s32 wide bytes
+s32_low bytes rest sum power last v g e l = signed_low 32 bytes rest sum power last g (rw e at l)
+
+pub s32_high : (bytes rest : List ℕ) (sum power last : ℕ) (v : ℤ) → HasGroups 5 bytes sum power last rest → v ≡ signed_of sum power last → pos (2 ^ 31) ≤ℤ v → ReadsNothing s32 wide bytes
+s32_high bytes rest sum power last v g e l = signed_high 32 bytes rest sum power last g (rw e at l)
+
+-- one group is in the range of either type
+signed_small : (b : ℕ) → b < 128 → (neg_ℤ (pos (2 ^ 31)) ≤ℤ signed_of b 128 b) × (signed_of b 128 b <ℤ pos (2 ^ 31))
+signed_small b l =
+    elim (cases_lt b 64) [
+      | inl low ↦ let is = not_negative b 128 b low in (omega (arith, ints, is), omega (arith, ints, is, low))
+      | inr high ↦ let is = negative b 128 b high in (omega (arith, ints, is), omega (arith, ints, is, l))
+    ]
+
+pub s32_byte : (bytes rest : List ℕ) (b : ℕ) (v : ℤ) → bytes ≡ b ∷ rest → b < 128 → v ≡ signed_of b 128 b → Reads s32 wide bytes v rest
+s32_byte bytes rest b v e l is =
+    let small = signed_small b l in
+    s32_reads bytes rest b 128 b v (groups_last 5 b b bytes rest e l (omega arith) refl) is (omega (arith, ints, is, small.0)) (omega (arith, ints, is, small.1))
+
+pub ruleset s32_steps = (s32_reads, s32_byte, s32_none, s32_low, s32_high, front_and_rest)
+
+pub s64_reads : (bytes rest : List ℕ) (sum power last : ℕ) (v : ℤ) → HasGroups 10 bytes sum power last rest → v ≡ signed_of sum power last → neg_ℤ (pos (2 ^ 63)) ≤ℤ v → v <ℤ pos (2 ^ 63) → Reads s64 wide bytes v rest
+s64_reads bytes rest sum power last v g e l u = subst (λ z. Reads s64 wide bytes z rest) (sym e) (signed_reads 64 bytes rest sum power last g (rw e at l) (rw e at u))
+
+pub s64_none : (bytes : List ℕ) → ReadsNothing (groups 10) wide bytes → ReadsNothing s64 wide bytes
+s64_none = signed_none 64
+
+pub s64_low : (bytes rest : List ℕ) (sum power last : ℕ) (v : ℤ) → HasGroups 10 bytes sum power last rest → v ≡ signed_of sum power last → v <ℤ neg_ℤ (pos (2 ^ 63)) → ReadsNothing s64 wide bytes
+s64_low bytes rest sum power last v g e l = signed_low 64 bytes rest sum power last g (rw e at l)
+
+pub s64_high : (bytes rest : List ℕ) (sum power last : ℕ) (v : ℤ) → HasGroups 10 bytes sum power last rest → v ≡ signed_of sum power last → pos (2 ^ 63) ≤ℤ v → ReadsNothing s64 wide bytes
+s64_high bytes rest sum power last v g e l = signed_high 64 bytes rest sum power last g (rw e at l)
+
+pub s64_byte : (bytes rest : List ℕ) (b : ℕ) (v : ℤ) → bytes ≡ b ∷ rest → b < 128 → v ≡ signed_of b 128 b → Reads s64 wide bytes v rest
+s64_byte bytes rest b v e l is =
+    let small = signed_small b l in
+    s64_reads bytes rest b 128 b v (groups_last 10 b b bytes rest e l (omega arith) refl) is (omega (arith, ints, is, small.0)) (omega (arith, ints, is, small.1))
+
+pub ruleset s64_steps = (s64_reads, s64_byte, s64_none, s64_low, s64_high, front_and_rest)
+
+-- ---- indices, spelled as signed numbers
+
+pub index_reads : (bytes rest : List ℕ) (sum power last : ℕ) → HasGroups 5 bytes sum power last rest → last < 64 → sum < 2 ^ 32 → Reads s33 wide bytes sum rest
+index_reads bytes rest sum power last g l u =
+    let is = not_negative sum power last l in
+    let r = signed_reads 33 bytes rest sum power last g (omega (arith, ints, is)) (omega (arith, ints, is, u)) in
+    record { front = r.front; split = r.split; spelled = subst (λ z. Signed wide 33 r.front z) is r.spelled }
+
+as_signed : (bytes rest : List ℕ) (n : ℕ) → Reads s33 wide bytes n rest → Reads (λ mode. Signed mode 33) wide bytes (pos n) rest
+as_signed bytes rest n h = record { front = h.front; split = h.split; spelled = h.spelled }
+
+pub index_none : (bytes : List ℕ) → ReadsNothing (groups 5) wide bytes → ReadsNothing s33 wide bytes
+index_none bytes none = record { none = λ n rest h. (signed_none 33 bytes none).none (pos n) rest (as_signed bytes rest n h) }
+
+pub index_large : (bytes rest : List ℕ) (sum power last : ℕ) → HasGroups 5 bytes sum power last rest → last < 64 → 2 ^ 32 ≤ sum → ReadsNothing s33 wide bytes
+index_large bytes rest sum power last g l u = record {
+  none = λ n q h. omega (arith, ints, u, h.spelled.below, signed_is 33 bytes rest sum power last g (pos n) q (as_signed bytes q n h), not_negative sum power last l);
+}
+
+pub index_negative : (bytes rest : List ℕ) (sum power last : ℕ) → HasGroups 5 bytes sum power last rest → 64 ≤ last → sum < power → ReadsNothing s33 wide bytes
+index_negative bytes rest sum power last g l u = record {
+  none = λ n q h. omega (arith, ints, u, signed_is 33 bytes rest sum power last g (pos n) q (as_signed bytes q n h), negative sum power last l);
+}
+
+pub ruleset index_steps = (index_reads, index_none, index_large, index_negative)

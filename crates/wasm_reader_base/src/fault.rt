@@ -1,0 +1,64 @@
+// Why nothing was read.
+ghost use Rattle.std.specs.Prelude.{◌≡◌};
+ghost use Rattle.wasm_reader_base.specs.Faults.{fault_of};
+ghost use Rattle.wasm_reader_base.specs.declared.fault.ReadFault.TheVariants.{Memory};
+
+use std::alloc::{AllocError, AllocFailed};
+use thiserror::Error;
+use wasm_base::NoGroups;
+
+/// Why nothing was read. A cause other than `Memory` says that no reading exists.
+#[derive(Clone, Copy, PartialEq, Eq, Debug, Error)]
+pub enum ReadFault {
+    /// The bytes end before the value does.
+    #[error("Ended")]
+    Ended,
+    /// A number is padded. Padded numbers are read, so this is never given.
+    #[error("NotShortest")]
+    NotShortest,
+    /// A number is out of the range of its type, or has more bytes than the type's limit.
+    #[error("TooLarge")]
+    TooLarge,
+    /// A byte or number that tells what follows is none that the grammar knows.
+    #[error("UnknownTag")]
+    UnknownTag,
+    /// No instruction has the opcode.
+    #[error("UnknownOpcode")]
+    UnknownOpcode,
+    /// The bytes of a name are not UTF-8.
+    #[error("NotUtf8")]
+    NotUtf8,
+    /// Bytes of a frame are left after what it should hold.
+    #[error("SizeMismatch")]
+    SizeMismatch,
+    /// A request for memory was refused.
+    #[error("Memory")]
+    Memory,
+}
+
+impl From<AllocError> for ReadFault {
+    ghost from_gives = { λ _ fault. fault ≡ Memory };
+
+    fn from(_error: AllocError) -> ReadFault {
+        ReadFault::Memory
+    }
+}
+
+impl<T: Drop> From<AllocFailed<T>> for ReadFault {
+    ghost from_gives = { λ _ fault. fault ≡ Memory };
+
+    fn from(_failed: AllocFailed<T>) -> ReadFault {
+        ReadFault::Memory
+    }
+}
+
+impl From<NoGroups> for ReadFault {
+    ghost from_gives = { λ none fault. fault ≡ fault_of none };
+
+    fn from(none: NoGroups) -> ReadFault {
+        match none {
+            NoGroups::Ended => ReadFault::Ended,
+            NoGroups::TooMany => ReadFault::TooLarge,
+        }
+    }
+}

@@ -1,0 +1,103 @@
+// Fixed bytes: a byte, floats, vectors of 128 bits and lanes.
+ghost use Rattle.std.specs.Prelude.{ℕ, List, ℤ};
+ghost use Rattle.wasm_base.specs.Formats.{byte, little_endian, raw_bytes};
+ghost use Rattle.wasm_base.proofs.FormatLaws.{byte-alone, little_endian-alone, raw_bytes-alone};
+ghost use Rattle.wasm_immediates.specs.PlainImmediates.{vector_format};
+ghost use Rattle.wasm_immediates.proofs.ImmediateLaws.{vector-alone};
+
+use crate::fault::ReadFault;
+use crate::readable::Readable;
+use std::alloc::Allocator;
+use wasm_immediates::{Ieee32, Ieee64};
+
+impl<'a, A: Allocator + Copy> Readable<'a, A> for u8 {
+    ghost Value = { ℕ };
+
+    ghost format = { byte };
+
+    ghost view = { λ b. b };
+
+    ghost alone = { byte-alone };
+
+    #[tactic(auto, using(wasm_base::proofs::ReadingSteps::steps))]
+    #[inline]
+    fn read(bytes: &'a [u8], _alloc: A) -> Result<(u8, &'a [u8]), ReadFault> {
+        match bytes {
+            [] => Err(ReadFault::Ended),
+            [b, rest @ ..] => Ok((*b, rest)),
+        }
+    }
+}
+
+/// A float's four bytes, the least first.
+impl<'a, A: Allocator + Copy> Readable<'a, A> for Ieee32 {
+    ghost Value = { ℕ };
+
+    ghost format = { little_endian 4 };
+
+    ghost view = { λ float. float.bits };
+
+    ghost alone = { little_endian-alone 4 };
+
+    fn read(bytes: &'a [u8], _alloc: A) -> Result<(Ieee32, &'a [u8]), ReadFault> {
+        match bytes.split_first_chunk::<4>() {
+            Some((front, rest)) => Ok((Ieee32::new(u32::from_le_bytes(*front)), rest)),
+            None => Err(ReadFault::Ended),
+        }
+    }
+}
+
+/// A float's eight bytes, the least first.
+impl<'a, A: Allocator + Copy> Readable<'a, A> for Ieee64 {
+    ghost Value = { ℕ };
+
+    ghost format = { little_endian 8 };
+
+    ghost view = { λ float. float.bits };
+
+    ghost alone = { little_endian-alone 8 };
+
+    fn read(bytes: &'a [u8], _alloc: A) -> Result<(Ieee64, &'a [u8]), ReadFault> {
+        match bytes.split_first_chunk::<8>() {
+            Some((front, rest)) => Ok((Ieee64::new(u64::from_le_bytes(*front)), rest)),
+            None => Err(ReadFault::Ended),
+        }
+    }
+}
+
+/// A vector's sixteen bytes, the least first, in two's complement.
+impl<'a, A: Allocator + Copy> Readable<'a, A> for i128 {
+    ghost Value = { ℤ };
+
+    ghost format = { vector_format };
+
+    ghost view = { λ v. v };
+
+    ghost alone = { vector-alone };
+
+    fn read(bytes: &'a [u8], _alloc: A) -> Result<(i128, &'a [u8]), ReadFault> {
+        match bytes.split_first_chunk::<16>() {
+            Some((front, rest)) => Ok((i128::from_le_bytes(*front), rest)),
+            None => Err(ReadFault::Ended),
+        }
+    }
+}
+
+/// Sixteen lanes, a byte each.
+impl<'a, A: Allocator + Copy> Readable<'a, A> for [u8; 16] {
+    ghost Value = { List ℕ };
+
+    ghost format = { raw_bytes 16 };
+
+    ghost view = { λ lanes. lanes };
+
+    ghost alone = { raw_bytes-alone 16 };
+
+    #[tactic(auto, using(crate::proofs::ReadFixed::raw_steps))]
+    fn read(bytes: &'a [u8], _alloc: A) -> Result<([u8; 16], &'a [u8]), ReadFault> {
+        match bytes.split_first_chunk::<16>() {
+            Some((front, rest)) => Ok((*front, rest)),
+            None => Err(ReadFault::Ended),
+        }
+    }
+}

@@ -1,0 +1,53 @@
+// Frames: a size, and exactly that many bytes.
+ghost use Rattle.wasm_base.specs.Formats.{frame};
+ghost use Rattle.wasm_base.proofs.FormatLaws.{frame-alone, whole_from_alone};
+
+use crate::fault::ReadFault;
+use crate::readable::{Filling, Readable};
+use std::alloc::Allocator;
+
+/// A value of known end in a frame, whose bytes it takes to the last.
+#[derive(Debug, Drop)]
+pub struct Framed<T>(pub T);
+
+impl<'a, A: Allocator + Copy, T: Readable<'a, A>> Readable<'a, A> for Framed<T> {
+    ghost Value = { T.Value };
+
+    ghost format = { frame T.format };
+
+    ghost view = { λ f. T.view f.0 };
+
+    ghost alone = { frame-alone (whole_from_alone T.alone) };
+
+    #[tactic(auto, using(crate::proofs::ReadFrames::framed_steps))]
+    fn read(bytes: &'a [u8], alloc: A) -> Result<(Framed<T>, &'a [u8]), ReadFault> {
+        let (content, rest) = <&'a [u8] as Readable<'a, A>>::read(bytes, alloc)?;
+        let (value, left) = T::read(content, alloc)?;
+        if left.is_empty() {
+            Ok((Framed(value), rest))
+        } else {
+            Err(ReadFault::SizeMismatch)
+        }
+    }
+}
+
+/// A value in a frame, whose bytes spell it together.
+#[derive(Debug, Drop)]
+pub struct Filled<T>(pub T);
+
+impl<'a, A: Allocator + Copy, T: Filling<'a, A>> Readable<'a, A> for Filled<T> {
+    ghost Value = { T.Value };
+
+    ghost format = { frame T.format };
+
+    ghost view = { λ f. T.view f.0 };
+
+    ghost alone = { frame-alone T.whole };
+
+    #[tactic(auto, using(crate::proofs::ReadFrames::filled_steps))]
+    fn read(bytes: &'a [u8], alloc: A) -> Result<(Filled<T>, &'a [u8]), ReadFault> {
+        let (content, rest) = <&'a [u8] as Readable<'a, A>>::read(bytes, alloc)?;
+        let value = T::fill(content, alloc)?;
+        Ok((Filled(value), rest))
+    }
+}

@@ -1,0 +1,23 @@
+//! Reads what stands at the front of bytes, exactly: an answer is what the grammar reads there, with padded numbers too, and a cause
+//! other than [`ReadFault::Memory`] says that no reading exists.
+//!
+//! What is read is a type with [`Readable`]: numbers, fixed bytes, names, frames, pairs, vectors, types and immediates here, and
+//! instructions and sections in the crates above. A content that reaches to the last byte of its frame has [`Filling`].
+#![tactic(auto)]
+
+mod fault;
+mod fixed;
+mod frames;
+mod immediates;
+mod names;
+mod numbers;
+mod optional;
+mod readable;
+mod tuples;
+mod types;
+mod vectors;
+
+pub use fault::ReadFault;
+pub use frames::{Filled, Framed};
+pub use optional::read_optional;
+pub use readable::{Filling, Readable};

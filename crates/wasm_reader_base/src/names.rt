@@ -1,0 +1,48 @@
+// Framed bytes and names, which are slices of the input.
+ghost use Rattle.std.specs.Prelude.{ℕ, List};
+ghost use Rattle.wasm_base.specs.Formats.{frame, any_bytes, name};
+ghost use Rattle.wasm_base.proofs.BaseLaws.{frame-bytes-alone, name-alone};
+
+use crate::fault::ReadFault;
+use crate::readable::Readable;
+use std::alloc::Allocator;
+
+/// The bytes of a frame.
+impl<'a, A: Allocator + Copy> Readable<'a, A> for &'a [u8] {
+    ghost Value = { List ℕ };
+
+    ghost format = { frame any_bytes };
+
+    ghost view = { λ b. b.now };
+
+    ghost alone = { frame-bytes-alone };
+
+    #[tactic(auto, using(crate::proofs::ReadFrames::frame_steps))]
+    fn read(bytes: &'a [u8], alloc: A) -> Result<(&'a [u8], &'a [u8]), ReadFault> {
+        let (size, rest) = <u32 as Readable<'a, A>>::read(bytes, alloc)?;
+        if rest.len() < size as usize {
+            return Err(ReadFault::Ended);
+        }
+        Ok(rest.split_at(size as usize))
+    }
+}
+
+/// A name: a length, and that many bytes of UTF-8.
+impl<'a, A: Allocator + Copy> Readable<'a, A> for &'a str {
+    ghost Value = { List ℕ };
+
+    ghost format = { name };
+
+    ghost view = { λ s. s.now };
+
+    ghost alone = { name-alone };
+
+    #[tactic(auto, using(crate::proofs::ReadFrames::name_steps))]
+    fn read(bytes: &'a [u8], alloc: A) -> Result<(&'a str, &'a [u8]), ReadFault> {
+        let (text, rest) = <&'a [u8] as Readable<'a, A>>::read(bytes, alloc)?;
+        match str::from_utf8(text) {
+            Ok(name) => Ok((name, rest)),
+            Err(_) => Err(ReadFault::NotUtf8),
+        }
+    }
+}

@@ -1,0 +1,28 @@
+// Values that a flag tells.
+ghost use Rattle.std.specs.Prelude.{◌≢◌, IfOk, IfErr, option_map};
+ghost use Rattle.wasm_base.specs.Formats.{optional};
+ghost use Rattle.wasm_base.specs.Numbers.{wide};
+ghost use Rattle.wasm_base.specs.Reading.{Reads, ReadsNothing};
+ghost use Rattle.wasm_reader_base.specs.declared.fault.ReadFault.TheVariants.{Memory};
+
+use crate::fault::ReadFault;
+use crate::readable::Readable;
+use std::alloc::Allocator;
+
+/// A value where the flag is set, and nothing where it isn't.
+#[tactic(auto, using(wasm_base::proofs::Tags::optional_steps))]
+pub fn read_optional<'a, T: Readable<'a, A>, A: Allocator + Copy>(
+    flag: bool,
+    bytes: &'a [u8],
+    alloc: A,
+) -> Result<(Option<T>, &'a [u8]), ReadFault>
+    ensures found { IfOk result (λ x. Reads (optional flag T.format) wide bytes.now (option_map T.view x.0) x.1.now) }
+    ensures none { IfErr result (λ e. e ≢ Memory → ReadsNothing (optional flag T.format) wide bytes.now) }
+{
+    if flag {
+        let (value, rest) = T::read(bytes, alloc)?;
+        Ok((Some(value), rest))
+    } else {
+        Ok((None, bytes))
+    }
+}

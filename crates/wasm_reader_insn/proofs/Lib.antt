@@ -1,0 +1,6 @@
+pub mod Calls
+pub mod PlaceLaws
+pub mod ReadArguments
+pub mod ReadInstructions
+pub mod ReadLists
+pub mod WalkLaws

@@ -1,0 +1,73 @@
+-- The places of a walk over a body.
+use Rattle.std.proofs.Common.{◌≡◌, ℕ, ◌<◌, ◌≤◌, List, [], ◌∷◌, ◌++◌, length, take, drop, refl, sym, ap, ap₂, ◌∙◌, append_assoc, append-nil, arith}
+use Rattle.std.proofs.lemmas.List.{length-append, length-drop, length-take-le, take-append-drop, take_at}
+use Rattle.wasm_base.specs.Numbers.{Mode, wide}
+use Rattle.wasm_base.specs.Formats.{Format, u32, members, pair, vec}
+use Rattle.wasm_base.specs.Reading.{UniqueReading, Reads}
+use Rattle.wasm_base.specs.Types.{val_type}
+use Rattle.wasm_insn.specs.Plain.{Plain, instruction}
+use Rattle.wasm_insn.specs.Table.{table}
+use Rattle.wasm_insn.proofs.InstructionLaws.{alone}
+use Rattle.wasm_code.specs.Bodies.{Body, Run, body, body_of, and_then}
+use Rattle.wasm_code.proofs.BodyLaws.{runs-alone}
+use Rattle.wasm_code.proofs.ExpressionLaws.{members_join, members_one}
+use Rattle.wasm_reader_insn.specs.Laws.{HasGone, HasPlaces}
+
+-- What is read at the front are the bytes before the place.
+front_is : {X : Type 0} (F : Format X) (bytes : List ℕ) (place : ℕ) (x : X) → place ≤ length bytes → (h : Reads F wide bytes x (drop place bytes)) → take place bytes ≡ h.front
+front_is F bytes place x l h =
+    ap (take place) h.split ∙ take_at h.front (drop place bytes) place (omega (arith, l, ap length h.split, length-append h.front (drop place bytes), length-drop place bytes))
+
+begun : (bytes : List ℕ) (place : ℕ) (runs : List Run) → Reads (vec (pair u32 val_type)) wide bytes runs (drop place bytes) → place ≤ length bytes → HasGone bytes place (record { runs = runs; code = [] })
+begun bytes place runs h l =
+    ((runs, []), refl, record { front = h.front; back = []; joined = front_is (vec (pair u32 val_type)) bytes place runs l h ∙ sym (append-nil h.front); first = h.spelled; second = refl })
+
+-- The bytes before a later place are those before the place, and those between.
+between : (bytes middle : List ℕ) (place after : ℕ) → place ≤ length bytes → after ≤ length bytes → place ≤ after → drop place bytes ≡ middle ++ drop after bytes → take after bytes ≡ take place bytes ++ middle
+between bytes middle place after l m n e =
+    let whole : bytes ≡ (take place bytes ++ middle) ++ drop after bytes = sym (take-append-drop place bytes) ∙ ap (λ z. take place bytes ++ z) e ∙ sym (append_assoc (take place bytes) middle (drop after bytes)) in
+    let long : length (take place bytes ++ middle) ≡ after =
+    omega (arith, l, m, n, length-append (take place bytes) middle, length-take-le place bytes l, ap length e, length-append middle (drop after bytes), length-drop place bytes, length-drop after bytes)
+    in
+    ap (take after) whole ∙ take_at (take place bytes ++ middle) (drop after bytes) after long
+
+goes_on : (bytes : List ℕ) (place after : ℕ) (x : Body) (i : Plain) → HasGone bytes place x → Reads (instruction table) wide (drop place bytes) i (drop after bytes) → place < after → after ≤ length bytes → HasGone bytes after (and_then x (i ∷ []))
+goes_on bytes place after x i h g l m =
+    let p = h.2 in (
+      (h.0.0, h.0.1 ++ i ∷ []),
+      ap (λ z. and_then z (i ∷ [])) h.1,
+      record {
+        front = p.front;
+        back = p.back ++ g.front;
+        joined = between bytes g.front place after (omega (arith, l, m)) m (omega (arith, l)) g.split ∙ ap (λ z. z ++ g.front) p.joined ∙ append_assoc p.front p.back g.front;
+        first = p.first;
+        second = members_join (instruction table) wide p.back g.front h.0.1 (i ∷ []) p.second (members_one (instruction table) wide g.front i g.spelled);
+      },
+    )
+
+-- As many members at the front of the same bytes are the same.
+same_members : {X : Type 0} {F : Format X} → UniqueReading F → (mode : Mode) (s t r q : List ℕ) (xs ys : List X) → members F mode s xs → members F mode t ys → s ++ r ≡ t ++ q → length xs ≡ length ys → (xs ≡ ys) × (s ≡ t)
+same_members unique mode s t r q [] [] h g e l = (refl, h ∙ sym g)
+same_members unique mode s t r q [] (y ∷ ys) h g e l = absurd (omega (arith, l))
+same_members unique mode s t r q (x ∷ xs) [] h g e l = absurd (omega (arith, l))
+same_members unique mode s t r q (x ∷ xs) (y ∷ ys) h g e l =
+    let a = unique.alone mode h.0 g.0 (h.1 ++ r) (g.1 ++ q) x y h.3 g.3 (sym (append_assoc h.0 h.1 r) ∙ ap (λ z. z ++ r) (sym h.2) ∙ e ∙ ap (λ z. z ++ q) g.2 ∙ append_assoc g.0 g.1 q) in
+    let more = same_members unique mode h.1 g.1 r q xs ys h.4 g.4 a.2 (omega (arith, l)) in
+    (ap₂ ◌∷◌ a.0 more.0, h.2 ∙ ap₂ ◌++◌ a.1 more.1 ∙ sym g.2)
+
+same : (front more : List ℕ) (place : ℕ) (x y : Body) → body wide front x → HasGone (front ++ more) place y → place ≤ length (front ++ more) → length y.code ≡ length x.code → (y ≡ x) × (place ≡ length front)
+same front more place x y h g l n =
+    let bytes = front ++ more in
+    let a = g.2 in
+    let b = h.2 in
+    let whole : a.front ++ (a.back ++ drop place bytes) ≡ b.front ++ (b.back ++ more) =
+    sym (append_assoc a.front a.back (drop place bytes)) ∙ ap (λ z. z ++ drop place bytes) (sym a.joined) ∙ take-append-drop place bytes ∙ ap (λ z. z ++ more) b.joined ∙ append_assoc b.front b.back more
+    in
+    let r = runs-alone.alone wide a.front b.front (a.back ++ drop place bytes) (b.back ++ more) g.0.0 h.0.0 a.first b.first whole in
+    let many : length g.0.1 ≡ length h.0.1 = ap (λ z. length z.code) g.1 ∙ n ∙ ap (λ z. length z.code) (sym h.1) in
+    let m = same_members alone wide a.back b.back (drop place bytes) more g.0.1 h.0.1 a.second b.second r.2 many in
+    let texts : take place bytes ≡ front = a.joined ∙ ap₂ ◌++◌ r.1 m.1 ∙ sym b.joined in
+    (sym g.1 ∙ ap₂ (λ runs code. body_of (runs, code)) r.0 m.0 ∙ h.1, sym (length-take-le place bytes l) ∙ ap length texts)
+
+pub places : HasPlaces
+places = record { begun = begun; goes_on = goes_on; same = same }

@@ -1,0 +1,166 @@
+-- Lists of instructions up to the last byte and up to End, and bodies.
+use Rattle.std.proofs.Common.{◌≡◌, ◌≢◌, ℕ, ◌<◌, ◌≤◌, ◌-◌, List, [], ◌∷◌, ◌++◌, length, map, take, drop, slice_index_or, Bool, true, false, refl, sym, ap, subst, ◌∙◌, append_assoc, append-nil, arith}
+use Rattle.std.proofs.lemmas.Bool.{ne_eqb}
+use Rattle.wasm_base.proofs.FormatLaws.{byte-alone}
+use Rattle.std.proofs.lemmas.List.{map-append, map-id, length-append}
+use Rattle.wasm_base.specs.Numbers.{wide}
+use Rattle.wasm_base.specs.Formats.{Format, byte, members, ended, pair, vec, u32, such, when, mapped, fixed}
+use Rattle.wasm_base.specs.Types.{val_type}
+use Rattle.wasm_base.specs.Reading.{UniqueReading, BeginsWith, Reads, ReadsNothing}
+use Rattle.wasm_base.specs.declared.types.ValType.{ValType}
+use Rattle.wasm_insn.specs.declared.op.Op.{Op}
+use Rattle.wasm_insn.specs.declared.op.Op.TheVariants.{Byte, Prefixed}
+use Rattle.wasm_insn.specs.Plain.{Plain, instruction, same_op, is_prefix, op_after}
+use Rattle.wasm_insn.specs.Table.{table}
+use Rattle.wasm_code.specs.Expressions.{IsNoEnd}
+use Rattle.wasm_code.specs.Bodies.{body}
+use Rattle.wasm_code.proofs.BodyLaws.{runs-alone}
+use Rattle.wasm_base.specs.Going.{GoesOn, FillsNothing}
+use Rattle.wasm_base.proofs.ReadingSteps.{reads_same, such_reads}
+use Rattle.wasm_base.proofs.ReadingSteps.{front_and_rest}
+
+-- ---- members up to the last byte
+
+-- after the items
+abbrev pub HasMembers : {T X : Type 0} → Format X → (T → X) → List ℕ → List T → List ℕ → Type 0
+HasMembers {T} {X} F view bytes items rest = ((ys : List X) → members F wide rest ys → members F wide bytes (map view items ++ ys)) × (FillsNothing (members F) rest → FillsNothing (members F) bytes)
+
+module _ {T X : Type 0} (F : Format X) (view : T → X) (bytes : List ℕ) where
+  pub members_start : HasMembers F view bytes [] bytes
+  members_start = (λ ys h. h, λ n. n)
+
+  -- One member is read, and then only others that follow it.
+  after_member : UniqueReading F → (rest after : List ℕ) (x : X) → Reads F wide rest x after → rest ≢ [] → FillsNothing (members F) after → FillsNothing (members F) rest
+  after_member f rest after x h some n = record { none = go }
+    where
+      go : (ys : List X) → members F wide rest ys → ⊥
+      go [] g = some g
+      go (y ∷ ys) g =
+          let same = reads_same f h (record { front = g.0; split = g.2; spelled = g.3 }) in
+          n.none ys (subst (λ z. members F wide z ys) (sym same.1) g.4)
+
+  pub members_step : UniqueReading F → (rest after : List ℕ) (items : List T) (x : T) → HasMembers F view bytes items rest → rest ≢ [] → Reads F wide rest (view x) after → HasMembers F view bytes (items ++ x ∷ []) after
+  members_step f rest after items x go some g = (
+    λ ys h. subst (λ z. members F wide bytes z) (sym (ap (λ z. z ++ ys) (map-append view items (x ∷ [])) ∙ append_assoc (map view items) (view x ∷ []) ys)) (go.0 (view x ∷ ys) (g.front, after, g.split, g.spelled, h)),
+    λ n. go.1 (after_member f rest after (view x) g some n),
+  )
+
+  pub members_fail : (rest : List ℕ) (items : List T) → HasMembers F view bytes items rest → rest ≢ [] → ReadsNothing F wide rest → FillsNothing (members F) bytes
+  members_fail rest items go some n = go.1 (record { none = none })
+    where
+      none : (ys : List X) → members F wide rest ys → ⊥
+      none [] g = some g
+      none (y ∷ ys) g = n.none y g.1 (record { front = g.0; split = g.2; spelled = g.3 })
+
+  pub members_done : (rest : List ℕ) (items : List T) → HasMembers F view bytes items rest → rest ≡ [] → members F wide bytes (map view items)
+  members_done rest items go e = subst (λ z. members F wide bytes z) (append-nil (map view items)) (go.0 [] e)
+
+pub empty_not : (rest : List ℕ) → length rest ≢ 0 → rest ≢ []
+empty_not rest h e = h (ap length e)
+
+-- ---- members up to a byte
+
+abbrev pub HasEnded : {T X : Type 0} → ℕ → Format X → (T → X) → List ℕ → List T → List ℕ → Type 0
+HasEnded stop F view bytes items rest = GoesOn (ended stop F) bytes (ended stop F) rest (λ ys. map view items ++ ys)
+
+module _ {T X : Type 0} (stop : ℕ) (F : Format X) (view : T → X) (bytes : List ℕ) where
+  pub ended_start : HasEnded stop F view bytes [] bytes
+  ended_start = record { found = λ ys last h. h; none = λ n. n }
+
+  pub ended_step : UniqueReading F → (b : ℕ) (rest tail after : List ℕ) (items : List T) (x : T) → HasEnded stop F view bytes items rest → rest ≡ b ∷ tail → b ≢ stop → Reads F wide rest (view x) after → HasEnded stop F view bytes (items ++ x ∷ []) after
+  ended_step f b rest tail after items x go e other g = record {
+    found = λ ys last h.
+        subst (λ z. Reads (ended stop F) wide bytes z last) (sym (ap (λ z. z ++ ys) (map-append view items (x ∷ [])) ∙ append_assoc (map view items) (view x ∷ []) ys))
+        (go.found (view x ∷ ys) last (record { front = g.front ++ h.front; split = g.split ∙ ap (λ z. g.front ++ z) h.split ∙ sym (append_assoc g.front h.front last); spelled = (g.front, h.front, refl, g.spelled, h.spelled) }));
+    none = λ n. go.none (record { none = none n });
+  }
+    where
+      none : ReadsNothing (ended stop F) wide after → (ys : List X) (last : List ℕ) → Reads (ended stop F) wide rest ys last → ⊥
+      none n [] last h = other (first (sym e ∙ h.split ∙ ap (λ z. z ++ last) h.spelled))
+        where
+          first : b ∷ tail ≡ stop ∷ last → b ≡ stop
+          first e = cc e
+      none n (y ∷ ys) last h =
+          let s = h.spelled in
+          let same = reads_same f g (record { front = s.0; split = h.split ∙ ap (λ z. z ++ last) s.2 ∙ append_assoc s.0 s.1 last; spelled = s.3 }) in
+          n.none ys last (record { front = s.1; split = same.1; spelled = s.4 })
+
+  pub ended_fail : (b : ℕ) (rest tail : List ℕ) (items : List T) → HasEnded stop F view bytes items rest → rest ≡ b ∷ tail → b ≢ stop → ReadsNothing F wide rest → ReadsNothing (ended stop F) wide bytes
+  ended_fail b rest tail items go e other n = go.none (record { none = none })
+    where
+      none : (ys : List X) (last : List ℕ) → Reads (ended stop F) wide rest ys last → ⊥
+      none [] last h = other (first (sym e ∙ h.split ∙ ap (λ z. z ++ last) h.spelled))
+        where
+          first : b ∷ tail ≡ stop ∷ last → b ≡ stop
+          first e = cc e
+      none (y ∷ ys) last h =
+          let s = h.spelled in
+          n.none y (s.1 ++ last) (record { front = s.0; split = h.split ∙ ap (λ z. z ++ last) s.2 ∙ append_assoc s.0 s.1 last; spelled = s.3 })
+
+  pub ended_done : (rest after : List ℕ) (items : List T) → HasEnded stop F view bytes items rest → rest ≡ stop ∷ after → Reads (ended stop F) wide bytes (map view items) after
+  ended_done rest after items go e =
+      let none : List X = [] in
+      subst (λ z. Reads (ended stop F) wide bytes z after) (append-nil (map view items)) (go.found [] after (record { front = stop ∷ []; split = e; spelled = refl }))
+
+  pub ended_short : BeginsWith (λ b. Unit {0}) F → (rest : List ℕ) (items : List T) → HasEnded stop F view bytes items rest → rest ≡ [] → ReadsNothing (ended stop F) wide bytes
+  ended_short begins rest items go e = go.none (record { none = none })
+    where
+      none : (ys : List X) (last : List ℕ) → Reads (ended stop F) wide rest ys last → ⊥
+      none [] last h = absurd (cc (e, h.split, ap (λ z. z ++ last) h.spelled))
+      none (y ∷ ys) last h =
+          let s = h.spelled in
+          let b = begins wide s.0 y s.3 in
+          absurd (cc (e, h.split, ap (λ z. z ++ last) s.2, ap (λ z. z ++ s.1 ++ last) b.2))
+
+-- ---- End
+
+after_byte : (c d : ℕ) (s : List ℕ) (op : Op) → op_after c wide s op → op ≡ Byte d → c ≡ d
+after_byte c d s op h e = go (is_prefix c) h
+  where
+    go : (test : Bool) → when test (mapped (Prefixed c) u32) (fixed [] (Byte c)) wide s op → c ≡ d
+    go true k = absurd (cc (k.1, e))
+    go false k = let same : Byte c ≡ Byte d = sym k.1 ∙ e in cc same
+
+-- An instruction that begins with another byte than 0B isn't End.
+pub not_end : (bytes tail rest : List ℕ) (b : ℕ) (i : Plain) → bytes ≡ b ∷ tail → b ≢ 0x0B → Reads (instruction table) wide bytes i rest → Reads (such IsNoEnd (instruction table)) wide bytes i rest
+not_end bytes tail rest b i e other h = such_reads IsNoEnd h (is_other i.op (λ op. other (byte_of op)))
+  where
+    is_other : (op : Op) → (op ≡ Byte 0x0B → ⊥) → same_op op (Byte 0x0B) ≡ false
+    is_other (Byte c) p = ne_eqb c 0x0B (λ f. p (ap Byte f))
+    is_other (Prefixed p n) q = refl
+
+    byte_of : i.op ≡ Byte 0x0B → b ≡ 0x0B
+    byte_of f =
+        let op = h.spelled.2.first in
+        let first : Reads byte wide bytes op.0.0 _ = record { front = op.0.0 ∷ []; split = h.split ∙ ap (λ z. z ++ rest) (h.spelled.2.joined ∙ ap (λ z. z ++ h.spelled.2.back) (op.2.joined ∙ ap (λ z. z ++ op.2.back) op.2.first)); spelled = refl } in
+        let given : Reads byte wide bytes b tail = record { front = b ∷ []; split = e; spelled = refl } in
+        (reads_same byte-alone given first).0 ∙ after_byte op.0.0 0x0B op.2.back op.0.1 op.2.second (op.1 ∙ ap (λ i. i.op) h.spelled.1 ∙ f)
+
+-- ---- bodies
+
+pub body_fills : (bytes rest : List ℕ) (runs : List (ℕ × ValType)) (code : List Plain) → Reads (vec (pair u32 val_type)) wide bytes runs rest → members (instruction table) wide rest code → body wide bytes (record { runs = runs; code = code })
+body_fills bytes rest runs code h g = ((runs, code), refl, record { front = h.front; back = rest; joined = h.split; first = h.spelled; second = g })
+
+pub body_no_runs : (bytes : List ℕ) → ReadsNothing (vec (pair u32 val_type)) wide bytes → FillsNothing body bytes
+body_no_runs bytes n = record { none = λ x h. n.none h.0.0 h.2.back (record { front = h.2.front; split = h.2.joined; spelled = h.2.first }) }
+
+pub body_no_code : (bytes rest : List ℕ) (runs : List (ℕ × ValType)) → Reads (vec (pair u32 val_type)) wide bytes runs rest → FillsNothing (members (instruction table)) rest → FillsNothing body bytes
+body_no_code bytes rest runs h n = record {
+  none = λ x g.
+      let same = reads_same runs-alone h (record { front = g.2.front; split = g.2.joined; spelled = g.2.first }) in
+      n.none g.0.1 (subst (λ z. members (instruction table) wide z g.0.1) (sym same.1) g.2.second);
+}
+
+-- as a reader sees the runs
+pub body_fills_viewed : (bytes rest : List ℕ) (runs : List (ℕ × ValType)) (code : List Plain) → Reads (vec (pair u32 val_type)) wide bytes (map (λ r. (r.0, r.1)) runs) rest → members (instruction table) wide rest code → body wide bytes (record { runs = runs; code = code })
+body_fills_viewed bytes rest runs code h g = body_fills bytes rest runs code (subst (λ z. Reads (vec (pair u32 val_type)) wide bytes z rest) (map-id runs) h) g
+
+pub ruleset body_steps = (body_no_runs, body_no_code)
+
+pub front_is : (stop : ℕ) (bytes : List ℕ) → 1 ≤ length bytes → slice_index_or bytes 0 0 ≡ stop → bytes ≡ stop ∷ take (length bytes - 1) (drop 1 bytes)
+front_is stop bytes l e = front_and_rest bytes l ∙ ap (λ z. z ∷ take (length bytes - 1) (drop 1 bytes)) e
+
+pub member_shorter : {X : Type 0} (F : Format X) (bytes rest : List ℕ) (x : X) → BeginsWith (λ b. Unit {0}) F → Reads F wide bytes x rest → length rest < length bytes
+member_shorter F bytes rest x begins h =
+    let b = begins wide h.front x h.spelled in
+    omega (arith, ap length h.split, length-append h.front rest, ap length b.2)

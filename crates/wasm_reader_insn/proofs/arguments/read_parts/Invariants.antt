@@ -1,0 +1,5 @@
+use Rattle.wasm_reader_insn.proofs.ReadArguments.{HasArguments}
+use Rattle.wasm_reader_insn.proofs.arguments.read_parts.Given as goal
+
+abbrev pub invariant-loop-part : goal.invariant-loop-part
+invariant-loop-part g l = HasArguments l.wanted l.part-index l.bytes l.args.items l.rest

@@ -1,0 +1,79 @@
+// Instructions: an opcode, and an argument for each part of its shape.
+ghost use Rattle.std.specs.Prelude.{◌≡◌, ◌≢◌, IfOk, IfErr, map};
+ghost use Rattle.wasm_base.specs.Numbers.{wide};
+ghost use Rattle.wasm_base.specs.Reading.{Reads, ReadsNothing};
+ghost use Rattle.wasm_insn.specs.Plain.{Plain as PlainInstruction, opcode, instruction};
+ghost use Rattle.wasm_insn.specs.Table.{table};
+ghost use Rattle.wasm_insn.proofs.InstructionLaws.{alone};
+ghost use Rattle.wasm_insn.proofs.PlainLaws.{opcode-alone};
+ghost use Rattle.wasm_reader_base.specs.declared.fault.ReadFault.TheVariants.{Memory};
+ghost use Rattle.wasm_reader_insn.specs.Arguments.{argument_of, plain_of};
+
+use crate::arguments::{Arg, read_arguments, read_arguments_into};
+use std::alloc::{Allocator, Global};
+use wasm_insn::Op;
+use wasm_reader_base::{ReadFault, Readable};
+
+/// An instruction in normal form: its opcode, and an argument for each part of the opcode's shape.
+#[derive(Debug, Drop)]
+pub struct Plain<A: Allocator = Global> {
+    pub op: Op,
+    pub args: Vec<Arg<A>, A>,
+}
+
+/// The opcode that the bytes begin with, and the bytes after it.
+#[tactic(auto, using(crate::proofs::ReadInstructions::opcode_steps))]
+#[inline]
+fn read_op<'a, A: Allocator + Copy>(bytes: &'a [u8], alloc: A) -> Result<(Op, &'a [u8]), ReadFault>
+    ensures found { IfOk result (λ x. Reads opcode wide bytes.now x.0 x.1.now) }
+    ensures none { IfErr result (λ e. e ≢ Memory → ReadsNothing opcode wide bytes.now) }
+{
+    let (byte, rest) = <u8 as Readable<'a, A>>::read(bytes, alloc)?;
+    if byte < 0xFB {
+        return Ok((Op::Byte(byte), rest));
+    }
+    if byte == 0xFF {
+        return Ok((Op::Byte(byte), rest));
+    }
+    let (number, rest) = <u32 as Readable<'a, A>>::read(rest, alloc)?;
+    Ok((Op::Prefixed(byte, number), rest))
+}
+
+impl<'a, A: Allocator + Copy> Readable<'a, A> for Plain<A> {
+    ghost Value = { PlainInstruction };
+
+    ghost format = { instruction table };
+
+    ghost view = { plain_of };
+
+    ghost alone = { alone };
+
+    #[tactic(auto, using(crate::proofs::ReadInstructions::instruction_steps))]
+    fn read(bytes: &'a [u8], alloc: A) -> Result<(Plain<A>, &'a [u8]), ReadFault> {
+        let (op, rest) = read_op(bytes, alloc)?;
+        let Some(shape) = op.shape() else {
+            return Err(ReadFault::UnknownOpcode);
+        };
+        let (args, rest) = read_arguments(shape, rest, alloc)?;
+        Ok((Plain { op, args }, rest))
+    }
+}
+
+/// The opcode of the instruction that the bytes begin with, and the bytes after the instruction. Its arguments are in the list, which
+/// loses what it had.
+#[tactic(auto, using(crate::proofs::ReadInstructions::instruction_steps))]
+pub(crate) fn read_instruction_into<'a, A: Allocator + Copy>(
+    bytes: &'a [u8],
+    alloc: A,
+    args: &mut Vec<Arg<A>, A>,
+) -> Result<(Op, &'a [u8]), ReadFault>
+    ensures found { IfOk result (λ x. Reads (instruction table) wide bytes.now (record { op = x.0; arguments = map argument_of args.new.items }) x.1.now) }
+    ensures none { IfErr result (λ e. e ≢ Memory → ReadsNothing (instruction table) wide bytes.now) }
+{
+    let (op, rest) = read_op(bytes, alloc)?;
+    let Some(shape) = op.shape() else {
+        return Err(ReadFault::UnknownOpcode);
+    };
+    let rest = read_arguments_into(shape, rest, alloc, args)?;
+    Ok((op, rest))
+}

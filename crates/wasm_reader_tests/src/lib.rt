@@ -1,0 +1,17 @@
+//! Tests of `wasm_reader_base` and `wasm_reader_insn`: bytes that were worked out from the format's documents, and requests for memory
+//! that are refused.
+#![tactic(auto)]
+
+#[cfg(test)]
+mod base;
+pub mod callers;
+#[cfg(test)]
+mod checks;
+#[cfg(test)]
+mod frames;
+#[cfg(test)]
+mod instructions;
+#[cfg(test)]
+mod refusals;
+#[cfg(test)]
+mod walks;
