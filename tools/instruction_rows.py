@@ -103,10 +103,8 @@ def field_names(shape, named):
 
 
 def group(prefix, op, shape):
-    """The enum that a case stands in. Floats are made by a call, which no constant's value can hold: they are apart."""
+    """The enum that a case stands in."""
     bare = shape == "-"
-    if shape in ("f32", "f64"):
-        return "Float"
     if prefix is None:
         return "Numeric" if 0x45 <= op <= 0xC4 else "Instruction"
     if prefix == 0xFE:
@@ -132,7 +130,7 @@ def read(path):
             enum = group(prefix, code, shape)
             values, bytes = arguments(name, shape)
             names = field_names(shape, named)
-            value = "%s::%s" % ("Instruction" if enum == "Float" else enum, name)
+            value = "%s::%s" % (enum, name)
             if names:
                 value += " { %s }" % ", ".join("%s: %s" % pair for pair in zip(names, values))
             elif values:
@@ -147,8 +145,8 @@ def constant(enum):
     return re.sub(r"(?<!^)([A-Z])", r"_\1", enum).upper() + "S"
 
 
-# So many instructions stand in one constant, and so many without fields: a function that uses a longer one is proved slowly.
-STEP = 12
+# So many instructions stand in one function, and so many without fields: a longer one is proved slowly.
+STEP = 41
 NAMES_STEP = 61
 
 
@@ -160,14 +158,19 @@ def named_cases(groups):
     return found
 
 
-def constants(name, step, of):
-    """Constants of so many instructions each, since a static can hold nothing that is dropped."""
-    text = ""
+def places(name, what, rows, step, of):
+    """A function that makes the instruction of a place, and the functions that it calls: a constant can hold nothing that is dropped."""
+    text, arms = "", ""
     for start in range(0, len(of), step):
         part = of[start : start + step]
-        values = "".join("    %s,\n" % value for _, value, _ in part)
-        text += "\npub const %s_%d: [Instruction<'static>; %d] = [\n%s];\n" % (name, start, len(part), values)
-    return text
+        last = start + len(part) == len(of)
+        values = ["%d => %s,\n" % (start + i, value) for i, (_, value, _) in enumerate(part)]
+        values[-1] = re.sub(r"\A\d+", "_", values[-1])
+        text += "\n/// %s from place %d on.\nfn %s_from_%d(place: usize) -> Instruction<'static> {\n" % (what, start, name, start)
+        text += "    match place {\n%s    }\n}\n" % "".join("        " + it for it in values)
+        arms += "        %s => %s_from_%d(place),\n" % ("_" if last else "%d..=%d" % (start, start + len(part) - 1), name, start)
+    head = "\n/// The instruction of this place in `rows::%s`, and past the last place the last one.\n" % rows
+    return head + "pub fn %s(place: usize) -> Instruction<'static> {\n    match place {\n%s    }\n}\n" % (name, arms) + text
 
 
 def write(groups, folder):
@@ -179,16 +182,14 @@ def write(groups, folder):
     cases += "use wasm_insn::{\n    %s, BlockType, Catch, Handle, Ieee32, Ieee64, MemArg, MemArgTarget, Ordering,\n};\n\n" % ", ".join(order)
     cases += "const MEMARG: MemArg = MemArg { offset: 300, align: 2, target: MemArgTarget::Memory(1), ordering: None };\n"
     rows = note + "//! The bytes of each instruction, in hexadecimal, in the order of `cases.rt`.\n"
-    for enum, of in [(enum, groups[enum]) for enum in order + ["Float"]] + [("Name", named_cases(groups))]:
+    for enum, of in [(enum, groups[enum]) for enum in order] + [("Name", named_cases(groups))]:
         rows += "\npub static %s: [&str; %d] = [\n" % (constant(enum), len(of))
         rows += "".join('    "%s", // %s\n' % ("".join("%02x" % b for b in bytes), name) for name, _, bytes in of) + "];\n"
         values = "".join("    %s,\n" % value for _, value, _ in of)
         if enum == "Instruction":
-            cases += constants("FROM", STEP, of)
+            cases += places("instruction", "The instructions", constant(enum), STEP, of)
         elif enum == "Name":
-            cases += constants("NAMES", NAMES_STEP, of)
-        elif enum == "Float":
-            cases += "\npub fn floats() -> [Instruction<'static>; %d] {\n    [\n%s    ]\n}\n" % (len(of), values)
+            cases += places("name", "The instructions without fields, by their names on `Instruction`,", constant(enum), NAMES_STEP, of)
         else:
             cases += "\npub static %s: [%s; %d] = [\n%s];\n" % (constant(enum), enum, len(of), values)
     for name, text in (("cases.rt", cases), ("rows.rt", rows)):

@@ -1,5 +1,5 @@
 // Each call of `wasm_base` once, with ample memory.
-use crate::checks::{check, check_bytes};
+use crate::checks::{check, check_bytes, check_numbers, check_piece};
 use std::process::Abort;
 use std::test::Fail;
 use wasm_base::{
@@ -151,12 +151,11 @@ fn ids_and_sorts(rt: HostRuntime) {
 
 /// The pieces have these two entries.
 fn check_pieces(rt: &impl Abort, pieces: &Pieces) {
-    assert_eq!(rt; pieces.len(), 2);
-    assert_eq!(rt; pieces.raw_len(), 5);
-    assert_eq!(rt; pieces.bytes(), [2, 0, 11, 0x80, 1].as_slice());
-    assert_eq!(rt; pieces.get(0), Some([2, 0, 11].as_slice()));
-    assert_eq!(rt; pieces.get(1), Some([0x80, 1].as_slice()));
-    assert!(rt; pieces.get(2).is_none());
+    check_numbers(rt, (pieces.len(), pieces.raw_len()), (2, 5));
+    check_bytes(rt, pieces.bytes(), &[2, 0, 11, 0x80, 1]);
+    check_piece(rt, pieces.get(0), Some(&[2, 0, 11]));
+    check_piece(rt, pieces.get(1), Some(&[0x80, 1]));
+    check_piece(rt, pieces.get(2), None);
 }
 
 #[test]

@@ -1,5 +1,5 @@
 // Each request of `wasm_base` for memory refused in turn: the answer is `Memory`, and what was given is as before.
-use crate::checks::{MOST, check_bytes, check_refusals, check_refused, check_sink};
+use crate::checks::{MOST, check_bytes, check_call, check_refusals, check_refused};
 use std::alloc::Global;
 use std::process::Abort;
 use std::test::Fail;
@@ -33,51 +33,23 @@ fn sections(rt: HostRuntime) -> Result<(), Fail> {
     check_refusals(&rt, rt.alloc(), &TYPES, &[3, 96, 0, 0])
 }
 
-#[test]
-fn sections_with_their_id(rt: HostRuntime) -> Result<(), Fail> {
-    let heap = Refusing::new(rt.alloc());
-    for nth in 1..MOST {
-        let mut sink = Vec::from_slice(&heap, &[7])?;
-        heap.refuse(nth);
-        let answer = TYPES.append_to(&mut sink);
-        if check_sink(&rt, heap.is_waiting(), answer, &sink, &[1, 3, 96, 0, 0]) {
-            return Ok(());
-        }
-    }
-    panic!(rt; "no call was granted")
-}
-
-#[test]
-fn counted_bytes(rt: HostRuntime) -> Result<(), Fail> {
-    let heap = Refusing::new(rt.alloc());
-    for nth in 1..MOST {
-        let mut sink = Vec::from_slice(&heap, &[7])?;
-        heap.refuse(nth);
-        let answer = encode_section(&mut sink, 2, &[1, 0x80, 1]);
-        if check_sink(&rt, heap.is_waiting(), answer, &sink, &[4, 2, 1, 0x80, 1]) {
-            return Ok(());
-        }
-    }
-    panic!(rt; "no call was granted")
-}
-
 /// A vector of 1 and two largest numbers.
 const VECTOR: [u8; 12] = [
     3, 1, 0xFF, 0xFF, 0xFF, 0xFF, 0x0F, 0xFF, 0xFF, 0xFF, 0xFF, 0x0F,
 ];
 
 #[test]
-fn vectors(rt: HostRuntime) -> Result<(), Fail> {
+fn calls(rt: HostRuntime) -> Result<(), Fail> {
     let heap = Refusing::new(rt.alloc());
-    for nth in 1..MOST {
-        let mut sink = Vec::from_slice(&heap, &[7])?;
-        heap.refuse(nth);
-        let answer = encode_vec([1u32, 4294967295, 4294967295], &mut sink);
-        if check_sink(&rt, heap.is_waiting(), answer, &sink, &VECTOR) {
-            return Ok(());
-        }
-    }
-    panic!(rt; "no call was granted")
+    check_call(&rt, &heap, &[1, 3, 96, 0, 0], |sink: &mut Vec<u8, _>| {
+        TYPES.append_to(sink)
+    })?;
+    check_call(&rt, &heap, &[4, 2, 1, 0x80, 1], |sink: &mut Vec<u8, _>| {
+        encode_section(sink, 2, &[1, 0x80, 1])
+    })?;
+    check_call(&rt, &heap, &VECTOR, |sink: &mut Vec<u8, _>| {
+        encode_vec([1u32, 4294967295, 4294967295], sink)
+    })
 }
 
 /// Into a sink with room `encode` takes no memory.

@@ -8,6 +8,9 @@ use wasm_base::{Encode, R, Refused};
 /// More requests than any call here makes.
 pub(crate) const MOST: u64 = 100;
 
+/// An allocator that refuses, lent.
+pub(crate) type Heap<'a> = &'a Refusing<Global>;
+
 /// The bytes are these.
 pub(crate) fn check_bytes(rt: &impl Abort, bytes: &[u8], expected: &[u8]) {
     assert_eq!(rt; bytes, expected);
@@ -35,6 +38,16 @@ pub(crate) fn check_sink(
     assert_eq!(rt; answer, wanted);
     assert_eq!(rt; sink.split_first(), Some((&7, appended)));
     granted
+}
+
+/// The numbers are these.
+pub(crate) fn check_numbers(rt: &impl Abort, numbers: (u32, usize), expected: (u32, usize)) {
+    assert_eq!(rt; numbers, expected);
+}
+
+/// The entry is of these bytes.
+pub(crate) fn check_piece(rt: &impl Abort, piece: Option<&[u8]>, expected: Option<&[u8]>) {
+    assert_eq!(rt; piece, expected);
 }
 
 /// The item is written as these bytes.
@@ -79,6 +92,27 @@ pub(crate) fn check_row<T: Encode>(
     check_hex(rt, alloc, &sink, row)
 }
 
+/// The call appends these bytes, each request for memory refused in turn. Where one is refused, the sink is as it was.
+pub(crate) fn check_call<'h, F: Fn(&mut Vec<u8, Heap<'h>>) -> R<()>>(
+    rt: &impl Abort,
+    heap: Heap<'h>,
+    expected: &[u8],
+    call: F,
+) -> Result<(), Fail>
+    requires { F.IsAlwaysCallable call }
+{
+    for nth in 1..MOST {
+        heap.refuse(0);
+        let mut sink = Vec::from_slice(heap, &[7])?;
+        heap.refuse(nth);
+        let answer = call(&mut sink);
+        if check_sink(rt, heap.is_waiting(), answer, &sink, expected) {
+            return Ok(());
+        }
+    }
+    panic!(rt; "no call was granted")
+}
+
 /// The item is written as these bytes, each request for memory refused in turn.
 pub(crate) fn check_refusals<T: Encode>(
     rt: &impl Abort,
@@ -87,13 +121,7 @@ pub(crate) fn check_refusals<T: Encode>(
     expected: &[u8],
 ) -> Result<(), Fail> {
     let heap = Refusing::new(alloc);
-    for nth in 1..MOST {
-        let mut sink = Vec::from_slice(&heap, &[7])?;
-        heap.refuse(nth);
-        let answer = item.encode(&mut sink);
-        if check_sink(rt, heap.is_waiting(), answer, &sink, expected) {
-            return Ok(());
-        }
-    }
-    panic!(rt; "no call was granted")
+    check_call(rt, &heap, expected, |sink: &mut Vec<u8, Heap<'_>>| {
+        item.encode(sink)
+    })
 }

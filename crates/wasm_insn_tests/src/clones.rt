@@ -1,18 +1,18 @@
 //! A clone takes memory for the lists that an instruction owns, and answers `Memory` where it is refused.
-use crate::checks::{check_refused, check_row};
+use crate::checks::{Heap, check_refused, check_row};
 use std::alloc::Global;
 use std::process::Abort;
 use std::test::Fail;
 use test_support::Refusing;
-use wasm_base::{CowSlice, ValType};
+use wasm_base::{CowSlice, R, ValType};
 use wasm_insn::{BlockType, Catch, Handle, Instruction};
 
 /// The clone's one request is refused, and then granted. The instruction is as it was.
 fn check_clone(
     rt: &impl Abort,
     alloc: Global,
-    heap: &Refusing<Global>,
-    instruction: &Instruction<'_, &Refusing<Global>>,
+    heap: Heap<'_>,
+    instruction: &Instruction<'_, Heap<'_>>,
     row: &str,
 ) -> Result<(), Fail> {
     heap.refuse(1);
@@ -21,79 +21,64 @@ fn check_clone(
     check_row(rt, alloc, instruction, row)
 }
 
-#[test]
-fn labels(rt: HostRuntime) -> Result<(), Fail> {
-    let heap = Refusing::new(rt.alloc());
-    let labels = CowSlice::Owned(Vec::from_slice(&heap, &[1u32, 2])?);
-    check_clone(
-        &rt,
-        rt.alloc(),
-        &heap,
-        &Instruction::BrTable(labels, 3),
-        "0e02010203",
-    )
+/// The bytes of the instructions below.
+static ROWS: [&str; 6] = [
+    "0e02010203",
+    "1c027f7e",
+    "1f40010205",
+    "e301010102",
+    "e40103010102",
+    "e501010102",
+];
+
+/// An instruction that owns its list, of this place in `ROWS`.
+fn owned<'h>(heap: Heap<'h>, place: usize) -> R<Instruction<'static, Heap<'h>>> {
+    Ok(match place {
+        0 => Instruction::BrTable(CowSlice::Owned(Vec::from_slice(heap, &[1, 2])?), 3),
+        1 => {
+            let types = Vec::from_slice(heap, &[ValType::I32, ValType::I64])?;
+            Instruction::TypedSelectMulti(CowSlice::Owned(types))
+        }
+        2 => {
+            let catches = Vec::from_slice(heap, &[Catch::All { label: 5 }])?;
+            Instruction::TryTable(BlockType::Empty, CowSlice::Owned(catches))
+        }
+        3 => Instruction::Resume {
+            cont_type_index: 1,
+            resume_table: handles(heap)?,
+        },
+        4 => Instruction::ResumeThrow {
+            cont_type_index: 1,
+            tag_index: 3,
+            resume_table: handles(heap)?,
+        },
+        _ => Instruction::ResumeThrowRef {
+            cont_type_index: 1,
+            resume_table: handles(heap)?,
+        },
+    })
+}
+
+/// One handle, owned.
+fn handles<'h>(heap: Heap<'h>) -> R<CowSlice<'static, Handle, Heap<'h>>> {
+    let handles = Vec::from_slice(heap, &[Handle::OnSwitch { tag: 2 }])?;
+    Ok(CowSlice::Owned(handles))
 }
 
 #[test]
-fn types(rt: HostRuntime) -> Result<(), Fail> {
+fn owned_lists(rt: HostRuntime) -> Result<(), Fail> {
     let heap = Refusing::new(rt.alloc());
-    let types = CowSlice::Owned(Vec::from_slice(&heap, &[ValType::I32, ValType::I64])?);
-    check_clone(
-        &rt,
-        rt.alloc(),
-        &heap,
-        &Instruction::TypedSelectMulti(types),
-        "1c027f7e",
-    )
-}
-
-#[test]
-fn catches(rt: HostRuntime) -> Result<(), Fail> {
-    let heap = Refusing::new(rt.alloc());
-    let catches = CowSlice::Owned(Vec::from_slice(&heap, &[Catch::All { label: 5 }])?);
-    let instruction = Instruction::TryTable(BlockType::Empty, catches);
-    check_clone(&rt, rt.alloc(), &heap, &instruction, "1f40010205")
-}
-
-#[test]
-fn handles(rt: HostRuntime) -> Result<(), Fail> {
-    let heap = Refusing::new(rt.alloc());
-    let resume_table = CowSlice::Owned(Vec::from_slice(&heap, &[Handle::OnSwitch { tag: 2 }])?);
-    let instruction = Instruction::Resume {
-        cont_type_index: 1,
-        resume_table,
-    };
-    check_clone(&rt, rt.alloc(), &heap, &instruction, "e301010102")
-}
-
-#[test]
-fn handles_of_a_throw(rt: HostRuntime) -> Result<(), Fail> {
-    let heap = Refusing::new(rt.alloc());
-    let resume_table = CowSlice::Owned(Vec::from_slice(&heap, &[Handle::OnSwitch { tag: 2 }])?);
-    let instruction = Instruction::ResumeThrow {
-        cont_type_index: 1,
-        tag_index: 3,
-        resume_table,
-    };
-    check_clone(&rt, rt.alloc(), &heap, &instruction, "e40103010102")
-}
-
-#[test]
-fn handles_of_a_thrown_reference(rt: HostRuntime) -> Result<(), Fail> {
-    let heap = Refusing::new(rt.alloc());
-    let resume_table = CowSlice::Owned(Vec::from_slice(&heap, &[Handle::OnSwitch { tag: 2 }])?);
-    let instruction = Instruction::ResumeThrowRef {
-        cont_type_index: 1,
-        resume_table,
-    };
-    check_clone(&rt, rt.alloc(), &heap, &instruction, "e501010102")
+    for (place, row) in ROWS.iter().enumerate() {
+        check_clone(&rt, rt.alloc(), &heap, &owned(&heap, place)?, row)?;
+    }
+    Ok(())
 }
 
 /// An instruction that borrows its labels is cloned without memory.
 #[test]
 fn borrowed_labels(rt: HostRuntime) -> Result<(), Fail> {
     let heap = Refusing::new(rt.alloc());
-    let labels: CowSlice<'_, u32, &Refusing<Global>> = CowSlice::Borrowed(&[1, 2]);
+    let labels: CowSlice<'_, u32, Heap<'_>> = CowSlice::Borrowed(&[1, 2]);
     let instruction = Instruction::BrTable(labels, 3);
     heap.refuse_all();
     check_row(&rt, rt.alloc(), &instruction.clone()?, "0e02010203")

@@ -1,12 +1,9 @@
 // Slices and text that are borrowed or owned.
-use crate::checks::{check, check_refused};
-use std::alloc::Global;
+use crate::checks::{Heap, check, check_refused};
 use std::process::Abort;
 use std::test::Fail;
 use test_support::Refusing;
 use wasm_base::{CowSlice, CowStr};
-
-type Heap<'a> = &'a Refusing<Global>;
 
 /// The slice is 1 and 128.
 fn check_slice(rt: &impl Abort, slice: &[u32]) {

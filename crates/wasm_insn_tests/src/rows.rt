@@ -1,7 +1,7 @@
 // Written by tools/instruction_rows.py from the opcode table: do not edit.
 //! The bytes of each instruction, in hexadecimal, in the order of `cases.rt`.
 
-pub static INSTRUCTIONS: [&str; 120] = [
+pub static INSTRUCTIONS: [&str; 122] = [
     "00", // Unreachable
     "01", // Nop
     "02c000", // Block
@@ -65,6 +65,8 @@ pub static INSTRUCTIONS: [&str; 120] = [
     "40ac02", // MemoryGrow
     "41c0bb78", // I32Const
     "42b5b8f0fe2d", // I64Const
+    "430000803f", // F32Const
+    "44000000000000f03f", // F64Const
     "d0c000", // RefNull
     "d1", // RefIsNull
     "d2ac02", // RefFunc
@@ -646,11 +648,6 @@ pub static ATOMICS: [&str; 104] = [
     "fe7001ac02", // ArrayAtomicRmwXchg
     "fe7101ac02", // ArrayAtomicRmwCmpxchg
     "fe72", // RefI31Shared
-];
-
-pub static FLOATS: [&str; 2] = [
-    "430000803f", // F32Const
-    "44000000000000f03f", // F64Const
 ];
 
 pub static NAMES: [&str; 366] = [

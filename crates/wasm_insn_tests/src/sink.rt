@@ -1,7 +1,5 @@
 //! Each named call of the sink writes the bytes of its instruction, and leaves the buffer where memory is refused.
-use crate::checks::{MOST, check_sink};
-use std::alloc::Global;
-use std::process::Abort;
+use crate::checks::check_call;
 use std::test::Fail;
 use test_support::Refusing;
 use wasm_base::{HeapType, R, ValType};
@@ -121,24 +119,13 @@ fn later_call<B: Buffer>(sink: &mut InstructionSink<'_, B>, place: usize) -> R<(
     }
 }
 
-/// The call at this place, with each request for memory refused in turn.
-fn check(rt: &impl Abort, alloc: Global, place: usize, row: &[u8]) -> Result<(), Fail> {
-    let heap = Refusing::new(alloc);
-    for nth in 1..MOST {
-        let mut bytes = Vec::from_slice(&heap, &[7])?;
-        heap.refuse(nth);
-        let answer = call(&mut InstructionSink::new(&mut bytes), place);
-        if check_sink(rt, heap.is_waiting(), answer, &bytes, row) {
-            return Ok(());
-        }
-    }
-    panic!(rt; "no call was granted")
-}
-
 #[test]
 fn named_calls(rt: HostRuntime) -> Result<(), Fail> {
+    let heap = Refusing::new(rt.alloc());
     for (place, row) in ROWS.iter().enumerate() {
-        check(&rt, rt.alloc(), place, row)?;
+        check_call(&rt, &heap, row, |bytes: &mut Vec<u8, _>| {
+            call(&mut InstructionSink::new(bytes), place)
+        })?;
     }
     Ok(())
 }
