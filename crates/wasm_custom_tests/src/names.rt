@@ -1,9 +1,6 @@
-// The name section and its maps: each call once, with ample memory.
+// The name section and its maps: each call once, with ample memory. Calls that take a map stand in `refusals.rt`, where each is granted all in the end.
 use crate::checks::{check, check_bytes, check_len, check_text, check_that};
-use std::alloc::Global;
-use std::process::Abort;
 use std::test::Fail;
-use wasm_base::R;
 use wasm_custom::{IndirectNameMap, NameMap, NameSection};
 
 #[test]
@@ -38,72 +35,6 @@ fn as_custom(rt: HostRuntime) -> Result<(), Fail> {
     check_bytes(&rt, custom.name.as_str().as_bytes(), b"name");
     check_bytes(&rt, custom.bytes.as_slice(), b"\x00\x02\x01m");
     check(&rt, rt.alloc(), &custom, b"\x09\x04name\x00\x02\x01m")
-}
-
-/// The call adds the map {0: "t"} as a subsection of this id.
-fn check_map<F: Fn(&mut NameSection, &NameMap) -> R<()>>(
-    rt: &impl Abort,
-    alloc: Global,
-    id: u8,
-    add: F,
-) -> Result<(), Fail>
-    requires { F.IsAlwaysCallable add }
-{
-    let mut map = NameMap::new(alloc);
-    map.append(0, "t")?;
-    let mut section = NameSection::new(alloc);
-    add(&mut section, &map)?;
-    check(
-        rt,
-        alloc,
-        &section,
-        &[11, 4, b'n', b'a', b'm', b'e', id, 4, 1, 0, 1, b't'],
-    )
-}
-
-#[test]
-fn maps(rt: HostRuntime) -> Result<(), Fail> {
-    check_map(&rt, rt.alloc(), 1, |names, map| names.functions(map))?;
-    check_map(&rt, rt.alloc(), 4, |names, map| names.types(map))?;
-    check_map(&rt, rt.alloc(), 5, |names, map| names.tables(map))?;
-    check_map(&rt, rt.alloc(), 6, |names, map| names.memories(map))?;
-    check_map(&rt, rt.alloc(), 7, |names, map| names.globals(map))?;
-    check_map(&rt, rt.alloc(), 8, |names, map| names.elements(map))?;
-    check_map(&rt, rt.alloc(), 9, |names, map| names.data(map))?;
-    check_map(&rt, rt.alloc(), 11, |names, map| names.tag(map))?;
-    check_map(&rt, rt.alloc(), 11, |names, map| names.tags(map))
-}
-
-/// The call adds the map {0: {1: "x"}} as a subsection of this id.
-fn check_indirect_map<F: Fn(&mut NameSection, &IndirectNameMap) -> R<()>>(
-    rt: &impl Abort,
-    alloc: Global,
-    id: u8,
-    add: F,
-) -> Result<(), Fail>
-    requires { F.IsAlwaysCallable add }
-{
-    let mut inner = NameMap::new(alloc);
-    inner.append(1, "x")?;
-    let mut map = IndirectNameMap::new(alloc);
-    map.append(0, &inner)?;
-    let mut section = NameSection::new(alloc);
-    add(&mut section, &map)?;
-    check(
-        rt,
-        alloc,
-        &section,
-        &[13, 4, b'n', b'a', b'm', b'e', id, 6, 1, 0, 1, 1, 1, b'x'],
-    )
-}
-
-#[test]
-fn indirect_maps(rt: HostRuntime) -> Result<(), Fail> {
-    check_indirect_map(&rt, rt.alloc(), 2, |names, map| names.locals(map))?;
-    check_indirect_map(&rt, rt.alloc(), 3, |names, map| names.labels(map))?;
-    check_indirect_map(&rt, rt.alloc(), 10, |names, map| names.fields(map))?;
-    check_indirect_map(&rt, rt.alloc(), 12, |names, map| names.parameters(map))?;
-    check_indirect_map(&rt, rt.alloc(), 13, |names, map| names.tag_parameters(map))
 }
 
 #[test]

@@ -245,64 +245,41 @@ const DEFINITION: DataSymbolDefinition = DataSymbolDefinition {
     size: 3,
 };
 
-#[test]
-fn function_symbols(rt: HostRuntime) -> Result<(), Fail> {
-    let heap = Refusing::new(rt.alloc());
-    check_member(
-        &rt,
-        &heap,
-        b"\x01\x00\x20\x01\x01f",
-        &Calls {
-            new: || SymbolTable::new(&heap),
-            add: |symbols: &mut SymbolTable<_>| symbols.function(0x20, 1, Some("f")),
-            copy: |symbols: &SymbolTable<_>| symbols.clone(),
-        },
-    )
+/// The tables of one symbol that the calls below make.
+static TABLES: [&[u8]; 4] = [
+    b"\x01\x00\x20\x01\x01f",
+    &[1, 2, 16, 1],
+    &[1, 5, 16, 1],
+    b"\x01\x01\x00\x01d\x01\x02\x03",
+];
+
+/// The call of this place in `TABLES`.
+fn add_symbol(symbols: &mut SymbolTable<Heap<'_>>, place: usize) -> R<()> {
+    match place {
+        0 => symbols.function(0x20, 1, Some("f")),
+        1 => symbols.global(16, 1, None),
+        2 => symbols.table(16, 1, None),
+        _ => symbols.data(0, "d", Some(DEFINITION)),
+    }
 }
 
 #[test]
-fn global_symbols(rt: HostRuntime) -> Result<(), Fail> {
+fn symbol_tables(rt: HostRuntime) -> Result<(), Fail> {
     let heap = Refusing::new(rt.alloc());
-    check_member(
-        &rt,
-        &heap,
-        &[1, 2, 16, 1],
-        &Calls {
-            new: || SymbolTable::new(&heap),
-            add: |symbols: &mut SymbolTable<_>| symbols.global(16, 1, None),
-            copy: |symbols: &SymbolTable<_>| symbols.clone(),
-        },
-    )
-}
-
-#[test]
-fn table_symbols(rt: HostRuntime) -> Result<(), Fail> {
-    let heap = Refusing::new(rt.alloc());
-    check_member(
-        &rt,
-        &heap,
-        &[1, 5, 16, 1],
-        &Calls {
-            new: || SymbolTable::new(&heap),
-            add: |symbols: &mut SymbolTable<_>| symbols.table(16, 1, None),
-            copy: |symbols: &SymbolTable<_>| symbols.clone(),
-        },
-    )
-}
-
-#[test]
-fn data_symbols(rt: HostRuntime) -> Result<(), Fail> {
-    let heap = Refusing::new(rt.alloc());
-    check_member(
-        &rt,
-        &heap,
-        b"\x01\x01\x00\x01d\x01\x02\x03",
-        &Calls {
-            new: || SymbolTable::new(&heap),
-            add: |symbols: &mut SymbolTable<_>| symbols.data(0, "d", Some(DEFINITION)),
-            copy: |symbols: &SymbolTable<_>| symbols.clone(),
-        },
-    )
+    for (place, row) in TABLES.iter().enumerate() {
+        heap.refuse(0);
+        check_member(
+            &rt,
+            &heap,
+            row,
+            &Calls {
+                new: || SymbolTable::new(&heap),
+                add: |symbols: &mut SymbolTable<_>| add_symbol(symbols, place),
+                copy: |symbols: &SymbolTable<_>| symbols.clone(),
+            },
+        )?;
+    }
+    Ok(())
 }
 
 const NO_NAMES: [u8; 6] = [5, 4, b'n', b'a', b'm', b'e'];
@@ -338,85 +315,38 @@ fn map_bytes(id: u8) -> [u8; 12] {
     [11, 4, b'n', b'a', b'm', b'e', id, 4, 1, 0, 1, b't']
 }
 
-#[test]
-fn names_of_code(rt: HostRuntime) -> Result<(), Fail> {
-    let heap = Refusing::new(rt.alloc());
-    let map = one_name(rt.alloc())?;
-    check_adding(
-        &rt,
-        &heap,
-        &NO_NAMES,
-        &map_bytes(1),
-        |names: &mut NameSection<_>| names.functions(&map),
-    )?;
-    check_adding(
-        &rt,
-        &heap,
-        &NO_NAMES,
-        &map_bytes(4),
-        |names: &mut NameSection<_>| names.types(&map),
-    )?;
-    check_adding(
-        &rt,
-        &heap,
-        &NO_NAMES,
-        &map_bytes(5),
-        |names: &mut NameSection<_>| names.tables(&map),
-    )
+/// The ids of the subsections that the calls below add.
+static MAP_IDS: [u8; 9] = [1, 4, 5, 6, 7, 8, 9, 11, 11];
+
+/// The call of this place in `MAP_IDS`.
+fn add_map(names: &mut NameSection<Heap<'_>>, map: &NameMap, place: usize) -> R<()> {
+    match place {
+        0 => names.functions(map),
+        1 => names.types(map),
+        2 => names.tables(map),
+        3 => names.memories(map),
+        4 => names.globals(map),
+        5 => names.elements(map),
+        6 => names.data(map),
+        7 => names.tag(map),
+        _ => names.tags(map),
+    }
 }
 
 #[test]
-fn names_of_memory(rt: HostRuntime) -> Result<(), Fail> {
+fn names(rt: HostRuntime) -> Result<(), Fail> {
     let heap = Refusing::new(rt.alloc());
     let map = one_name(rt.alloc())?;
-    check_adding(
-        &rt,
-        &heap,
-        &NO_NAMES,
-        &map_bytes(6),
-        |names: &mut NameSection<_>| names.memories(&map),
-    )?;
-    check_adding(
-        &rt,
-        &heap,
-        &NO_NAMES,
-        &map_bytes(7),
-        |names: &mut NameSection<_>| names.globals(&map),
-    )?;
-    check_adding(
-        &rt,
-        &heap,
-        &NO_NAMES,
-        &map_bytes(9),
-        |names: &mut NameSection<_>| names.data(&map),
-    )
-}
-
-#[test]
-fn names_of_others(rt: HostRuntime) -> Result<(), Fail> {
-    let heap = Refusing::new(rt.alloc());
-    let map = one_name(rt.alloc())?;
-    check_adding(
-        &rt,
-        &heap,
-        &NO_NAMES,
-        &map_bytes(8),
-        |names: &mut NameSection<_>| names.elements(&map),
-    )?;
-    check_adding(
-        &rt,
-        &heap,
-        &NO_NAMES,
-        &map_bytes(11),
-        |names: &mut NameSection<_>| names.tag(&map),
-    )?;
-    check_adding(
-        &rt,
-        &heap,
-        &NO_NAMES,
-        &map_bytes(11),
-        |names: &mut NameSection<_>| names.tags(&map),
-    )
+    for (place, id) in MAP_IDS.iter().enumerate() {
+        check_adding(
+            &rt,
+            &heap,
+            &NO_NAMES,
+            &map_bytes(*id),
+            |names: &mut NameSection<_>| add_map(names, &map, place),
+        )?;
+    }
+    Ok(())
 }
 
 /// The map {0: {1: "x"}}.
@@ -433,51 +363,38 @@ fn indirect_map_bytes(id: u8) -> [u8; 14] {
     [13, 4, b'n', b'a', b'm', b'e', id, 6, 1, 0, 1, 1, 1, b'x']
 }
 
-#[test]
-fn names_in_functions(rt: HostRuntime) -> Result<(), Fail> {
-    let heap = Refusing::new(rt.alloc());
-    let map = one_name_inside(rt.alloc())?;
-    check_adding(
-        &rt,
-        &heap,
-        &NO_NAMES,
-        &indirect_map_bytes(2),
-        |names: &mut NameSection<_>| names.locals(&map),
-    )?;
-    check_adding(
-        &rt,
-        &heap,
-        &NO_NAMES,
-        &indirect_map_bytes(3),
-        |names: &mut NameSection<_>| names.labels(&map),
-    )
+/// The ids of the subsections that the calls below add.
+static INDIRECT_IDS: [u8; 5] = [2, 3, 10, 12, 13];
+
+/// The call of this place in `INDIRECT_IDS`.
+fn add_indirect_map(
+    names: &mut NameSection<Heap<'_>>,
+    map: &IndirectNameMap,
+    place: usize,
+) -> R<()> {
+    match place {
+        0 => names.locals(map),
+        1 => names.labels(map),
+        2 => names.fields(map),
+        3 => names.parameters(map),
+        _ => names.tag_parameters(map),
+    }
 }
 
 #[test]
-fn names_in_types(rt: HostRuntime) -> Result<(), Fail> {
+fn indirect_names(rt: HostRuntime) -> Result<(), Fail> {
     let heap = Refusing::new(rt.alloc());
     let map = one_name_inside(rt.alloc())?;
-    check_adding(
-        &rt,
-        &heap,
-        &NO_NAMES,
-        &indirect_map_bytes(10),
-        |names: &mut NameSection<_>| names.fields(&map),
-    )?;
-    check_adding(
-        &rt,
-        &heap,
-        &NO_NAMES,
-        &indirect_map_bytes(12),
-        |names: &mut NameSection<_>| names.parameters(&map),
-    )?;
-    check_adding(
-        &rt,
-        &heap,
-        &NO_NAMES,
-        &indirect_map_bytes(13),
-        |names: &mut NameSection<_>| names.tag_parameters(&map),
-    )
+    for (place, id) in INDIRECT_IDS.iter().enumerate() {
+        check_adding(
+            &rt,
+            &heap,
+            &NO_NAMES,
+            &indirect_map_bytes(*id),
+            |names: &mut NameSection<_>| add_indirect_map(names, &map, place),
+        )?;
+    }
+    Ok(())
 }
 
 #[test]

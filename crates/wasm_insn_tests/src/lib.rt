@@ -1,6 +1,6 @@
 //! Tests of `wasm_base`, `wasm_immediates` and `wasm_insn`: bytes that the format's documents give or that were worked out by hand,
 //! requests for memory that are refused, and callers that prove what they append.
-#![tactic(auto)]
+#![tactic(auto, using(wasm_base::proofs::KnownLengths::drained_array))]
 
 #[cfg(test)]
 mod base;

@@ -28,29 +28,20 @@ fn check(
     check_refusals(rt, alloc, instruction, &bytes)
 }
 
-/// The instructions of the rows' places have these bytes.
-fn check_all<F: Fn(usize) -> Instruction<'static>>(
-    rt: &impl Abort,
-    alloc: Global,
-    rows: &[&str],
-    instruction: F,
-) -> Result<(), Fail>
-    requires { F.IsAlwaysCallable instruction }
-{
-    for (place, row) in rows.iter().enumerate() {
-        check(rt, alloc, &instruction(place), row)?;
+#[test]
+fn instructions(rt: HostRuntime) -> Result<(), Fail> {
+    for (place, row) in rows::INSTRUCTIONS.iter().enumerate() {
+        check(&rt, rt.alloc(), &cases::instruction(place), row)?;
     }
     Ok(())
 }
 
 #[test]
-fn instructions(rt: HostRuntime) -> Result<(), Fail> {
-    check_all(&rt, rt.alloc(), &rows::INSTRUCTIONS, cases::instruction)
-}
-
-#[test]
 fn names(rt: HostRuntime) -> Result<(), Fail> {
-    check_all(&rt, rt.alloc(), &rows::NAMES, cases::name)
+    for (place, row) in rows::NAMES.iter().enumerate() {
+        check(&rt, rt.alloc(), &cases::name(place), row)?;
+    }
+    Ok(())
 }
 
 /// There are as many cases as rows.
@@ -58,85 +49,70 @@ fn check_len(rt: &impl Abort, cases: usize, rows: usize) {
     assert_eq!(rt; cases, rows);
 }
 
-/// The cases of an enum that an instruction holds have these bytes in turn.
-fn check_each<C: Copy, F: Fn(C) -> Instruction<'static>>(
-    rt: &impl Abort,
-    alloc: Global,
-    cases: &[C],
-    rows: &[&str],
-    instruction: F,
-) -> Result<(), Fail>
-    requires { F.IsAlwaysCallable instruction }
-{
-    check_len(rt, cases.len(), rows.len());
-    for (case, row) in cases.iter().zip(rows.iter()) {
-        check(rt, alloc, &instruction(*case), row)?;
+#[test]
+fn numerics(rt: HostRuntime) -> Result<(), Fail> {
+    check_len(&rt, cases::NUMERICS.len(), rows::NUMERICS.len());
+    for (case, row) in cases::NUMERICS.iter().zip(rows::NUMERICS.iter()) {
+        check(&rt, rt.alloc(), &Instruction::Numeric(*case), row)?;
     }
     Ok(())
 }
 
 #[test]
-fn numerics(rt: HostRuntime) -> Result<(), Fail> {
-    check_each(
-        &rt,
-        rt.alloc(),
-        &cases::NUMERICS,
-        &rows::NUMERICS,
-        Instruction::Numeric,
-    )
-}
-
-#[test]
 fn aggregates(rt: HostRuntime) -> Result<(), Fail> {
-    check_each(
-        &rt,
-        rt.alloc(),
-        &cases::AGGREGATES,
-        &rows::AGGREGATES,
-        Instruction::Aggregate,
-    )
+    check_len(&rt, cases::AGGREGATES.len(), rows::AGGREGATES.len());
+    for (case, row) in cases::AGGREGATES.iter().zip(rows::AGGREGATES.iter()) {
+        check(&rt, rt.alloc(), &Instruction::Aggregate(*case), row)?;
+    }
+    Ok(())
 }
 
 #[test]
 fn prefixed_numerics(rt: HostRuntime) -> Result<(), Fail> {
-    check_each(
+    check_len(
         &rt,
-        rt.alloc(),
-        &cases::PREFIXED_NUMERICS,
-        &rows::PREFIXED_NUMERICS,
-        Instruction::PrefixedNumeric,
-    )
+        cases::PREFIXED_NUMERICS.len(),
+        rows::PREFIXED_NUMERICS.len(),
+    );
+    for (case, row) in cases::PREFIXED_NUMERICS
+        .iter()
+        .zip(rows::PREFIXED_NUMERICS.iter())
+    {
+        check(&rt, rt.alloc(), &Instruction::PrefixedNumeric(*case), row)?;
+    }
+    Ok(())
 }
 
 #[test]
 fn vectors(rt: HostRuntime) -> Result<(), Fail> {
-    check_each(
-        &rt,
-        rt.alloc(),
-        &cases::VECTORS,
-        &rows::VECTORS,
-        Instruction::Vector,
-    )
+    check_len(&rt, cases::VECTORS.len(), rows::VECTORS.len());
+    for (case, row) in cases::VECTORS.iter().zip(rows::VECTORS.iter()) {
+        check(&rt, rt.alloc(), &Instruction::Vector(*case), row)?;
+    }
+    Ok(())
 }
 
 #[test]
 fn vector_immediates(rt: HostRuntime) -> Result<(), Fail> {
-    check_each(
+    check_len(
         &rt,
-        rt.alloc(),
-        &cases::VECTOR_IMMEDIATES,
-        &rows::VECTOR_IMMEDIATES,
-        Instruction::VectorImmediate,
-    )
+        cases::VECTOR_IMMEDIATES.len(),
+        rows::VECTOR_IMMEDIATES.len(),
+    );
+    for (case, row) in cases::VECTOR_IMMEDIATES
+        .iter()
+        .zip(rows::VECTOR_IMMEDIATES.iter())
+    {
+        check(&rt, rt.alloc(), &Instruction::VectorImmediate(*case), row)?;
+    }
+    Ok(())
 }
 
 #[test]
 fn atomics(rt: HostRuntime) -> Result<(), Fail> {
-    check_each(
-        &rt,
-        rt.alloc(),
-        &cases::ATOMICS,
-        &rows::ATOMICS,
-        Instruction::Atomic,
-    )
+    check_len(&rt, cases::ATOMICS.len(), rows::ATOMICS.len());
+    for (case, row) in cases::ATOMICS.iter().zip(rows::ATOMICS.iter()) {
+        check(&rt, rt.alloc(), &Instruction::Atomic(*case), row)?;
+    }
+    Ok(())
 }

@@ -1,5 +1,0 @@
-use Rattle.wasm_base.proofs.KnownLengths.{drained_array}
-use Rattle.wasm_insn_tests.proofs.base_refusals.vectors.Goals as goal
-
-pub encode_vec-answer-requires : goal.encode_vec-answer-requires
-encode_vec-answer-requires g c = record { can = λ it b. tt; told = λ it xs b d. drained_array it xs d }
