@@ -77,8 +77,17 @@ unsafe extern "C" {
 const NO_ANSWER: u64 = u64::MAX;
 const HEADER: [u8; 8] = *b"\0asm\x01\0\0\0";
 const SIZES: [usize; 3] = [10_000, 100_000, 1_000_000];
-const NAMES: [&str; 9] = [
-    "calls", "values", "line", "functions", "exports", "imports", "segments", "pages", "block",
+const NAMES: [&str; 10] = [
+    "calls",
+    "values",
+    "line",
+    "functions",
+    "exports",
+    "imports",
+    "names",
+    "segments",
+    "pages",
+    "block",
 ];
 const INSTRUCTIONS_OF_A_FUNCTION: usize = 50;
 const CALLS_OF_A_ROW: usize = 8;
@@ -101,6 +110,7 @@ enum Input {
     Functions(Vec<u32>),
     Exports(Entries),
     Imports(Entries),
+    Names(Entries),
     Data { bytes: Vec<u8>, segment: u32 },
 }
 
@@ -141,6 +151,17 @@ impl Input {
                     o,
                     n,
                 ),
+                Input::Names(e) => wb_names(
+                    e.names.as_ptr(),
+                    e.names.len(),
+                    e.lens.as_ptr(),
+                    e.lens.len(),
+                    e.indices.as_ptr(),
+                    e.indices.len(),
+                    phase,
+                    o,
+                    n,
+                ),
                 Input::Data { bytes, segment } => {
                     wb_data(bytes.as_ptr(), bytes.len(), *segment, phase, o, n)
                 }
@@ -148,15 +169,22 @@ impl Input {
         }
     }
 
-    /// The number of entries, and their bytes, by the straight encoder below.
-    fn entries(&self) -> (u32, Vec<u8>) {
+    /// What stands before the entries, which is their number or the section's own name, and their bytes, by the straight encoder below.
+    fn entries(&self) -> (Vec<u8>, Vec<u8>) {
         match self {
-            Input::Code { words, .. } => (words[0], straight_code(words)),
-            Input::Line(operands) => (1, straight_line(operands)),
-            Input::Functions(types) => (types.len() as u32, straight_functions(types)),
-            Input::Exports(e) => (e.kinds.len() as u32, straight_exports(e)),
-            Input::Imports(e) => (e.kinds.len() as u32, straight_imports(e)),
-            Input::Data { bytes, segment } => straight_data(bytes, *segment as usize),
+            Input::Code { words, .. } => (number(words[0] as usize), straight_code(words)),
+            Input::Line(operands) => (number(1), straight_line(operands)),
+            Input::Functions(types) => (number(types.len()), straight_functions(types)),
+            Input::Exports(e) => (number(e.kinds.len()), straight_exports(e)),
+            Input::Imports(e) => (number(e.kinds.len()), straight_imports(e)),
+            Input::Names(e) => (b"\x04name".to_vec(), straight_names(e)),
+            Input::Data { bytes, segment } => {
+                let segment = *segment as usize;
+                (
+                    number(bytes.len().div_ceil(segment)),
+                    straight_data(bytes, segment),
+                )
+            }
         }
     }
 
@@ -167,6 +195,7 @@ impl Input {
             Input::Functions(_) => 3,
             Input::Exports(_) => 7,
             Input::Imports(_) => 2,
+            Input::Names(_) => 0,
             Input::Data { .. } => 11,
         }
     }
@@ -174,8 +203,8 @@ impl Input {
     /// The section.
     #[inline(never)]
     fn section(&self) -> Vec<u8> {
-        let (count, entries) = self.entries();
-        framed(self.id(), count, &entries)
+        let (front, entries) = self.entries();
+        framed(self.id(), &front, &entries)
     }
 }
 
@@ -197,12 +226,16 @@ fn signed(bytes: &mut Vec<u8>, mut n: i64) {
     bytes.push(n as u8 & 0x7F);
 }
 
-fn framed(id: u8, count: u32, entries: &[u8]) -> Vec<u8> {
+fn number(n: usize) -> Vec<u8> {
     let mut number = Vec::new();
-    unsigned(&mut number, u64::from(count));
+    unsigned(&mut number, n as u64);
+    number
+}
+
+fn framed(id: u8, front: &[u8], entries: &[u8]) -> Vec<u8> {
     let mut section = vec![id];
-    unsigned(&mut section, (number.len() + entries.len()) as u64);
-    section.extend_from_slice(&number);
+    unsigned(&mut section, (front.len() + entries.len()) as u64);
+    section.extend_from_slice(front);
     section.extend_from_slice(entries);
     section
 }
@@ -393,7 +426,17 @@ fn straight_imports(e: &Entries) -> Vec<u8> {
     entries
 }
 
-fn straight_data(bytes: &[u8], segment: usize) -> (u32, Vec<u8>) {
+fn straight_names(e: &Entries) -> Vec<u8> {
+    let mut names = Vec::new();
+    let mut rest = &e.names[..];
+    for i in 0..e.indices.len() {
+        unsigned(&mut names, u64::from(e.indices[i]));
+        rest = name(&mut names, rest, e.lens[i]);
+    }
+    framed(1, &number(e.indices.len()), &names)
+}
+
+fn straight_data(bytes: &[u8], segment: usize) -> Vec<u8> {
     let mut entries = Vec::new();
     for (i, part) in bytes.chunks(segment).enumerate() {
         entries.extend_from_slice(&[0x00, 0x41]);
@@ -402,7 +445,7 @@ fn straight_data(bytes: &[u8], segment: usize) -> (u32, Vec<u8>) {
         unsigned(&mut entries, part.len() as u64);
         entries.extend_from_slice(part);
     }
-    (bytes.len().div_ceil(segment) as u32, entries)
+    entries
 }
 
 // ---- inputs
@@ -545,8 +588,11 @@ fn input(name: &str, items: usize) -> Input {
         "functions" => Input::Functions((0..items).map(|_| numbers.index()).collect()),
         "exports" => Input::Exports(entries(items, false)),
         "imports" => Input::Imports(entries(items, true)),
+        "names" => Input::Names(entries(items, false)),
         "segments" | "pages" | "block" => Input::Data {
-            bytes: (0..items * BYTES_OF_A_SEGMENT).map(|_| numbers.below(256) as u8).collect(),
+            bytes: (0..items * BYTES_OF_A_SEGMENT)
+                .map(|_| numbers.below(256) as u8)
+                .collect(),
             segment: match name {
                 "segments" => BYTES_OF_A_SEGMENT as u32,
                 "pages" => 65536,
@@ -641,14 +687,17 @@ fn check_wrong_inputs() {
     check_wrong("a name that is no UTF-8", Input::Exports(wrong.clone()));
     let bytes = vec![7; 9];
     check_wrong("a segment of no bytes", Input::Data { bytes, segment: 0 });
-    check_wrong("one length an import", Input::Imports(one.clone()));
-    let (p, n) = (one.names.as_ptr(), one.names.len());
-    let (lens, indices) = (one.lens.as_ptr(), one.indices.as_ptr());
-    let mut no_room: [u8; 0] = [];
-    let out = no_room.as_mut_ptr();
-    if unsafe { wb_names(p, n, lens, 1, indices, 1, 1, out, 0) } != NO_ANSWER {
-        fail("wb_names has an answer: measure it");
-    }
+    check_wrong("a name without an index", {
+        let mut wrong = one.clone();
+        wrong.indices.clear();
+        Input::Names(wrong)
+    });
+    check_wrong("a byte too many of names", {
+        let mut wrong = one.clone();
+        wrong.lens[0] -= 1;
+        Input::Names(wrong)
+    });
+    check_wrong("one length an import", Input::Imports(one));
 }
 
 // ---- measures
@@ -737,8 +786,6 @@ fn main() {
             };
             println!("{}", run_once(&input(name, items), phase));
         }
-        _ => {
-            fail("usage: driver [once WORKLOAD ITEMS PHASE]")
-        }
+        _ => fail("usage: driver [once WORKLOAD ITEMS PHASE]"),
     }
 }

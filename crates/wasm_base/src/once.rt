@@ -1,6 +1,6 @@
 // Values that are written once.
-ghost use Rattle.std.specs.Prelude.{◌≡◌, ◌≢◌, ℕ, ◌<◌, ◌≤◌, List, IfOk, IfErr};
-ghost use Rattle.std.specs.Iterator.{size, IsFinite};
+ghost use Rattle.std.specs.Prelude.{◌≡◌, ◌≢◌, ℕ, ◌+◌, ◌<◌, ◌≤◌, List, ◌++◌, length, vec_len, vec_capacity, IfOk, IfErr};
+ghost use Rattle.std.specs.Iterator.{size, IsFinite, Drains, Yields};
 ghost use Rattle.wasm_base.specs.Once.{AppendsOnce, TellsCount, GivesVec, GivesBytes, GivesPair, GivesTriple, YieldsFitting};
 ghost use Rattle.wasm_base.specs.Texts.{longest};
 ghost use Rattle.wasm_base.specs.declared.refused.Refused.TheVariants.{TooLong};
@@ -107,6 +107,48 @@ impl<T: Encode + Drop, I: Iterator<Item = T> + Drop> EncodeOnce for VecOf<I> {
 /// The largest number of bytes of a spelled count.
 const COUNT_BYTES: usize = 5;
 
+/// How many bytes are taken at a time of a short run.
+const BLOCK: usize = 16;
+
+/// The most bytes of a short run.
+const SHORT: usize = 256;
+
+/// The next bytes of an iterator that gives as many. Nothing but their number is tested, so that they are copied as a whole.
+fn next_block<I: Iterator<Item = u8>>(items: &mut I) -> [u8; BLOCK]
+    requires ready { I.can_next items.old × IsFinite (I.remaining items.old) }
+    requires many { (xs : List ℕ) → Drains I.next_gives items.old xs → 16 ≤ length xs }
+    ensures yields { Yields I.next_gives items.old result items.new }
+    ensures count { length result ≡ 16 }
+    ensures ready { I.can_next items.new × IsFinite (I.remaining items.new) }
+{
+    let mut block = [0; BLOCK];
+    for i in 0..BLOCK {
+        block[i] = items.next().unwrap();
+    }
+    block
+}
+
+/// Appends the bytes of a short run but for the last few, a block at a time, and of a long one none. The sink has room for them.
+fn append_blocks<I: Iterator<Item = u8>, A: Allocator>(
+    sink: &mut Vec<u8, A>,
+    items: &mut I,
+    count: usize,
+)
+    requires ready { I.can_next items.old × IsFinite (I.remaining items.old) }
+    requires told { (xs : List ℕ) → Drains I.next_gives items.old xs → length xs ≡ count }
+    requires room { vec_len sink.old + count ≤ vec_capacity sink.old }
+    ensures appends { (xs : List ℕ) × Yields I.next_gives items.old xs items.new × (sink.new.items ≡ sink.old.items ++ xs) }
+    ensures ready { I.can_next items.new × IsFinite (I.remaining items.new) }
+    ensures capacity { vec_capacity sink.old ≤ vec_capacity sink.new }
+{
+    let mut left = if count <= SHORT { count } else { 0 };
+    while left >= BLOCK {
+        let block = next_block(items);
+        sink.extend_from_slice(&block).unwrap();
+        left -= BLOCK;
+    }
+}
+
 impl<I: Iterator<Item = u8> + Drop> EncodeOnce for BytesOf<I> {
     ghost lawful = { λ v. TellsCount I.can_next I.next_gives I.remaining v.items v.count };
 
@@ -115,10 +157,12 @@ impl<I: Iterator<Item = u8> + Drop> EncodeOnce for BytesOf<I> {
     ghost fits = { λ _. Unit {0} };
 
     fn encode_once<A: Allocator>(self, sink: &mut Vec<u8, A>) -> R<()> {
-        let BytesOf { items, count } = self;
+        let BytesOf { mut items, count } = self;
         let start = sink.len();
-        sink.reserve((count as usize).saturating_add(COUNT_BYTES))?;
+        let len = count as usize;
+        sink.reserve(len.saturating_add(COUNT_BYTES))?;
         count.encode(sink)?;
+        append_blocks(sink, &mut items, len);
         let Ok(()) = sink.extend(items) else {
             sink.truncate(start);
             return Err(Refused::Memory);

@@ -1,8 +1,11 @@
 -- What workloads answer.
-use Rattle.std.specs.Prelude.{◌≡◌, ℕ, ◌<◌, ◌≤◌, ◌∷◌, List, ◌++◌, length, drop, map, Result, IfOk, OnErr, if◌then◌else◌, ◌⊎◌, nat_le}
+use Rattle.std.specs.Prelude.{◌≡◌, ℕ, ◌<◌, ◌≤◌, ◌∷◌, [], List, ◌++◌, length, drop, map, Result, IfOk, OnErr, if◌then◌else◌, ◌⊎◌, nat_le}
 use Rattle.wasm_base.specs.Formats.{header}
 use Rattle.wasm_base.specs.Numbers.{unsigned_text}
 use Rattle.wasm_base.specs.Pieces.{joined, section_text}
+use Rattle.wasm_custom.specs.Customs.{named_text, subsection_text}
+use Rattle.wasm_custom.specs.Lists.{list_text}
+use Rattle.wasm_custom.specs.Names.{name_name}
 use Rattle.wasm_bench.specs.declared.answers.TheConstants.{NO_ANSWER}
 use Rattle.wasm_bench.specs.declared.answers.Fault.{Fault}
 
@@ -15,16 +18,20 @@ pub record Gives (bytes old new : List ℕ) (n : ℕ) : Type 0 where
   pub count : n ≡ length bytes
   pub copied : new ≡ written bytes old
 
--- what each phase gives of a section of this id and these entries
-pub record HasAnswer (id : ℕ) (pieces : List (List ℕ)) (phase : ℕ) (old new : List ℕ) (n : ℕ) : Type 0 where
-  pub built : phase ≡ 0 → (n ≡ length (joined pieces)) × (new ≡ old)
-  pub appended : phase ≡ 1 → Gives (id ∷ section_text pieces) old new n
-  pub finished : phase ≡ 2 → Gives (header ++ (id ∷ section_text pieces)) old new n
+-- what each phase gives of a section of this id and this text, whose entries have these bytes
+pub record HasAnswer (id : ℕ) (content text : List ℕ) (phase : ℕ) (old new : List ℕ) (n : ℕ) : Type 0 where
+  pub built : phase ≡ 0 → (n ≡ length content) × (new ≡ old)
+  pub appended : phase ≡ 1 → Gives (id ∷ text) old new n
+  pub finished : phase ≡ 2 → Gives (header ++ (id ∷ text)) old new n
   pub known : phase ≤ 2
 
+-- the same of a section of counted entries
+abbrev pub HasCounted : ℕ → List (List ℕ) → ℕ → List ℕ → List ℕ → ℕ → Type 0
+HasCounted id pieces phase old new n = HasAnswer id (joined pieces) (section_text pieces) phase old new n
+
 -- The section has its answer, or nothing was written.
-pub record Answers (id : ℕ) (pieces : List (List ℕ)) (phase : ℕ) (old new : List ℕ) (result : Result ℕ Fault) : Type 0 where
-  pub ok : IfOk result (λ n. HasAnswer id pieces phase old new n)
+pub record Answers (id : ℕ) (content text : List ℕ) (phase : ℕ) (old new : List ℕ) (result : Result ℕ Fault) : Type 0 where
+  pub ok : IfOk result (λ n. HasAnswer id content text phase old new n)
   pub err : OnErr result (new ≡ old)
 
 -- There is no answer, or it is this one.
@@ -33,16 +40,22 @@ Outcome old new n Answer = ((n ≡ NO_ANSWER) × (new ≡ old)) ⊎ Answer
 
 -- the answer of a section that has the types of functions
 abbrev pub FunctionsAnswer : List ℕ → ℕ → List ℕ → List ℕ → ℕ → Type 0
-FunctionsAnswer types phase old new n = HasAnswer 3 (map unsigned_text types) phase old new n
+FunctionsAnswer types phase old new n = HasCounted 3 (map unsigned_text types) phase old new n
 
 -- the answer of a section of this id that has so many entries
 pub record CountedAnswer (id count phase : ℕ) (old new : List ℕ) (n : ℕ) : Type 0 where
   pub pieces : List (List ℕ)
   pub counted : length pieces ≡ count
-  pub has : HasAnswer id pieces phase old new n
+  pub has : HasCounted id pieces phase old new n
 
 -- the answer of a section of data, whose segments have bytes
 pub record DataAnswer (segment phase : ℕ) (old new : List ℕ) (n : ℕ) : Type 0 where
   pub some : 0 < segment
   pub pieces : List (List ℕ)
-  pub has : HasAnswer 11 pieces phase old new n
+  pub has : HasCounted 11 pieces phase old new n
+
+-- the answer of a name section of so many names of functions
+pub record NamesAnswer (count phase : ℕ) (old new : List ℕ) (n : ℕ) : Type 0 where
+  pub names : List (List ℕ)
+  pub counted : length names ≡ count
+  pub has : HasAnswer 0 (joined (subsection_text 1 (list_text names) ∷ [])) (named_text name_name (joined (subsection_text 1 (list_text names) ∷ []))) phase old new n

@@ -7,6 +7,7 @@ ghost use Rattle.wasm_bench.specs.declared.answers.Fault.TheVariants as faults;
 use std::alloc::Global;
 use wasm_base::{Module, Refused, Section};
 use wasm_code::CodeSection;
+use wasm_custom::NameSection;
 use wasm_sections::{CountedSection, ItemKind};
 
 /// The answer of a workload whose input is wrong, or of which the library has refused a call.
@@ -43,36 +44,33 @@ fn copied(bytes: &[u8], out: &mut [u8]) -> u64
 
 /// A section of entries, whose bytes can be counted.
 pub(crate) trait Entries: Section {
-    ghost use Rattle.wasm_base.specs.Pieces.{section_text};
-
-    /// The bytes of each entry.
-    ghost pieces: { Self → List (List ℕ) };
+    /// The bytes of the entries.
+    ghost content: { Self → List ℕ };
 
     /// How many bytes the entries have together, without their number; none where these are more than can be counted.
     fn entries_len(&self) -> Option<u64>
-        ensures { MatchOption result (2 ^ 64 ≤ length (joined (pieces self.now))) (λ n. n ≡ length (joined (pieces self.now))) };
-
-    /// Its text is the frame of the number of the entries and of these.
-    ghost counted: { (section : Self) → Self.text section ≡ section_text (pieces section) };
+        ensures { MatchOption result (2 ^ 64 ≤ length (content self.now)) (λ n. n ≡ length (content self.now)) };
 }
 
 impl Entries for CodeSection {
-    ghost use Rattle.std.proofs.Common.{refl};
-
-    ghost pieces = { λ section. section };
+    ghost content = { λ section. joined section };
 
     fn entries_len(&self) -> Option<u64> {
         Some(self.byte_len() as u64)
     }
+}
 
-    ghost counted = { λ section. refl };
+impl Entries for NameSection {
+    ghost content = { λ section. joined section };
+
+    fn entries_len(&self) -> Option<u64> {
+        Some(self.as_custom().bytes.as_slice().len() as u64)
+    }
 }
 
 /// The entries are asked for one by one, since the section does not tell how many bytes they have.
 impl<K: ItemKind> Entries for CountedSection<K> {
-    ghost use Rattle.std.proofs.Common.{refl};
-
-    ghost pieces = { λ section. section };
+    ghost content = { λ section. joined section };
 
     #[tactic(auto, using(crate::proofs::PieceLengths::joined_take_more, crate::proofs::PieceLengths::joined_take_le))]
     fn entries_len(&self) -> Option<u64> {
@@ -83,8 +81,6 @@ impl<K: ItemKind> Entries for CountedSection<K> {
         }
         Some(bytes)
     }
-
-    ghost counted = { λ section. refl };
 }
 
 /// What a workload gives that has built this section: in phase 0 how many bytes its entries have, in phase 1 the section, and in phase 2
@@ -95,7 +91,7 @@ pub(crate) fn answer<S: Entries>(
     phase: u32,
     out: &mut [u8],
 ) -> Result<u64, Fault>
-    ensures answers { Answers (S.id_of section.now) (S.pieces section.now) phase out.old out.new result }
+    ensures answers { Answers (S.id_of section.now) (S.content section.now) (S.text section.now) phase out.old out.new result }
     ensures wrong { IfErr result (λ fault. fault ≡ faults.WrongInput → 2 < phase) }
 {
     match phase {

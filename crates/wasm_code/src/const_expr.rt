@@ -3,14 +3,13 @@ ghost use Rattle.std.specs.Prelude.{◌≡◌, ◌≢◌, ◌<◌, ◌≤◌, �
 ghost use Rattle.std.specs.Iterator.{Drains, IsFinite};
 ghost use Rattle.wasm_base.specs.Calls.{ReadsBack};
 ghost use Rattle.wasm_base.specs.declared.refused.Refused.TheVariants.{TooLong};
-ghost use Rattle.wasm_code.specs.Expressions.{IsNoEnd, expression, expression_text, StoresInstructions, Stores, StoresGiven, AppendsEach, IsRefFunc};
-ghost use Rattle.wasm_insn.specs.Instructions.{row_of, InstructionFits};
+ghost use Rattle.wasm_code.specs.Expressions.{expression, expression_text, StoresInstructions, Stores, StoresGiven, AppendsEach, IsRefFunc};
 
 use crate::function::append_all;
 use std::alloc::{Allocator, Global};
 use std::marker::Model;
 use wasm_base::{Encode, HeapType, R, read_groups};
-use wasm_insn::{Ieee32, Ieee64, Instruction, Numeric, VectorImmediate};
+use wasm_insn::{Ieee32, Ieee64, Instruction, InstructionSink, Numeric, VectorImmediate};
 
 /// A constant expression, seen as the bytes that are stored: those of its instructions, without the `End` that is written after
 /// them.
@@ -24,6 +23,9 @@ impl<A: Allocator> Model for ConstExpr<A> {
 
     ghost view = { λ e. e.bytes.items };
 }
+
+/// The bytes that an expression of one instruction has room for.
+const FIRST_CAPACITY: usize = 16;
 
 impl<A: Allocator> ConstExpr<A> {
     /// No instructions. It takes no memory.
@@ -66,15 +68,14 @@ impl<A: Allocator> ConstExpr<A> {
         Ok(ConstExpr { bytes })
     }
 
-    /// Each `with` call adds its instruction by this one.
-    #[tactic(auto, using(crate::proofs::ExpressionLaws::stores))]
-    fn with(mut self, instruction: Instruction<'_>) -> R<Self>
-        requires { IsNoEnd (row_of instruction) }
-        ensures stores { IfOk result (Stores instruction.entry self) }
-        ensures memory { InstructionFits instruction.entry → result ≢ Err TooLong }
+    /// No instructions, and room for one of a number.
+    fn with_room(alloc: A) -> R<Self>
+        ensures none { IfOk result (λ e. e ≡ []) }
+        ensures memory { result ≢ Err TooLong }
     {
-        instruction.encode(&mut self.bytes)?;
-        Ok(self)
+        Ok(ConstExpr {
+            bytes: Vec::with_capacity(alloc, FIRST_CAPACITY)?,
+        })
     }
 
     /// `GlobalGet` alone.
@@ -82,7 +83,7 @@ impl<A: Allocator> ConstExpr<A> {
         ensures stores { IfOk result (Stores (Instruction.GlobalGet index) []) }
         ensures memory { result ≢ Err TooLong }
     {
-        ConstExpr::empty(alloc).with_global_get(index)
+        ConstExpr::with_room(alloc)?.with_global_get(index)
     }
 
     /// `RefNull` alone.
@@ -90,7 +91,7 @@ impl<A: Allocator> ConstExpr<A> {
         ensures stores { IfOk result (Stores (Instruction.RefNull ty) []) }
         ensures memory { result ≢ Err TooLong }
     {
-        ConstExpr::empty(alloc).with_ref_null(ty)
+        ConstExpr::with_room(alloc)?.with_ref_null(ty)
     }
 
     /// `RefFunc` alone.
@@ -98,7 +99,7 @@ impl<A: Allocator> ConstExpr<A> {
         ensures stores { IfOk result (Stores (Instruction.RefFunc function_index) []) }
         ensures memory { result ≢ Err TooLong }
     {
-        ConstExpr::empty(alloc).with_ref_func(function_index)
+        ConstExpr::with_room(alloc)?.with_ref_func(function_index)
     }
 
     /// `I32Const` alone.
@@ -106,7 +107,7 @@ impl<A: Allocator> ConstExpr<A> {
         ensures stores { IfOk result (Stores (Instruction.I32Const value) []) }
         ensures memory { result ≢ Err TooLong }
     {
-        ConstExpr::empty(alloc).with_i32_const(value)
+        ConstExpr::with_room(alloc)?.with_i32_const(value)
     }
 
     /// `I64Const` alone.
@@ -114,7 +115,7 @@ impl<A: Allocator> ConstExpr<A> {
         ensures stores { IfOk result (Stores (Instruction.I64Const value) []) }
         ensures memory { result ≢ Err TooLong }
     {
-        ConstExpr::empty(alloc).with_i64_const(value)
+        ConstExpr::with_room(alloc)?.with_i64_const(value)
     }
 
     /// `F32Const` alone.
@@ -122,7 +123,7 @@ impl<A: Allocator> ConstExpr<A> {
         ensures stores { IfOk result (Stores (Instruction.F32Const value) []) }
         ensures memory { result ≢ Err TooLong }
     {
-        ConstExpr::empty(alloc).with_f32_const(value)
+        ConstExpr::with_room(alloc)?.with_f32_const(value)
     }
 
     /// `F64Const` alone.
@@ -130,7 +131,7 @@ impl<A: Allocator> ConstExpr<A> {
         ensures stores { IfOk result (Stores (Instruction.F64Const value) []) }
         ensures memory { result ≢ Err TooLong }
     {
-        ConstExpr::empty(alloc).with_f64_const(value)
+        ConstExpr::with_room(alloc)?.with_f64_const(value)
     }
 
     /// `V128Const` alone.
@@ -138,119 +139,133 @@ impl<A: Allocator> ConstExpr<A> {
         ensures stores { IfOk result (Stores (Instruction.VectorImmediate (VectorImmediate.V128Const value)) []) }
         ensures memory { result ≢ Err TooLong }
     {
-        ConstExpr::empty(alloc).with_v128_const(value)
+        ConstExpr::with_room(alloc)?.with_v128_const(value)
     }
 
     /// This, and then `GlobalGet`.
-    pub fn with_global_get(self, index: u32) -> R<Self>
+    pub fn with_global_get(mut self, index: u32) -> R<Self>
         ensures stores { IfOk result (Stores (Instruction.GlobalGet index) self) }
         ensures memory { result ≢ Err TooLong }
     {
-        self.with(Instruction::GlobalGet(index))
+        InstructionSink::new(&mut self.bytes).global_get(index)?;
+        Ok(self)
     }
 
     /// This, and then `RefNull`.
-    pub fn with_ref_null(self, ty: HeapType) -> R<Self>
+    pub fn with_ref_null(mut self, ty: HeapType) -> R<Self>
         ensures stores { IfOk result (Stores (Instruction.RefNull ty) self) }
         ensures memory { result ≢ Err TooLong }
     {
-        self.with(Instruction::RefNull(ty))
+        InstructionSink::new(&mut self.bytes).ref_null(ty)?;
+        Ok(self)
     }
 
     /// This, and then `RefFunc`.
-    pub fn with_ref_func(self, function_index: u32) -> R<Self>
+    pub fn with_ref_func(mut self, function_index: u32) -> R<Self>
         ensures stores { IfOk result (Stores (Instruction.RefFunc function_index) self) }
         ensures memory { result ≢ Err TooLong }
     {
-        self.with(Instruction::RefFunc(function_index))
+        InstructionSink::new(&mut self.bytes).ref_func(function_index)?;
+        Ok(self)
     }
 
     /// This, and then `I32Const`.
-    pub fn with_i32_const(self, value: i32) -> R<Self>
+    pub fn with_i32_const(mut self, value: i32) -> R<Self>
         ensures stores { IfOk result (Stores (Instruction.I32Const value) self) }
         ensures memory { result ≢ Err TooLong }
     {
-        self.with(Instruction::I32Const(value))
+        InstructionSink::new(&mut self.bytes).i32_const(value)?;
+        Ok(self)
     }
 
     /// This, and then `I64Const`.
-    pub fn with_i64_const(self, value: i64) -> R<Self>
+    pub fn with_i64_const(mut self, value: i64) -> R<Self>
         ensures stores { IfOk result (Stores (Instruction.I64Const value) self) }
         ensures memory { result ≢ Err TooLong }
     {
-        self.with(Instruction::I64Const(value))
+        InstructionSink::new(&mut self.bytes).i64_const(value)?;
+        Ok(self)
     }
 
     /// This, and then `F32Const`.
-    pub fn with_f32_const(self, value: Ieee32) -> R<Self>
+    pub fn with_f32_const(mut self, value: Ieee32) -> R<Self>
         ensures stores { IfOk result (Stores (Instruction.F32Const value) self) }
         ensures memory { result ≢ Err TooLong }
     {
-        self.with(Instruction::F32Const(value))
+        InstructionSink::new(&mut self.bytes).f32_const(value)?;
+        Ok(self)
     }
 
     /// This, and then `F64Const`.
-    pub fn with_f64_const(self, value: Ieee64) -> R<Self>
+    pub fn with_f64_const(mut self, value: Ieee64) -> R<Self>
         ensures stores { IfOk result (Stores (Instruction.F64Const value) self) }
         ensures memory { result ≢ Err TooLong }
     {
-        self.with(Instruction::F64Const(value))
+        InstructionSink::new(&mut self.bytes).f64_const(value)?;
+        Ok(self)
     }
 
     /// This, and then `V128Const`.
-    pub fn with_v128_const(self, value: i128) -> R<Self>
+    pub fn with_v128_const(mut self, value: i128) -> R<Self>
         ensures stores { IfOk result (Stores (Instruction.VectorImmediate (VectorImmediate.V128Const value)) self) }
         ensures memory { result ≢ Err TooLong }
     {
-        self.with(Instruction::VectorImmediate(VectorImmediate::V128Const(value)))
+        InstructionSink::new(&mut self.bytes).v128_const(value)?;
+        Ok(self)
     }
 
     /// This, and then `I32Add`.
-    pub fn with_i32_add(self) -> R<Self>
+    pub fn with_i32_add(mut self) -> R<Self>
         ensures stores { IfOk result (Stores (Instruction.Numeric Numeric.I32Add) self) }
         ensures memory { result ≢ Err TooLong }
     {
-        self.with(Instruction::I32Add)
+        InstructionSink::new(&mut self.bytes).i32_add()?;
+        Ok(self)
     }
 
     /// This, and then `I32Sub`.
-    pub fn with_i32_sub(self) -> R<Self>
+    pub fn with_i32_sub(mut self) -> R<Self>
         ensures stores { IfOk result (Stores (Instruction.Numeric Numeric.I32Sub) self) }
         ensures memory { result ≢ Err TooLong }
     {
-        self.with(Instruction::I32Sub)
+        InstructionSink::new(&mut self.bytes).i32_sub()?;
+        Ok(self)
     }
 
     /// This, and then `I32Mul`.
-    pub fn with_i32_mul(self) -> R<Self>
+    pub fn with_i32_mul(mut self) -> R<Self>
         ensures stores { IfOk result (Stores (Instruction.Numeric Numeric.I32Mul) self) }
         ensures memory { result ≢ Err TooLong }
     {
-        self.with(Instruction::I32Mul)
+        InstructionSink::new(&mut self.bytes).i32_mul()?;
+        Ok(self)
     }
 
     /// This, and then `I64Add`.
-    pub fn with_i64_add(self) -> R<Self>
+    pub fn with_i64_add(mut self) -> R<Self>
         ensures stores { IfOk result (Stores (Instruction.Numeric Numeric.I64Add) self) }
         ensures memory { result ≢ Err TooLong }
     {
-        self.with(Instruction::I64Add)
+        InstructionSink::new(&mut self.bytes).i64_add()?;
+        Ok(self)
     }
 
     /// This, and then `I64Sub`.
-    pub fn with_i64_sub(self) -> R<Self>
+    pub fn with_i64_sub(mut self) -> R<Self>
         ensures stores { IfOk result (Stores (Instruction.Numeric Numeric.I64Sub) self) }
         ensures memory { result ≢ Err TooLong }
     {
-        self.with(Instruction::I64Sub)
+        InstructionSink::new(&mut self.bytes).i64_sub()?;
+        Ok(self)
     }
 
     /// This, and then `I64Mul`.
-    pub fn with_i64_mul(self) -> R<Self>
+    pub fn with_i64_mul(mut self) -> R<Self>
         ensures stores { IfOk result (Stores (Instruction.Numeric Numeric.I64Mul) self) }
         ensures memory { result ≢ Err TooLong }
     {
-        self.with(Instruction::I64Mul)
+        InstructionSink::new(&mut self.bytes).i64_mul()?;
+        Ok(self)
     }
 
     /// The index of `RefFunc`, where the expression begins with it.

@@ -43,6 +43,7 @@ fn check_recipe(rt: &impl Abort, alloc: Global, text: &str) {
 fn each_request_refused(rt: HostRuntime) {
     check_recipe(&rt, rt.alloc(), "type 600000\n\nbody 0b");
     check_recipe(&rt, rt.alloc(), "global -1\n\ndata 8 6869");
+    check_recipe(&rt, rt.alloc(), "name a\n\nname b c");
 }
 
 /// What the program answered and wrote: the module, where it answered 0.

@@ -59,6 +59,11 @@ fn modules(rt: HostRuntime) {
             "data 8 6869\nglobal -1",
             "0061736d010000000606017f00417f0b0b08010041080b026869\n",
         ),
+        ("name m", "0061736d010000000009046e616d650002016d\n"),
+        (
+            "name   a b \r\nname \u{e9}\nfunc 0",
+            "0061736d01000000030201000011046e616d6500050461206220000302c3a9\n",
+        ),
         (
             "body 0b\r\n\n   type   600000 and more\r\n",
             "0061736d010000000104016000000a040102000b\n",
@@ -85,6 +90,9 @@ fn faults(rt: HostRuntime) {
         ("export f tag -1", "line 1: bad number\n"),
         ("func 0\ndata 0 zz", "line 2: bad hex\n"),
         ("data 0", "line 1: missing word\n"),
+        ("func 0\nname", "line 2: missing word\n"),
+        ("name  \r", "line 1: missing word\n"),
+        ("names m", "line 1: unknown command\n"),
         ("data x zz", "line 1: bad number\n"),
         ("global x", "line 1: bad number\n"),
         ("global 2147483648", "line 1: bad number\n"),

@@ -19,14 +19,14 @@ use Rattle.std.proofs.lemmas.Grind.{common_steps, flat_map-append}
 use Rattle.wasm_tool.specs.declared.fault.RecipeCause.{RecipeCause}
 use Rattle.wasm_tool.specs.declared.fault.RecipeCause.TheVariants.{UnknownCommand, BadNumber, BadHex, MissingWord, Memory, TooLong}
 use Rattle.wasm_tool.specs.declared.recipe.Recipe.{Recipe}
-use Rattle.wasm_tool.specs.Lines.{lines_of, words_of}
+use Rattle.wasm_tool.specs.Lines.{lines_of}
 use Rattle.wasm_base.specs.Numbers.{unsigned_text}
 use Rattle.wasm_base.specs.Texts.{FrameFits, any_section_text, AnySectionFits, module_text, ModuleFits}
 use Rattle.wasm_base.specs.Formats.{wasm_module, header}
 use Rattle.wasm_base.specs.Reading.{ReadsWhole}
 use Rattle.wasm_base.specs.Pieces.{SectionFits}
 use Rattle.wasm_base.proofs.ModuleLaws.{module_text-reads}
-use Rattle.wasm_tool.specs.Recipe.{Addition, IsGood, RecipeFits, entries_of, entry_of, added_to, last_of, section_of, start_of, sections_of, recipe_module, lines_before, lines_through}
+use Rattle.wasm_tool.specs.Recipe.{Addition, IsGood, NamesFit, RecipeFits, entries_of, entry_of, added_to, last_of, names_of, section_of, start_of, sections_of, recipe_module, lines_before, lines_through}
 use Rattle.wasm_tool.specs.Steps.{AddsEntries, Explains, FitsWith, FitsSections, IsEmpty, Follows, SaysCause, cause_of, listed, replaced, start_items}
 
 -- no line of these has a fault, and the sections have their items
@@ -40,6 +40,7 @@ pub record HoldsLines {A : Type 0} (lines : List (List ℕ)) (recipe : Recipe A)
   pub start : start_items recipe.start ≡ last_of (added_to 8 (entries_of lines))
   pub code : recipe.code ≡ added_to 10 (entries_of lines)
   pub segments : recipe.segments ≡ added_to 11 (entries_of lines)
+  pub names : recipe.names ≡ added_to 0 (entries_of lines)
 
 good_line : (line : List ℕ) (entries : List Addition) → entry_of line ≡ Ok entries → IsGood line
 unfolding IsGood
@@ -70,6 +71,7 @@ holds_none recipe empty = record {
   start = empty.start;
   code = empty.code;
   segments = empty.segments;
+  names = empty.names;
 }
 
 more_items : (id : ℕ) (lines : List (List ℕ)) (line : List ℕ) (entries : List Addition) → entry_of line ≡ Ok entries
@@ -108,6 +110,7 @@ holds_more_of lines line old new entries holds says adds =
           ∙ ap last_of (sym (added_to-push 8 lines line entries says));
       code = more 10 old.code new.code adds.code holds.code;
       segments = more 11 old.segments new.segments adds.segments holds.segments;
+      names = more 0 old.names new.names adds.names holds.names;
     }
 
 with_value : {T E : Type 0} (r : Result T E) (P : T → Type 0) (Q : Type 0) → ((x : T) → r ≡ Ok x → P x → Q) → IsOkAnd r P → Q
@@ -123,8 +126,9 @@ holds_more lines line old new holds follows =
 fits_with : {A : Type 0} (lines : List (List ℕ)) (line : List ℕ) (old : Recipe A) (entries : List Addition) → HoldsLines lines old
     → entry_of line ≡ Ok entries → RecipeFits (entries_of (lines ++ line ∷ [])) → FitsWith old entries
 fits_with lines line old entries holds says fits =
-    let with = λ (id : ℕ) (items : List (List ℕ)) (held : items ≡ added_to id (entries_of lines)).
-    subst SectionFits (added_to-push id lines line entries says ∙ ap (λ xs. xs ++ added_to id entries) (sym held)) in
+    let same = λ (id : ℕ) (items : List (List ℕ)) (held : items ≡ added_to id (entries_of lines)).
+    added_to-push id lines line entries says ∙ ap (λ xs. xs ++ added_to id entries) (sym held) in
+    let with = λ (id : ℕ) (items : List (List ℕ)) (held : items ≡ added_to id (entries_of lines)). subst SectionFits (same id items held) in
     record {
       types = with 1 old.types holds.types fits.types;
       functions = with 3 old.functions holds.functions fits.functions;
@@ -133,6 +137,7 @@ fits_with lines line old entries holds says fits =
       exports = with 7 old.exports holds.exports fits.exports;
       code = with 10 old.code holds.code fits.code;
       segments = with 11 old.segments holds.segments fits.segments;
+      names = subst NamesFit (same 0 old.names holds.names) fits.names;
     }
 
 -- all lines were read, where no part of the text is left
@@ -197,6 +202,7 @@ sections_fit lines recipe holds fits = record {
   start = subst (All FrameFits) (sym holds.start) fits.start;
   code = subst SectionFits (sym holds.code) fits.code;
   segments = subst SectionFits (sym holds.segments) fits.segments;
+  names = subst NamesFit (sym holds.names) fits.names;
 }
 
 pub recipe_fits : {A : Type 0} (lines : List (List ℕ)) (recipe : Recipe A) → HoldsLines lines recipe → FitsSections recipe → RecipeFits (entries_of lines)
@@ -209,6 +215,7 @@ recipe_fits lines recipe holds fits = record {
   start = subst (All FrameFits) holds.start fits.start;
   code = subst SectionFits holds.code fits.code;
   segments = subst SectionFits holds.segments fits.segments;
+  names = subst NamesFit holds.names fits.names;
 }
 
 explains_at_end : {A : Type 0} (text : List ℕ) (recipe : Recipe A) (refused : Refused) → HoldsLines (lines_of text) recipe
@@ -233,7 +240,7 @@ pub listed-holds : {A : Type 0} (lines : List (List ℕ)) (recipe : Recipe A) �
 listed-holds lines recipe holds =
     let start : start_of (start_items recipe.start) ≡ start_of (added_to 8 (entries_of lines)) =
     ap (λ items. map (λ item. (8, item)) items) (ap last_of holds.start ∙ last_of-again (added_to 8 (entries_of lines))) in
-    rw (holds.types, holds.functions, holds.memories, holds.globals, holds.exports, holds.code, holds.segments, start) refl
+    rw (holds.types, holds.functions, holds.memories, holds.globals, holds.exports, holds.code, holds.segments, holds.names, start) refl
 
 pub module_text-holds : {A : Type 0} (lines : List (List ℕ)) (recipe : Recipe A) → HoldsLines lines recipe → module_text (listed recipe) ≡ recipe_module (entries_of lines)
 unfolding recipe_module
@@ -247,12 +254,17 @@ start_of-fits : (start : Option ℕ) → All FrameFits (start_items start) → A
 start_of-fits None fits = All-nil AnySectionFits
 start_of-fits (Some index) fits = All-push AnySectionFits [] _ (All-nil AnySectionFits) (All-head FrameFits (unsigned_text index) [] fits)
 
+names_of-fits : (items : List (List ℕ)) → NamesFit items → All AnySectionFits (names_of items)
+names_of-fits [] fits = All-nil AnySectionFits
+names_of-fits (item ∷ items) fits = All-push AnySectionFits [] _ (All-nil AnySectionFits) fits.size
+
 listed-fits : {A : Type 0} (recipe : Recipe A) → FitsSections recipe → ModuleFits (listed recipe)
 listed-fits recipe fits =
     let more = All-append AnySectionFits in
     let limits = more _ _ (more _ _ (section_of-fits 1 recipe.types fits.types) (section_of-fits 3 recipe.functions fits.functions)) (section_of-fits 5 recipe.memories fits.memories) in
     let before_start = more _ _ (more _ _ limits (section_of-fits 6 recipe.globals fits.globals)) (section_of-fits 7 recipe.exports fits.exports) in
-    more _ _ (more _ _ (more _ _ before_start (start_of-fits recipe.start fits.start)) (section_of-fits 10 recipe.code fits.code)) (section_of-fits 11 recipe.segments fits.segments)
+    let numbered = more _ _ (more _ _ (more _ _ before_start (start_of-fits recipe.start fits.start)) (section_of-fits 10 recipe.code fits.code)) (section_of-fits 11 recipe.segments fits.segments) in
+    more _ _ numbered (names_of-fits recipe.names fits.names)
 
 -- and is read as these sections alone
 pub module_reads : {A : Type 0} (lines : List (List ℕ)) (recipe : Recipe A) (bytes : List ℕ) → HoldsLines lines recipe → FitsSections recipe → bytes ≡ module_text (listed recipe)

@@ -1,5 +1,5 @@
 -- recipe: an entry for each line of a text, and the module of the sections that the entries add to.
-use Rattle.std.specs.Prelude.{All, length, ℕ, suc, ℤ, pos, neg_ℤ, ◌-◌, ◌^◌, ◌==◌, ◌&&◌, ◌≤◌, ◌++◌, Bool, false, codes, if◌then◌else◌, nat_lt, List, [], ◌∷◌, filter, map, take, Option, Some, None, option_map, Result, Ok, Err, IsOk}
+use Rattle.std.specs.Prelude.{All, length, ℕ, suc, ℤ, pos, neg_ℤ, ◌-◌, ◌^◌, ◌==◌, ◌&&◌, ◌≤◌, ◌++◌, false, codes, if◌then◌else◌, nat_lt, List, [], ◌∷◌, filter, map, take, Option, Some, None, option_map, Result, Ok, Err, IsOk}
 use Rattle.std.specs.List.{flat_map}
 use Rattle.std.specs.declared.alloc.Global.{Global}
 use Rattle.std.specs.Result.{result_unwrap_or}
@@ -7,10 +7,12 @@ use Rattle.std.specs.Str.{all_ascii_digits, bytes_eq}
 use Rattle.std.specs.Str.Parse.{digits_value}
 use Rattle.hex.specs.Hex.{decode_of}
 use Rattle.wasm_base.specs.Numbers.{unsigned_text}
-use Rattle.wasm_base.specs.Texts.{frame_text, FrameFits, module_text}
+use Rattle.wasm_base.specs.Texts.{longest, frame_text, FrameFits, module_text}
 use Rattle.wasm_base.specs.Pieces.{joined, SectionFits}
 use Rattle.wasm_base.specs.declared.types.ValType.TheVariants.{I32}
 use Rattle.wasm_code.specs.Expressions.{expression_text}
+use Rattle.wasm_custom.specs.Customs.{NamedFits, subsection_text}
+use Rattle.wasm_custom.specs.Names.{name_name}
 use Rattle.wasm_insn.specs.Instructions.{instruction_text}
 use Rattle.wasm_insn.specs.declared.instruction.Instruction.TheVariants.{I32Const}
 use Rattle.wasm_sections.specs.DataSegments.{active_text}
@@ -142,6 +144,11 @@ abbrev pub start_entry : List (List ℕ) → Result (List Addition) RecipeCause
 start_entry [] = Err MissingWord
 start_entry (index ∷ more) = from_number (decimal_of 32 index) (λ n. adds 8 (unsigned_text n))
 
+-- `name TEXT`: the name of the module, which is the rest of the line, in the name section
+abbrev pub name_entry : List ℕ → Result (List Addition) RecipeCause
+name_entry [] = Err MissingWord
+name_entry (b ∷ bs) = adds 0 (subsection_text 0 (frame_text (b ∷ bs)))
+
 -- the entry of a line of these words, if it has any, or its fault; what follows the first word is also given as text
 abbrev pub entry_of_words : List (List ℕ) → List ℕ → Result (List Addition) RecipeCause
 entry_of_words [] rest = Ok []
@@ -154,6 +161,7 @@ entry_of_words (command ∷ words) rest =
     else if bytes_eq command (codes "start") then start_entry words
     else if bytes_eq command (codes "body") then body_entry words
     else if bytes_eq command (codes "data") then data_entry words
+    else if bytes_eq command (codes "name") then name_entry rest
     else Err UnknownCommand
 
 -- the entry of a line, if it has any, or its fault
@@ -189,15 +197,25 @@ last_of (item ∷ next ∷ items) = last_of (next ∷ items)
 abbrev pub start_of : List (List ℕ) → List (ℕ × List ℕ)
 start_of items = map (λ item. (8, item)) (last_of items)
 
--- sections of these items, in the order of the standard
-abbrev pub in_order : (types functions memories globals exports start code segments : List (List ℕ)) → List (ℕ × List ℕ)
-in_order types functions memories globals exports start code segments =
-    ((((((section_of 1 types ++ section_of 3 functions) ++ section_of 5 memories) ++ section_of 6 globals) ++ section_of 7 exports) ++ start_of start) ++ section_of 10 code) ++ section_of 11 segments
+-- the name section of some subsections: its payload is its own name and these, and it is there where it has any
+abbrev pub names_of : List (List ℕ) → List (ℕ × List ℕ)
+names_of [] = []
+names_of (item ∷ items) = (0, frame_text name_name ++ joined (item ∷ items)) ∷ []
+
+-- The subsections of a name section can be counted, and its size can be spelled.
+pub record NamesFit (items : List (List ℕ)) : Type 0 where
+  pub count : length items ≤ longest
+  pub size : NamedFits name_name (joined items)
+
+-- sections of these items, in the order of the standard, and the name section behind them
+abbrev pub in_order : (types functions memories globals exports start code segments names : List (List ℕ)) → List (ℕ × List ℕ)
+in_order types functions memories globals exports start code segments names =
+    (((((((section_of 1 types ++ section_of 3 functions) ++ section_of 5 memories) ++ section_of 6 globals) ++ section_of 7 exports) ++ start_of start) ++ section_of 10 code) ++ section_of 11 segments) ++ names_of names
 
 -- the sections of some entries
 abbrev pub sections_of : List Addition → List (ℕ × List ℕ)
 sections_of entries =
-    in_order (added_to 1 entries) (added_to 3 entries) (added_to 5 entries) (added_to 6 entries) (added_to 7 entries) (added_to 8 entries) (added_to 10 entries) (added_to 11 entries)
+    in_order (added_to 1 entries) (added_to 3 entries) (added_to 5 entries) (added_to 6 entries) (added_to 7 entries) (added_to 8 entries) (added_to 10 entries) (added_to 11 entries) (added_to 0 entries)
 
 -- the module of some entries
 unfoldable pub recipe_module : List Addition → List ℕ
@@ -213,6 +231,7 @@ pub record RecipeFits (entries : List Addition) : Type 0 where
   pub start : All FrameFits (last_of (added_to 8 entries))
   pub code : SectionFits (added_to 10 entries)
   pub segments : SectionFits (added_to 11 entries)
+  pub names : NamesFit (added_to 0 entries)
 
 -- ---- the lines about a fault, which is of a line counted from 1, or of all lines for 0
 

@@ -10,7 +10,7 @@ use Rattle.wasm_tool.specs.declared.fault.RecipeCause.{RecipeCause}
 use Rattle.wasm_tool.specs.declared.fault.RecipeCause.TheVariants.{Memory, TooLong}
 use Rattle.wasm_tool.specs.declared.recipe.Recipe.{Recipe}
 use Rattle.wasm_tool.specs.Lines.{lines_of}
-use Rattle.wasm_tool.specs.Recipe.{Addition, IsGood, RecipeFits, entries_of, entry_of, in_order, added_to, last_of, lines_before, lines_through}
+use Rattle.wasm_tool.specs.Recipe.{Addition, IsGood, NamesFit, RecipeFits, entries_of, entry_of, in_order, added_to, last_of, lines_before, lines_through}
 
 -- ---- lines
 
@@ -34,6 +34,7 @@ pub record AddsEntries {A : Type 0} (old new : Recipe A) (entries : List Additio
   pub start : start_items new.start ≡ replaced (start_items old.start) (added_to 8 entries)
   pub code : new.code ≡ old.code ++ added_to 10 entries
   pub segments : new.segments ≡ old.segments ++ added_to 11 entries
+  pub names : new.names ≡ old.names ++ added_to 0 entries
 
 -- The old items and those of the entries fit their sections.
 pub record FitsWith {A : Type 0} (old : Recipe A) (entries : List Addition) : Type 0 where
@@ -44,6 +45,7 @@ pub record FitsWith {A : Type 0} (old : Recipe A) (entries : List Addition) : Ty
   pub exports : SectionFits (old.exports ++ added_to 7 entries)
   pub code : SectionFits (old.code ++ added_to 10 entries)
   pub segments : SectionFits (old.segments ++ added_to 11 entries)
+  pub names : NamesFit (old.names ++ added_to 0 entries)
 
 -- No section has an item.
 pub record IsEmpty {A : Type 0} (recipe : Recipe A) : Type 0 where
@@ -55,6 +57,7 @@ pub record IsEmpty {A : Type 0} (recipe : Recipe A) : Type 0 where
   pub start : start_items recipe.start ≡ []
   pub code : recipe.code ≡ []
   pub segments : recipe.segments ≡ []
+  pub names : recipe.names ≡ []
 
 -- The items fit their sections.
 pub record FitsSections {A : Type 0} (recipe : Recipe A) : Type 0 where
@@ -66,10 +69,11 @@ pub record FitsSections {A : Type 0} (recipe : Recipe A) : Type 0 where
   pub start : All FrameFits (start_items recipe.start)
   pub code : SectionFits recipe.code
   pub segments : SectionFits recipe.segments
+  pub names : NamesFit recipe.names
 
 -- the sections of the recipe, in order
 abbrev pub listed : {A : Type 0} → Recipe A → List (ℕ × List ℕ)
-listed recipe = in_order recipe.types recipe.functions recipe.memories recipe.globals recipe.exports (start_items recipe.start) recipe.code recipe.segments
+listed recipe = in_order recipe.types recipe.functions recipe.memories recipe.globals recipe.exports (start_items recipe.start) recipe.code recipe.segments recipe.names
 
 -- What a call that reads a line answers and leaves, where the line says `said`.
 abbrev pub Follows : {A : Type 0} → Result (List Addition) RecipeCause → Recipe A → Recipe A → Result (Unit {0}) RecipeCause → Type 0

@@ -9,7 +9,7 @@ ghost use Rattle.wasm_base.specs.Pieces.{SectionFits};
 ghost use Rattle.wasm_base.specs.Texts.{FrameFits, module_text};
 ghost use Rattle.wasm_base.specs.declared.refused.Refused.TheVariants as refusals;
 ghost use Rattle.wasm_sections.specs.DataSegments.{active_text};
-ghost use Rattle.wasm_tool.specs.Lines.{words_of, lines_of};
+ghost use Rattle.wasm_tool.specs.Lines.{words_of, lines_of, without_spaces};
 ghost use Rattle.wasm_tool.specs.Recipe.{
   entry_of,
   type_entry,
@@ -20,12 +20,15 @@ ghost use Rattle.wasm_tool.specs.Recipe.{
   start_entry,
   body_entry,
   data_entry,
+  name_entry,
   kind_of,
   decimal_of,
   signed_of,
   IsGood,
+  NamesFit,
   entries_of,
   section_of,
+  names_of,
   start_of,
   sections_of,
   recipe_module,
@@ -39,6 +42,7 @@ use hex::FromHexError;
 use std::alloc::Allocator;
 use wasm_base::{Encode, Module, Pieces, R, RawSection, SectionId, ValType};
 use wasm_code::{CodeSection, ConstExpr, Function};
+use wasm_custom::NameSection;
 use wasm_sections::{
     CountedSection, DataSection, ExportKind, ExportSection, FunctionSection, GlobalSection,
     GlobalType, ItemKind, MemorySection, MemoryType, StartSection,
@@ -55,6 +59,7 @@ pub(crate) struct Recipe<A: Allocator> {
     start: Option<u32>,
     code: CodeSection<A>,
     segments: DataSection<A>,
+    names: NameSection<A>,
 }
 
 /// The bytes of a word of hexadecimal digits.
@@ -169,6 +174,7 @@ impl<A: Allocator + Copy> Recipe<A> {
             start: None,
             code: CodeSection::new(alloc),
             segments: DataSection::new(alloc),
+            names: NameSection::new(alloc),
         }
     }
 
@@ -189,6 +195,7 @@ impl<A: Allocator + Copy> Recipe<A> {
             "start" => self.read_start(words),
             "body" => self.read_body(alloc, words),
             "data" => self.read_data(alloc, words),
+            "name" => self.read_name(words),
             _ => Err(RecipeCause::UnknownCommand),
         }
     }
@@ -282,6 +289,18 @@ impl<A: Allocator + Copy> Recipe<A> {
         Ok(())
     }
 
+    /// Reads the name of the module, which is the rest of the line.
+    fn read_name(&mut self, words: Words<'_>) -> Result<(), RecipeCause>
+        ensures { Follows (name_entry (without_spaces words.entry.rest.now)) self.old self.new result }
+    {
+        let name = words.rest();
+        if name.is_empty() {
+            return Err(RecipeCause::MissingWord);
+        }
+        self.names.module(name)?;
+        Ok(())
+    }
+
     /// Puts the type section into the module: the number of types, and these.
     fn put_types(&self, alloc: A, target: &mut Module<A>) -> R<()>
         ensures { Puts (section_of 1 self.now.types) (SectionFits self.now.types) target.old target.new result }
@@ -316,6 +335,15 @@ impl<A: Allocator + Copy> Recipe<A> {
         target.section(&self.code)
     }
 
+    fn put_names(&self, target: &mut Module<A>) -> R<()>
+        ensures { Puts (names_of self.now.names) (NamesFit self.now.names) target.old target.new result }
+    {
+        match self.names.len() {
+            0 => Ok(()),
+            _ => target.section(&self.names),
+        }
+    }
+
     /// The module of the sections.
     fn finish(&self, alloc: A) -> R<Vec<u8, A>>
         ensures ok { IfOk result (λ bytes. bytes.items ≡ module_text (listed self.now)) }
@@ -331,6 +359,7 @@ impl<A: Allocator + Copy> Recipe<A> {
         self.put_start(&mut module)?;
         self.put_code(&mut module)?;
         put_counted(&self.segments, &mut module)?;
+        self.put_names(&mut module)?;
         Ok(module.finish())
     }
 }
@@ -347,8 +376,10 @@ fn without_return(line: &str) -> &str
 /// Each line is a command and its words. `type HEX` adds a type to the type section, `func N` a function of the type N, `memory MIN`
 /// a memory of at least so many pages, `global I` a number of 32 bits that is never set, `export NAME KIND N` the export of a `func`,
 /// `table`, `memory`, `global` or `tag`, `body HEX` a function without locals and with these instructions to the code section, and
-/// `data I HEX` bytes at the place I of memory 0. `start N` names the function that is run first; a later line replaces it. Sections that received an item are written in the order of the standard. A line without words is skipped, and
-/// words past those needed are ignored.
+/// `data I HEX` bytes at the place I of memory 0. `start N` names the function that is run first; a later line replaces it. `name TEXT`
+/// adds the rest of the line, without the spaces before it, to the name section as the name of the module. Sections that received an
+/// item are written in the order of the standard, and the name section after them. A line without words is skipped, and words past
+/// those needed are ignored.
 ///
 /// ```rust
 /// let module = assemble(alloc, "body 200020016a0b")?;

@@ -11,4 +11,5 @@ returns-clause-ok g c =
     let exports = more_sections _ _ _ _ globals c.in_ok-put_counted-4.ensures.ok in
     let start = more_sections _ _ _ _ exports c.in_ok-put_start.ensures.ok in
     let code = more_sections _ _ _ _ start c.in_ok-put_code.ensures.ok in
-    c.finish.ensures ∙ more_sections _ _ _ _ code c.in_ok-put_counted-5.ensures.ok
+    let segments = more_sections _ _ _ _ code c.in_ok-put_counted-5.ensures.ok in
+    c.finish.ensures ∙ more_sections _ _ _ _ segments c.in_ok-put_names.ensures.ok

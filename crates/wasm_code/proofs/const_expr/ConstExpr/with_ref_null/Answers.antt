@@ -1,0 +1,11 @@
+use Rattle.std.proofs.Common.{◌≡◌, ◌++◌, refl, rules}
+use Rattle.std.specs.declared.alloc.Global.{Global}
+use Rattle.wasm_insn.specs.Instructions.{instruction_text}
+use Rattle.wasm_insn.specs.declared.instruction.Instruction.TheVariants.{RefNull}
+use Rattle.wasm_code.proofs.ExpressionLaws.{stores}
+use Rattle.wasm_code.proofs.const_expr.ConstExpr.with_ref_null.Goals as goal
+
+pub returns-clause-stores : goal.returns-clause-stores
+returns-clause-stores g c =
+    let text : c.ref_null.new.self.sink.now.items ≡ c.args.self ++ instruction_text {A = Global} (RefNull c.args.ty) = search rules in
+    stores _ _ _ refl text
