@@ -63,7 +63,7 @@ table_parts declared = (0, [])
 table_parts (active None offset) = (0, offset)
 table_parts (active (Some table) offset) = (table, offset)
 
-place-alone : (f : ElementFlag) → UniqueReading (place f)
+pub place-alone : (f : ElementFlag) → UniqueReading (place f)
 place-alone f =
     when-alone f.not_active
     (when-alone f.second (fixed-alone [] declared) (fixed-alone [] passive))
@@ -73,7 +73,7 @@ abbrev list_parts : ElementList (List Plain) → RefType × List (List Plain)
 list_parts (functions fs) = (FUNCREF, [])
 list_parts (expressions r es) = (r, es)
 
-elements-alone : (told of_expressions : Bool) → UniqueReading (elements_as told of_expressions)
+pub elements-alone : (told of_expressions : Bool) → UniqueReading (elements_as told of_expressions)
 elements-alone told of_expressions =
     when-alone of_expressions
     (mapped-alone list_of (λ x y e. ap list_parts e) (pair-alone (when-alone told ref-alone (fixed-alone [] FUNCREF)) (vec-alone expression-alone)))
@@ -109,9 +109,12 @@ flag_told mode f s x h =
     let told : f ≡ flag_of (segment_of h.0) = λ i. record { not_active = a i; second = b i; expressions = c i } in
     told ∙ ap flag_of h.1
 
+pub element_flag-alone : UniqueReading (numbered flag_code)
+element_flag-alone = numbered-alone flag_code decode (λ f. back_of f.not_active f.second f.expressions)
+
 pub element-alone : UniqueReading element
 element-alone =
-    tagged-alone flag_of flag_told (numbered-alone flag_code decode (λ f. back_of f.not_active f.second f.expressions)) λ f.
+    tagged-alone flag_of flag_told element_flag-alone λ f.
     mapped-alone segment_of (λ x y e. ap (λ s. (s.place, s.elements)) e) (pair-alone (place-alone f) (elements-alone (tells_kind f) f.expressions))
 
 -- ---- texts

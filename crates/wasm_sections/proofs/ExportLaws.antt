@@ -30,10 +30,13 @@ back Memory = refl
 back Global = refl
 back Tag = refl
 
+pub export_kind-alone : UniqueReading (coded kind_code)
+export_kind-alone = coded-alone kind_code decode back
+
 pub export-alone : UniqueReading export
 export-alone =
     mapped-alone export_of (λ x y e. ap (λ item. (item.name, (item.kind, item.index))) e)
-    (pair-alone name-alone (pair-alone (coded-alone kind_code decode back) u32-alone))
+    (pair-alone name-alone (pair-alone export_kind-alone u32-alone))
 
 export_spelled : (e : Export) → IsExport e → FrameFits (export_text e) → export shortest (export_text e) (item_of e)
 export_spelled e plain fits =

@@ -24,10 +24,13 @@ back_of true false = refl
 back_of false true = refl
 back_of false false = refl
 
+pub global_flags-alone : UniqueReading (coded global_code)
+global_flags-alone = coded-alone global_code decode (λ f. back_of f.mutable f.shared)
+
 pub global-alone : UniqueReading global_type
 global-alone =
     mapped-alone global_of (λ x y e. ap (λ g. (g.val_type, global_flags g)) e)
-    (pair-alone val-alone (coded-alone global_code decode (λ f. back_of f.mutable f.shared)))
+    (pair-alone val-alone global_flags-alone)
 
 pub global_spelled : (g : GlobalType) → IsGlobal g → global_type shortest (global_text g) g
 global_spelled g plain =

@@ -63,16 +63,16 @@ alike_parts (single n ty) = (ty, [])
 alike_parts (named items) = (Function 0, [])
 alike_parts (alike ty names) = (ty, names)
 
-group-alone : UniqueReading group
+pub group-alone : UniqueReading group
 group-alone =
     choice_of byte group_code group_tags byte-alone
     (mapped-alone named (λ x y e. cc) (vec-alone (pair-alone name-alone entity-alone)), (mapped-alone alike_of (λ x y e. ap alike_parts e) (pair-alone entity-alone (vec-alone name-alone)), tt))
     (λ mode s x h. ap group_code h.1, (λ mode s x h. ap group_code h.1, tt))
 
-abbrev IsGroupByte : ℕ → Type 0
+abbrev pub IsGroupByte : ℕ → Type 0
 IsGroupByte b = 0x7E ≤ b
 
-group_begins : BeginsWith IsGroupByte group
+pub group_begins : BeginsWith IsGroupByte group
 group_begins = choice_begins IsGroupByte group_tags (λ b. impossible) (omega arith, (omega arith, tt)) (λ b mode s x h. absurd h)
 
 abbrev IsGroup : Imported → Type 0
@@ -91,7 +91,7 @@ item_name (alike ty names) = []
 name_tells : TellsTag (λ item. mapped (single item) entity) item_name
 name_tells mode item s x h = ap item_name h.1
 
-named_entity-alone : UniqueReading named_entity
+pub named_entity-alone : UniqueReading named_entity
 named_entity-alone = tagged-alone item_name name_tells name-alone (λ item. mapped-alone (single item) (λ x y e. cc) entity-alone)
 
 abbrev IsSingle : Imported → Type 0
@@ -114,7 +114,7 @@ never_alike mode s t r u x y h g e =
     let found = tagged_at {F = name} {G = λ item. mapped (single item) entity} name-alone mode (0x00 ∷ []) [] (empty_name mode) (back ++ u) s r x split h in
     begin_apart IsEntityByte IsGroupByte (λ b p q. omega (arith, p, q)) (begins_mapped IsEntityByte (single []) entity_begins) group_begins mode found.0 back r u x g.0.1 found.2 g.2.second (sym found.1)
 
-after_module-alone : UniqueReading after_module
+pub after_module-alone : UniqueReading after_module
 after_module-alone =
     either-alone never_alike (none_in_common IsSingle IsGroup (λ x p q. q p) named_entity_values after_zero_values) named_entity-alone (prefixed-alone (0x00 ∷ []) group-alone)
 

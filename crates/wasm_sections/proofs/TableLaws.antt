@@ -58,17 +58,17 @@ table_spelled t plain =
 -- ---- tables
 
 -- No table type begins with the byte that stands before a first value.
-abbrev IsTypeByte : ℕ → Type 0
+abbrev pub IsTypeByte : ℕ → Type 0
 IsTypeByte b = 0x40 < b
 
-type_begins : BeginsWith IsTypeByte table_type
+pub type_begins : BeginsWith IsTypeByte table_type
 type_begins =
     begins_mapped IsTypeByte table_of (begins_then IsTypeByte (choice_begins IsTypeByte ref_tags (λ b. impossible) (omega arith, (omega arith, (omega arith, (omega arith, tt)))) (λ b mode s x h. absurd h)))
 
-abbrev IsInitByte : ℕ → Type 0
+abbrev pub IsInitByte : ℕ → Type 0
 IsInitByte b = b ≡ 0x40
 
-init_begins : BeginsWith IsInitByte (mapped with_init (prefixed before_init (pair table_type expression)))
+pub init_begins : BeginsWith IsInitByte (mapped with_init (prefixed before_init (pair table_type expression)))
 init_begins = begins_mapped IsInitByte with_init (begins_mapped IsInitByte (λ p. p.1) (begins_then IsInitByte (begins_fixed IsInitByte 0x40 (0x00 ∷ []) (tt {0}) refl)))
 
 -- the instructions of a first value

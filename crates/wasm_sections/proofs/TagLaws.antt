@@ -16,8 +16,11 @@ use Rattle.wasm_base.proofs.PartLaws.{pair_spelled}
 back : (kind : TagKind) → Exception ≡ kind
 back Exception = refl
 
+pub tag_kind-alone : UniqueReading (coded tag_code)
+tag_kind-alone = coded-alone tag_code (λ b. Exception) back
+
 pub tag-alone : UniqueReading tag_type
-tag-alone = mapped-alone tag_of (λ x y e. ap (λ t. (t.kind, t.func_type_idx)) e) (pair-alone (coded-alone tag_code (λ b. Exception) back) u32-alone)
+tag-alone = mapped-alone tag_of (λ x y e. ap (λ t. (t.kind, t.func_type_idx)) e) (pair-alone tag_kind-alone u32-alone)
 
 pub tag_spelled : (t : TagType) → IsTag t → tag_type shortest (tag_text t) t
 tag_spelled t plain =

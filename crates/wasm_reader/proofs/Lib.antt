@@ -1,0 +1,10 @@
+pub mod Prefixes
+pub mod ReadData
+pub mod ReadElements
+pub mod ReadGlobals
+pub mod ReadImports
+pub mod ReadItems
+pub mod ReadLimits
+pub mod ReadModules
+pub mod ReadSections
+pub mod ReadTables

@@ -1,0 +1,176 @@
+-- How a list of a module's sections is made.
+use Rattle.std.proofs.Common.{◌≡◌, ◌≢◌, ℕ, ◌<◌, ◌≤◌, ◌^◌, List, [], ◌∷◌, ◌++◌, length, map, take, drop, Option, Some, None, cond, refl, sym, ap, subst, ◌∙◌, arith}
+use Rattle.std.proofs.lemmas.Bool.{ne_eqb}
+use Rattle.std.proofs.lemmas.List.{map-append, take-append-drop, take_at, length-append, length-map}
+use Rattle.wasm_base.specs.Going.{FillsNothing}
+use Rattle.wasm_base.specs.Numbers.{Mode, wide}
+use Rattle.wasm_base.specs.Formats.{Format, u32, byte, any_bytes, fixed, frame, header, mapped, members, vec, Then}
+use Rattle.wasm_base.specs.Reading.{BeginsWith, UniqueReading, Reads, ReadsNothing}
+use Rattle.wasm_base.proofs.BaseLaws.{frame-bytes-alone}
+use Rattle.wasm_base.proofs.FormatLaws.{byte-alone, begins_then}
+use Rattle.wasm_base.proofs.NumberLaws.{u32-alone}
+use Rattle.wasm_base.proofs.ReadingSteps.{reads_same, then_reads, then_nothing_first, then_nothing_second, members_start, members_step}
+use Rattle.wasm_reader_insn.proofs.ReadLists.{member_shorter}
+use Rattle.wasm_reader.specs.Modules.{kind_among, known_kinds, kind_of, number_in, Sized, sized_section, sized_module, line_of, HasLines, StopsBehind}
+use Rattle.wasm_reader.specs.Sections.{Contents, content}
+use Rattle.wasm_reader.specs.declared.modules.Listed.{Listed}
+use Rattle.wasm_reader.specs.declared.section.SectionKind.{SectionKind}
+use Rattle.wasm_reader.specs.declared.section.SectionKind.TheVariants as kinds
+use Rattle.wasm_reader.proofs.Prefixes.{prefixed_reads}
+use Rattle.wasm_reader.proofs.ReadSections.{whole_reads}
+
+-- ---- the header
+
+pub header_found : (bytes front rest : List ℕ) → front ≡ take 8 bytes → rest ≡ drop 8 bytes → front ≡ header → bytes ≡ header ++ rest
+header_found bytes front rest f r e = sym (take-append-drop 8 bytes) ∙ ap (λ z. z ++ drop 8 bytes) (sym f ∙ e) ∙ ap (λ z. header ++ z) (sym r)
+
+abbrev no_value : Format (Unit {0})
+no_value = fixed header (tt {0})
+
+pub header_short : (bytes : List ℕ) → length bytes < 8 → ReadsNothing no_value wide bytes
+header_short bytes l = record { none = λ u rest h. omega (arith, l, ap length (h.split ∙ ap (λ z. z ++ rest) h.spelled.0), length-append header rest) }
+
+pub header_other : (bytes front : List ℕ) → front ≡ take 8 bytes → front ≢ header → ReadsNothing no_value wide bytes
+header_other bytes front f other = record { none = λ u rest h. other (f ∙ ap (take 8) (h.split ∙ ap (λ z. z ++ rest) h.spelled.0) ∙ take_at header rest 8 refl) }
+
+pub ruleset header_steps = (header_found, header_short, header_other)
+
+-- ---- kinds
+
+abbrev IsUnknown : List (ℕ × SectionKind) → ℕ → Type 0
+IsUnknown [] id = Unit {0}
+IsUnknown (k ∷ ks) id = (id ≢ k.0) × IsUnknown ks id
+
+pub unknown_kind : (ks : List (ℕ × SectionKind)) (id : ℕ) → IsUnknown ks id → kinds.Raw ≡ kind_among ks id
+unknown_kind [] id h = refl
+unknown_kind (k ∷ ks) id h = unknown_kind ks id h.1 ∙ ap (λ t. cond t k.1 (kind_among ks id)) (sym (ne_eqb id k.0 h.0))
+
+pub raw_kind : (id : ℕ) → id ≢ 0 → id ≢ 2 → id ≢ 3 → id ≢ 4 → id ≢ 5 → id ≢ 6 → id ≢ 7 → id ≢ 8 → id ≢ 9 → id ≢ 10 → id ≢ 11 → id ≢ 12 → id ≢ 13 → kinds.Raw ≡ kind_of id
+raw_kind id a b c d e f g h i j k l m = unknown_kind known_kinds id (a, (b, (c, (d, (e, (f, (g, (h, (i, (j, (k, (l, (m, tt)))))))))))))
+
+pub ruleset kind_steps = (raw_kind)
+
+-- ---- the number of items
+
+first_number : {X : Type 0} {F : Format X} {bytes rest : List ℕ} {xs : List X} {n : ℕ} → vec F wide bytes xs → Reads u32 wide bytes n rest → n ≡ length xs
+first_number h g = (reads_same u32-alone g (record { front = h.front; split = h.joined; spelled = h.first })).0
+
+-- Items stand behind their number, but for four kinds.
+pub number_is : (kind : SectionKind) (bytes rest : List ℕ) (x : Contents) (n : ℕ) → kind ≢ kinds.Custom → kind ≢ kinds.Raw → kind ≢ kinds.Start → kind ≢ kinds.DataCount → content kind wide bytes x → Reads u32 wide bytes n rest → Some n ≡ number_in x
+number_is kinds.Bodies bytes rest x n a b c d h g = ap Some (first_number h.2 g) ∙ ap number_in h.1
+number_is kinds.Segments bytes rest x n a b c d h g = ap Some (first_number h.2 g) ∙ ap number_in h.1
+number_is kinds.Elements bytes rest x n a b c d h g = ap Some (first_number h.2 g) ∙ ap number_in h.1
+number_is kinds.Exports bytes rest x n a b c d h g = ap Some (first_number h.2 g) ∙ ap number_in h.1
+number_is kinds.Functions bytes rest x n a b c d h g = ap Some (first_number h.2 g) ∙ ap number_in h.1
+number_is kinds.Globals bytes rest x n a b c d h g = ap Some (first_number h.2 g) ∙ ap number_in h.1
+number_is kinds.Imports bytes rest x n a b c d h g = ap Some (first_number h.2 g) ∙ ap number_in h.1
+number_is kinds.Memories bytes rest x n a b c d h g = ap Some (first_number h.2 g) ∙ ap number_in h.1
+number_is kinds.Tables bytes rest x n a b c d h g = ap Some (first_number h.2 g) ∙ ap number_in h.1
+number_is kinds.Tags bytes rest x n a b c d h g = ap Some (first_number h.2 g) ∙ ap number_in h.1
+number_is kinds.Custom bytes rest x n a b c d h g = absurd (a refl)
+number_is kinds.Raw bytes rest x n a b c d h g = absurd (b refl)
+number_is kinds.Start bytes rest x n a b c d h g = absurd (c refl)
+number_is kinds.DataCount bytes rest x n a b c d h g = absurd (d refl)
+
+no_first : {X : Type 0} {F : Format X} {bytes : List ℕ} {xs : List X} → ReadsNothing u32 wide bytes → vec F wide bytes xs → ⊥
+no_first {xs = xs} n h = n.none (length xs) h.back (record { front = h.front; split = h.joined; spelled = h.first })
+
+pub number_none : (kind : SectionKind) (bytes : List ℕ) → kind ≢ kinds.Custom → kind ≢ kinds.Raw → kind ≢ kinds.Start → kind ≢ kinds.DataCount → ReadsNothing u32 wide bytes → FillsNothing (content kind) bytes
+number_none kinds.Bodies bytes a b c d n = record { none = λ x h. no_first n h.2 }
+number_none kinds.Segments bytes a b c d n = record { none = λ x h. no_first n h.2 }
+number_none kinds.Elements bytes a b c d n = record { none = λ x h. no_first n h.2 }
+number_none kinds.Exports bytes a b c d n = record { none = λ x h. no_first n h.2 }
+number_none kinds.Functions bytes a b c d n = record { none = λ x h. no_first n h.2 }
+number_none kinds.Globals bytes a b c d n = record { none = λ x h. no_first n h.2 }
+number_none kinds.Imports bytes a b c d n = record { none = λ x h. no_first n h.2 }
+number_none kinds.Memories bytes a b c d n = record { none = λ x h. no_first n h.2 }
+number_none kinds.Tables bytes a b c d n = record { none = λ x h. no_first n h.2 }
+number_none kinds.Tags bytes a b c d n = record { none = λ x h. no_first n h.2 }
+number_none kinds.Custom bytes a b c d n = absurd (a refl)
+number_none kinds.Raw bytes a b c d n = absurd (b refl)
+number_none kinds.Start bytes a b c d n = absurd (c refl)
+number_none kinds.DataCount bytes a b c d n = absurd (d refl)
+
+pub start_is_one : (bytes : List ℕ) (x : Contents) → content kinds.Start wide bytes x → Some 1 ≡ number_in x
+start_is_one bytes x h = ap number_in h.1
+
+pub count_is_one : (bytes : List ℕ) (x : Contents) → content kinds.DataCount wide bytes x → Some 1 ≡ number_in x
+count_is_one bytes x h = ap number_in h.1
+
+pub custom_has_none : (bytes : List ℕ) (x : Contents) → content kinds.Custom wide bytes x → None ≡ number_in x
+custom_has_none bytes x h = ap number_in h.1
+
+pub raw_has_none : (bytes : List ℕ) (x : Contents) → content kinds.Raw wide bytes x → None ≡ number_in x
+raw_has_none bytes x h = ap number_in h.1
+
+pub ruleset number_steps = (number_is, number_none, start_is_one, count_is_one, custom_has_none, raw_has_none)
+
+-- ---- lines
+
+pub framed_small : (bytes rest framed : List ℕ) → Reads (frame any_bytes) wide bytes framed rest → length framed < 2 ^ 32
+framed_small bytes rest framed h = let s = h.spelled in subst (λ z. length z < 2 ^ 32) s.spelled s.size.range
+
+pub line_reads : (bytes rest framed after : List ℕ) (id : ℕ) (x : Contents) → Reads byte wide bytes id rest → Reads (frame any_bytes) wide rest framed after → content (kind_of id) wide framed x → Reads sized_section wide bytes (id, (length framed, x)) after
+line_reads bytes rest framed after id x h g k =
+    let sized : Reads (Sized (kind_of id)) wide rest (length framed, x) after = record { front = g.front; split = g.split; spelled = record { payload = framed; framed = g.spelled; size = refl; holds = k } } in
+    then_reads {G = λ i. Sized (kind_of i)} h sized
+
+pub line_none : (bytes : List ℕ) → ReadsNothing byte wide bytes → ReadsNothing sized_section wide bytes
+line_none bytes n = then_nothing_first n
+
+as_frame : {kind : SectionKind} {bytes rest : List ℕ} {p : ℕ × Contents} → (h : Reads (Sized kind) wide bytes p rest) → Reads (frame any_bytes) wide bytes h.spelled.payload rest
+as_frame h = record { front = h.front; split = h.split; spelled = h.spelled.framed }
+
+pub line_no_frame : (bytes rest : List ℕ) (id : ℕ) → Reads byte wide bytes id rest → ReadsNothing (frame any_bytes) wide rest → ReadsNothing sized_section wide bytes
+line_no_frame bytes rest id h n = then_nothing_second {G = λ i. Sized (kind_of i)} byte-alone h (record { none = λ p last g. n.none g.spelled.payload last (as_frame g) })
+
+pub line_nothing : (bytes rest framed after : List ℕ) (id : ℕ) → Reads byte wide bytes id rest → Reads (frame any_bytes) wide rest framed after → FillsNothing (content (kind_of id)) framed → ReadsNothing sized_section wide bytes
+line_nothing bytes rest framed after id h g n =
+    then_nothing_second {G = λ i. Sized (kind_of i)} byte-alone h (record {
+      none = λ p last k. n.none p.1 (subst (λ z. content (kind_of id) wide z p.1) (sym (reads_same frame-bytes-alone g (as_frame k)).0) k.spelled.holds);
+    })
+
+pub ruleset line_steps = (line_none, line_no_frame, line_nothing)
+
+-- ---- the loop
+
+-- what the lines say so far: sections from `start` on, and `rest` behind them
+pub record HasListed (start : List ℕ) (lines : List Listed) (rest : List ℕ) : Type 0 where
+  pub sections : List (ℕ × (ℕ × Contents))
+  pub read : Reads (members sized_section) wide start sections rest
+  pub same : lines ≡ map line_of sections
+
+pub listed_start : (start : List ℕ) → HasListed start [] start
+listed_start start = record { sections = []; read = members_start sized_section wide start; same = refl }
+
+pub listed_step : (start rest after : List ℕ) (lines : List Listed) (line : Listed) (s : ℕ × (ℕ × Contents)) → HasListed start lines rest → Reads sized_section wide rest s after → line ≡ line_of s → HasListed start (lines ++ line ∷ []) after
+listed_step start rest after lines line s h g e = record {
+  sections = h.sections ++ s ∷ [];
+  read = members_step sized_section h.read g;
+  same = ap (λ z. z ++ line ∷ []) h.same ∙ ap (λ z. map line_of h.sections ++ z ∷ []) e ∙ sym (map-append line_of h.sections (s ∷ []));
+}
+
+whole_of : {bytes start : List ℕ} {lines : List Listed} {rest : List ℕ} → bytes ≡ header ++ start → (h : HasListed start lines rest) → Reads sized_module wide bytes h.sections rest
+whole_of e h = prefixed_reads header (members sized_section) e h.read
+
+pub listed_done : (bytes start rest : List ℕ) (lines : List Listed) → bytes ≡ header ++ start → HasListed start lines rest → length rest ≡ 0 → HasLines bytes lines
+listed_done bytes start rest lines e h l = record { sections = h.sections; read = whole_reads sized_module bytes rest h.sections (whole_of e h) l; same = h.same }
+
+pub listed_stops : (bytes start rest : List ℕ) (lines : List Listed) → bytes ≡ header ++ start → HasListed start lines rest → length rest ≢ 0 → ReadsNothing sized_section wide rest → StopsBehind bytes (length lines)
+listed_stops bytes start rest lines e h more n = record {
+  sections = h.sections;
+  rest = rest;
+  read = whole_of e h;
+  counted = sym (ap length h.same ∙ length-map h.sections line_of);
+  more = λ z. more (ap length z);
+  none = n;
+}
+
+pub line_shorter : (bytes rest : List ℕ) (s : ℕ × (ℕ × Contents)) → Reads sized_section wide bytes s rest → length rest < length bytes
+line_shorter bytes rest s h = member_shorter sized_section bytes rest s begins h
+  where
+    byte_begins : BeginsWith (λ b. Unit {0}) byte
+    byte_begins mode s x e = (x, [], e, tt)
+
+    begins : BeginsWith (λ b. Unit {0}) sized_section
+    begins = begins_then (λ b. Unit {0}) byte_begins

@@ -1,0 +1,148 @@
+-- How the content of a section is read.
+use Rattle.std.proofs.Common.{◌≡◌, ◌≢◌, ℕ, ◌≤◌, ◌+◌, List, [], ◌++◌, length, map, drop, refl, sym, ap, subst, ◌∙◌, append-nil, arith}
+use Rattle.std.proofs.lemmas.List.{map-id, length-append, drop_at}
+use Rattle.wasm_base.specs.Going.{FillsNothing}
+use Rattle.wasm_base.specs.Numbers.{wide}
+use Rattle.wasm_base.specs.Formats.{Format, u32, any_bytes, frame, mapped, name, pair, vec}
+use Rattle.wasm_base.specs.Reading.{UniqueReading, Reads, ReadsNothing}
+use Rattle.wasm_base.proofs.ReadingSteps.{reads_same}
+use Rattle.wasm_code.specs.Bodies.{Body, body}
+use Rattle.wasm_insn.specs.Plain.{Plain}
+use Rattle.wasm_reader_base.proofs.ReadFrames.{none_left, filled_reads, filled_none, filled_nothing}
+use Rattle.wasm_sections.specs.DataSegments.{DataItem, data_item}
+use Rattle.wasm_sections.specs.Elements.{Segment, element}
+use Rattle.wasm_sections.specs.Exports.{ExportItem, export}
+use Rattle.wasm_sections.specs.Globals.{GlobalItem, global_item}
+use Rattle.wasm_sections.specs.Imports.{ImportItem, import_format}
+use Rattle.wasm_sections.specs.Memories.{memory_type}
+use Rattle.wasm_sections.specs.Tables.{TableItem, table_item}
+use Rattle.wasm_sections.specs.Tags.{tag_type}
+use Rattle.wasm_sections.specs.declared.memory.MemoryType.{MemoryType}
+use Rattle.wasm_sections.specs.declared.tag.TagType.{TagType}
+use Rattle.wasm_reader.specs.Sections.{Contents, Bodies, Segments, DataCount, Elements, Exports, Functions, Globals, Imports, Memories, Start, Tables, Tags, Custom, Raw, content, section, Takes}
+use Rattle.wasm_reader.specs.declared.section.SectionKind.{SectionKind}
+use Rattle.wasm_reader.specs.declared.section.SectionKind.TheVariants as kinds
+
+-- ---- a value that all of the bytes spell
+
+all_of : {X : Type 0} (F : Format X) (bytes : List ℕ) (x : X) → F wide bytes x → Reads F wide bytes x []
+all_of F bytes x h = record { front = bytes; split = sym (append-nil bytes); spelled = h }
+
+pub whole_reads : {X : Type 0} (F : Format X) (bytes left : List ℕ) (x : X) → Reads F wide bytes x left → length left ≡ 0 → F wide bytes x
+whole_reads F bytes left x h e = subst (λ z. F wide z x) (sym (h.split ∙ ap (λ z. h.front ++ z) (none_left left e) ∙ append-nil h.front)) h.spelled
+
+pub whole_more : {X : Type 0} (F : Format X) (bytes left : List ℕ) (x : X) → UniqueReading F → Reads F wide bytes x left → length left ≢ 0 → FillsNothing F bytes
+whole_more F bytes left x alone h more = record { none = λ y s. more (ap length (reads_same alone h (all_of F bytes y s)).1) }
+
+pub whole_nothing : {X : Type 0} (F : Format X) (bytes : List ℕ) → ReadsNothing F wide bytes → FillsNothing F bytes
+whole_nothing F bytes n = record { none = λ x s. n.none x [] (all_of F bytes x s) }
+
+pub ruleset whole_steps = (whole_reads, whole_more, whole_nothing)
+
+-- ---- the content of each kind
+
+says_nothing : {X Y : Type 0} (f : X → Y) {F : Format X} {bytes : List ℕ} → FillsNothing F bytes → FillsNothing (mapped f F) bytes
+says_nothing f n = record { none = λ y h. n.none h.0 h.2 }
+
+pub bodies_fill : (bytes : List ℕ) (x : List Body) → vec (frame body) wide bytes x → content kinds.Bodies wide bytes (Bodies x)
+bodies_fill bytes x h = (x, refl, h)
+
+pub no_bodies : (bytes : List ℕ) → FillsNothing (vec (frame body)) bytes → FillsNothing (content kinds.Bodies) bytes
+no_bodies bytes n = says_nothing Bodies n
+
+pub segments_fill : (bytes : List ℕ) (x : List DataItem) → vec data_item wide bytes x → content kinds.Segments wide bytes (Segments x)
+segments_fill bytes x h = (x, refl, h)
+
+pub no_segments : (bytes : List ℕ) → FillsNothing (vec data_item) bytes → FillsNothing (content kinds.Segments) bytes
+no_segments bytes n = says_nothing Segments n
+
+pub data_count_fills : (bytes : List ℕ) (x : ℕ) → u32 wide bytes x → content kinds.DataCount wide bytes (DataCount x)
+data_count_fills bytes x h = (x, refl, h)
+
+pub no_data_count : (bytes : List ℕ) → FillsNothing u32 bytes → FillsNothing (content kinds.DataCount) bytes
+no_data_count bytes n = says_nothing DataCount n
+
+pub elements_fill : (bytes : List ℕ) (x : List (Segment (List Plain))) → vec element wide bytes x → content kinds.Elements wide bytes (Elements x)
+elements_fill bytes x h = (x, refl, h)
+
+pub no_elements : (bytes : List ℕ) → FillsNothing (vec element) bytes → FillsNothing (content kinds.Elements) bytes
+no_elements bytes n = says_nothing Elements n
+
+pub exports_fill : (bytes : List ℕ) (x : List ExportItem) → vec export wide bytes x → content kinds.Exports wide bytes (Exports x)
+exports_fill bytes x h = (x, refl, h)
+
+pub no_exports : (bytes : List ℕ) → FillsNothing (vec export) bytes → FillsNothing (content kinds.Exports) bytes
+no_exports bytes n = says_nothing Exports n
+
+pub functions_fill : (bytes : List ℕ) (x : List ℕ) → vec u32 wide bytes (map (λ n. n) x) → content kinds.Functions wide bytes (Functions x)
+functions_fill bytes x h = (x, refl, subst (λ z. vec u32 wide bytes z) (map-id x) h)
+
+pub no_functions : (bytes : List ℕ) → FillsNothing (vec u32) bytes → FillsNothing (content kinds.Functions) bytes
+no_functions bytes n = says_nothing Functions n
+
+pub globals_fill : (bytes : List ℕ) (x : List GlobalItem) → vec global_item wide bytes x → content kinds.Globals wide bytes (Globals x)
+globals_fill bytes x h = (x, refl, h)
+
+pub no_globals : (bytes : List ℕ) → FillsNothing (vec global_item) bytes → FillsNothing (content kinds.Globals) bytes
+no_globals bytes n = says_nothing Globals n
+
+pub imports_fill : (bytes : List ℕ) (x : List ImportItem) → vec import_format wide bytes x → content kinds.Imports wide bytes (Imports x)
+imports_fill bytes x h = (x, refl, h)
+
+pub no_imports : (bytes : List ℕ) → FillsNothing (vec import_format) bytes → FillsNothing (content kinds.Imports) bytes
+no_imports bytes n = says_nothing Imports n
+
+pub memories_fill : (bytes : List ℕ) (x : List MemoryType) → vec memory_type wide bytes (map (λ m. m) x) → content kinds.Memories wide bytes (Memories x)
+memories_fill bytes x h = (x, refl, subst (λ z. vec memory_type wide bytes z) (map-id x) h)
+
+pub no_memories : (bytes : List ℕ) → FillsNothing (vec memory_type) bytes → FillsNothing (content kinds.Memories) bytes
+no_memories bytes n = says_nothing Memories n
+
+pub start_fills : (bytes : List ℕ) (x : ℕ) → u32 wide bytes x → content kinds.Start wide bytes (Start x)
+start_fills bytes x h = (x, refl, h)
+
+pub no_start : (bytes : List ℕ) → FillsNothing u32 bytes → FillsNothing (content kinds.Start) bytes
+no_start bytes n = says_nothing Start n
+
+pub tables_fill : (bytes : List ℕ) (x : List TableItem) → vec table_item wide bytes x → content kinds.Tables wide bytes (Tables x)
+tables_fill bytes x h = (x, refl, h)
+
+pub no_tables : (bytes : List ℕ) → FillsNothing (vec table_item) bytes → FillsNothing (content kinds.Tables) bytes
+no_tables bytes n = says_nothing Tables n
+
+pub tags_fill : (bytes : List ℕ) (x : List TagType) → vec tag_type wide bytes (map (λ t. t) x) → content kinds.Tags wide bytes (Tags x)
+tags_fill bytes x h = (x, refl, subst (λ z. vec tag_type wide bytes z) (map-id x) h)
+
+pub no_tags : (bytes : List ℕ) → FillsNothing (vec tag_type) bytes → FillsNothing (content kinds.Tags) bytes
+no_tags bytes n = says_nothing Tags n
+
+pub custom_fills : (bytes rest text : List ℕ) → Reads name wide bytes text rest → content kinds.Custom wide bytes (Custom (text, rest))
+custom_fills bytes rest text h = ((text, rest), refl, record { front = h.front; back = rest; joined = h.split; first = h.spelled; second = refl })
+
+pub no_custom : (bytes : List ℕ) → ReadsNothing name wide bytes → FillsNothing (content kinds.Custom) bytes
+no_custom bytes n = record { none = λ y h. let s = h.2 in n.none h.0.0 s.back (record { front = s.front; split = s.joined; spelled = s.first }) }
+
+pub raw_fills : (bytes : List ℕ) → content kinds.Raw wide bytes (Raw bytes)
+raw_fills bytes = (bytes, refl, refl)
+
+pub ruleset content_steps = (bodies_fill, no_bodies, segments_fill, no_segments, data_count_fills, no_data_count, elements_fill, no_elements, exports_fill, no_exports, functions_fill, no_functions, globals_fill, no_globals, imports_fill, no_imports, memories_fill, no_memories, start_fills, no_start, tables_fill, no_tables, tags_fill, no_tags, custom_fills, no_custom, raw_fills)
+
+-- ---- sections
+
+pub shorter : {X : Type 0} {F : Format X} {bytes rest : List ℕ} {x : X} → Reads F wide bytes x rest → length rest ≤ length bytes
+shorter {rest = rest} h = omega (arith, ap length h.split, length-append h.front rest)
+
+-- What is read takes the bytes that are not left.
+pub taken : {X : Type 0} {F : Format X} (bytes rest : List ℕ) (x : X) (n : ℕ) → Reads F wide bytes x rest → n + length rest ≡ length bytes → Reads F wide bytes x (drop n bytes)
+taken {F = F} bytes rest x n h e = subst (λ z. Reads F wide bytes x z) (sym (ap (drop n) h.split ∙ drop_at h.front rest n (omega (arith, e, ap length h.split, length-append h.front rest)))) h
+
+pub takes : (kind : SectionKind) (bytes framed rest : List ℕ) (x : Contents) (n : ℕ) → Reads (frame any_bytes) wide bytes framed rest → content kind wide framed x → n + length rest ≡ length bytes → Takes kind bytes x n
+takes kind bytes framed rest x n h g e = record { within = omega (arith, e); reads = taken bytes rest x n (filled_reads (content kind) bytes framed rest x h g) e }
+
+pub section_none : (kind : SectionKind) (bytes : List ℕ) → ReadsNothing (frame any_bytes) wide bytes → ReadsNothing (section kind) wide bytes
+section_none kind bytes n = filled_none (content kind) bytes n
+
+pub section_nothing : (kind : SectionKind) (bytes framed rest : List ℕ) → Reads (frame any_bytes) wide bytes framed rest → FillsNothing (content kind) framed → ReadsNothing (section kind) wide bytes
+section_nothing kind bytes framed rest h n = filled_nothing (content kind) bytes framed rest h n
+
+pub ruleset section_steps = (takes, section_none, section_nothing)

@@ -1,0 +1,15 @@
+use Rattle.std.proofs.Common.{length, ap, subst}
+use Rattle.wasm_base.specs.Numbers.{wide}
+use Rattle.wasm_reader.specs.Sections.{content}
+use Rattle.wasm_reader.specs.declared.modules.Listed.{Listed}
+use Rattle.wasm_reader.proofs.ReadModules.{line_reads}
+use Rattle.wasm_reader.proofs.modules.read_line.Goals as goal
+
+pub returns-clause-found : goal.returns-clause-found
+returns-clause-found g c =
+    let framed = c.in_ok-framed.framed.now in
+    let x = c.in_ok-items.ensures.found in (
+      (c.in_ok-id.id, (length framed, x.0)),
+      line_reads c.args.bytes.now _ framed c.in_ok-framed.rest.now c.in_ok-id.id x.0 c.in_ok-id.ensures.found c.in_ok-framed.ensures.found (subst (λ kind. content kind wide framed x.0) c.kind_of.ensures x.1),
+      ap (λ n. record { id = c.in_ok-id.id; size = length framed; items = n }) x.2,
+    )

@@ -1,0 +1,93 @@
+-- Modules, as a list of their sections goes over them.
+use Rattle.std.specs.Prelude.{◌≡◌, ◌≢◌, ℕ, zero, suc, List, [], ◌∷◌, length, map, Option, Some, None, cond, ◌==◌}
+use Rattle.wasm_base.specs.Numbers.{Mode, wide}
+use Rattle.wasm_base.specs.Formats.{Format, byte, any_bytes, fixed, frame, header, members, prefixed, Then}
+use Rattle.wasm_base.specs.Reading.{Reads, ReadsNothing}
+use Rattle.wasm_base.specs.SectionId.{number_of}
+use Rattle.wasm_base.specs.declared.section_id.SectionId.TheVariants as ids
+use Rattle.wasm_reader.specs.Sections.{Contents, Bodies, Segments, DataCount, Elements, Exports, Functions, Globals, Imports, Memories, Start, Tables, Tags, Custom, Raw, content}
+use Rattle.wasm_reader.specs.declared.modules.Listed.{Listed}
+use Rattle.wasm_reader.specs.declared.section.SectionKind.{SectionKind}
+use Rattle.wasm_reader.specs.declared.section.SectionKind.TheVariants as kinds
+
+-- ---- kinds
+
+abbrev pub kind_among : List (ℕ × SectionKind) → ℕ → SectionKind
+kind_among [] id = kinds.Raw
+kind_among (k ∷ ks) id = cond (id == k.0) k.1 (kind_among ks id)
+
+abbrev pub known_kinds : List (ℕ × SectionKind)
+known_kinds =
+    (number_of ids.Custom, kinds.Custom) ∷ (number_of ids.Import, kinds.Imports) ∷ (number_of ids.Function, kinds.Functions) ∷ (number_of ids.Table, kinds.Tables) ∷ (number_of ids.Memory, kinds.Memories) ∷ (number_of ids.Global, kinds.Globals)
+    ∷ (number_of ids.Export, kinds.Exports)
+    ∷ (number_of ids.Start, kinds.Start)
+    ∷ (number_of ids.Element, kinds.Elements)
+    ∷ (number_of ids.Code, kinds.Bodies)
+    ∷ (number_of ids.Data, kinds.Segments)
+    ∷ (number_of ids.DataCount, kinds.DataCount)
+    ∷ (number_of ids.Tag, kinds.Tags)
+    ∷ []
+
+-- the kind of a section of the id: type sections and those of ids past 13 are of any bytes
+abbrev pub kind_of : ℕ → SectionKind
+kind_of id = kind_among known_kinds id
+
+-- ---- sections
+
+-- the number of items, where a list of a module tells it
+abbrev pub number_in : Contents → Option ℕ
+number_in (Bodies xs) = Some (length xs)
+number_in (Segments xs) = Some (length xs)
+number_in (DataCount n) = Some 1
+number_in (Elements xs) = Some (length xs)
+number_in (Exports xs) = Some (length xs)
+number_in (Functions xs) = Some (length xs)
+number_in (Globals xs) = Some (length xs)
+number_in (Imports xs) = Some (length xs)
+number_in (Memories xs) = Some (length xs)
+number_in (Start n) = Some 1
+number_in (Tables xs) = Some (length xs)
+number_in (Tags xs) = Some (length xs)
+number_in (Custom x) = None
+number_in (Raw x) = None
+
+-- a frame of so many bytes, which spell what a section of the kind holds
+pub record Sized (kind : SectionKind) (mode : Mode) (s : List ℕ) (p : ℕ × Contents) : Type 0 where
+  pub payload : List ℕ
+  pub framed : frame any_bytes mode s payload
+  pub size : length payload ≡ p.0
+  pub holds : content kind mode payload p.1
+
+-- a section: its id, and beside its size what a section of the id's kind holds
+abbrev pub sized_section : Format (ℕ × (ℕ × Contents))
+sized_section = Then byte (λ id. Sized (kind_of id))
+
+-- module: the header, and sections up to the last byte
+abbrev pub sized_module : Format (List (ℕ × (ℕ × Contents)))
+sized_module = prefixed header (members sized_section)
+
+-- the line of a section
+abbrev pub line_of : ℕ × (ℕ × Contents) → Listed
+line_of s = record { id = s.0; size = s.1.0; items = number_in s.1.1 }
+
+-- ---- what a list says
+
+-- The bytes are a module of sections that have these lines.
+pub record HasLines (bytes : List ℕ) (lines : List Listed) : Type 0 where
+  pub sections : List (ℕ × (ℕ × Contents))
+  pub read : sized_module wide bytes sections
+  pub same : lines ≡ map line_of sections
+
+-- The header and so many sections stand at the front, bytes are left, and no section stands there.
+pub record StopsBehind (bytes : List ℕ) (number : ℕ) : Type 0 where
+  pub sections : List (ℕ × (ℕ × Contents))
+  pub rest : List ℕ
+  pub read : Reads sized_module wide bytes sections rest
+  pub counted : length sections ≡ number
+  pub more : rest ≢ []
+  pub none : ReadsNothing sized_section wide rest
+
+-- No header stands at the front, or no section with this number, counted from 1, behind the others.
+abbrev pub StopsAt : List ℕ → ℕ → Type 0
+StopsAt bytes zero = ReadsNothing (fixed header (tt {0})) wide bytes
+StopsAt bytes (suc number) = StopsBehind bytes number

@@ -1,0 +1,83 @@
+-- What spells a section of each kind, and what a reader's items say.
+use Rattle.std.specs.Prelude.{ℕ, ◌≤◌, List, length, drop, map}
+use Rattle.wasm_base.specs.Numbers.{wide}
+use Rattle.wasm_base.specs.Formats.{Format, u32, name, any_bytes, mapped, pair, vec, frame}
+use Rattle.wasm_base.specs.Reading.{Reads}
+use Rattle.wasm_code.specs.Bodies.{Body, body}
+use Rattle.wasm_insn.specs.Plain.{Plain}
+use Rattle.wasm_reader_insn.specs.Arguments.{body_of}
+use Rattle.wasm_sections.specs.DataSegments.{DataItem, data_item}
+use Rattle.wasm_sections.specs.Elements.{Segment, element}
+use Rattle.wasm_sections.specs.Exports.{ExportItem, item_of, export}
+use Rattle.wasm_sections.specs.Globals.{GlobalItem, global_item}
+use Rattle.wasm_sections.specs.Imports.{ImportItem, imports_item, import_format}
+use Rattle.wasm_sections.specs.Memories.{memory_type}
+use Rattle.wasm_sections.specs.Tables.{TableItem, table_item}
+use Rattle.wasm_sections.specs.Tags.{tag_type}
+use Rattle.wasm_sections.specs.declared.memory.MemoryType.{MemoryType}
+use Rattle.wasm_sections.specs.declared.tag.TagType.{TagType}
+use Rattle.wasm_reader.specs.Items.{global_of, table_of, segment_of, element_of}
+use Rattle.wasm_reader.specs.declared.section.Items.{Items}
+use Rattle.wasm_reader.specs.declared.section.Items.TheVariants as items
+use Rattle.wasm_reader.specs.declared.section.SectionKind.{SectionKind}
+use Rattle.wasm_reader.specs.declared.section.SectionKind.TheVariants as kinds
+
+-- what a section holds
+pub data Contents : Type 0 where
+  Bodies : List Body → Contents
+  Segments : List DataItem → Contents
+  DataCount : ℕ → Contents
+  Elements : List (Segment (List Plain)) → Contents
+  Exports : List ExportItem → Contents
+  Functions : List ℕ → Contents
+  Globals : List GlobalItem → Contents
+  Imports : List ImportItem → Contents
+  Memories : List MemoryType → Contents
+  Start : ℕ → Contents
+  Tables : List TableItem → Contents
+  Tags : List TagType → Contents
+  Custom : List ℕ × List ℕ → Contents
+  Raw : List ℕ → Contents
+
+-- what the frame of a section of the kind holds
+abbrev pub content : SectionKind → Format Contents
+content kinds.Bodies = mapped Bodies (vec (frame body))
+content kinds.Segments = mapped Segments (vec data_item)
+content kinds.DataCount = mapped DataCount u32
+content kinds.Elements = mapped Elements (vec element)
+content kinds.Exports = mapped Exports (vec export)
+content kinds.Functions = mapped Functions (vec u32)
+content kinds.Globals = mapped Globals (vec global_item)
+content kinds.Imports = mapped Imports (vec import_format)
+content kinds.Memories = mapped Memories (vec memory_type)
+content kinds.Start = mapped Start u32
+content kinds.Tables = mapped Tables (vec table_item)
+content kinds.Tags = mapped Tags (vec tag_type)
+content kinds.Custom = mapped Custom (pair name any_bytes)
+content kinds.Raw = mapped Raw any_bytes
+
+-- section of the kind: a frame
+abbrev pub section : SectionKind → Format Contents
+section kind = frame (content kind)
+
+-- what items say, without where they lie in memory
+abbrev pub contents_of : {A : Type 0} → Items A → Contents
+contents_of (items.Bodies v) = Bodies (map body_of v.items)
+contents_of (items.Segments v) = Segments (map segment_of v.items)
+contents_of (items.DataCount n) = DataCount n
+contents_of (items.Elements v) = Elements (map element_of v.items)
+contents_of (items.Exports v) = Exports (map item_of v.items)
+contents_of (items.Functions v) = Functions v.items
+contents_of (items.Globals v) = Globals (map global_of v.items)
+contents_of (items.Imports v) = Imports (map imports_item v.items)
+contents_of (items.Memories v) = Memories v.items
+contents_of (items.Start n) = Start n
+contents_of (items.Tables v) = Tables (map table_of v.items)
+contents_of (items.Tags v) = Tags v.items
+contents_of (items.Custom n b) = Custom (n.now, b.now)
+contents_of (items.Raw b) = Raw b.now
+
+-- A section of the kind stands at the front of the bytes, and takes so many of them.
+pub record Takes (kind : SectionKind) (bytes : List ℕ) (x : Contents) (n : ℕ) : Type 0 where
+  pub within : n ≤ length bytes
+  pub reads : Reads (section kind) wide bytes x (drop n bytes)

@@ -1,0 +1,153 @@
+// Imports, and groups of them.
+ghost use Rattle.std.specs.Prelude.{◌≡◌, ◌≢◌, ◌≤◌, ◌∷◌, [], List, ℕ, IfOk, IfErr, MatchOption, map};
+ghost use Rattle.wasm_base.specs.Formats.{name, pair, prefixed, vec};
+ghost use Rattle.wasm_base.specs.Going.{FillsNothing};
+ghost use Rattle.wasm_base.specs.Numbers.{wide};
+ghost use Rattle.wasm_base.specs.Reading.{ReadsNothing};
+ghost use Rattle.wasm_sections.specs.Imports.{entity, group, ImportItem, compact_item, imports_item, import_format};
+ghost use Rattle.wasm_sections.specs.declared.import.EntityType.{EntityType as EntityModel};
+ghost use Rattle.wasm_reader_base.specs.declared.fault.ReadFault.TheVariants.{Memory};
+ghost use Rattle.wasm_base.proofs.BaseLaws.{name-alone};
+ghost use Rattle.wasm_base.proofs.FormatLaws.{pair-alone};
+ghost use Rattle.wasm_sections.proofs.ImportLaws.{entity-alone, import-alone};
+
+use crate::item::{Item, One, read_many};
+use std::alloc::Allocator;
+use wasm_base::CowSlice;
+use wasm_reader_base::{ReadFault, Readable};
+use wasm_sections::{
+    EntityType, GlobalType, Import, ImportCompact, Imports, MemoryType, TableType, TagType,
+};
+
+impl<'a, A: Allocator + Copy> Item<'a, A> for EntityType {
+    ghost Value = { EntityModel };
+
+    ghost format = { entity };
+
+    ghost view = { λ entity. entity };
+
+    ghost alone = { entity-alone };
+
+    #[tactic(auto, using(crate::proofs::ReadImports::entity_steps))]
+    fn read_item(bytes: &'a [u8], alloc: A) -> Result<(EntityType, &'a [u8]), ReadFault> {
+        let (kind, rest) = <u8 as Readable<'a, A>>::read(bytes, alloc)?;
+        match kind {
+            0x00 => {
+                let (index, rest) = <u32 as Readable<'a, A>>::read(rest, alloc)?;
+                Ok((EntityType::Function(index), rest))
+            }
+            0x01 => {
+                let (ty, rest) = <TableType as Item<'a, A>>::read_item(rest, alloc)?;
+                Ok((EntityType::Table(ty), rest))
+            }
+            0x02 => {
+                let (ty, rest) = <MemoryType as Item<'a, A>>::read_item(rest, alloc)?;
+                Ok((EntityType::Memory(ty), rest))
+            }
+            0x03 => {
+                let (ty, rest) = <GlobalType as Item<'a, A>>::read_item(rest, alloc)?;
+                Ok((EntityType::Global(ty), rest))
+            }
+            0x04 => {
+                let (ty, rest) = <TagType as Item<'a, A>>::read_item(rest, alloc)?;
+                Ok((EntityType::Tag(ty), rest))
+            }
+            0x20 => {
+                let (index, rest) = <u32 as Readable<'a, A>>::read(rest, alloc)?;
+                Ok((EntityType::FunctionExact(index), rest))
+            }
+            _ => Err(ReadFault::UnknownTag),
+        }
+    }
+}
+
+impl<'a, A: Allocator + Copy> Item<'a, A> for ImportCompact<'a> {
+    ghost Value = { List ℕ × EntityModel };
+
+    ghost format = { pair name entity };
+
+    ghost view = { compact_item };
+
+    ghost alone = { pair-alone name-alone entity-alone };
+
+    fn read_item(bytes: &'a [u8], alloc: A) -> Result<(ImportCompact<'a>, &'a [u8]), ReadFault> {
+        let ((name, One(ty)), rest) = <(&'a str, One<EntityType>) as Readable<'a, A>>::read(
+            bytes, alloc,
+        )?;
+        Ok((ImportCompact { name, ty }, rest))
+    }
+}
+
+/// The byte of a group, and what follows it, where no single import stands there: behind an empty name the byte is no entity's.
+#[tactic(auto, using(crate::proofs::ReadImports::group_steps))]
+fn group_kind(bytes: &[u8]) -> Option<(u8, &[u8])>
+    ensures { MatchOption result (ReadsNothing (prefixed (0x00 ∷ []) group) wide bytes.now) (λ x. (bytes.now ≡ 0x00 ∷ x.0 ∷ x.1.now) × (0x7E ≤ x.0)) }
+{
+    let [first, kind, rest @ ..] = bytes else {
+        return None;
+    };
+    if *first != 0x00 {
+        return None;
+    }
+    if *kind < 0x7E {
+        return None;
+    }
+    Some((*kind, rest))
+}
+
+impl<'a, A: Allocator + Copy> Item<'a, A> for Imports<'a, A> {
+    ghost Value = { ImportItem };
+
+    ghost format = { import_format };
+
+    ghost view = { imports_item };
+
+    ghost alone = { import-alone };
+
+    #[tactic(auto, using(crate::proofs::ReadImports::import_steps))]
+    fn read_item(bytes: &'a [u8], alloc: A) -> Result<(Imports<'a, A>, &'a [u8]), ReadFault> {
+        let (module, rest) = <&'a str as Readable<'a, A>>::read(bytes, alloc)?;
+        let Some((kind, rest)) = group_kind(rest) else {
+            let (name, rest) = <&'a str as Readable<'a, A>>::read(rest, alloc)?;
+            let (ty, rest) = <EntityType as Item<'a, A>>::read_item(rest, alloc)?;
+            return Ok((Imports::Single(Import { module, name, ty }), rest));
+        };
+        match kind {
+            0x7F => {
+                let (items, rest) = read_many::<'a, ImportCompact<'a>, A>(rest, alloc)?;
+                let items = CowSlice::Owned(items);
+                Ok((Imports::Compact1 { module, items }, rest))
+            }
+            0x7E => {
+                let (ty, rest) = <EntityType as Item<'a, A>>::read_item(rest, alloc)?;
+                let (names, rest) = <Vec<&'a str, A> as Readable<'a, A>>::read(rest, alloc)?;
+                let names = CowSlice::Owned(names);
+                Ok((Imports::Compact2 { module, ty, names }, rest))
+            }
+            _ => Err(ReadFault::UnknownTag),
+        }
+    }
+}
+
+/// Imports, and groups of them, behind their number, which all of the bytes spell. Memory is taken for those that stand there, and not by their number.
+#[tactic(auto, using(wasm_reader_base::proofs::ReadVectors::vec_steps, crate::proofs::ReadSections::whole_steps))]
+pub(crate) fn read_imports<'a, A: Allocator + Copy>(
+    bytes: &'a [u8],
+    alloc: A,
+) -> Result<Vec<Imports<'a, A>, A>, ReadFault>
+    ensures found { IfOk result (λ x. vec import_format wide bytes.now (map imports_item x.items)) }
+    ensures none { IfErr result (λ e. e ≢ Memory → FillsNothing (vec import_format) bytes.now) }
+{
+    let (count, mut rest) = <u32 as Readable<'a, A>>::read(bytes, alloc)?;
+    let mut items = Vec::new(alloc);
+    for _taken in 0..count {
+        let (item, after) = <Imports<'a, A> as Item<'a, A>>::read_item(rest, alloc)?;
+        items.push(item)?;
+        rest = after;
+    }
+    if rest.is_empty() {
+        Ok(items)
+    } else {
+        Err(ReadFault::SizeMismatch)
+    }
+}

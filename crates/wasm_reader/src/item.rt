@@ -1,0 +1,67 @@
+// Items whose types stand in other crates.
+ghost use Rattle.std.specs.Prelude.{◌≢◌, ℕ, List, IfOk, IfErr, map};
+ghost use Rattle.wasm_base.specs.Formats.{vec};
+ghost use Rattle.wasm_base.specs.Numbers.{Mode, wide};
+ghost use Rattle.wasm_base.specs.Reading.{UniqueReading, Reads, ReadsNothing};
+ghost use Rattle.wasm_reader_base.specs.declared.fault.ReadFault.TheVariants.{Memory};
+
+use std::alloc::Allocator;
+use wasm_reader_base::{ReadFault, Readable};
+
+/// A value that stands at the front of bytes, as [`Readable`] has it, of a type of another crate, to which no impl of that can be added.
+pub(crate) trait Item<'a, A: Allocator + Copy>: Drop {
+    // The value without where it lies in memory.
+    ghost Value: { Type 0 };
+
+    // What bytes spell.
+    ghost format: { Mode → List ℕ → Value → Type 0 };
+
+    ghost view: { Self → Value };
+
+    // One value stands at the front of bytes, whatever follows.
+    ghost alone: { UniqueReading format };
+
+    /// The value at the front, its numbers padded or not, and the bytes after it.
+    fn read_item(bytes: &'a [u8], alloc: A) -> Result<(Self, &'a [u8]), ReadFault>
+        ensures found { IfOk result (λ x. Reads format wide bytes.now (view x.0) x.1.now) }
+        ensures none { IfErr result (λ e. e ≢ Memory → ReadsNothing format wide bytes.now) };
+}
+
+/// An item.
+#[derive(Debug, Drop)]
+pub(crate) struct One<T>(pub(crate) T);
+
+impl<'a, A: Allocator + Copy, T: Item<'a, A>> Readable<'a, A> for One<T> {
+    ghost Value = { T.Value };
+
+    ghost format = { T.format };
+
+    ghost view = { λ one. T.view one.0 };
+
+    ghost alone = { T.alone };
+
+    #[inline]
+    fn read(bytes: &'a [u8], alloc: A) -> Result<(One<T>, &'a [u8]), ReadFault> {
+        let (item, rest) = T::read_item(bytes, alloc)?;
+        Ok((One(item), rest))
+    }
+}
+
+/// Items behind their number, and the bytes after them. Memory is taken for items that stand there, and not by the number.
+#[tactic(auto, using(wasm_reader_base::proofs::ReadVectors::vec_steps))]
+pub(crate) fn read_many<'a, T: Item<'a, A>, A: Allocator + Copy>(
+    bytes: &'a [u8],
+    alloc: A,
+) -> Result<(Vec<T, A>, &'a [u8]), ReadFault>
+    ensures found { IfOk result (λ x. Reads (vec T.format) wide bytes.now (map T.view x.0.items) x.1.now) }
+    ensures none { IfErr result (λ e. e ≢ Memory → ReadsNothing (vec T.format) wide bytes.now) }
+{
+    let (count, mut rest) = <u32 as Readable<'a, A>>::read(bytes, alloc)?;
+    let mut items = Vec::new(alloc);
+    for _taken in 0..count {
+        let (item, after) = T::read_item(rest, alloc)?;
+        items.push(item)?;
+        rest = after;
+    }
+    Ok((items, rest))
+}

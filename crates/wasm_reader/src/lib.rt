@@ -1,0 +1,25 @@
+//! Reads sections, exactly: an answer is the items that the grammar reads there, with padded numbers too, and a cause other than
+//! [`ReadFault::Memory`] says that no reading exists.
+//!
+//! [`read_section`] reads a section of a [`SectionKind`], without its id, into [`Items`]. Custom sections are read as their names and
+//! data: what names, linking, producers, branch hint and core dump sections hold is not read yet.
+#![tactic(auto)]
+
+mod data;
+mod elements;
+mod exports;
+mod globals;
+mod imports;
+mod item;
+mod limits;
+mod modules;
+mod section;
+mod tables;
+mod tags;
+
+pub use data::Segment;
+pub use elements::{ElementItem, ElementItemMode, ElementList};
+pub use globals::GlobalItem;
+pub use modules::{Listed, list_module};
+pub use section::{Items, SectionKind, read_section};
+pub use tables::TableItem;

@@ -1,0 +1,185 @@
+// Whole sections.
+ghost use Rattle.std.specs.Prelude.{◌≢◌, IfOk, IfErr, map};
+ghost use Rattle.wasm_base.specs.Formats.{vec};
+ghost use Rattle.wasm_base.specs.Going.{FillsNothing};
+ghost use Rattle.wasm_base.specs.Numbers.{wide};
+ghost use Rattle.wasm_base.specs.Reading.{ReadsNothing};
+ghost use Rattle.wasm_reader_base.specs.declared.fault.ReadFault.TheVariants.{Memory};
+ghost use Rattle.wasm_reader.specs.Sections.{content, section, contents_of, Takes};
+
+use crate::data::{Segment, read_segments};
+use crate::elements::ElementItem;
+use crate::globals::GlobalItem;
+use crate::imports::read_imports;
+use crate::item::{Item, read_many};
+use crate::tables::TableItem;
+use std::alloc::{Allocator, Global};
+use wasm_reader_base::{ReadFault, Readable};
+use wasm_reader_insn::Body;
+use wasm_sections::{Export, Imports, MemoryType, TagType};
+
+/// What a section is read as.
+#[derive(Clone, Copy, PartialEq, Eq, Debug)]
+pub enum SectionKind {
+    /// The code section: functions' bodies.
+    Bodies,
+    /// The data section.
+    Segments,
+    DataCount,
+    Elements,
+    Exports,
+    Functions,
+    Globals,
+    Imports,
+    Memories,
+    Start,
+    Tables,
+    Tags,
+    /// A custom section of any name.
+    Custom,
+    /// A section of any bytes.
+    Raw,
+}
+
+/// The items of a section. Names, data and raw parts are slices of the input; lists are in memory of the allocator.
+#[derive(Debug, Drop)]
+pub enum Items<'a, A: Allocator = Global> {
+    Bodies(Vec<Body<A>, A>),
+    Segments(Vec<Segment<'a, A>, A>),
+    DataCount(u32),
+    Elements(Vec<ElementItem<A>, A>),
+    Exports(Vec<Export<'a>, A>),
+    /// The indices of the functions' types.
+    Functions(Vec<u32, A>),
+    Globals(Vec<GlobalItem<A>, A>),
+    /// Imports and groups of them, whose lists are owned.
+    Imports(Vec<Imports<'a, A>, A>),
+    Memories(Vec<MemoryType, A>),
+    /// The index of a function.
+    Start(u32),
+    Tables(Vec<TableItem<A>, A>),
+    Tags(Vec<TagType, A>),
+    Custom { name: &'a str, bytes: &'a [u8] },
+    Raw(&'a [u8]),
+}
+
+/// The value that all of the bytes spell.
+#[tactic(auto, using(crate::proofs::ReadSections::whole_steps))]
+fn read_whole<'a, T: Readable<'a, A>, A: Allocator + Copy>(
+    bytes: &'a [u8],
+    alloc: A,
+) -> Result<T, ReadFault>
+    ensures found { IfOk result (λ x. T.format wide bytes.now (T.view x)) }
+    ensures none { IfErr result (λ e. e ≢ Memory → FillsNothing T.format bytes.now) }
+{
+    let (value, left) = T::read(bytes, alloc)?;
+    if left.is_empty() {
+        Ok(value)
+    } else {
+        Err(ReadFault::SizeMismatch)
+    }
+}
+
+/// The items behind their number that all of the bytes spell.
+#[tactic(auto, using(crate::proofs::ReadSections::whole_steps))]
+fn read_list<'a, T: Item<'a, A>, A: Allocator + Copy>(
+    bytes: &'a [u8],
+    alloc: A,
+) -> Result<Vec<T, A>, ReadFault>
+    ensures found { IfOk result (λ x. vec T.format wide bytes.now (map T.view x.items)) }
+    ensures none { IfErr result (λ e. e ≢ Memory → FillsNothing (vec T.format) bytes.now) }
+{
+    let (items, left) = read_many::<'a, T, A>(bytes, alloc)?;
+    if left.is_empty() {
+        Ok(items)
+    } else {
+        Err(ReadFault::SizeMismatch)
+    }
+}
+
+/// What the frame of a section of the kind holds.
+#[tactic(auto, using(crate::proofs::ReadSections::content_steps))]
+pub(crate) fn read_content<'a, A: Allocator + Copy>(
+    kind: SectionKind,
+    bytes: &'a [u8],
+    alloc: A,
+) -> Result<Items<'a, A>, ReadFault>
+    ensures found { IfOk result (λ x. content kind wide bytes.now (contents_of x)) }
+    ensures none { IfErr result (λ e. e ≢ Memory → FillsNothing (content kind) bytes.now) }
+{
+    match kind {
+        SectionKind::Bodies => {
+            let items = read_whole::<'a, Vec<Body<A>, A>, A>(bytes, alloc)?;
+            Ok(Items::Bodies(items))
+        }
+        SectionKind::Segments => {
+            let items = read_segments(bytes, alloc)?;
+            Ok(Items::Segments(items))
+        }
+        SectionKind::DataCount => {
+            let items = read_whole::<'a, u32, A>(bytes, alloc)?;
+            Ok(Items::DataCount(items))
+        }
+        SectionKind::Elements => {
+            let items = read_whole::<'a, Vec<ElementItem<A>, A>, A>(bytes, alloc)?;
+            Ok(Items::Elements(items))
+        }
+        SectionKind::Exports => {
+            let items = read_list::<'a, Export<'a>, A>(bytes, alloc)?;
+            Ok(Items::Exports(items))
+        }
+        SectionKind::Functions => {
+            let items = read_whole::<'a, Vec<u32, A>, A>(bytes, alloc)?;
+            Ok(Items::Functions(items))
+        }
+        SectionKind::Globals => {
+            let items = read_whole::<'a, Vec<GlobalItem<A>, A>, A>(bytes, alloc)?;
+            Ok(Items::Globals(items))
+        }
+        SectionKind::Imports => {
+            let items = read_imports(bytes, alloc)?;
+            Ok(Items::Imports(items))
+        }
+        SectionKind::Memories => {
+            let items = read_list::<'a, MemoryType, A>(bytes, alloc)?;
+            Ok(Items::Memories(items))
+        }
+        SectionKind::Start => {
+            let items = read_whole::<'a, u32, A>(bytes, alloc)?;
+            Ok(Items::Start(items))
+        }
+        SectionKind::Tables => {
+            let items = read_whole::<'a, Vec<TableItem<A>, A>, A>(bytes, alloc)?;
+            Ok(Items::Tables(items))
+        }
+        SectionKind::Tags => {
+            let items = read_list::<'a, TagType, A>(bytes, alloc)?;
+            Ok(Items::Tags(items))
+        }
+        SectionKind::Custom => {
+            let (name, bytes) = <&'a str as Readable<'a, A>>::read(bytes, alloc)?;
+            Ok(Items::Custom { name, bytes })
+        }
+        SectionKind::Raw => Ok(Items::Raw(bytes)),
+    }
+}
+
+/// The items of the section that the bytes begin with, and how many bytes it takes. The bytes begin at the section's size, behind its id.
+///
+/// ```text
+/// let (items, taken) = read_section(SectionKind::Functions, &[0x02, 0x01, 0x05, 0x99], alloc)?;
+/// // items are the one index 5, and 3 bytes were taken
+/// ```
+#[tactic(auto, using(crate::proofs::ReadSections::section_steps))]
+pub fn read_section<'a, A: Allocator + Copy>(
+    kind: SectionKind,
+    bytes: &'a [u8],
+    alloc: A,
+) -> Result<(Items<'a, A>, usize), ReadFault>
+    ensures found { IfOk result (λ x. Takes kind bytes.now (contents_of x.0) x.1) }
+    ensures none { IfErr result (λ e. e ≢ Memory → ReadsNothing (section kind) wide bytes.now) }
+{
+    let (framed, rest) = <&'a [u8] as Readable<'a, A>>::read(bytes, alloc)?;
+    let items = read_content(kind, framed, alloc)?;
+    Ok((items, bytes.len() - rest.len()))
+}

@@ -1,0 +1,47 @@
+// Tables.
+ghost use Rattle.wasm_sections.specs.Tables.{TableItem as TableModel, table_item};
+ghost use Rattle.wasm_sections.proofs.TableLaws.{table_item-alone};
+ghost use Rattle.wasm_reader.specs.Items.{table_of};
+
+use crate::item::One;
+use std::alloc::{Allocator, Global};
+use wasm_reader_base::{ReadFault, Readable};
+use wasm_reader_insn::Expression;
+use wasm_sections::TableType;
+
+/// A table: its type, and the expression of its elements' first value where one is given.
+#[derive(Debug, Drop)]
+pub struct TableItem<A: Allocator = Global> {
+    pub table_type: TableType,
+    pub init: Option<Expression<A>>,
+}
+
+impl<'a, A: Allocator + Copy> Readable<'a, A> for TableItem<A> {
+    ghost Value = { TableModel };
+
+    ghost format = { table_item };
+
+    ghost view = { table_of };
+
+    ghost alone = { table_item-alone };
+
+    #[tactic(auto, using(crate::proofs::ReadTables::table_steps))]
+    fn read(bytes: &'a [u8], alloc: A) -> Result<(TableItem<A>, &'a [u8]), ReadFault> {
+        let (first, rest) = <u8 as Readable<'a, A>>::read(bytes, alloc)?;
+        if first != 0x40 {
+            let (One(table_type), rest) = <One<TableType> as Readable<'a, A>>::read(bytes, alloc)?;
+            let init = None;
+            return Ok((TableItem { table_type, init }, rest));
+        }
+        let (second, rest) = <u8 as Readable<'a, A>>::read(rest, alloc)?;
+        if second != 0x00 {
+            return Err(ReadFault::UnknownTag);
+        }
+        let ((One(table_type), init), rest) = <(One<TableType>, Expression<A>) as Readable<
+            'a,
+            A,
+        >>::read(rest, alloc)?;
+        let init = Some(init);
+        Ok((TableItem { table_type, init }, rest))
+    }
+}

@@ -1,0 +1,13 @@
+//! Tests of `wasm_reader`: bytes that were worked out from the format's documents, and requests for memory that are refused.
+#![tactic(auto)]
+
+#[cfg(test)]
+mod faults;
+#[cfg(test)]
+mod modules;
+#[cfg(test)]
+mod refusals;
+#[cfg(test)]
+mod rows;
+#[cfg(test)]
+mod seen;

@@ -1,0 +1,136 @@
+// Each request for memory refused in turn: the cause is `Memory`.
+use std::alloc::Global;
+use std::process::Abort;
+use test_support::Refusing;
+use wasm_reader::{SectionKind, list_module, read_section};
+use wasm_reader_base::ReadFault;
+
+/// More requests than any call here makes.
+const MOST: u64 = 100;
+
+/// What is asked of the reader.
+#[derive(Clone, Copy)]
+enum Question {
+    Section(SectionKind),
+    Module,
+}
+
+fn answer(heap: &Refusing<Global>, question: Question, bytes: &[u8]) -> Option<ReadFault> {
+    match question {
+        Question::Section(kind) => match read_section(kind, bytes, heap) {
+            Ok(_) => None,
+            Err(fault) => Some(fault),
+        },
+        Question::Module => match list_module(bytes, heap) {
+            Ok(_) => None,
+            Err((_, fault)) => Some(fault),
+        },
+    }
+}
+
+fn check_answer(rt: &impl Abort, given: Option<ReadFault>, expected: Option<ReadFault>) {
+    assert_eq!(rt; given, expected);
+}
+
+/// The cause is `Memory` where a request is refused. So many requests are made.
+fn check(
+    rt: &impl Abort,
+    heap: &Refusing<Global>,
+    question: Question,
+    bytes: &[u8],
+    requests: u64,
+) {
+    for nth in 1..MOST {
+        heap.refuse(nth);
+        let given = answer(heap, question, bytes);
+        if heap.is_waiting() {
+            check_answer(rt, given, None);
+            assert_eq!(rt; nth, requests.saturating_add(1));
+            return;
+        }
+        check_answer(rt, given, Some(ReadFault::Memory));
+    }
+    panic!(rt; "no call was granted")
+}
+
+#[test]
+fn requests(rt: HostRuntime) {
+    let heap = Refusing::new(rt.alloc());
+    let section = |kind| Question::Section(kind);
+    check(&rt, &heap, section(SectionKind::Functions), &[2, 1, 5], 1);
+    check(
+        &rt,
+        &heap,
+        section(SectionKind::Bodies),
+        &[8, 1, 6, 1, 1, 0x7F, 0x20, 0, 0x0B],
+        4,
+    );
+    check(
+        &rt,
+        &heap,
+        section(SectionKind::Segments),
+        &[7, 1, 2, 3, 65, 1, 11, 0],
+        3,
+    );
+    check(
+        &rt,
+        &heap,
+        section(SectionKind::Elements),
+        &[7, 1, 0, 65, 0, 11, 1, 9],
+        4,
+    );
+    check(
+        &rt,
+        &heap,
+        section(SectionKind::Exports),
+        b"\x07\x01\x03foo\x00\x00",
+        1,
+    );
+    check(
+        &rt,
+        &heap,
+        section(SectionKind::Globals),
+        &[6, 1, 127, 0, 65, 42, 11],
+        3,
+    );
+    check(
+        &rt,
+        &heap,
+        section(SectionKind::Imports),
+        &[10, 1, 1, 109, 0, 127, 1, 1, 97, 0, 0],
+        2,
+    );
+    check(
+        &rt,
+        &heap,
+        section(SectionKind::Imports),
+        &[12, 1, 1, 109, 0, 126, 0, 0, 2, 1, 97, 1, 98],
+        2,
+    );
+    check(
+        &rt,
+        &heap,
+        section(SectionKind::Memories),
+        &[5, 1, 15, 1, 2, 0],
+        1,
+    );
+    check(
+        &rt,
+        &heap,
+        section(SectionKind::Tables),
+        &[9, 1, 64, 0, 112, 0, 0, 208, 112, 11],
+        3,
+    );
+    check(&rt, &heap, section(SectionKind::Tags), &[3, 1, 0, 3], 1);
+    check(&rt, &heap, section(SectionKind::Start), &[1, 7], 0);
+    check(&rt, &heap, section(SectionKind::DataCount), &[1, 7], 0);
+    check(&rt, &heap, section(SectionKind::Custom), &[1, 0], 0);
+    check(&rt, &heap, section(SectionKind::Raw), &[1, 0], 0);
+    check(
+        &rt,
+        &heap,
+        Question::Module,
+        b"\0asm\x01\0\0\0\x03\x02\x01\x05",
+        2,
+    );
+}
