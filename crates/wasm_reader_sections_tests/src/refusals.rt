@@ -53,84 +53,68 @@ fn check(
     panic!(rt; "no call was granted")
 }
 
+/// A question, the bytes, and how many requests are made.
+type Row = (Question, &'static [u8], u64);
+
+static ROWS: [Row; 16] = [
+    (Question::Section(SectionKind::Functions), &[2, 1, 5], 1),
+    (
+        Question::Section(SectionKind::Bodies),
+        &[8, 1, 6, 1, 1, 0x7F, 0x20, 0, 0x0B],
+        4,
+    ),
+    (
+        Question::Section(SectionKind::Segments),
+        &[7, 1, 2, 3, 65, 1, 11, 0],
+        3,
+    ),
+    (
+        Question::Section(SectionKind::Elements),
+        &[7, 1, 0, 65, 0, 11, 1, 9],
+        4,
+    ),
+    (
+        Question::Section(SectionKind::Exports),
+        b"\x07\x01\x03foo\x00\x00",
+        1,
+    ),
+    (
+        Question::Section(SectionKind::Globals),
+        &[6, 1, 127, 0, 65, 42, 11],
+        3,
+    ),
+    (
+        Question::Section(SectionKind::Imports),
+        &[10, 1, 1, 109, 0, 127, 1, 1, 97, 0, 0],
+        2,
+    ),
+    (
+        Question::Section(SectionKind::Imports),
+        &[12, 1, 1, 109, 0, 126, 0, 0, 2, 1, 97, 1, 98],
+        2,
+    ),
+    (
+        Question::Section(SectionKind::Memories),
+        &[5, 1, 15, 1, 2, 0],
+        1,
+    ),
+    (
+        Question::Section(SectionKind::Tables),
+        &[9, 1, 64, 0, 112, 0, 0, 208, 112, 11],
+        3,
+    ),
+    (Question::Section(SectionKind::Tags), &[3, 1, 0, 3], 1),
+    (Question::Section(SectionKind::Start), &[1, 7], 0),
+    (Question::Section(SectionKind::DataCount), &[1, 7], 0),
+    (Question::Section(SectionKind::Custom), &[1, 0], 0),
+    (Question::Section(SectionKind::Raw), &[1, 0], 0),
+    (Question::Module, b"\0asm\x01\0\0\0\x03\x02\x01\x05", 2),
+];
+
 #[test]
 fn requests(rt: HostRuntime) {
     let heap = Refusing::new(rt.alloc());
-    let section = |kind| Question::Section(kind);
-    check(&rt, &heap, section(SectionKind::Functions), &[2, 1, 5], 1);
-    check(
-        &rt,
-        &heap,
-        section(SectionKind::Bodies),
-        &[8, 1, 6, 1, 1, 0x7F, 0x20, 0, 0x0B],
-        4,
-    );
-    check(
-        &rt,
-        &heap,
-        section(SectionKind::Segments),
-        &[7, 1, 2, 3, 65, 1, 11, 0],
-        3,
-    );
-    check(
-        &rt,
-        &heap,
-        section(SectionKind::Elements),
-        &[7, 1, 0, 65, 0, 11, 1, 9],
-        4,
-    );
-    check(
-        &rt,
-        &heap,
-        section(SectionKind::Exports),
-        b"\x07\x01\x03foo\x00\x00",
-        1,
-    );
-    check(
-        &rt,
-        &heap,
-        section(SectionKind::Globals),
-        &[6, 1, 127, 0, 65, 42, 11],
-        3,
-    );
-    check(
-        &rt,
-        &heap,
-        section(SectionKind::Imports),
-        &[10, 1, 1, 109, 0, 127, 1, 1, 97, 0, 0],
-        2,
-    );
-    check(
-        &rt,
-        &heap,
-        section(SectionKind::Imports),
-        &[12, 1, 1, 109, 0, 126, 0, 0, 2, 1, 97, 1, 98],
-        2,
-    );
-    check(
-        &rt,
-        &heap,
-        section(SectionKind::Memories),
-        &[5, 1, 15, 1, 2, 0],
-        1,
-    );
-    check(
-        &rt,
-        &heap,
-        section(SectionKind::Tables),
-        &[9, 1, 64, 0, 112, 0, 0, 208, 112, 11],
-        3,
-    );
-    check(&rt, &heap, section(SectionKind::Tags), &[3, 1, 0, 3], 1);
-    check(&rt, &heap, section(SectionKind::Start), &[1, 7], 0);
-    check(&rt, &heap, section(SectionKind::DataCount), &[1, 7], 0);
-    check(&rt, &heap, section(SectionKind::Custom), &[1, 0], 0);
-    check(&rt, &heap, section(SectionKind::Raw), &[1, 0], 0);
-    check(
-        &rt,
-        &heap,
-        Question::Module,
-        b"\0asm\x01\0\0\0\x03\x02\x01\x05",
-        2,
-    );
+    for (question, bytes, requests) in ROWS.iter() {
+        check(&rt, &heap, *question, bytes, *requests);
+    }
 }
