@@ -1,3 +1,4 @@
+pub mod Calls
 pub mod Prefixes
 pub mod ReadData
 pub mod ReadElements

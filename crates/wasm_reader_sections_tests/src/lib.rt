@@ -1,6 +1,7 @@
 //! Tests of `wasm_reader`: bytes that were worked out from the format's documents, and requests for memory that are refused.
 #![tactic(auto)]
 
+pub mod callers;
 #[cfg(test)]
 mod faults;
 #[cfg(test)]

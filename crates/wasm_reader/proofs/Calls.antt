@@ -1,0 +1,39 @@
+-- What callers cite: what the reader answers where a section's text stands.
+use Rattle.std.proofs.Common.{◌≡◌, ℕ, List, [], ◌++◌, length, drop, refl, sym, ap, subst, ◌∙◌, append-nil, arith}
+use Rattle.std.proofs.lemmas.List.{length-drop}
+use Rattle.wasm_base.specs.Formats.{Format, u32, frame, mapped, vec}
+use Rattle.wasm_base.specs.Modules.{GainsReading}
+use Rattle.wasm_base.specs.Numbers.{wide}
+use Rattle.wasm_base.specs.Reading.{UniqueReading, Reads, ReadsAlone, ReadsNothing}
+use Rattle.wasm_sections.specs.Exports.{ExportItem, export}
+use Rattle.wasm_sections.proofs.SectionLaws.{functions-alone, exports-alone}
+use Rattle.wasm_reader.specs.Sections.{Contents, Functions, Exports, section, Takes}
+use Rattle.wasm_reader.specs.declared.section.SectionKind.TheVariants as kinds
+
+module _ {X : Type 0} (F : Format X) (say : X → Contents) {text bytes : List ℕ} {x : X} (alone : ReadsAlone (frame F) text x) (gained : bytes ≡ [] ++ text) where
+  said : {y : Contents} {rest : List ℕ} → Reads (frame (mapped say F)) wide bytes y rest → (y ≡ say x) × (rest ≡ [])
+  said {rest = rest} h =
+      let s = h.spelled in
+      let inside : Reads (frame F) wide (text ++ []) s.spelled.0 rest = record { front = h.front; split = append-nil text ∙ sym gained ∙ h.split; spelled = record { front = s.front; content = s.content; joined = s.joined; size = s.size; spelled = s.spelled.2 } } in
+      let same = alone.alone wide [] s.spelled.0 rest inside in
+      (sym s.spelled.1 ∙ ap say same.0, same.1)
+
+  stands : UniqueReading (frame F) → ReadsNothing (frame (mapped say F)) wide bytes → ⊥
+  stands unique n =
+      let s = unique.spellings.wider text x alone.spelled in
+      n.none (say x) [] (record { front = text; split = gained ∙ sym (append-nil text); spelled = record { front = s.front; content = s.content; joined = s.joined; size = s.size; spelled = (x, refl, s.spelled) } })
+
+-- The reader answers the indices of a function section that was written into an empty buffer.
+pub reads_functions : {bytes : List ℕ} {types : List ℕ} {y : Contents} {n : ℕ} → GainsReading (frame (vec u32)) types [] bytes → Takes kinds.Functions bytes y n → y ≡ Functions types
+reads_functions {bytes = bytes} g h = (said (vec u32) Functions g.alone g.added h.reads).0
+
+-- It gives no cause but `Memory`.
+pub functions_stand : {bytes : List ℕ} {types : List ℕ} → GainsReading (frame (vec u32)) types [] bytes → ReadsNothing (section kinds.Functions) wide bytes → ⊥
+functions_stand g n = stands (vec u32) Functions g.alone g.added functions-alone n
+
+-- The same of exports.
+pub reads_exports : {bytes : List ℕ} {items : List ExportItem} {y : Contents} {n : ℕ} → GainsReading (frame (vec export)) items [] bytes → Takes kinds.Exports bytes y n → y ≡ Exports items
+reads_exports g h = (said (vec export) Exports g.alone g.added h.reads).0
+
+pub exports_stand : {bytes : List ℕ} {items : List ExportItem} → GainsReading (frame (vec export)) items [] bytes → ReadsNothing (section kinds.Exports) wide bytes → ⊥
+exports_stand g n = stands (vec export) Exports g.alone g.added exports-alone n

@@ -1,0 +1,40 @@
+//! Callers of the reader, which prove what it answers.
+ghost use Rattle.std.specs.Prelude.{◌≡◌, ◌≢◌, [], ◌∷◌, IfOk, IfErr, OnOk};
+ghost use Rattle.wasm_base.specs.Entries.{counted_format};
+ghost use Rattle.wasm_base.specs.Formats.{u32 as u32_format};
+ghost use Rattle.wasm_base.specs.Modules.{GainsReading};
+ghost use Rattle.wasm_reader_base.specs.declared.fault.ReadFault.TheVariants.{Memory};
+ghost use Rattle.wasm_reader.specs.Sections.{Functions, contents_of};
+
+use std::alloc::Allocator;
+use wasm_base::{Encode, R};
+use wasm_reader::{Items, SectionKind, read_section};
+use wasm_reader_base::ReadFault;
+use wasm_sections::FunctionSection;
+
+/// A function section of one function.
+pub fn write_function<A: Allocator + Copy>(sink: &mut Vec<u8, A>, index: u32) -> R<()>
+    ensures { OnOk result (GainsReading (counted_format u32_format) (index ∷ []) sink.old.items sink.new.items) }
+{
+    let mut section = FunctionSection::new(*sink.allocator());
+    section.function(index)?;
+    section.encode(sink)
+}
+
+/// Reads a function section that was written: the answer is the index that was added, and no cause but `Memory` is given.
+pub fn written_function<'a, A: Allocator + Copy>(
+    text: &'a mut Vec<u8, A>,
+    index: u32,
+) -> Result<Items<'a, A>, ReadFault>
+    requires { text.old.items ≡ [] }
+    ensures read { IfOk result (λ items. contents_of items ≡ Functions (index ∷ [])) }
+    ensures memory { IfErr result (λ e. e ≢ Memory → ⊥) }
+{
+    let alloc = *text.allocator();
+    match write_function(text, index) {
+        Ok(()) => {}
+        Err(_) => return Err(ReadFault::Memory),
+    }
+    let (items, _taken) = read_section(SectionKind::Functions, text.as_slice(), alloc)?;
+    Ok(items)
+}
