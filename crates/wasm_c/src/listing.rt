@@ -66,16 +66,16 @@ fn put(lines: &[Listed], out: &mut [DzSection]) -> u64
 #[unsafe(no_mangle)]
 pub extern "C" fn dz_list(
     alloc: Global,
-    module: &[u8],
+    bytes: &[u8],
     out: &mut [DzSection],
     place: &mut u64,
     cause: &mut u32,
 ) -> u64
-    ensures { Outcome module.now out.old out.new place.new cause.new result }
+    ensures { Outcome bytes.now out.old out.new place.new cause.new result }
 {
     *place = 0;
     *cause = 0;
-    match list_module(module, alloc) {
+    match list_module(bytes, alloc) {
         Ok(lines) => put(&lines, out),
         Err((number, fault)) => {
             *place = number as u64;
