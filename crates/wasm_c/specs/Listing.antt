@@ -1,0 +1,49 @@
+-- What is answered of the sections of a module.
+use Rattle.std.specs.Prelude.{◌≡◌, ◌≢◌, ℕ, List, map, Option, Some, None, ◌⊎◌}
+use Rattle.wasm_reader_base.specs.declared.fault.ReadFault.{ReadFault}
+use Rattle.wasm_reader_base.specs.declared.fault.ReadFault.TheVariants.{Ended, NotShortest, TooLarge, UnknownTag, UnknownOpcode, NotUtf8, SizeMismatch, Memory}
+use Rattle.wasm_reader.specs.Modules.{HasLines, StopsAt}
+use Rattle.wasm_reader.specs.declared.modules.Listed.{Listed}
+use Rattle.wasm_c.specs.Assembled.{Gives}
+use Rattle.wasm_c.specs.declared.TheConstants.{NO_ANSWER}
+use Rattle.wasm_c.specs.declared.listing.DzSection.{DzSection}
+
+-- the number of a fault
+abbrev pub fault_number : ReadFault → ℕ
+fault_number Ended = 1
+fault_number NotShortest = 2
+fault_number TooLarge = 3
+fault_number UnknownTag = 4
+fault_number UnknownOpcode = 5
+fault_number NotUtf8 = 6
+fault_number SizeMismatch = 7
+fault_number Memory = 8
+
+-- the number of items, where it is counted
+abbrev pub count_of : Option ℕ → ℕ
+count_of None = NO_ANSWER
+count_of (Some n) = n
+
+-- the section of a line
+abbrev pub section_of : Listed → DzSection
+section_of l = record { items = count_of l.items; size = l.size; id = l.id }
+
+-- The bytes are a module of these sections.
+pub record Lists (module_bytes : List ℕ) (old new : List DzSection) (place cause n : ℕ) : Type 0 where
+  pub lines : List Listed
+  pub has : HasLines module_bytes lines
+  pub gives : Gives (map section_of lines) old new n
+  pub no_place : place ≡ 0
+  pub no_cause : cause ≡ 0
+
+-- There is no list, and nothing was written; the bytes are no module from this place on, for a fault of this number, or memory was refused.
+pub record Refuses (module_bytes : List ℕ) (old new : List DzSection) (place cause n : ℕ) : Type 0 where
+  pub answer : n ≡ NO_ANSWER
+  pub kept : new ≡ old
+  pub fault : ReadFault
+  pub numbered : cause ≡ fault_number fault
+  pub stops : fault ≢ Memory → StopsAt module_bytes place
+
+-- what is answered of the bytes
+abbrev pub Outcome : List ℕ → List DzSection → List DzSection → ℕ → ℕ → ℕ → Type 0
+Outcome module_bytes old new place cause n = Refuses module_bytes old new place cause n ⊎ Lists module_bytes old new place cause n

@@ -1,0 +1,57 @@
+/* Assembles recipes, and lists what the modules hold. */
+#include "dolzhytik.h"
+#include <inttypes.h>
+#include <stdio.h>
+#include <string.h>
+
+#define ROOM 256
+
+static void list(const uint8_t *module, size_t len) {
+    dz_section sections[16];
+    uint64_t place;
+    uint32_t cause;
+    uint64_t count = dz_list(module, len, sections, 16, &place, &cause);
+    if (count == DZ_NO_ANSWER) {
+        printf("section %" PRIu64 ": cause %" PRIu32 "\n", place, cause);
+        return;
+    }
+    for (uint64_t i = 0; i < count && i < 16; i++) {
+        printf("%" PRIu32 " %" PRIu32 " ", sections[i].id, sections[i].size);
+        if (sections[i].items == DZ_NO_ANSWER)
+            printf("-\n");
+        else
+            printf("%" PRIu64 "\n", sections[i].items);
+    }
+}
+
+static void assemble(const void *recipe, size_t len, size_t room) {
+    uint8_t out[ROOM] = {0};
+    uint64_t line;
+    uint32_t cause;
+    uint64_t size = dz_assemble(recipe, len, out, room, &line, &cause);
+    if (size == DZ_NO_ANSWER) {
+        printf("line %" PRIu64 ": cause %" PRIu32 "\n", line, cause);
+        return;
+    }
+    if (size > room) {
+        printf("%" PRIu64 " bytes, and room for %zu\n", size, room);
+        return;
+    }
+    for (uint64_t i = 0; i < size; i++)
+        printf("%02x", out[i]);
+    printf("\n");
+    list(out, size);
+}
+
+int main(void) {
+    const char *module = "type 60027f7f017f\nfunc 0\nexport f func 0\nbody 200020016a0b";
+    assemble(module, strlen(module), ROOM);
+    assemble(module, strlen(module), 38);
+    assemble(module, strlen(module), 0);
+    assemble("", 0, ROOM);
+    assemble("body 0b\nbody zz", 15, ROOM);
+    assemble("\xFF", 1, ROOM);
+    list((const uint8_t *)"\0asm\x01\0\0\0\x03\x01\x00\x00\x01\x05", 14);
+    list((const uint8_t *)"\0asm", 4);
+    return 0;
+}

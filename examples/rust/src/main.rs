@@ -1,0 +1,92 @@
+//! Assembles recipes, and lists what the modules hold.
+
+const NO_ANSWER: u64 = u64::MAX;
+
+#[derive(Clone, Copy, Default)]
+#[repr(C)]
+struct Section {
+    items: u64,
+    size: u32,
+    id: u32,
+}
+
+unsafe extern "C" {
+    fn dz_assemble(recipe: *const u8, recipe_len: usize, out: *mut u8, out_len: usize, line: *mut u64, cause: *mut u32) -> u64;
+    fn dz_list(module: *const u8, module_len: usize, out: *mut Section, out_len: usize, place: *mut u64, cause: *mut u32) -> u64;
+}
+
+/// The module of a recipe in so much room, or how many bytes it has, or the line and the cause of its first fault.
+enum Answer {
+    Module(Vec<u8>),
+    Size(u64),
+    Fault(u64, u32),
+}
+
+fn assembled(recipe: &[u8], room: usize) -> Answer {
+    let (mut out, mut line, mut cause) = (vec![0; room], 0, 0);
+    // SAFETY: slices are valid for their lengths, and none overlaps another.
+    let size = unsafe { dz_assemble(recipe.as_ptr(), recipe.len(), out.as_mut_ptr(), out.len(), &mut line, &mut cause) };
+    match usize::try_from(size) {
+        _ if size == NO_ANSWER => Answer::Fault(line, cause),
+        Ok(size) if size <= room => {
+            out.truncate(size);
+            Answer::Module(out)
+        }
+        _ => Answer::Size(size),
+    }
+}
+
+/// The sections of a module, or the place and the cause.
+fn listed(module: &[u8]) -> Result<Vec<Section>, (u64, u32)> {
+    let (mut out, mut place, mut cause) = (Vec::new(), 0, 0);
+    loop {
+        // SAFETY: as above.
+        let count = unsafe { dz_list(module.as_ptr(), module.len(), out.as_mut_ptr(), out.len(), &mut place, &mut cause) };
+        if count == NO_ANSWER {
+            return Err((place, cause));
+        }
+        if count as usize <= out.len() {
+            return Ok(out);
+        }
+        out.resize(count as usize, Section::default());
+    }
+}
+
+fn list(module: &[u8]) {
+    match listed(module) {
+        Ok(sections) => {
+            for section in sections {
+                let items = match section.items {
+                    NO_ANSWER => "-".to_string(),
+                    items => items.to_string(),
+                };
+                println!("{} {} {items}", section.id, section.size);
+            }
+        }
+        Err((place, cause)) => println!("section {place}: cause {cause}"),
+    }
+}
+
+fn assemble(recipe: &[u8], room: usize) {
+    match assembled(recipe, room) {
+        Answer::Module(module) => {
+            let digits: String = module.iter().map(|byte| format!("{byte:02x}")).collect();
+            println!("{digits}");
+            list(&module);
+        }
+        Answer::Size(size) => println!("{size} bytes, and room for {room}"),
+        Answer::Fault(line, cause) => println!("line {line}: cause {cause}"),
+    }
+}
+
+fn main() {
+    let module = b"type 60027f7f017f\nfunc 0\nexport f func 0\nbody 200020016a0b";
+    assemble(module, 256);
+    assemble(module, 38);
+    assemble(module, 0);
+    assemble(b"", 256);
+    assemble(b"body 0b\nbody zz", 256);
+    assemble(b"\xFF", 256);
+    list(b"\0asm\x01\0\0\0\x03\x01\x00\x00\x01\x05");
+    list(b"\0asm");
+}
