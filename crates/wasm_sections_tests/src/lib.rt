@@ -1,5 +1,5 @@
-//! Tests of `wasm_code`, `wasm_sections`, `wasm_tool` and `examples`: bytes that the format's documents give or that were worked out by hand, requests
-//! for memory that are refused, reads and writes that fail, and callers that prove what they append and what a reader finds.
+//! Tests of `wasm_code`, `wasm_sections` and `examples`: bytes that the format's documents give or that were worked out by hand, requests for memory
+//! that are refused, and callers that prove what they append and what a reader finds.
 #![tactic(auto)]
 
 pub mod body_callers;
@@ -13,14 +13,10 @@ mod code_refusals;
 #[cfg(test)]
 mod example_bytes;
 #[cfg(test)]
-mod failures;
-#[cfg(test)]
 mod functions;
 #[cfg(test)]
 mod lengths;
 pub mod readings;
-#[cfg(test)]
-mod recipes;
 #[cfg(test)]
 mod samples;
 #[cfg(test)]

@@ -5,6 +5,7 @@
 #![tactic(auto)]
 
 mod fault;
+mod listing;
 mod program;
 mod recipe;
 mod words;

@@ -1,19 +1,9 @@
 // What recipes give, with ample memory.
-use crate::checks::check_bytes;
+use crate::checks::{check_bytes, check_run};
 use std::alloc::Global;
 use std::process::Abort;
 use std::test::Fail;
 use wasm_tool::{RecipeCause, RecipeFault, assemble, run};
-
-/// What the program answered and wrote.
-fn check_run(
-    rt: &impl Abort,
-    text: &str,
-    answer: (u8, &[u8], &[u8]),
-    expected: (u8, &[u8], &[u8]),
-) {
-    assert_eq!(rt; answer, expected, "{text}");
-}
 
 /// What the program answers and writes for a text.
 fn check_text(
@@ -141,7 +131,7 @@ fn check_argument(rt: &impl Abort, alloc: Global, word: &str) -> Result<(), Fail
 #[test]
 fn arguments(rt: HostRuntime) -> Result<(), Fail> {
     check_argument(&rt, rt.alloc(), "-x")?;
-    check_argument(&rt, rt.alloc(), "--read")
+    check_argument(&rt, rt.alloc(), "--read=")
 }
 
 #[test]

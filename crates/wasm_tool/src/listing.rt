@@ -1,0 +1,67 @@
+// A module's sections, as lines of text.
+ghost use Rattle.std.specs.Prelude.{◌≡◌, ◌++◌, OnOk, IfOk, string_bytes};
+ghost use Rattle.wasm_tool.specs.Listings.{line_of, listing_of, DropsBlanks, IsHexText, Lists};
+
+use crate::program::{Trouble, unlisted};
+use hex::FromHexError;
+use std::alloc::{AllocError, Allocator};
+use wasm_reader::{Listed, list_module};
+
+/// The line of a section: its id, its size and its number of items.
+fn push_line<A: Allocator>(text: &mut String<A>, section: &Listed) -> Result<(), AllocError>
+    ensures { OnOk result (string_bytes text.new ≡ string_bytes text.old ++ line_of section.now) }
+{
+    let id = section.id;
+    let size = section.size;
+    match section.items {
+        Some(items) => writeln!(text, "{id} {size} {items}"),
+        None => writeln!(text, "{id} {size} -"),
+    }
+}
+
+/// The lines of the sections.
+fn lines<A: Allocator>(alloc: A, sections: &[Listed]) -> Result<String<A>, AllocError>
+    ensures { IfOk result (λ text. string_bytes text ≡ listing_of sections.now) }
+{
+    let mut text = String::new(alloc);
+    for section in sections {
+        push_line(&mut text, section)?;
+    }
+    Ok(text)
+}
+
+/// The text without the spaces and line ends at its end.
+fn without_end(text: &[u8]) -> &[u8]
+    ensures { DropsBlanks text.now result.now }
+{
+    let mut text = text;
+    while let [front @ .., b' ' | b'\r' | b'\n'] = text {
+        text = front;
+    }
+    text
+}
+
+/// The bytes that a hexadecimal text tells.
+fn hex_bytes<A: Allocator>(alloc: A, text: &[u8]) -> Result<Vec<u8, A>, Trouble>
+    ensures { IfOk result (λ bytes. IsHexText text.now bytes.items) }
+{
+    if str::from_utf8(text).is_err() {
+        return Err(Trouble::NotText);
+    }
+    hex::decode(alloc, without_end(text)).map_err(|e| match e {
+        FromHexError::OutOfMemory => unlisted(),
+        _ => Trouble::BadHex,
+    })
+}
+
+/// What is written for the hexadecimal text of a module.
+pub(crate) fn listing<A: Allocator + Copy>(alloc: A, text: &[u8]) -> Result<String<A>, Trouble>
+    ensures { IfOk result (λ lines. Lists text.now (string_bytes lines)) }
+{
+    let bytes = hex_bytes(alloc, text)?;
+    let sections = list_module(&bytes, alloc).map_err(|(number, fault)| Trouble::Section {
+        number,
+        fault,
+    })?;
+    lines(alloc, &sections).map_err(|_| unlisted())
+}
