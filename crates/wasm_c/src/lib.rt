@@ -6,6 +6,8 @@
 
 mod listing;
 mod recipes;
+#[cfg(test)]
+mod tests;
 
 /// The answer of a call that has none.
 pub const NO_ANSWER: u64 = 18446744073709551615;
