@@ -14,6 +14,7 @@ mod kinds;
 mod line;
 mod name_section;
 mod names;
+mod reading;
 mod values;
 mod words;
 

@@ -1,0 +1,17 @@
+-- What workloads that read answer.
+use Rattle.std.specs.Prelude.{◌≡◌, ℕ, List, length}
+use Rattle.std.specs.List.{flat_map}
+use Rattle.wasm_code.specs.Bodies.{Body}
+use Rattle.wasm_reader.specs.Sections.{Bodies, Takes}
+use Rattle.wasm_reader.specs.declared.section.SectionKind.TheVariants as kinds
+
+-- how many instructions the bodies have together
+abbrev pub instructions_in : List Body → ℕ
+instructions_in bodies = length (flat_map (λ b. b.code) bodies)
+
+-- The bytes begin with a code section of bodies that have so many instructions.
+pub record HasRead (bytes : List ℕ) (n : ℕ) : Type 0 where
+  pub bodies : List Body
+  pub taken : ℕ
+  pub takes : Takes kinds.Bodies bytes (Bodies bodies) taken
+  pub counted : n ≡ instructions_in bodies

@@ -1,0 +1,53 @@
+// Code sections and bodies, read.
+ghost use Rattle.std.specs.Prelude.{◌≡◌, ◌≤◌, ◌⊎◌, ⊤, length, map, IfOk, MatchOption};
+ghost use Rattle.wasm_bench.specs.Readings.{HasRead, instructions_in};
+ghost use Rattle.wasm_bench.specs.declared.answers.TheConstants.{NO_ANSWER as no_answer};
+ghost use Rattle.wasm_reader_insn.specs.Arguments.{body_of};
+
+use crate::answers::NO_ANSWER;
+use std::alloc::Global;
+use wasm_reader::{Items, SectionKind, read_section};
+use wasm_reader_base::ReadFault;
+use wasm_reader_insn::{Body, Instructions};
+
+/// How many instructions the bodies have together; none where these are more than can be counted.
+fn instructions(bodies: &[Body]) -> Option<u64>
+    ensures { MatchOption result ⊤ (λ n. n ≡ instructions_in (map body_of bodies.now)) }
+{
+    let mut count: u64 = 0;
+    for body in bodies {
+        count = count.checked_add(body.code.len() as u64)?;
+    }
+    Some(count)
+}
+
+/// Reads a code section, whose bytes begin at its size, into a list of its bodies, and answers how many instructions these have.
+#[unsafe(no_mangle)]
+pub extern "C" fn wb_read(alloc: Global, section: &[u8]) -> u64
+    ensures { (result ≡ no_answer) ⊎ HasRead section.now result }
+{
+    match read_section(SectionKind::Bodies, section, alloc) {
+        Ok((Items::Bodies(bodies), _)) => instructions(&bodies).unwrap_or(NO_ANSWER),
+        _ => NO_ANSWER,
+    }
+}
+
+/// How many instructions a walk goes over.
+fn walked(alloc: Global, body: &[u8]) -> Result<u64, ReadFault>
+    ensures { IfOk result (λ n. n ≤ length body.now) }
+{
+    let (_runs, mut walk) = Instructions::of_body(body, alloc)?;
+    let mut count = 0;
+    while let Some(_step) = walk.next()? {
+        count += 1;
+    }
+    Ok(count)
+}
+
+/// Goes over the instructions of a body, whose bytes are those without its size, and answers how many they are.
+#[unsafe(no_mangle)]
+pub extern "C" fn wb_walk(alloc: Global, body: &[u8]) -> u64
+    ensures { (result ≡ no_answer) ⊎ (result ≤ length body.now) }
+{
+    walked(alloc, body).unwrap_or(NO_ANSWER)
+}
