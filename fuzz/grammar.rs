@@ -1,0 +1,491 @@
+//! The grammar of all kinds of sections, written from docs/FORMAT.md, once for whoever goes along it: a plain reader, which answers the shortest text of
+//! what it reads, and a maker of random texts.
+
+use std::sync::OnceLock;
+
+/// Goes along a text of the grammar. `None` says that there is none.
+pub trait Along: Sized {
+    /// A byte that is one of these.
+    fn tag(&mut self, tags: &[u8]) -> Option<u8>;
+
+    /// A byte that is one of these, or `Some(None)` where what follows begins with none of them.
+    fn tag_or_else(&mut self, tags: &[u8], others: u32) -> Option<Option<u8>>;
+
+    /// Bytes that are these, or `false` where something else follows.
+    fn fixed_or_else(&mut self, bytes: &[u8]) -> Option<bool>;
+
+    fn raw(&mut self, count: usize) -> Option<()>;
+
+    /// Bytes up to the end.
+    fn all(&mut self) -> Option<()>;
+
+    /// A number of so many bits that may be: its largest value, and whether it is in a set.
+    fn number(&mut self, bits: u32, is_in: fn(u64) -> bool) -> Option<u64>;
+
+    fn signed(&mut self, bits: u32) -> Option<i64>;
+
+    /// An index, as a signed number of 33 bits that isn't negative.
+    fn index(&mut self) -> Option<()>;
+
+    fn name(&mut self) -> Option<()>;
+
+    fn named(&mut self, name: &str) -> Option<()>;
+
+    /// The opcode of an instruction, which isn't `End` where that has no place.
+    fn opcode(&mut self, with_end: bool) -> Option<&'static str>;
+
+    fn vector(&mut self, member: fn(&mut Self) -> Option<()>) -> Option<()>;
+
+    fn bytes(&mut self) -> Option<()>;
+
+    fn frame(&mut self, content: &dyn Fn(&mut Self) -> Option<()>) -> Option<()>;
+
+    /// Whether the bytes, or those of the frame, go on.
+    fn goes_on(&mut self) -> bool;
+
+    /// Whether the byte of `End` follows, which is then gone over.
+    fn ends(&mut self) -> Option<bool>;
+}
+
+// ---- opcodes
+
+/// The opcode of a byte, or of a prefix and a number, and its shape.
+pub struct Row {
+    pub prefix: Option<u8>,
+    pub number: u32,
+    pub shape: &'static str,
+}
+
+/// All opcodes: lines of bytes or of a prefix and a number, a name, and a shape.
+pub fn table() -> &'static [Row] {
+    static TABLE: OnceLock<Vec<Row>> = OnceLock::new();
+    TABLE.get_or_init(|| include_str!("../tools/opcodes.tsv").lines().map(row).collect())
+}
+
+fn row(line: &'static str) -> Row {
+    let mut words = line.split('\t');
+    let op = words.next().expect("an opcode");
+    let shape = words.nth(1).expect("a shape");
+    let byte = u8::from_str_radix(&op[..2], 16).expect("two digits");
+    match op.get(3..) {
+        Some(number) => Row { prefix: Some(byte), number: number.parse().expect("a number"), shape },
+        None => Row { prefix: None, number: u32::from(byte), shape },
+    }
+}
+
+// ---- types
+
+fn any(_n: u64) -> bool {
+    true
+}
+
+fn u32_any<G: Along>(g: &mut G) -> Option<()> {
+    g.number(32, any).map(|_| ())
+}
+
+const ABSTRACT: [u8; 14] = [0x70, 0x6F, 0x6E, 0x6D, 0x6C, 0x6B, 0x6A, 0x69, 0x74, 0x73, 0x72, 0x71, 0x68, 0x75];
+
+/// A heap type whose first byte is none of `left_out`.
+fn heap_but<G: Along>(g: &mut G, left_out: &[u8]) -> Option<()> {
+    let tags: Vec<u8> = ABSTRACT.iter().copied().filter(|tag| !left_out.contains(tag)).chain([0x62, 0x65]).collect();
+    match g.tag_or_else(&tags, 2)? {
+        Some(0x62) => u32_any(g),
+        Some(0x65) => g.tag(&ABSTRACT).map(|_| ()),
+        Some(_) => Some(()),
+        None => g.index(),
+    }
+}
+
+fn heap<G: Along>(g: &mut G) -> Option<()> {
+    heap_but(g, &[])
+}
+
+/// What follows the first byte of a reference type.
+fn reference_after<G: Along>(g: &mut G, tag: u8) -> Option<()> {
+    match tag {
+        0x63 => heap_but(g, &[0x70, 0x6F]),
+        0x64 => heap(g),
+        _ => Some(()),
+    }
+}
+
+const REFERENCES: [u8; 4] = [0x70, 0x6F, 0x63, 0x64];
+const VALUES: [u8; 9] = [0x7F, 0x7E, 0x7D, 0x7C, 0x7B, 0x70, 0x6F, 0x63, 0x64];
+
+fn reference<G: Along>(g: &mut G) -> Option<()> {
+    let tag = g.tag(&REFERENCES)?;
+    reference_after(g, tag)
+}
+
+fn value<G: Along>(g: &mut G) -> Option<()> {
+    let tag = g.tag(&VALUES)?;
+    reference_after(g, tag)
+}
+
+fn block<G: Along>(g: &mut G) -> Option<()> {
+    match g.tag_or_else(&[0x40, 0x7F, 0x7E, 0x7D, 0x7C, 0x7B, 0x70, 0x6F, 0x63, 0x64], 3)? {
+        Some(tag) => reference_after(g, tag),
+        None => g.index(),
+    }
+}
+
+// ---- immediates
+
+fn is_memory_flags(n: u64) -> bool {
+    n < 128 && n & 0x60 != 0x60
+}
+
+fn is_not_zero(n: u64) -> bool {
+    n != 0
+}
+
+fn memory_argument<G: Along>(g: &mut G) -> Option<()> {
+    let flags = g.number(32, is_memory_flags)?;
+    if flags & 0x40 != 0 {
+        g.number(32, is_not_zero)?;
+    }
+    if flags & 0x20 != 0 {
+        u32_any(g)?;
+    }
+    if flags & 0x10 != 0 {
+        g.tag(&[0x00, 0x01, 0x11])?;
+    }
+    g.number(64, any).map(|_| ())
+}
+
+fn catch<G: Along>(g: &mut G) -> Option<()> {
+    if g.tag(&[0, 1, 2, 3])? < 2 {
+        u32_any(g)?;
+    }
+    u32_any(g)
+}
+
+fn handle<G: Along>(g: &mut G) -> Option<()> {
+    let tag = g.tag(&[0, 1])?;
+    u32_any(g)?;
+    if tag == 0 { u32_any(g) } else { Some(()) }
+}
+
+fn immediates<G: Along>(g: &mut G, shape: &str) -> Option<()> {
+    match shape {
+        "-" => Some(()),
+        "u" => u32_any(g),
+        "uu" => u32_any(g).and_then(|()| u32_any(g)),
+        "m" => memory_argument(g),
+        "ml" => memory_argument(g).and_then(|()| g.raw(1)),
+        "l" => g.raw(1),
+        "b" => block(g),
+        "h" => heap(g),
+        "o" => g.tag(&[0, 1]).map(|_| ()),
+        "ou" => g.tag(&[0, 1]).and_then(|_| u32_any(g)),
+        "ouu" => {
+            g.tag(&[0, 1])?;
+            u32_any(g)?;
+            u32_any(g)
+        }
+        "c32" => g.signed(32).map(|_| ()),
+        "c64" => g.signed(64).map(|_| ()),
+        "f32" => g.raw(4),
+        "f64" => g.raw(8),
+        "v" | "ls" => g.raw(16),
+        "bt" => g.vector(u32_any).and_then(|()| u32_any(g)),
+        "tt" => block(g).and_then(|()| g.vector(catch)),
+        "ts" => g.vector(value),
+        "k" => {
+            g.tag(&[0, 1, 2, 3])?;
+            u32_any(g)?;
+            heap(g)?;
+            heap(g)
+        }
+        "uH" => u32_any(g).and_then(|()| g.vector(handle)),
+        "uuH" => {
+            u32_any(g)?;
+            u32_any(g)?;
+            g.vector(handle)
+        }
+        _ => panic!("no such shape: {shape}"),
+    }
+}
+
+fn instruction<G: Along>(g: &mut G, with_end: bool) -> Option<()> {
+    let shape = g.opcode(with_end)?;
+    immediates(g, shape)
+}
+
+fn expression<G: Along>(g: &mut G) -> Option<()> {
+    while !g.ends()? {
+        instruction(g, false)?;
+    }
+    Some(())
+}
+
+// ---- items of core sections
+
+fn run<G: Along>(g: &mut G) -> Option<()> {
+    u32_any(g)?;
+    value(g)
+}
+
+fn body<G: Along>(g: &mut G) -> Option<()> {
+    g.frame(&|g: &mut G| {
+        g.vector(run)?;
+        while g.goes_on() {
+            instruction(g, true)?;
+        }
+        Some(())
+    })
+}
+
+fn segment<G: Along>(g: &mut G) -> Option<()> {
+    let flag = g.number(32, |n| n < 3)?;
+    if flag == 2 {
+        g.number(32, is_not_zero)?;
+    }
+    if flag != 1 {
+        expression(g)?;
+    }
+    g.bytes()
+}
+
+fn element<G: Along>(g: &mut G) -> Option<()> {
+    let flag = g.number(32, |n| n < 8)?;
+    if flag & 3 == 2 {
+        u32_any(g)?;
+    }
+    if flag & 1 == 0 {
+        expression(g)?;
+    }
+    if flag & 4 == 0 {
+        if flag != 0 {
+            g.tag(&[0x00])?;
+        }
+        return g.vector(u32_any);
+    }
+    if flag != 4 {
+        reference(g)?;
+    }
+    g.vector(expression)
+}
+
+fn export<G: Along>(g: &mut G) -> Option<()> {
+    g.name()?;
+    g.tag(&[0, 1, 2, 3, 4])?;
+    u32_any(g)
+}
+
+fn global_type<G: Along>(g: &mut G) -> Option<()> {
+    value(g)?;
+    g.tag(&[0, 1, 2, 3]).map(|_| ())
+}
+
+fn global<G: Along>(g: &mut G) -> Option<()> {
+    global_type(g)?;
+    expression(g)
+}
+
+fn table_type<G: Along>(g: &mut G) -> Option<()> {
+    reference(g)?;
+    let flags = g.tag(&[0, 1, 2, 3, 4, 5, 6, 7])?;
+    g.number(64, any)?;
+    if flags & 1 != 0 { g.number(64, any).map(|_| ()) } else { Some(()) }
+}
+
+fn table_item<G: Along>(g: &mut G) -> Option<()> {
+    if g.fixed_or_else(&[0x40])? {
+        g.tag(&[0x00])?;
+        table_type(g)?;
+        return expression(g);
+    }
+    table_type(g)
+}
+
+fn memory<G: Along>(g: &mut G) -> Option<()> {
+    let flags = g.tag(&[0, 1, 2, 3, 4, 5, 6, 7, 8, 9, 10, 11, 12, 13, 14, 15])?;
+    g.number(64, any)?;
+    if flags & 1 != 0 {
+        g.number(64, any)?;
+    }
+    if flags & 8 != 0 { u32_any(g) } else { Some(()) }
+}
+
+fn tag_type<G: Along>(g: &mut G) -> Option<()> {
+    g.tag(&[0])?;
+    u32_any(g)
+}
+
+fn entity<G: Along>(g: &mut G) -> Option<()> {
+    match g.tag(&[0x00, 0x01, 0x02, 0x03, 0x04, 0x20])? {
+        0x01 => table_type(g),
+        0x02 => memory(g),
+        0x03 => global_type(g),
+        0x04 => tag_type(g),
+        _ => u32_any(g),
+    }
+}
+
+fn named_entity<G: Along>(g: &mut G) -> Option<()> {
+    g.name()?;
+    entity(g)
+}
+
+fn import<G: Along>(g: &mut G) -> Option<()> {
+    g.name()?;
+    if g.fixed_or_else(&[0x00, 0x7F])? {
+        return g.vector(named_entity);
+    }
+    if g.fixed_or_else(&[0x00, 0x7E])? {
+        entity(g)?;
+        return g.vector(|g| g.name());
+    }
+    named_entity(g)
+}
+
+// ---- custom sections
+
+fn naming<G: Along>(g: &mut G) -> Option<()> {
+    u32_any(g)?;
+    g.name()
+}
+
+fn indirect_naming<G: Along>(g: &mut G) -> Option<()> {
+    u32_any(g)?;
+    g.vector(naming)
+}
+
+fn subsection<G: Along>(g: &mut G) -> Option<()> {
+    let every: Vec<u8> = (0..=255).collect();
+    match g.tag(&every)? {
+        0 => g.frame(&|g: &mut G| g.name()),
+        1 | 4..=9 | 11 => g.frame(&|g: &mut G| g.vector(naming)),
+        2 | 3 | 10 | 12 | 13 => g.frame(&|g: &mut G| g.vector(indirect_naming)),
+        _ => g.frame(&|g: &mut G| g.all()),
+    }
+}
+
+fn symbol<G: Along>(g: &mut G) -> Option<()> {
+    let kind = g.tag(&[0, 1, 2, 5])?;
+    let flags = g.number(32, any)?;
+    let is_defined = flags & 0x10 == 0;
+    if kind == 1 {
+        g.name()?;
+        if is_defined {
+            u32_any(g)?;
+            u32_any(g)?;
+            u32_any(g)?;
+        }
+        return Some(());
+    }
+    u32_any(g)?;
+    if is_defined || flags & 0x40 != 0 { g.name() } else { Some(()) }
+}
+
+fn link<G: Along>(g: &mut G) -> Option<()> {
+    match g.tag(&[8, 9])? {
+        8 => g.frame(&|g: &mut G| g.vector(symbol)),
+        _ => g.frame(&|g: &mut G| g.name()),
+    }
+}
+
+fn field<G: Along>(g: &mut G) -> Option<()> {
+    g.name()?;
+    g.vector(|g| {
+        g.name()?;
+        g.name()
+    })
+}
+
+fn hints<G: Along>(g: &mut G) -> Option<()> {
+    u32_any(g)?;
+    g.vector(|g| {
+        u32_any(g)?;
+        g.tag(&[1])?;
+        let values: Vec<u8> = (0..128).collect();
+        g.tag(&values).map(|_| ())
+    })
+}
+
+fn core_module<G: Along>(g: &mut G) -> Option<()> {
+    g.tag(&[0])?;
+    g.name()
+}
+
+fn core_instance<G: Along>(g: &mut G) -> Option<()> {
+    g.tag(&[0])?;
+    u32_any(g)?;
+    g.vector(u32_any)?;
+    g.vector(u32_any)
+}
+
+fn core_value<G: Along>(g: &mut G) -> Option<()> {
+    match g.tag(&[0x01, 0x7F, 0x7E, 0x7D, 0x7C])? {
+        0x7F => g.signed(32).map(|_| ()),
+        0x7E => g.signed(64).map(|_| ()),
+        0x7D => g.raw(4),
+        0x7C => g.raw(8),
+        _ => Some(()),
+    }
+}
+
+fn core_frame<G: Along>(g: &mut G) -> Option<()> {
+    g.tag(&[0])?;
+    u32_any(g)?;
+    u32_any(g)?;
+    u32_any(g)?;
+    g.vector(core_value)?;
+    g.vector(core_value)
+}
+
+fn until_end<G: Along>(g: &mut G, item: fn(&mut G) -> Option<()>) -> Option<()> {
+    while g.goes_on() {
+        item(g)?;
+    }
+    Some(())
+}
+
+// ---- sections
+
+/// The kinds of sections, in the order of their numbers.
+pub const KINDS: [&str; 22] = [
+    "Bodies", "Segments", "DataCount", "Elements", "Exports", "Functions", "Globals", "Imports", "Memories", "Start", "Tables", "Tags", "Names", "Linking",
+    "Producers", "Hints", "Core", "CoreModules", "CoreInstances", "CoreStack", "Custom", "Raw",
+];
+
+fn content<G: Along>(g: &mut G, kind: &str) -> Option<()> {
+    match kind {
+        "Bodies" => g.vector(body),
+        "Segments" => g.vector(segment),
+        "DataCount" | "Start" => u32_any(g),
+        "Elements" => g.vector(element),
+        "Exports" => g.vector(export),
+        "Functions" => g.vector(u32_any),
+        "Globals" => g.vector(global),
+        "Imports" => g.vector(import),
+        "Memories" => g.vector(memory),
+        "Tables" => g.vector(table_item),
+        "Tags" => g.vector(tag_type),
+        "Names" => g.named("name").and_then(|()| until_end(g, subsection)),
+        "Linking" => {
+            g.named("linking")?;
+            g.number(32, |n| n == 2)?;
+            until_end(g, link)
+        }
+        "Producers" => g.named("producers").and_then(|()| g.vector(field)),
+        "Hints" => g.named("metadata.code.branch_hint").and_then(|()| g.vector(hints)),
+        "Core" => g.named("core").and_then(|()| core_module(g)),
+        "CoreModules" => g.named("coremodules").and_then(|()| g.vector(core_module)),
+        "CoreInstances" => g.named("coreinstances").and_then(|()| g.vector(core_instance)),
+        "CoreStack" => {
+            g.named("corestack")?;
+            core_module(g)?;
+            g.vector(core_frame)
+        }
+        "Custom" => g.name().and_then(|()| g.all()),
+        "Raw" => g.all(),
+        _ => panic!("no such kind: {kind}"),
+    }
+}
+
+/// A section of the kind: a frame.
+pub fn section<G: Along>(g: &mut G, kind: &str) -> Option<()> {
+    g.frame(&|g: &mut G| content(g, kind))
+}

@@ -1,0 +1,254 @@
+//! Makes random texts of the grammar, some numbers padded, and changes them.
+
+use crate::grammar::{Along, table};
+use crate::plain::{put_signed, put_unsigned};
+
+pub struct Random(u64);
+
+impl Random {
+    pub fn new(seed: u64) -> Self {
+        // Seeds that are near each other begin far apart.
+        let mut random = Random(seed.wrapping_mul(0x9E37_79B9_7F4A_7C15) | 1);
+        for _ in 0..8 {
+            random.next();
+        }
+        random
+    }
+
+    pub fn next(&mut self) -> u64 {
+        self.0 ^= self.0 << 13;
+        self.0 ^= self.0 >> 7;
+        self.0 ^= self.0 << 17;
+        self.0.wrapping_mul(0x2545_F491_4F6C_DD1D)
+    }
+
+    pub fn below(&mut self, limit: usize) -> usize {
+        (self.next() >> 33) as usize % limit
+    }
+
+    pub fn one_in(&mut self, count: usize) -> bool {
+        self.below(count) == 0
+    }
+
+    fn one_of<T: Copy>(&mut self, items: &[T]) -> T {
+        items[self.below(items.len())]
+    }
+}
+
+pub struct Maker<'r> {
+    pub random: &'r mut Random,
+    pub text: Vec<u8>,
+    /// How many more members, instructions and items may be made.
+    pub left: usize,
+}
+
+/// Names: some of several bytes a character, and some that are the start or the end of another.
+const NAMES: [&str; 8] = ["", "a", "main", "\u{e9}", "name", "\u{20ac}x", "core", "\u{1F980}"];
+
+impl Maker<'_> {
+    /// Spreads a shortest number over more bytes: zeros, or copies of the sign.
+    fn pad(&mut self, begun: usize, most: usize, filling: u8) {
+        if !self.random.one_in(6) {
+            return;
+        }
+        let length = self.text.len() - begun;
+        // A number too long at times.
+        let more = self.random.below(most - length + 1 + usize::from(self.random.0 % 16 == 0));
+        for _ in 0..more {
+            if let Some(last) = self.text.last_mut() {
+                *last |= 0x80;
+            }
+            self.text.push(filling);
+        }
+    }
+
+    fn unsigned(&mut self, n: u64, bits: u32) {
+        let begun = self.text.len();
+        put_unsigned(&mut self.text, n);
+        self.pad(begun, bits.div_ceil(7) as usize, 0x00);
+    }
+
+    fn some(&mut self, bits: u32) -> u64 {
+        let n = self.random.next() >> (64 - bits);
+        match self.random.below(8) {
+            0 => n,
+            1 => n >> (bits / 2),
+            2 => u64::MAX >> (64 - bits),
+            3 => 1 << (self.random.below(bits as usize)),
+            _ => n % 140,
+        }
+    }
+
+    fn counted(&mut self, most: usize) -> usize {
+        let count = self.random.below(most.min(self.left) + 1);
+        self.unsigned(count as u64, 32);
+        count
+    }
+}
+
+impl Along for Maker<'_> {
+    fn tag(&mut self, tags: &[u8]) -> Option<u8> {
+        let tag = self.random.one_of(tags);
+        self.text.push(tag);
+        Some(tag)
+    }
+
+    fn tag_or_else(&mut self, tags: &[u8], others: u32) -> Option<Option<u8>> {
+        if self.random.below(tags.len() + others as usize) < others as usize { Some(None) } else { self.tag(tags).map(Some) }
+    }
+
+    fn fixed_or_else(&mut self, bytes: &[u8]) -> Option<bool> {
+        let is = self.random.one_in(3);
+        if is {
+            self.text.extend(bytes);
+        }
+        Some(is)
+    }
+
+    fn raw(&mut self, count: usize) -> Option<()> {
+        for _ in 0..count {
+            let byte = self.random.next() as u8;
+            self.text.push(byte);
+        }
+        Some(())
+    }
+
+    fn all(&mut self) -> Option<()> {
+        let count = self.random.below(5);
+        self.raw(count)
+    }
+
+    fn number(&mut self, bits: u32, is_in: fn(u64) -> bool) -> Option<u64> {
+        let n = (0..200).map(|_| self.some(bits)).find(|n| is_in(*n)).or_else(|| (0..200).find(|n| is_in(*n)))?;
+        self.unsigned(n, bits);
+        Some(n)
+    }
+
+    fn signed(&mut self, bits: u32) -> Option<i64> {
+        let n = (self.some(bits) << (64 - bits)) as i64 >> (64 - bits);
+        let n = if self.random.one_in(2) { n } else { !n };
+        let begun = self.text.len();
+        put_signed(&mut self.text, n);
+        self.pad(begun, bits.div_ceil(7) as usize, if n < 0 { 0x7F } else { 0x00 });
+        Some(n)
+    }
+
+    fn index(&mut self) -> Option<()> {
+        let n = self.some(32);
+        let begun = self.text.len();
+        put_signed(&mut self.text, n as i64);
+        self.pad(begun, 5, 0x00);
+        Some(())
+    }
+
+    fn name(&mut self) -> Option<()> {
+        let name = self.random.one_of(&NAMES);
+        self.named(name)
+    }
+
+    fn named(&mut self, name: &str) -> Option<()> {
+        self.unsigned(name.len() as u64, 32);
+        self.text.extend(name.bytes());
+        Some(())
+    }
+
+    fn opcode(&mut self, with_end: bool) -> Option<&'static str> {
+        let rows = table();
+        // Ops with immediates that have many forms are made more often.
+        let mut row = &rows[self.random.below(rows.len())];
+        if row.shape == "-" && self.random.one_in(2) {
+            row = &rows[self.random.below(rows.len())];
+        }
+        if row.prefix.is_none() && row.number == 0x0B && !with_end {
+            return self.opcode(with_end);
+        }
+        match row.prefix {
+            Some(prefix) => {
+                self.text.push(prefix);
+                self.unsigned(u64::from(row.number), 32);
+            }
+            None => self.text.push(row.number as u8),
+        }
+        Some(row.shape)
+    }
+
+    fn vector(&mut self, member: fn(&mut Self) -> Option<()>) -> Option<()> {
+        for _ in 0..self.counted(3) {
+            self.left = self.left.saturating_sub(1);
+            member(self)?;
+        }
+        Some(())
+    }
+
+    fn bytes(&mut self) -> Option<()> {
+        let count = self.counted(4);
+        self.raw(count)
+    }
+
+    fn frame(&mut self, content: &dyn Fn(&mut Self) -> Option<()>) -> Option<()> {
+        let outer = std::mem::take(&mut self.text);
+        content(self)?;
+        let mut inner = std::mem::replace(&mut self.text, outer);
+        self.unsigned(inner.len() as u64, 32);
+        self.text.append(&mut inner);
+        Some(())
+    }
+
+    fn goes_on(&mut self) -> bool {
+        self.left > 0 && {
+            self.left -= 1;
+            !self.random.one_in(4)
+        }
+    }
+
+    fn ends(&mut self) -> Option<bool> {
+        let ends = !self.goes_on();
+        if ends {
+            self.text.push(0x0B);
+        }
+        Some(ends)
+    }
+}
+
+/// Bytes that mean something in many places.
+const BYTES: [u8; 24] = [
+    0x00, 0x01, 0x02, 0x03, 0x04, 0x05, 0x0B, 0x1C, 0x1F, 0x20, 0x40, 0x41, 0x60, 0x62, 0x63, 0x64, 0x65, 0x6F, 0x70, 0x7E, 0x7F, 0x80, 0xFC, 0xFF,
+];
+
+/// One change: a byte is another, comes or goes, or what follows is cut off.
+fn change(random: &mut Random, text: &mut Vec<u8>) {
+    if text.is_empty() {
+        return;
+    }
+    let place = random.below(text.len());
+    let byte = if random.one_in(2) { random.one_of(&BYTES) } else { random.next() as u8 };
+    match random.below(8) {
+        0 => text.insert(place, byte),
+        1 => drop(text.remove(place)),
+        2 => text.truncate(place),
+        3 => text[place] ^= 1 << random.below(8),
+        4 => text[place] = text[place].wrapping_add(1),
+        5 => text[place] = text[place].wrapping_sub(1),
+        _ => text[place] = byte,
+    }
+}
+
+/// A text of the kind, changed at times, with bytes behind it at times; or, at times, any bytes.
+pub fn input(random: &mut Random, kind: &str) -> Vec<u8> {
+    let left = 1 + random.below(8);
+    let mut maker = Maker { random, text: Vec::new(), left };
+    if maker.random.one_in(16) {
+        let count = maker.random.below(12);
+        let _ = maker.raw(count);
+    } else {
+        let _ = crate::grammar::section(&mut maker, kind);
+    }
+    let mut text = maker.text;
+    for _ in 0..[0, 0, 1, 1, 1, 2, 3, 5][random.below(8)] {
+        change(random, &mut text);
+    }
+    if random.one_in(4) {
+        text.push(random.next() as u8);
+    }
+    text
+}

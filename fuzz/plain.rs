@@ -1,0 +1,197 @@
+//! A plain reader: it goes along a text and writes the shortest one of the same items.
+
+use crate::grammar::{Along, table};
+use std::collections::HashMap;
+use std::sync::OnceLock;
+
+pub struct Plain<'a> {
+    rest: &'a [u8],
+    pub text: Vec<u8>,
+}
+
+pub fn put_unsigned(text: &mut Vec<u8>, mut n: u64) {
+    while n > 0x7F {
+        text.push(n as u8 | 0x80);
+        n >>= 7;
+    }
+    text.push(n as u8);
+}
+
+pub fn put_signed(text: &mut Vec<u8>, mut n: i64) {
+    while !(-0x40..0x40).contains(&n) {
+        text.push(n as u8 | 0x80);
+        n >>= 7;
+    }
+    text.push(n as u8 & 0x7F);
+}
+
+/// The shape of each opcode, by its prefix, or 0, and its number.
+fn shapes() -> &'static HashMap<(u8, u32), &'static str> {
+    static SHAPES: OnceLock<HashMap<(u8, u32), &'static str>> = OnceLock::new();
+    SHAPES.get_or_init(|| table().iter().map(|row| ((row.prefix.unwrap_or(0), row.number), row.shape)).collect())
+}
+
+impl<'a> Plain<'a> {
+    fn byte(&mut self) -> Option<u8> {
+        let (&byte, rest) = self.rest.split_first()?;
+        self.rest = rest;
+        Some(byte)
+    }
+
+    fn take(&mut self, count: usize) -> Option<&'a [u8]> {
+        let (front, rest) = self.rest.split_at_checked(count)?;
+        self.rest = rest;
+        Some(front)
+    }
+
+    /// The groups of seven bits, and how many they are: at most as many as the bits take.
+    fn groups(&mut self, bits: u32) -> Option<(u128, u32, u8)> {
+        let mut sum = 0;
+        for place in 0..bits.div_ceil(7) {
+            let byte = self.byte()?;
+            sum |= u128::from(byte & 0x7F) << (7 * place);
+            if byte < 0x80 {
+                return Some((sum, 7 * (place + 1), byte));
+            }
+        }
+        None
+    }
+
+    fn unsigned(&mut self, bits: u32) -> Option<u64> {
+        let (sum, _, _) = self.groups(bits)?;
+        (sum >> bits == 0).then_some(sum as u64)
+    }
+
+    fn in_twos_complement(&mut self, bits: u32) -> Option<i64> {
+        let (sum, length, last) = self.groups(bits)?;
+        let value = sum as i128 - if last & 0x40 != 0 { 1 << length } else { 0 };
+        let limit = 1i128 << (bits - 1);
+        (-limit..limit).contains(&value).then_some(value as i64)
+    }
+
+    fn counted(&mut self) -> Option<usize> {
+        let count = self.unsigned(32)?;
+        put_unsigned(&mut self.text, count);
+        Some(count as usize)
+    }
+}
+
+impl Along for Plain<'_> {
+    fn tag(&mut self, tags: &[u8]) -> Option<u8> {
+        let byte = self.byte()?;
+        self.text.push(byte);
+        tags.contains(&byte).then_some(byte)
+    }
+
+    fn tag_or_else(&mut self, tags: &[u8], _others: u32) -> Option<Option<u8>> {
+        match self.rest.first() {
+            Some(byte) if tags.contains(byte) => self.tag(tags).map(Some),
+            _ => Some(None),
+        }
+    }
+
+    fn fixed_or_else(&mut self, bytes: &[u8]) -> Option<bool> {
+        if !self.rest.starts_with(bytes) {
+            return Some(false);
+        }
+        self.raw(bytes.len())?;
+        Some(true)
+    }
+
+    fn raw(&mut self, count: usize) -> Option<()> {
+        let bytes = self.take(count)?;
+        self.text.extend(bytes);
+        Some(())
+    }
+
+    fn all(&mut self) -> Option<()> {
+        self.raw(self.rest.len())
+    }
+
+    fn number(&mut self, bits: u32, is_in: fn(u64) -> bool) -> Option<u64> {
+        let n = self.unsigned(bits)?;
+        put_unsigned(&mut self.text, n);
+        is_in(n).then_some(n)
+    }
+
+    fn signed(&mut self, bits: u32) -> Option<i64> {
+        let n = self.in_twos_complement(bits)?;
+        put_signed(&mut self.text, n);
+        Some(n)
+    }
+
+    fn index(&mut self) -> Option<()> {
+        let n = self.signed(33)?;
+        (n >= 0).then_some(())
+    }
+
+    fn name(&mut self) -> Option<()> {
+        let length = self.counted()?;
+        let bytes = self.take(length)?;
+        std::str::from_utf8(bytes).ok()?;
+        self.text.extend(bytes);
+        Some(())
+    }
+
+    fn named(&mut self, name: &str) -> Option<()> {
+        let length = self.counted()?;
+        let bytes = self.take(length)?;
+        self.text.extend(bytes);
+        (bytes == name.as_bytes()).then_some(())
+    }
+
+    fn opcode(&mut self, with_end: bool) -> Option<&'static str> {
+        let byte = self.byte()?;
+        self.text.push(byte);
+        let number = if (0xFB..=0xFE).contains(&byte) { self.number(32, |_| true)? as u32 } else { u32::from(byte) };
+        let prefix = if (0xFB..=0xFE).contains(&byte) { byte } else { 0 };
+        if byte == 0x0B && !with_end {
+            return None;
+        }
+        shapes().get(&(prefix, number)).copied()
+    }
+
+    fn vector(&mut self, member: fn(&mut Self) -> Option<()>) -> Option<()> {
+        for _ in 0..self.counted()? {
+            member(self)?;
+        }
+        Some(())
+    }
+
+    fn bytes(&mut self) -> Option<()> {
+        let count = self.counted()?;
+        self.raw(count)
+    }
+
+    fn frame(&mut self, content: &dyn Fn(&mut Self) -> Option<()>) -> Option<()> {
+        let size = self.unsigned(32)?;
+        let mut inner = Plain { rest: self.take(size as usize)?, text: Vec::new() };
+        content(&mut inner)?;
+        if !inner.rest.is_empty() {
+            return None;
+        }
+        put_unsigned(&mut self.text, inner.text.len() as u64);
+        self.text.append(&mut inner.text);
+        Some(())
+    }
+
+    fn goes_on(&mut self) -> bool {
+        !self.rest.is_empty()
+    }
+
+    fn ends(&mut self) -> Option<bool> {
+        let ends = *self.rest.first()? == 0x0B;
+        if ends {
+            self.raw(1)?;
+        }
+        Some(ends)
+    }
+}
+
+/// The shortest text of the section of the kind that stands at the front, and how many bytes it takes there.
+pub fn shortened(bytes: &[u8], kind: &str) -> Option<(Vec<u8>, usize)> {
+    let mut along = Plain { rest: bytes, text: Vec::new() };
+    crate::grammar::section(&mut along, kind)?;
+    let taken = bytes.len() - along.rest.len();
+    Some((along.text, taken))
+}
