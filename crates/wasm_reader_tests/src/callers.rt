@@ -1,5 +1,5 @@
 //! Callers of the reader, which prove what they answer.
-ghost use Rattle.std.specs.Prelude.{◌≡◌, ◌≢◌, IfOk, IfErr, length};
+ghost use Rattle.std.specs.Prelude.{◌≡◌, ◌≢◌, ◌++◌, ℕ, List, IfOk, IfErr, length};
 ghost use Rattle.wasm_base.specs.Going.{FillsNothing};
 ghost use Rattle.wasm_base.specs.Numbers.{wide};
 ghost use Rattle.wasm_code.specs.Bodies.{Body, body};
@@ -7,7 +7,7 @@ ghost use Rattle.wasm_reader_base.specs.declared.fault.ReadFault.TheVariants.{Me
 
 use std::alloc::Allocator;
 use wasm_reader_base::ReadFault;
-use wasm_reader_insn::Instructions;
+use wasm_reader_insn::{Instructions, laws};
 
 /// How many instructions a body has. The bytes are those of the body without its size.
 pub fn count_instructions<A: Allocator + Copy>(bytes: &[u8], alloc: A) -> Result<usize, ReadFault>
@@ -20,4 +20,23 @@ pub fn count_instructions<A: Allocator + Copy>(bytes: &[u8], alloc: A) -> Result
         count += 1;
     }
     Ok(count)
+}
+
+/// The place after the first `count` instructions of a body: what `Function::byte_len` told when they had been added. The bytes are those of the body
+/// without its size.
+pub fn place_after<A: Allocator + Copy>(
+    bytes: &[u8],
+    count: usize,
+    alloc: A,
+) -> Result<usize, ReadFault>
+    ensures { IfOk result (λ place. (front more : List ℕ) (x : Body) → body wide front x → length x.code ≡ count → bytes.now ≡ front ++ more → place ≡ length front) }
+{
+    let (_runs, mut instructions) = Instructions::of_body(bytes, alloc)?;
+    laws::places();
+    for _taken in 0..count {
+        let Some(_step) = instructions.next()? else {
+            return Err(ReadFault::Ended);
+        };
+    }
+    Ok(instructions.place())
 }

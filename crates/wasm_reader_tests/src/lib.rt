@@ -1,6 +1,6 @@
 //! Tests of `wasm_reader_base` and `wasm_reader_insn`: bytes that were worked out from the format's documents, and requests for memory
 //! that are refused.
-#![tactic(auto)]
+#![tactic(auto, using(wasm_base::proofs::KnownLengths::drained_array))]
 
 #[cfg(test)]
 mod base;

@@ -1,7 +1,10 @@
 // Walks over instructions, with ample memory.
+use crate::callers::{count_instructions, place_after};
 use std::alloc::Global;
 use std::process::Abort;
 use std::test::Fail;
+use wasm_base::ValType;
+use wasm_code::Function;
 use wasm_insn::Op;
 use wasm_reader_base::ReadFault;
 use wasm_reader_insn::{Instructions, Step, laws};
@@ -53,6 +56,32 @@ fn expressions(rt: HostRuntime) -> Result<(), Fail> {
     check_end(&rt, walk.next_before_end()?, walk.place(), 21);
     check_end(&rt, walk.next_before_end()?, walk.place(), 21);
     check_count(&rt, walk.rest().len(), 2);
+    Ok(())
+}
+
+/// A function of a constant, a call and the end, and its length before the constant, before the call and before the end.
+fn function(alloc: Global) -> Result<(Vec<u8>, [usize; 3]), Fail> {
+    let mut function = Function::new(alloc, [(300, ValType::I32)])?;
+    let begun = function.byte_len();
+    function.instructions().i32_const(-65)?;
+    let after_constant = function.byte_len();
+    function.instructions().call(128)?;
+    let after_call = function.byte_len();
+    function.instructions().end()?;
+    Ok((
+        function.into_raw_body(),
+        [begun, after_constant, after_call],
+    ))
+}
+
+#[test]
+fn places_that_were_told(rt: HostRuntime) -> Result<(), Fail> {
+    let (body, places) = function(rt.alloc())?;
+    check_count(&rt, count_instructions(&body, rt.alloc())?, 3);
+    for (count, place) in places.iter().enumerate() {
+        check_count(&rt, place_after(&body, count, rt.alloc())?, *place);
+    }
+    check_count(&rt, place_after(&body, 3, rt.alloc())?, body.len());
     Ok(())
 }
 
