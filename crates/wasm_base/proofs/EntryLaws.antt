@@ -7,7 +7,7 @@ use Rattle.wasm_base.specs.Reading.{UniqueReading, ReadsAlone}
 use Rattle.wasm_base.specs.Texts.{longest}
 use Rattle.wasm_base.specs.Pieces.{joined, section_text, SectionFits}
 use Rattle.wasm_base.specs.Calls.{ReadsBack, ReadsBackWide, ReadsBackBoth}
-use Rattle.wasm_base.specs.Entries.{Entry, Given, Raw, entry_text, Means, HoldsItems, HoldsWide, counted_format, ItemLaws}
+use Rattle.wasm_base.specs.Entries.{Entry, Given, Raw, entry_text, Means, HoldsItems, SpellsWide, HoldsWide, counted_format, ItemLaws}
 use Rattle.wasm_base.proofs.FormatLaws.{vec-alone, frame-alone, whole_from_alone}
 use Rattle.wasm_base.proofs.TextLaws.{section_alone, section_alone_wide}
 
@@ -19,7 +19,7 @@ pub content_fits : (pieces : List (List ℕ)) → SectionFits pieces → length 
 content_fits pieces fits = omega (arith, fits.size, length-append (unsigned_text (length pieces)) (joined pieces))
 
 -- Of pieces that fit, each spells its item.
-pub pieces_spelled : {Item : Type 0} (F : Format Item) (pieces : List (List ℕ)) (items : List Item) → length (joined pieces) ≤ longest → HoldsWide F pieces items → AllZip (F wide) pieces items
+pub pieces_spelled : {Item : Type 0} (F : Format Item) (pieces : List (List ℕ)) (items : List Item) → length (joined pieces) ≤ longest → AllZip (SpellsWide F) pieces items → AllZip (F wide) pieces items
 pieces_spelled F [] [] fits holds = tt
 pieces_spelled F [] (item ∷ items) fits holds = absurd holds
 pieces_spelled F (piece ∷ pieces) [] fits holds = absurd holds
@@ -29,7 +29,7 @@ pieces_spelled F (piece ∷ pieces) (item ∷ items) fits holds =
 
 pub counted_alone_wide : {Item : Type 0} {F : Format Item} → UniqueReading F → (pieces : List (List ℕ)) → SectionFits pieces → ReadsBackWide (counted_format F) (HoldsWide F pieces) (section_text pieces)
 counted_alone_wide {F = F} f pieces fits = record {
-  for_each = λ items holds. section_alone_wide {F = F} (counted-alone {F = F} f) pieces items fits (pieces_spelled F pieces items (content_fits pieces fits) holds);
+  for_each = λ items holds. section_alone_wide {F = F} (counted-alone {F = F} f) pieces items fits (pieces_spelled F pieces items (content_fits pieces fits) holds.spelled);
 }
 
 module _ {Record Item : Type 0} (text : Record → List ℕ) (IsPlain : Record → Type 0) (normal_form : Record → Item) (F : Format Item) (laws : ItemLaws text IsPlain normal_form F) where

@@ -45,21 +45,27 @@ module _ {Record Item : Type 0} (text : Record → List ℕ) (IsPlain : Record �
 
 module _ {Record Item : Type 0} (text : Record → List ℕ) (IsPlain IsPlainWide : Record → Type 0) (normal_form : Record → Item) (F : Format Item) (laws : ItemLaws text IsPlain normal_form F) (wider : (given : Record) → IsPlain given → IsPlainWide given)
     (spelled : (given : Record) → IsPlainWide given → FrameFits (text given) → F wide (text given) (normal_form given)) where
-  entries_wide : (entries : List (Entry Record)) (items : List Item) → AllZip (Means IsPlain normal_form F) entries items → HoldsWide F (map (entry_text text) entries) items
+  entries_wide : (entries : List (Entry Record)) (items : List Item) → AllZip (Means IsPlain normal_form F) entries items → AllZip (SpellsWide F) (map (entry_text text) entries) items
   entries_wide [] [] means = tt
   entries_wide [] (item ∷ items) means = absurd means
   entries_wide (entry ∷ entries) [] means = absurd means
   entries_wide (entry ∷ entries) (item ∷ items) means =
       (λ fits. laws.alone.spellings.wider (entry_text text entry) item (entry_spelled text IsPlain normal_form F laws entry item fits means.0), entries_wide entries items means.1)
 
+  one_wide : (pieces : List (List ℕ)) (items : List Item) (piece : List ℕ) (item : Item) → HoldsWide F pieces items → SpellsWide F piece item → HoldsWide F (pieces ++ piece ∷ []) (items ++ item ∷ [])
+  one_wide pieces items piece item holds spells = record { spelled = zip_more (SpellsWide F) pieces items piece item holds.spelled spells }
+
+  given_wide : (pieces : List (List ℕ)) (items : List Item) (given : Record) → HoldsWide F pieces items → IsPlainWide given → HoldsWide F (pieces ++ text given ∷ []) (items ++ normal_form given ∷ [])
+  given_wide pieces items given holds plain = one_wide pieces items (text given) (normal_form given) holds (spelled given plain)
+
   pub holds_more_wide : HoldsMoreWide text IsPlain IsPlainWide normal_form F
   holds_more_wide = record {
-    none = tt;
-    held = λ pieces items holds. subst (λ ps. HoldsWide F ps items) (sym holds.held) (entries_wide holds.entries items holds.meant);
+    none = record { spelled = tt };
+    held = λ pieces items holds. record { spelled = subst (λ ps. AllZip (SpellsWide F) ps items) (sym holds.held) (entries_wide holds.entries items holds.meant) };
     wider = wider;
-    given = λ pieces items given holds plain. zip_more (SpellsWide F) pieces items (text given) (normal_form given) holds (spelled given plain);
-    raw = λ pieces items piece item holds spells. zip_more (SpellsWide F) pieces items piece item holds (λ fits. spells);
-    all = all_steps text normal_form IsPlainWide (HoldsWide F) (λ pieces items given holds plain. zip_more (SpellsWide F) pieces items (text given) (normal_form given) holds (spelled given plain));
+    given = given_wide;
+    raw = λ pieces items piece item holds spells. one_wide pieces items piece item holds (λ fits. spells);
+    all = all_steps text normal_form IsPlainWide (HoldsWide F) given_wide;
   }
 
 -- of records without expressions

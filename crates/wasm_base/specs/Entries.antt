@@ -32,8 +32,8 @@ abbrev pub SpellsWide : {Item : Type 0} → Format Item → List ℕ → Item �
 SpellsWide F piece item = FrameFits piece → F wide piece item
 
 -- holds, with padded numbers: The builder has a piece for each item, which spells it.
-abbrev pub HoldsWide : {Item : Type 0} → Format Item → List (List ℕ) → List Item → Type 0
-HoldsWide F pieces items = AllZip (SpellsWide F) pieces items
+pub record HoldsWide {Item : Type 0} (F : Format Item) (pieces : List (List ℕ)) (items : List Item) : Type 0 where
+  pub spelled : AllZip (SpellsWide F) pieces items
 
 -- a section of counted items: the frame of a vector
 abbrev pub counted_format : {Item : Type 0} → Format Item → Format (List Item)
