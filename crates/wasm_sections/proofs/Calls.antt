@@ -24,7 +24,7 @@ use Rattle.wasm_base.specs.Pieces.{SectionPayload, SectionFits, section_text, se
 use Rattle.wasm_base.specs.Texts.{frame_text, FrameFits, VecFits, raw_framed}
 use Rattle.wasm_base.specs.Types.{IsRef}
 use Rattle.wasm_base.specs.declared.types.RefType.{RefType}
-use Rattle.wasm_base.proofs.Calls.{gains_section}
+use Rattle.wasm_base.proofs.Calls.{gains_section, adds_item_wide, encodes_wide}
 use Rattle.wasm_base.proofs.KnownLengths.{array_items, copied_items}
 use Rattle.wasm_base.proofs.Payloads.{u32-payload}
 use Rattle.wasm_base.proofs.TextLaws.{u32_spelled, name_spelled}
@@ -180,22 +180,6 @@ adds_alike before from ty names e fits utf8 range are =
 
 -- ---- with padded numbers
 
--- what a section holds in shortest form: with the law of its kind, of `HeldLaws`
-pub holds_wide : {Record Item : Type 0} {text : Record → List ℕ} {IsPlain IsPlainWide : Record → Type 0} {normal_form : Record → Item} {F : Format Item} {entries : List (List ℕ)} {items : List Item}
-    → HoldsMoreWide text IsPlain IsPlainWide normal_form F → HoldsItems text IsPlain normal_form F entries items → HoldsWide F entries items
-holds_wide {entries = entries} {items = items} law holds = law.held entries items holds
-
--- an item that given bytes spell with padded numbers
-pub adds_raw_wide : {Record Item : Type 0} {text : Record → List ℕ} {IsPlain IsPlainWide : Record → Type 0} {normal_form : Record → Item} {F : Format Item} {old new : List (List ℕ)} {items : List Item} {piece : List ℕ}
-    → HoldsMoreWide text IsPlain IsPlainWide normal_form F → HoldsWide F old items → (item : Item) → new ≡ old ++ piece ∷ [] → F wide piece item → HoldsWide F new (items ++ item ∷ [])
-adds_raw_wide {F = F} {old = old} {items = items} {piece = piece} law before item e spelled = subst (λ entries. HoldsWide F entries (items ++ item ∷ [])) (sym e) (law.raw old items piece item before spelled)
-
--- an item that is the normal form of a record that is plain but for padded numbers in its expressions
-pub adds_item_wide : {Record Item : Type 0} {text : Record → List ℕ} {IsPlain IsPlainWide : Record → Type 0} {normal_form : Record → Item} {F : Format Item} {old new : List (List ℕ)} {items : List Item}
-    → HoldsMoreWide text IsPlain IsPlainWide normal_form F → HoldsWide F old items → (given : Record) → new ≡ old ++ text given ∷ [] → IsPlainWide given → HoldsWide F new (items ++ normal_form given ∷ [])
-adds_item_wide {normal_form = normal_form} {F = F} {old = old} {items = items} law before given e plain =
-    subst (λ entries. HoldsWide F entries (items ++ normal_form given ∷ [])) (sym e) (law.given old items given before plain)
-
 pub adds_table_with_init_wide : {old new : List (List ℕ)} {items : List TableItem} → HoldsWide table_item old items → (table : TableType) (is : List Plain) (bytes : List ℕ) → new ≡ old ++ (before_init ++ (table_text table ++ expression_text bytes)) ∷ []
     → IsTable table → StoresWide bytes is → HoldsWide table_item new (items ++ record { table_type = table; init = Some is } ∷ [])
 adds_table_with_init_wide before table is bytes e plain stored =
@@ -215,11 +199,11 @@ pub adds_active_wide : {old new : List (List ℕ)} {items : List DataItem} → H
 adds_active_wide before memory is offset bytes e range stored = adds_item_wide data-wide before (given_active memory (record { bytes = offset; instructions = is }) bytes) e (range, stored)
 
 -- a section that a buffer has gained
-pub encodes_wide : {A Record Item : Type 0} {text : Record → List ℕ} {IsPlain IsPlainWide : Record → Type 0} {normal_form : Record → Item} {F : Format Item} {fits : Type 0} {entries : List (List ℕ)} {old new : Vec ℕ A} {result : Result (Unit {0}) Refused} {items : List Item}
+pub encodes_items_wide : {A Record Item : Type 0} {text : Record → List ℕ} {IsPlain IsPlainWide : Record → Type 0} {normal_form : Record → Item} {F : Format Item} {fits : Type 0} {entries : List (List ℕ)} {old new : Vec ℕ A} {result : Result (Unit {0}) Refused} {items : List Item}
     → HoldsMoreWide text IsPlain IsPlainWide normal_form F → Appends (section_text entries) fits old new result → OnOk result (ReadsBackBoth (counted_format F) (HoldsItems text IsPlain normal_form F entries) (HoldsWide F entries) (section_text entries)) → HoldsWide F entries items
     → OnOk result (GainsReadingWide (counted_format F) items old.items new.items)
-encodes_wide {entries = entries} {result = Ok u} {items = items} law appends reads holds = record { text = section_text entries; added = appends.ok; alone = reads.wide.for_each items holds }
-encodes_wide {result = Err e} law appends reads holds = tt
+encodes_items_wide {text = text} {IsPlain = IsPlain} {normal_form = normal_form} {F = F} {entries = entries} law appends reads holds =
+    encodes_wide (counted_format F) (HoldsItems text IsPlain normal_form F entries) (HoldsWide F entries) appends reads holds
 
 -- ---- a module and one more section
 
