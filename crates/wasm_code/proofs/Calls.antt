@@ -1,9 +1,9 @@
 -- What calls leave, step by step: lemmas that a caller cites.
-use Rattle.std.proofs.Common.{◌≡◌, ℕ, ◌^◌, ◌<◌, ◌≤◌, List, [], ◌∷◌, ◌++◌, length, map, Result, Ok, Err, refl, sym, ap, subst, ◌∙◌}
+use Rattle.std.proofs.Common.{◌≡◌, ℕ, ◌^◌, ◌<◌, ◌≤◌, List, [], ◌∷◌, ◌++◌, length, map, ℤ, Result, Ok, Err, refl, sym, ap, subst, ◌∙◌, append-nil}
 use Rattle.std.proofs.lemmas.List.{map-append}
 use Rattle.std.proofs.lemmas.List.Elements.{All-nil, All-cons}
 use Rattle.std.specs.Array.Iter.{array_into_iter_items, array_steps, array_steps_back}
-use Rattle.std.specs.Iterator.{Count}
+use Rattle.std.specs.Iterator.{Count, Drains}
 use Rattle.std.specs.Iterator.Runs.{EveryRun, ItemsAre, ItemsAreReversed}
 use Rattle.std.specs.List.{All, AllByRecursion, AllZip}
 use Rattle.std.specs.Prelude.{OnOk}
@@ -13,7 +13,7 @@ use Rattle.wasm_base.specs.declared.refused.Refused.{Refused}
 use Rattle.wasm_base.specs.declared.types.ValType.{ValType}
 use Rattle.std.specs.declared.array.IntoIter.{IntoIter}
 use Rattle.wasm_base.specs.Calls.{Appends, ReadsOneMore, AddsEach}
-use Rattle.wasm_base.specs.Formats.{any_bytes, frame, vec}
+use Rattle.wasm_base.specs.Formats.{u32, s32, any_bytes, frame, vec, members}
 use Rattle.wasm_base.specs.Modules.{SectionReading, ReadsSections, GainsReading, GainsReadingWide}
 use Rattle.wasm_base.specs.Numbers.{Mode, shortest, wide}
 use Rattle.wasm_base.specs.Pieces.{SectionPayload, SectionFits, section_text, section_framed}
@@ -25,11 +25,16 @@ use Rattle.wasm_insn.specs.Plain.{Plain, instruction as instruction_format}
 use Rattle.wasm_insn.specs.Sink.{br_table_text, WritesLabels}
 use Rattle.wasm_insn.specs.Table.{table}
 use Rattle.wasm_insn.specs.Instructions.{instruction_text, IsPlainInstruction}
-use Rattle.wasm_insn.proofs.InstructionLaws.{br_table_spelled}
+use Rattle.wasm_insn.specs.Arguments.{signed32}
+use Rattle.wasm_insn.specs.declared.instruction.Instruction.TheVariants.{I32Const}
+use Rattle.wasm_insn.specs.declared.op.Shape.TheVariants.{C32}
+use Rattle.wasm_insn.specs.declared.part.Part.TheVariants as parts
+use Rattle.wasm_insn.proofs.InstructionLaws.{br_table_spelled, byte_spelled, one_argument}
+use Rattle.wasm_insn.proofs.TableRuns.{byte_shape}
 use Rattle.wasm_code.specs.Bodies.{Run, IsRun, IsRuns, expand, Body, body as body_format, IsPlainBody, IsWideBody, and_then, Grows, HasLocals, BeginsWithRuns, BeginsWithTypes}
 use Rattle.wasm_code.specs.Code.{code_section, HoldsBodies, SpellsBodiesIn, SpellsBodies, SpellsBodiesWide, ReadsCode, raw_code_reading, code_reading}
 use Rattle.wasm_base.specs.Formats.{such}
-use Rattle.wasm_code.specs.Expressions.{IsNoEnd, StoresInstructions, Stores, normal_row}
+use Rattle.wasm_code.specs.Expressions.{IsNoEnd, StoresInstructions, StoresWide, Stores, normal_row}
 use Rattle.wasm_code.specs.Laws.{HoldsMoreBodies, GrowsByText, GrowsByLabels, br_table_row, HoldsMoreBodiesWide, GrowsWide, GrowsByTextWide, StoresMoreWide}
 use Rattle.wasm_code.proofs.BodyLaws.{grows, grows_by, body_wider, grows_wide, grows_by_instruction}
 use Rattle.wasm_code.proofs.CodeLaws.{raw_code-payload, code_section-payload}
@@ -153,6 +158,30 @@ pub encodes_code : {A : Type 0} {fits : Type 0} {entries : List (List ℕ)} {old
 encodes_code {entries = entries} {result = Ok u} {bodies = bodies} appends reads spelled =
     record { text = section_text entries; added = appends.ok; alone = reads.bodies.for_each bodies spelled }
 encodes_code {result = Err e} appends reads spelled = tt
+
+-- the bytes of an array, that were handed in
+pub raw_constant : {n : ℕ} {elements stored : List ℕ} → (it : IntoIter ℕ n) × (xs : List ℕ) × becomes {n = n} elements it × Drains array_steps it xs × (stored ≡ xs) → stored ≡ elements
+raw_constant given = given.4 ∙ array_items given.0 given.1 given.3 ∙ given.2.0
+
+-- ---- instructions and bodies with padded numbers
+
+-- the instruction `I32Const`, of a padded number
+pub padded_i32_const : (bytes : List ℕ) (v : ℤ) → s32 wide bytes v → StoresWide (0x41 ∷ bytes) (normal_row {A = Global} (I32Const v) ∷ [])
+padded_i32_const bytes v padded =
+    members_one (such IsNoEnd (instruction_format table)) wide (0x41 ∷ bytes) (normal_row {A = Global} (I32Const v))
+    (byte_spelled wide 0x41 bytes C32 (signed32 v ∷ []) refl (byte_shape 0x41) (one_argument wide parts.Signed32 bytes (signed32 v) (v, refl, padded)), refl)
+
+-- a raw body without runs: of their number alone, which may be padded
+pub without_runs : {count : List ℕ} → u32 wide count 0 → IsWideBody count (record { runs = []; code = [] })
+without_runs {count = count} none = (([], []), refl, record { front = count; back = []; joined = sym (append-nil count); first = record { front = count; back = []; joined = sym (append-nil count); first = none; second = refl }; second = refl })
+
+-- one more instruction
+pub adds_instruction_wide : {A : Type 0} {old new : List ℕ} {x : Body} → IsWideBody old x → (i : Instruction A) → new ≡ old ++ instruction_text i → IsPlainInstruction i → IsWideBody new (and_then x (normal_row i ∷ []))
+adds_instruction_wide {old = old} {x = x} body i e plain = subst (λ s. IsWideBody s (and_then x (normal_row i ∷ []))) (sym e) (grows_by_instruction i old x plain body)
+
+-- more of them, that given bytes spell
+pub adds_instructions_wide : {old new : List ℕ} {x : Body} → IsWideBody old x → (more : List ℕ) (is : List Plain) → new ≡ old ++ more → members (instruction_format table) wide more is → IsWideBody new (and_then x is)
+adds_instructions_wide {old = old} {x = x} body more is e spelled = subst (λ s. IsWideBody s (and_then x is)) (sym e) (grows_wide old more x is body spelled)
 
 -- ---- the code section, with padded numbers
 
