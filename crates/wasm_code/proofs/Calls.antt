@@ -159,11 +159,18 @@ encodes_code {entries = entries} {result = Ok u} {bodies = bodies} appends reads
     record { text = section_text entries; added = appends.ok; alone = reads.bodies.for_each bodies spelled }
 encodes_code {result = Err e} appends reads spelled = tt
 
--- the bytes of an array, that were handed in
-pub raw_constant : {n : ℕ} {elements stored : List ℕ} → (it : IntoIter ℕ n) × (xs : List ℕ) × becomes {n = n} elements it × Drains array_steps it xs × (stored ≡ xs) → stored ≡ elements
-raw_constant given = given.4 ∙ array_items given.0 given.1 given.3 ∙ given.2.0
+-- ---- constant expressions, instructions and bodies with padded numbers
 
--- ---- instructions and bodies with padded numbers
+-- what is plain is so with padded numbers too
+pub wider_body : {bytes : List ℕ} {x : Body} → IsPlainBody bytes x → IsWideBody bytes x
+wider_body {bytes = bytes} {x = x} plain = body_wider bytes x plain
+
+pub wider_constant : (bytes : List ℕ) (is : List Plain) → StoresInstructions bytes is → StoresWide bytes is
+wider_constant bytes is plain = stores_wider bytes is plain
+
+-- an expression of given bytes, the elements of an array
+pub raw_constant : {n : ℕ} {elements stored : List ℕ} → (it : IntoIter ℕ n) × (xs : List ℕ) × becomes {n = n} elements it × Drains array_steps it xs × (stored ≡ xs) → (is : List Plain) → StoresWide elements is → StoresWide stored is
+raw_constant given is spelled = subst (λ bytes. StoresWide bytes is) (sym (given.4 ∙ array_items given.0 given.1 given.3 ∙ given.2.0)) spelled
 
 -- the instruction `I32Const`, of a padded number
 pub padded_i32_const : (bytes : List ℕ) (v : ℤ) → s32 wide bytes v → StoresWide (0x41 ∷ bytes) (normal_row {A = Global} (I32Const v) ∷ [])
