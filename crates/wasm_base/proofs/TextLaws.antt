@@ -74,6 +74,9 @@ unsigned_text-spelled (suc more) n h =
 pub u32_spelled : (n : ℕ) → n < 2 ^ 32 → u32 shortest (unsigned_text n) n
 u32_spelled n h = let t = unsigned_text-spelled n n (le_refl n) in record { groups = t.0; total = t.1; range = h; size = t.2 }
 
+pub u32_in : (mode : Mode) (n : ℕ) → n < 2 ^ 32 → u32 mode (unsigned_text n) n
+u32_in mode n h = spelled_in {F = u32} u32-alone (u32_spelled n h) mode
+
 pub u64_spelled : (n : ℕ) → n < 2 ^ 64 → u64 shortest (unsigned_text n) n
 u64_spelled n h = let t = unsigned_text-spelled n n (le_refl n) in record { groups = t.0; total = t.1; range = h; size = t.2 }
 
@@ -156,13 +159,13 @@ s33_spelled n h = let t = signed_text-spelled_of (pos n) in record { groups = t.
 
 -- ---- frames, names and vectors
 
--- A frame of what padded numbers spell has itself a size in its shortest spelling.
+-- The text is a frame of what its content spells, in shortest form or with padded numbers.
 pub frame_in : {X : Type 0} (mode : Mode) (F : Format X) (content : List ℕ) (x : X) → FrameFits content → F mode content x → frame F mode (frame_text content) x
 frame_in mode F content x h g = record {
   front = unsigned_text (length content);
   content = content;
   joined = refl;
-  size = spelled_in {F = u32} u32-alone (u32_spelled (length content) (omega (arith, h))) mode;
+  size = u32_in mode (length content) (omega (arith, h));
   spelled = g;
 }
 
@@ -216,7 +219,7 @@ vec_of_pieces mode F pieces xs few h = record {
   front = unsigned_text (length pieces);
   back = joined pieces;
   joined = refl;
-  first = subst (λ n. u32 mode (unsigned_text (length pieces)) n) (as_many_items (F mode) pieces xs h) (spelled_in {F = u32} u32-alone (u32_spelled (length pieces) (omega (arith, few))) mode);
+  first = subst (λ n. u32 mode (unsigned_text (length pieces)) n) (as_many_items (F mode) pieces xs h) (u32_in mode (length pieces) (omega (arith, few)));
   second = joined_spelled mode F pieces xs h;
 }
 

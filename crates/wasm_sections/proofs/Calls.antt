@@ -19,7 +19,7 @@ use Rattle.wasm_base.specs.Formats.{Format, u32, vec, frame}
 use Rattle.wasm_base.specs.Laws.{NameFits, HoldsMoreWide}
 use Rattle.wasm_insn.specs.Plain.{Plain}
 use Rattle.wasm_base.specs.Modules.{SectionReading, reading_of, ReadsSections, ReadsPayloads, GainsReading, GainsReadingWide}
-use Rattle.wasm_base.specs.Numbers.{shortest, wide, unsigned_text}
+use Rattle.wasm_base.specs.Numbers.{shortest, unsigned_text}
 use Rattle.wasm_base.specs.Pieces.{SectionPayload, SectionFits, section_text, section_framed}
 use Rattle.wasm_base.specs.Texts.{frame_text, FrameFits, VecFits, raw_framed}
 use Rattle.wasm_base.specs.Types.{IsRef}

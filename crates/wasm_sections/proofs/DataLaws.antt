@@ -11,7 +11,7 @@ use Rattle.wasm_base.specs.declared.refused.Refused.{Refused}
 use Rattle.wasm_base.proofs.BaseLaws.{vec-bytes-alone}
 use Rattle.wasm_base.proofs.FormatLaws.{mapped-alone, pair-alone, such-alone, choice_of}
 use Rattle.wasm_base.proofs.NumberLaws.{u32-alone}
-use Rattle.wasm_base.proofs.TextLaws.{spelled_in, u32_spelled}
+use Rattle.wasm_base.proofs.TextLaws.{spelled_in, u32_in}
 use Rattle.wasm_code.specs.Expressions.{expression, expression_text}
 use Rattle.wasm_code.proofs.ExpressionLaws.{expression-alone, expression_spelled}
 use Rattle.wasm_insn.specs.Plain.{Plain}
@@ -66,7 +66,7 @@ active_spelled mode (suc n) e bytes range plain fits =
     let whole = length-append (unsigned_text (suc n)) rest in
     let inside = last_fit (expression_text e.bytes) bytes (omega (arith, fits, whole)) in
     let numbered : pair (such (λ m. 0 < m) u32) (pair expression (vec byte)) mode (unsigned_text (suc n) ++ rest) (suc n, (e.instructions, bytes)) =
-    pair_in mode (such (λ m. 0 < m) u32) (pair expression (vec byte)) (unsigned_text (suc n)) rest (suc n) (e.instructions, bytes) (spelled_in {F = u32} u32-alone (u32_spelled (suc n) range) mode, omega arith) (placed mode e bytes plain inside) in
+    pair_in mode (such (λ m. 0 < m) u32) (pair expression (vec byte)) (unsigned_text (suc n)) rest (suc n) (e.instructions, bytes) (u32_in mode (suc n) range, omega arith) (placed mode e bytes plain inside) in
     ((2, active (suc n) e.instructions bytes), refl, record { front = 0x02 ∷ []; back = unsigned_text (suc n) ++ rest; joined = refl; first = flag_in mode 2 (omega arith); second = ((suc n, (e.instructions, bytes)), refl, numbered) })
 
 pub data_spelled : (mode : Mode) (g : GivenData) → IsGivenDataIn mode g → FrameFits (data_text g) → data_item mode (data_text g) (data_of g)

@@ -1,5 +1,5 @@
 -- Element segments are read uniquely.
-use Rattle.std.proofs.Common.{◌≡◌, ℕ, ◌+◌, ◌^◌, ◌<◌, List, [], ◌∷◌, ◌++◌, length, map, Bool, true, false, cond, Some, None, refl, sym, ap, subst, ◌∙◌, arith, lit<}
+use Rattle.std.proofs.Common.{◌≡◌, ℕ, ◌+◌, ◌<◌, List, [], ◌∷◌, ◌++◌, length, map, Bool, true, false, cond, Some, None, refl, sym, ap, subst, ◌∙◌, arith, lit<}
 use Rattle.std.specs.List.{All, flat_map}
 use Rattle.std.proofs.lemmas.List.{length-map}
 use Rattle.std.proofs.lemmas.List.Elements.{All-head, All-tail}
@@ -17,7 +17,7 @@ use Rattle.wasm_base.specs.declared.types.RefType.{RefType}
 use Rattle.wasm_base.proofs.BaseLaws.{vec-u32-alone}
 use Rattle.wasm_base.proofs.FormatLaws.{TellsTag, mapped-alone, pair-alone, vec-alone, when-alone, fixed-alone, prefixed-alone, tagged-alone}
 use Rattle.wasm_base.proofs.NumberLaws.{u32-alone}
-use Rattle.wasm_base.proofs.TextLaws.{spelled_in, u32_spelled, vec_spelled}
+use Rattle.wasm_base.proofs.TextLaws.{spelled_in, u32_spelled, u32_in, vec_spelled}
 use Rattle.wasm_base.proofs.TypeLaws.{ref-alone, ref-texts}
 use Rattle.wasm_code.specs.Expressions.{expression, expression_text}
 use Rattle.wasm_code.proofs.ExpressionLaws.{expression-alone, expression_spelled}
@@ -118,9 +118,6 @@ element-alone =
     mapped-alone segment_of (λ x y e. ap (λ s. (s.place, s.elements)) e) (pair-alone (place-alone f) (elements-alone (tells_kind f) f.expressions))
 
 -- ---- texts
-
-u32_in : (mode : Mode) (n : ℕ) → n < 2 ^ 32 → u32 mode (unsigned_text n) n
-u32_in mode n range = spelled_in {F = u32} u32-alone (u32_spelled n range) mode
 
 place_spelled : (mode : Mode) (p : Place Stored) (of_expressions : Bool) → IsPlaceIn mode p → place (record { not_active = is_inactive p; second = is_second p; expressions = of_expressions }) mode (place_text stored_text p) (place_of p)
 place_spelled mode passive of_expressions plain = (refl, refl)
