@@ -2,3 +2,4 @@ pub mod Bodies
 pub mod Whole
 pub mod Filled
 pub mod Named
+pub mod Padded

@@ -1,7 +1,7 @@
 -- A value that says nothing, and then one that does, are read uniquely.
 use Rattle.std.proofs.Common.{ℕ, List, ◌++◌, refl}
 use Rattle.wasm_base.specs.Formats.{Format, just, after}
-use Rattle.wasm_base.specs.Numbers.{shortest}
+use Rattle.wasm_base.specs.Numbers.{Mode}
 use Rattle.wasm_base.specs.Reading.{UniqueReading, UniqueWholeReading}
 use Rattle.wasm_base.proofs.FormatLaws.{tagged-alone, mapped-whole, pair-whole}
 
@@ -21,5 +21,5 @@ after-alone x {F} {G} f g = tagged-alone (λ y. tt {0}) (λ mode u s y h. refl) 
 pub after-whole : {X Y : Type 0} (x : X) {F : Format X} {G : Format Y} → UniqueReading F → UniqueWholeReading G → UniqueWholeReading (after x F G)
 after-whole x {F} {G} f g = mapped-whole (λ p. p.1) (λ x y e. λ i. (tt, e i)) (pair-whole (just-alone x f) g)
 
-pub after_spelled : {X Y : Type 0} (x : X) (F : Format X) (G : Format Y) (front back : List ℕ) (y : Y) → F shortest front x → G shortest back y → after x F G shortest (front ++ back) y
-after_spelled x F G front back y h g = ((tt, y), refl, record { front = front; back = back; joined = refl; first = h; second = g })
+pub after_spelled : {X Y : Type 0} (mode : Mode) (x : X) (F : Format X) (G : Format Y) (front back : List ℕ) (y : Y) → F mode front x → G mode back y → after x F G mode (front ++ back) y
+after_spelled mode x F G front back y h g = ((tt, y), refl, record { front = front; back = back; joined = refl; first = h; second = g })

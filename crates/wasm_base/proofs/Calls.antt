@@ -1,12 +1,18 @@
 -- What calls leave, step by step: lemmas that a caller cites.
-use Rattle.std.proofs.Common.{◌≡◌, ℕ, zero, suc, ◌<◌, List, [], ◌∷◌, ◌++◌, Bool, true, ltb, ◌&&◌, slice_index, IsUtf8, arith, refl, sym, subst}
+use Rattle.std.proofs.Common.{◌≡◌, ℕ, zero, suc, ◌<◌, List, [], ◌∷◌, ◌++◌, Bool, true, ltb, ◌&&◌, slice_index, IsUtf8, Result, Ok, Err, arith, refl, sym, subst}
 use Rattle.std.proofs.lemmas.Bool.{ltb-true, and_parts}
 use Rattle.std.proofs.lemmas.List.Elements.{All-head, All-tail}
 use Rattle.std.proofs.lemmas.Str.{IsUtf8-from_ascii}
 use Rattle.std.specs.List.{All, AllByRecursion}
-use Rattle.wasm_base.specs.Calls.{ReadsOneMore, ReadsBack}
+use Rattle.std.specs.Prelude.{OnOk}
+use Rattle.std.specs.declared.vec.Vec.{Vec}
+use Rattle.wasm_base.specs.declared.refused.Refused.{Refused}
+use Rattle.wasm_base.specs.Calls.{Appends, ReadsOneMore, ReadsBack, ReadsBackBoth}
+use Rattle.wasm_base.specs.Entries.{HoldsItems, HoldsWide}
+use Rattle.wasm_base.specs.Laws.{HoldsMoreWide}
+use Rattle.wasm_base.specs.Numbers.{wide}
 use Rattle.wasm_base.specs.Formats.{Format, any_bytes, frame, wasm_module}
-use Rattle.wasm_base.specs.Modules.{SectionReading, reading_of, raw_reading, AreRead, ReadsSections, ReadsPayloads}
+use Rattle.wasm_base.specs.Modules.{SectionReading, reading_of, raw_reading, AreRead, ReadsSections, ReadsPayloads, GainsReadingWide}
 use Rattle.wasm_base.specs.Reading.{ReadsAlone, ReadsWhole}
 use Rattle.wasm_base.specs.Texts.{IsFrameOf, frame_text, FrameFits, raw_framed}
 use Rattle.wasm_base.proofs.Payloads.{bytes-payload}
@@ -58,3 +64,27 @@ gains_raw {bytes = bytes} before more fits reads =
 -- the bytes of a module
 pub finished : {readings : List SectionReading} {old bytes : List ℕ} → ReadsSections readings old → bytes ≡ old → ReadsSections readings bytes
 finished {readings = readings} before same = subst (λ s. ReadsSections readings s) (sym same) before
+
+-- ---- sections with padded numbers
+
+-- what a section holds in shortest form: with the law of its kind, of `HeldLaws`
+pub holds_wide : {Record Item : Type 0} {text : Record → List ℕ} {IsPlain IsPlainWide : Record → Type 0} {normal_form : Record → Item} {F : Format Item} {entries : List (List ℕ)} {items : List Item}
+    → HoldsMoreWide text IsPlain IsPlainWide normal_form F → HoldsItems text IsPlain normal_form F entries items → HoldsWide F entries items
+holds_wide {entries = entries} {items = items} law holds = law.held entries items holds
+
+-- an item that given bytes spell with padded numbers
+pub adds_raw_wide : {Record Item : Type 0} {text : Record → List ℕ} {IsPlain IsPlainWide : Record → Type 0} {normal_form : Record → Item} {F : Format Item} {old new : List (List ℕ)} {items : List Item} {piece : List ℕ}
+    → HoldsMoreWide text IsPlain IsPlainWide normal_form F → HoldsWide F old items → (item : Item) → new ≡ old ++ piece ∷ [] → F wide piece item → HoldsWide F new (items ++ item ∷ [])
+adds_raw_wide {F = F} {old = old} {items = items} {piece = piece} law before item e spelled = subst (λ entries. HoldsWide F entries (items ++ item ∷ [])) (sym e) (law.raw old items piece item before spelled)
+
+-- an item that is the normal form of a record that is plain but for padded numbers in its expressions
+pub adds_item_wide : {Record Item : Type 0} {text : Record → List ℕ} {IsPlain IsPlainWide : Record → Type 0} {normal_form : Record → Item} {F : Format Item} {old new : List (List ℕ)} {items : List Item}
+    → HoldsMoreWide text IsPlain IsPlainWide normal_form F → HoldsWide F old items → (given : Record) → new ≡ old ++ text given ∷ [] → IsPlainWide given → HoldsWide F new (items ++ normal_form given ∷ [])
+adds_item_wide {normal_form = normal_form} {F = F} {old = old} {items = items} law before given e plain =
+    subst (λ entries. HoldsWide F entries (items ++ normal_form given ∷ [])) (sym e) (law.given old items given before plain)
+
+-- a section that a buffer has gained
+pub encodes_wide : {A X : Type 0} (F : Format X) (Says SaysWide : X → Type 0) {text : List ℕ} {fits : Type 0} {old new : Vec ℕ A} {result : Result (Unit {0}) Refused} {x : X} → Appends text fits old new result
+    → OnOk result (ReadsBackBoth F Says SaysWide text) → SaysWide x → OnOk result (GainsReadingWide F x old.items new.items)
+encodes_wide F Says SaysWide {text = text} {result = Ok u} {x = x} appends reads says = record { text = text; added = appends.ok; alone = reads.wide.for_each x says }
+encodes_wide F Says SaysWide {result = Err e} appends reads says = tt

@@ -1,15 +1,15 @@
 -- A section of counted items is read as these alone.
 use Rattle.std.proofs.Common.{ℕ, ◌≤◌, List, [], ◌∷◌, length, map, sym, subst, arith, length-append}
 use Rattle.std.specs.List.{AllZip}
-use Rattle.wasm_base.specs.Numbers.{shortest, unsigned_text}
+use Rattle.wasm_base.specs.Numbers.{shortest, wide, unsigned_text}
 use Rattle.wasm_base.specs.Formats.{Format}
 use Rattle.wasm_base.specs.Reading.{UniqueReading, ReadsAlone}
 use Rattle.wasm_base.specs.Texts.{longest}
 use Rattle.wasm_base.specs.Pieces.{joined, section_text, SectionFits}
-use Rattle.wasm_base.specs.Calls.{ReadsBack}
-use Rattle.wasm_base.specs.Entries.{Entry, Given, Raw, entry_text, Means, HoldsItems, counted_format, ItemLaws}
+use Rattle.wasm_base.specs.Calls.{ReadsBack, ReadsBackWide, ReadsBackBoth}
+use Rattle.wasm_base.specs.Entries.{Entry, Given, Raw, entry_text, Means, HoldsItems, SpellsWide, HoldsWide, counted_format, ItemLaws}
 use Rattle.wasm_base.proofs.FormatLaws.{vec-alone, frame-alone, whole_from_alone}
-use Rattle.wasm_base.proofs.TextLaws.{section_alone}
+use Rattle.wasm_base.proofs.TextLaws.{section_alone, section_alone_wide}
 
 pub counted-alone : {Item : Type 0} {F : Format Item} → UniqueReading F → UniqueReading (counted_format F)
 counted-alone f = frame-alone (whole_from_alone (vec-alone f))
@@ -17,6 +17,20 @@ counted-alone f = frame-alone (whole_from_alone (vec-alone f))
 -- the entries together are no longer than the section's size tells
 pub content_fits : (pieces : List (List ℕ)) → SectionFits pieces → length (joined pieces) ≤ longest
 content_fits pieces fits = omega (arith, fits.size, length-append (unsigned_text (length pieces)) (joined pieces))
+
+-- Of pieces that fit, each spells its item.
+pub pieces_spelled : {Item : Type 0} (F : Format Item) (pieces : List (List ℕ)) (items : List Item) → length (joined pieces) ≤ longest → AllZip (SpellsWide F) pieces items → AllZip (F wide) pieces items
+pieces_spelled F [] [] fits holds = tt
+pieces_spelled F [] (item ∷ items) fits holds = absurd holds
+pieces_spelled F (piece ∷ pieces) [] fits holds = absurd holds
+pieces_spelled F (piece ∷ pieces) (item ∷ items) fits holds =
+    let whole = length-append piece (joined pieces) in
+    (holds.0 (omega (arith, fits, whole)), pieces_spelled F pieces items (omega (arith, fits, whole)) holds.1)
+
+pub counted_alone_wide : {Item : Type 0} {F : Format Item} → UniqueReading F → (pieces : List (List ℕ)) → SectionFits pieces → ReadsBackWide (counted_format F) (HoldsWide F pieces) (section_text pieces)
+counted_alone_wide {F = F} f pieces fits = record {
+  for_each = λ items holds. section_alone_wide {F = F} (counted-alone {F = F} f) pieces items fits (pieces_spelled F pieces items (content_fits pieces fits) holds.spelled);
+}
 
 module _ {Record Item : Type 0} (text : Record → List ℕ) (IsPlain : Record → Type 0) (normal_form : Record → Item) (F : Format Item) (laws : ItemLaws text IsPlain normal_form F) where
   pub entry_spelled : (entry : Entry Record) (item : Item) → length (entry_text text entry) ≤ longest → Means IsPlain normal_form F entry item → F shortest (entry_text text entry) item
@@ -34,7 +48,7 @@ module _ {Record Item : Type 0} (text : Record → List ℕ) (IsPlain : Record �
       let whole = length-append (entry_text text entry) rest in
       (entry_spelled entry item (omega (arith, fits, whole)) means.0, entries_spelled entries items (omega (arith, fits, whole)) means.1)
 
-  pub counted_alone : (pieces : List (List ℕ)) → SectionFits pieces → ReadsBack (counted_format F) (HoldsItems text IsPlain normal_form F pieces) (section_text pieces)
+  counted_alone : (pieces : List (List ℕ)) → SectionFits pieces → ReadsBack (counted_format F) (HoldsItems text IsPlain normal_form F pieces) (section_text pieces)
   counted_alone pieces fits = record {
     for_each = λ items holds.
         subst (λ ps. ReadsAlone (counted_format F) (section_text ps) items) (sym holds.held)
@@ -42,3 +56,6 @@ module _ {Record Item : Type 0} (text : Record → List ℕ) (IsPlain : Record �
         let held = map (entry_text text) holds.entries in
         section_alone {F = F} (counted-alone {F = F} laws.alone) held items fits (entries_spelled holds.entries items (content_fits held fits) holds.meant));
   }
+
+  pub counted_reads : (pieces : List (List ℕ)) → SectionFits pieces → ReadsBackBoth (counted_format F) (HoldsItems text IsPlain normal_form F pieces) (HoldsWide F pieces) (section_text pieces)
+  counted_reads pieces fits = record { plain = counted_alone pieces fits; wide = counted_alone_wide {F = F} laws.alone pieces fits }

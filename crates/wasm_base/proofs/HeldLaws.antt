@@ -1,16 +1,28 @@
 -- What a builder holds as calls add to it.
-use Rattle.std.proofs.Common.{ℕ, List, [], ◌∷◌, ◌++◌, map, refl, sym, ap, ◌∙◌, append_assoc, append-nil}
+use Rattle.std.proofs.Common.{ℕ, List, [], ◌∷◌, ◌++◌, map, refl, sym, ap, subst, ◌∙◌, append_assoc, append-nil}
 use Rattle.std.proofs.lemmas.List.{map-append}
 use Rattle.std.specs.List.{AllByRecursion, AllZip}
-use Rattle.wasm_base.specs.Entries.{Entry, Given, Raw, entry_text, Means, HoldsItems}
+use Rattle.wasm_base.specs.Entries.{Entry, Given, Raw, entry_text, Means, HoldsItems, SpellsWide, HoldsWide, ItemLaws}
 use Rattle.wasm_base.specs.Formats.{Format}
-use Rattle.wasm_base.specs.Laws.{HoldsMore}
+use Rattle.wasm_base.specs.Laws.{HoldsMore, HoldsMoreWide}
+use Rattle.wasm_base.specs.Numbers.{wide}
+use Rattle.wasm_base.specs.Texts.{FrameFits}
+use Rattle.wasm_base.proofs.EntryLaws.{entry_spelled}
 
 zip_more : {X Y : Type 0} (R : X → Y → Type 0) (xs : List X) (ys : List Y) (x : X) (y : Y) → AllZip R xs ys → R x y → AllZip R (xs ++ x ∷ []) (ys ++ y ∷ [])
 zip_more R [] [] x y h r = (r, tt)
 zip_more R [] (b ∷ ys) x y h r = absurd h
 zip_more R (a ∷ xs) [] x y h r = absurd h
 zip_more R (a ∷ xs) (b ∷ ys) x y h r = (h.0, zip_more R xs ys x y h.1 r)
+
+-- What is kept where one record is added is kept where all of a list are.
+all_steps : {Record Item : Type 0} (text : Record → List ℕ) (normal_form : Record → Item) (P : Record → Type 0) (Holds : List (List ℕ) → List Item → Type 0)
+    → ((pieces : List (List ℕ)) (items : List Item) (given : Record) → Holds pieces items → P given → Holds (pieces ++ text given ∷ []) (items ++ normal_form given ∷ []))
+    → (pieces : List (List ℕ)) (items : List Item) (given : List Record) → Holds pieces items → AllByRecursion P given → Holds (pieces ++ map text given) (items ++ map normal_form given)
+all_steps text normal_form P Holds step pieces items [] holds plain = rw (append-nil pieces, append-nil items) holds
+all_steps text normal_form P Holds step pieces items (g ∷ given) holds plain =
+    let rest = all_steps text normal_form P Holds step (pieces ++ text g ∷ []) (items ++ normal_form g ∷ []) given (step pieces items g holds plain.0) plain.1 in
+    rw (append_assoc pieces (text g ∷ []) (map text given), append_assoc items (normal_form g ∷ []) (map normal_form given)) at rest
 
 module _ {Record Item : Type 0} (text : Record → List ℕ) (IsPlain : Record → Type 0) (normal_form : Record → Item) (F : Format Item) where
   one_more : (pieces : List (List ℕ)) (items : List Item) (entry : Entry Record) (item : Item) → HoldsItems text IsPlain normal_form F pieces items → Means IsPlain normal_form F entry item
@@ -21,17 +33,42 @@ module _ {Record Item : Type 0} (text : Record → List ℕ) (IsPlain : Record �
     meant = zip_more (Means IsPlain normal_form F) holds.entries items entry item holds.meant means;
   }
 
-  all_more : (pieces : List (List ℕ)) (items : List Item) (given : List Record) → HoldsItems text IsPlain normal_form F pieces items → AllByRecursion IsPlain given
-      → HoldsItems text IsPlain normal_form F (pieces ++ map text given) (items ++ map normal_form given)
-  all_more pieces items [] holds plain = rw (append-nil pieces, append-nil items) holds
-  all_more pieces items (g ∷ given) holds plain =
-      let rest = all_more (pieces ++ text g ∷ []) (items ++ normal_form g ∷ []) given (one_more pieces items (Given g) (normal_form g) holds (plain.0, refl)) plain.1 in
-      rw (append_assoc pieces (text g ∷ []) (map text given), append_assoc items (normal_form g ∷ []) (map normal_form given)) at rest
-
   pub holds_more : HoldsMore text IsPlain normal_form F
   holds_more = record {
     none = record { entries = []; held = refl; meant = tt };
     given = λ pieces items given holds plain. one_more pieces items (Given given) (normal_form given) holds (plain, refl);
     raw = λ pieces items piece item holds spelled. one_more pieces items (Raw piece) item holds spelled;
-    all = all_more;
+    all = all_steps text normal_form IsPlain (HoldsItems text IsPlain normal_form F) (λ pieces items given holds plain. one_more pieces items (Given given) (normal_form given) holds (plain, refl));
   }
+
+-- ---- with padded numbers
+
+module _ {Record Item : Type 0} (text : Record → List ℕ) (IsPlain IsPlainWide : Record → Type 0) (normal_form : Record → Item) (F : Format Item) (laws : ItemLaws text IsPlain normal_form F) (wider : (given : Record) → IsPlain given → IsPlainWide given)
+    (spelled : (given : Record) → IsPlainWide given → FrameFits (text given) → F wide (text given) (normal_form given)) where
+  entries_wide : (entries : List (Entry Record)) (items : List Item) → AllZip (Means IsPlain normal_form F) entries items → AllZip (SpellsWide F) (map (entry_text text) entries) items
+  entries_wide [] [] means = tt
+  entries_wide [] (item ∷ items) means = absurd means
+  entries_wide (entry ∷ entries) [] means = absurd means
+  entries_wide (entry ∷ entries) (item ∷ items) means =
+      (λ fits. laws.alone.spellings.wider (entry_text text entry) item (entry_spelled text IsPlain normal_form F laws entry item fits means.0), entries_wide entries items means.1)
+
+  one_wide : (pieces : List (List ℕ)) (items : List Item) (piece : List ℕ) (item : Item) → HoldsWide F pieces items → SpellsWide F piece item → HoldsWide F (pieces ++ piece ∷ []) (items ++ item ∷ [])
+  one_wide pieces items piece item holds spells = record { spelled = zip_more (SpellsWide F) pieces items piece item holds.spelled spells }
+
+  given_wide : (pieces : List (List ℕ)) (items : List Item) (given : Record) → HoldsWide F pieces items → IsPlainWide given → HoldsWide F (pieces ++ text given ∷ []) (items ++ normal_form given ∷ [])
+  given_wide pieces items given holds plain = one_wide pieces items (text given) (normal_form given) holds (spelled given plain)
+
+  pub holds_more_wide : HoldsMoreWide text IsPlain IsPlainWide normal_form F
+  holds_more_wide = record {
+    none = record { spelled = tt };
+    held = λ pieces items holds. record { spelled = subst (λ ps. AllZip (SpellsWide F) ps items) (sym holds.held) (entries_wide holds.entries items holds.meant) };
+    wider = wider;
+    given = given_wide;
+    raw = λ pieces items piece item holds spells. one_wide pieces items piece item holds (λ fits. spells);
+    all = all_steps text normal_form IsPlainWide (HoldsWide F) given_wide;
+  }
+
+-- of records without expressions
+pub plain_more_wide : {Record Item : Type 0} {text : Record → List ℕ} {IsPlain : Record → Type 0} {normal_form : Record → Item} {F : Format Item} → ItemLaws text IsPlain normal_form F → HoldsMoreWide text IsPlain IsPlain normal_form F
+plain_more_wide {text = text} {IsPlain = IsPlain} {normal_form = normal_form} {F = F} laws =
+    holds_more_wide text IsPlain IsPlain normal_form F laws (λ given plain. plain) (λ given plain fits. laws.alone.spellings.wider (text given) (normal_form given) (laws.spelled given plain fits))

@@ -9,8 +9,11 @@ use Rattle.wasm_base.proofs.NumberLaws.{u32-alone}
 use Rattle.wasm_base.proofs.NumberTexts.{groups_text-last}
 use Rattle.wasm_base.proofs.TextLaws.{name_spelled, u32_spelled}
 
+pub pair_in : {X Y : Type 0} (mode : Mode) (F : Format X) (G : Format Y) (front back : List ℕ) (x : X) (y : Y) → F mode front x → G mode back y → pair F G mode (front ++ back) (x, y)
+pair_in mode F G front back x y h g = record { front = front; back = back; joined = refl; first = h; second = g }
+
 pub pair_spelled : {X Y : Type 0} (F : Format X) (G : Format Y) (front back : List ℕ) (x : X) (y : Y) → F shortest front x → G shortest back y → pair F G shortest (front ++ back) (x, y)
-pair_spelled F G front back x y h g = record { front = front; back = back; joined = refl; first = h; second = g }
+pair_spelled F G front back x y h g = pair_in shortest F G front back x y h g
 
 -- a name, in a text that fits
 pub front_name_spelled : (bytes rest : List ℕ) → IsUtf8 bytes → FrameFits (frame_text bytes ++ rest) → name shortest (frame_text bytes) bytes

@@ -7,18 +7,18 @@ use Rattle.std.proofs.lemmas.List.Elements.{All-head, All-tail}
 use Rattle.std.specs.List.{All, AllZip, flat_map}
 use Rattle.wasm_base.specs.Numbers.{Mode, shortest, wide, AreGroups, groups_sum, IsUnsignedSize, signed_sum, IsShortSigned, next_group, last_group, groups_text, unsigned_text, signed_text}
 use Rattle.wasm_base.specs.Formats.{Format, u32, u64, s32, s64, s33, byte, any_bytes, little_endian, tagged, members, vec, frame, name}
-use Rattle.wasm_base.specs.Reading.{ReadsAlone, ReadsWhole, UniqueReading, UniqueWholeReading}
-use Rattle.wasm_base.specs.Texts.{vec_text, VecFits, frame_text, FrameFits, little_endian_text}
+use Rattle.wasm_base.specs.Reading.{ReadsAlone, ReadsAloneWide, ReadsWhole, UniqueReading, UniqueWholeReading}
+use Rattle.wasm_base.specs.Texts.{longest, vec_text, VecFits, frame_text, FrameFits, little_endian_text}
 use Rattle.wasm_base.specs.Pieces.{joined, section_text, SectionFits}
 use Rattle.wasm_base.specs.Calls.{ReadsBack}
 use Rattle.wasm_base.specs.Laws.{FitsSigned32, FitsSigned64}
-use Rattle.wasm_base.proofs.NumberLaws.{one_more, last_of_one, single_low, single_high, signed_step}
+use Rattle.wasm_base.proofs.NumberLaws.{u32-alone, one_more, last_of_one, single_low, single_high, signed_step}
 use Rattle.wasm_base.proofs.NumberTexts.{groups_text-last, groups_text-more}
 use Rattle.wasm_base.proofs.FormatLaws.{any_bytes-whole, frame-alone}
 
 -- ---- a text that is read
 
-spelled_in : {X : Type 0} {F : Format X} {text : List ℕ} {x : X} → UniqueReading F → F shortest text x → (mode : Mode) → F mode text x
+pub spelled_in : {X : Type 0} {F : Format X} {text : List ℕ} {x : X} → UniqueReading F → F shortest text x → (mode : Mode) → F mode text x
 spelled_in f spelled shortest = spelled
 spelled_in {text = text} {x = x} f spelled wide = f.spellings.wider text x spelled
 
@@ -29,6 +29,13 @@ reads_alone {F = F} {text = text} {x = x} f spelled = record {
       let same = f.alone mode text read.front after rest x y (spelled_in {F = F} f spelled mode) read.spelled read.split in
       (sym same.0, sym same.2);
   one = λ other g. f.spellings.one other text x g spelled;
+}
+
+-- what padded numbers spell, with nothing else beside it
+pub reads_alone_wide : {X : Type 0} {F : Format X} {text : List ℕ} {x : X} → UniqueReading F → F wide text x → ReadsAloneWide F text x
+reads_alone_wide {F = F} {text = text} {x = x} f spelled = record {
+  spelled = spelled;
+  alone = λ after y rest read. let same = f.alone wide text read.front after rest x y spelled read.spelled read.split in (sym same.0, sym same.2);
 }
 
 whole_in : {X : Type 0} {F : Format X} {text : List ℕ} {x : X} → UniqueWholeReading F → F shortest text x → (mode : Mode) → F mode text x
@@ -66,6 +73,9 @@ unsigned_text-spelled (suc more) n h =
 
 pub u32_spelled : (n : ℕ) → n < 2 ^ 32 → u32 shortest (unsigned_text n) n
 u32_spelled n h = let t = unsigned_text-spelled n n (le_refl n) in record { groups = t.0; total = t.1; range = h; size = t.2 }
+
+pub u32_in : (mode : Mode) (n : ℕ) → n < 2 ^ 32 → u32 mode (unsigned_text n) n
+u32_in mode n h = spelled_in {F = u32} u32-alone (u32_spelled n h) mode
 
 pub u64_spelled : (n : ℕ) → n < 2 ^ 64 → u64 shortest (unsigned_text n) n
 u64_spelled n h = let t = unsigned_text-spelled n n (le_refl n) in record { groups = t.0; total = t.1; range = h; size = t.2 }
@@ -149,14 +159,18 @@ s33_spelled n h = let t = signed_text-spelled_of (pos n) in record { groups = t.
 
 -- ---- frames, names and vectors
 
-pub frame_spelled : {X : Type 0} (F : Format X) (content : List ℕ) (x : X) → FrameFits content → F shortest content x → frame F shortest (frame_text content) x
-frame_spelled F content x h g = record {
+-- The text is a frame of what its content spells, in shortest form or with padded numbers.
+pub frame_in : {X : Type 0} (mode : Mode) (F : Format X) (content : List ℕ) (x : X) → FrameFits content → F mode content x → frame F mode (frame_text content) x
+frame_in mode F content x h g = record {
   front = unsigned_text (length content);
   content = content;
   joined = refl;
-  size = u32_spelled (length content) (omega (arith, h));
+  size = u32_in mode (length content) (omega (arith, h));
   spelled = g;
 }
+
+pub frame_spelled : {X : Type 0} (F : Format X) (content : List ℕ) (x : X) → FrameFits content → F shortest content x → frame F shortest (frame_text content) x
+frame_spelled F content x h g = frame_in shortest F content x h g
 
 pub name_spelled : (bytes : List ℕ) → IsUtf8 bytes → FrameFits bytes → name shortest (frame_text bytes) bytes
 name_spelled bytes utf8 h = (frame_spelled any_bytes bytes bytes h refl, utf8)
@@ -187,33 +201,38 @@ little_endian_spelled (suc n) v h =
 
 -- ---- pieces, one for each item
 
-pub joined_spelled : {X : Type 0} (F : Format X) (pieces : List (List ℕ)) (xs : List X) → AllZip (F shortest) pieces xs → members F shortest (joined pieces) xs
-joined_spelled F [] [] h = refl
-joined_spelled F [] (x ∷ xs) h = absurd h
-joined_spelled F (p ∷ ps) [] h = absurd h
-joined_spelled F (p ∷ ps) (x ∷ xs) h = (p, joined ps, refl, h.0, joined_spelled F ps xs h.1)
+pub joined_spelled : {X : Type 0} (mode : Mode) (F : Format X) (pieces : List (List ℕ)) (xs : List X) → AllZip (F mode) pieces xs → members F mode (joined pieces) xs
+joined_spelled mode F [] [] h = refl
+joined_spelled mode F [] (x ∷ xs) h = absurd h
+joined_spelled mode F (p ∷ ps) [] h = absurd h
+joined_spelled mode F (p ∷ ps) (x ∷ xs) h = (p, joined ps, refl, h.0, joined_spelled mode F ps xs h.1)
 
-pub as_many_items : {X : Type 0} (F : Format X) (pieces : List (List ℕ)) (xs : List X) → AllZip (F shortest) pieces xs → length pieces ≡ length xs
-as_many_items F [] [] h = refl
-as_many_items F [] (x ∷ xs) h = absurd h
-as_many_items F (p ∷ ps) [] h = absurd h
-as_many_items F (p ∷ ps) (x ∷ xs) h = ap suc (as_many_items F ps xs h.1)
+as_many_items : {X : Type 0} (R : List ℕ → X → Type 0) (pieces : List (List ℕ)) (xs : List X) → AllZip R pieces xs → length pieces ≡ length xs
+as_many_items R [] [] h = refl
+as_many_items R [] (x ∷ xs) h = absurd h
+as_many_items R (p ∷ ps) [] h = absurd h
+as_many_items R (p ∷ ps) (x ∷ xs) h = ap suc (as_many_items R ps xs h.1)
 
-section_spelled : {X : Type 0} (F : Format X) (pieces : List (List ℕ)) (xs : List X) → SectionFits pieces → AllZip (F shortest) pieces xs → frame (vec F) shortest (section_text pieces) xs
+-- their number and the pieces are the vector of the items
+pub vec_of_pieces : {X : Type 0} (mode : Mode) (F : Format X) (pieces : List (List ℕ)) (xs : List X) → length pieces ≤ longest → AllZip (F mode) pieces xs → vec F mode (unsigned_text (length pieces) ++ joined pieces) xs
+vec_of_pieces mode F pieces xs few h = record {
+  front = unsigned_text (length pieces);
+  back = joined pieces;
+  joined = refl;
+  first = subst (λ n. u32 mode (unsigned_text (length pieces)) n) (as_many_items (F mode) pieces xs h) (u32_in mode (length pieces) (omega (arith, few)));
+  second = joined_spelled mode F pieces xs h;
+}
+
+section_spelled : {X : Type 0} (mode : Mode) (F : Format X) (pieces : List (List ℕ)) (xs : List X) → SectionFits pieces → AllZip (F mode) pieces xs → frame (vec F) mode (section_text pieces) xs
 unfolding section_text
-section_spelled F pieces xs h g =
-    frame_spelled (vec F) (unsigned_text (length pieces) ++ joined pieces) xs h.size
-    (record {
-      front = unsigned_text (length pieces);
-      back = joined pieces;
-      joined = refl;
-      first = subst (λ n. u32 shortest (unsigned_text (length pieces)) n) (as_many_items F pieces xs g) (u32_spelled (length pieces) (omega (arith, h.count)));
-      second = joined_spelled F pieces xs g;
-    })
+section_spelled mode F pieces xs h g = frame_in mode (vec F) (unsigned_text (length pieces) ++ joined pieces) xs h.size (vec_of_pieces mode F pieces xs h.count g)
 
--- A counted section is read as the items that its pieces spell, one each.
+-- A counted section is read as the items that its pieces spell, one each: in shortest form, and with padded numbers.
 pub section_alone : {X : Type 0} {F : Format X} → UniqueReading (frame (vec F)) → (pieces : List (List ℕ)) (xs : List X) → SectionFits pieces → AllZip (F shortest) pieces xs → ReadsAlone (frame (vec F)) (section_text pieces) xs
-section_alone {F = F} f pieces xs h g = reads_alone {F = frame (vec F)} f (section_spelled F pieces xs h g)
+section_alone {F = F} f pieces xs h g = reads_alone {F = frame (vec F)} f (section_spelled shortest F pieces xs h g)
+
+pub section_alone_wide : {X : Type 0} {F : Format X} → UniqueReading (frame (vec F)) → (pieces : List (List ℕ)) (xs : List X) → SectionFits pieces → AllZip (F wide) pieces xs → ReadsAloneWide (frame (vec F)) (section_text pieces) xs
+section_alone_wide {F = F} f pieces xs h g = reads_alone_wide {F = frame (vec F)} f (section_spelled wide F pieces xs h g)
 
 -- ---- a section of given bytes
 

@@ -2,7 +2,7 @@
 use Rattle.std.specs.Prelude.{◌≡◌, ◌≢◌, ℕ, ◌+◌, ◌<◌, ◌≤◌, List, [], ◌∷◌, ◌++◌, All, length, map, take, slice_get, vec_len, vec_capacity, Result, Err, OnOk, OnErr, IfErr, IfSome, IsOk}
 use Rattle.std.specs.declared.vec.Vec.{Vec}
 use Rattle.wasm_base.specs.Formats.{Format, wasm_module}
-use Rattle.wasm_base.specs.Reading.{ReadsAlone, ReadsWhole}
+use Rattle.wasm_base.specs.Reading.{ReadsAlone, ReadsAloneWide, ReadsWhole}
 use Rattle.wasm_base.specs.Texts.{longest}
 use Rattle.wasm_base.specs.declared.refused.Refused.{Refused}
 use Rattle.wasm_base.specs.declared.refused.Refused.TheVariants.{TooLong}
@@ -39,6 +39,15 @@ pub record AddsAll {T : Type 0} (text : T → List ℕ) (Fits : T → Type 0) (i
 -- The headline: whatever items the section says, its text is read as these alone.
 pub record ReadsBack {Items : Type 0} (F : Format Items) (Says : Items → Type 0) (text : List ℕ) : Type 0 where
   pub for_each : (items : Items) → Says items → ReadsAlone F text items
+
+-- The headline with padded numbers: whatever items the section says so, its text is read as these alone.
+pub record ReadsBackWide {Items : Type 0} (F : Format Items) (Says : Items → Type 0) (text : List ℕ) : Type 0 where
+  pub for_each : (items : Items) → Says items → ReadsAloneWide F text items
+
+-- Both: of what the section says in shortest form, and of what it says with padded numbers.
+pub record ReadsBackBoth {Items : Type 0} (F : Format Items) (Says SaysWide : Items → Type 0) (text : List ℕ) : Type 0 where
+  pub plain : ReadsBack F Says text
+  pub wide : ReadsBackWide F SaysWide text
 
 -- Composition: where the old module is read as some sections alone, the new one is read as these and one more.
 pub record ReadsOneMore (Payload : List ℕ → Type 0) (id : ℕ) (old new : List ℕ) : Type 0 where

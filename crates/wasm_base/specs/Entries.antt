@@ -1,7 +1,7 @@
 -- entries: what the calls of a builder handed in, and the items that a section says.
 use Rattle.std.specs.Prelude.{◌≡◌, ℕ, List, map}
 use Rattle.std.specs.List.{AllZip}
-use Rattle.wasm_base.specs.Numbers.{shortest}
+use Rattle.wasm_base.specs.Numbers.{shortest, wide}
 use Rattle.wasm_base.specs.Formats.{Format, frame, vec}
 use Rattle.wasm_base.specs.Reading.{UniqueReading}
 use Rattle.wasm_base.specs.Texts.{FrameFits}
@@ -26,6 +26,14 @@ pub record HoldsItems {Record Item : Type 0} (text : Record → List ℕ) (IsPla
   pub entries : List (Entry Record)
   pub held : pieces ≡ map (entry_text text) entries
   pub meant : AllZip (Means IsPlain normal_form F) entries items
+
+-- The piece spells the item with padded numbers. A piece too long for a frame may spell anything, since no section that is accepted has one.
+abbrev pub SpellsWide : {Item : Type 0} → Format Item → List ℕ → Item → Type 0
+SpellsWide F piece item = FrameFits piece → F wide piece item
+
+-- holds, with padded numbers: The builder has a piece for each item, which spells it.
+pub record HoldsWide {Item : Type 0} (F : Format Item) (pieces : List (List ℕ)) (items : List Item) : Type 0 where
+  pub spelled : AllZip (SpellsWide F) pieces items
 
 -- a section of counted items: the frame of a vector
 abbrev pub counted_format : {Item : Type 0} → Format Item → Format (List Item)

@@ -1,9 +1,9 @@
 -- What texts are spelled, for the laws.
 use Rattle.std.specs.Prelude.{ℕ, ◌^◌, ◌<◌, ℤ, pos, neg_ℤ, ◌≤ℤ◌, ◌<ℤ◌, List, [], ◌∷◌, ◌++◌, map, IsUtf8}
 use Rattle.std.specs.List.{AllByRecursion}
-use Rattle.wasm_base.specs.Entries.{HoldsItems}
+use Rattle.wasm_base.specs.Entries.{HoldsItems, HoldsWide}
 use Rattle.wasm_base.specs.Formats.{Format}
-use Rattle.wasm_base.specs.Numbers.{Mode, shortest}
+use Rattle.wasm_base.specs.Numbers.{Mode, shortest, wide}
 use Rattle.wasm_base.specs.Reading.{ReadsNothing}
 use Rattle.wasm_base.specs.Texts.{frame_text, FrameFits}
 
@@ -46,6 +46,17 @@ pub record HoldsMore {Record Item : Type 0} (text : Record → List ℕ) (IsPlai
       → HoldsItems text IsPlain normal_form F (pieces ++ piece ∷ []) (items ++ item ∷ [])
   pub all : (pieces : List (List ℕ)) (items : List Item) (given : List Record) → HoldsItems text IsPlain normal_form F pieces items → AllByRecursion IsPlain given
       → HoldsItems text IsPlain normal_form F (pieces ++ map text given) (items ++ map normal_form given)
+
+-- With padded numbers, a section holds what it holds in shortest form. An entry that is the text of a record which is plain but for padded
+-- numbers in its expressions adds what this says, and an entry of given bytes the item that they spell with padded numbers.
+pub record HoldsMoreWide {Record Item : Type 0} (text : Record → List ℕ) (IsPlain IsPlainWide : Record → Type 0) (normal_form : Record → Item) (F : Format Item) : Type 0 where
+  pub none : HoldsWide F [] []
+  pub held : (pieces : List (List ℕ)) (items : List Item) → HoldsItems text IsPlain normal_form F pieces items → HoldsWide F pieces items
+  pub wider : (given : Record) → IsPlain given → IsPlainWide given
+  pub given : (pieces : List (List ℕ)) (items : List Item) (given : Record) → HoldsWide F pieces items → IsPlainWide given → HoldsWide F (pieces ++ text given ∷ []) (items ++ normal_form given ∷ [])
+  pub raw : (pieces : List (List ℕ)) (items : List Item) (piece : List ℕ) (item : Item) → HoldsWide F pieces items → F wide piece item → HoldsWide F (pieces ++ piece ∷ []) (items ++ item ∷ [])
+  pub all : (pieces : List (List ℕ)) (items : List Item) (given : List Record) → HoldsWide F pieces items → AllByRecursion IsPlainWide given
+      → HoldsWide F (pieces ++ map text given) (items ++ map normal_form given)
 
 -- No value stands at the front of the text, whatever follows, and with padded numbers neither.
 pub record NothingStandsWide {X : Type 0} (F : Format X) (text : List ℕ) : Type 0 where

@@ -1,7 +1,7 @@
 -- What the sections of a module are read as.
 use Rattle.std.specs.Prelude.{◌≡◌, ℕ, List, [], ◌∷◌, ◌++◌, ⊤}
 use Rattle.wasm_base.specs.Formats.{Format, any_bytes, frame, wasm_module}
-use Rattle.wasm_base.specs.Reading.{ReadsAlone, ReadsWhole}
+use Rattle.wasm_base.specs.Reading.{ReadsAlone, ReadsAloneWide, ReadsWhole}
 use Rattle.wasm_base.specs.Texts.{IsFrameOf}
 
 -- a section as a reader finds it: its id, and what holds of its payload
@@ -34,6 +34,12 @@ pub record GainsReading {X : Type 0} (F : Format X) (x : X) (old new : List ℕ)
   pub text : List ℕ
   pub added : new ≡ old ++ text
   pub alone : ReadsAlone F text x
+
+-- The same with padded numbers.
+pub record GainsReadingWide {X : Type 0} (F : Format X) (x : X) (old new : List ℕ) : Type 0 where
+  pub text : List ℕ
+  pub added : new ≡ old ++ text
+  pub alone : ReadsAloneWide F text x
 
 -- Where a text frames these bytes and is read as x alone, the bytes are read as x alone.
 pub record ReadsPayloads {X : Type 0} (F : Format X) : Type 0 where

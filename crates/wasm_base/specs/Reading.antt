@@ -27,6 +27,11 @@ pub record ReadsWhole {X : Type 0} (F : Format X) (text : List ℕ) (x : X) : Ty
   pub alone : (mode : Mode) (y : X) → F mode text y → y ≡ x
   pub one : (other : List ℕ) → F shortest other x → other ≡ text
 
+-- With padded numbers the text spells x, and x alone is read there so, whatever follows.
+pub record ReadsAloneWide {X : Type 0} (F : Format X) (text : List ℕ) (x : X) : Type 0 where
+  pub spelled : F wide text x
+  pub alone : (after : List ℕ) (y : X) (rest : List ℕ) → Reads F wide (text ++ after) y rest → (y ≡ x) × (rest ≡ after)
+
 -- ---- all texts of a format
 
 -- One value stands at the front of bytes, and its spelling ends in one place.

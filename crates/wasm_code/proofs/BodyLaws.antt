@@ -3,7 +3,7 @@ use Rattle.std.proofs.Common.{◌≡◌, ◌≢◌, ℕ, List, [], ◌∷◌, �
 use Rattle.std.specs.List.{All}
 use Rattle.std.specs.Iterator.{Count, Drains, size}
 use Rattle.std.specs.declared.vec.Vec.{Vec}
-use Rattle.wasm_base.specs.Numbers.{shortest}
+use Rattle.wasm_base.specs.Numbers.{Mode, shortest, wide}
 use Rattle.wasm_base.specs.Formats.{u32, frame, pair, members, vec}
 use Rattle.wasm_base.specs.Reading.{UniqueReading, UniqueWholeReading}
 use Rattle.wasm_base.specs.Calls.{ReadsBack}
@@ -21,7 +21,7 @@ use Rattle.wasm_insn.specs.Table.{table}
 use Rattle.wasm_insn.specs.Instructions.{instruction_text, IsPlainInstruction}
 use Rattle.wasm_insn.proofs.InstructionLaws.{alone, any_begins, lists-whole}
 use Rattle.wasm_code.specs.Expressions.{normal_row}
-use Rattle.wasm_code.specs.Bodies.{Run, run_text, locals_text, IsRun, Body, body_of, body, IsPlainBody, and_then, Grows, GrowsBy, HasLocals, BeginsWithRuns}
+use Rattle.wasm_code.specs.Bodies.{Run, run_text, locals_text, IsRun, Body, body_of, body, IsPlainBody, IsWideBody, and_then, Grows, GrowsBy, HasLocals, BeginsWithRuns}
 use Rattle.wasm_code.specs.Laws.{GoesOnWith, HasOffsets, FindsAdded}
 use Rattle.wasm_code.proofs.ExpressionLaws.{members_join, members_one, normal_spelled}
 
@@ -44,8 +44,8 @@ body_reads bytes fits = record { for_each = λ x h. reads_alone {F = frame body}
 
 -- ---- bodies that grow
 
-grown : (more old : List ℕ) (x : Body) (is : List Plain) → IsPlainBody old x → members (instruction table) shortest more is → IsPlainBody (old ++ more) (and_then x is)
-grown more old x is h g =
+grown : (mode : Mode) (more old : List ℕ) (x : Body) (is : List Plain) → body mode old x → members (instruction table) mode more is → body mode (old ++ more) (and_then x is)
+grown mode more old x is h g =
     let p = h.2 in
     let runs : h.0.0 ≡ x.runs = ap (λ b. b.runs) h.1 in
     let code : h.0.1 ≡ x.code = ap (λ b. b.code) h.1 in (
@@ -55,8 +55,8 @@ grown more old x is h g =
         front = p.front;
         back = p.back ++ more;
         joined = ap (λ z. z ++ more) p.joined ∙ append_assoc p.front p.back more;
-        first = subst (λ r. vec (pair u32 val_type) shortest p.front r) runs p.first;
-        second = members_join (instruction table) shortest p.back more x.code is (subst (λ c. members (instruction table) shortest p.back c) code p.second) g;
+        first = subst (λ r. vec (pair u32 val_type) mode p.front r) runs p.first;
+        second = members_join (instruction table) mode p.back more x.code is (subst (λ c. members (instruction table) mode p.back c) code p.second) g;
       },
     )
 
@@ -65,11 +65,23 @@ grows i old new e = record {
   text = e;
   plain = λ h x held.
       subst (λ z. IsPlainBody z (and_then x (normal_row i ∷ []))) (sym e)
-      (grown (instruction_text i) old x (normal_row i ∷ []) held (members_one (instruction table) shortest (instruction_text i) (normal_row i) (normal_spelled i h)));
+      (grown shortest (instruction_text i) old x (normal_row i ∷ []) held (members_one (instruction table) shortest (instruction_text i) (normal_row i) (normal_spelled i h)));
 }
 
 pub grows_by : (more old new : List ℕ) → new ≡ old ++ more → GrowsBy more old new
-grows_by more old new e = record { bytes = e; plain = λ x is held spelled. subst (λ z. IsPlainBody z (and_then x is)) (sym e) (grown more old x is held spelled) }
+grows_by more old new e = record { bytes = e; plain = λ x is held spelled. subst (λ z. IsPlainBody z (and_then x is)) (sym e) (grown shortest more old x is held spelled) }
+
+-- with padded numbers
+pub body_wider : (bytes : List ℕ) (x : Body) → IsPlainBody bytes x → IsWideBody bytes x
+body_wider bytes x plain = body-whole.spellings.wider bytes x plain
+
+pub grows_wide : (old more : List ℕ) (x : Body) (is : List Plain) → IsWideBody old x → members (instruction table) wide more is → IsWideBody (old ++ more) (and_then x is)
+grows_wide old more x is h g = grown wide more old x is h g
+
+pub grows_by_instruction : {A : Type 0} (i : Instruction A) (old : List ℕ) (x : Body) → IsPlainInstruction i → IsWideBody old x → IsWideBody (old ++ instruction_text i) (and_then x (normal_row i ∷ []))
+grows_by_instruction i old x plain h =
+    grown wide (instruction_text i) old x (normal_row i ∷ []) h
+    (members_one (instruction table) wide (instruction_text i) (normal_row i) (alone.spellings.wider (instruction_text i) (normal_row i) (normal_spelled i plain)))
 
 -- ---- locals
 

@@ -1,9 +1,9 @@
 -- What calls leave, step by step: lemmas that a caller cites.
-use Rattle.std.proofs.Common.{◌≡◌, ℕ, ◌^◌, ◌<◌, ◌≤◌, List, [], ◌∷◌, ◌++◌, length, map, Result, Ok, Err, refl, sym, ap, subst, ◌∙◌}
+use Rattle.std.proofs.Common.{◌≡◌, ℕ, ◌^◌, ◌<◌, ◌≤◌, List, [], ◌∷◌, ◌++◌, length, map, ℤ, Result, Ok, Err, refl, sym, ap, subst, ◌∙◌, append-nil}
 use Rattle.std.proofs.lemmas.List.{map-append}
 use Rattle.std.proofs.lemmas.List.Elements.{All-nil, All-cons}
 use Rattle.std.specs.Array.Iter.{array_into_iter_items, array_steps, array_steps_back}
-use Rattle.std.specs.Iterator.{Count}
+use Rattle.std.specs.Iterator.{Count, Drains}
 use Rattle.std.specs.Iterator.Runs.{EveryRun, ItemsAre, ItemsAreReversed}
 use Rattle.std.specs.List.{All, AllByRecursion, AllZip}
 use Rattle.std.specs.Prelude.{OnOk}
@@ -13,9 +13,9 @@ use Rattle.wasm_base.specs.declared.refused.Refused.{Refused}
 use Rattle.wasm_base.specs.declared.types.ValType.{ValType}
 use Rattle.std.specs.declared.array.IntoIter.{IntoIter}
 use Rattle.wasm_base.specs.Calls.{Appends, ReadsOneMore, AddsEach}
-use Rattle.wasm_base.specs.Formats.{any_bytes, frame, vec}
-use Rattle.wasm_base.specs.Modules.{SectionReading, ReadsSections, GainsReading}
-use Rattle.wasm_base.specs.Numbers.{shortest}
+use Rattle.wasm_base.specs.Formats.{u32, s32, any_bytes, frame, vec, members}
+use Rattle.wasm_base.specs.Modules.{SectionReading, ReadsSections, GainsReading, GainsReadingWide}
+use Rattle.wasm_base.specs.Numbers.{Mode, shortest, wide}
 use Rattle.wasm_base.specs.Pieces.{SectionPayload, SectionFits, section_text, section_framed}
 use Rattle.wasm_base.specs.Texts.{longest, VecFits, frame_text, FrameFits}
 use Rattle.wasm_base.proofs.Calls.{gains_section}
@@ -25,14 +25,20 @@ use Rattle.wasm_insn.specs.Plain.{Plain, instruction as instruction_format}
 use Rattle.wasm_insn.specs.Sink.{br_table_text, WritesLabels}
 use Rattle.wasm_insn.specs.Table.{table}
 use Rattle.wasm_insn.specs.Instructions.{instruction_text, IsPlainInstruction}
-use Rattle.wasm_insn.proofs.InstructionLaws.{br_table_spelled}
-use Rattle.wasm_code.specs.Bodies.{Run, IsRun, IsRuns, expand, Body, body as body_format, IsPlainBody, and_then, Grows, HasLocals, BeginsWithRuns, BeginsWithTypes}
-use Rattle.wasm_code.specs.Code.{code_section, HoldsBodies, SpellsBodies, ReadsCode, raw_code_reading, code_reading}
-use Rattle.wasm_code.specs.Expressions.{StoresInstructions, Stores, normal_row}
-use Rattle.wasm_code.specs.Laws.{HoldsMoreBodies, GrowsByText, GrowsByLabels, br_table_row}
-use Rattle.wasm_code.proofs.BodyLaws.{grows, grows_by}
+use Rattle.wasm_insn.specs.Arguments.{signed32}
+use Rattle.wasm_insn.specs.declared.instruction.Instruction.TheVariants.{I32Const}
+use Rattle.wasm_insn.specs.declared.op.Shape.TheVariants.{C32}
+use Rattle.wasm_insn.specs.declared.part.Part.TheVariants as parts
+use Rattle.wasm_insn.proofs.InstructionLaws.{br_table_spelled, byte_spelled, one_argument}
+use Rattle.wasm_insn.proofs.TableRuns.{byte_shape}
+use Rattle.wasm_code.specs.Bodies.{Run, IsRun, IsRuns, expand, Body, body as body_format, IsPlainBody, IsWideBody, and_then, Grows, HasLocals, BeginsWithRuns, BeginsWithTypes}
+use Rattle.wasm_code.specs.Code.{code_section, HoldsBodies, SpellsBodiesIn, SpellsBodies, SpellsBodiesWide, ReadsCode, raw_code_reading, code_reading}
+use Rattle.wasm_base.specs.Formats.{such}
+use Rattle.wasm_code.specs.Expressions.{IsNoEnd, StoresInstructions, StoresWide, Stores, normal_row}
+use Rattle.wasm_code.specs.Laws.{HoldsMoreBodies, GrowsByText, GrowsByLabels, br_table_row, HoldsMoreBodiesWide, GrowsWide, GrowsByTextWide, StoresMoreWide}
+use Rattle.wasm_code.proofs.BodyLaws.{grows, grows_by, body_wider, grows_wide, grows_by_instruction}
 use Rattle.wasm_code.proofs.CodeLaws.{raw_code-payload, code_section-payload}
-use Rattle.wasm_code.proofs.ExpressionLaws.{members_one}
+use Rattle.wasm_code.proofs.ExpressionLaws.{members_one, members_join, stores_wider, expression_spelled}
 
 -- ---- functions
 
@@ -116,22 +122,23 @@ zip_join R [] more (y ∷ ys) others h g = absurd h
 zip_join R (x ∷ xs) more [] others h g = absurd h
 zip_join R (x ∷ xs) more (y ∷ ys) others h g = (h.0, zip_join R xs more ys others h.1 g)
 
-all_bodies : (entries : List (List ℕ)) (bodies : List Body) (raw : List (List ℕ)) (xs : List Body) → SpellsBodies entries bodies → AllZip IsPlainBody raw xs → SpellsBodies (entries ++ map frame_text raw) (bodies ++ xs)
-all_bodies entries bodies raw xs before spelled = record {
+all_bodies : (mode : Mode) (entries : List (List ℕ)) (bodies : List Body) (raw : List (List ℕ)) (xs : List Body) → SpellsBodiesIn mode entries bodies → AllZip (body_format mode) raw xs
+    → SpellsBodiesIn mode (entries ++ map frame_text raw) (bodies ++ xs)
+all_bodies mode entries bodies raw xs before spelled = record {
   raw = before.raw ++ raw;
   held = ap (λ es. es ++ map frame_text raw) before.held ∙ sym (map-append frame_text before.raw raw);
-  spelled = zip_join IsPlainBody before.raw raw bodies xs before.spelled spelled;
+  spelled = zip_join (body_format mode) before.raw raw bodies xs before.spelled spelled;
 }
 
 -- one more function
 pub adds_body : {old new : List (List ℕ)} {raw : List ℕ} {bodies : List Body} {x : Body} → SpellsBodies old bodies → new ≡ old ++ frame_text raw ∷ [] → IsPlainBody raw x → SpellsBodies new (bodies ++ x ∷ [])
 adds_body {old = old} {new = new} {raw = raw} {bodies = bodies} {x = x} before e spelled =
-    subst (λ es. SpellsBodies es (bodies ++ x ∷ [])) (sym e) (all_bodies old bodies (raw ∷ []) (x ∷ []) before (spelled, tt))
+    subst (λ es. SpellsBodies es (bodies ++ x ∷ [])) (sym e) (all_bodies shortest old bodies (raw ∷ []) (x ∷ []) before (spelled, tt))
 
 -- all functions of a list
 pub adds_bodies : {old new raw : List (List ℕ)} {bodies : List Body} → SpellsBodies old bodies → AddsEach frame_text FrameFits raw old new → (xs : List Body) → AllZip IsPlainBody raw xs → SpellsBodies new (bodies ++ xs)
 adds_bodies {old = old} {raw = raw} {bodies = bodies} before added xs spelled =
-    subst (λ es. SpellsBodies es (bodies ++ xs)) (sym added.is) (all_bodies old bodies raw xs before spelled)
+    subst (λ es. SpellsBodies es (bodies ++ xs)) (sym added.is) (all_bodies shortest old bodies raw xs before spelled)
 
 -- a module and a code section of these bodies
 pub gains_code : {readings : List SectionReading} {id : ℕ} {old new : List ℕ} {entries : List (List ℕ)} {bodies : List Body} → ReadsSections readings old → ReadsOneMore (SectionPayload entries) id old new
@@ -152,13 +159,68 @@ encodes_code {entries = entries} {result = Ok u} {bodies = bodies} appends reads
     record { text = section_text entries; added = appends.ok; alone = reads.bodies.for_each bodies spelled }
 encodes_code {result = Err e} appends reads spelled = tt
 
+-- ---- constant expressions, instructions and bodies with padded numbers
+
+-- what is plain is so with padded numbers too
+pub wider_body : {bytes : List ℕ} {x : Body} → IsPlainBody bytes x → IsWideBody bytes x
+wider_body {bytes = bytes} {x = x} plain = body_wider bytes x plain
+
+pub wider_constant : (bytes : List ℕ) (is : List Plain) → StoresInstructions bytes is → StoresWide bytes is
+wider_constant bytes is plain = stores_wider bytes is plain
+
+-- an expression of given bytes, the elements of an array
+pub raw_constant : {n : ℕ} {elements stored : List ℕ} → (it : IntoIter ℕ n) × (xs : List ℕ) × becomes {n = n} elements it × Drains array_steps it xs × (stored ≡ xs) → (is : List Plain) → StoresWide elements is → StoresWide stored is
+raw_constant given is spelled = subst (λ bytes. StoresWide bytes is) (sym (given.4 ∙ array_items given.0 given.1 given.3 ∙ given.2.0)) spelled
+
+-- the instruction `I32Const`, of a padded number
+pub padded_i32_const : (bytes : List ℕ) (v : ℤ) → s32 wide bytes v → StoresWide (0x41 ∷ bytes) (normal_row {A = Global} (I32Const v) ∷ [])
+padded_i32_const bytes v padded =
+    members_one (such IsNoEnd (instruction_format table)) wide (0x41 ∷ bytes) (normal_row {A = Global} (I32Const v))
+    (byte_spelled wide 0x41 bytes C32 (signed32 v ∷ []) refl (byte_shape 0x41) (one_argument wide parts.Signed32 bytes (signed32 v) (v, refl, padded)), refl)
+
+-- a raw body without runs: of their number alone, which may be padded
+pub without_runs : {count : List ℕ} → u32 wide count 0 → IsWideBody count (record { runs = []; code = [] })
+without_runs {count = count} none = (([], []), refl, record { front = count; back = []; joined = sym (append-nil count); first = record { front = count; back = []; joined = sym (append-nil count); first = none; second = refl }; second = refl })
+
+-- one more instruction
+pub adds_instruction_wide : {A : Type 0} {old new : List ℕ} {x : Body} → IsWideBody old x → (i : Instruction A) → new ≡ old ++ instruction_text i → IsPlainInstruction i → IsWideBody new (and_then x (normal_row i ∷ []))
+adds_instruction_wide {old = old} {x = x} body i e plain = subst (λ s. IsWideBody s (and_then x (normal_row i ∷ []))) (sym e) (grows_by_instruction i old x plain body)
+
+-- more of them, that given bytes spell
+pub adds_instructions_wide : {old new : List ℕ} {x : Body} → IsWideBody old x → (more : List ℕ) (is : List Plain) → new ≡ old ++ more → members (instruction_format table) wide more is → IsWideBody new (and_then x is)
+adds_instructions_wide {old = old} {x = x} body more is e spelled = subst (λ s. IsWideBody s (and_then x is)) (sym e) (grows_wide old more x is body spelled)
+
+-- ---- the code section, with padded numbers
+
+-- what it spells in shortest form
+pub spells_wide : {entries : List (List ℕ)} {bodies : List Body} → SpellsBodies entries bodies → SpellsBodiesWide entries bodies
+spells_wide {bodies = bodies} before = record { raw = before.raw; held = before.held; spelled = each_wider before.raw bodies before.spelled }
+  where
+    each_wider : (raw : List (List ℕ)) (xs : List Body) → AllZip IsPlainBody raw xs → AllZip IsWideBody raw xs
+    each_wider [] [] h = tt
+    each_wider [] (x ∷ xs) h = absurd h
+    each_wider (bytes ∷ raw) [] h = absurd h
+    each_wider (bytes ∷ raw) (x ∷ xs) h = (body_wider bytes x h.0, each_wider raw xs h.1)
+
+-- one more body, of given bytes or of a function
+pub adds_body_wide : {old new : List (List ℕ)} {raw : List ℕ} {bodies : List Body} {x : Body} → SpellsBodiesWide old bodies → new ≡ old ++ frame_text raw ∷ [] → IsWideBody raw x → SpellsBodiesWide new (bodies ++ x ∷ [])
+adds_body_wide {old = old} {new = new} {raw = raw} {bodies = bodies} {x = x} before e spelled =
+    subst (λ es. SpellsBodiesWide es (bodies ++ x ∷ [])) (sym e) (all_bodies wide old bodies (raw ∷ []) (x ∷ []) before (spelled, tt))
+
+-- a code section that a buffer has gained
+pub encodes_code_wide : {A : Type 0} {fits : Type 0} {entries : List (List ℕ)} {old new : Vec ℕ A} {result : Result (Unit {0}) Refused} {bodies : List Body} → Appends (section_text entries) fits old new result
+    → OnOk result (ReadsCode entries (section_text entries)) → SpellsBodiesWide entries bodies → OnOk result (GainsReadingWide code_section bodies old.items new.items)
+encodes_code_wide {entries = entries} {result = Ok u} {bodies = bodies} appends reads spelled =
+    record { text = section_text entries; added = appends.ok; alone = reads.wide.for_each bodies spelled }
+encodes_code_wide {result = Err e} appends reads spelled = tt
+
 -- ---- laws
 
 pub holds_more : HoldsMoreBodies
 holds_more = record {
   none = record { raw = []; held = refl; spelled = tt };
-  given = λ entries bodies raw x before spelled. all_bodies entries bodies (raw ∷ []) (x ∷ []) before (spelled, tt);
-  all = all_bodies;
+  given = λ entries bodies raw x before spelled. all_bodies shortest entries bodies (raw ∷ []) (x ∷ []) before (spelled, tt);
+  all = all_bodies shortest;
 }
 
 pub grows_by_text : {A : Type 0} (i : Instruction A) → GrowsByText i
@@ -168,3 +230,22 @@ pub grows_by_labels : GrowsByLabels
 grows_by_labels = record { grows = λ ls default old x fits range body. labels_written body refl fits range }
 
 pub ruleset calls = (holds_more, grows_by_text, grows_by_labels)
+
+pub holds_more_wide : HoldsMoreBodiesWide
+holds_more_wide = record {
+  none = record { raw = []; held = refl; spelled = tt };
+  held = λ entries bodies before. spells_wide before;
+  given = λ entries bodies raw x before spelled. all_bodies wide entries bodies (raw ∷ []) (x ∷ []) before (spelled, tt);
+  all = all_bodies wide;
+}
+
+pub body_grows_wide : GrowsWide
+body_grows_wide = record { plain = body_wider; raw = grows_wide }
+
+pub grows_by_text_wide : {A : Type 0} (i : Instruction A) → GrowsByTextWide i
+grows_by_text_wide i = record { grows = grows_by_instruction i }
+
+pub stores_more_wide : StoresMoreWide
+stores_more_wide = record { plain = stores_wider; more = members_join (such IsNoEnd (instruction_format table)) wide; spelled = expression_spelled wide }
+
+pub ruleset wide_calls = (holds_more_wide, body_grows_wide, grows_by_text_wide, stores_more_wide)

@@ -1,16 +1,17 @@
 -- A code section is read as its raw bodies alone, and as the bodies that they spell.
 use Rattle.std.proofs.Common.{ℕ, ◌≤◌, List, [], ◌∷◌, length, map, refl, sym, subst, arith, length-append}
 use Rattle.std.specs.List.{AllZip}
-use Rattle.wasm_base.specs.Numbers.{shortest, unsigned_text}
+use Rattle.wasm_base.specs.Numbers.{Mode, shortest, wide, unsigned_text}
 use Rattle.wasm_base.specs.Formats.{Format, any_bytes, frame, vec}
-use Rattle.wasm_base.specs.Reading.{ReadsAlone, UniqueReading, IsUniqueWide, IsUniqueWholeWide}
+use Rattle.wasm_base.specs.Reading.{UniqueReading, IsUniqueWide, IsUniqueWholeWide}
 use Rattle.wasm_base.specs.Modules.{ReadsPayloads}
 use Rattle.wasm_base.specs.Texts.{longest, frame_text}
 use Rattle.wasm_base.specs.Pieces.{joined, section_text, SectionFits}
 use Rattle.wasm_base.proofs.BaseLaws.{frame-bytes-alone, unique_wide, unique_whole_wide}
 use Rattle.wasm_base.proofs.FormatLaws.{vec-alone, frame-alone, whole_from_alone}
 use Rattle.wasm_base.proofs.Payloads.{counted-payload}
-use Rattle.wasm_base.proofs.TextLaws.{frame_spelled, section_alone}
+use Rattle.wasm_base.proofs.EntryLaws.{content_fits}
+use Rattle.wasm_base.proofs.TextLaws.{frame_in, section_alone, section_alone_wide}
 use Rattle.wasm_code.specs.Expressions.{expression}
 use Rattle.wasm_code.specs.Bodies.{body}
 use Rattle.wasm_code.specs.Code.{raw_code, code_section, HoldsBodies, ReadsCode}
@@ -24,26 +25,19 @@ pub code_section-alone : UniqueReading code_section
 code_section-alone = frame-alone (whole_from_alone (vec-alone frame-body-alone))
 
 -- Each frame of a content that fits spells what its bytes spell.
-frames_spelled : {X : Type 0} (F : Format X) (raw : List (List ℕ)) (xs : List X) → length (joined (map frame_text raw)) ≤ longest → AllZip (F shortest) raw xs → AllZip (frame F shortest) (map frame_text raw) xs
-frames_spelled F [] [] h g = tt
-frames_spelled F [] (x ∷ xs) h g = absurd g
-frames_spelled F (bytes ∷ raw) [] h g = absurd g
-frames_spelled F (bytes ∷ raw) (x ∷ xs) h g =
+frames_spelled : {X : Type 0} (mode : Mode) (F : Format X) (raw : List (List ℕ)) (xs : List X) → length (joined (map frame_text raw)) ≤ longest → AllZip (F mode) raw xs → AllZip (frame F mode) (map frame_text raw) xs
+frames_spelled mode F [] [] h g = tt
+frames_spelled mode F [] (x ∷ xs) h g = absurd g
+frames_spelled mode F (bytes ∷ raw) [] h g = absurd g
+frames_spelled mode F (bytes ∷ raw) (x ∷ xs) h g =
     let rest = joined (map frame_text raw) in
     let whole = length-append (frame_text bytes) rest in
     let framed = length-append (unsigned_text (length bytes)) bytes in
-    (frame_spelled F bytes x (omega (arith, h, whole, framed)) g.0, frames_spelled F raw xs (omega (arith, h, whole)) g.1)
+    (frame_in mode F bytes x (omega (arith, h, whole, framed)) g.0, frames_spelled mode F raw xs (omega (arith, h, whole)) g.1)
 
-content_fits : (pieces : List (List ℕ)) → SectionFits pieces → length (joined pieces) ≤ longest
-content_fits pieces fits = omega (arith, fits.size, length-append (unsigned_text (length pieces)) (joined pieces))
-
--- A section of framed pieces is read as what these spell.
-framed_alone : {X : Type 0} (F : Format X) → UniqueReading (frame (vec (frame F))) → (entries raw : List (List ℕ)) (xs : List X) → HoldsBodies entries raw → SectionFits entries → AllZip (F shortest) raw xs
-    → ReadsAlone (frame (vec (frame F))) (section_text entries) xs
-framed_alone F alone entries raw xs e fits spelled =
-    subst (λ ps. ReadsAlone (frame (vec (frame F))) (section_text ps) xs) (sym e)
-    (let fits = subst SectionFits e fits in
-    section_alone {F = frame F} alone (map frame_text raw) xs fits (frames_spelled F raw xs (content_fits (map frame_text raw) fits) spelled))
+-- Entries that are frames of raw bodies spell what these do.
+framed : {X : Type 0} (mode : Mode) (F : Format X) (entries raw : List (List ℕ)) (xs : List X) → HoldsBodies entries raw → SectionFits entries → AllZip (F mode) raw xs → AllZip (frame F mode) entries xs
+framed mode F entries raw xs e fits spelled = subst (λ es. AllZip (frame F mode) es xs) (sym e) (frames_spelled mode F raw xs (content_fits (map frame_text raw) (subst SectionFits e fits)) spelled)
 
 same_bytes : (raw : List (List ℕ)) → AllZip (any_bytes shortest) raw raw
 same_bytes [] = tt
@@ -51,8 +45,9 @@ same_bytes (bytes ∷ raw) = (refl, same_bytes raw)
 
 pub code_reads : (entries : List (List ℕ)) → SectionFits entries → ReadsCode entries (section_text entries)
 code_reads entries fits = record {
-  raw = record { for_each = λ raw e. framed_alone any_bytes raw_code-alone entries raw raw e fits (same_bytes raw) };
-  bodies = record { for_each = λ xs h. framed_alone body code_section-alone entries h.raw xs h.held fits h.spelled };
+  raw = record { for_each = λ raw e. section_alone {F = frame any_bytes} raw_code-alone entries raw fits (framed shortest any_bytes entries raw raw e fits (same_bytes raw)) };
+  bodies = record { for_each = λ xs h. section_alone {F = frame body} code_section-alone entries xs fits (framed shortest body entries h.raw xs h.held fits h.spelled) };
+  wide = record { for_each = λ xs h. section_alone_wide {F = frame body} code_section-alone entries xs fits (framed wide body entries h.raw xs h.held fits h.spelled) };
 }
 
 -- ---- payloads

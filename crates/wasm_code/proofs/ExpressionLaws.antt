@@ -5,9 +5,9 @@ use Rattle.std.specs.List.{All, flat_map}
 use Rattle.std.specs.declared.alloc.Global.{Global}
 use Rattle.wasm_base.specs.Numbers.{Mode, shortest}
 use Rattle.wasm_base.specs.Formats.{Format, such, members, ended}
-use Rattle.wasm_base.specs.Reading.{UniqueReading, BeginsWith}
+use Rattle.wasm_base.specs.Reading.{UniqueReading, UniqueWholeReading, BeginsWith}
 use Rattle.wasm_base.specs.Calls.{ReadsBack}
-use Rattle.wasm_base.proofs.FormatLaws.{such-alone, ended-alone}
+use Rattle.wasm_base.proofs.FormatLaws.{such-alone, ended-alone, members-whole}
 use Rattle.wasm_base.proofs.TextLaws.{reads_alone}
 use Rattle.wasm_insn.specs.declared.instruction.Instruction.{Instruction}
 use Rattle.wasm_insn.specs.declared.op.Op.{Op}
@@ -16,7 +16,7 @@ use Rattle.wasm_insn.specs.Plain.{Plain, instruction, op_after, same_op}
 use Rattle.wasm_insn.specs.Table.{table}
 use Rattle.wasm_insn.specs.Instructions.{row_of, instruction_text, InstructionFits, IsPlainInstruction}
 use Rattle.wasm_insn.proofs.InstructionLaws.{alone, reads}
-use Rattle.wasm_code.specs.Expressions.{IsNoEnd, expression, expression_text, StoresInstructions, normal_row, IsPlainInside, Stores, StoresAll, AppendsEach, StoresGiven}
+use Rattle.wasm_code.specs.Expressions.{IsNoEnd, expression, expression_text, StoresIn, StoresInstructions, StoresWide, normal_row, IsPlainInside, Stores, StoresAll, AppendsEach, StoresGiven}
 
 -- ---- unique reading
 
@@ -40,6 +40,13 @@ not_end_begins mode s i h =
 pub expression-alone : UniqueReading expression
 expression-alone = ended-alone 0x0B not_end_begins (such-alone IsNoEnd alone)
 
+stored-whole : UniqueWholeReading (members (such IsNoEnd (instruction table)))
+stored-whole = members-whole (λ b. b ≢ 0x0B) not_end_begins (such-alone IsNoEnd alone)
+
+-- What is plain is so with padded numbers too.
+pub stores_wider : (bytes : List ℕ) (is : List Plain) → StoresInstructions bytes is → StoresWide bytes is
+stores_wider bytes is stored = stored-whole.spellings.wider bytes is stored
+
 -- ---- texts
 
 -- members, and then more of them
@@ -56,7 +63,7 @@ ended_spelled stop F mode s [] h = ap (λ z. z ++ stop ∷ []) h
 ended_spelled stop F mode s (x ∷ xs) h = (h.0, h.1 ++ stop ∷ [], ap (λ z. z ++ stop ∷ []) h.2 ∙ append_assoc h.0 h.1 (stop ∷ []), h.3, ended_spelled stop F mode h.1 xs h.4)
 
 -- What the bytes store, the text spells.
-pub expression_spelled : (mode : Mode) (bytes : List ℕ) (is : List Plain) → members (such IsNoEnd (instruction table)) mode bytes is → expression mode (expression_text bytes) is
+pub expression_spelled : (mode : Mode) (bytes : List ℕ) (is : List Plain) → StoresIn mode bytes is → expression mode (expression_text bytes) is
 expression_spelled mode bytes is h = ended_spelled 0x0B (such IsNoEnd (instruction table)) mode bytes is h
 
 pub expression_reads : (bytes : List ℕ) → ReadsBack expression (StoresInstructions bytes) (expression_text bytes)

@@ -3,7 +3,7 @@ use Rattle.std.specs.Prelude.{◌≡◌, ◌≢◌, ℕ, ◌^◌, ◌<◌, ◌�
 use Rattle.std.specs.Iterator.{Count, Drains, Yields, size}
 use Rattle.std.specs.List.{All}
 use Rattle.std.specs.declared.vec.Vec.{Vec}
-use Rattle.wasm_base.specs.Numbers.{shortest, unsigned_text}
+use Rattle.wasm_base.specs.Numbers.{shortest, wide, unsigned_text}
 use Rattle.wasm_base.specs.Formats.{Format, u32, mapped, pair, members, vec}
 use Rattle.wasm_base.specs.Texts.{longest, vec_text}
 use Rattle.wasm_base.specs.Types.{val_text, val_type, IsVal}
@@ -87,6 +87,10 @@ body = mapped body_of (pair (vec (pair u32 val_type)) (members (instruction tabl
 -- plain: The raw body spells this body.
 abbrev pub IsPlainBody : List ℕ → Body → Type 0
 IsPlainBody bytes x = body shortest bytes x
+
+-- plain but for padded numbers
+abbrev pub IsWideBody : List ℕ → Body → Type 0
+IsWideBody bytes x = body wide bytes x
 
 -- a body, and more instructions after its own
 abbrev pub and_then : Body → List Plain → Body

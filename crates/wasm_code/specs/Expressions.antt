@@ -3,7 +3,7 @@ use Rattle.std.specs.Prelude.{◌≡◌, ◌≢◌, ◌↔◌, ℕ, List, [], �
 use Rattle.std.specs.Iterator.{Drains, Yields}
 use Rattle.std.specs.List.{All, flat_map}
 use Rattle.std.specs.declared.alloc.Global.{Global}
-use Rattle.wasm_base.specs.Numbers.{shortest, wide}
+use Rattle.wasm_base.specs.Numbers.{Mode, shortest, wide}
 use Rattle.wasm_base.specs.Formats.{Format, u32, such, members, ended, prefixed}
 use Rattle.wasm_base.specs.Reading.{Reads}
 use Rattle.wasm_base.specs.declared.refused.Refused.{Refused}
@@ -30,9 +30,17 @@ expression_text bytes = bytes ++ 0x0B ∷ []
 
 -- ---- plain expressions
 
--- plain: The stored bytes spell these instructions, none of them End.
+-- The stored bytes spell these instructions, none of them End.
+abbrev pub StoresIn : Mode → List ℕ → List Plain → Type 0
+StoresIn mode bytes is = members (such IsNoEnd (instruction table)) mode bytes is
+
+-- plain: They do in shortest form.
 abbrev pub StoresInstructions : List ℕ → List Plain → Type 0
-StoresInstructions bytes is = members (such IsNoEnd (instruction table)) shortest bytes is
+StoresInstructions bytes is = StoresIn shortest bytes is
+
+-- plain but for padded numbers
+abbrev pub StoresWide : List ℕ → List Plain → Type 0
+StoresWide bytes is = StoresIn wide bytes is
 
 -- the normal form of an instruction
 abbrev pub normal_row : {A : Type 0} → Instruction A → Plain

@@ -1,7 +1,7 @@
 -- What is promised of all lists of bytes.
 use Rattle.std.specs.Prelude.{◌≡◌, ◌≢◌, ℕ, ◌^◌, ◌<◌, List, [], ◌∷◌, ◌++◌, map}
 use Rattle.std.specs.List.{All, AllZip, flat_map}
-use Rattle.wasm_base.specs.Numbers.{shortest}
+use Rattle.wasm_base.specs.Numbers.{shortest, wide}
 use Rattle.wasm_base.specs.Formats.{Format, members}
 use Rattle.wasm_base.specs.Reading.{ReadsNothing}
 use Rattle.wasm_base.specs.Texts.{vec_text, VecFits, frame_text, FrameFits}
@@ -12,9 +12,9 @@ use Rattle.wasm_insn.specs.Sink.{br_table_text}
 use Rattle.wasm_insn.specs.Plain.{Plain, IsPlain, normal, instruction, plain_text}
 use Rattle.wasm_insn.specs.Table.{table}
 use Rattle.wasm_insn.specs.Instructions.{instruction_text, IsPlainInstruction}
-use Rattle.wasm_code.specs.Expressions.{normal_row, IsNoEnd, expression_text}
-use Rattle.wasm_code.specs.Bodies.{Body, body, and_then, IsPlainBody, Grows, Run, expand, IsRun, IsRuns, locals_text}
-use Rattle.wasm_code.specs.Code.{SpellsBodies}
+use Rattle.wasm_code.specs.Expressions.{normal_row, IsNoEnd, expression, expression_text, StoresInstructions, StoresWide}
+use Rattle.wasm_code.specs.Bodies.{Body, body, and_then, IsPlainBody, IsWideBody, Grows, Run, expand, IsRun, IsRuns, locals_text}
+use Rattle.wasm_code.specs.Code.{SpellsBodies, SpellsBodiesWide}
 
 -- No value stands at the front of the text, whatever follows.
 pub record NothingStands {X : Type 0} (F : Format X) (text : List ℕ) : Type 0 where
@@ -116,3 +116,31 @@ br_table_row ls default = record { op = Byte 0x0E; arguments = labels ls ∷ uns
 pub record GrowsByLabels : Type 0 where
   pub grows : (ls : List ℕ) (default : ℕ) (old : List ℕ) (x : Body) → VecFits (λ n. n < 2 ^ 32) ls → default < 2 ^ 32 → IsPlainBody old x
       → IsPlainBody (old ++ br_table_text ls default) (and_then x (br_table_row ls default ∷ []))
+
+-- ---- calls, with padded numbers
+
+-- A code section spells with padded numbers what it spells in shortest form, and an entry that is the frame of a raw body adds the body that
+-- this spells so. The entries that `add_all` adds are added as one by one.
+pub record HoldsMoreBodiesWide : Type 0 where
+  pub none : SpellsBodiesWide [] []
+  pub held : (entries : List (List ℕ)) (bodies : List Body) → SpellsBodies entries bodies → SpellsBodiesWide entries bodies
+  pub given : (entries : List (List ℕ)) (bodies : List Body) (raw : List ℕ) (x : Body) → SpellsBodiesWide entries bodies → IsWideBody raw x
+      → SpellsBodiesWide (entries ++ frame_text raw ∷ []) (bodies ++ x ∷ [])
+  pub all : (entries : List (List ℕ)) (bodies : List Body) (raw : List (List ℕ)) (xs : List Body) → SpellsBodiesWide entries bodies → AllZip IsWideBody raw xs
+      → SpellsBodiesWide (entries ++ map frame_text raw) (bodies ++ xs)
+
+-- A plain body is one with padded numbers too, and gains the instructions that given bytes spell so.
+pub record GrowsWide : Type 0 where
+  pub plain : (bytes : List ℕ) (x : Body) → IsPlainBody bytes x → IsWideBody bytes x
+  pub raw : (old more : List ℕ) (x : Body) (is : List Plain) → IsWideBody old x → members (instruction table) wide more is → IsWideBody (old ++ more) (and_then x is)
+
+-- Where bytes gain the text of an instruction, a body with padded numbers gains the instruction.
+pub record GrowsByTextWide {A : Type 0} (i : Instruction A) : Type 0 where
+  pub grows : (old : List ℕ) (x : Body) → IsPlainInstruction i → IsWideBody old x → IsWideBody (old ++ instruction_text i) (and_then x (normal_row i ∷ []))
+
+-- A plain expression is one with padded numbers too. One after another, two lists of stored bytes store the instructions of both, and their text is
+-- an expression of these.
+pub record StoresMoreWide : Type 0 where
+  pub plain : (bytes : List ℕ) (is : List Plain) → StoresInstructions bytes is → StoresWide bytes is
+  pub more : (old more : List ℕ) (is others : List Plain) → StoresWide old is → StoresWide more others → StoresWide (old ++ more) (is ++ others)
+  pub spelled : (bytes : List ℕ) (is : List Plain) → StoresWide bytes is → expression wide (expression_text bytes) is

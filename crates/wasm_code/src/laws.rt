@@ -18,6 +18,10 @@ ghost use Rattle.wasm_code.specs.Laws.{
   HoldsMoreBodies,
   GrowsByText,
   GrowsByLabels,
+  HoldsMoreBodiesWide,
+  GrowsWide,
+  GrowsByTextWide,
+  StoresMoreWide,
   PlainExpressionFits,
   plain_expression_text,
   BodyFits,
@@ -75,6 +79,15 @@ pub fn calls<A: Allocator>()
     ensures code { HoldsMoreBodies }
     ensures instruction { (i : Instruction A) → GrowsByText i }
     ensures labels { GrowsByLabels }
+{}
+
+/// The same with padded numbers: what a code section, a body and a constant expression hold, call by call.
+#[tactic(auto, using(crate::proofs::Calls::wide_calls))]
+pub fn wide_calls<A: Allocator>()
+    ensures code { HoldsMoreBodiesWide }
+    ensures body { GrowsWide }
+    ensures instruction { (i : Instruction A) → GrowsByTextWide i }
+    ensures expression { StoresMoreWide }
 {}
 
 /// With padded numbers too.

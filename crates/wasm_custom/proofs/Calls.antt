@@ -8,15 +8,15 @@ use Rattle.std.specs.List.{All, AllByRecursion}
 use Rattle.std.specs.Prelude.{OnOk}
 use Rattle.std.specs.declared.array.IntoIter.{IntoIter}
 use Rattle.std.specs.declared.vec.Vec.{Vec}
-use Rattle.wasm_base.specs.Calls.{Appends, ReadsOneMore, ReadsBack}
-use Rattle.wasm_base.specs.Entries.{HoldsItems}
+use Rattle.wasm_base.specs.Calls.{Appends, ReadsOneMore, ReadsBack, ReadsBackBoth}
+use Rattle.wasm_base.specs.Entries.{HoldsItems, HoldsWide}
 use Rattle.wasm_base.specs.Formats.{Format, frame, name, pair, any_bytes, custom}
 use Rattle.wasm_base.specs.Laws.{FitsUnsigned}
 use Rattle.wasm_base.specs.Modules.{SectionReading, reading_of, ReadsSections, ReadsPayloads, GainsReading}
-use Rattle.wasm_base.specs.Numbers.{unsigned_text}
+use Rattle.wasm_base.specs.Numbers.{wide, unsigned_text}
 use Rattle.wasm_base.specs.Texts.{IsFrameOf, longest, frame_text, FrameFits, vec_text, VecFits}
 use Rattle.wasm_base.specs.declared.refused.Refused.{Refused}
-use Rattle.wasm_base.proofs.Calls.{gains_section}
+use Rattle.wasm_base.proofs.Calls.{gains_section, adds_raw_wide}
 use Rattle.wasm_base.proofs.HeldLaws.{holds_more}
 use Rattle.wasm_base.proofs.KnownLengths.{array_items}
 use Rattle.wasm_base.proofs.Payloads.{custom-payload}
@@ -29,14 +29,16 @@ use Rattle.wasm_custom.specs.Entries.{entries_text}
 use Rattle.wasm_custom.specs.Hints.{hints_name, Hints, hint_text, IsHint, hints_text, AreHints, hints}
 use Rattle.wasm_custom.specs.Linking.{linking_name, version, LinkItem, Symbols, Target, link_text, IsLink, link}
 use Rattle.wasm_custom.specs.Lists.{list_text, IsListOf}
-use Rattle.wasm_custom.specs.Names.{name_name, Naming, Inside, NameItem, Module, Map, Indirect, Other, name_text, IsName, subsection, of_map, of_indirect, of_other, kind_of}
+use Rattle.wasm_custom.specs.Names.{name_name, Naming, Inside, NameItem, Module, Map, Indirect, Other, name_text, IsName, name_map, indirect_map, subsection, of_map, of_indirect, of_other, kind_of}
 use Rattle.wasm_custom.specs.Producers.{producers_name, Producer, Field, field_text, IsField, field}
 use Rattle.wasm_custom.specs.Readings.{AreNamings, AreInsides, AreSymbols, AreProducers, HoldsNames, HoldsLinks, HoldsFields, HoldsHints, HoldsModules, HoldsInstances, name_payload, linking_payload, producers_payload, hints_payload, modules_payload, instances_payload, core_payload, stack_payload}
 use Rattle.wasm_custom.specs.Symbols.{Symbol, symbol_text, IsGivenSymbol, IsAsFlagged, IsSymbol}
 use Rattle.wasm_custom.specs.declared.core_values.CoreDumpValue.{CoreDumpValue}
 use Rattle.wasm_custom.specs.declared.hints.BranchHint.{BranchHint}
 use Rattle.wasm_custom.proofs.CustomLaws.{custom_back}
+use Rattle.wasm_custom.proofs.HeldLaws.{name-wide}
 use Rattle.wasm_custom.proofs.ListLaws.{lists_none, lists_more, list_vector}
+use Rattle.wasm_custom.proofs.NameLaws.{names_wide, names_inside_wide}
 use Rattle.wasm_custom.proofs.SectionLaws.{name-payload, linking-payload, producers-payload, hints-payload, modules-payload, instances-payload, core-payload, stack-payload}
 
 -- ---- lists
@@ -132,6 +134,15 @@ adds_names_inside {old = old} {insides = insides} before id held e kind =
 pub adds_other_names : {old new : List (List ℕ)} {items : List NameItem} → HoldsNames old items → (id : ℕ) (content : List ℕ) → new ≡ old ++ subsection_text id content ∷ [] → kind_of id ≡ of_other → HoldsNames new (items ++ Other id content ∷ [])
 adds_other_names before id content e kind = adds_record name_text IsName (λ item. item) subsection before (Other id content) e kind
 
+-- names that given bytes spell with padded numbers, and names of what is inside
+pub adds_raw_names : {old new : List (List ℕ)} {items : List NameItem} → HoldsWide subsection old items → (id : ℕ) (content : List ℕ) (names : List Naming) → new ≡ old ++ subsection_text id content ∷ [] → FrameFits content → kind_of id ≡ of_map
+    → name_map wide content names → HoldsWide subsection new (items ++ Map id names ∷ [])
+adds_raw_names before id content names e fits kind spelled = adds_raw_wide name-wide before (Map id names) e (names_wide id content names kind fits spelled)
+
+pub adds_raw_names_inside : {old new : List (List ℕ)} {items : List NameItem} → HoldsWide subsection old items → (id : ℕ) (content : List ℕ) (insides : List Inside) → new ≡ old ++ subsection_text id content ∷ [] → FrameFits content → kind_of id ≡ of_indirect
+    → indirect_map wide content insides → HoldsWide subsection new (items ++ Indirect id insides ∷ [])
+adds_raw_names_inside before id content insides e fits kind spelled = adds_raw_wide name-wide before (Indirect id insides) e (names_inside_wide id content insides kind fits spelled)
+
 all_symbols : (symbols : List Symbol) → All IsGivenSymbol symbols → AllByRecursion IsAsFlagged symbols → All IsSymbol symbols
 all_symbols symbols given flagged = λ k d l. (given k d l, all_of symbols flagged k d l)
   where
@@ -224,34 +235,34 @@ gains_custom {F = F} {n = n} {x = x} payloads before content more fits reads say
     gains_section {F = named_payload n F} before more payloads (named_text n content) (frame_text n ++ content) refl (named_framed n content (frame_text n ++ content) fits refl) x (reads.for_each x says)
 
 pub gains_names : {readings : List SectionReading} {id : ℕ} {old new : List ℕ} {entries : List (List ℕ)} {items : List NameItem} → ReadsSections readings old
-    → ReadsOneMore (NamedPayload name_name (entries_text [] false entries)) id old new → NamedFits name_name (entries_text [] false entries) → ReadsBack (frame name_payload) (HoldsNames entries) (named_text name_name (entries_text [] false entries))
+    → ReadsOneMore (NamedPayload name_name (entries_text [] false entries)) id old new → NamedFits name_name (entries_text [] false entries) → ReadsBackBoth (frame name_payload) (HoldsNames entries) (HoldsWide subsection entries) (named_text name_name (entries_text [] false entries))
     → HoldsNames entries items → ReadsSections (readings ++ reading_of id name_payload items ∷ []) new
-gains_names before more fits reads holds = gains_custom name-payload before _ more fits reads holds
+gains_names before more fits reads holds = gains_custom name-payload before _ more fits reads.plain holds
 
 pub gains_linking : {readings : List SectionReading} {id : ℕ} {old new : List ℕ} {entries : List (List ℕ)} {items : List LinkItem} → ReadsSections readings old
-    → ReadsOneMore (NamedPayload linking_name (entries_text (version ∷ []) false entries)) id old new → NamedFits linking_name (entries_text (version ∷ []) false entries) → ReadsBack (frame linking_payload) (HoldsLinks entries) (named_text linking_name (entries_text (version ∷ []) false entries))
+    → ReadsOneMore (NamedPayload linking_name (entries_text (version ∷ []) false entries)) id old new → NamedFits linking_name (entries_text (version ∷ []) false entries) → ReadsBackBoth (frame linking_payload) (HoldsLinks entries) (HoldsWide link entries) (named_text linking_name (entries_text (version ∷ []) false entries))
     → HoldsLinks entries items → ReadsSections (readings ++ reading_of id linking_payload items ∷ []) new
-gains_linking before more fits reads holds = gains_custom linking-payload before _ more fits reads holds
+gains_linking before more fits reads holds = gains_custom linking-payload before _ more fits reads.plain holds
 
 pub gains_producers : {readings : List SectionReading} {id : ℕ} {old new : List ℕ} {entries : List (List ℕ)} {items : List Field} → ReadsSections readings old
-    → ReadsOneMore (NamedPayload producers_name (entries_text [] true entries)) id old new → NamedFits producers_name (entries_text [] true entries) → ReadsBack (frame producers_payload) (HoldsFields entries) (named_text producers_name (entries_text [] true entries))
+    → ReadsOneMore (NamedPayload producers_name (entries_text [] true entries)) id old new → NamedFits producers_name (entries_text [] true entries) → ReadsBackBoth (frame producers_payload) (HoldsFields entries) (HoldsWide field entries) (named_text producers_name (entries_text [] true entries))
     → HoldsFields entries items → ReadsSections (readings ++ reading_of id producers_payload items ∷ []) new
-gains_producers before more fits reads holds = gains_custom producers-payload before _ more fits reads holds
+gains_producers before more fits reads holds = gains_custom producers-payload before _ more fits reads.plain holds
 
 pub gains_hints : {readings : List SectionReading} {id : ℕ} {old new : List ℕ} {entries : List (List ℕ)} {items : List Hints} → ReadsSections readings old
-    → ReadsOneMore (NamedPayload hints_name (entries_text [] true entries)) id old new → NamedFits hints_name (entries_text [] true entries) → ReadsBack (frame hints_payload) (HoldsHints entries) (named_text hints_name (entries_text [] true entries))
+    → ReadsOneMore (NamedPayload hints_name (entries_text [] true entries)) id old new → NamedFits hints_name (entries_text [] true entries) → ReadsBackBoth (frame hints_payload) (HoldsHints entries) (HoldsWide hints entries) (named_text hints_name (entries_text [] true entries))
     → HoldsHints entries items → ReadsSections (readings ++ reading_of id hints_payload items ∷ []) new
-gains_hints before more fits reads holds = gains_custom hints-payload before _ more fits reads holds
+gains_hints before more fits reads holds = gains_custom hints-payload before _ more fits reads.plain holds
 
 pub gains_modules : {readings : List SectionReading} {id : ℕ} {old new : List ℕ} {entries : List (List ℕ)} {items : List (List ℕ)} → ReadsSections readings old
-    → ReadsOneMore (NamedPayload modules_name (entries_text [] true entries)) id old new → NamedFits modules_name (entries_text [] true entries) → ReadsBack (frame modules_payload) (HoldsModules entries) (named_text modules_name (entries_text [] true entries))
+    → ReadsOneMore (NamedPayload modules_name (entries_text [] true entries)) id old new → NamedFits modules_name (entries_text [] true entries) → ReadsBackBoth (frame modules_payload) (HoldsModules entries) (HoldsWide marked_name entries) (named_text modules_name (entries_text [] true entries))
     → HoldsModules entries items → ReadsSections (readings ++ reading_of id modules_payload items ∷ []) new
-gains_modules before more fits reads holds = gains_custom modules-payload before _ more fits reads holds
+gains_modules before more fits reads holds = gains_custom modules-payload before _ more fits reads.plain holds
 
 pub gains_instances : {readings : List SectionReading} {id : ℕ} {old new : List ℕ} {entries : List (List ℕ)} {items : List Instance} → ReadsSections readings old
-    → ReadsOneMore (NamedPayload instances_name (entries_text [] true entries)) id old new → NamedFits instances_name (entries_text [] true entries) → ReadsBack (frame instances_payload) (HoldsInstances entries) (named_text instances_name (entries_text [] true entries))
+    → ReadsOneMore (NamedPayload instances_name (entries_text [] true entries)) id old new → NamedFits instances_name (entries_text [] true entries) → ReadsBackBoth (frame instances_payload) (HoldsInstances entries) (HoldsWide instance entries) (named_text instances_name (entries_text [] true entries))
     → HoldsInstances entries items → ReadsSections (readings ++ reading_of id instances_payload items ∷ []) new
-gains_instances before more fits reads holds = gains_custom instances-payload before _ more fits reads holds
+gains_instances before more fits reads holds = gains_custom instances-payload before _ more fits reads.plain holds
 
 -- the process of a core dump, of the name that was handed in
 pub gains_process : {readings : List SectionReading} {id : ℕ} {old new content : List ℕ} → ReadsSections readings old → ReadsOneMore (NamedPayload core_name content) id old new → NamedFits core_name content

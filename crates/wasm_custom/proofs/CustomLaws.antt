@@ -1,25 +1,25 @@
 -- Custom sections of a name are read uniquely.
 use Rattle.std.proofs.Common.{◌≡◌, ℕ, ◌+◌, ◌≤◌, List, ◌++◌, length, IsUtf8, refl, sym, subst, arith, length-append}
-use Rattle.wasm_base.specs.Calls.{ReadsBack}
+use Rattle.wasm_base.specs.Calls.{ReadsBack, ReadsBackBoth}
 use Rattle.wasm_base.specs.Formats.{Format, after, name, any_bytes, pair, custom}
-use Rattle.wasm_base.specs.Numbers.{shortest, unsigned_text}
+use Rattle.wasm_base.specs.Numbers.{Mode, shortest, wide, unsigned_text}
 use Rattle.wasm_base.specs.Reading.{UniqueReading, UniqueWholeReading, ReadsAlone}
 use Rattle.wasm_base.specs.Texts.{longest, frame_text, FrameFits}
 use Rattle.wasm_base.proofs.AfterLaws.{after-whole, after_spelled}
 use Rattle.wasm_base.proofs.BaseLaws.{name-alone, custom-alone}
 use Rattle.wasm_base.proofs.FormatLaws.{frame-alone}
-use Rattle.wasm_base.proofs.TextLaws.{reads_alone, frame_spelled}
+use Rattle.wasm_base.proofs.TextLaws.{spelled_in, reads_alone, reads_alone_wide, frame_in, frame_spelled}
 use Rattle.wasm_custom.specs.Customs.{named_section, named_text, NamedFits, subsection_text}
 use Rattle.wasm_base.proofs.PartLaws.{pair_spelled, front_name_spelled}
 
 pub named-alone : {X : Type 0} (n : List ℕ) {F : Format X} → UniqueWholeReading F → UniqueReading (named_section n F)
 named-alone n f = frame-alone (after-whole n name-alone f)
 
-pub named_spelled : {X : Type 0} (n : List ℕ) (F : Format X) (content : List ℕ) (x : X) → IsUtf8 n → NamedFits n content → F shortest content x → named_section n F shortest (named_text n content) x
+pub named_spelled : {X : Type 0} (mode : Mode) (n : List ℕ) (F : Format X) (content : List ℕ) (x : X) → IsUtf8 n → NamedFits n content → F mode content x → named_section n F mode (named_text n content) x
 unfolding named_text
-named_spelled n F content x utf8 fits h =
-    frame_spelled (after n name F) (frame_text n ++ content) x fits
-    (after_spelled n name F (frame_text n) content x (front_name_spelled n content utf8 fits) h)
+named_spelled mode n F content x utf8 fits h =
+    frame_in mode (after n name F) (frame_text n ++ content) x fits
+    (after_spelled mode n name F (frame_text n) content x (spelled_in {F = name} name-alone (front_name_spelled n content utf8 fits) mode) h)
 
 -- the data are no longer than the section
 pub data_fits : (n content : List ℕ) → NamedFits n content → length content ≤ 4294967295
@@ -40,9 +40,9 @@ pub fits_of : (n content told given : List ℕ) (size : ℕ) → told ≡ n → 
 fits_of n content told given size e f l h =
     subst (λ z. NamedFits z content) e (subst (λ z. NamedFits told z) f (omega (arith, h, l, length-append (frame_text told) given)))
 
--- a section of bytes that are given is read as what they spell
-pub raw_back : (bytes : List ℕ) → ReadsBack custom (custom shortest bytes) bytes
-raw_back bytes = record { for_each = λ said h. reads_alone {F = custom} custom-alone h }
+-- a section of bytes that are given is read as what they spell, with padded numbers too
+pub raw_back : (bytes : List ℕ) → ReadsBackBoth custom (custom shortest bytes) (custom wide bytes) bytes
+raw_back bytes = record { plain = record { for_each = λ said h. reads_alone {F = custom} custom-alone h }; wide = record { for_each = λ said h. reads_alone_wide {F = custom} custom-alone h } }
 
 -- the frame in a subsection fits where the subsection does
 pub content_fits : (id : ℕ) (content : List ℕ) → FrameFits (subsection_text id content) → FrameFits content

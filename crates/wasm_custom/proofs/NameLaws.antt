@@ -3,13 +3,13 @@ use Rattle.std.proofs.Common.{◌≡◌, ℕ, List, [], length, Bool, true, fals
 use Rattle.std.proofs.lemmas.Bool.{eqb-true}
 use Rattle.wasm_base.specs.Entries.{ItemLaws}
 use Rattle.wasm_base.specs.Formats.{u32, any_bytes, name, pair, fixed}
-use Rattle.wasm_base.specs.Numbers.{shortest, unsigned_text}
+use Rattle.wasm_base.specs.Numbers.{Mode, shortest, wide, unsigned_text}
 use Rattle.wasm_base.specs.Reading.{UniqueReading}
 use Rattle.wasm_base.specs.Texts.{frame_text, FrameFits, vec_text, VecFits}
 use Rattle.wasm_base.proofs.BaseLaws.{name-alone}
 use Rattle.wasm_base.proofs.FormatLaws.{TellsTag, mapped-alone, pair-alone, vec-alone, frame-alone, whole_from_alone, byte-alone, any_bytes-whole, tagged-alone, fixed-alone}
 use Rattle.wasm_base.proofs.NumberLaws.{u32-alone}
-use Rattle.wasm_base.proofs.TextLaws.{tagged_spelled, u32_spelled, name_spelled, vec_spelled, frame_spelled}
+use Rattle.wasm_base.proofs.TextLaws.{tagged_spelled, u32_spelled, name_spelled, vec_spelled, frame_in, frame_spelled}
 use Rattle.wasm_custom.specs.Customs.{subsection_text}
 use Rattle.wasm_custom.specs.Entries.{FrameLaws}
 use Rattle.wasm_custom.specs.Names.{Naming, Inside, naming_text, inside_text, IsNaming, IsInside, naming, name_map, indirect_map, NameItem, Module, Map, Indirect, Other, NameKind, of_module, of_map, of_indirect, of_other, is_one_of, map_ids, indirect_ids, kind_of, after_id, subsection, name_text, IsName, name_name}
@@ -79,23 +79,30 @@ indirect_spelled : (names : List Inside) → VecFits IsInside names → indirect
 indirect_spelled names plain = vec_spelled (pair u32 name_map) IsInside inside_text inside_spelled names plain
 
 -- what follows the id, of the kind that this has
-of_kind : (k : NameKind) (id : ℕ) (content : List ℕ) (x : NameItem) → kind_of id ≡ k → after_id k id shortest (frame_text content) x → subsection shortest (subsection_text id content) x
-of_kind k id content x e h = tagged_spelled {G = λ id. after_id (kind_of id) id} shortest id (frame_text content) x (subst (λ k. after_id k id shortest (frame_text content) x) (sym e) h)
+of_kind : (mode : Mode) (k : NameKind) (id : ℕ) (content : List ℕ) (x : NameItem) → kind_of id ≡ k → after_id k id mode (frame_text content) x → subsection mode (subsection_text id content) x
+of_kind mode k id content x e h = tagged_spelled {G = λ id. after_id (kind_of id) id} mode id (frame_text content) x (subst (λ k. after_id k id mode (frame_text content) x) (sym e) h)
 
 name_item_spelled : (x : NameItem) → IsName x → FrameFits (name_text x) → subsection shortest (name_text x) x
 name_item_spelled (Module n) plain fits =
     let inside = content_fits 0 (frame_text n) fits in
-    of_kind of_module 0 (frame_text n) (Module n) refl
+    of_kind shortest of_module 0 (frame_text n) (Module n) refl
     (n, refl, frame_spelled name (frame_text n) n inside (name_spelled n plain (omega (arith, inside, length-append (unsigned_text (length n)) n))))
 name_item_spelled (Map id names) plain fits =
-    of_kind of_map id (vec_text naming_text names) (Map id names) plain.0 (names, refl, frame_spelled name_map (vec_text naming_text names) names (content_fits id _ fits) (map_spelled names plain.1))
+    of_kind shortest of_map id (vec_text naming_text names) (Map id names) plain.0 (names, refl, frame_spelled name_map (vec_text naming_text names) names (content_fits id _ fits) (map_spelled names plain.1))
 name_item_spelled (Indirect id names) plain fits =
-    of_kind of_indirect id (vec_text inside_text names) (Indirect id names) plain.0 (names, refl, frame_spelled indirect_map (vec_text inside_text names) names (content_fits id _ fits) (indirect_spelled names plain.1))
+    of_kind shortest of_indirect id (vec_text inside_text names) (Indirect id names) plain.0 (names, refl, frame_spelled indirect_map (vec_text inside_text names) names (content_fits id _ fits) (indirect_spelled names plain.1))
 name_item_spelled (Other id content) plain fits =
-    of_kind of_other id content (Other id content) plain (content, refl, frame_spelled any_bytes content content (content_fits id content fits) refl)
+    of_kind shortest of_other id content (Other id content) plain (content, refl, frame_spelled any_bytes content content (content_fits id content fits) refl)
 
 pub name_items : ItemLaws name_text IsName (λ x. x) subsection
 name_items = record { alone = subsection-alone; spelled = name_item_spelled }
+
+-- with padded numbers: the content of a subsection that is spelled already
+pub names_wide : (id : ℕ) (content : List ℕ) (names : List Naming) → kind_of id ≡ of_map → FrameFits content → name_map wide content names → subsection wide (subsection_text id content) (Map id names)
+names_wide id content names kind fits h = of_kind wide of_map id content (Map id names) kind (names, refl, frame_in wide name_map content names fits h)
+
+pub names_inside_wide : (id : ℕ) (content : List ℕ) (insides : List Inside) → kind_of id ≡ of_indirect → FrameFits content → indirect_map wide content insides → subsection wide (subsection_text id content) (Indirect id insides)
+names_inside_wide id content insides kind fits h = of_kind wide of_indirect id content (Indirect id insides) kind (insides, refl, frame_in wide indirect_map content insides fits h)
 
 pub name_frame : FrameLaws subsection name_name [] (fixed [] (tt {0})) false
 name_frame = record {

@@ -1,8 +1,8 @@
 // Custom sections of entries: what they have in common.
 ghost use Rattle.std.specs.Prelude.{◌≡◌, ◌≢◌, ℕ, ◌+◌, ◌≤◌, List, [], ◌++◌, length, Bool, IfOk, IsTrue, ◌↔◌, ⊤};
-ghost use Rattle.wasm_base.specs.Calls.{Adds, Appends, ReadsBack};
+ghost use Rattle.wasm_base.specs.Calls.{Adds, Appends, ReadsBackBoth};
 ghost use Rattle.wasm_base.specs.Cow.{items_of, text_of};
-ghost use Rattle.wasm_base.specs.Entries.{HoldsItems};
+ghost use Rattle.wasm_base.specs.Entries.{HoldsItems, HoldsWide};
 ghost use Rattle.wasm_base.specs.Numbers.{Mode};
 ghost use Rattle.wasm_base.specs.Once.{AddsOnce};
 ghost use Rattle.wasm_base.specs.Pieces.{joined};
@@ -233,7 +233,7 @@ impl<K: CustomKind, A: Allocator> Encode for CustomEntries<K, A> {
 
     ghost fits = { λ section. NamedFits K.name (entries_text K.front K.counted section) };
 
-    ghost reading = { λ section. ReadsBack (named_section K.name (entries K.front_format K.counted K.item_format)) (HoldsItems K.record_text K.is_plain K.normal_form K.item_format section) (named_text K.name (entries_text K.front K.counted section)) };
+    ghost reading = { λ section. ReadsBackBoth (named_section K.name (entries K.front_format K.counted K.item_format)) (HoldsItems K.record_text K.is_plain K.normal_form K.item_format section) (HoldsWide K.item_format section) (named_text K.name (entries_text K.front K.counted section)) };
 
     fn encode<B: Allocator>(&self, sink: &mut Vec<u8, B>) -> R<()> {
         K::laws();
@@ -265,5 +265,5 @@ impl<K: CustomKind, A: Allocator> Section for CustomEntries<K, A> {
 
     ghost framed = { λ section bytes fits pays. named_framed K.name (entries_text K.front K.counted section) bytes fits pays };
 
-    ghost reads_back = { λ section promised. promised };
+    ghost reads_back = { λ section promised. promised.plain };
 }

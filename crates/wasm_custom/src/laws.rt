@@ -4,7 +4,7 @@
 ghost use Rattle.std.specs.Prelude.{◌++◌, ◌∷◌, []};
 ghost use Rattle.wasm_base.specs.Entries.{ItemLaws};
 ghost use Rattle.wasm_base.specs.Formats.{custom, frame, pair, name, any_bytes};
-ghost use Rattle.wasm_base.specs.Laws.{HoldsMore, NothingStandsWide};
+ghost use Rattle.wasm_base.specs.Laws.{HoldsMore, HoldsMoreWide, NothingStandsWide};
 ghost use Rattle.wasm_base.specs.Modules.{ReadsPayloads};
 ghost use Rattle.wasm_base.specs.Reading.{UniqueReading, IsUniqueWide};
 ghost use Rattle.wasm_custom.specs.CoreDumps.{marked_text, marked_name, IsModule, instance_text, IsInstance, instance};
@@ -82,6 +82,17 @@ pub fn calls()
     ensures indirect_maps_text { IsVectorOf inside_text IsInside }
     ensures symbol_tables_text { IsVectorOf symbol_text IsGivenSymbol }
     ensures producer_fields_text { IsVectorOf producer_text IsProducer }
+{}
+
+/// The same with padded numbers, of the sections of entries: a piece may spell its item with padded numbers.
+#[tactic(auto, using(crate::proofs::HeldLaws::wide_calls))]
+pub fn wide_calls()
+    ensures names { HoldsMoreWide name_text IsName IsName (λ item. item) subsection }
+    ensures linking { HoldsMoreWide link_text IsLink IsLink (λ item. item) link }
+    ensures producers { HoldsMoreWide field_text IsField IsField (λ field. field) field }
+    ensures hints { HoldsMoreWide hints_text AreHints AreHints (λ hints. hints) hints }
+    ensures modules { HoldsMoreWide marked_text IsModule IsModule (λ n. n) marked_name }
+    ensures instances { HoldsMoreWide instance_text IsInstance IsInstance (λ instance. instance) instance }
 {}
 
 /// Where a module is read as ids and payloads, and a section as its items alone, its payload is read as these alone.

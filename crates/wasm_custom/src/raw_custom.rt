@@ -1,8 +1,8 @@
 // Custom sections whose bytes are given.
 ghost use Rattle.std.specs.Prelude.{ℕ, List, ⊤};
-ghost use Rattle.wasm_base.specs.Calls.{ReadsBack};
+ghost use Rattle.wasm_base.specs.Calls.{ReadsBackBoth};
 ghost use Rattle.wasm_base.specs.Formats.{custom};
-ghost use Rattle.wasm_base.specs.Numbers.{shortest};
+ghost use Rattle.wasm_base.specs.Numbers.{shortest, wide};
 
 use std::alloc::Allocator;
 use wasm_base::{Encode, R, Section, SectionId};
@@ -18,9 +18,8 @@ impl Encode for RawCustomSection<'_> {
 
     ghost fits = { λ _. ⊤ };
 
-    ghost reading = { λ s. ReadsBack custom (custom shortest s.0.now) s.0.now };
+    ghost reading = { λ s. ReadsBackBoth custom (custom shortest s.0.now) (custom wide s.0.now) s.0.now };
 
-    #[tactic(auto, using(crate::proofs::CustomLaws::raw_back))]
     fn encode<A: Allocator>(&self, sink: &mut Vec<u8, A>) -> R<()> {
         sink.extend_from_slice(self.0)?;
         Ok(())
@@ -51,5 +50,5 @@ impl Section for RawCustomSection<'_> {
 
     ghost framed = { λ s bytes fits pays. pays };
 
-    ghost reads_back = { λ s promised. promised };
+    ghost reads_back = { λ s promised. promised.plain };
 }

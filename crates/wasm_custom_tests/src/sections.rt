@@ -219,6 +219,7 @@ fn single_hint(rt: HostRuntime) -> Result<(), Fail> {
     laws::sections();
     laws::wide();
     laws::calls();
+    laws::wide_calls();
     laws::payloads();
     let hint = BranchHint {
         branch_func_offset: 300,

@@ -1,22 +1,26 @@
 -- The laws of the opcode table, and of instructions over it.
-use Rattle.std.proofs.Common.{◌≡◌, ℕ, ◌^◌, ◌<◌, List, [], ◌∷◌, ◌++◌, Bool, true, ◌&&◌, refl, ap, ◌∙◌}
+use Rattle.std.proofs.Common.{◌≡◌, ℕ, ◌^◌, ◌<◌, List, [], ◌∷◌, ◌++◌, Bool, true, false, Some, ◌&&◌, refl, sym, ap, ◌∙◌, append-nil}
 use Rattle.std.specs.List.{AllByRecursion}
 use Rattle.std.proofs.lemmas.Bool.{and_parts}
-use Rattle.wasm_base.specs.Numbers.{shortest}
+use Rattle.wasm_base.specs.Numbers.{Mode, shortest}
 use Rattle.wasm_base.specs.Formats.{members}
 use Rattle.wasm_base.specs.Reading.{UniqueReading, UniqueWholeReading, HasTexts, IsUniqueWide, IsUniqueWholeWide, BeginsWith}
 use Rattle.wasm_base.specs.Texts.{VecFits}
 use Rattle.wasm_base.proofs.BaseLaws.{unique_wide, unique_whole_wide}
 use Rattle.wasm_base.proofs.FormatLaws.{members-whole}
+use Rattle.wasm_base.proofs.TextLaws.{tagged_spelled}
 use Rattle.wasm_insn.specs.declared.op.Op.{Op}
 use Rattle.wasm_insn.specs.declared.op.Op.TheVariants.{Byte, Prefixed}
+use Rattle.wasm_insn.specs.declared.op.Shape.{Shape}
 use Rattle.wasm_insn.specs.declared.op.Shape.TheVariants.{Bt}
+use Rattle.wasm_insn.specs.declared.part.Part.{Part}
 use Rattle.wasm_insn.specs.declared.instruction.Instruction.{Instruction}
 use Rattle.wasm_insn.specs.Opcodes.{op_text}
-use Rattle.wasm_insn.specs.Plain.{Plain, Table, IsOpcode, IsPlain, opcode, instruction}
+use Rattle.wasm_insn.specs.Parts.{parts_of}
+use Rattle.wasm_insn.specs.Plain.{Plain, part, arguments, Table, is_prefix, shape_of, IsOpcode, IsPlain, opcode, instruction}
 use Rattle.wasm_insn.specs.Table.{table, IsTableOp, IsOpcodeTable, BeginsNoOther}
 use Rattle.wasm_insn.specs.Instructions.{row_of, IsPlainInstruction, ReadsInstruction, HaveOneText}
-use Rattle.wasm_insn.specs.Arguments.{labels, unsigned}
+use Rattle.wasm_insn.specs.Arguments.{Argument, labels, unsigned}
 use Rattle.wasm_insn.specs.Sink.{br_table_text}
 use Rattle.wasm_insn.proofs.PlainLaws.{opcode-alone, opcode_spelled, instruction-alone, plain_spelled, plain-alone, same_text, wide-opcode}
 use Rattle.wasm_insn.proofs.TableRows.{is_op, op_is, instruction_row}
@@ -73,6 +77,16 @@ br_table_spelled ls default fits range = plain_spelled table (br_table_row ls de
 
 pub alone : UniqueReading (instruction table)
 alone = instruction-alone table
+
+-- an instruction whose op is one byte, with padded numbers in its arguments or without
+pub byte_spelled : (mode : Mode) (b : ℕ) (bytes : List ℕ) (shape : Shape) (xs : List Argument) → is_prefix b ≡ false → shape_of table (Byte b) ≡ Some shape → arguments (parts_of shape) mode bytes xs
+    → instruction table mode (b ∷ bytes) (record { op = Byte b; arguments = xs })
+byte_spelled mode b bytes shape xs other row spelled =
+    ((Byte b, xs), refl, record { front = b ∷ []; back = bytes; joined = refl; first = tagged_spelled mode b [] (Byte b) (rw other (refl, refl)); second = rw row spelled })
+
+-- an argument alone
+pub one_argument : (mode : Mode) (p : Part) (bytes : List ℕ) (x : Argument) → part p mode bytes x → arguments (p ∷ []) mode bytes (x ∷ [])
+one_argument mode p bytes x h = ((x, []), refl, record { front = bytes; back = []; joined = sym (append-nil bytes); first = h; second = (refl, refl) })
 
 pub wide-instruction : IsUniqueWide (instruction table)
 wide-instruction = unique_wide alone

@@ -13,26 +13,26 @@ use Rattle.std.specs.declared.slice.Iter.{Iter}
 use Rattle.std.specs.declared.vec.Vec.{Vec}
 use Rattle.wasm_base.specs.declared.refused.Refused.{Refused}
 use Rattle.std.specs.List.{All, AllByRecursion}
-use Rattle.wasm_base.specs.Calls.{Appends, ReadsOneMore, ReadsBack, AddsEach}
-use Rattle.wasm_base.specs.Entries.{HoldsItems, counted_format}
+use Rattle.wasm_base.specs.Calls.{Appends, ReadsOneMore, ReadsBack, ReadsBackBoth, AddsEach}
+use Rattle.wasm_base.specs.Entries.{HoldsItems, HoldsWide, counted_format}
 use Rattle.wasm_base.specs.Formats.{Format, u32, vec, frame}
-use Rattle.wasm_base.specs.Laws.{NameFits}
+use Rattle.wasm_base.specs.Laws.{NameFits, HoldsMoreWide}
 use Rattle.wasm_insn.specs.Plain.{Plain}
-use Rattle.wasm_base.specs.Modules.{SectionReading, reading_of, ReadsSections, ReadsPayloads, GainsReading}
+use Rattle.wasm_base.specs.Modules.{SectionReading, reading_of, ReadsSections, ReadsPayloads, GainsReading, GainsReadingWide}
 use Rattle.wasm_base.specs.Numbers.{shortest, unsigned_text}
 use Rattle.wasm_base.specs.Pieces.{SectionPayload, SectionFits, section_text, section_framed}
 use Rattle.wasm_base.specs.Texts.{frame_text, FrameFits, VecFits, raw_framed}
 use Rattle.wasm_base.specs.Types.{IsRef}
 use Rattle.wasm_base.specs.declared.types.RefType.{RefType}
-use Rattle.wasm_base.proofs.Calls.{gains_section}
+use Rattle.wasm_base.proofs.Calls.{gains_section, adds_item_wide, encodes_wide}
 use Rattle.wasm_base.proofs.KnownLengths.{array_items, copied_items}
 use Rattle.wasm_base.proofs.Payloads.{u32-payload}
 use Rattle.wasm_base.proofs.TextLaws.{u32_spelled, name_spelled}
 use Rattle.wasm_code.proofs.Calls.{all_of}
-use Rattle.wasm_code.specs.Expressions.{expression_text, StoresInstructions}
+use Rattle.wasm_code.specs.Expressions.{expression_text, StoresInstructions, StoresWide}
 use Rattle.wasm_sections.specs.Constants.{Stored, IsStored}
 use Rattle.wasm_sections.specs.DataSegments.{AddsBytes, active_text, passive_text, DataItem, active, passive, given_active, given_passive, data_item}
-use Rattle.wasm_sections.specs.Elements.{Segment, Place, functions, expressions, ElementsFit, IsPlace, settled, settled_text, IsSegment, element_of, element}
+use Rattle.wasm_sections.specs.Elements.{Segment, Place, functions, expressions, ElementsFit, IsPlace, settled, settled_text, IsSegment, IsSegmentWide, element_of, element}
 use Rattle.wasm_sections.specs.Exports.{kind_code, export_text, IsExport, ExportItem, item_of, export}
 use Rattle.wasm_sections.specs.Globals.{global_text, IsGlobal, GlobalItem, global_item}
 use Rattle.wasm_sections.specs.Imports.{ImportItem, alike, import_text, ImportFits, IsEntity, import_format}
@@ -47,6 +47,7 @@ use Rattle.wasm_sections.specs.declared.tag.TagType.{TagType}
 use Rattle.wasm_base.proofs.HeldLaws.{holds_more}
 use Rattle.wasm_base.proofs.PartLaws.{pair_spelled}
 use Rattle.wasm_sections.proofs.ElementLaws.{elements_by, stored_by, stored_same}
+use Rattle.wasm_sections.proofs.HeldLaws.{tables-wide, globals-wide, data-wide, elements-wide}
 use Rattle.wasm_sections.proofs.Payloads.{functions-payload, tables-payload, memories-payload, globals-payload, exports-payload, elements-payload, data-payload, imports-payload, tags-payload}
 
 -- ---- a new section
@@ -177,48 +178,75 @@ adds_alike before from ty names e fits utf8 range are =
     both : (xs : List (List ℕ)) → All IsUtf8 xs → All FrameFits xs → All NameFits xs
     both xs h g = λ k d l. (h k d l, g k d l)
 
+-- ---- with padded numbers
+
+pub adds_table_with_init_wide : {old new : List (List ℕ)} {items : List TableItem} → HoldsWide table_item old items → (table : TableType) (is : List Plain) (bytes : List ℕ) → new ≡ old ++ (before_init ++ (table_text table ++ expression_text bytes)) ∷ []
+    → IsTable table → StoresWide bytes is → HoldsWide table_item new (items ++ record { table_type = table; init = Some is } ∷ [])
+adds_table_with_init_wide before table is bytes e plain stored =
+    adds_item_wide tables-wide before (record { table_type = table; init = Some (record { bytes = bytes; instructions = is }) }) e (record { table_type = plain; init = stored })
+
+pub adds_global_wide : {old new : List (List ℕ)} {items : List GlobalItem} → HoldsWide global_item old items → (global : GlobalItem) (bytes : List ℕ) → new ≡ old ++ (global_text global.global_type ++ expression_text bytes) ∷ []
+    → IsGlobal global.global_type → StoresWide bytes global.init → HoldsWide global_item new (items ++ global ∷ [])
+adds_global_wide before global bytes e plain stored =
+    adds_item_wide globals-wide before (record { global_type = global.global_type; init = record { bytes = bytes; instructions = global.init } }) e (record { global_type = plain; init = stored })
+
+pub adds_element_wide : {old new : List (List ℕ)} {items : List (Segment (List Plain))} → HoldsWide element old items → (given : Segment Stored) → new ≡ old ++ settled_text expression_text (settled (stored_by given)) ∷ []
+    → IsSegmentWide given → HoldsWide element new (items ++ element_of given ∷ [])
+adds_element_wide {old = old} {new = new} before given e plain = adds_item_wide elements-wide before given (subst (λ s. new ≡ old ++ s ∷ []) (sym (stored_same given)) e) plain
+
+pub adds_active_wide : {old new : List (List ℕ)} {items : List DataItem} → HoldsWide data_item old items → (memory : ℕ) (is : List Plain) (offset bytes : List ℕ) → new ≡ old ++ active_text memory offset bytes ∷ [] → memory < 2 ^ 32
+    → StoresWide offset is → HoldsWide data_item new (items ++ active memory is bytes ∷ [])
+adds_active_wide before memory is offset bytes e range stored = adds_item_wide data-wide before (given_active memory (record { bytes = offset; instructions = is }) bytes) e (range, stored)
+
+-- a section that a buffer has gained
+pub encodes_items_wide : {A Record Item : Type 0} {text : Record → List ℕ} {IsPlain IsPlainWide : Record → Type 0} {normal_form : Record → Item} {F : Format Item} {fits : Type 0} {entries : List (List ℕ)} {old new : Vec ℕ A} {result : Result (Unit {0}) Refused} {items : List Item}
+    → HoldsMoreWide text IsPlain IsPlainWide normal_form F → Appends (section_text entries) fits old new result → OnOk result (ReadsBackBoth (counted_format F) (HoldsItems text IsPlain normal_form F entries) (HoldsWide F entries) (section_text entries)) → HoldsWide F entries items
+    → OnOk result (GainsReadingWide (counted_format F) items old.items new.items)
+encodes_items_wide {text = text} {IsPlain = IsPlain} {normal_form = normal_form} {F = F} {entries = entries} law appends reads holds =
+    encodes_wide (counted_format F) (HoldsItems text IsPlain normal_form F entries) (HoldsWide F entries) appends reads holds
+
 -- ---- a module and one more section
 
 module _ {Record Item : Type 0} {text : Record → List ℕ} {IsPlain : Record → Type 0} {normal_form : Record → Item} {F : Format Item} (payloads : ReadsPayloads (vec F)) where
   gains_items : {readings : List SectionReading} {id : ℕ} {old new : List ℕ} {entries : List (List ℕ)} {items : List Item} → ReadsSections readings old → ReadsOneMore (SectionPayload entries) id old new → SectionFits entries
-      → ReadsBack (counted_format F) (HoldsItems text IsPlain normal_form F entries) (section_text entries) → HoldsItems text IsPlain normal_form F entries items → ReadsSections (readings ++ reading_of id (vec F) items ∷ []) new
+      → ReadsBackBoth (counted_format F) (HoldsItems text IsPlain normal_form F entries) (HoldsWide F entries) (section_text entries) → HoldsItems text IsPlain normal_form F entries items → ReadsSections (readings ++ reading_of id (vec F) items ∷ []) new
   gains_items {entries = entries} {items = items} before more fits reads holds =
-      gains_section {F = vec F} before more payloads (section_text entries) _ refl (section_framed entries _ fits refl) items (reads.for_each items holds)
+      gains_section {F = vec F} before more payloads (section_text entries) _ refl (section_framed entries _ fits refl) items (reads.plain.for_each items holds)
 
 pub gains_functions : {readings : List SectionReading} {id : ℕ} {old new : List ℕ} {entries : List (List ℕ)} {items : List ℕ} → ReadsSections readings old → ReadsOneMore (SectionPayload entries) id old new → SectionFits entries
-    → ReadsBack (counted_format u32) (HoldsFunctions entries) (section_text entries) → HoldsFunctions entries items → ReadsSections (readings ++ reading_of id (vec u32) items ∷ []) new
+    → ReadsBackBoth (counted_format u32) (HoldsFunctions entries) (HoldsWide u32 entries) (section_text entries) → HoldsFunctions entries items → ReadsSections (readings ++ reading_of id (vec u32) items ∷ []) new
 gains_functions before more fits reads holds = gains_items functions-payload before more fits reads holds
 
 pub gains_tables : {readings : List SectionReading} {id : ℕ} {old new : List ℕ} {entries : List (List ℕ)} {items : List TableItem} → ReadsSections readings old → ReadsOneMore (SectionPayload entries) id old new → SectionFits entries
-    → ReadsBack (counted_format table_item) (HoldsTables entries) (section_text entries) → HoldsTables entries items → ReadsSections (readings ++ reading_of id (vec table_item) items ∷ []) new
+    → ReadsBackBoth (counted_format table_item) (HoldsTables entries) (HoldsWide table_item entries) (section_text entries) → HoldsTables entries items → ReadsSections (readings ++ reading_of id (vec table_item) items ∷ []) new
 gains_tables before more fits reads holds = gains_items tables-payload before more fits reads holds
 
 pub gains_memories : {readings : List SectionReading} {id : ℕ} {old new : List ℕ} {entries : List (List ℕ)} {items : List MemoryType} → ReadsSections readings old → ReadsOneMore (SectionPayload entries) id old new → SectionFits entries
-    → ReadsBack (counted_format memory_type) (HoldsMemories entries) (section_text entries) → HoldsMemories entries items → ReadsSections (readings ++ reading_of id (vec memory_type) items ∷ []) new
+    → ReadsBackBoth (counted_format memory_type) (HoldsMemories entries) (HoldsWide memory_type entries) (section_text entries) → HoldsMemories entries items → ReadsSections (readings ++ reading_of id (vec memory_type) items ∷ []) new
 gains_memories before more fits reads holds = gains_items memories-payload before more fits reads holds
 
 pub gains_globals : {readings : List SectionReading} {id : ℕ} {old new : List ℕ} {entries : List (List ℕ)} {items : List GlobalItem} → ReadsSections readings old → ReadsOneMore (SectionPayload entries) id old new → SectionFits entries
-    → ReadsBack (counted_format global_item) (HoldsGlobals entries) (section_text entries) → HoldsGlobals entries items → ReadsSections (readings ++ reading_of id (vec global_item) items ∷ []) new
+    → ReadsBackBoth (counted_format global_item) (HoldsGlobals entries) (HoldsWide global_item entries) (section_text entries) → HoldsGlobals entries items → ReadsSections (readings ++ reading_of id (vec global_item) items ∷ []) new
 gains_globals before more fits reads holds = gains_items globals-payload before more fits reads holds
 
 pub gains_exports : {readings : List SectionReading} {id : ℕ} {old new : List ℕ} {entries : List (List ℕ)} {items : List ExportItem} → ReadsSections readings old → ReadsOneMore (SectionPayload entries) id old new → SectionFits entries
-    → ReadsBack (counted_format export) (HoldsExports entries) (section_text entries) → HoldsExports entries items → ReadsSections (readings ++ reading_of id (vec export) items ∷ []) new
+    → ReadsBackBoth (counted_format export) (HoldsExports entries) (HoldsWide export entries) (section_text entries) → HoldsExports entries items → ReadsSections (readings ++ reading_of id (vec export) items ∷ []) new
 gains_exports before more fits reads holds = gains_items exports-payload before more fits reads holds
 
 pub gains_elements : {readings : List SectionReading} {id : ℕ} {old new : List ℕ} {entries : List (List ℕ)} {items : List (Segment (List Plain))} → ReadsSections readings old → ReadsOneMore (SectionPayload entries) id old new → SectionFits entries
-    → ReadsBack (counted_format element) (HoldsElements entries) (section_text entries) → HoldsElements entries items → ReadsSections (readings ++ reading_of id (vec element) items ∷ []) new
+    → ReadsBackBoth (counted_format element) (HoldsElements entries) (HoldsWide element entries) (section_text entries) → HoldsElements entries items → ReadsSections (readings ++ reading_of id (vec element) items ∷ []) new
 gains_elements before more fits reads holds = gains_items elements-payload before more fits reads holds
 
 pub gains_segments : {readings : List SectionReading} {id : ℕ} {old new : List ℕ} {entries : List (List ℕ)} {items : List DataItem} → ReadsSections readings old → ReadsOneMore (SectionPayload entries) id old new → SectionFits entries
-    → ReadsBack (counted_format data_item) (HoldsSegments entries) (section_text entries) → HoldsSegments entries items → ReadsSections (readings ++ reading_of id (vec data_item) items ∷ []) new
+    → ReadsBackBoth (counted_format data_item) (HoldsSegments entries) (HoldsWide data_item entries) (section_text entries) → HoldsSegments entries items → ReadsSections (readings ++ reading_of id (vec data_item) items ∷ []) new
 gains_segments before more fits reads holds = gains_items data-payload before more fits reads holds
 
 pub gains_imports : {readings : List SectionReading} {id : ℕ} {old new : List ℕ} {entries : List (List ℕ)} {items : List ImportItem} → ReadsSections readings old → ReadsOneMore (SectionPayload entries) id old new → SectionFits entries
-    → ReadsBack (counted_format import_format) (HoldsImports entries) (section_text entries) → HoldsImports entries items → ReadsSections (readings ++ reading_of id (vec import_format) items ∷ []) new
+    → ReadsBackBoth (counted_format import_format) (HoldsImports entries) (HoldsWide import_format entries) (section_text entries) → HoldsImports entries items → ReadsSections (readings ++ reading_of id (vec import_format) items ∷ []) new
 gains_imports before more fits reads holds = gains_items imports-payload before more fits reads holds
 
 pub gains_tags : {readings : List SectionReading} {id : ℕ} {old new : List ℕ} {entries : List (List ℕ)} {items : List TagType} → ReadsSections readings old → ReadsOneMore (SectionPayload entries) id old new → SectionFits entries
-    → ReadsBack (counted_format tag_type) (HoldsTags entries) (section_text entries) → HoldsTags entries items → ReadsSections (readings ++ reading_of id (vec tag_type) items ∷ []) new
+    → ReadsBackBoth (counted_format tag_type) (HoldsTags entries) (HoldsWide tag_type entries) (section_text entries) → HoldsTags entries items → ReadsSections (readings ++ reading_of id (vec tag_type) items ∷ []) new
 gains_tags before more fits reads holds = gains_items tags-payload before more fits reads holds
 
 -- a section of one number: the start function, the number of data segments
@@ -229,7 +257,7 @@ gains_number {number = number} before more fits reads =
 
 -- a section that a buffer has gained
 pub encodes_items : {A Record Item : Type 0} {text : Record → List ℕ} {IsPlain : Record → Type 0} {normal_form : Record → Item} {F : Format Item} {fits : Type 0} {entries : List (List ℕ)} {old new : Vec ℕ A} {result : Result (Unit {0}) Refused} {items : List Item}
-    → Appends (section_text entries) fits old new result → OnOk result (ReadsBack (counted_format F) (HoldsItems text IsPlain normal_form F entries) (section_text entries)) → HoldsItems text IsPlain normal_form F entries items
+    → Appends (section_text entries) fits old new result → OnOk result (ReadsBackBoth (counted_format F) (HoldsItems text IsPlain normal_form F entries) (HoldsWide F entries) (section_text entries)) → HoldsItems text IsPlain normal_form F entries items
     → OnOk result (GainsReading (counted_format F) items old.items new.items)
-encodes_items {entries = entries} {result = Ok u} {items = items} appends reads holds = record { text = section_text entries; added = appends.ok; alone = reads.for_each items holds }
+encodes_items {entries = entries} {result = Ok u} {items = items} appends reads holds = record { text = section_text entries; added = appends.ok; alone = reads.plain.for_each items holds }
 encodes_items {result = Err e} appends reads holds = tt

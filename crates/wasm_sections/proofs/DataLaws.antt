@@ -3,22 +3,21 @@ use Rattle.std.proofs.Common.{◌≡◌, ◌≢◌, ℕ, zero, suc, ◌^◌, ◌
 use Rattle.std.specs.Iterator.{Count, Drains, size}
 use Rattle.wasm_base.specs.Calls.{Adds}
 use Rattle.wasm_base.specs.Entries.{ItemLaws}
-use Rattle.wasm_base.specs.Formats.{u32, byte, such, pair, vec, members}
-use Rattle.wasm_base.specs.Numbers.{shortest, unsigned_text}
+use Rattle.wasm_base.specs.Formats.{u32, byte, such, pair, vec}
+use Rattle.wasm_base.specs.Numbers.{Mode, shortest, unsigned_text}
 use Rattle.wasm_base.specs.Reading.{UniqueReading}
 use Rattle.wasm_base.specs.Texts.{frame_text, FrameFits}
 use Rattle.wasm_base.specs.declared.refused.Refused.{Refused}
 use Rattle.wasm_base.proofs.BaseLaws.{vec-bytes-alone}
 use Rattle.wasm_base.proofs.FormatLaws.{mapped-alone, pair-alone, such-alone, choice_of}
 use Rattle.wasm_base.proofs.NumberLaws.{u32-alone}
-use Rattle.wasm_base.proofs.NumberTexts.{groups_text-last}
-use Rattle.wasm_base.proofs.TextLaws.{u32_spelled}
+use Rattle.wasm_base.proofs.TextLaws.{spelled_in, u32_in}
 use Rattle.wasm_code.specs.Expressions.{expression, expression_text}
 use Rattle.wasm_code.proofs.ExpressionLaws.{expression-alone, expression_spelled}
 use Rattle.wasm_insn.specs.Plain.{Plain}
-use Rattle.wasm_sections.specs.Constants.{Stored, IsStored}
-use Rattle.wasm_sections.specs.DataSegments.{GivenData, given_active, given_passive, DataItem, active, passive, AddsBytes, active_text, data_text, IsGivenData, data_of, in_first, in_memory, data_tags, data_item}
-use Rattle.wasm_base.proofs.PartLaws.{pair_spelled, flag_spelled, bytes_spelled}
+use Rattle.wasm_sections.specs.Constants.{Stored, IsStoredIn}
+use Rattle.wasm_sections.specs.DataSegments.{GivenData, given_active, given_passive, DataItem, active, passive, AddsBytes, active_text, data_text, IsGivenDataIn, IsGivenData, data_of, in_first, in_memory, data_tags, data_item}
+use Rattle.wasm_base.proofs.PartLaws.{pair_in, flag_spelled, bytes_spelled}
 
 -- ---- reading
 
@@ -48,29 +47,35 @@ data-alone =
 last_fit : (front bytes : List ℕ) → FrameFits (front ++ frame_text bytes) → FrameFits bytes
 last_fit front bytes fits = omega (arith, fits, length-append front (frame_text bytes), length-append (unsigned_text (length bytes)) bytes)
 
-placed : (e : Stored) (bytes : List ℕ) → IsStored e → FrameFits bytes → pair expression (vec byte) shortest (expression_text e.bytes ++ frame_text bytes) (e.instructions, bytes)
-placed e bytes plain fits = pair_spelled expression (vec byte) (expression_text e.bytes) (frame_text bytes) e.instructions bytes (expression_spelled shortest e.bytes e.instructions plain) (bytes_spelled bytes fits)
+flag_in : (mode : Mode) (n : ℕ) → n < 128 → u32 mode (n ∷ []) n
+flag_in mode n small = spelled_in {F = u32} u32-alone (flag_spelled n small) mode
 
-active_spelled : (memory : ℕ) (e : Stored) (bytes : List ℕ) → memory < 2 ^ 32 → IsStored e → FrameFits (active_text memory e.bytes bytes) → data_item shortest (active_text memory e.bytes bytes) (active memory e.instructions bytes)
-active_spelled zero e bytes range plain fits =
+bytes_in : (mode : Mode) (bytes : List ℕ) → FrameFits bytes → vec byte mode (frame_text bytes) bytes
+bytes_in mode bytes fits = spelled_in {F = vec byte} vec-bytes-alone (bytes_spelled bytes fits) mode
+
+placed : (mode : Mode) (e : Stored) (bytes : List ℕ) → IsStoredIn mode e → FrameFits bytes → pair expression (vec byte) mode (expression_text e.bytes ++ frame_text bytes) (e.instructions, bytes)
+placed mode e bytes plain fits = pair_in mode expression (vec byte) (expression_text e.bytes) (frame_text bytes) e.instructions bytes (expression_spelled mode e.bytes e.instructions plain) (bytes_in mode bytes fits)
+
+active_spelled : (mode : Mode) (memory : ℕ) (e : Stored) (bytes : List ℕ) → memory < 2 ^ 32 → IsStoredIn mode e → FrameFits (active_text memory e.bytes bytes) → data_item mode (active_text memory e.bytes bytes) (active memory e.instructions bytes)
+active_spelled mode zero e bytes range plain fits =
     let back = expression_text e.bytes ++ frame_text bytes in
     let inside = last_fit (0x00 ∷ expression_text e.bytes) bytes fits in
-    ((0, active 0 e.instructions bytes), refl, record { front = 0x00 ∷ []; back = back; joined = refl; first = flag_spelled 0 (omega arith); second = ((e.instructions, bytes), refl, placed e bytes plain inside) })
-active_spelled (suc n) e bytes range plain fits =
+    ((0, active 0 e.instructions bytes), refl, record { front = 0x00 ∷ []; back = back; joined = refl; first = flag_in mode 0 (omega arith); second = ((e.instructions, bytes), refl, placed mode e bytes plain inside) })
+active_spelled mode (suc n) e bytes range plain fits =
     let rest = expression_text e.bytes ++ frame_text bytes in
     let whole = length-append (unsigned_text (suc n)) rest in
     let inside = last_fit (expression_text e.bytes) bytes (omega (arith, fits, whole)) in
-    let numbered : pair (such (λ m. 0 < m) u32) (pair expression (vec byte)) shortest (unsigned_text (suc n) ++ rest) (suc n, (e.instructions, bytes)) =
-    pair_spelled (such (λ m. 0 < m) u32) (pair expression (vec byte)) (unsigned_text (suc n)) rest (suc n) (e.instructions, bytes) (u32_spelled (suc n) range, omega arith) (placed e bytes plain inside) in
-    ((2, active (suc n) e.instructions bytes), refl, record { front = 0x02 ∷ []; back = unsigned_text (suc n) ++ rest; joined = refl; first = flag_spelled 2 (omega arith); second = ((suc n, (e.instructions, bytes)), refl, numbered) })
+    let numbered : pair (such (λ m. 0 < m) u32) (pair expression (vec byte)) mode (unsigned_text (suc n) ++ rest) (suc n, (e.instructions, bytes)) =
+    pair_in mode (such (λ m. 0 < m) u32) (pair expression (vec byte)) (unsigned_text (suc n)) rest (suc n) (e.instructions, bytes) (u32_in mode (suc n) range, omega arith) (placed mode e bytes plain inside) in
+    ((2, active (suc n) e.instructions bytes), refl, record { front = 0x02 ∷ []; back = unsigned_text (suc n) ++ rest; joined = refl; first = flag_in mode 2 (omega arith); second = ((suc n, (e.instructions, bytes)), refl, numbered) })
 
-data_spelled : (g : GivenData) → IsGivenData g → FrameFits (data_text g) → data_item shortest (data_text g) (data_of g)
-data_spelled (given_active memory e bytes) plain fits = active_spelled memory e bytes plain.0 plain.1 fits
-data_spelled (given_passive bytes) plain fits =
-    ((1, passive bytes), refl, record { front = 0x01 ∷ []; back = frame_text bytes; joined = refl; first = flag_spelled 1 (omega arith); second = (bytes, refl, bytes_spelled bytes (last_fit (0x01 ∷ []) bytes fits)) })
+pub data_spelled : (mode : Mode) (g : GivenData) → IsGivenDataIn mode g → FrameFits (data_text g) → data_item mode (data_text g) (data_of g)
+data_spelled mode (given_active memory e bytes) plain fits = active_spelled mode memory e bytes plain.0 plain.1 fits
+data_spelled mode (given_passive bytes) plain fits =
+    ((1, passive bytes), refl, record { front = 0x01 ∷ []; back = frame_text bytes; joined = refl; first = flag_in mode 1 (omega arith); second = (bytes, refl, bytes_in mode bytes (last_fit (0x01 ∷ []) bytes fits)) })
 
 pub data_laws : ItemLaws data_text IsGivenData data_of data_item
-data_laws = record { alone = data-alone; spelled = data_spelled }
+data_laws = record { alone = data-alone; spelled = data_spelled shortest }
 
 -- ---- calls
 

@@ -17,16 +17,16 @@ use Rattle.wasm_base.specs.declared.types.RefType.{RefType}
 use Rattle.wasm_base.proofs.BaseLaws.{vec-u32-alone}
 use Rattle.wasm_base.proofs.FormatLaws.{TellsTag, mapped-alone, pair-alone, vec-alone, when-alone, fixed-alone, prefixed-alone, tagged-alone}
 use Rattle.wasm_base.proofs.NumberLaws.{u32-alone}
-use Rattle.wasm_base.proofs.TextLaws.{u32_spelled, vec_spelled}
+use Rattle.wasm_base.proofs.TextLaws.{spelled_in, u32_spelled, u32_in, vec_spelled}
 use Rattle.wasm_base.proofs.TypeLaws.{ref-alone, ref-texts}
 use Rattle.wasm_code.specs.Expressions.{expression, expression_text}
 use Rattle.wasm_code.proofs.ExpressionLaws.{expression-alone, expression_spelled}
 use Rattle.wasm_immediates.specs.Immediates.{where_set}
 use Rattle.wasm_immediates.specs.PlainImmediates.{bit}
 use Rattle.wasm_insn.specs.Plain.{Plain}
-use Rattle.wasm_sections.specs.Constants.{Stored, IsStored}
-use Rattle.wasm_sections.specs.Elements.{is_nullable_func, is_funcref, Place, passive, declared, active, ElementList, functions, expressions, Segment, needs_table, settled_place, settled, ElementFlag, flag_code, tells_kind, is_inactive, is_second, are_expressions, flag_of, place_text, elements_text, settled_text, stored_text, element_text, IsPlace, AreElements, IsSegment, place_of, elements_of, said_by, element_of, in_no_table, in_table, place, list_of, elements_as, segment_of, element}
-use Rattle.wasm_base.proofs.PartLaws.{pair_spelled, flag_spelled, numbered-alone}
+use Rattle.wasm_sections.specs.Constants.{Stored, IsStoredIn}
+use Rattle.wasm_sections.specs.Elements.{is_nullable_func, is_funcref, Place, passive, declared, active, ElementList, functions, expressions, Segment, needs_table, settled_place, settled, ElementFlag, flag_code, tells_kind, is_inactive, is_second, are_expressions, flag_of, place_text, elements_text, settled_text, stored_text, element_text, IsPlaceIn, AreElementsIn, IsSegmentIn, IsSegment, place_of, elements_of, said_by, element_of, in_no_table, in_table, place, list_of, elements_as, segment_of, element}
+use Rattle.wasm_base.proofs.PartLaws.{pair_in, flag_spelled, numbered-alone}
 use Rattle.wasm_sections.proofs.ViewedLists.{viewed_text}
 
 -- ---- flags
@@ -119,12 +119,12 @@ element-alone =
 
 -- ---- texts
 
-place_spelled : (p : Place Stored) (of_expressions : Bool) → IsPlace p → place (record { not_active = is_inactive p; second = is_second p; expressions = of_expressions }) shortest (place_text stored_text p) (place_of p)
-place_spelled passive of_expressions plain = (refl, refl)
-place_spelled declared of_expressions plain = (refl, refl)
-place_spelled (active None offset) of_expressions plain = (offset.instructions, refl, expression_spelled shortest offset.bytes offset.instructions plain.1)
-place_spelled (active (Some table) offset) of_expressions plain =
-    ((table, offset.instructions), refl, pair_spelled u32 expression (unsigned_text table) (expression_text offset.bytes) table offset.instructions (u32_spelled table plain.0) (expression_spelled shortest offset.bytes offset.instructions plain.1))
+place_spelled : (mode : Mode) (p : Place Stored) (of_expressions : Bool) → IsPlaceIn mode p → place (record { not_active = is_inactive p; second = is_second p; expressions = of_expressions }) mode (place_text stored_text p) (place_of p)
+place_spelled mode passive of_expressions plain = (refl, refl)
+place_spelled mode declared of_expressions plain = (refl, refl)
+place_spelled mode (active None offset) of_expressions plain = (offset.instructions, refl, expression_spelled mode offset.bytes offset.instructions plain.1)
+place_spelled mode (active (Some table) offset) of_expressions plain =
+    ((table, offset.instructions), refl, pair_in mode u32 expression (unsigned_text table) (expression_text offset.bytes) table offset.instructions (u32_in mode table plain.0) (expression_spelled mode offset.bytes offset.instructions plain.1))
 
 funcref_is : (nullable : Bool) (heap : HeapType) → is_nullable_func nullable heap ≡ true → record { nullable = nullable; heap_type = heap } ≡ FUNCREF
 funcref_is true (Abstract false kinds.Func) e = refl
@@ -138,47 +138,49 @@ funcref_of r e = go (is_funcref r) refl e
     go false t e = absurd (cc e)
 
 -- expressions, by what they say
-each_spelled : (es : List Stored) → All IsStored es → members expression shortest (flat_map stored_text es) (map (λ e. e.instructions) es)
-each_spelled [] h = refl
-each_spelled (e ∷ es) h = (stored_text e, flat_map stored_text es, refl, expression_spelled shortest e.bytes e.instructions (All-head IsStored e es h), each_spelled es (All-tail IsStored e es h))
+each_spelled : (mode : Mode) (es : List Stored) → All (IsStoredIn mode) es → members expression mode (flat_map stored_text es) (map (λ e. e.instructions) es)
+each_spelled mode [] h = refl
+each_spelled mode (e ∷ es) h =
+    (stored_text e, flat_map stored_text es, refl, expression_spelled mode e.bytes e.instructions (All-head (IsStoredIn mode) e es h), each_spelled mode es (All-tail (IsStoredIn mode) e es h))
 
-all_spelled : (es : List Stored) → VecFits IsStored es → vec expression shortest (vec_text stored_text es) (map (λ e. e.instructions) es)
-all_spelled es h = record {
+all_spelled : (mode : Mode) (es : List Stored) → VecFits (IsStoredIn mode) es → vec expression mode (vec_text stored_text es) (map (λ e. e.instructions) es)
+all_spelled mode es h = record {
   front = unsigned_text (length es);
   back = flat_map stored_text es;
   joined = refl;
-  first = subst (λ n. u32 shortest (unsigned_text (length es)) n) (sym (length-map es (λ e. e.instructions))) (u32_spelled (length es) (omega (arith, h.count)));
-  second = each_spelled es h.members;
+  first = subst (λ n. u32 mode (unsigned_text (length es)) n) (sym (length-map es (λ e. e.instructions))) (u32_in mode (length es) (omega (arith, h.count)));
+  second = each_spelled mode es h.members;
 }
 
-elements_spelled : (told : Bool) (e : ElementList Stored) → AreElements e → (told ≡ false → needs_table e ≡ false) → elements_as told (are_expressions e) shortest (elements_text stored_text told e) (elements_of e)
-elements_spelled told (functions fs) plain short =
+elements_spelled : (mode : Mode) (told : Bool) (e : ElementList Stored) → AreElementsIn mode e → (told ≡ false → needs_table e ≡ false) → elements_as told (are_expressions e) mode (elements_text stored_text told e) (elements_of e)
+elements_spelled mode told (functions fs) plain short =
     let kind = cond told (0x00 ∷ []) [] in
-    (fs, refl, ((tt, fs), refl, record { front = kind; back = vec_text unsigned_text fs; joined = refl; first = (refl, refl); second = vec_spelled u32 (FitsUnsigned 32) unsigned_text u32_spelled fs plain }))
-elements_spelled true (expressions r es) plain short =
+    let listed = spelled_in {F = vec u32} vec-u32-alone (vec_spelled u32 (FitsUnsigned 32) unsigned_text u32_spelled fs plain) mode in
+    (fs, refl, ((tt, fs), refl, record { front = kind; back = vec_text unsigned_text fs; joined = refl; first = (refl, refl); second = listed }))
+elements_spelled mode true (expressions r es) plain short =
     let said = map (λ e. e.instructions) es in
-    ((r, said), refl, pair_spelled ref_type (vec expression) (ref_text r) (vec_text stored_text es) r said (ref-texts.spelled r plain.0) (all_spelled es plain.1))
-elements_spelled false (expressions r es) plain short =
+    ((r, said), refl, pair_in mode ref_type (vec expression) (ref_text r) (vec_text stored_text es) r said (spelled_in {F = ref_type} ref-alone (ref-texts.spelled r plain.0) mode) (all_spelled mode es plain.1))
+elements_spelled mode false (expressions r es) plain short =
     let said = map (λ e. e.instructions) es in
-    ((r, said), refl, pair_spelled (fixed [] FUNCREF) (vec expression) [] (vec_text stored_text es) r said (refl, funcref_of r (short refl)) (all_spelled es plain.1))
+    ((r, said), refl, pair_in mode (fixed [] FUNCREF) (vec expression) [] (vec_text stored_text es) r said (refl, funcref_of r (short refl)) (all_spelled mode es plain.1))
 
-settled_spelled : (s : Segment Stored) → IsSegment s → (tells_kind (flag_of s) ≡ false → needs_table s.elements ≡ false) → element shortest (settled_text stored_text s) (said_by s)
-settled_spelled s plain short =
+settled_spelled : (mode : Mode) (s : Segment Stored) → IsSegmentIn mode s → (tells_kind (flag_of s) ≡ false → needs_table s.elements ≡ false) → element mode (settled_text stored_text s) (said_by s)
+settled_spelled mode s plain short =
     let f = flag_of s in
     let told = tells_kind f in
-    let placed = place_spelled s.place f.expressions plain.place in
-    let listed = elements_spelled told s.elements plain.elements short in (
+    let placed = place_spelled mode s.place f.expressions plain.place in
+    let listed = elements_spelled mode told s.elements plain.elements short in (
       (f, said_by s),
       refl,
       record {
         front = flag_code f ∷ [];
         back = place_text stored_text s.place ++ elements_text stored_text told s.elements;
         joined = refl;
-        first = flag_spelled (flag_code f) (code_low f.not_active f.second f.expressions);
+        first = spelled_in {F = u32} u32-alone (flag_spelled (flag_code f) (code_low f.not_active f.second f.expressions)) mode;
         second = (
           (place_of s.place, elements_of s.elements),
           refl,
-          pair_spelled (place f) (elements_as told f.expressions) (place_text stored_text s.place) (elements_text stored_text told s.elements) (place_of s.place) (elements_of s.elements) placed listed,
+          pair_in mode (place f) (elements_as told f.expressions) (place_text stored_text s.place) (elements_text stored_text told s.elements) (place_of s.place) (elements_of s.elements) placed listed,
         );
       },
     )
@@ -192,19 +194,19 @@ kind_told needed (active (Some table) offset) e = absurd (cc e)
 kind_told true (active None offset) e = absurd (cc e)
 kind_told false (active None offset) e = refl
 
-settled_place-plain : (needed : Bool) (p : Place Stored) → IsPlace p → IsPlace (settled_place needed p)
-settled_place-plain needed passive plain = plain
-settled_place-plain needed declared plain = plain
-settled_place-plain needed (active (Some table) offset) plain = plain
-settled_place-plain true (active None offset) plain = (omega arith, plain.1)
-settled_place-plain false (active None offset) plain = plain
+settled_place-plain : (mode : Mode) (needed : Bool) (p : Place Stored) → IsPlaceIn mode p → IsPlaceIn mode (settled_place needed p)
+settled_place-plain mode needed passive plain = plain
+settled_place-plain mode needed declared plain = plain
+settled_place-plain mode needed (active (Some table) offset) plain = plain
+settled_place-plain mode true (active None offset) plain = (omega arith, plain.1)
+settled_place-plain mode false (active None offset) plain = plain
 
-element_spelled : (s : Segment Stored) → IsSegment s → element shortest (element_text s) (element_of s)
-element_spelled s plain =
-    settled_spelled (settled s) (record { place = settled_place-plain (needs_table s.elements) s.place plain.place; elements = plain.elements }) (kind_told (needs_table s.elements) s.place)
+pub element_spelled : (mode : Mode) (s : Segment Stored) → IsSegmentIn mode s → element mode (element_text s) (element_of s)
+element_spelled mode s plain =
+    settled_spelled mode (settled s) (record { place = settled_place-plain mode (needs_table s.elements) s.place plain.place; elements = plain.elements }) (kind_told (needs_table s.elements) s.place)
 
 pub element_laws : ItemLaws element_text IsSegment element_of element
-element_laws = record { alone = element-alone; spelled = λ s plain fits. element_spelled s plain }
+element_laws = record { alone = element-alone; spelled = λ s plain fits. element_spelled shortest s plain }
 
 -- ---- the bytes of a segment's expressions
 

@@ -2,7 +2,7 @@
 use Rattle.std.proofs.Common.{◌≡◌, ℕ, Bool, true, false, [], ◌∷◌, refl, ap}
 use Rattle.wasm_base.specs.Entries.{ItemLaws}
 use Rattle.wasm_base.specs.Formats.{coded}
-use Rattle.wasm_base.specs.Numbers.{shortest}
+use Rattle.wasm_base.specs.Numbers.{Mode, shortest}
 use Rattle.wasm_base.specs.Reading.{UniqueReading}
 use Rattle.wasm_base.specs.Types.{val_type, val_text}
 use Rattle.wasm_base.proofs.FormatLaws.{coded-alone, mapped-alone, pair-alone}
@@ -10,9 +10,10 @@ use Rattle.wasm_base.proofs.TypeLaws.{val-alone, val-texts}
 use Rattle.wasm_code.specs.Expressions.{expression, expression_text}
 use Rattle.wasm_code.proofs.ExpressionLaws.{expression-alone, expression_spelled}
 use Rattle.wasm_immediates.specs.PlainImmediates.{bit}
-use Rattle.wasm_sections.specs.Globals.{GlobalFlags, global_code, global_flags, global_text, IsGlobal, global_of, global_type, GivenGlobal, global_item_text, IsGivenGlobal, global_item_of, global_from, global_item}
+use Rattle.wasm_sections.specs.Globals.{GlobalFlags, global_code, global_flags, global_text, IsGlobal, global_of, global_type, GivenGlobal, global_item_text, IsGivenGlobalIn, IsGivenGlobal, global_item_of, global_from, global_item}
 use Rattle.wasm_sections.specs.declared.global.GlobalType.{GlobalType}
-use Rattle.wasm_base.proofs.PartLaws.{pair_spelled}
+use Rattle.wasm_base.proofs.PartLaws.{pair_in, pair_spelled}
+use Rattle.wasm_base.proofs.TextLaws.{spelled_in}
 
 decode : ℕ → GlobalFlags
 decode n = record { mutable = bit 0 n; shared = bit 1 n }
@@ -41,9 +42,11 @@ global_spelled g plain =
 pub global_item-alone : UniqueReading global_item
 global_item-alone = mapped-alone global_from (λ x y e. ap (λ i. (i.global_type, i.init)) e) (pair-alone global-alone expression-alone)
 
-pub global_item_spelled : (g : GivenGlobal) → IsGivenGlobal g → global_item shortest (global_item_text g) (global_item_of g)
-global_item_spelled g plain =
-    ((g.global_type, g.init.instructions), refl, pair_spelled global_type expression (global_text g.global_type) (expression_text g.init.bytes) g.global_type g.init.instructions (global_spelled g.global_type plain.global_type) (expression_spelled shortest g.init.bytes g.init.instructions plain.init))
+pub global_item_spelled : (mode : Mode) (g : GivenGlobal) → IsGivenGlobalIn mode g → global_item mode (global_item_text g) (global_item_of g)
+global_item_spelled mode g plain =
+    let typed = spelled_in {F = global_type} global-alone (global_spelled g.global_type plain.global_type) mode in
+    let init = expression_spelled mode g.init.bytes g.init.instructions plain.init in
+    ((g.global_type, g.init.instructions), refl, pair_in mode global_type expression (global_text g.global_type) (expression_text g.init.bytes) g.global_type g.init.instructions typed init)
 
 pub global_laws : ItemLaws global_item_text IsGivenGlobal global_item_of global_item
-global_laws = record { alone = global_item-alone; spelled = λ g plain fits. global_item_spelled g plain }
+global_laws = record { alone = global_item-alone; spelled = λ g plain fits. global_item_spelled shortest g plain }

@@ -1,12 +1,12 @@
 -- Where no section stands.
-use Rattle.std.proofs.Common.{◌≡◌, ℕ, ◌<◌, List, [], ◌∷◌, ◌++◌, length, false, pos, refl, sym, subst, ◌∙◌, append-nil, arith, lit<, inl, inr}
+use Rattle.std.proofs.Common.{◌≡◌, ℕ, ◌<◌, List, [], ◌∷◌, ◌++◌, false, pos, refl, sym, subst, ◌∙◌, append-nil, arith, lit<, inl, inr}
 use Rattle.std.proofs.lemmas.Int.{ints}
 use Rattle.std.proofs.lemmas.Str.{IsUtf8-nil}
 use Rattle.std.specs.declared.alloc.Global.{Global}
 use Rattle.wasm_base.specs.Entries.{counted_format}
-use Rattle.wasm_base.specs.Formats.{Format, u32, impossible, choice, name, mapped, such}
+use Rattle.wasm_base.specs.Formats.{u32, impossible, choice, name, mapped, such}
 use Rattle.wasm_base.specs.Laws.{NothingStandsWide}
-use Rattle.wasm_base.specs.Numbers.{Mode, shortest, wide}
+use Rattle.wasm_base.specs.Numbers.{shortest, wide}
 use Rattle.wasm_base.specs.declared.types.ValType.TheVariants.{I32}
 use Rattle.wasm_base.proofs.BaseLaws.{name-alone}
 use Rattle.wasm_base.proofs.FormatLaws.{then_at, tagged_at, begins_mapped}
@@ -23,7 +23,7 @@ use Rattle.wasm_sections.specs.DataSegments.{DataItem, data_tags, data_item}
 use Rattle.wasm_sections.specs.Globals.{GivenGlobal, GlobalItem, global_item_of, global_item}
 use Rattle.wasm_sections.specs.Imports.{Imported, ImportItem, single, entity, after_module, import_format}
 use Rattle.wasm_sections.proofs.GlobalLaws.{global_item-alone, global_item_spelled}
-use Rattle.wasm_sections.proofs.ImportLaws.{IsEntityByte, entity_begins, empty_name, import-alone}
+use Rattle.wasm_sections.proofs.ImportLaws.{IsEntityByte, entity_begins, empty_name}
 use Rattle.wasm_sections.proofs.SectionLaws.{globals-alone, imports-alone, segments-alone}
 
 -- ---- a global behind whose first `End` bytes are left
@@ -38,7 +38,7 @@ abbrev first : GivenGlobal
 first = record { global_type = record { val_type = I32; mutable = false; shared = false }; init = record { bytes = 0x41 ∷ 0x01 ∷ []; instructions = normal_row one ∷ [] } }
 
 first_spelled : global_item shortest (0x7F ∷ 0x00 ∷ 0x41 ∷ 0x01 ∷ 0x0B ∷ []) (global_item_of first)
-first_spelled = global_item_spelled first (record { global_type = tt; init = members_one (such IsNoEnd (instruction table)) shortest (0x41 ∷ 0x01 ∷ []) (normal_row one) one_spelled })
+first_spelled = global_item_spelled shortest first (record { global_type = tt; init = members_one (such IsNoEnd (instruction table)) shortest (0x41 ∷ 0x01 ∷ []) (normal_row one) one_spelled })
 
 no_global : (x : GlobalItem) → global_item wide (0x7F ∷ 0x00 ∷ 0x41 ∷ 0x01 ∷ 0x0B ∷ 0x41 ∷ 0x02 ∷ 0x0B ∷ []) x → ⊥
 no_global x h =

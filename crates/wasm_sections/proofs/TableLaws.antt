@@ -3,23 +3,23 @@ use Rattle.std.proofs.Common.{◌≡◌, ℕ, ◌^◌, ◌<◌, List, [], ◌∷
 use Rattle.std.specs.Prelude.{IfSome}
 use Rattle.wasm_base.specs.Entries.{ItemLaws}
 use Rattle.wasm_base.specs.Formats.{u64, impossible, mapped, pair, optional, when, prefixed, is_given}
-use Rattle.wasm_base.specs.Numbers.{shortest, unsigned_text}
+use Rattle.wasm_base.specs.Numbers.{Mode, shortest, unsigned_text}
 use Rattle.wasm_base.specs.Reading.{UniqueReading, BeginsWith}
 use Rattle.wasm_base.specs.Texts.{optional_text}
 use Rattle.wasm_base.specs.Types.{ref_type, ref_tags, ref_text}
 use Rattle.wasm_base.proofs.BaseLaws.{u64-alone}
 use Rattle.wasm_base.proofs.FormatLaws.{TellsTag, tagged-alone, mapped-alone, when-alone, impossible-alone, pair-alone, optional-alone, prefixed-alone, one_of-alone, begins_then, begins_mapped, begins_fixed, choice_begins, none_in_common, values_mapped}
-use Rattle.wasm_base.proofs.TextLaws.{u64_spelled}
+use Rattle.wasm_base.proofs.TextLaws.{spelled_in, u64_spelled}
 use Rattle.wasm_base.proofs.TypeLaws.{ref-alone, ref-texts}
 use Rattle.wasm_code.specs.Expressions.{expression, expression_text}
 use Rattle.wasm_code.proofs.ExpressionLaws.{expression-alone, expression_spelled}
 use Rattle.wasm_insn.specs.Plain.{Plain}
-use Rattle.wasm_sections.specs.Constants.{Stored, IsStored}
+use Rattle.wasm_sections.specs.Constants.{Stored, IsStoredIn}
 use Rattle.wasm_sections.specs.Flags.{Flags, flags_code}
 use Rattle.wasm_sections.specs.Tables.{table_flags, table_text, IsTable, Limits, limits_of, after_limits_flags, limits, table_of, table_type, before_init, table_init_text, table_item_text, IsGivenTable, init_of, table_item_of, without_init, with_init, table_item}
 use Rattle.wasm_sections.specs.declared.table.TableType.{TableType}
 use Rattle.wasm_sections.proofs.FlagLaws.{flags-alone}
-use Rattle.wasm_base.proofs.PartLaws.{pair_spelled, optional_spelled, optional_tells}
+use Rattle.wasm_base.proofs.PartLaws.{pair_in, pair_spelled, optional_spelled, optional_tells}
 
 abbrev limits_flags : Limits → Flags
 limits_flags l = record { has_maximum = is_given l.maximum; shared = l.shared; is_64 = l.table64; has_page_size = false }
@@ -87,11 +87,12 @@ table_item-alone =
     type_item_begins : BeginsWith IsTypeByte (mapped without_init table_type)
     type_item_begins = begins_mapped IsTypeByte without_init type_begins
 
-init_spelled : (t : TableType) (init : Option Stored) → IsTable t → IfSome init IsStored → table_item shortest (table_init_text t init) (record { table_type = t; init = init_of init })
-init_spelled t None plain stored = inl (t, refl, table_spelled t plain)
-init_spelled t (Some e) plain stored =
-    let parts = pair_spelled table_type expression (table_text t) (expression_text e.bytes) t e.instructions (table_spelled t plain) (expression_spelled shortest e.bytes e.instructions stored) in
+pub init_spelled : (mode : Mode) (t : TableType) (init : Option Stored) → IsTable t → IfSome init (IsStoredIn mode) → table_item mode (table_init_text t init) (record { table_type = t; init = init_of init })
+init_spelled mode t None plain stored = inl (t, refl, spelled_in {F = table_type} table-alone (table_spelled t plain) mode)
+init_spelled mode t (Some e) plain stored =
+    let typed = spelled_in {F = table_type} table-alone (table_spelled t plain) mode in
+    let parts = pair_in mode table_type expression (table_text t) (expression_text e.bytes) t e.instructions typed (expression_spelled mode e.bytes e.instructions stored) in
     inr ((t, e.instructions), refl, ((tt, (t, e.instructions)), refl, record { front = before_init; back = table_text t ++ expression_text e.bytes; joined = refl; first = (refl, refl); second = parts }))
 
 pub table_laws : ItemLaws table_item_text IsGivenTable table_item_of table_item
-table_laws = record { alone = table_item-alone; spelled = λ t plain fits. init_spelled t.table_type t.init plain.table_type plain.init }
+table_laws = record { alone = table_item-alone; spelled = λ t plain fits. init_spelled shortest t.table_type t.init plain.table_type plain.init }

@@ -1,6 +1,7 @@
 -- Constant expressions that calls hand in.
 use Rattle.std.specs.Prelude.{ℕ, List}
-use Rattle.wasm_code.specs.Expressions.{StoresInstructions}
+use Rattle.wasm_base.specs.Numbers.{Mode, shortest, wide}
+use Rattle.wasm_code.specs.Expressions.{StoresIn}
 use Rattle.wasm_insn.specs.Plain.{Plain}
 
 -- an expression that a call handed in: its stored bytes, and beside them the instructions that it has where it is plain
@@ -8,6 +9,14 @@ pub record Stored : Type 0 where
   pub bytes : List ℕ
   pub instructions : List Plain
 
--- plain: The bytes spell the instructions, none of them End.
+-- The bytes spell the instructions, none of them End.
+abbrev pub IsStoredIn : Mode → Stored → Type 0
+IsStoredIn mode e = StoresIn mode e.bytes e.instructions
+
+-- plain: They do in shortest form.
 abbrev pub IsStored : Stored → Type 0
-IsStored e = StoresInstructions e.bytes e.instructions
+IsStored e = IsStoredIn shortest e
+
+-- plain but for padded numbers
+abbrev pub IsStoredWide : Stored → Type 0
+IsStoredWide e = IsStoredIn wide e

@@ -2,7 +2,7 @@
 use Rattle.std.specs.Prelude.{ℕ, ◌+◌, ◌^◌, ◌<◌, List, [], ◌∷◌, ◌++◌, map, Bool, true, false, cond, Option, Some, None, IfSome}
 use Rattle.wasm_base.specs.Formats.{Format, u32, mapped, pair, tagged, prefixed, fixed, vec, when, numbered, is_given}
 use Rattle.wasm_base.specs.Laws.{FitsUnsigned}
-use Rattle.wasm_base.specs.Numbers.{unsigned_text}
+use Rattle.wasm_base.specs.Numbers.{Mode, shortest, wide, unsigned_text}
 use Rattle.wasm_base.specs.Texts.{vec_text, VecFits, optional_text}
 use Rattle.wasm_base.specs.Types.{ref_type, ref_text, IsRef, FUNCREF}
 use Rattle.wasm_base.specs.declared.types.AbstractHeapType.TheVariants as kinds
@@ -12,7 +12,7 @@ use Rattle.wasm_base.specs.declared.types.RefType.{RefType}
 use Rattle.wasm_code.specs.Expressions.{expression, expression_text}
 use Rattle.wasm_immediates.specs.Immediates.{where_set}
 use Rattle.wasm_insn.specs.Plain.{Plain}
-use Rattle.wasm_sections.specs.Constants.{Stored, IsStored}
+use Rattle.wasm_sections.specs.Constants.{Stored, IsStoredIn}
 
 -- ---- tables
 
@@ -121,19 +121,30 @@ stored_text e = expression_text e.bytes
 abbrev pub element_text : Segment Stored → List ℕ
 element_text s = settled_text stored_text (settled s)
 
+abbrev pub IsPlaceIn : Mode → Place Stored → Type 0
+IsPlaceIn mode passive = Unit {0}
+IsPlaceIn mode declared = Unit {0}
+IsPlaceIn mode (active table offset) = IfSome table (λ t. t < 2 ^ 32) × IsStoredIn mode offset
+
+abbrev pub AreElementsIn : Mode → ElementList Stored → Type 0
+AreElementsIn mode (functions fs) = VecFits (FitsUnsigned 32) fs
+AreElementsIn mode (expressions r es) = IsRef r × VecFits (IsStoredIn mode) es
+
+-- The numbers are in range, and the bytes of the expressions spell their instructions.
+pub record IsSegmentIn (mode : Mode) (s : Segment Stored) : Type 0 where
+  pub place : IsPlaceIn mode s.place
+  pub elements : AreElementsIn mode s.elements
+
+-- The expressions are plain.
 abbrev pub IsPlace : Place Stored → Type 0
-IsPlace passive = Unit {0}
-IsPlace declared = Unit {0}
-IsPlace (active table offset) = IfSome table (λ t. t < 2 ^ 32) × IsStored offset
+IsPlace p = IsPlaceIn shortest p
 
-abbrev pub AreElements : ElementList Stored → Type 0
-AreElements (functions fs) = VecFits (FitsUnsigned 32) fs
-AreElements (expressions r es) = IsRef r × VecFits IsStored es
+abbrev pub IsSegment : Segment Stored → Type 0
+IsSegment s = IsSegmentIn shortest s
 
--- The numbers are in range, and the expressions are plain.
-pub record IsSegment (s : Segment Stored) : Type 0 where
-  pub place : IsPlace s.place
-  pub elements : AreElements s.elements
+-- The expressions are plain but for padded numbers.
+abbrev pub IsSegmentWide : Segment Stored → Type 0
+IsSegmentWide s = IsSegmentIn wide s
 
 abbrev pub place_of : Place Stored → Place (List Plain)
 place_of passive = passive

@@ -1,12 +1,13 @@
 -- Global types and globals: their texts, and what spells them.
 use Rattle.std.specs.Prelude.{ℕ, ◌+◌, List, [], ◌∷◌, ◌++◌, Bool}
 use Rattle.wasm_base.specs.Formats.{Format, coded, mapped, pair}
+use Rattle.wasm_base.specs.Numbers.{Mode, shortest, wide}
 use Rattle.wasm_base.specs.Types.{val_type, val_text, IsVal}
 use Rattle.wasm_base.specs.declared.types.ValType.{ValType}
 use Rattle.wasm_code.specs.Expressions.{expression, expression_text}
 use Rattle.wasm_immediates.specs.Immediates.{where_set}
 use Rattle.wasm_insn.specs.Plain.{Plain}
-use Rattle.wasm_sections.specs.Constants.{Stored, IsStored}
+use Rattle.wasm_sections.specs.Constants.{Stored, IsStoredIn}
 use Rattle.wasm_sections.specs.declared.global.GlobalType.{GlobalType}
 
 -- the flags of a global
@@ -50,10 +51,18 @@ pub record GlobalItem : Type 0 where
 abbrev pub global_item_text : GivenGlobal → List ℕ
 global_item_text g = global_text g.global_type ++ expression_text g.init.bytes
 
--- The numbers are in range, and the expression is plain.
-pub record IsGivenGlobal (g : GivenGlobal) : Type 0 where
+-- The numbers are in range, and the bytes of the expression spell its instructions.
+pub record IsGivenGlobalIn (mode : Mode) (g : GivenGlobal) : Type 0 where
   pub global_type : IsGlobal g.global_type
-  pub init : IsStored g.init
+  pub init : IsStoredIn mode g.init
+
+-- The expression is plain.
+abbrev pub IsGivenGlobal : GivenGlobal → Type 0
+IsGivenGlobal g = IsGivenGlobalIn shortest g
+
+-- The expression is plain but for padded numbers.
+abbrev pub IsGivenGlobalWide : GivenGlobal → Type 0
+IsGivenGlobalWide g = IsGivenGlobalIn wide g
 
 abbrev pub global_item_of : GivenGlobal → GlobalItem
 global_item_of g = record { global_type = g.global_type; init = g.init.instructions }

@@ -1,7 +1,7 @@
 -- Table types and tables: their texts, and what spells them.
 use Rattle.std.specs.Prelude.{ℕ, ◌^◌, ◌<◌, List, [], ◌∷◌, ◌++◌, Bool, true, false, Option, Some, None, IfSome}
 use Rattle.wasm_base.specs.Formats.{Format, u64, impossible, mapped, tagged, pair, optional, when, one_of, prefixed, is_given}
-use Rattle.wasm_base.specs.Numbers.{unsigned_text}
+use Rattle.wasm_base.specs.Numbers.{Mode, shortest, wide, unsigned_text}
 use Rattle.wasm_base.specs.Texts.{optional_text}
 use Rattle.wasm_base.specs.Types.{ref_type, ref_text, IsRef}
 use Rattle.wasm_base.specs.declared.types.RefType.{RefType}
@@ -9,7 +9,7 @@ use Rattle.wasm_base.specs.declared.types.ValType.{ValType}
 use Rattle.wasm_base.specs.declared.types.ValType.TheVariants.{I32, I64}
 use Rattle.wasm_code.specs.Expressions.{expression, expression_text}
 use Rattle.wasm_insn.specs.Plain.{Plain}
-use Rattle.wasm_sections.specs.Constants.{Stored, IsStored}
+use Rattle.wasm_sections.specs.Constants.{Stored, IsStoredIn}
 use Rattle.wasm_sections.specs.Flags.{Flags, flags, flags_code}
 use Rattle.wasm_sections.specs.declared.table.TableType.{TableType}
 
@@ -78,10 +78,18 @@ table_init_text t (Some e) = before_init ++ (table_text t ++ expression_text e.b
 abbrev pub table_item_text : GivenTable → List ℕ
 table_item_text t = table_init_text t.table_type t.init
 
--- The numbers are in range, and the expression is plain.
-pub record IsGivenTable (t : GivenTable) : Type 0 where
+-- The numbers are in range, and the bytes of the expression spell its instructions.
+pub record IsGivenTableIn (mode : Mode) (t : GivenTable) : Type 0 where
   pub table_type : IsTable t.table_type
-  pub init : IfSome t.init IsStored
+  pub init : IfSome t.init (IsStoredIn mode)
+
+-- The expression is plain.
+abbrev pub IsGivenTable : GivenTable → Type 0
+IsGivenTable t = IsGivenTableIn shortest t
+
+-- The expression is plain but for padded numbers.
+abbrev pub IsGivenTableWide : GivenTable → Type 0
+IsGivenTableWide t = IsGivenTableIn wide t
 
 abbrev pub init_of : Option Stored → Option (List Plain)
 init_of None = None

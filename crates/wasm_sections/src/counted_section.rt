@@ -2,8 +2,8 @@
 ghost use Rattle.std.specs.Prelude.{◌≡◌, ◌≢◌, ℕ, List, [], ◌∷◌, length, IfOk, IsTrue, ◌↔◌, slice_get, ⊤};
 ghost use Rattle.std.proofs.Common.{refl};
 ghost use Rattle.std.specs.Option.{option_copied};
-ghost use Rattle.wasm_base.specs.Calls.{Adds, ReadsBack};
-ghost use Rattle.wasm_base.specs.Entries.{HoldsItems, counted_format};
+ghost use Rattle.wasm_base.specs.Calls.{Adds, ReadsBackBoth};
+ghost use Rattle.wasm_base.specs.Entries.{HoldsItems, HoldsWide, counted_format};
 ghost use Rattle.wasm_base.specs.Once.{AddsOnce};
 ghost use Rattle.wasm_base.specs.Pieces.{section_text, SectionFits};
 ghost use Rattle.wasm_base.specs.declared.refused.Refused.TheVariants.{TooLong};
@@ -112,7 +112,7 @@ impl<K: ItemKind, A: Allocator> Encode for CountedSection<K, A> {
 
     ghost fits = { SectionFits };
 
-    ghost reading = { λ section. ReadsBack (counted_format K.item_format) (HoldsItems K.record_text K.is_plain K.normal_form K.item_format section) (section_text section) };
+    ghost reading = { λ section. ReadsBackBoth (counted_format K.item_format) (HoldsItems K.record_text K.is_plain K.normal_form K.item_format section) (HoldsWide K.item_format section) (section_text section) };
 
     fn encode<B: Allocator>(&self, sink: &mut Vec<u8, B>) -> R<()> {
         K::laws();
@@ -140,7 +140,7 @@ impl<K: ItemKind, A: Allocator> Section for CountedSection<K, A> {
 
     ghost framed = { section_framed };
 
-    ghost reads_back = { λ section promised. promised };
+    ghost reads_back = { λ section promised. promised.plain };
 }
 
 impl<K: ItemKind, T: RecordOf<K>, A: Allocator> Counted<T> for CountedSection<K, A> {

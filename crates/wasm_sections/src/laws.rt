@@ -8,14 +8,14 @@ ghost use Rattle.wasm_base.specs.Laws.{FitsUnsigned};
 ghost use Rattle.wasm_base.specs.Modules.{ReadsPayloads};
 ghost use Rattle.wasm_base.specs.Numbers.{unsigned_text};
 ghost use Rattle.wasm_base.specs.Reading.{UniqueReading, IsUniqueWide};
-ghost use Rattle.wasm_sections.specs.DataSegments.{data_text, IsGivenData, data_of, data_item};
-ghost use Rattle.wasm_sections.specs.Elements.{element_text, IsSegment, element_of, element};
+ghost use Rattle.wasm_sections.specs.DataSegments.{data_text, IsGivenData, IsGivenDataWide, data_of, data_item};
+ghost use Rattle.wasm_sections.specs.Elements.{element_text, IsSegment, IsSegmentWide, element_of, element};
 ghost use Rattle.wasm_sections.specs.Exports.{export_text, IsExport, item_of, export};
-ghost use Rattle.wasm_sections.specs.Globals.{global_type, global_item_text, IsGivenGlobal, global_item_of, global_item};
+ghost use Rattle.wasm_sections.specs.Globals.{global_type, global_item_text, IsGivenGlobal, IsGivenGlobalWide, global_item_of, global_item};
 ghost use Rattle.wasm_sections.specs.Imports.{import_text, IsImport, import_format, entity};
-ghost use Rattle.wasm_base.specs.Laws.{HoldsMore, NothingStandsWide};
+ghost use Rattle.wasm_base.specs.Laws.{HoldsMore, HoldsMoreWide, NothingStandsWide};
 ghost use Rattle.wasm_sections.specs.Memories.{memory_text, IsMemory, memory_type};
-ghost use Rattle.wasm_sections.specs.Tables.{table_type, table_item_text, IsGivenTable, table_item_of, table_item};
+ghost use Rattle.wasm_sections.specs.Tables.{table_type, table_item_text, IsGivenTable, IsGivenTableWide, table_item_of, table_item};
 ghost use Rattle.wasm_sections.specs.Tags.{tag_text, IsTag, tag_type};
 
 use crate::export::Export;
@@ -78,6 +78,21 @@ pub fn calls()
     ensures segments { HoldsMore data_text IsGivenData data_of data_item }
     ensures imports { HoldsMore import_text IsImport (λ import. import) import_format }
     ensures tags { HoldsMore tag_text IsTag (λ tag. tag) tag_type }
+{}
+
+/// The same with padded numbers: a record may be plain but for padded numbers in its expressions, and a piece may spell its item with
+/// padded numbers.
+#[tactic(auto, using(crate::proofs::HeldLaws::wide_calls))]
+pub fn wide_calls()
+    ensures functions { HoldsMoreWide unsigned_text (FitsUnsigned 32) (FitsUnsigned 32) (λ index. index) u32_format }
+    ensures tables { HoldsMoreWide table_item_text IsGivenTable IsGivenTableWide table_item_of table_item }
+    ensures memories { HoldsMoreWide memory_text IsMemory IsMemory (λ memory. memory) memory_type }
+    ensures globals { HoldsMoreWide global_item_text IsGivenGlobal IsGivenGlobalWide global_item_of global_item }
+    ensures exports { HoldsMoreWide export_text IsExport IsExport item_of export }
+    ensures elements { HoldsMoreWide element_text IsSegment IsSegmentWide element_of element }
+    ensures segments { HoldsMoreWide data_text IsGivenData IsGivenDataWide data_of data_item }
+    ensures imports { HoldsMoreWide import_text IsImport IsImport (λ import. import) import_format }
+    ensures tags { HoldsMoreWide tag_text IsTag IsTag (λ tag. tag) tag_type }
 {}
 
 /// Where a module is read as ids and payloads, and a section as its items alone, its payload is read as these alone.

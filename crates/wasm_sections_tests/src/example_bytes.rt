@@ -1,11 +1,14 @@
 // Each example once, with ample memory.
-use crate::checks::check_bytes;
+use crate::checks::{MOST, check_answer, check_bytes, check_sink};
 use examples::{
-    choice, encode_exports, encode_group, encode_import, encode_local, factorial, first_module,
-    whole_module,
+    choice, encode_exports, encode_group, encode_import, encode_local, encode_padded_body,
+    encode_padded_globals, encode_padded_names, factorial, first_module, whole_module,
 };
 use std::alloc::Global;
+use std::process::Abort;
 use std::test::Fail;
+use test_support::Refusing;
+use wasm_base::R;
 use wasm_sections::{Export, ExportKind};
 
 #[test]
@@ -94,11 +97,52 @@ fn sections(rt: HostRuntime) -> Result<(), Fail> {
     Ok(())
 }
 
+/// A function appends these bytes. Where a request is refused, the sink is as it was.
+fn check_appending<'h, F: Fn(&mut Vec<u8, &'h Refusing<Global>>) -> R<()>>(
+    rt: &impl Abort,
+    heap: &'h Refusing<Global>,
+    expected: &[u8],
+    append: F,
+) -> Result<(), Fail>
+    requires { F.IsAlwaysCallable append }
+{
+    for nth in 1..MOST {
+        heap.refuse(0);
+        let mut sink = Vec::from_slice(heap, &[7])?;
+        heap.refuse(nth);
+        let answer = append(&mut sink);
+        let granted = check_answer(rt, heap, nth, answer);
+        check_sink(rt, granted, &sink, expected);
+        if granted {
+            return Ok(());
+        }
+    }
+    panic!(rt; "no call was granted")
+}
+
+#[test]
+fn padded_numbers(rt: HostRuntime) -> Result<(), Fail> {
+    let heap = Refusing::new(rt.alloc());
+    let bodies = b"\x0B\x02\x03\x80\0\x0B\x05\0\x20\xAC\x02\x0B";
+    check_appending(&rt, &heap, bodies, |sink: &mut Vec<u8, _>| {
+        encode_padded_body(sink, 300)
+    })?;
+    let globals = b"\x10\x02\x7F\0\x41\xFF\xFF\xFF\xFF\x7F\x0B\x7F\0\x41\x80\0\x0B";
+    check_appending(&rt, &heap, globals, |sink: &mut Vec<u8, _>| {
+        encode_padded_globals(sink)
+    })?;
+    let names = b"\x0C\x04name\x01\x05\x01\x80\0\x01a";
+    check_appending(&rt, &heap, names, |sink: &mut Vec<u8, _>| {
+        encode_padded_names(sink)
+    })
+}
+
 #[test]
 fn laws(_rt: HostRuntime) -> Result<(), Fail> {
     wasm_base::laws::payloads();
     wasm_code::laws::payloads();
     wasm_code::laws::calls::<Global>();
+    wasm_code::laws::wide_calls::<Global>();
     wasm_sections::laws::payloads();
     wasm_sections::laws::plain_export(&Export {
         name: "f",

@@ -364,6 +364,7 @@ fn laws_do_nothing(_rt: HostRuntime) {
     laws::sections();
     laws::wide();
     laws::calls();
+    laws::wide_calls();
     laws::payloads();
     laws::nothing_stands();
 }

@@ -1,0 +1,15 @@
+-- What the sections of padded numbers say.
+use Rattle.std.specs.Prelude.{[], ◌∷◌, false, ℤ}
+use Rattle.wasm_base.specs.declared.types.ValType.TheVariants.{I32}
+use Rattle.wasm_code.specs.Bodies.{Body}
+use Rattle.wasm_insn.specs.declared.instruction.Instruction.TheVariants.{I32Const, End}
+use Rattle.wasm_sections.specs.Globals.{GlobalItem}
+use Rattle.examples.specs.Bodies.{row}
+
+-- no locals, and `End`
+abbrev pub bare_body : Body
+bare_body = record { runs = []; code = row End ∷ [] }
+
+-- a number that can't be set
+abbrev pub number : ℤ → GlobalItem
+number value = record { global_type = record { val_type = I32; mutable = false; shared = false }; init = row (I32Const value) ∷ [] }

@@ -1,0 +1,58 @@
+// Sections of entries that are spelled already, with padded numbers.
+ghost use Rattle.std.specs.Prelude.{[], ◌∷◌, OnOk, pos, neg_ℤ};
+ghost use Rattle.wasm_base.specs.Entries.{counted_format};
+ghost use Rattle.wasm_base.specs.Formats.{frame};
+ghost use Rattle.wasm_base.specs.Modules.{GainsReadingWide};
+ghost use Rattle.wasm_code.specs.Code.{code_section};
+ghost use Rattle.wasm_custom.specs.Names.{Map};
+ghost use Rattle.wasm_custom.specs.Readings.{name_payload};
+ghost use Rattle.wasm_sections.specs.Globals.{global_item};
+ghost use Rattle.examples.specs.Bodies.{local_body};
+ghost use Rattle.examples.specs.Padded.{bare_body, number};
+
+use std::alloc::Allocator;
+use wasm_base::{Encode, R, ValType};
+use wasm_code::{CodeSection, ConstExpr, Function};
+use wasm_custom::NameSection;
+use wasm_insn::Instruction;
+use wasm_sections::{GlobalSection, GlobalType};
+
+/// A code section of a body whose number of runs is padded, and of a function, which gives the local of this index.
+pub fn encode_padded_body<A: Allocator + Copy>(sink: &mut Vec<u8, A>, index: u32) -> R<()>
+    ensures { OnOk result (GainsReadingWide code_section (bare_body ∷ local_body index ∷ []) sink.old.items sink.new.items) }
+{
+    let alloc = *sink.allocator();
+    let mut function = Function::new(alloc, [])?;
+    function.instruction(&Instruction::LocalGet(index))?;
+    function.instruction(&Instruction::End)?;
+    let mut code = CodeSection::new(alloc);
+    code.raw(&[0x80, 0x00, 0x0B])?;
+    code.function(&function)?;
+    code.encode(sink)
+}
+
+/// A global section of an expression that stores a padded number, and of a global that has one.
+pub fn encode_padded_globals<A: Allocator + Copy>(sink: &mut Vec<u8, A>) -> R<()>
+    ensures { OnOk result (GainsReadingWide (counted_format global_item) (number (neg_ℤ (pos 1)) ∷ number (pos 0) ∷ []) sink.old.items sink.new.items) }
+{
+    let alloc = *sink.allocator();
+    let constant = GlobalType {
+        val_type: ValType::I32,
+        mutable: false,
+        shared: false,
+    };
+    let init = ConstExpr::raw(alloc, [0x41, 0xFF, 0xFF, 0xFF, 0xFF, 0x7F])?;
+    let mut section = GlobalSection::new(alloc);
+    section.global(constant, &init)?;
+    section.raw(&[0x7F, 0x00, 0x41, 0x80, 0x00, 0x0B])?;
+    section.encode(sink)
+}
+
+/// A name section of the name `a` of the function 0, whose index is padded.
+pub fn encode_padded_names<A: Allocator + Copy>(sink: &mut Vec<u8, A>) -> R<()>
+    ensures { OnOk result (GainsReadingWide (frame name_payload) (Map 1 ((0, 97 ∷ []) ∷ []) ∷ []) sink.old.items sink.new.items) }
+{
+    let mut names = NameSection::new(*sink.allocator());
+    names.raw(1, &[0x01, 0x80, 0x00, 0x01, 0x61])?;
+    names.encode(sink)
+}
