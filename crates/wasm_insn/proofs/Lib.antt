@@ -1,4 +1,5 @@
 pub mod TableRuns
+pub mod ByteShapes
 pub mod PlainLaws
 pub mod TableRows
 pub mod InstructionLaws

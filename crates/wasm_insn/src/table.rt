@@ -1,55 +1,50 @@
 // The shape of each op of the table.
 ghost use Rattle.std.specs.Prelude.{◌≡◌};
 ghost use Rattle.wasm_insn.specs.Plain.{shape_of};
+ghost use Rattle.wasm_insn.specs.declared.op.Op.TheVariants.{Byte};
 ghost use Rattle.wasm_insn.specs.Table.{table, shape_in};
 
 use crate::op::{Op, Shape};
 
-/// Ops that follow one another and have one shape: the first number, the last one, and the shape.
+/// Ops after a prefix that follow one another and have one shape: the first number, the last one, and the shape.
 #[derive(Clone, Copy)]
 pub(crate) struct Run(u32, u32, Shape);
 
-/// One-byte ops.
-static ONE_BYTE: [Run; 39] = [
-    Run(0x00, 0x01, Shape::Nothing),
-    Run(0x02, 0x04, Shape::B),
-    Run(0x05, 0x05, Shape::Nothing),
-    Run(0x06, 0x06, Shape::B),
-    Run(0x07, 0x09, Shape::U),
-    Run(0x0A, 0x0B, Shape::Nothing),
-    Run(0x0C, 0x0D, Shape::U),
-    Run(0x0E, 0x0E, Shape::Bt),
-    Run(0x0F, 0x0F, Shape::Nothing),
-    Run(0x10, 0x10, Shape::U),
-    Run(0x11, 0x11, Shape::Uu),
-    Run(0x12, 0x12, Shape::U),
-    Run(0x13, 0x13, Shape::Uu),
-    Run(0x14, 0x15, Shape::U),
-    Run(0x18, 0x18, Shape::U),
-    Run(0x19, 0x1B, Shape::Nothing),
-    Run(0x1C, 0x1C, Shape::Ts),
-    Run(0x1C, 0x1C, Shape::Ts),
-    Run(0x1F, 0x1F, Shape::Tt),
-    Run(0x20, 0x26, Shape::U),
-    Run(0x28, 0x3E, Shape::M),
-    Run(0x3F, 0x40, Shape::U),
-    Run(0x41, 0x41, Shape::C32),
-    Run(0x42, 0x42, Shape::C64),
-    Run(0x43, 0x43, Shape::F32),
-    Run(0x44, 0x44, Shape::F64),
-    Run(0x45, 0xC4, Shape::Nothing),
-    Run(0xD0, 0xD0, Shape::H),
-    Run(0xD1, 0xD1, Shape::Nothing),
-    Run(0xD2, 0xD2, Shape::U),
-    Run(0xD3, 0xD4, Shape::Nothing),
-    Run(0xD5, 0xD6, Shape::U),
-    Run(0xE0, 0xE0, Shape::U),
-    Run(0xE1, 0xE1, Shape::Uu),
-    Run(0xE2, 0xE2, Shape::U),
-    Run(0xE3, 0xE3, Shape::Uh),
-    Run(0xE4, 0xE4, Shape::Uuh),
-    Run(0xE5, 0xE5, Shape::Uh),
-    Run(0xE6, 0xE6, Shape::Uu),
+/// The shapes of one-byte ops, each at its op's place: eight places a line.
+#[rattlefmt::skip]
+static ONE_BYTE: [Option<Shape>; 256] = [
+    Some(Shape::Nothing), Some(Shape::Nothing), Some(Shape::B), Some(Shape::B), Some(Shape::B), Some(Shape::Nothing), Some(Shape::B), Some(Shape::U),
+    Some(Shape::U), Some(Shape::U), Some(Shape::Nothing), Some(Shape::Nothing), Some(Shape::U), Some(Shape::U), Some(Shape::Bt), Some(Shape::Nothing),
+    Some(Shape::U), Some(Shape::Uu), Some(Shape::U), Some(Shape::Uu), Some(Shape::U), Some(Shape::U), None, None,
+    Some(Shape::U), Some(Shape::Nothing), Some(Shape::Nothing), Some(Shape::Nothing), Some(Shape::Ts), None, None, Some(Shape::Tt),
+    Some(Shape::U), Some(Shape::U), Some(Shape::U), Some(Shape::U), Some(Shape::U), Some(Shape::U), Some(Shape::U), None,
+    Some(Shape::M), Some(Shape::M), Some(Shape::M), Some(Shape::M), Some(Shape::M), Some(Shape::M), Some(Shape::M), Some(Shape::M),
+    Some(Shape::M), Some(Shape::M), Some(Shape::M), Some(Shape::M), Some(Shape::M), Some(Shape::M), Some(Shape::M), Some(Shape::M),
+    Some(Shape::M), Some(Shape::M), Some(Shape::M), Some(Shape::M), Some(Shape::M), Some(Shape::M), Some(Shape::M), Some(Shape::U),
+    Some(Shape::U), Some(Shape::C32), Some(Shape::C64), Some(Shape::F32), Some(Shape::F64), Some(Shape::Nothing), Some(Shape::Nothing), Some(Shape::Nothing),
+    Some(Shape::Nothing), Some(Shape::Nothing), Some(Shape::Nothing), Some(Shape::Nothing), Some(Shape::Nothing), Some(Shape::Nothing), Some(Shape::Nothing), Some(Shape::Nothing),
+    Some(Shape::Nothing), Some(Shape::Nothing), Some(Shape::Nothing), Some(Shape::Nothing), Some(Shape::Nothing), Some(Shape::Nothing), Some(Shape::Nothing), Some(Shape::Nothing),
+    Some(Shape::Nothing), Some(Shape::Nothing), Some(Shape::Nothing), Some(Shape::Nothing), Some(Shape::Nothing), Some(Shape::Nothing), Some(Shape::Nothing), Some(Shape::Nothing),
+    Some(Shape::Nothing), Some(Shape::Nothing), Some(Shape::Nothing), Some(Shape::Nothing), Some(Shape::Nothing), Some(Shape::Nothing), Some(Shape::Nothing), Some(Shape::Nothing),
+    Some(Shape::Nothing), Some(Shape::Nothing), Some(Shape::Nothing), Some(Shape::Nothing), Some(Shape::Nothing), Some(Shape::Nothing), Some(Shape::Nothing), Some(Shape::Nothing),
+    Some(Shape::Nothing), Some(Shape::Nothing), Some(Shape::Nothing), Some(Shape::Nothing), Some(Shape::Nothing), Some(Shape::Nothing), Some(Shape::Nothing), Some(Shape::Nothing),
+    Some(Shape::Nothing), Some(Shape::Nothing), Some(Shape::Nothing), Some(Shape::Nothing), Some(Shape::Nothing), Some(Shape::Nothing), Some(Shape::Nothing), Some(Shape::Nothing),
+    Some(Shape::Nothing), Some(Shape::Nothing), Some(Shape::Nothing), Some(Shape::Nothing), Some(Shape::Nothing), Some(Shape::Nothing), Some(Shape::Nothing), Some(Shape::Nothing),
+    Some(Shape::Nothing), Some(Shape::Nothing), Some(Shape::Nothing), Some(Shape::Nothing), Some(Shape::Nothing), Some(Shape::Nothing), Some(Shape::Nothing), Some(Shape::Nothing),
+    Some(Shape::Nothing), Some(Shape::Nothing), Some(Shape::Nothing), Some(Shape::Nothing), Some(Shape::Nothing), Some(Shape::Nothing), Some(Shape::Nothing), Some(Shape::Nothing),
+    Some(Shape::Nothing), Some(Shape::Nothing), Some(Shape::Nothing), Some(Shape::Nothing), Some(Shape::Nothing), Some(Shape::Nothing), Some(Shape::Nothing), Some(Shape::Nothing),
+    Some(Shape::Nothing), Some(Shape::Nothing), Some(Shape::Nothing), Some(Shape::Nothing), Some(Shape::Nothing), Some(Shape::Nothing), Some(Shape::Nothing), Some(Shape::Nothing),
+    Some(Shape::Nothing), Some(Shape::Nothing), Some(Shape::Nothing), Some(Shape::Nothing), Some(Shape::Nothing), Some(Shape::Nothing), Some(Shape::Nothing), Some(Shape::Nothing),
+    Some(Shape::Nothing), Some(Shape::Nothing), Some(Shape::Nothing), Some(Shape::Nothing), Some(Shape::Nothing), Some(Shape::Nothing), Some(Shape::Nothing), Some(Shape::Nothing),
+    Some(Shape::Nothing), Some(Shape::Nothing), Some(Shape::Nothing), Some(Shape::Nothing), Some(Shape::Nothing), Some(Shape::Nothing), Some(Shape::Nothing), Some(Shape::Nothing),
+    Some(Shape::Nothing), Some(Shape::Nothing), Some(Shape::Nothing), Some(Shape::Nothing), Some(Shape::Nothing), None, None, None,
+    None, None, None, None, None, None, None, None,
+    Some(Shape::H), Some(Shape::Nothing), Some(Shape::U), Some(Shape::Nothing), Some(Shape::Nothing), Some(Shape::U), Some(Shape::U), None,
+    None, None, None, None, None, None, None, None,
+    Some(Shape::U), Some(Shape::Uu), Some(Shape::U), Some(Shape::Uh), Some(Shape::Uuh), Some(Shape::Uh), Some(Shape::Uu), None,
+    None, None, None, None, None, None, None, None,
+    None, None, None, None, None, None, None, None,
+    None, None, None, None, None, None, None, None,
 ];
 
 /// Ops after the prefix FB.
@@ -130,6 +125,14 @@ fn find_shape(runs: &[Run], number: u32) -> Option<Shape>
         .map(|run| run.2)
 }
 
+/// The shape of the one-byte op.
+#[inline]
+fn byte_shape(byte: u8) -> Option<Shape>
+    ensures { result ≡ shape_of table (Byte byte) }
+{
+    ONE_BYTE[usize::from(byte)]
+}
+
 impl Op {
     /// The shape of the op's row, where the table has one.
     #[tactic(auto, using(crate::proofs::TableRuns::shapes))]
@@ -137,7 +140,7 @@ impl Op {
         ensures { result ≡ shape_of table self }
     {
         match self {
-            Op::Byte(byte) => find_shape(&ONE_BYTE, u32::from(byte)),
+            Op::Byte(byte) => byte_shape(byte),
             Op::Prefixed(0xFB, number) => find_shape(&AFTER_FB, number),
             Op::Prefixed(0xFC, number) => find_shape(&AFTER_FC, number),
             Op::Prefixed(0xFD, number) => find_shape(&AFTER_FD, number),

@@ -82,6 +82,7 @@ fn read_signed64<'a, A: Allocator + Copy>(
 }
 
 /// A float of 32 bits.
+#[inline(never)]
 #[tactic(auto, using(crate::proofs::ReadArguments::float32_part))]
 fn read_float32<'a, A: Allocator + Copy>(
     bytes: &'a [u8],
@@ -95,6 +96,7 @@ fn read_float32<'a, A: Allocator + Copy>(
 }
 
 /// A float of 64 bits.
+#[inline(never)]
 #[tactic(auto, using(crate::proofs::ReadArguments::float64_part))]
 fn read_float64<'a, A: Allocator + Copy>(
     bytes: &'a [u8],
@@ -108,6 +110,7 @@ fn read_float64<'a, A: Allocator + Copy>(
 }
 
 /// A vector.
+#[inline(never)]
 #[tactic(auto, using(crate::proofs::ReadArguments::vector_part))]
 fn read_vector<'a, A: Allocator + Copy>(
     bytes: &'a [u8],
@@ -121,6 +124,7 @@ fn read_vector<'a, A: Allocator + Copy>(
 }
 
 /// A memory argument.
+#[inline(never)]
 #[tactic(auto, using(crate::proofs::ReadArguments::memory_part))]
 fn read_memory<'a, A: Allocator + Copy>(
     bytes: &'a [u8],
@@ -147,6 +151,7 @@ fn read_lane<'a, A: Allocator + Copy>(
 }
 
 /// Sixteen lanes.
+#[inline(never)]
 #[tactic(auto, using(crate::proofs::ReadArguments::lanes_part))]
 fn read_lanes<'a, A: Allocator + Copy>(
     bytes: &'a [u8],
@@ -160,6 +165,7 @@ fn read_lanes<'a, A: Allocator + Copy>(
 }
 
 /// A block type.
+#[inline(never)]
 #[tactic(auto, using(crate::proofs::ReadArguments::block_part))]
 fn read_block<'a, A: Allocator + Copy>(
     bytes: &'a [u8],
@@ -173,6 +179,7 @@ fn read_block<'a, A: Allocator + Copy>(
 }
 
 /// A heap type.
+#[inline(never)]
 #[tactic(auto, using(crate::proofs::ReadArguments::heap_part))]
 fn read_heap<'a, A: Allocator + Copy>(
     bytes: &'a [u8],
@@ -186,6 +193,7 @@ fn read_heap<'a, A: Allocator + Copy>(
 }
 
 /// An ordering.
+#[inline(never)]
 #[tactic(auto, using(crate::proofs::ReadArguments::ordering_part))]
 fn read_ordering<'a, A: Allocator + Copy>(
     bytes: &'a [u8],
@@ -199,6 +207,7 @@ fn read_ordering<'a, A: Allocator + Copy>(
 }
 
 /// Labels.
+#[inline(never)]
 #[tactic(auto, using(crate::proofs::ReadArguments::labels_part))]
 fn read_labels<'a, A: Allocator + Copy>(
     bytes: &'a [u8],
@@ -212,6 +221,7 @@ fn read_labels<'a, A: Allocator + Copy>(
 }
 
 /// Clauses that catch.
+#[inline(never)]
 #[tactic(auto, using(crate::proofs::ReadArguments::catches_part))]
 fn read_catches<'a, A: Allocator + Copy>(
     bytes: &'a [u8],
@@ -225,6 +235,7 @@ fn read_catches<'a, A: Allocator + Copy>(
 }
 
 /// Value types.
+#[inline(never)]
 #[tactic(auto, using(crate::proofs::ReadArguments::types_part))]
 fn read_types<'a, A: Allocator + Copy>(
     bytes: &'a [u8],
@@ -238,6 +249,7 @@ fn read_types<'a, A: Allocator + Copy>(
 }
 
 /// Clauses that handle.
+#[inline(never)]
 #[tactic(auto, using(crate::proofs::ReadArguments::handles_part))]
 fn read_handles<'a, A: Allocator + Copy>(
     bytes: &'a [u8],
@@ -267,7 +279,7 @@ fn read_flag<'a, A: Allocator + Copy>(
     }
 }
 
-/// One argument.
+/// One argument. Arms that are rare or long are not put in place: with all of them there, what each leaves is moved by all.
 fn read_part<'a, A: Allocator + Copy>(
     wanted: Part,
     bytes: &'a [u8],

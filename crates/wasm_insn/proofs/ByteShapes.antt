@@ -1,0 +1,16 @@
+-- The shapes of one-byte ops, each at its place.
+use Rattle.std.proofs.Common.{◌≡◌, ℕ, ◌<◌, map, Option, get_or, refl, sym, ap, ◌∙◌, arith}
+use Rattle.std.proofs.lemmas.List.FromFn.{get_or-map-range_with_len}
+use Rattle.std.specs.List.{range_with_len}
+use Rattle.wasm_insn.specs.declared.op.Op.TheVariants.{Byte}
+use Rattle.wasm_insn.specs.declared.op.Shape.{Shape}
+use Rattle.wasm_insn.specs.declared.table.TheConstants.{ONE_BYTE}
+use Rattle.wasm_insn.specs.Plain.{shape_of}
+use Rattle.wasm_insn.specs.Table.{one_byte, table, shape_in}
+use Rattle.wasm_insn.proofs.TableRuns.{byte_shape}
+
+places : ONE_BYTE ≡ map (shape_in one_byte) (range_with_len 0 256)
+places = refl
+
+pub byte_place : (b : ℕ) (d : Option Shape) → b < 256 → get_or ONE_BYTE b d ≡ shape_of table (Byte b)
+byte_place b d l = ap (λ t. get_or t b d) places ∙ get_or-map-range_with_len (shape_in one_byte) 0 256 b b d l (omega arith) ∙ sym (byte_shape b)
