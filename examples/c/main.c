@@ -1,4 +1,4 @@
-/* Assembles recipes, and lists what the modules hold. */
+/* Assembles recipes, lists what the modules hold, and shortens padded sections. */
 #include "dolzhytik.h"
 #include <inttypes.h>
 #include <stdio.h>
@@ -43,6 +43,21 @@ static void assemble(const void *recipe, size_t len, size_t room) {
     list(out, size);
 }
 
+static void shorten(uint32_t kind, const void *bytes, size_t len) {
+    uint8_t out[ROOM] = {0};
+    uint64_t taken;
+    uint32_t cause;
+    uint64_t size = dz_shorten(kind, bytes, len, out, ROOM, &taken, &cause);
+    if (size == DZ_NO_ANSWER) {
+        printf("cause %" PRIu32 "\n", cause);
+        return;
+    }
+    printf("%" PRIu64 ":", taken);
+    for (uint64_t i = 0; i < size && i < ROOM; i++)
+        printf(" %02x", out[i]);
+    printf("\n");
+}
+
 int main(void) {
     const char *module = "type 60027f7f017f\nfunc 0\nexport f func 0\nbody 200020016a0b";
     assemble(module, strlen(module), ROOM);
@@ -53,5 +68,11 @@ int main(void) {
     assemble("\xFF", 1, ROOM);
     list((const uint8_t *)"\0asm\x01\0\0\0\x03\x01\x00\x00\x01\x05", 14);
     list((const uint8_t *)"\0asm", 4);
+    shorten(DZ_FUNCTIONS, "\x86\x00\x01\x85\x80\x80\x80\x00", 8);
+    shorten(DZ_GLOBALS, "\x0A\x01\x7F\x00\x41\xFF\xFF\xFF\xFF\x7F\x0B", 11);
+    shorten(DZ_NAMES, "\x0C\x84\x00name\x00\x83\x00\x82\x00m", 13);
+    shorten(DZ_NAMES, "\x0C\x84\x00name\x00\x83\x00\x81\x00m", 13);
+    shorten(DZ_TAGS, "\x03\x01\x01\x00", 4);
+    shorten(22, "", 0);
     return 0;
 }

@@ -1,2 +1,3 @@
 pub mod Assembled
 pub mod Listing
+pub mod Shortened

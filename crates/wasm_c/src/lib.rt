@@ -1,4 +1,5 @@
-//! The encoder and the reader for programs in C and Rust: recipes are assembled, and the sections of modules are listed.
+//! The encoder and the reader for programs in C and Rust: recipes are assembled, the sections of modules are listed, and sections are written as shortly
+//! as can be.
 //!
 //! Slices are handed over as a pointer and a length. A function answers how many bytes or sections there are, and copies them to the front of
 //! `out` where it has room for all of them; where there is no answer it is [`NO_ANSWER`], and `out` is as it was.
@@ -6,6 +7,7 @@
 
 mod listing;
 mod recipes;
+mod shortest;
 #[cfg(test)]
 mod tests;
 

@@ -20,7 +20,7 @@ pub struct DzSection {
 }
 
 /// The number of a fault.
-fn number_of(fault: ReadFault) -> u32
+pub(crate) fn number_of(fault: ReadFault) -> u32
     ensures { result ≡ fault_number fault }
 {
     match fault {

@@ -24,7 +24,7 @@ fn number_of(cause: RecipeCause) -> u32
 }
 
 /// Copies the bytes to the front of `out`, where it has room for them, and answers how many they are.
-fn copied(bytes: &[u8], out: &mut [u8]) -> u64
+pub(crate) fn copied(bytes: &[u8], out: &mut [u8]) -> u64
     ensures { Gives bytes.now out.old out.new result }
 {
     let count = bytes.len();

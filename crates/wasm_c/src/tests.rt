@@ -2,6 +2,7 @@
 use crate::NO_ANSWER;
 use crate::listing::{DzSection, dz_list};
 use crate::recipes::dz_assemble;
+use crate::shortest::dz_shorten;
 use std::alloc::Global;
 use std::process::Abort;
 
@@ -73,4 +74,34 @@ fn lists(rt: HostRuntime) {
     check_list(&rt, alloc, &[], &mut room, (NO_ANSWER, 0, 1));
     check_section(&rt, room[0], (77, 7, 7));
     check_list(&rt, alloc, MODULE, &mut [], (1, 0, 0));
+}
+
+/// What a section of a kind is answered: how many bytes its shortest text has, how many it takes and the cause, and what stands in the room then.
+fn check_text(
+    rt: &impl Abort,
+    alloc: Global,
+    kind: u32,
+    bytes: &[u8],
+    room: &mut [u8],
+    expected: (u64, u64, u32),
+    left: &[u8],
+) {
+    let mut taken = 7;
+    let mut cause = 7;
+    let answer = dz_shorten(alloc, kind, bytes, room, &mut taken, &mut cause);
+    assert_eq!(rt; (answer, taken, cause), expected);
+    assert_eq!(rt; &*room, left);
+}
+
+#[test]
+fn shortest_texts(rt: HostRuntime) {
+    let alloc = rt.alloc();
+    let padded: &[u8] = &[0x86, 0x00, 0x01, 0x85, 0x80, 0x80, 0x80, 0x00, 0x99];
+    check_text(&rt, alloc, 5, padded, &mut [9; 4], (3, 8, 0), &[2, 1, 5, 9]);
+    check_text(&rt, alloc, 5, padded, &mut [9; 2], (3, 8, 0), &[9; 2]);
+    check_text(&rt, alloc, 21, padded, &mut [9; 8], (7, 8, 0), &[6, 1, 0x85, 0x80, 0x80, 0x80, 0, 9]);
+    check_text(&rt, alloc, 5, &padded[..7], &mut [9; 3], (NO_ANSWER, 0, 1), &[9; 3]);
+    check_text(&rt, alloc, 11, &[3, 1, 1, 0], &mut [9; 3], (NO_ANSWER, 0, 4), &[9; 3]);
+    check_text(&rt, alloc, 22, padded, &mut [9; 3], (NO_ANSWER, 0, 9), &[9; 3]);
+    check_text(&rt, alloc, 5, &[], &mut [], (NO_ANSWER, 0, 1), &[]);
 }

@@ -1,4 +1,4 @@
-//! Assembles recipes, and lists what the modules hold.
+//! Assembles recipes, lists what the modules hold, and shortens padded sections.
 
 const NO_ANSWER: u64 = u64::MAX;
 
@@ -13,7 +13,14 @@ struct Section {
 unsafe extern "C" {
     fn dz_assemble(recipe: *const u8, recipe_len: usize, out: *mut u8, out_len: usize, line: *mut u64, cause: *mut u32) -> u64;
     fn dz_list(module: *const u8, module_len: usize, out: *mut Section, out_len: usize, place: *mut u64, cause: *mut u32) -> u64;
+    fn dz_shorten(kind: u32, bytes: *const u8, bytes_len: usize, out: *mut u8, out_len: usize, taken: *mut u64, cause: *mut u32) -> u64;
 }
+
+// Kinds of sections; the header names them all.
+const FUNCTIONS: u32 = 5;
+const GLOBALS: u32 = 6;
+const TAGS: u32 = 11;
+const NAMES: u32 = 12;
 
 /// The module of a recipe in so much room, or how many bytes it has, or the line and the cause of its first fault.
 enum Answer {
@@ -79,6 +86,28 @@ fn assemble(recipe: &[u8], room: usize) {
     }
 }
 
+/// The shortest text of the section of a kind, and how many bytes that takes; or the cause. The text is no longer than the bytes.
+fn shortened(kind: u32, bytes: &[u8]) -> Result<(Vec<u8>, u64), u32> {
+    let (mut out, mut taken, mut cause) = (vec![0; bytes.len()], 0, 0);
+    // SAFETY: as above.
+    let size = unsafe { dz_shorten(kind, bytes.as_ptr(), bytes.len(), out.as_mut_ptr(), out.len(), &mut taken, &mut cause) };
+    if size == NO_ANSWER {
+        return Err(cause);
+    }
+    out.truncate(size as usize);
+    Ok((out, taken))
+}
+
+fn shorten(kind: u32, bytes: &[u8]) {
+    match shortened(kind, bytes) {
+        Ok((text, taken)) => {
+            let digits: String = text.iter().map(|byte| format!(" {byte:02x}")).collect();
+            println!("{taken}:{digits}");
+        }
+        Err(cause) => println!("cause {cause}"),
+    }
+}
+
 fn main() {
     let module = b"type 60027f7f017f\nfunc 0\nexport f func 0\nbody 200020016a0b";
     assemble(module, 256);
@@ -89,4 +118,10 @@ fn main() {
     assemble(b"\xFF", 256);
     list(b"\0asm\x01\0\0\0\x03\x01\x00\x00\x01\x05");
     list(b"\0asm");
+    shorten(FUNCTIONS, b"\x86\x00\x01\x85\x80\x80\x80\x00");
+    shorten(GLOBALS, b"\x0A\x01\x7F\x00\x41\xFF\xFF\xFF\xFF\x7F\x0B");
+    shorten(NAMES, b"\x0C\x84\x00name\x00\x83\x00\x82\x00m");
+    shorten(NAMES, b"\x0C\x84\x00name\x00\x83\x00\x81\x00m");
+    shorten(TAGS, b"\x03\x01\x01\x00");
+    shorten(22, b"");
 }

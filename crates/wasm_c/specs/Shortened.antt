@@ -1,0 +1,49 @@
+-- What is answered of the shortest text of a section.
+use Rattle.std.specs.Prelude.{◌≡◌, ◌≢◌, ℕ, List, [], ◌∷◌, Option, Some, None, ◌⊎◌}
+use Rattle.std.specs.List.{slice_get}
+use Rattle.wasm_base.specs.Numbers.{wide}
+use Rattle.wasm_base.specs.Reading.{ReadsNothing}
+use Rattle.wasm_reader_base.specs.declared.fault.ReadFault.{ReadFault}
+use Rattle.wasm_reader_base.specs.declared.fault.ReadFault.TheVariants.{Memory}
+use Rattle.wasm_reader.specs.Sections.{section, Shortens}
+use Rattle.wasm_reader.specs.declared.section.SectionKind.{SectionKind}
+use Rattle.wasm_reader.specs.declared.section.SectionKind.TheVariants.{Bodies, Segments, DataCount, Elements, Exports, Functions, Globals, Imports, Memories, Start, Tables, Tags, Names, Linking, Producers, Hints, Core, CoreModules, CoreInstances, CoreStack, Custom, Raw}
+use Rattle.wasm_c.specs.Assembled.{Gives}
+use Rattle.wasm_c.specs.Listing.{fault_number}
+use Rattle.wasm_c.specs.declared.TheConstants.{NO_ANSWER}
+
+-- the kinds, in the order of their numbers
+abbrev pub kinds_in_order : List SectionKind
+kinds_in_order =
+    Bodies ∷ Segments ∷ DataCount ∷ Elements ∷ Exports ∷ Functions ∷ Globals ∷ Imports ∷ Memories ∷ Start ∷ Tables ∷ Tags
+    ∷ Names ∷ Linking ∷ Producers ∷ Hints ∷ Core ∷ CoreModules ∷ CoreInstances ∷ CoreStack ∷ Custom ∷ Raw ∷ []
+
+-- the kind of a number, counted from 0
+abbrev pub kind_numbered : ℕ → Option SectionKind
+kind_numbered n = slice_get kinds_in_order n
+
+-- A section of the kind stands at the front, and this is its shortest text.
+pub record Shortened (number : ℕ) (bytes old new : List ℕ) (taken cause n : ℕ) : Type 0 where
+  pub kind : SectionKind
+  pub numbered : kind_numbered number ≡ Some kind
+  pub text : List ℕ
+  pub shortens : Shortens kind bytes taken [] text
+  pub gives : Gives text old new n
+  pub no_cause : cause ≡ 0
+
+-- No kind has the number; or no section of the kind stands at the front, for a fault of this number, or memory was refused.
+abbrev pub IsWhy : ℕ → List ℕ → ℕ → Type 0
+IsWhy number bytes cause =
+    ((cause ≡ 9) × (kind_numbered number ≡ None))
+    ⊎ ((kind : SectionKind) × (fault : ReadFault) × (kind_numbered number ≡ Some kind) × (cause ≡ fault_number fault) × (fault ≢ Memory → ReadsNothing (section kind) wide bytes))
+
+-- There is no text, and nothing was written.
+pub record Refuses (number : ℕ) (bytes old new : List ℕ) (taken cause n : ℕ) : Type 0 where
+  pub answer : n ≡ NO_ANSWER
+  pub kept : new ≡ old
+  pub none_taken : taken ≡ 0
+  pub why : IsWhy number bytes cause
+
+-- what is answered of a section of a kind
+abbrev pub Outcome : ℕ → List ℕ → List ℕ → List ℕ → ℕ → ℕ → ℕ → Type 0
+Outcome number bytes old new taken cause n = Refuses number bytes old new taken cause n ⊎ Shortened number bytes old new taken cause n
