@@ -13,6 +13,6 @@ pub use alone::{encode_exports, encode_group, encode_import, encode_local, encod
 pub use filled::filled_module;
 pub use first::first_module;
 pub use names::named_module;
-pub use padded::{encode_padded_body, encode_padded_globals, encode_padded_names};
+pub use padded::{encode_padded_body, encode_padded_globals, encode_padded_names, padded_module};
 pub use recursion::{choice, factorial};
 pub use whole::whole_module;

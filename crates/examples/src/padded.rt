@@ -1,17 +1,17 @@
 // Sections of entries that are spelled already, with padded numbers.
-ghost use Rattle.std.specs.Prelude.{[], ◌∷◌, OnOk, pos, neg_ℤ};
+ghost use Rattle.std.specs.Prelude.{[], ◌∷◌, IfOk, OnOk, pos, neg_ℤ};
 ghost use Rattle.wasm_base.specs.Entries.{counted_format};
 ghost use Rattle.wasm_base.specs.Formats.{frame};
-ghost use Rattle.wasm_base.specs.Modules.{GainsReadingWide};
-ghost use Rattle.wasm_code.specs.Code.{code_section};
+ghost use Rattle.wasm_base.specs.Modules.{ReadsSections, GainsReadingWide};
+ghost use Rattle.wasm_code.specs.Code.{code_section, wide_code_reading};
 ghost use Rattle.wasm_custom.specs.Names.{Map};
 ghost use Rattle.wasm_custom.specs.Readings.{name_payload};
 ghost use Rattle.wasm_sections.specs.Globals.{global_item};
-ghost use Rattle.examples.specs.Bodies.{local_body};
+ghost use Rattle.examples.specs.Bodies.{first_body, local_body};
 ghost use Rattle.examples.specs.Padded.{bare_body, number};
 
 use std::alloc::Allocator;
-use wasm_base::{Encode, R, ValType};
+use wasm_base::{Encode, Module, R, ValType};
 use wasm_code::{CodeSection, ConstExpr, Function};
 use wasm_custom::NameSection;
 use wasm_insn::Instruction;
@@ -55,4 +55,18 @@ pub fn encode_padded_names<A: Allocator + Copy>(sink: &mut Vec<u8, A>) -> R<()>
     let mut names = NameSection::new(*sink.allocator());
     names.raw(1, &[0x01, 0x80, 0x00, 0x01, 0x61])?;
     names.encode(sink)
+}
+
+/// A module of a code section of a body whose number of runs is padded, and of a function of one local.
+pub fn padded_module<A: Allocator + Copy>(alloc: A) -> R<Vec<u8, A>>
+    ensures { IfOk result (λ bytes. ReadsSections (wide_code_reading (bare_body ∷ first_body ∷ []) ∷ []) bytes.items) }
+{
+    let mut function = Function::new(alloc, [(1, ValType::I32)])?;
+    function.instruction(&Instruction::End)?;
+    let mut code = CodeSection::new(alloc);
+    code.raw(&[0x80, 0x00, 0x0B])?;
+    code.function(&function)?;
+    let mut module = Module::new(alloc)?;
+    module.section(&code)?;
+    Ok(module.finish())
 }

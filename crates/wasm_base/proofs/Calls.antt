@@ -1,5 +1,5 @@
 -- What calls leave, step by step: lemmas that a caller cites.
-use Rattle.std.proofs.Common.{◌≡◌, ℕ, zero, suc, ◌<◌, List, [], ◌∷◌, ◌++◌, Bool, true, ltb, ◌&&◌, slice_index, IsUtf8, Result, Ok, Err, arith, refl, sym, subst}
+use Rattle.std.proofs.Common.{◌≡◌, ℕ, zero, suc, ◌<◌, List, [], ◌∷◌, ◌++◌, Bool, true, ltb, ◌&&◌, slice_index, map, IsUtf8, Result, Ok, Err, arith, refl, sym, subst}
 use Rattle.std.proofs.lemmas.Bool.{ltb-true, and_parts}
 use Rattle.std.proofs.lemmas.List.Elements.{All-head, All-tail}
 use Rattle.std.proofs.lemmas.Str.{IsUtf8-from_ascii}
@@ -7,15 +7,15 @@ use Rattle.std.specs.List.{All, AllByRecursion}
 use Rattle.std.specs.Prelude.{OnOk}
 use Rattle.std.specs.declared.vec.Vec.{Vec}
 use Rattle.wasm_base.specs.declared.refused.Refused.{Refused}
-use Rattle.wasm_base.specs.Calls.{Appends, ReadsOneMore, ReadsBack, ReadsBackBoth}
+use Rattle.wasm_base.specs.Calls.{AddsEach, Appends, ReadsOneMore, ReadsBack, ReadsBackBoth}
 use Rattle.wasm_base.specs.Entries.{HoldsItems, HoldsWide}
 use Rattle.wasm_base.specs.Laws.{HoldsMoreWide}
 use Rattle.wasm_base.specs.Numbers.{wide}
 use Rattle.wasm_base.specs.Formats.{Format, any_bytes, frame, wasm_module}
-use Rattle.wasm_base.specs.Modules.{SectionReading, reading_of, raw_reading, AreRead, ReadsSections, ReadsPayloads, GainsReadingWide}
-use Rattle.wasm_base.specs.Reading.{ReadsAlone, ReadsWhole}
+use Rattle.wasm_base.specs.Modules.{SectionReading, reading_of, wide_reading_of, raw_reading, AreRead, ReadsSections, ReadsPayloads, GainsReadingWide}
+use Rattle.wasm_base.specs.Reading.{ReadsAlone, ReadsAloneWide, ReadsWhole}
 use Rattle.wasm_base.specs.Texts.{IsFrameOf, frame_text, FrameFits, raw_framed}
-use Rattle.wasm_base.proofs.Payloads.{bytes-payload}
+use Rattle.wasm_base.proofs.Payloads.{bytes-payload, payload-reads-wide}
 
 are_read-more : (readings : List SectionReading) (sections : List (ℕ × List ℕ)) (reading : SectionReading) (section : ℕ × List ℕ) → AreRead readings sections → section.0 ≡ reading.0 → reading.1 section.1
     → AreRead (readings ++ reading ∷ []) (sections ++ section ∷ [])
@@ -82,6 +82,21 @@ pub adds_item_wide : {Record Item : Type 0} {text : Record → List ℕ} {IsPlai
     → HoldsMoreWide text IsPlain IsPlainWide normal_form F → HoldsWide F old items → (given : Record) → new ≡ old ++ text given ∷ [] → IsPlainWide given → HoldsWide F new (items ++ normal_form given ∷ [])
 adds_item_wide {normal_form = normal_form} {F = F} {old = old} {items = items} law before given e plain =
     subst (λ entries. HoldsWide F entries (items ++ normal_form given ∷ [])) (sym e) (law.given old items given before plain)
+
+-- all items of a list
+pub adds_items_wide : {Record Item : Type 0} {text : Record → List ℕ} {IsPlain IsPlainWide : Record → Type 0} {normal_form : Record → Item} {F : Format Item} {Fits : Record → Type 0} {old new : List (List ℕ)} {items : List Item} {given : List Record}
+    → HoldsMoreWide text IsPlain IsPlainWide normal_form F → HoldsWide F old items → AddsEach text Fits given old new → AllByRecursion IsPlainWide given → HoldsWide F new (items ++ map normal_form given)
+adds_items_wide {normal_form = normal_form} {F = F} {old = old} {items = items} {given = given} law before added plain =
+    subst (λ entries. HoldsWide F entries (items ++ map normal_form given)) (sym added.is) (law.all old items given before plain)
+
+-- a module and one more section, whose text frames the payload and is read with padded numbers as x alone
+pub gains_section_wide : {readings : List SectionReading} {Payload : List ℕ → Type 0} {id : ℕ} {old new : List ℕ} {X : Type 0} {F : Format X} → ReadsSections readings old → ReadsOneMore Payload id old new
+    → (text payload : List ℕ) → Payload payload → IsFrameOf text payload → (x : X) → ReadsAloneWide (frame F) text x → ReadsSections (readings ++ wide_reading_of id F x ∷ []) new
+gains_section_wide {readings = readings} {id = id} {F = F} before more text payload pays framed x alone = record {
+  sections = before.sections ++ (id, payload) ∷ [];
+  read = more.for_each before.sections payload before.read pays;
+  payloads = are_read-more readings before.sections (wide_reading_of id F x) (id, payload) before.payloads refl (payload-reads-wide F text payload x framed alone);
+}
 
 -- a section that a buffer has gained
 pub encodes_wide : {A X : Type 0} (F : Format X) (Says SaysWide : X → Type 0) {text : List ℕ} {fits : Type 0} {old new : Vec ℕ A} {result : Result (Unit {0}) Refused} {x : X} → Appends text fits old new result

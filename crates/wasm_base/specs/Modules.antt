@@ -1,7 +1,7 @@
 -- What the sections of a module are read as.
 use Rattle.std.specs.Prelude.{◌≡◌, ℕ, List, [], ◌∷◌, ◌++◌, ⊤}
 use Rattle.wasm_base.specs.Formats.{Format, any_bytes, frame, wasm_module}
-use Rattle.wasm_base.specs.Reading.{ReadsAlone, ReadsAloneWide, ReadsWhole}
+use Rattle.wasm_base.specs.Reading.{ReadsAlone, ReadsAloneWide, ReadsWhole, ReadsWholeWide}
 use Rattle.wasm_base.specs.Texts.{IsFrameOf}
 
 -- a section as a reader finds it: its id, and what holds of its payload
@@ -11,6 +11,10 @@ SectionReading = ℕ × (List ℕ → Type 0)
 -- the section of this id, whose payload is read as x alone
 abbrev pub reading_of : {X : Type 0} → ℕ → Format X → X → SectionReading
 reading_of id F x = (id, λ payload. ReadsWhole F payload x)
+
+-- the section of this id, whose payload is read with padded numbers as x alone
+abbrev pub wide_reading_of : {X : Type 0} → ℕ → Format X → X → SectionReading
+wide_reading_of id F x = (id, λ payload. ReadsWholeWide F payload x)
 
 -- the section of this id, whose payload is these bytes
 abbrev pub raw_reading : ℕ → List ℕ → SectionReading

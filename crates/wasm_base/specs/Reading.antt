@@ -32,6 +32,11 @@ pub record ReadsAloneWide {X : Type 0} (F : Format X) (text : List ℕ) (x : X) 
   pub spelled : F wide text x
   pub alone : (after : List ℕ) (y : X) (rest : List ℕ) → Reads F wide (text ++ after) y rest → (y ≡ x) × (rest ≡ after)
 
+-- The same of a format whose spellings reach to the last byte.
+pub record ReadsWholeWide {X : Type 0} (F : Format X) (text : List ℕ) (x : X) : Type 0 where
+  pub spelled : F wide text x
+  pub alone : (y : X) → F wide text y → y ≡ x
+
 -- ---- all texts of a format
 
 -- One value stands at the front of bytes, and its spelling ends in one place.

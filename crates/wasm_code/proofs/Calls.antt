@@ -18,7 +18,7 @@ use Rattle.wasm_base.specs.Modules.{SectionReading, ReadsSections, GainsReading,
 use Rattle.wasm_base.specs.Numbers.{Mode, shortest, wide}
 use Rattle.wasm_base.specs.Pieces.{SectionPayload, SectionFits, section_text, section_framed}
 use Rattle.wasm_base.specs.Texts.{longest, VecFits, frame_text, FrameFits}
-use Rattle.wasm_base.proofs.Calls.{gains_section}
+use Rattle.wasm_base.proofs.Calls.{gains_section, gains_section_wide}
 use Rattle.wasm_base.proofs.KnownLengths.{array_items}
 use Rattle.wasm_insn.specs.declared.instruction.Instruction.{Instruction}
 use Rattle.wasm_insn.specs.Plain.{Plain, instruction as instruction_format}
@@ -32,7 +32,7 @@ use Rattle.wasm_insn.specs.declared.part.Part.TheVariants as parts
 use Rattle.wasm_insn.proofs.InstructionLaws.{br_table_spelled, byte_spelled, one_argument}
 use Rattle.wasm_insn.proofs.TableRuns.{byte_shape}
 use Rattle.wasm_code.specs.Bodies.{Run, IsRun, IsRuns, expand, Body, body as body_format, IsPlainBody, IsWideBody, and_then, Grows, HasLocals, BeginsWithRuns, BeginsWithTypes}
-use Rattle.wasm_code.specs.Code.{code_section, HoldsBodies, SpellsBodiesIn, SpellsBodies, SpellsBodiesWide, ReadsCode, raw_code_reading, code_reading}
+use Rattle.wasm_code.specs.Code.{code_section, HoldsBodies, SpellsBodiesIn, SpellsBodies, SpellsBodiesWide, ReadsCode, raw_code_reading, code_reading, wide_code_reading}
 use Rattle.wasm_base.specs.Formats.{such}
 use Rattle.wasm_code.specs.Expressions.{IsNoEnd, StoresInstructions, StoresWide, Stores, normal_row}
 use Rattle.wasm_code.specs.Laws.{HoldsMoreBodies, GrowsByText, GrowsByLabels, br_table_row, HoldsMoreBodiesWide, GrowsWide, GrowsByTextWide, StoresMoreWide}
@@ -206,6 +206,17 @@ spells_wide {bodies = bodies} before = record { raw = before.raw; held = before.
 pub adds_body_wide : {old new : List (List ℕ)} {raw : List ℕ} {bodies : List Body} {x : Body} → SpellsBodiesWide old bodies → new ≡ old ++ frame_text raw ∷ [] → IsWideBody raw x → SpellsBodiesWide new (bodies ++ x ∷ [])
 adds_body_wide {old = old} {new = new} {raw = raw} {bodies = bodies} {x = x} before e spelled =
     subst (λ es. SpellsBodiesWide es (bodies ++ x ∷ [])) (sym e) (all_bodies wide old bodies (raw ∷ []) (x ∷ []) before (spelled, tt))
+
+-- all functions of a list
+pub adds_bodies_wide : {old new raw : List (List ℕ)} {bodies : List Body} → SpellsBodiesWide old bodies → AddsEach frame_text FrameFits raw old new → (xs : List Body) → AllZip IsWideBody raw xs → SpellsBodiesWide new (bodies ++ xs)
+adds_bodies_wide {old = old} {raw = raw} {bodies = bodies} before added xs spelled =
+    subst (λ es. SpellsBodiesWide es (bodies ++ xs)) (sym added.is) (all_bodies wide old bodies raw xs before spelled)
+
+-- a module and a code section of these bodies
+pub gains_code_wide : {readings : List SectionReading} {id : ℕ} {old new : List ℕ} {entries : List (List ℕ)} {bodies : List Body} → ReadsSections readings old → ReadsOneMore (SectionPayload entries) id old new
+    → SectionFits entries → ReadsCode entries (section_text entries) → SpellsBodiesWide entries bodies → ReadsSections (readings ++ (id, (wide_code_reading bodies).1) ∷ []) new
+gains_code_wide {entries = entries} {bodies = bodies} before more fits reads spelled =
+    gains_section_wide {F = vec (frame body_format)} before more (section_text entries) _ refl (section_framed entries _ fits refl) bodies (reads.wide.for_each bodies spelled)
 
 -- a code section that a buffer has gained
 pub encodes_code_wide : {A : Type 0} {fits : Type 0} {entries : List (List ℕ)} {old new : Vec ℕ A} {result : Result (Unit {0}) Refused} {bodies : List Body} → Appends (section_text entries) fits old new result

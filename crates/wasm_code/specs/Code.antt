@@ -3,7 +3,7 @@ use Rattle.std.specs.Prelude.{◌≡◌, ℕ, List, map}
 use Rattle.std.specs.List.{AllZip}
 use Rattle.wasm_base.specs.Calls.{ReadsBack, ReadsBackWide}
 use Rattle.wasm_base.specs.Formats.{Format, any_bytes, frame, vec}
-use Rattle.wasm_base.specs.Modules.{SectionReading, reading_of}
+use Rattle.wasm_base.specs.Modules.{SectionReading, reading_of, wide_reading_of}
 use Rattle.wasm_base.specs.Numbers.{Mode, shortest, wide}
 use Rattle.wasm_base.specs.SectionId.{number_of}
 use Rattle.wasm_base.specs.Texts.{frame_text}
@@ -42,9 +42,12 @@ pub record ReadsCode (entries : List (List ℕ)) (text : List ℕ) : Type 0 wher
   pub bodies : ReadsBack code_section (SpellsBodies entries) text
   pub wide : ReadsBackWide code_section (SpellsBodiesWide entries) text
 
--- a code section as a reader finds it: of raw bodies, and of bodies
+-- a code section as a reader finds it: of raw bodies, of bodies, and of bodies with padded numbers
 abbrev pub raw_code_reading : List (List ℕ) → SectionReading
 raw_code_reading bodies = reading_of (number_of ids.Code) (vec (frame any_bytes)) bodies
 
 abbrev pub code_reading : List Body → SectionReading
 code_reading bodies = reading_of (number_of ids.Code) (vec (frame body)) bodies
+
+abbrev pub wide_code_reading : List Body → SectionReading
+wide_code_reading bodies = wide_reading_of (number_of ids.Code) (vec (frame body)) bodies

@@ -12,11 +12,11 @@ use Rattle.wasm_base.specs.Calls.{Appends, ReadsOneMore, ReadsBack, ReadsBackBot
 use Rattle.wasm_base.specs.Entries.{HoldsItems, HoldsWide}
 use Rattle.wasm_base.specs.Formats.{Format, frame, name, pair, any_bytes, custom}
 use Rattle.wasm_base.specs.Laws.{FitsUnsigned}
-use Rattle.wasm_base.specs.Modules.{SectionReading, reading_of, ReadsSections, ReadsPayloads, GainsReading}
+use Rattle.wasm_base.specs.Modules.{SectionReading, reading_of, wide_reading_of, ReadsSections, ReadsPayloads, GainsReading}
 use Rattle.wasm_base.specs.Numbers.{wide, unsigned_text}
 use Rattle.wasm_base.specs.Texts.{IsFrameOf, longest, frame_text, FrameFits, vec_text, VecFits}
 use Rattle.wasm_base.specs.declared.refused.Refused.{Refused}
-use Rattle.wasm_base.proofs.Calls.{gains_section, adds_raw_wide}
+use Rattle.wasm_base.proofs.Calls.{gains_section, gains_section_wide, adds_raw_wide}
 use Rattle.wasm_base.proofs.HeldLaws.{holds_more}
 use Rattle.wasm_base.proofs.KnownLengths.{array_items}
 use Rattle.wasm_base.proofs.Payloads.{custom-payload}
@@ -238,6 +238,13 @@ pub gains_names : {readings : List SectionReading} {id : ℕ} {old new : List �
     → ReadsOneMore (NamedPayload name_name (entries_text [] false entries)) id old new → NamedFits name_name (entries_text [] false entries) → ReadsBackBoth (frame name_payload) (HoldsNames entries) (HoldsWide subsection entries) (named_text name_name (entries_text [] false entries))
     → HoldsNames entries items → ReadsSections (readings ++ reading_of id name_payload items ∷ []) new
 gains_names before more fits reads holds = gains_custom name-payload before _ more fits reads.plain holds
+
+pub gains_names_wide : {readings : List SectionReading} {id : ℕ} {old new : List ℕ} {entries : List (List ℕ)} {items : List NameItem} → ReadsSections readings old
+    → ReadsOneMore (NamedPayload name_name (entries_text [] false entries)) id old new → NamedFits name_name (entries_text [] false entries) → ReadsBackBoth (frame name_payload) (HoldsNames entries) (HoldsWide subsection entries) (named_text name_name (entries_text [] false entries))
+    → HoldsWide subsection entries items → ReadsSections (readings ++ wide_reading_of id name_payload items ∷ []) new
+gains_names_wide {entries = entries} {items = items} before more fits reads holds =
+    let content = entries_text [] false entries in
+    gains_section_wide {F = name_payload} before more (named_text name_name content) (frame_text name_name ++ content) refl (named_framed name_name content (frame_text name_name ++ content) fits refl) items (reads.wide.for_each items holds)
 
 pub gains_linking : {readings : List SectionReading} {id : ℕ} {old new : List ℕ} {entries : List (List ℕ)} {items : List LinkItem} → ReadsSections readings old
     → ReadsOneMore (NamedPayload linking_name (entries_text (version ∷ []) false entries)) id old new → NamedFits linking_name (entries_text (version ∷ []) false entries) → ReadsBackBoth (frame linking_payload) (HoldsLinks entries) (HoldsWide link entries) (named_text linking_name (entries_text (version ∷ []) false entries))

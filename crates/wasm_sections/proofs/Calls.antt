@@ -18,13 +18,13 @@ use Rattle.wasm_base.specs.Entries.{HoldsItems, HoldsWide, counted_format}
 use Rattle.wasm_base.specs.Formats.{Format, u32, vec, frame}
 use Rattle.wasm_base.specs.Laws.{NameFits, HoldsMoreWide}
 use Rattle.wasm_insn.specs.Plain.{Plain}
-use Rattle.wasm_base.specs.Modules.{SectionReading, reading_of, ReadsSections, ReadsPayloads, GainsReading, GainsReadingWide}
+use Rattle.wasm_base.specs.Modules.{SectionReading, reading_of, wide_reading_of, ReadsSections, ReadsPayloads, GainsReading, GainsReadingWide}
 use Rattle.wasm_base.specs.Numbers.{shortest, unsigned_text}
 use Rattle.wasm_base.specs.Pieces.{SectionPayload, SectionFits, section_text, section_framed}
 use Rattle.wasm_base.specs.Texts.{frame_text, FrameFits, VecFits, raw_framed}
 use Rattle.wasm_base.specs.Types.{IsRef}
 use Rattle.wasm_base.specs.declared.types.RefType.{RefType}
-use Rattle.wasm_base.proofs.Calls.{gains_section, adds_item_wide, encodes_wide}
+use Rattle.wasm_base.proofs.Calls.{gains_section, gains_section_wide, adds_item_wide, encodes_wide}
 use Rattle.wasm_base.proofs.KnownLengths.{array_items, copied_items}
 use Rattle.wasm_base.proofs.Payloads.{u32-payload}
 use Rattle.wasm_base.proofs.TextLaws.{u32_spelled, name_spelled}
@@ -197,6 +197,13 @@ adds_element_wide {old = old} {new = new} before given e plain = adds_item_wide 
 pub adds_active_wide : {old new : List (List ℕ)} {items : List DataItem} → HoldsWide data_item old items → (memory : ℕ) (is : List Plain) (offset bytes : List ℕ) → new ≡ old ++ active_text memory offset bytes ∷ [] → memory < 2 ^ 32
     → StoresWide offset is → HoldsWide data_item new (items ++ active memory is bytes ∷ [])
 adds_active_wide before memory is offset bytes e range stored = adds_item_wide data-wide before (given_active memory (record { bytes = offset; instructions = is }) bytes) e (range, stored)
+
+-- a module and one more section
+pub gains_items_wide : {Record Item : Type 0} {text : Record → List ℕ} {IsPlain IsPlainWide : Record → Type 0} {normal_form : Record → Item} {F : Format Item} {readings : List SectionReading} {id : ℕ} {old new : List ℕ} {entries : List (List ℕ)} {items : List Item}
+    → HoldsMoreWide text IsPlain IsPlainWide normal_form F → ReadsSections readings old → ReadsOneMore (SectionPayload entries) id old new → SectionFits entries
+    → ReadsBackBoth (counted_format F) (HoldsItems text IsPlain normal_form F entries) (HoldsWide F entries) (section_text entries) → HoldsWide F entries items → ReadsSections (readings ++ wide_reading_of id (vec F) items ∷ []) new
+gains_items_wide {F = F} {entries = entries} {items = items} law before more fits reads holds =
+    gains_section_wide {F = vec F} before more (section_text entries) _ refl (section_framed entries _ fits refl) items (reads.wide.for_each items holds)
 
 -- a section that a buffer has gained
 pub encodes_items_wide : {A Record Item : Type 0} {text : Record → List ℕ} {IsPlain IsPlainWide : Record → Type 0} {normal_form : Record → Item} {F : Format Item} {fits : Type 0} {entries : List (List ℕ)} {old new : Vec ℕ A} {result : Result (Unit {0}) Refused} {items : List Item}
