@@ -345,16 +345,6 @@ pub(crate) fn read_arguments<'a, A: Allocator + Copy>(
     Ok((args, rest))
 }
 
-/// Takes all arguments out of the list. Many instructions have none.
-fn empty<A: Allocator>(args: &mut Vec<Arg<A>, A>)
-    ensures { args.new.items ≡ [] }
-{
-    if args.is_empty() {
-        return;
-    }
-    args.clear();
-}
-
 /// The arguments that follow an op of the shape, in the memory of the list, which loses what it had.
 #[tactic(auto, using(crate::proofs::ReadArguments::shape_steps))]
 pub(crate) fn read_arguments_into<'a, A: Allocator + Copy>(
@@ -366,6 +356,6 @@ pub(crate) fn read_arguments_into<'a, A: Allocator + Copy>(
     ensures found { IfOk result (λ rest. Reads (arguments (parts_of shape)) wide bytes.now (map argument_of args.new.items) rest.now) }
     ensures none { IfErr result (λ e. e ≢ Memory → ReadsNothing (arguments (parts_of shape)) wide bytes.now) }
 {
-    empty(args);
+    args.clear();
     read_parts(shape.parts(), bytes, alloc, args)
 }
