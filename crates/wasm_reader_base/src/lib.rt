@@ -13,11 +13,13 @@ mod names;
 mod numbers;
 mod optional;
 mod readable;
+mod shorten;
 mod tuples;
 mod types;
 mod vectors;
 
 pub use fault::ReadFault;
-pub use frames::{Filled, Framed};
+pub use frames::{Filled, Framed, frame_since};
 pub use optional::read_optional;
 pub use readable::{Filling, Readable};
+pub use shorten::Shorten;
