@@ -2,6 +2,7 @@
 ghost use Rattle.std.specs.Prelude.{◌≡◌, ◌≤◌, ◌++◌, take, drop, vec_len, OnOk};
 ghost use Rattle.wasm_base.specs.Formats.{frame};
 ghost use Rattle.wasm_base.specs.Texts.{frame_text, FrameFits};
+ghost use Rattle.wasm_reader_base.specs.Shortest.{AppendsShortest};
 ghost use Rattle.wasm_base.proofs.FormatLaws.{frame-alone, whole_from_alone};
 
 use crate::fault::ReadFault;
@@ -68,6 +69,16 @@ pub fn frame_since<B: Allocator>(out: &mut Vec<u8, B>, start: usize) -> R<()>
     Ok(())
 }
 
+/// Appends the shortest text of the value in a frame.
+#[tactic(auto, using(crate::proofs::ShortTexts::frame_appended))]
+fn append_framed<T: Shorten, B: Allocator>(value: &T, out: &mut Vec<u8, B>) -> R<()>
+    ensures { OnOk result (AppendsShortest (frame T.format) (T.view value.now) out.old.items out.new.items) }
+{
+    let start = out.len();
+    value.append_shortest(out)?;
+    frame_since(out, start)
+}
+
 impl<T: Shorten> Shorten for Framed<T> {
     ghost Value = { T.Value };
 
@@ -75,11 +86,9 @@ impl<T: Shorten> Shorten for Framed<T> {
 
     ghost view = { λ f. T.view f.0 };
 
-    #[tactic(auto, using(crate::proofs::ShortTexts::frame_appended))]
     fn append_shortest<B: Allocator>(&self, out: &mut Vec<u8, B>) -> R<()> {
-        let start = out.len();
-        self.0.append_shortest(out)?;
-        frame_since(out, start)
+        let Framed(value) = self;
+        append_framed(value, out)
     }
 }
 
@@ -90,10 +99,8 @@ impl<T: Shorten> Shorten for Filled<T> {
 
     ghost view = { λ f. T.view f.0 };
 
-    #[tactic(auto, using(crate::proofs::ShortTexts::frame_appended))]
     fn append_shortest<B: Allocator>(&self, out: &mut Vec<u8, B>) -> R<()> {
-        let start = out.len();
-        self.0.append_shortest(out)?;
-        frame_since(out, start)
+        let Filled(content) = self;
+        append_framed(content, out)
     }
 }
