@@ -11,9 +11,11 @@ mod exports;
 mod globals;
 mod imports;
 mod item;
+pub mod laws;
 mod limits;
 mod modules;
 mod section;
+mod shortest;
 mod tables;
 mod tags;
 
@@ -22,4 +24,5 @@ pub use elements::{ElementItem, ElementItemMode, ElementList};
 pub use globals::GlobalItem;
 pub use modules::{Listed, list_module};
 pub use section::{Items, SectionKind, read_section};
+pub use shortest::shorten;
 pub use tables::TableItem;

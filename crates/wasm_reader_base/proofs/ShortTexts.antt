@@ -2,7 +2,7 @@
 use Rattle.std.proofs.Common.{◌≡◌, ℕ, ◌+◌, ◌<◌, ◌≤◌, List, [], ◌∷◌, ◌++◌, length, take, drop, get_or, map, refl, sym, ap, ap₂, subst, ◌∙◌, append_assoc, append-nil}
 use Rattle.std.proofs.lemmas.List.{drop_at, take_at, map-append, length-map, take_more, take_all}
 use Rattle.wasm_base.specs.Numbers.{shortest, wide, unsigned_text}
-use Rattle.wasm_base.specs.Formats.{Format, u32, mapped, Then, pair, tagged, members, vec, frame}
+use Rattle.wasm_base.specs.Formats.{Format, u32, fixed, mapped, Then, pair, prefixed, tagged, members, vec, frame}
 use Rattle.wasm_base.specs.Texts.{frame_text, FrameFits}
 use Rattle.wasm_base.proofs.TextLaws.{u32_spelled, frame_spelled}
 use Rattle.wasm_reader_base.specs.Shortest.{AppendsShortest}
@@ -38,6 +38,10 @@ module _ {X Y : Type 0} {x : X} {y : Y} {old middle new : List ℕ} where
             let is : h.0 ≡ (x, y) = λ i. (told h.2.back h.0.0 (subst (λ z. G h.0.0 wide h.2.back z) h.1 h.2.second) i, h.1 i) in
             ((x, y), refl, both.spelled s (subst (λ z. Then F G wide s z) is h.2));
       }
+
+-- Fixed bytes, and then a value.
+pub prefixed_appended : {X : Type 0} (head : List ℕ) (F : Format X) (x : X) (old middle new : List ℕ) → middle ≡ old ++ head → AppendsShortest F x middle new → AppendsShortest (prefixed head F) x old new
+prefixed_appended head F x old middle new e a = tagged_appended (fixed head (tt {0})) (λ u. F) (λ s z h. refl) (text_appended (fixed head (tt {0})) tt head old middle (λ s h. (refl, refl)) e) a
 
 -- The image of a value, by a function that keeps values apart.
 pub mapped_appended : {X Y : Type 0} (f : X → Y) (F : Format X) (x : X) (old new : List ℕ) → ((z : X) → f z ≡ f x → z ≡ x) → AppendsShortest F x old new → AppendsShortest (mapped f F) (f x) old new
