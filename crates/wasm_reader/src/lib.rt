@@ -1,7 +1,7 @@
 //! Reads sections, exactly: an answer is the items that the grammar reads there, with padded numbers too, and a cause other than
 //! [`ReadFault::Memory`] says that no reading exists.
 //!
-//! [`read_section`] reads a section of a [`SectionKind`], without its id, into [`Items`]. Custom sections are read as their names and
+//! [`read_section`] reads a section of a [`SectionKind`], without its id, into [`Items`], and [`shorten`] writes it in its fewest bytes. Custom sections are read as their names and
 //! data: what names, linking, producers, branch hint and core dump sections hold is not read yet.
 #![tactic(auto)]
 
@@ -11,9 +11,11 @@ mod exports;
 mod globals;
 mod imports;
 mod item;
+pub mod laws;
 mod limits;
 mod modules;
 mod section;
+mod shortest;
 mod tables;
 mod tags;
 
@@ -22,4 +24,5 @@ pub use elements::{ElementItem, ElementItemMode, ElementList};
 pub use globals::GlobalItem;
 pub use modules::{Listed, list_module};
 pub use section::{Items, SectionKind, read_section};
+pub use shortest::shorten;
 pub use tables::TableItem;

@@ -3,5 +3,7 @@ pub mod ReadFixed
 pub mod ReadFrames
 pub mod ReadImmediates
 pub mod ReadNumbers
+pub mod ReadPlain
 pub mod ReadTypes
 pub mod ReadVectors
+pub mod ShortTexts

@@ -2,7 +2,8 @@
 //! other than [`ReadFault::Memory`] says that no reading exists.
 //!
 //! What is read is a type with [`Readable`]: numbers, fixed bytes, names, frames, pairs, vectors, types and immediates here, and
-//! instructions and sections in the crates above. A content that reaches to the last byte of its frame has [`Filling`].
+//! instructions and sections in the crates above. A content that reaches to the last byte of its frame has [`Filling`], and what is
+//! written in its fewest bytes has [`Shorten`].
 #![tactic(auto)]
 
 mod fault;
@@ -13,11 +14,13 @@ mod names;
 mod numbers;
 mod optional;
 mod readable;
+mod shorten;
 mod tuples;
 mod types;
 mod vectors;
 
 pub use fault::ReadFault;
-pub use frames::{Filled, Framed};
+pub use frames::{Filled, Framed, frame_since};
 pub use optional::read_optional;
 pub use readable::{Filling, Readable};
+pub use shorten::Shorten;
