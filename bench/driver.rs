@@ -741,7 +741,7 @@ fn measure(name: &str, items: usize) {
     ]);
     let of_an_item = |time: f64| time / items as f64;
     println!(
-        "| {name} | {items} | {:.2} | {:.2} | {:.2} | {:.2} | {:.0} | {:.0} | {:.2} |",
+        "| {name} | {items} | {:.2} | {:.2} | {:.2} | {:.2} | {:.0} | {:.1} | {:.2} |",
         section.len() as f64 / items as f64,
         of_an_item(build),
         of_an_item(append),
@@ -750,6 +750,17 @@ fn measure(name: &str, items: usize) {
         append * copies as f64 / copy,
         of_an_item(straight),
     );
+}
+
+fn measure_all(names: &[impl AsRef<str>]) {
+    check_wrong_inputs();
+    println!("| workload | items | bytes | build | append | module | MB/s | to a copy | straight |");
+    println!("|---|---|---|---|---|---|---|---|---|");
+    for name in names {
+        for items in SIZES {
+            measure(name.as_ref(), items);
+        }
+    }
 }
 
 /// Runs a phase, or the straight encoder for the section or its entries, or nothing; and gives the number of bytes.
@@ -768,24 +779,14 @@ fn run_once(input: &Input, phase: &str) -> u64 {
 fn main() {
     let arguments: Vec<String> = env::args().skip(1).collect();
     match &arguments[..] {
-        [] => {
-            check_wrong_inputs();
-            println!(
-                "| workload | items | bytes | build | append | module | MB/s | to a copy | straight |"
-            );
-            println!("|---|---|---|---|---|---|---|---|---|");
-            for name in NAMES {
-                for items in SIZES {
-                    measure(name, items);
-                }
-            }
-        }
         [once, name, items, phase] if once == "once" => {
             let Ok(items) = items.parse() else {
                 fail("the number of items is a number");
             };
             println!("{}", run_once(&input(name, items), phase));
         }
-        _ => fail("usage: driver [once WORKLOAD ITEMS PHASE]"),
+        [] => measure_all(&NAMES),
+        names if names.iter().all(|name| NAMES.contains(&name.as_str())) => measure_all(names),
+        _ => fail("usage: driver [WORKLOAD..] or driver once WORKLOAD ITEMS PHASE"),
     }
 }
