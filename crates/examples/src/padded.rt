@@ -64,7 +64,7 @@ pub fn padded_module<A: Allocator + Copy>(alloc: A) -> R<Vec<u8, A>>
     let mut function = Function::new(alloc, [(1, ValType::I32)])?;
     function.instruction(&Instruction::End)?;
     let mut code = CodeSection::new(alloc);
-    code.raw(&[0x80, 0x00, 0x0B])?;
+    code.raw(&[0x80, 0x80, 0x00, 0x0B])?;
     code.function(&function)?;
     let mut module = Module::new(alloc)?;
     module.section(&code)?;

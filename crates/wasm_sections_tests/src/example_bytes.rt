@@ -2,7 +2,8 @@
 use crate::checks::{MOST, check_answer, check_bytes, check_sink};
 use examples::{
     choice, encode_exports, encode_group, encode_import, encode_local, encode_padded_body,
-    encode_padded_globals, encode_padded_names, factorial, first_module, whole_module,
+    encode_padded_globals, encode_padded_names, factorial, first_module, padded_module,
+    whole_module,
 };
 use std::alloc::Global;
 use std::process::Abort;
@@ -18,6 +19,12 @@ fn module_of_one_section(rt: HostRuntime) -> Result<(), Fail> {
         &rt,
         &first,
         b"\0asm\x01\0\0\0\x0A\x06\x01\x04\x01\x01\x7F\x0B",
+    );
+    let padded = padded_module(rt.alloc())?;
+    check_bytes(
+        &rt,
+        &padded,
+        b"\0asm\x01\0\0\0\x0A\x0B\x02\x04\x80\x80\0\x0B\x04\x01\x01\x7F\x0B",
     );
     Ok(())
 }

@@ -11,7 +11,7 @@ pub returns : goal.returns
 returns g c =
     let b0 = new_function c.in_ok-function.ensures ((omega arith, tt), tt) in
     let b1 = adds_instruction b0 c.in_ok-instruction.ensures.ok tt in
-    let none : u32 wide (0x80 ∷ 0x00 ∷ []) 0 = record { groups = (omega arith, omega arith, omega arith); total = refl; range = omega arith; size = omega arith } in
+    let none : u32 wide (0x80 ∷ 0x80 ∷ 0x00 ∷ []) 0 = record { groups = (omega arith, omega arith, (omega arith, omega arith, omega arith)); total = refl; range = omega arith; size = omega arith } in
     let bare = adds_instruction_wide {A = Global} (without_runs none) End refl tt in
     let s1 = adds_body_wide (spells_wide (new_code c.new-code.ensures)) c.in_ok-raw.ensures.ok bare in
     let s2 = adds_body_wide s1 c.in_ok-function-2.ensures.ok (wider_body b1) in
