@@ -10,7 +10,6 @@ mod elements;
 mod exports;
 mod globals;
 mod imports;
-mod item;
 mod limits;
 mod modules;
 mod section;
@@ -23,3 +22,7 @@ pub use globals::GlobalItem;
 pub use modules::{Listed, list_module};
 pub use section::{Items, SectionKind, read_section};
 pub use tables::TableItem;
+
+/// This crate, which says how items of other crates are read.
+#[derive(Clone, Copy, Debug)]
+pub(crate) struct Here;

@@ -7,14 +7,14 @@ ghost use Rattle.wasm_base.specs.Reading.{ReadsNothing};
 ghost use Rattle.wasm_reader_base.specs.declared.fault.ReadFault.TheVariants.{Memory};
 ghost use Rattle.wasm_reader.specs.Sections.{content, section, contents_of, Takes};
 
+use crate::Here;
 use crate::data::{Segment, read_segments};
 use crate::elements::ElementItem;
 use crate::globals::GlobalItem;
 use crate::imports::read_imports;
-use crate::item::{Item, read_many};
 use crate::tables::TableItem;
 use std::alloc::{Allocator, Global};
-use wasm_reader_base::{ReadFault, Readable};
+use wasm_reader_base::{Item, ReadFault, Readable, read_many};
 use wasm_reader_insn::Body;
 use wasm_sections::{Export, Imports, MemoryType, TagType};
 
@@ -82,14 +82,14 @@ fn read_whole<'a, T: Readable<'a, A>, A: Allocator + Copy>(
 
 /// The items behind their number that all of the bytes spell.
 #[tactic(auto, using(crate::proofs::ReadSections::whole_steps))]
-fn read_list<'a, T: Item<'a, A>, A: Allocator + Copy>(
+fn read_list<'a, T: Item<'a, A, Here>, A: Allocator + Copy>(
     bytes: &'a [u8],
     alloc: A,
 ) -> Result<Vec<T, A>, ReadFault>
     ensures found { IfOk result (λ x. vec T.format wide bytes.now (map T.view x.items)) }
     ensures none { IfErr result (λ e. e ≢ Memory → FillsNothing (vec T.format) bytes.now) }
 {
-    let (items, left) = read_many::<'a, T, A>(bytes, alloc)?;
+    let (items, left) = read_many::<'a, T, Here, A>(bytes, alloc)?;
     if left.is_empty() {
         Ok(items)
     } else {

@@ -9,6 +9,7 @@ mod fault;
 mod fixed;
 mod frames;
 mod immediates;
+mod item;
 mod names;
 mod numbers;
 mod optional;
@@ -19,5 +20,6 @@ mod vectors;
 
 pub use fault::ReadFault;
 pub use frames::{Filled, Framed};
+pub use item::{Item, One, read_many};
 pub use optional::read_optional;
 pub use readable::{Filling, Readable};

@@ -1,6 +1,6 @@
 use Rattle.wasm_reader_base.proofs.Faults.{fault_stays}
 use Rattle.wasm_reader_base.proofs.ReadVectors.{loop_nothing}
-use Rattle.wasm_reader.proofs.item.read_many.Goals as goal
+use Rattle.wasm_reader_base.proofs.item.read_many.Goals as goal
 
 pub returns-in_err-item-clause-none : goal.returns-in_err-item-clause-none
 returns-in_err-item-clause-none g c =

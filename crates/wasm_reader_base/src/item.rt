@@ -5,11 +5,15 @@ ghost use Rattle.wasm_base.specs.Numbers.{Mode, wide};
 ghost use Rattle.wasm_base.specs.Reading.{UniqueReading, Reads, ReadsNothing};
 ghost use Rattle.wasm_reader_base.specs.declared.fault.ReadFault.TheVariants.{Memory};
 
+use crate::fault::ReadFault;
+use crate::readable::Readable;
 use std::alloc::Allocator;
-use wasm_reader_base::{ReadFault, Readable};
+use std::marker::PhantomData;
 
 /// A value that stands at the front of bytes, as [`Readable`] has it, of a type of another crate, to which no impl of that can be added.
-pub(crate) trait Item<'a, A: Allocator + Copy>: Drop {
+///
+/// `Here` is a type of the crate that has the impl.
+pub trait Item<'a, A: Allocator + Copy, Here>: Drop {
     // The value without where it lies in memory.
     ghost Value: { Type 0 };
 
@@ -29,9 +33,9 @@ pub(crate) trait Item<'a, A: Allocator + Copy>: Drop {
 
 /// An item.
 #[derive(Debug, Drop)]
-pub(crate) struct One<T>(pub(crate) T);
+pub struct One<T, Here>(pub T, pub PhantomData<Here>);
 
-impl<'a, A: Allocator + Copy, T: Item<'a, A>> Readable<'a, A> for One<T> {
+impl<'a, A: Allocator + Copy, T: Item<'a, A, Here>, Here> Readable<'a, A> for One<T, Here> {
     ghost Value = { T.Value };
 
     ghost format = { T.format };
@@ -41,15 +45,15 @@ impl<'a, A: Allocator + Copy, T: Item<'a, A>> Readable<'a, A> for One<T> {
     ghost alone = { T.alone };
 
     #[inline]
-    fn read(bytes: &'a [u8], alloc: A) -> Result<(One<T>, &'a [u8]), ReadFault> {
+    fn read(bytes: &'a [u8], alloc: A) -> Result<(One<T, Here>, &'a [u8]), ReadFault> {
         let (item, rest) = T::read_item(bytes, alloc)?;
-        Ok((One(item), rest))
+        Ok((One(item, PhantomData), rest))
     }
 }
 
 /// Items behind their number, and the bytes after them. Memory is taken for items that stand there, and not by the number.
-#[tactic(auto, using(wasm_reader_base::proofs::ReadVectors::vec_steps))]
-pub(crate) fn read_many<'a, T: Item<'a, A>, A: Allocator + Copy>(
+#[tactic(auto, using(crate::proofs::ReadVectors::vec_steps))]
+pub fn read_many<'a, T: Item<'a, A, Here>, Here, A: Allocator + Copy>(
     bytes: &'a [u8],
     alloc: A,
 ) -> Result<(Vec<T, A>, &'a [u8]), ReadFault>
