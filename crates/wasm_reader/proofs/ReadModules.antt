@@ -17,7 +17,7 @@ use Rattle.wasm_reader.specs.declared.modules.Listed.{Listed}
 use Rattle.wasm_reader.specs.declared.section.SectionKind.{SectionKind}
 use Rattle.wasm_reader.specs.declared.section.SectionKind.TheVariants as kinds
 use Rattle.wasm_reader.proofs.Prefixes.{prefixed_reads}
-use Rattle.wasm_reader.proofs.ReadSections.{whole_reads}
+use Rattle.wasm_reader_base.proofs.ReadWhole.{whole_reads}
 
 -- ---- the header
 

@@ -23,22 +23,6 @@ use Rattle.wasm_reader.specs.Sections.{Contents, Bodies, Segments, DataCount, El
 use Rattle.wasm_reader.specs.declared.section.SectionKind.{SectionKind}
 use Rattle.wasm_reader.specs.declared.section.SectionKind.TheVariants as kinds
 
--- ---- a value that all of the bytes spell
-
-all_of : {X : Type 0} (F : Format X) (bytes : List ℕ) (x : X) → F wide bytes x → Reads F wide bytes x []
-all_of F bytes x h = record { front = bytes; split = sym (append-nil bytes); spelled = h }
-
-pub whole_reads : {X : Type 0} (F : Format X) (bytes left : List ℕ) (x : X) → Reads F wide bytes x left → length left ≡ 0 → F wide bytes x
-whole_reads F bytes left x h e = subst (λ z. F wide z x) (sym (h.split ∙ ap (λ z. h.front ++ z) (none_left left e) ∙ append-nil h.front)) h.spelled
-
-pub whole_more : {X : Type 0} (F : Format X) (bytes left : List ℕ) (x : X) → UniqueReading F → Reads F wide bytes x left → length left ≢ 0 → FillsNothing F bytes
-whole_more F bytes left x alone h more = record { none = λ y s. more (ap length (reads_same alone h (all_of F bytes y s)).1) }
-
-pub whole_nothing : {X : Type 0} (F : Format X) (bytes : List ℕ) → ReadsNothing F wide bytes → FillsNothing F bytes
-whole_nothing F bytes n = record { none = λ x s. n.none x [] (all_of F bytes x s) }
-
-pub ruleset whole_steps = (whole_reads, whole_more, whole_nothing)
-
 -- ---- the content of each kind
 
 says_nothing : {X Y : Type 0} (f : X → Y) {F : Format X} {bytes : List ℕ} → FillsNothing F bytes → FillsNothing (mapped f F) bytes

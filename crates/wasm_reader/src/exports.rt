@@ -9,7 +9,7 @@ use std::alloc::Allocator;
 use wasm_reader_base::{Item, One, ReadFault, Readable};
 use wasm_sections::{Export, ExportKind};
 
-impl<'a, A: Allocator + Copy> Item<'a, A, Here> for ExportKind {
+impl<'a, A: Allocator + Copy> Item<'a, Here, A> for ExportKind {
     ghost Value = { Kind };
 
     ghost format = { coded kind_code };
@@ -32,7 +32,7 @@ impl<'a, A: Allocator + Copy> Item<'a, A, Here> for ExportKind {
     }
 }
 
-impl<'a, A: Allocator + Copy> Item<'a, A, Here> for Export<'a> {
+impl<'a, A: Allocator + Copy> Item<'a, Here, A> for Export<'a> {
     ghost Value = { ExportItem };
 
     ghost format = { export };

@@ -42,7 +42,7 @@ impl<'a, A: Allocator + Copy> Readable<'a, A> for GlobalFlags {
     }
 }
 
-impl<'a, A: Allocator + Copy> Item<'a, A, Here> for GlobalType {
+impl<'a, A: Allocator + Copy> Item<'a, Here, A> for GlobalType {
     ghost Value = { TypeModel };
 
     ghost format = { global_type };

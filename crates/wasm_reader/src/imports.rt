@@ -19,7 +19,7 @@ use wasm_sections::{
     EntityType, GlobalType, Import, ImportCompact, Imports, MemoryType, TableType, TagType,
 };
 
-impl<'a, A: Allocator + Copy> Item<'a, A, Here> for EntityType {
+impl<'a, A: Allocator + Copy> Item<'a, Here, A> for EntityType {
     ghost Value = { EntityModel };
 
     ghost format = { entity };
@@ -37,19 +37,19 @@ impl<'a, A: Allocator + Copy> Item<'a, A, Here> for EntityType {
                 Ok((EntityType::Function(index), rest))
             }
             0x01 => {
-                let (ty, rest) = <TableType as Item<'a, A, Here>>::read_item(rest, alloc)?;
+                let (ty, rest) = <TableType as Item<'a, Here, A>>::read_item(rest, alloc)?;
                 Ok((EntityType::Table(ty), rest))
             }
             0x02 => {
-                let (ty, rest) = <MemoryType as Item<'a, A, Here>>::read_item(rest, alloc)?;
+                let (ty, rest) = <MemoryType as Item<'a, Here, A>>::read_item(rest, alloc)?;
                 Ok((EntityType::Memory(ty), rest))
             }
             0x03 => {
-                let (ty, rest) = <GlobalType as Item<'a, A, Here>>::read_item(rest, alloc)?;
+                let (ty, rest) = <GlobalType as Item<'a, Here, A>>::read_item(rest, alloc)?;
                 Ok((EntityType::Global(ty), rest))
             }
             0x04 => {
-                let (ty, rest) = <TagType as Item<'a, A, Here>>::read_item(rest, alloc)?;
+                let (ty, rest) = <TagType as Item<'a, Here, A>>::read_item(rest, alloc)?;
                 Ok((EntityType::Tag(ty), rest))
             }
             0x20 => {
@@ -61,7 +61,7 @@ impl<'a, A: Allocator + Copy> Item<'a, A, Here> for EntityType {
     }
 }
 
-impl<'a, A: Allocator + Copy> Item<'a, A, Here> for ImportCompact<'a> {
+impl<'a, A: Allocator + Copy> Item<'a, Here, A> for ImportCompact<'a> {
     ghost Value = { List ℕ × EntityModel };
 
     ghost format = { pair name entity };
@@ -96,7 +96,7 @@ fn group_kind(bytes: &[u8]) -> Option<(u8, &[u8])>
     Some((*kind, rest))
 }
 
-impl<'a, A: Allocator + Copy> Item<'a, A, Here> for Imports<'a, A> {
+impl<'a, A: Allocator + Copy> Item<'a, Here, A> for Imports<'a, A> {
     ghost Value = { ImportItem };
 
     ghost format = { import_format };
@@ -110,7 +110,7 @@ impl<'a, A: Allocator + Copy> Item<'a, A, Here> for Imports<'a, A> {
         let (module, rest) = <&'a str as Readable<'a, A>>::read(bytes, alloc)?;
         let Some((kind, rest)) = group_kind(rest) else {
             let (name, rest) = <&'a str as Readable<'a, A>>::read(rest, alloc)?;
-            let (ty, rest) = <EntityType as Item<'a, A, Here>>::read_item(rest, alloc)?;
+            let (ty, rest) = <EntityType as Item<'a, Here, A>>::read_item(rest, alloc)?;
             return Ok((Imports::Single(Import { module, name, ty }), rest));
         };
         match kind {
@@ -120,7 +120,7 @@ impl<'a, A: Allocator + Copy> Item<'a, A, Here> for Imports<'a, A> {
                 Ok((Imports::Compact1 { module, items }, rest))
             }
             0x7E => {
-                let (ty, rest) = <EntityType as Item<'a, A, Here>>::read_item(rest, alloc)?;
+                let (ty, rest) = <EntityType as Item<'a, Here, A>>::read_item(rest, alloc)?;
                 let (names, rest) = <Vec<&'a str, A> as Readable<'a, A>>::read(rest, alloc)?;
                 let names = CowSlice::Owned(names);
                 Ok((Imports::Compact2 { module, ty, names }, rest))
@@ -131,7 +131,7 @@ impl<'a, A: Allocator + Copy> Item<'a, A, Here> for Imports<'a, A> {
 }
 
 /// Imports, and groups of them, behind their number, which all of the bytes spell. Memory is taken for those that stand there, and not by their number.
-#[tactic(auto, using(wasm_reader_base::proofs::ReadVectors::vec_steps, crate::proofs::ReadSections::whole_steps))]
+#[tactic(auto, using(wasm_reader_base::proofs::ReadVectors::vec_steps, wasm_reader_base::proofs::ReadWhole::whole_steps))]
 pub(crate) fn read_imports<'a, A: Allocator + Copy>(
     bytes: &'a [u8],
     alloc: A,
@@ -142,7 +142,7 @@ pub(crate) fn read_imports<'a, A: Allocator + Copy>(
     let (count, mut rest) = <u32 as Readable<'a, A>>::read(bytes, alloc)?;
     let mut items = Vec::new(alloc);
     for _taken in 0..count {
-        let (item, after) = <Imports<'a, A> as Item<'a, A, Here>>::read_item(rest, alloc)?;
+        let (item, after) = <Imports<'a, A> as Item<'a, Here, A>>::read_item(rest, alloc)?;
         items.push(item)?;
         rest = after;
     }

@@ -50,7 +50,7 @@ impl<'a, A: Allocator + Copy> Readable<'a, A> for Flags {
     }
 }
 
-impl<'a, A: Allocator + Copy> Item<'a, A, Here> for MemoryType {
+impl<'a, A: Allocator + Copy> Item<'a, Here, A> for MemoryType {
     ghost Value = { MemoryModel };
 
     ghost format = { memory_type };
@@ -112,7 +112,7 @@ impl<'a, A: Allocator + Copy> Readable<'a, A> for Limits {
     }
 }
 
-impl<'a, A: Allocator + Copy> Item<'a, A, Here> for TableType {
+impl<'a, A: Allocator + Copy> Item<'a, Here, A> for TableType {
     ghost Value = { TableModel };
 
     ghost format = { table_type };

@@ -1,6 +1,5 @@
 // Whole sections.
-ghost use Rattle.std.specs.Prelude.{◌≢◌, IfOk, IfErr, map};
-ghost use Rattle.wasm_base.specs.Formats.{vec};
+ghost use Rattle.std.specs.Prelude.{◌≢◌, IfOk, IfErr};
 ghost use Rattle.wasm_base.specs.Going.{FillsNothing};
 ghost use Rattle.wasm_base.specs.Numbers.{wide};
 ghost use Rattle.wasm_base.specs.Reading.{ReadsNothing};
@@ -14,7 +13,7 @@ use crate::globals::GlobalItem;
 use crate::imports::read_imports;
 use crate::tables::TableItem;
 use std::alloc::{Allocator, Global};
-use wasm_reader_base::{Item, ReadFault, Readable, read_many};
+use wasm_reader_base::{ReadFault, Readable, read_list, read_whole};
 use wasm_reader_insn::Body;
 use wasm_sections::{Export, Imports, MemoryType, TagType};
 
@@ -63,40 +62,6 @@ pub enum Items<'a, A: Allocator = Global> {
     Raw(&'a [u8]),
 }
 
-/// The value that all of the bytes spell.
-#[tactic(auto, using(crate::proofs::ReadSections::whole_steps))]
-fn read_whole<'a, T: Readable<'a, A>, A: Allocator + Copy>(
-    bytes: &'a [u8],
-    alloc: A,
-) -> Result<T, ReadFault>
-    ensures found { IfOk result (λ x. T.format wide bytes.now (T.view x)) }
-    ensures none { IfErr result (λ e. e ≢ Memory → FillsNothing T.format bytes.now) }
-{
-    let (value, left) = T::read(bytes, alloc)?;
-    if left.is_empty() {
-        Ok(value)
-    } else {
-        Err(ReadFault::SizeMismatch)
-    }
-}
-
-/// The items behind their number that all of the bytes spell.
-#[tactic(auto, using(crate::proofs::ReadSections::whole_steps))]
-fn read_list<'a, T: Item<'a, A, Here>, A: Allocator + Copy>(
-    bytes: &'a [u8],
-    alloc: A,
-) -> Result<Vec<T, A>, ReadFault>
-    ensures found { IfOk result (λ x. vec T.format wide bytes.now (map T.view x.items)) }
-    ensures none { IfErr result (λ e. e ≢ Memory → FillsNothing (vec T.format) bytes.now) }
-{
-    let (items, left) = read_many::<'a, T, Here, A>(bytes, alloc)?;
-    if left.is_empty() {
-        Ok(items)
-    } else {
-        Err(ReadFault::SizeMismatch)
-    }
-}
-
 /// What the frame of a section of the kind holds.
 #[tactic(auto, using(crate::proofs::ReadSections::content_steps))]
 pub(crate) fn read_content<'a, A: Allocator + Copy>(
@@ -125,7 +90,7 @@ pub(crate) fn read_content<'a, A: Allocator + Copy>(
             Ok(Items::Elements(items))
         }
         SectionKind::Exports => {
-            let items = read_list::<'a, Export<'a>, A>(bytes, alloc)?;
+            let items = read_list::<'a, Export<'a>, Here, A>(bytes, alloc)?;
             Ok(Items::Exports(items))
         }
         SectionKind::Functions => {
@@ -141,7 +106,7 @@ pub(crate) fn read_content<'a, A: Allocator + Copy>(
             Ok(Items::Imports(items))
         }
         SectionKind::Memories => {
-            let items = read_list::<'a, MemoryType, A>(bytes, alloc)?;
+            let items = read_list::<'a, MemoryType, Here, A>(bytes, alloc)?;
             Ok(Items::Memories(items))
         }
         SectionKind::Start => {
@@ -153,7 +118,7 @@ pub(crate) fn read_content<'a, A: Allocator + Copy>(
             Ok(Items::Tables(items))
         }
         SectionKind::Tags => {
-            let items = read_list::<'a, TagType, A>(bytes, alloc)?;
+            let items = read_list::<'a, TagType, Here, A>(bytes, alloc)?;
             Ok(Items::Tags(items))
         }
         SectionKind::Custom => {

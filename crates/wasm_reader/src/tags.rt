@@ -10,7 +10,7 @@ use std::alloc::Allocator;
 use wasm_reader_base::{Item, One, ReadFault, Readable};
 use wasm_sections::{TagKind, TagType};
 
-impl<'a, A: Allocator + Copy> Item<'a, A, Here> for TagKind {
+impl<'a, A: Allocator + Copy> Item<'a, Here, A> for TagKind {
     ghost Value = { Kind };
 
     ghost format = { coded tag_code };
@@ -30,7 +30,7 @@ impl<'a, A: Allocator + Copy> Item<'a, A, Here> for TagKind {
     }
 }
 
-impl<'a, A: Allocator + Copy> Item<'a, A, Here> for TagType {
+impl<'a, A: Allocator + Copy> Item<'a, Here, A> for TagType {
     ghost Value = { TagModel };
 
     ghost format = { tag_type };

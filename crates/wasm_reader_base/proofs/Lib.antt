@@ -5,3 +5,4 @@ pub mod ReadImmediates
 pub mod ReadNumbers
 pub mod ReadTypes
 pub mod ReadVectors
+pub mod ReadWhole

@@ -13,7 +13,7 @@ use std::marker::PhantomData;
 /// A value that stands at the front of bytes, as [`Readable`] has it, of a type of another crate, to which no impl of that can be added.
 ///
 /// `Here` is a type of the crate that has the impl.
-pub trait Item<'a, A: Allocator + Copy, Here>: Drop {
+pub trait Item<'a, Here, A: Allocator + Copy>: Drop {
     // The value without where it lies in memory.
     ghost Value: { Type 0 };
 
@@ -35,7 +35,7 @@ pub trait Item<'a, A: Allocator + Copy, Here>: Drop {
 #[derive(Debug, Drop)]
 pub struct One<T, Here>(pub T, pub PhantomData<Here>);
 
-impl<'a, A: Allocator + Copy, T: Item<'a, A, Here>, Here> Readable<'a, A> for One<T, Here> {
+impl<'a, A: Allocator + Copy, T: Item<'a, Here, A>, Here> Readable<'a, A> for One<T, Here> {
     ghost Value = { T.Value };
 
     ghost format = { T.format };
@@ -53,7 +53,7 @@ impl<'a, A: Allocator + Copy, T: Item<'a, A, Here>, Here> Readable<'a, A> for On
 
 /// Items behind their number, and the bytes after them. Memory is taken for items that stand there, and not by the number.
 #[tactic(auto, using(crate::proofs::ReadVectors::vec_steps))]
-pub fn read_many<'a, T: Item<'a, A, Here>, Here, A: Allocator + Copy>(
+pub fn read_many<'a, T: Item<'a, Here, A>, Here, A: Allocator + Copy>(
     bytes: &'a [u8],
     alloc: A,
 ) -> Result<(Vec<T, A>, &'a [u8]), ReadFault>

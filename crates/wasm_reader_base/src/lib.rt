@@ -17,9 +17,11 @@ mod readable;
 mod tuples;
 mod types;
 mod vectors;
+mod whole;
 
 pub use fault::ReadFault;
 pub use frames::{Filled, Framed};
 pub use item::{Item, One, read_many};
 pub use optional::read_optional;
 pub use readable::{Filling, Readable};
+pub use whole::{read_list, read_whole};

@@ -1,7 +1,7 @@
 use Rattle.std.proofs.Common.{sym, ◌∙◌}
 use Rattle.std.proofs.lemmas.Bool.{eqb-false}
-use Rattle.wasm_reader.proofs.ReadSections.{whole_more}
-use Rattle.wasm_reader.proofs.section.read_whole.Goals as goal
+use Rattle.wasm_reader_base.proofs.ReadWhole.{whole_more}
+use Rattle.wasm_reader_base.proofs.whole.read_whole.Goals as goal
 
 pub returns-else-is_empty-clause-none : goal.returns-else-is_empty-clause-none
 returns-else-is_empty-clause-none g c = λ n.

@@ -1,7 +1,7 @@
 use Rattle.std.proofs.Common.{rules}
 use Rattle.wasm_reader_base.proofs.Faults.{fault_stays}
 use Rattle.wasm_reader.proofs.ReadImports.{named_reads, named_none, alike_reads, alike_no_type, alike_no_names, group_unknown}
-use Rattle.wasm_reader.proofs.imports.ImportsItem.read_item.Goals as goal
+use Rattle.wasm_reader.proofs.imports.ImportsItemHere.read_item.Goals as goal
 
 pub returns-in_err-items-in-127-clause-none : goal.returns-in_err-items-in-127-clause-none
 returns-in_err-items-in-127-clause-none g c = fault_stays c.from_residual-in_err-items-in-127.result _ c.from_residual-in_err-items-in-127.ensures.1 λ n.

@@ -1,0 +1,23 @@
+//! Reads the custom sections whose names the tool conventions and the standard fix, exactly: an answer is the items that the grammar reads
+//! there, with padded numbers too, and a cause other than [`ReadFault::Memory`] says that no reading exists.
+//!
+//! Each call takes what the frame of a section holds: its name, and its items up to the last byte.
+//!
+//! [`ReadFault::Memory`]: wasm_reader_base::ReadFault::Memory
+#![tactic(auto)]
+
+mod core_dumps;
+mod hints;
+mod marked;
+mod named;
+mod names;
+mod producers;
+
+pub use core_dumps::{read_instances, read_modules, read_process};
+pub use hints::read_hints;
+pub use names::{NameItem, read_names};
+pub use producers::read_producers;
+
+/// This crate, which says how items of other crates are read.
+#[derive(Clone, Copy, Debug)]
+pub(crate) struct Here;
