@@ -4,3 +4,4 @@ pub mod ReadMarked
 pub mod ReadNamed
 pub mod ReadNames
 pub mod ReadProducers
+pub mod ReadStacks

@@ -7,6 +7,7 @@
 #![tactic(auto)]
 
 mod core_dumps;
+mod core_stack;
 mod hints;
 mod marked;
 mod named;
@@ -14,6 +15,7 @@ mod names;
 mod producers;
 
 pub use core_dumps::{read_instances, read_modules, read_process};
+pub use core_stack::{CoreFrame, read_stack};
 pub use hints::read_hints;
 pub use names::{NameItem, read_names};
 pub use producers::read_producers;
