@@ -17,7 +17,7 @@ use Rattle.wasm_custom.specs.declared.symbols.SymbolKind.TheVariants.{Function, 
 
 -- ---- reading
 
-definition-alone : UniqueReading definition
+pub definition-alone : UniqueReading definition
 definition-alone = mapped-alone definition_of (λ x y e. ap (λ d. (d.index, (d.offset, d.size))) e) (pair-alone u32-alone (pair-alone u32-alone u32-alone))
 
 abbrev flags_of : Symbol → ℕ

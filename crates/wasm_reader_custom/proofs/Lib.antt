@@ -1,7 +1,9 @@
 pub mod ReadCoreDumps
 pub mod ReadHints
+pub mod ReadLinks
 pub mod ReadMarked
 pub mod ReadNamed
 pub mod ReadNames
 pub mod ReadProducers
 pub mod ReadStacks
+pub mod ReadSymbols

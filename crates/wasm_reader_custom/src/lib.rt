@@ -9,16 +9,20 @@
 mod core_dumps;
 mod core_stack;
 mod hints;
+mod linking;
 mod marked;
 mod named;
 mod names;
 mod producers;
+mod symbols;
 
 pub use core_dumps::{read_instances, read_modules, read_process};
 pub use core_stack::{CoreFrame, read_stack};
 pub use hints::read_hints;
+pub use linking::{LinkItem, read_links};
 pub use names::{NameItem, read_names};
 pub use producers::read_producers;
+pub use symbols::Symbol;
 
 /// This crate, which says how items of other crates are read.
 #[derive(Clone, Copy, Debug)]
