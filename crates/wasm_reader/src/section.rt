@@ -13,7 +13,12 @@ use crate::globals::GlobalItem;
 use crate::imports::read_imports;
 use crate::tables::TableItem;
 use std::alloc::{Allocator, Global};
+use wasm_custom::BranchHint;
 use wasm_reader_base::{ReadFault, Readable, read_list, read_whole};
+use wasm_reader_custom::{
+    CoreFrame, LinkItem, NameItem, read_hints, read_instances, read_links, read_modules,
+    read_names, read_process, read_producers, read_stack,
+};
 use wasm_reader_insn::Body;
 use wasm_sections::{Export, Imports, MemoryType, TagType};
 
@@ -34,6 +39,22 @@ pub enum SectionKind {
     Start,
     Tables,
     Tags,
+    /// The name section: names of the module and of its parts.
+    Names,
+    /// The linking section: symbols, and the architecture of the target.
+    Linking,
+    /// The producers section: which tools made the module.
+    Producers,
+    /// The branch hint section.
+    Hints,
+    /// Of a core dump: the process.
+    Core,
+    /// Of a core dump: the modules of the process.
+    CoreModules,
+    /// Of a core dump: the instances of the process.
+    CoreInstances,
+    /// Of a core dump: the stack of a thread.
+    CoreStack,
     /// A custom section of any name.
     Custom,
     /// A section of any bytes.
@@ -58,7 +79,27 @@ pub enum Items<'a, A: Allocator = Global> {
     Start(u32),
     Tables(Vec<TableItem<A>, A>),
     Tags(Vec<TagType, A>),
-    Custom { name: &'a str, bytes: &'a [u8] },
+    Names(Vec<NameItem<'a, A>, A>),
+    Linking(Vec<LinkItem<'a, A>, A>),
+    /// The name of each field, and its values: a name and a version each.
+    Producers(Vec<(&'a str, Vec<(&'a str, &'a str), A>), A>),
+    /// The index of each function that has hints, and these.
+    Hints(Vec<(u32, Vec<BranchHint, A>), A>),
+    /// The name of the process.
+    Core(&'a str),
+    /// The names of the modules.
+    CoreModules(Vec<&'a str, A>),
+    /// The index of its module, the memories and the globals of each instance.
+    CoreInstances(Vec<(u32, Vec<u32, A>, Vec<u32, A>), A>),
+    /// The name of the thread, and the frames of its stack.
+    CoreStack {
+        thread: &'a str,
+        frames: Vec<CoreFrame<A>, A>,
+    },
+    Custom {
+        name: &'a str,
+        bytes: &'a [u8],
+    },
     Raw(&'a [u8]),
 }
 
@@ -120,6 +161,38 @@ pub(crate) fn read_content<'a, A: Allocator + Copy>(
         SectionKind::Tags => {
             let items = read_list::<'a, TagType, Here, A>(bytes, alloc)?;
             Ok(Items::Tags(items))
+        }
+        SectionKind::Names => {
+            let items = read_names(bytes, alloc)?;
+            Ok(Items::Names(items))
+        }
+        SectionKind::Linking => {
+            let items = read_links(bytes, alloc)?;
+            Ok(Items::Linking(items))
+        }
+        SectionKind::Producers => {
+            let items = read_producers(bytes, alloc)?;
+            Ok(Items::Producers(items))
+        }
+        SectionKind::Hints => {
+            let items = read_hints(bytes, alloc)?;
+            Ok(Items::Hints(items))
+        }
+        SectionKind::Core => {
+            let items = read_process(bytes, alloc)?;
+            Ok(Items::Core(items))
+        }
+        SectionKind::CoreModules => {
+            let items = read_modules(bytes, alloc)?;
+            Ok(Items::CoreModules(items))
+        }
+        SectionKind::CoreInstances => {
+            let items = read_instances(bytes, alloc)?;
+            Ok(Items::CoreInstances(items))
+        }
+        SectionKind::CoreStack => {
+            let (thread, frames) = read_stack(bytes, alloc)?;
+            Ok(Items::CoreStack { thread, frames })
         }
         SectionKind::Custom => {
             let (name, bytes) = <&'a str as Readable<'a, A>>::read(bytes, alloc)?;
