@@ -1,6 +1,5 @@
 -- What callers cite: what the reader answers where a section's text stands.
-use Rattle.std.proofs.Common.{◌≡◌, ℕ, List, [], ◌++◌, length, drop, refl, sym, ap, subst, ◌∙◌, append-nil, arith}
-use Rattle.std.proofs.lemmas.List.{length-drop}
+use Rattle.std.proofs.Common.{◌≡◌, ℕ, List, [], ◌++◌, refl, sym, ap, ◌∙◌, append-nil}
 use Rattle.wasm_base.specs.Formats.{Format, u32, frame, mapped, vec}
 use Rattle.wasm_base.specs.Modules.{GainsReading}
 use Rattle.wasm_base.specs.Numbers.{wide}

@@ -7,5 +7,8 @@ pub mod ReadImports
 pub mod ReadItems
 pub mod ReadLimits
 pub mod ReadModules
+pub mod ReadPlain
 pub mod ReadSections
 pub mod ReadTables
+pub mod ShortItems
+pub mod ShortSections

@@ -1,7 +1,7 @@
 -- How data segments are read.
-use Rattle.std.proofs.Common.{◌≡◌, ◌≢◌, ℕ, ◌<◌, ◌≤◌, List, [], ◌∷◌, ◌++◌, length, refl, sym, ap, ap₂, subst, ◌∙◌, arith}
-use Rattle.wasm_base.specs.Numbers.{Mode, wide}
-use Rattle.wasm_base.specs.Formats.{Format, u32, byte, any_bytes, choice, frame, impossible, members, pair, such, vec}
+use Rattle.std.proofs.Common.{◌≡◌, ◌≢◌, ℕ, ◌<◌, ◌≤◌, List, [], ◌∷◌, ◌++◌, length, refl, sym, ap₂, subst, ◌∙◌, arith}
+use Rattle.wasm_base.specs.Numbers.{wide}
+use Rattle.wasm_base.specs.Formats.{Format, u32, byte, any_bytes, choice, frame, impossible, members, pair, vec}
 use Rattle.wasm_base.specs.Reading.{Reads, ReadsNothing}
 use Rattle.wasm_base.proofs.FormatLaws.{such-alone}
 use Rattle.wasm_base.proofs.NumberLaws.{u32-alone}

@@ -3,7 +3,7 @@ use Rattle.std.proofs.Common.{◌≡◌, ◌≢◌, ℕ, ◌<◌, ◌≤◌, ◌
 use Rattle.std.proofs.lemmas.List.{map-id}
 use Rattle.std.specs.Prelude.{◌==◌}
 use Rattle.wasm_base.specs.Numbers.{wide}
-use Rattle.wasm_base.specs.Formats.{Format, u32, byte, fixed, mapped, numbered, pair, prefixed, vec, when}
+use Rattle.wasm_base.specs.Formats.{Format, u32, byte, fixed, mapped, numbered, pair, vec, when}
 use Rattle.wasm_base.specs.Reading.{Reads, ReadsNothing}
 use Rattle.wasm_base.specs.Types.{ref_type, FUNCREF}
 use Rattle.wasm_base.specs.declared.types.RefType.{RefType}

@@ -2,14 +2,14 @@
 use Rattle.std.proofs.Common.{◌≡◌, ◌≢◌, ℕ, suc, ◌<◌, ◌≤◌, ◌-◌, List, [], ◌∷◌, ◌++◌, length, take, drop, slice_index_or, refl, sym, ap, subst, ◌∙◌, arith}
 use Rattle.std.proofs.lemmas.List.{take_all}
 use Rattle.wasm_base.specs.Numbers.{wide}
-use Rattle.wasm_base.specs.Formats.{Format, u32, byte, name, vec, choice, impossible, pair, prefixed, tagged, mapped}
+use Rattle.wasm_base.specs.Formats.{Format, u32, byte, name, vec, choice, impossible, pair, prefixed, mapped}
 use Rattle.wasm_base.specs.Reading.{Reads, ReadsNothing}
 use Rattle.wasm_base.proofs.BaseLaws.{name-alone}
 use Rattle.wasm_base.proofs.FormatLaws.{byte-alone, tagged_at}
 use Rattle.wasm_base.proofs.ReadingSteps.{then_reads, then_nothing_first, then_nothing_second, mapped_reads, mapped_nothing}
 use Rattle.wasm_base.proofs.Tags.{tagged_reads, tagged_none, tagged_nothing, no_choice, one_of_nothing, one_of_left, one_of_right}
 use Rattle.wasm_sections.specs.Globals.{global_type}
-use Rattle.wasm_sections.specs.Imports.{entity_tags, entity, Imported, single, named, alike, alike_of, group_tags, group, named_entity, after_module, import_of, import_format}
+use Rattle.wasm_sections.specs.Imports.{entity_tags, entity, Imported, single, named, alike, alike_of, group_tags, group, named_entity, import_of, import_format}
 use Rattle.wasm_sections.specs.Memories.{memory_type}
 use Rattle.wasm_sections.specs.Tables.{table_type}
 use Rattle.wasm_sections.specs.Tags.{tag_type}
@@ -19,8 +19,8 @@ use Rattle.wasm_sections.specs.declared.import.EntityType.TheVariants.{Function,
 use Rattle.wasm_sections.specs.declared.memory.MemoryType.{MemoryType}
 use Rattle.wasm_sections.specs.declared.table.TableType.{TableType}
 use Rattle.wasm_sections.specs.declared.tag.TagType.{TagType}
-use Rattle.wasm_sections.proofs.ImportLaws.{IsEntityByte, entity-alone, entity_begins, IsGroupByte, group_begins, empty_name}
-use Rattle.wasm_reader.proofs.Prefixes.{prefixed_reads, prefixed_nothing, prefixed_other}
+use Rattle.wasm_sections.proofs.ImportLaws.{entity-alone, entity_begins, IsGroupByte, group_begins, empty_name}
+use Rattle.wasm_reader.proofs.Prefixes.{prefixed_reads, prefixed_nothing}
 
 -- ---- entities
 

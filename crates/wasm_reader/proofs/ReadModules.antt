@@ -1,11 +1,11 @@
 -- How a list of a module's sections is made.
-use Rattle.std.proofs.Common.{◌≡◌, ◌≢◌, ℕ, ◌<◌, ◌≤◌, ◌^◌, List, [], ◌∷◌, ◌++◌, length, map, take, drop, Option, Some, None, cond, refl, sym, ap, subst, ◌∙◌, arith}
+use Rattle.std.proofs.Common.{◌≡◌, ◌≢◌, ℕ, ◌<◌, ◌^◌, List, [], ◌∷◌, ◌++◌, length, map, take, drop, Some, None, cond, refl, sym, ap, subst, ◌∙◌, arith}
 use Rattle.std.proofs.lemmas.Bool.{ne_eqb}
 use Rattle.std.proofs.lemmas.List.{map-append, take-append-drop, take_at, length-append, length-map}
 use Rattle.wasm_base.specs.Going.{FillsNothing}
-use Rattle.wasm_base.specs.Numbers.{Mode, wide}
-use Rattle.wasm_base.specs.Formats.{Format, u32, byte, any_bytes, fixed, frame, header, mapped, members, vec, Then}
-use Rattle.wasm_base.specs.Reading.{BeginsWith, UniqueReading, Reads, ReadsNothing}
+use Rattle.wasm_base.specs.Numbers.{wide}
+use Rattle.wasm_base.specs.Formats.{Format, u32, byte, any_bytes, fixed, frame, header, members, vec}
+use Rattle.wasm_base.specs.Reading.{BeginsWith, Reads, ReadsNothing}
 use Rattle.wasm_base.proofs.BaseLaws.{frame-bytes-alone}
 use Rattle.wasm_base.proofs.FormatLaws.{byte-alone, begins_then}
 use Rattle.wasm_base.proofs.NumberLaws.{u32-alone}

@@ -3,7 +3,7 @@ use Rattle.std.proofs.Common.{◌≡◌, ◌≢◌, ℕ, ◌≤◌, ◌+◌, Lis
 use Rattle.std.proofs.lemmas.List.{map-id, length-append, drop_at}
 use Rattle.wasm_base.specs.Going.{FillsNothing}
 use Rattle.wasm_base.specs.Numbers.{wide}
-use Rattle.wasm_base.specs.Formats.{Format, u32, any_bytes, frame, mapped, name, pair, vec}
+use Rattle.wasm_base.specs.Formats.{Format, u32, any_bytes, frame, mapped, name, vec}
 use Rattle.wasm_base.specs.Reading.{UniqueReading, Reads, ReadsNothing}
 use Rattle.wasm_base.proofs.ReadingSteps.{reads_same}
 use Rattle.wasm_code.specs.Bodies.{Body, body}

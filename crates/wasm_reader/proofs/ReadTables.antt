@@ -1,10 +1,10 @@
 -- How tables are read.
-use Rattle.std.proofs.Common.{◌≡◌, ◌≢◌, ℕ, List, [], ◌∷◌, ◌++◌, Some, None, refl, sym, ap, subst, ◌∙◌, arith}
+use Rattle.std.proofs.Common.{◌≡◌, ◌≢◌, ℕ, List, [], ◌∷◌, ◌++◌, Some, None, refl, sym, ap, ◌∙◌, arith}
 use Rattle.wasm_base.specs.Numbers.{wide}
 use Rattle.wasm_base.specs.Formats.{Format, byte, mapped, pair, prefixed}
 use Rattle.wasm_base.specs.Reading.{Reads, ReadsNothing}
-use Rattle.wasm_base.proofs.FormatLaws.{byte-alone, begins_mapped}
-use Rattle.wasm_base.proofs.ReadingSteps.{reads_same, then_reads, then_nothing_first, then_nothing_second, mapped_reads, mapped_nothing}
+use Rattle.wasm_base.proofs.FormatLaws.{begins_mapped}
+use Rattle.wasm_base.proofs.ReadingSteps.{mapped_reads, mapped_nothing}
 use Rattle.wasm_base.proofs.Tags.{one_of_nothing, one_of_left, one_of_right, not_begun, no_bytes}
 use Rattle.wasm_code.specs.Expressions.{expression}
 use Rattle.wasm_insn.specs.Plain.{Plain}

@@ -1,6 +1,5 @@
 -- Items of sections, without where they lie in memory.
 use Rattle.std.specs.Prelude.{List, map, option_map}
-use Rattle.std.specs.declared.vec.Vec.{Vec}
 use Rattle.wasm_insn.specs.Plain.{Plain}
 use Rattle.wasm_reader_insn.specs.Arguments.{plain_of}
 use Rattle.wasm_reader_insn.specs.declared.expression.Expression.{Expression}

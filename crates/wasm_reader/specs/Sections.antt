@@ -1,6 +1,6 @@
 -- What spells a section of each kind, and what a reader's items say.
-use Rattle.std.specs.Prelude.{ℕ, ◌≤◌, List, length, drop, map}
-use Rattle.wasm_base.specs.Numbers.{wide}
+use Rattle.std.specs.Prelude.{◌≡◌, ◌↔◌, ℕ, ◌≤◌, List, ◌++◌, length, drop, map}
+use Rattle.wasm_base.specs.Numbers.{shortest, wide}
 use Rattle.wasm_base.specs.Formats.{Format, u32, name, any_bytes, mapped, pair, vec, frame}
 use Rattle.wasm_base.specs.Reading.{Reads}
 use Rattle.wasm_code.specs.Bodies.{Body, body}
@@ -82,6 +82,31 @@ content kinds.CoreStack = mapped CoreStack stack_payload
 content kinds.Custom = mapped Custom (pair name any_bytes)
 content kinds.Raw = mapped Raw any_bytes
 
+-- the kind of a section that holds this
+abbrev pub kind_in : Contents → SectionKind
+kind_in (Bodies xs) = kinds.Bodies
+kind_in (Segments xs) = kinds.Segments
+kind_in (DataCount n) = kinds.DataCount
+kind_in (Elements xs) = kinds.Elements
+kind_in (Exports xs) = kinds.Exports
+kind_in (Functions xs) = kinds.Functions
+kind_in (Globals xs) = kinds.Globals
+kind_in (Imports xs) = kinds.Imports
+kind_in (Memories xs) = kinds.Memories
+kind_in (Start n) = kinds.Start
+kind_in (Tables xs) = kinds.Tables
+kind_in (Tags xs) = kinds.Tags
+kind_in (Names x) = kinds.Names
+kind_in (Linking x) = kinds.Linking
+kind_in (Producers x) = kinds.Producers
+kind_in (Hints x) = kinds.Hints
+kind_in (Core x) = kinds.Core
+kind_in (CoreModules x) = kinds.CoreModules
+kind_in (CoreInstances x) = kinds.CoreInstances
+kind_in (CoreStack x) = kinds.CoreStack
+kind_in (Custom x) = kinds.Custom
+kind_in (Raw x) = kinds.Raw
+
 -- section of the kind: a frame
 abbrev pub section : SectionKind → Format Contents
 section kind = frame (content kind)
@@ -115,3 +140,16 @@ contents_of (items.Raw b) = Raw b.now
 pub record Takes (kind : SectionKind) (bytes : List ℕ) (x : Contents) (n : ℕ) : Type 0 where
   pub within : n ≤ length bytes
   pub reads : Reads (section kind) wide bytes x (drop n bytes)
+
+-- A section of the kind stands at the front of the bytes, and takes so many of them. Its shortest text is appended, which has at most as many.
+pub record Shortens (kind : SectionKind) (bytes : List ℕ) (n : ℕ) (old new : List ℕ) : Type 0 where
+  pub value : Contents
+  pub takes : Takes kind bytes value n
+  pub text : List ℕ
+  pub spelled : section kind shortest text value
+  pub shorter : length text ≤ n
+  pub appended : new ≡ old ++ text
+
+-- Two sections of a kind that are shortened gain one text exactly where they are read as the same items.
+pub record HaveOneText : Type 0 where
+  pub same : (kind : SectionKind) (a b old other s t : List ℕ) (n m : ℕ) (x y : Contents) → Shortens kind a n old (old ++ s) → Shortens kind b m other (other ++ t) → Takes kind a x n → Takes kind b y m → (s ≡ t) ↔ (x ≡ y)

@@ -1,16 +1,19 @@
 // Data segments.
-ghost use Rattle.std.specs.Prelude.{◌≢◌, List, ℕ, IfOk, IfErr, map};
+ghost use Rattle.std.specs.Prelude.{◌≢◌, List, ℕ, IfOk, IfErr, OnOk, map};
 ghost use Rattle.wasm_base.specs.Going.{FillsNothing};
 ghost use Rattle.wasm_base.specs.Numbers.{wide};
 ghost use Rattle.wasm_reader_base.specs.declared.fault.ReadFault.TheVariants.{Memory};
-ghost use Rattle.wasm_base.specs.Formats.{byte, vec};
+ghost use Rattle.wasm_base.specs.Formats.{byte, pair, vec};
+ghost use Rattle.wasm_code.specs.Expressions.{expression};
+ghost use Rattle.wasm_reader_base.specs.Shortest.{AppendsShortest};
 ghost use Rattle.wasm_base.proofs.BaseLaws.{vec-bytes-alone};
-ghost use Rattle.wasm_sections.specs.DataSegments.{DataItem, data_item};
+ghost use Rattle.wasm_sections.specs.DataSegments.{DataItem, active, data_item};
 ghost use Rattle.wasm_sections.proofs.DataLaws.{data-alone};
-ghost use Rattle.wasm_reader.specs.Items.{segment_of};
+ghost use Rattle.wasm_reader.specs.Items.{instructions_of, segment_of};
 
 use std::alloc::{Allocator, Global};
-use wasm_reader_base::{ReadFault, Readable};
+use wasm_base::{Encode, R, encode_frame};
+use wasm_reader_base::{ReadFault, Readable, Shorten};
 use wasm_reader_insn::Expression;
 
 /// Bytes behind their number.
@@ -125,4 +128,73 @@ pub(crate) fn read_segments<'a, A: Allocator + Copy>(
     } else {
         Err(ReadFault::SizeMismatch)
     }
+}
+
+/// Appends the place and the bytes of a segment.
+#[tactic(auto, using(crate::proofs::ShortItems::placed_appended))]
+fn append_placed<A: Allocator, B: Allocator>(
+    offset: &Expression<A>,
+    bytes: &[u8],
+    out: &mut Vec<u8, B>,
+) -> R<()>
+    ensures { OnOk result (AppendsShortest (pair expression (vec byte)) (instructions_of offset.now, bytes.now) out.old.items out.new.items) }
+{
+    offset.append_shortest(out)?;
+    encode_frame(out, bytes)
+}
+
+/// Appends a segment of the memory: memory 0 has a flag of its own.
+#[tactic(auto, using(crate::proofs::ShortItems::first_appended, crate::proofs::ShortItems::other_appended))]
+fn append_active<A: Allocator, B: Allocator>(
+    memory: u32,
+    offset: &Expression<A>,
+    bytes: &[u8],
+    out: &mut Vec<u8, B>,
+) -> R<()>
+    ensures { OnOk result (AppendsShortest data_item (active memory (instructions_of offset.now) bytes.now) out.old.items out.new.items) }
+{
+    if memory == 0 {
+        0u32.encode(out)?;
+        return append_placed(offset, bytes, out);
+    }
+    (2u32, memory).encode(out)?;
+    append_placed(offset, bytes, out)
+}
+
+impl<'a, A: Allocator> Shorten for Segment<'a, A> {
+    ghost Value = { DataItem };
+
+    ghost format = { data_item };
+
+    ghost view = { segment_of };
+
+    #[tactic(auto, using(crate::proofs::ShortItems::passive_appended))]
+    fn append_shortest<B: Allocator>(&self, out: &mut Vec<u8, B>) -> R<()> {
+        match self {
+            Segment::Active {
+                memory,
+                offset,
+                bytes,
+            } => append_active(*memory, offset, bytes, out),
+            Segment::Passive { bytes } => {
+                1u32.encode(out)?;
+                encode_frame(out, bytes)
+            }
+        }
+    }
+}
+
+/// Appends segments behind their number.
+#[tactic(auto, using(wasm_reader_base::proofs::ShortTexts::members_start))]
+pub(crate) fn append_segments<A: Allocator, B: Allocator>(
+    segments: &[Segment<'_, A>],
+    out: &mut Vec<u8, B>,
+) -> R<()>
+    ensures { OnOk result (AppendsShortest (vec data_item) (map segment_of segments.now) out.old.items out.new.items) }
+{
+    segments.len().encode(out)?;
+    for segment in segments {
+        segment.append_shortest(out)?;
+    }
+    Ok(())
 }

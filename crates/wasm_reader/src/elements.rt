@@ -1,17 +1,18 @@
 // Element segments.
-ghost use Rattle.std.specs.Prelude.{◌≡◌, true, false, ◌≢◌, List, IfOk, IfErr};
-ghost use Rattle.wasm_base.specs.Formats.{numbered};
+ghost use Rattle.std.specs.Prelude.{◌≡◌, true, false, ◌≢◌, List, IfOk, IfErr, OnOk, map};
+ghost use Rattle.wasm_base.specs.Formats.{is_given, numbered};
 ghost use Rattle.wasm_base.specs.Numbers.{wide};
 ghost use Rattle.wasm_base.specs.Reading.{Reads, ReadsNothing};
 ghost use Rattle.wasm_insn.specs.Plain.{Plain};
 ghost use Rattle.wasm_reader_base.specs.declared.fault.ReadFault.TheVariants.{Memory};
-ghost use Rattle.wasm_sections.specs.Elements.{Segment, ElementFlag as FlagModel, flag_code, tells_kind, place, elements_as, element};
+ghost use Rattle.wasm_reader_base.specs.Shortest.{AppendsShortest};
+ghost use Rattle.wasm_sections.specs.Elements.{Segment, ElementFlag as FlagModel, flag_code, flag_of, active, functions, expressions, are_expressions, tells_kind, place, elements_as, element};
 ghost use Rattle.wasm_sections.proofs.ElementLaws.{element_flag-alone, element-alone};
-ghost use Rattle.wasm_reader.specs.Items.{element_flag_of, place_of, list_of, element_of};
+ghost use Rattle.wasm_reader.specs.Items.{instructions_of, element_flag_of, place_of, list_of, element_of};
 
 use std::alloc::{Allocator, Global};
-use wasm_base::RefType;
-use wasm_reader_base::{ReadFault, Readable};
+use wasm_base::{Encode, R, RefType};
+use wasm_reader_base::{ReadFault, Readable, Shorten};
 use wasm_reader_insn::Expression;
 
 /// What the flag of an element segment says.
@@ -23,6 +24,16 @@ struct ElementFlag {
 }
 
 impl ElementFlag {
+    /// Its number.
+    fn code(self) -> u32
+        ensures { result ≡ flag_code (element_flag_of self) }
+    {
+        let not_active = if self.not_active { 1 } else { 0 };
+        let second = if self.second { 2 } else { 0 };
+        let expressions = if self.expressions { 4 } else { 0 };
+        not_active + second + expressions
+    }
+
     /// Whether the kind of the elements is told.
     fn tells_kind(self) -> bool
         ensures { result ≡ tells_kind (element_flag_of self) }
@@ -194,5 +205,115 @@ impl<'a, A: Allocator + Copy> Readable<'a, A> for ElementItem<A> {
         let (mode, rest) = read_mode(flag, rest, alloc)?;
         let (elements, rest) = read_elements(flag.tells_kind(), flag.expressions, rest, alloc)?;
         Ok((ElementItem { mode, elements }, rest))
+    }
+}
+
+/// Appends the indices of functions, behind the byte of their kind where that is told.
+fn append_functions<A: Allocator, B: Allocator>(
+    told: bool,
+    indices: &Vec<u32, A>,
+    out: &mut Vec<u8, B>,
+) -> R<()>
+    ensures { OnOk result (AppendsShortest (elements_as told false) (functions indices.now.items) out.old.items out.new.items) }
+{
+    if told {
+        0x00u8.encode(out)?;
+        return indices.append_shortest(out);
+    }
+    indices.append_shortest(out)
+}
+
+/// Appends expressions, behind their type where that is told.
+fn append_expressions<A: Allocator, B: Allocator>(
+    told: bool,
+    ty: RefType,
+    elements: &Vec<Expression<A>, A>,
+    out: &mut Vec<u8, B>,
+) -> R<()>
+    ensures { OnOk result (AppendsShortest (elements_as told true) (expressions ty (map instructions_of elements.now.items)) out.old.items out.new.items) }
+{
+    if told {
+        ty.encode(out)?;
+        return elements.append_shortest(out);
+    }
+    elements.append_shortest(out)
+}
+
+/// Appends the table that is named, and the place of the first element.
+#[tactic(auto, using(crate::proofs::ShortItems::place_in, crate::proofs::ShortItems::place_in_none))]
+fn append_active<A: Allocator, B: Allocator>(
+    table: Option<u32>,
+    offset: &Expression<A>,
+    out: &mut Vec<u8, B>,
+) -> R<()>
+    ensures { OnOk result (AppendsShortest (place (record { not_active = false; second = is_given table; expressions = false })) (active table (instructions_of offset.now)) out.old.items out.new.items) }
+{
+    match table {
+        Some(table) => {
+            table.encode(out)?;
+            offset.append_shortest(out)
+        }
+        None => offset.append_shortest(out),
+    }
+}
+
+impl<A: Allocator> ElementItem<A> {
+    /// The flag that says what stands in the segment.
+    fn flag(&self) -> ElementFlag
+        ensures { element_flag_of result ≡ flag_of (element_of self.now) }
+    {
+        let not_active = !matches!(self.mode, ElementItemMode::Active { .. });
+        let second = match &self.mode {
+            ElementItemMode::Passive => false,
+            ElementItemMode::Declared => true,
+            ElementItemMode::Active { table, .. } => table.is_some(),
+        };
+        let expressions = matches!(self.elements, ElementList::Expressions(..));
+        ElementFlag {
+            not_active,
+            second,
+            expressions,
+        }
+    }
+
+    /// Appends where the elements go.
+    #[tactic(auto, using(crate::proofs::ShortItems::passive_place, crate::proofs::ShortItems::declared_place))]
+    fn append_place<B: Allocator>(&self, out: &mut Vec<u8, B>) -> R<()>
+        ensures { OnOk result (AppendsShortest (place (flag_of (element_of self.now))) (place_of self.now.mode) out.old.items out.new.items) }
+    {
+        match &self.mode {
+            ElementItemMode::Passive => Ok(()),
+            ElementItemMode::Declared => Ok(()),
+            ElementItemMode::Active { table, offset } => append_active(*table, offset, out),
+        }
+    }
+}
+
+/// Appends the elements, with their kind where that is told.
+fn append_elements<A: Allocator, B: Allocator>(
+    told: bool,
+    elements: &ElementList<A>,
+    out: &mut Vec<u8, B>,
+) -> R<()>
+    ensures { OnOk result (AppendsShortest (elements_as told (are_expressions (list_of elements.now))) (list_of elements.now) out.old.items out.new.items) }
+{
+    match elements {
+        ElementList::Functions(indices) => append_functions(told, indices, out),
+        ElementList::Expressions(ty, elements) => append_expressions(told, *ty, elements, out),
+    }
+}
+
+impl<A: Allocator> Shorten for ElementItem<A> {
+    ghost Value = { Segment (List Plain) };
+
+    ghost format = { element };
+
+    ghost view = { element_of };
+
+    fn append_shortest<B: Allocator>(&self, out: &mut Vec<u8, B>) -> R<()> {
+        let flag = self.flag();
+        flag.code().encode(out)?;
+        self.append_place(out)?;
+        append_elements(flag.tells_kind(), &self.elements, out)
     }
 }

@@ -7,8 +7,8 @@ ghost use Rattle.wasm_reader.specs.Items.{global_flags_of, global_of};
 
 use crate::Here;
 use std::alloc::{Allocator, Global};
-use wasm_base::ValType;
-use wasm_reader_base::{Item, One, ReadFault, Readable};
+use wasm_base::{Encode, R, ValType};
+use wasm_reader_base::{Item, One, ReadFault, Readable, Shorten};
 use wasm_reader_insn::Expression;
 use wasm_sections::GlobalType;
 
@@ -88,5 +88,19 @@ impl<'a, A: Allocator + Copy> Readable<'a, A> for GlobalItem<A> {
             Expression<A>,
         ) as Readable<'a, A>>::read(bytes, alloc)?;
         Ok((GlobalItem { global_type, init }, rest))
+    }
+}
+
+impl<A: Allocator> Shorten for GlobalItem<A> {
+    ghost Value = { GlobalModel };
+
+    ghost format = { global_item };
+
+    ghost view = { global_of };
+
+    #[tactic(auto, using(crate::proofs::ShortItems::global_appended))]
+    fn append_shortest<B: Allocator>(&self, out: &mut Vec<u8, B>) -> R<()> {
+        self.global_type.encode(out)?;
+        self.init.append_shortest(out)
     }
 }

@@ -1,5 +1,5 @@
 // Imports, and groups of them.
-ghost use Rattle.std.specs.Prelude.{◌≡◌, ◌≢◌, ◌≤◌, ◌∷◌, [], List, ℕ, IfOk, IfErr, MatchOption, map};
+ghost use Rattle.std.specs.Prelude.{◌≡◌, ◌≢◌, ◌≤◌, ◌∷◌, [], List, ℕ, IfOk, IfErr, MatchOption, OnOk, map};
 ghost use Rattle.wasm_base.specs.Formats.{name, pair, prefixed, vec};
 ghost use Rattle.wasm_base.specs.Going.{FillsNothing};
 ghost use Rattle.wasm_base.specs.Numbers.{wide};
@@ -7,13 +7,14 @@ ghost use Rattle.wasm_base.specs.Reading.{ReadsNothing};
 ghost use Rattle.wasm_sections.specs.Imports.{entity, group, ImportItem, compact_item, imports_item, import_format};
 ghost use Rattle.wasm_sections.specs.declared.import.EntityType.{EntityType as EntityModel};
 ghost use Rattle.wasm_reader_base.specs.declared.fault.ReadFault.TheVariants.{Memory};
+ghost use Rattle.wasm_reader_base.specs.Shortest.{AppendsShortest};
 ghost use Rattle.wasm_base.proofs.BaseLaws.{name-alone};
 ghost use Rattle.wasm_base.proofs.FormatLaws.{pair-alone};
 ghost use Rattle.wasm_sections.proofs.ImportLaws.{entity-alone, import-alone};
 
 use crate::Here;
 use std::alloc::Allocator;
-use wasm_base::CowSlice;
+use wasm_base::{CowSlice, Encode, R};
 use wasm_reader_base::{Item, One, ReadFault, Readable, read_many};
 use wasm_sections::{
     EntityType, GlobalType, Import, ImportCompact, Imports, MemoryType, TableType, TagType,
@@ -151,4 +152,19 @@ pub(crate) fn read_imports<'a, A: Allocator + Copy>(
     } else {
         Err(ReadFault::SizeMismatch)
     }
+}
+
+/// Appends imports, and groups of them, behind their number.
+#[tactic(auto, using(wasm_reader_base::proofs::ShortTexts::members_start))]
+pub(crate) fn append_imports<A: Allocator, B: Allocator>(
+    imports: &[Imports<'_, A>],
+    out: &mut Vec<u8, B>,
+) -> R<()>
+    ensures { OnOk result (AppendsShortest (vec import_format) (map imports_item imports.now) out.old.items out.new.items) }
+{
+    imports.len().encode(out)?;
+    for import in imports {
+        import.encode(out)?;
+    }
+    Ok(())
 }

@@ -10,9 +10,11 @@ mod elements;
 mod exports;
 mod globals;
 mod imports;
+pub mod laws;
 mod limits;
 mod modules;
 mod section;
+mod shortest;
 mod tables;
 mod tags;
 
@@ -21,6 +23,7 @@ pub use elements::{ElementItem, ElementItemMode, ElementList};
 pub use globals::GlobalItem;
 pub use modules::{Listed, list_module};
 pub use section::{Items, SectionKind, read_section};
+pub use shortest::shorten;
 pub use tables::TableItem;
 
 /// This crate, which says how items of other crates are read.

@@ -5,9 +5,13 @@ ghost use Rattle.wasm_reader.specs.Items.{table_of};
 
 use crate::Here;
 use std::alloc::{Allocator, Global};
-use wasm_reader_base::{One, ReadFault, Readable};
+use wasm_base::{Encode, R};
+use wasm_reader_base::{One, ReadFault, Readable, Shorten};
 use wasm_reader_insn::Expression;
 use wasm_sections::TableType;
+
+/// What stands before a table with a first value.
+const BEFORE_INIT: [u8; 2] = [0x40, 0x00];
 
 /// A table: its type, and the expression of its elements' first value where one is given.
 #[derive(Debug, Drop)]
@@ -45,5 +49,23 @@ impl<'a, A: Allocator + Copy> Readable<'a, A> for TableItem<A> {
         >>::read(rest, alloc)?;
         let init = Some(init);
         Ok((TableItem { table_type, init }, rest))
+    }
+}
+
+impl<A: Allocator> Shorten for TableItem<A> {
+    ghost Value = { TableModel };
+
+    ghost format = { table_item };
+
+    ghost view = { table_of };
+
+    #[tactic(auto, using(crate::proofs::ShortItems::table_appended, crate::proofs::ShortItems::table_init_appended))]
+    fn append_shortest<B: Allocator>(&self, out: &mut Vec<u8, B>) -> R<()> {
+        let Some(init) = &self.init else {
+            return self.table_type.encode(out);
+        };
+        BEFORE_INIT.encode(out)?;
+        self.table_type.encode(out)?;
+        init.append_shortest(out)
     }
 }

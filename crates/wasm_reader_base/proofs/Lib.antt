@@ -3,6 +3,8 @@ pub mod ReadFixed
 pub mod ReadFrames
 pub mod ReadImmediates
 pub mod ReadNumbers
+pub mod ReadPlain
 pub mod ReadTypes
 pub mod ReadVectors
 pub mod ReadWhole
+pub mod ShortTexts

@@ -5,7 +5,7 @@ ghost use Rattle.wasm_reader_base.specs.declared.fault.ReadFault.TheVariants.{Me
 
 use std::alloc::{AllocError, AllocFailed};
 use thiserror::Error;
-use wasm_base::NoGroups;
+use wasm_base::{NoGroups, Refused};
 
 /// Why nothing was read. A cause other than `Memory` says that no reading exists.
 #[derive(Clone, Copy, PartialEq, Eq, Debug, Error)]
@@ -60,5 +60,14 @@ impl From<NoGroups> for ReadFault {
             NoGroups::Ended => ReadFault::Ended,
             NoGroups::TooMany => ReadFault::TooLarge,
         }
+    }
+}
+
+/// What was read is written in no more bytes than it had, so no length of it is too long to be spelled.
+impl From<Refused> for ReadFault {
+    ghost from_gives = { λ _ fault. fault ≡ Memory };
+
+    fn from(_refused: Refused) -> ReadFault {
+        ReadFault::Memory
     }
 }

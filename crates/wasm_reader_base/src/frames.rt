@@ -1,10 +1,15 @@
 // Frames: a size, and exactly that many bytes.
+ghost use Rattle.std.specs.Prelude.{◌≡◌, ◌≤◌, ◌++◌, take, drop, vec_len, OnOk};
 ghost use Rattle.wasm_base.specs.Formats.{frame};
+ghost use Rattle.wasm_base.specs.Texts.{frame_text, FrameFits};
+ghost use Rattle.wasm_reader_base.specs.Shortest.{AppendsShortest};
 ghost use Rattle.wasm_base.proofs.FormatLaws.{frame-alone, whole_from_alone};
 
 use crate::fault::ReadFault;
 use crate::readable::{Filling, Readable};
+use crate::shorten::Shorten;
 use std::alloc::Allocator;
+use wasm_base::{Encode, R};
 
 /// A value of known end in a frame, whose bytes it takes to the last.
 #[derive(Debug, Drop)]
@@ -49,5 +54,53 @@ impl<'a, A: Allocator + Copy, T: Filling<'a, A>> Readable<'a, A> for Filled<T> {
         let (content, rest) = <&'a [u8] as Readable<'a, A>>::read(bytes, alloc)?;
         let value = T::fill(content, alloc)?;
         Ok((Filled(value), rest))
+    }
+}
+
+/// Puts the size of what stands from `start` on before it, so that this is a frame.
+pub fn frame_since<B: Allocator>(out: &mut Vec<u8, B>, start: usize) -> R<()>
+    requires { start ≤ vec_len out.old }
+    ensures framed { OnOk result (out.new.items ≡ take start out.old.items ++ frame_text (drop start out.old.items)) }
+    ensures fitted { OnOk result (FrameFits (drop start out.old.items)) }
+{
+    let size = out.len() - start;
+    size.encode(out)?;
+    out[start..].rotate_left(size);
+    Ok(())
+}
+
+/// Appends the shortest text of the value in a frame.
+#[tactic(auto, using(crate::proofs::ShortTexts::frame_appended))]
+fn append_framed<T: Shorten, B: Allocator>(value: &T, out: &mut Vec<u8, B>) -> R<()>
+    ensures { OnOk result (AppendsShortest (frame T.format) (T.view value.now) out.old.items out.new.items) }
+{
+    let start = out.len();
+    value.append_shortest(out)?;
+    frame_since(out, start)
+}
+
+impl<T: Shorten> Shorten for Framed<T> {
+    ghost Value = { T.Value };
+
+    ghost format = { frame T.format };
+
+    ghost view = { λ f. T.view f.0 };
+
+    fn append_shortest<B: Allocator>(&self, out: &mut Vec<u8, B>) -> R<()> {
+        let Framed(value) = self;
+        append_framed(value, out)
+    }
+}
+
+impl<T: Shorten> Shorten for Filled<T> {
+    ghost Value = { T.Value };
+
+    ghost format = { frame T.format };
+
+    ghost view = { λ f. T.view f.0 };
+
+    fn append_shortest<B: Allocator>(&self, out: &mut Vec<u8, B>) -> R<()> {
+        let Filled(content) = self;
+        append_framed(content, out)
     }
 }

@@ -14,14 +14,16 @@ mod names;
 mod numbers;
 mod optional;
 mod readable;
+mod shorten;
 mod tuples;
 mod types;
 mod vectors;
 mod whole;
 
 pub use fault::ReadFault;
-pub use frames::{Filled, Framed};
+pub use frames::{Filled, Framed, frame_since};
 pub use item::{Item, One, read_many};
 pub use optional::read_optional;
 pub use readable::{Filling, Readable};
+pub use shorten::Shorten;
 pub use whole::{read_list, read_whole};

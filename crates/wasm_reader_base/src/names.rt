@@ -5,7 +5,9 @@ ghost use Rattle.wasm_base.proofs.BaseLaws.{frame-bytes-alone, name-alone};
 
 use crate::fault::ReadFault;
 use crate::readable::Readable;
+use crate::shorten::Shorten;
 use std::alloc::Allocator;
+use wasm_base::{Encode, R, encode_frame};
 
 /// The bytes of a frame.
 impl<'a, A: Allocator + Copy> Readable<'a, A> for &'a [u8] {
@@ -44,5 +46,31 @@ impl<'a, A: Allocator + Copy> Readable<'a, A> for &'a str {
             Ok(name) => Ok((name, rest)),
             Err(_) => Err(ReadFault::NotUtf8),
         }
+    }
+}
+
+impl Shorten for &[u8] {
+    ghost Value = { List ℕ };
+
+    ghost format = { frame any_bytes };
+
+    ghost view = { λ b. b.now };
+
+    #[tactic(auto, using(crate::proofs::ReadPlain::bytes_appended))]
+    fn append_shortest<B: Allocator>(&self, out: &mut Vec<u8, B>) -> R<()> {
+        encode_frame(out, self)
+    }
+}
+
+impl Shorten for &str {
+    ghost Value = { List ℕ };
+
+    ghost format = { name };
+
+    ghost view = { λ s. s.now };
+
+    #[tactic(auto, using(crate::proofs::ReadPlain::name_appended))]
+    fn append_shortest<B: Allocator>(&self, out: &mut Vec<u8, B>) -> R<()> {
+        self.encode(out)
     }
 }

@@ -10,8 +10,9 @@ ghost use Rattle.wasm_reader_base.specs.declared.fault.ReadFault.TheVariants.{Me
 
 use crate::fault::ReadFault;
 use crate::readable::Readable;
+use crate::shorten::Shorten;
 use std::alloc::Allocator;
-use wasm_base::{Groups, read_groups};
+use wasm_base::{Encode, Groups, R, read_groups};
 
 /// The number that the groups spell in two's complement.
 fn signed(groups: Groups) -> i128
@@ -165,5 +166,18 @@ pub(crate) fn read_index(bytes: &[u8]) -> Result<(u32, &[u8]), ReadFault>
         Ok((groups.sum as u32, rest))
     } else {
         Err(ReadFault::TooLarge)
+    }
+}
+
+impl Shorten for u32 {
+    ghost Value = { ℕ };
+
+    ghost format = { u32_format };
+
+    ghost view = { λ n. n };
+
+    #[tactic(auto, using(crate::proofs::ReadPlain::u32_appended))]
+    fn append_shortest<B: Allocator>(&self, out: &mut Vec<u8, B>) -> R<()> {
+        self.encode(out)
     }
 }

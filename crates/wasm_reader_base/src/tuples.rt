@@ -4,7 +4,9 @@ ghost use Rattle.wasm_base.proofs.FormatLaws.{pair-alone};
 
 use crate::fault::ReadFault;
 use crate::readable::Readable;
+use crate::shorten::Shorten;
 use std::alloc::Allocator;
+use wasm_base::R;
 
 /// One value, and then another.
 impl<'a, A: Allocator + Copy, T: Readable<'a, A>, U: Readable<'a, A>> Readable<'a, A> for (T, U) {
@@ -22,5 +24,19 @@ impl<'a, A: Allocator + Copy, T: Readable<'a, A>, U: Readable<'a, A>> Readable<'
         let (first, rest) = T::read(bytes, alloc)?;
         let (second, rest) = U::read(rest, alloc)?;
         Ok(((first, second), rest))
+    }
+}
+
+impl<T: Shorten, U: Shorten> Shorten for (T, U) {
+    ghost Value = { T.Value × U.Value };
+
+    ghost format = { pair T.format U.format };
+
+    ghost view = { λ p. (T.view p.0, U.view p.1) };
+
+    #[tactic(auto, using(crate::proofs::ShortTexts::pair_appended))]
+    fn append_shortest<B: Allocator>(&self, out: &mut Vec<u8, B>) -> R<()> {
+        self.0.append_shortest(out)?;
+        self.1.append_shortest(out)
     }
 }

@@ -14,8 +14,9 @@ ghost use Rattle.wasm_reader_base.specs.declared.fault.ReadFault.TheVariants.{Me
 use crate::fault::ReadFault;
 use crate::numbers::read_index;
 use crate::readable::Readable;
+use crate::shorten::Shorten;
 use std::alloc::Allocator;
-use wasm_base::{AbstractHeapType, HeapType, RefType, ValType};
+use wasm_base::{AbstractHeapType, Encode, HeapType, R, RefType, ValType};
 
 /// The type of this byte.
 #[tactic(auto, using(crate::proofs::ReadTypes::abstract_steps))]
@@ -199,5 +200,18 @@ impl<'a, A: Allocator + Copy> Readable<'a, A> for ValType {
     fn read(bytes: &'a [u8], alloc: A) -> Result<(ValType, &'a [u8]), ReadFault> {
         let (tag, rest) = <u8 as Readable<'a, A>>::read(bytes, alloc)?;
         read_val_after(tag, rest, alloc)
+    }
+}
+
+impl Shorten for ValType {
+    ghost Value = { Val };
+
+    ghost format = { val_type };
+
+    ghost view = { λ ty. ty };
+
+    #[tactic(auto, using(crate::proofs::ReadPlain::val_appended))]
+    fn append_shortest<B: Allocator>(&self, out: &mut Vec<u8, B>) -> R<()> {
+        self.encode(out)
     }
 }

@@ -5,7 +5,9 @@ ghost use Rattle.wasm_base.proofs.FormatLaws.{vec-alone};
 
 use crate::fault::ReadFault;
 use crate::readable::Readable;
+use crate::shorten::Shorten;
 use std::alloc::Allocator;
+use wasm_base::{Encode, R};
 
 /// A count, and that many members. Memory is taken for members that stand there, and not by the count.
 impl<'a, A: Allocator + Copy, T: Readable<'a, A>> Readable<'a, A> for Vec<T, A> {
@@ -27,5 +29,22 @@ impl<'a, A: Allocator + Copy, T: Readable<'a, A>> Readable<'a, A> for Vec<T, A> 
             rest = after;
         }
         Ok((items, rest))
+    }
+}
+
+impl<T: Shorten, A: Allocator> Shorten for Vec<T, A> {
+    ghost Value = { List T.Value };
+
+    ghost format = { vec T.format };
+
+    ghost view = { λ v. map T.view v.items };
+
+    #[tactic(auto, using(crate::proofs::ShortTexts::members_start))]
+    fn append_shortest<B: Allocator>(&self, out: &mut Vec<u8, B>) -> R<()> {
+        self.len().encode(out)?;
+        for item in self.iter() {
+            item.append_shortest(out)?;
+        }
+        Ok(())
     }
 }

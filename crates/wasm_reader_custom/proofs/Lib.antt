@@ -7,3 +7,7 @@ pub mod ReadNames
 pub mod ReadProducers
 pub mod ReadStacks
 pub mod ReadSymbols
+pub mod ShortCustom
+pub mod ShortLinks
+pub mod ShortNames
+pub mod ShortSymbols

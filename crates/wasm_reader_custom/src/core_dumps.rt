@@ -1,10 +1,12 @@
 // Core dumps: the process, its modules and its instances.
-ghost use Rattle.std.specs.Prelude.{◌≢◌, IfOk, IfErr, map};
+ghost use Rattle.std.specs.Prelude.{◌≢◌, IfOk, IfErr, OnOk, map};
 ghost use Rattle.wasm_base.specs.Going.{FillsNothing};
 ghost use Rattle.wasm_base.specs.Numbers.{wide};
-ghost use Rattle.wasm_custom.specs.CoreDumps.{Instance, instance};
+ghost use Rattle.wasm_base.specs.Formats.{vec};
+ghost use Rattle.wasm_custom.specs.CoreDumps.{Instance, instance, marked_name};
 ghost use Rattle.wasm_custom.specs.Readings.{core_payload, modules_payload, instances_payload};
 ghost use Rattle.wasm_custom.proofs.CoreDumpLaws.{instance-alone};
+ghost use Rattle.wasm_reader_base.specs.Shortest.{AppendsShortest};
 ghost use Rattle.wasm_reader_base.specs.declared.fault.ReadFault.TheVariants.{Memory};
 ghost use Rattle.wasm_reader_custom.specs.Items.{instance_of};
 
@@ -12,7 +14,8 @@ use crate::Here;
 use crate::marked::read_marked;
 use crate::named::after_name;
 use std::alloc::Allocator;
-use wasm_reader_base::{Item, One, ReadFault, read_list, read_whole};
+use wasm_base::{Encode, R};
+use wasm_reader_base::{Item, One, ReadFault, Shorten, read_list, read_whole};
 
 /// The name of the process.
 #[tactic(auto, using(crate::proofs::ReadCoreDumps::process_steps))]
@@ -78,4 +81,85 @@ pub fn read_instances<'a, A: Allocator + Copy>(
     let rest = after_name("coreinstances", bytes, alloc)?;
     let instances = read_list::<'a, (u32, Vec<u32, A>, Vec<u32, A>), Here, A>(rest, alloc)?;
     Ok(instances)
+}
+
+/// Appends the byte 00 and a name.
+#[tactic(auto, using(crate::proofs::ShortCustom::marked_appended))]
+pub(crate) fn append_marked<B: Allocator>(name: &str, out: &mut Vec<u8, B>) -> R<()>
+    ensures { OnOk result (AppendsShortest marked_name name.now out.old.items out.new.items) }
+{
+    0x00u8.encode(out)?;
+    name.append_shortest(out)
+}
+
+/// Appends the shortest text of what the section of this process holds. After a refusal a part of it may stand there.
+#[tactic(auto, using(crate::proofs::ShortCustom::process_appended))]
+pub fn append_process<B: Allocator>(name: &str, out: &mut Vec<u8, B>) -> R<()>
+    ensures { OnOk result (AppendsShortest core_payload name.now out.old.items out.new.items) }
+{
+    "core".encode(out)?;
+    append_marked(name, out)
+}
+
+/// Appends names, each behind the byte 00, behind their number.
+#[tactic(auto, using(wasm_reader_base::proofs::ShortTexts::members_start))]
+fn append_names<B: Allocator>(items: &[&str], out: &mut Vec<u8, B>) -> R<()>
+    ensures { OnOk result (AppendsShortest (vec marked_name) (map (λ n. n.now) items.now) out.old.items out.new.items) }
+{
+    items.len().encode(out)?;
+    for item in items {
+        append_marked(item, out)?;
+    }
+    Ok(())
+}
+
+/// Appends the shortest text of what a section of these modules holds. After a refusal a part of it may stand there.
+#[tactic(auto, using(crate::proofs::ShortCustom::modules_appended))]
+pub fn append_modules<B: Allocator>(names: &[&str], out: &mut Vec<u8, B>) -> R<()>
+    ensures { OnOk result (AppendsShortest modules_payload (map (λ n. n.now) names.now) out.old.items out.new.items) }
+{
+    "coremodules".encode(out)?;
+    append_names(names, out)
+}
+
+/// Appends an instance.
+#[tactic(auto, using(crate::proofs::ShortCustom::instance_appended))]
+fn append_instance<A: Allocator, B: Allocator>(
+    given: &(u32, Vec<u32, A>, Vec<u32, A>),
+    out: &mut Vec<u8, B>,
+) -> R<()>
+    ensures { OnOk result (AppendsShortest instance (instance_of given.now) out.old.items out.new.items) }
+{
+    let (index, memories, globals) = given;
+    0x00u8.encode(out)?;
+    index.append_shortest(out)?;
+    memories.append_shortest(out)?;
+    globals.append_shortest(out)
+}
+
+/// Appends instances behind their number.
+#[tactic(auto, using(wasm_reader_base::proofs::ShortTexts::members_start))]
+fn append_all_instances<A: Allocator, B: Allocator>(
+    items: &[(u32, Vec<u32, A>, Vec<u32, A>)],
+    out: &mut Vec<u8, B>,
+) -> R<()>
+    ensures { OnOk result (AppendsShortest (vec instance) (map instance_of items.now) out.old.items out.new.items) }
+{
+    items.len().encode(out)?;
+    for item in items {
+        append_instance(item, out)?;
+    }
+    Ok(())
+}
+
+/// Appends the shortest text of what a section of these instances holds. After a refusal a part of it may stand there.
+#[tactic(auto, using(crate::proofs::ShortCustom::instances_appended))]
+pub fn append_instances<A: Allocator, B: Allocator>(
+    instances: &[(u32, Vec<u32, A>, Vec<u32, A>)],
+    out: &mut Vec<u8, B>,
+) -> R<()>
+    ensures { OnOk result (AppendsShortest instances_payload (map instance_of instances.now) out.old.items out.new.items) }
+{
+    "coreinstances".encode(out)?;
+    append_all_instances(instances, out)
 }

@@ -1,5 +1,5 @@
 // The stack of a core dump.
-ghost use Rattle.std.specs.Prelude.{◌≢◌, IfOk, IfErr, map};
+ghost use Rattle.std.specs.Prelude.{◌≢◌, IfOk, IfErr, OnOk, map};
 ghost use Rattle.wasm_base.specs.Going.{FillsNothing};
 ghost use Rattle.wasm_base.specs.Numbers.{wide};
 ghost use Rattle.wasm_custom.specs.CoreStacks.{Frame, stack_frame};
@@ -7,16 +7,19 @@ ghost use Rattle.wasm_custom.specs.CoreValues.{value as value_format};
 ghost use Rattle.wasm_custom.specs.Readings.{stack_payload};
 ghost use Rattle.wasm_custom.specs.declared.core_values.CoreDumpValue.{CoreDumpValue as ValueModel};
 ghost use Rattle.wasm_custom.proofs.CoreStackLaws.{value-alone, frame-alone};
+ghost use Rattle.wasm_reader_base.specs.Shortest.{AppendsShortest};
 ghost use Rattle.wasm_reader_base.specs.declared.fault.ReadFault.TheVariants.{Memory};
 ghost use Rattle.wasm_reader_custom.specs.Items.{frame_of};
 
 use crate::Here;
+use crate::core_dumps::append_marked;
 use crate::marked::read_marked;
 use crate::named::after_name;
 use std::alloc::{Allocator, Global};
+use wasm_base::{Encode, R};
 use wasm_custom::CoreDumpValue;
 use wasm_immediates::{Ieee32, Ieee64};
-use wasm_reader_base::{Item, ReadFault, Readable, read_list, read_many};
+use wasm_reader_base::{Item, ReadFault, Readable, Shorten, read_list, read_many};
 
 impl<'a, A: Allocator + Copy> Item<'a, Here, A> for CoreDumpValue {
     ghost Value = { ValueModel };
@@ -104,4 +107,36 @@ pub fn read_stack<'a, A: Allocator + Copy>(
     let (thread, rest) = read_marked::<'a, &'a str, A>(0x00, rest, alloc)?;
     let frames = read_list::<'a, CoreFrame<A>, Here, A>(rest, alloc)?;
     Ok((thread, frames))
+}
+
+impl<A: Allocator> Shorten for CoreFrame<A> {
+    ghost Value = { Frame };
+
+    ghost format = { stack_frame };
+
+    ghost view = { frame_of };
+
+    #[tactic(auto, using(crate::proofs::ShortCustom::frame_appended))]
+    fn append_shortest<B: Allocator>(&self, out: &mut Vec<u8, B>) -> R<()> {
+        0x00u8.encode(out)?;
+        self.instanceidx.append_shortest(out)?;
+        self.funcidx.append_shortest(out)?;
+        self.codeoffset.append_shortest(out)?;
+        self.locals.as_slice().encode(out)?;
+        self.stack.as_slice().encode(out)
+    }
+}
+
+/// Appends the shortest text of what the section of this stack holds. After a refusal a part of it may stand there.
+#[tactic(auto, using(crate::proofs::ShortCustom::stack_appended))]
+pub fn append_stack<A: Allocator, B: Allocator>(
+    thread: &str,
+    frames: &Vec<CoreFrame<A>, A>,
+    out: &mut Vec<u8, B>,
+) -> R<()>
+    ensures { OnOk result (AppendsShortest stack_payload (thread.now, map frame_of frames.now.items) out.old.items out.new.items) }
+{
+    "corestack".encode(out)?;
+    append_marked(thread, out)?;
+    frames.append_shortest(out)
 }

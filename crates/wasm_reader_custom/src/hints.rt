@@ -1,6 +1,6 @@
 // Branch hints.
-ghost use Rattle.std.specs.Prelude.{◌≢◌, ◌<◌, ℕ, IfOk, IfErr, map};
-ghost use Rattle.wasm_base.specs.Formats.{byte, such};
+ghost use Rattle.std.specs.Prelude.{◌≢◌, ◌<◌, ℕ, IfOk, IfErr, OnOk, map};
+ghost use Rattle.wasm_base.specs.Formats.{byte, such, vec};
 ghost use Rattle.wasm_base.specs.Going.{FillsNothing};
 ghost use Rattle.wasm_base.specs.Numbers.{wide};
 ghost use Rattle.wasm_base.proofs.FormatLaws.{byte-alone, such-alone};
@@ -8,6 +8,7 @@ ghost use Rattle.wasm_custom.specs.Hints.{Hints, hint, hints};
 ghost use Rattle.wasm_custom.specs.Readings.{hints_payload};
 ghost use Rattle.wasm_custom.specs.declared.hints.BranchHint.{BranchHint as HintModel};
 ghost use Rattle.wasm_custom.proofs.HintLaws.{hint-alone, hints-alone};
+ghost use Rattle.wasm_reader_base.specs.Shortest.{AppendsShortest};
 ghost use Rattle.wasm_reader_base.specs.declared.fault.ReadFault.TheVariants.{Memory};
 ghost use Rattle.wasm_reader_custom.specs.Items.{hints_of};
 
@@ -15,8 +16,9 @@ use crate::Here;
 use crate::marked::read_marked;
 use crate::named::after_name;
 use std::alloc::Allocator;
+use wasm_base::{Encode, R};
 use wasm_custom::BranchHint;
-use wasm_reader_base::{Item, ReadFault, Readable, read_list, read_many};
+use wasm_reader_base::{Item, ReadFault, Readable, Shorten, read_list, read_many};
 
 /// The value of a hint: one byte.
 #[derive(Clone, Copy, Debug)]
@@ -95,4 +97,44 @@ pub fn read_hints<'a, A: Allocator + Copy>(
     let rest = after_name("metadata.code.branch_hint", bytes, alloc)?;
     let hints = read_list::<'a, (u32, Vec<BranchHint, A>), Here, A>(rest, alloc)?;
     Ok(hints)
+}
+
+/// Appends the hints of a function.
+#[tactic(auto, using(crate::proofs::ShortCustom::function_appended))]
+fn append_function<A: Allocator, B: Allocator>(
+    given: &(u32, Vec<BranchHint, A>),
+    out: &mut Vec<u8, B>,
+) -> R<()>
+    ensures { OnOk result (AppendsShortest hints (hints_of given.now) out.old.items out.new.items) }
+{
+    let (func, of_branches) = given;
+    func.append_shortest(out)?;
+    of_branches.as_slice().encode(out)
+}
+
+/// Appends the hints of functions behind their number.
+#[tactic(auto, using(wasm_reader_base::proofs::ShortTexts::members_start))]
+fn append_functions<A: Allocator, B: Allocator>(
+    items: &[(u32, Vec<BranchHint, A>)],
+    out: &mut Vec<u8, B>,
+) -> R<()>
+    ensures { OnOk result (AppendsShortest (vec hints) (map hints_of items.now) out.old.items out.new.items) }
+{
+    items.len().encode(out)?;
+    for item in items {
+        append_function(item, out)?;
+    }
+    Ok(())
+}
+
+/// Appends the shortest text of what a section of these hints holds. After a refusal a part of it may stand there.
+#[tactic(auto, using(crate::proofs::ShortCustom::hints_appended))]
+pub fn append_hints<A: Allocator, B: Allocator>(
+    functions: &[(u32, Vec<BranchHint, A>)],
+    out: &mut Vec<u8, B>,
+) -> R<()>
+    ensures { OnOk result (AppendsShortest hints_payload (map hints_of functions.now) out.old.items out.new.items) }
+{
+    "metadata.code.branch_hint".encode(out)?;
+    append_functions(functions, out)
 }

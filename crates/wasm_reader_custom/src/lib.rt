@@ -16,12 +16,14 @@ mod names;
 mod producers;
 mod symbols;
 
-pub use core_dumps::{read_instances, read_modules, read_process};
-pub use core_stack::{CoreFrame, read_stack};
-pub use hints::read_hints;
-pub use linking::{LinkItem, read_links};
-pub use names::{NameItem, read_names};
-pub use producers::read_producers;
+pub use core_dumps::{
+    append_instances, append_modules, append_process, read_instances, read_modules, read_process,
+};
+pub use core_stack::{CoreFrame, append_stack, read_stack};
+pub use hints::{append_hints, read_hints};
+pub use linking::{LinkItem, append_links, read_links};
+pub use names::{NameItem, append_names, read_names};
+pub use producers::{append_producers, read_producers};
 pub use symbols::Symbol;
 
 /// This crate, which says how items of other crates are read.

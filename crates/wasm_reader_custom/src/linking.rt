@@ -1,5 +1,5 @@
 // The linking section: symbols, and the architecture of the target.
-ghost use Rattle.std.specs.Prelude.{◌≢◌, IfOk, IfErr, map};
+ghost use Rattle.std.specs.Prelude.{◌≢◌, IfOk, IfErr, OnOk, map};
 ghost use Rattle.wasm_base.specs.Formats.{just, members, u32, vec};
 ghost use Rattle.wasm_base.specs.Going.{FillsNothing};
 ghost use Rattle.wasm_base.specs.Numbers.{wide};
@@ -8,6 +8,7 @@ ghost use Rattle.wasm_custom.specs.Linking.{LinkItem as LinkModel, link, version
 ghost use Rattle.wasm_custom.specs.Readings.{linking_payload};
 ghost use Rattle.wasm_custom.specs.Symbols.{symbol};
 ghost use Rattle.wasm_custom.proofs.LinkLaws.{link-alone};
+ghost use Rattle.wasm_reader_base.specs.Shortest.{AppendsShortest};
 ghost use Rattle.wasm_reader_base.specs.declared.fault.ReadFault.TheVariants.{Memory};
 ghost use Rattle.wasm_reader_custom.specs.Symbols.{symbol_of, link_of};
 
@@ -15,7 +16,8 @@ use crate::Here;
 use crate::named::after_name;
 use crate::symbols::Symbol;
 use std::alloc::{Allocator, Global};
-use wasm_reader_base::{Framed, Item, ReadFault, Readable};
+use wasm_base::{Encode, R};
+use wasm_reader_base::{Framed, Item, ReadFault, Readable, Shorten, frame_since};
 
 /// The version of linking sections.
 const VERSION: u32 = 2;
@@ -119,4 +121,55 @@ pub fn read_links<'a, A: Allocator + Copy>(
     let rest = after_version(rest, alloc)?;
     let items = fill_links(rest, alloc)?;
     Ok(items)
+}
+
+impl<'a, A: Allocator> Shorten for LinkItem<'a, A> {
+    ghost Value = { LinkModel };
+
+    ghost format = { link };
+
+    ghost view = { link_of };
+
+    #[tactic(auto, using(crate::proofs::ShortLinks::symbols_appended, crate::proofs::ShortLinks::arch_appended))]
+    fn append_shortest<B: Allocator>(&self, out: &mut Vec<u8, B>) -> R<()> {
+        match self {
+            LinkItem::Symbols(symbols) => {
+                8u8.encode(out)?;
+                let start = out.len();
+                symbols.append_shortest(out)?;
+                frame_since(out, start)
+            }
+            LinkItem::Arch(name) => {
+                9u8.encode(out)?;
+                Framed(*name).append_shortest(out)
+            }
+        }
+    }
+}
+
+/// Appends subsections.
+#[tactic(auto, using(wasm_reader_base::proofs::ShortTexts::members_start))]
+fn append_subsections<A: Allocator, B: Allocator>(
+    items: &[LinkItem<'_, A>],
+    out: &mut Vec<u8, B>,
+) -> R<()>
+    ensures { OnOk result (AppendsShortest (members link) (map link_of items.now) out.old.items out.new.items) }
+{
+    for item in items {
+        item.append_shortest(out)?;
+    }
+    Ok(())
+}
+
+/// Appends the shortest text of what a linking section of these subsections holds. After a refusal a part of it may stand there.
+#[tactic(auto, using(crate::proofs::ShortLinks::links_appended))]
+pub fn append_links<A: Allocator, B: Allocator>(
+    items: &[LinkItem<'_, A>],
+    out: &mut Vec<u8, B>,
+) -> R<()>
+    ensures { OnOk result (AppendsShortest linking_payload (map link_of items.now) out.old.items out.new.items) }
+{
+    "linking".encode(out)?;
+    VERSION.encode(out)?;
+    append_subsections(items, out)
 }

@@ -1,5 +1,5 @@
 // Names of a module and of its parts.
-ghost use Rattle.std.specs.Prelude.{◌≡◌, ◌≢◌, IfOk, IfErr, map};
+ghost use Rattle.std.specs.Prelude.{◌≡◌, ◌≢◌, IfOk, IfErr, OnOk, map};
 ghost use Rattle.wasm_base.specs.Formats.{u32, members, pair};
 ghost use Rattle.wasm_base.specs.Going.{FillsNothing};
 ghost use Rattle.wasm_base.specs.Numbers.{wide};
@@ -8,13 +8,15 @@ ghost use Rattle.wasm_custom.specs.Readings.{name_payload};
 ghost use Rattle.wasm_base.proofs.FormatLaws.{pair-alone};
 ghost use Rattle.wasm_base.proofs.NumberLaws.{u32-alone};
 ghost use Rattle.wasm_custom.proofs.NameLaws.{map-alone, subsection-alone};
+ghost use Rattle.wasm_reader_base.specs.Shortest.{AppendsShortest};
 ghost use Rattle.wasm_reader_base.specs.declared.fault.ReadFault.TheVariants.{Memory};
-ghost use Rattle.wasm_reader_custom.specs.Names.{kind_as, inside, names_of, inside_of, name_item_of};
+ghost use Rattle.wasm_reader_custom.specs.Names.{kind_as, inside, held_by, id_of, names_of, inside_of, name_item_of};
 
 use crate::Here;
 use crate::named::after_name;
 use std::alloc::{Allocator, Global};
-use wasm_reader_base::{Item, ReadFault, Readable, read_whole};
+use wasm_base::{Encode, R};
+use wasm_reader_base::{Item, ReadFault, Readable, Shorten, frame_since, read_whole};
 
 /// What a subsection of a name section says.
 #[derive(Debug, Drop)]
@@ -201,4 +203,104 @@ pub fn read_names<'a, A: Allocator + Copy>(
     let rest = after_name("name", bytes, alloc)?;
     let items = fill_subsections(rest, alloc)?;
     Ok(items)
+}
+
+/// Appends an index, and the indices and names of what is inside.
+#[tactic(auto, using(wasm_reader_base::proofs::ShortTexts::pair_appended))]
+fn append_inside<'a, A: Allocator, B: Allocator>(
+    given: &(u32, Vec<(u32, &'a str), A>),
+    out: &mut Vec<u8, B>,
+) -> R<()>
+    ensures { OnOk result (AppendsShortest (pair u32 name_map) (inside_of given.now) out.old.items out.new.items) }
+{
+    let (index, names) = given;
+    index.append_shortest(out)?;
+    names.append_shortest(out)
+}
+
+/// Appends indices, and the indices and names of each, behind their number.
+#[tactic(auto, using(wasm_reader_base::proofs::ShortTexts::members_start))]
+fn append_indirect<'a, A: Allocator, B: Allocator>(
+    items: &[(u32, Vec<(u32, &'a str), A>)],
+    out: &mut Vec<u8, B>,
+) -> R<()>
+    ensures { OnOk result (AppendsShortest indirect_map (map inside_of items.now) out.old.items out.new.items) }
+{
+    items.len().encode(out)?;
+    for item in items {
+        append_inside(item, out)?;
+    }
+    Ok(())
+}
+
+impl<'a, A: Allocator> NameItem<'a, A> {
+    /// The id of the subsection.
+    fn id(&self) -> u8
+        ensures { result ≡ id_of (name_item_of self.now) }
+    {
+        match self {
+            NameItem::Module(_) => 0,
+            NameItem::Map { id, .. } => *id,
+            NameItem::Indirect { id, .. } => *id,
+            NameItem::Other { id, .. } => *id,
+        }
+    }
+
+    /// Appends what the frame of the subsection holds.
+    #[tactic(auto, using(crate::proofs::ShortNames::module_appended, crate::proofs::ShortNames::map_appended, crate::proofs::ShortNames::indirect_appended, crate::proofs::ShortNames::other_appended))]
+    fn append_content<B: Allocator>(&self, out: &mut Vec<u8, B>) -> R<()>
+        ensures { OnOk result (AppendsShortest (inside (held_by (name_item_of self.now)) (id_of (name_item_of self.now))) (name_item_of self.now) out.old.items out.new.items) }
+    {
+        match self {
+            NameItem::Module(name) => name.append_shortest(out),
+            NameItem::Map { names, .. } => names.append_shortest(out),
+            NameItem::Indirect { maps, .. } => append_indirect(maps, out),
+            NameItem::Other { bytes, .. } => {
+                out.extend_from_slice(bytes)?;
+                Ok(())
+            }
+        }
+    }
+}
+
+impl<'a, A: Allocator> Shorten for NameItem<'a, A> {
+    ghost Value = { NameModel };
+
+    ghost format = { subsection };
+
+    ghost view = { name_item_of };
+
+    #[tactic(auto, using(crate::proofs::ShortNames::subsection_appended))]
+    fn append_shortest<B: Allocator>(&self, out: &mut Vec<u8, B>) -> R<()> {
+        self.id().encode(out)?;
+        let start = out.len();
+        self.append_content(out)?;
+        frame_since(out, start)
+    }
+}
+
+/// Appends subsections.
+#[tactic(auto, using(wasm_reader_base::proofs::ShortTexts::members_start))]
+fn append_subsections<A: Allocator, B: Allocator>(
+    items: &[NameItem<'_, A>],
+    out: &mut Vec<u8, B>,
+) -> R<()>
+    ensures { OnOk result (AppendsShortest (members subsection) (map name_item_of items.now) out.old.items out.new.items) }
+{
+    for item in items {
+        item.append_shortest(out)?;
+    }
+    Ok(())
+}
+
+/// Appends the shortest text of what a name section of these subsections holds. After a refusal a part of it may stand there.
+#[tactic(auto, using(crate::proofs::ShortNames::names_appended))]
+pub fn append_names<A: Allocator, B: Allocator>(
+    items: &[NameItem<'_, A>],
+    out: &mut Vec<u8, B>,
+) -> R<()>
+    ensures { OnOk result (AppendsShortest name_payload (map name_item_of items.now) out.old.items out.new.items) }
+{
+    "name".encode(out)?;
+    append_subsections(items, out)
 }

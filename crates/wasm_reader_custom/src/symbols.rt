@@ -1,18 +1,20 @@
 // Symbols: what a linker knows by name.
-ghost use Rattle.std.specs.Prelude.{◌≡◌, ◌≢◌, IfOk, IfErr, option_map};
-ghost use Rattle.wasm_base.specs.Formats.{optional};
+ghost use Rattle.std.specs.Prelude.{◌≡◌, ◌≢◌, IfOk, IfErr, OnOk, option_map};
+ghost use Rattle.wasm_base.specs.Formats.{name as name_format, optional};
 ghost use Rattle.wasm_base.specs.Numbers.{wide};
 ghost use Rattle.wasm_base.specs.Reading.{Reads, ReadsNothing};
-ghost use Rattle.wasm_custom.specs.Symbols.{Symbol as SymbolModel, has_name as flags_name, has_definition as flags_definition, definition as definition_format, indexed_symbol, data_symbol, symbol};
+ghost use Rattle.wasm_custom.specs.Symbols.{Symbol as SymbolModel, indexed, of_data, has_name as flags_name, has_definition as flags_definition, definition as definition_format, indexed_symbol, data_symbol, symbol};
 ghost use Rattle.wasm_custom.specs.declared.symbols.DataSymbolDefinition.{DataSymbolDefinition as DefinitionModel};
 ghost use Rattle.wasm_custom.proofs.SymbolLaws.{definition-alone, symbol-alone};
+ghost use Rattle.wasm_reader_base.specs.Shortest.{AppendsShortest};
 ghost use Rattle.wasm_reader_base.specs.declared.fault.ReadFault.TheVariants.{Memory};
 ghost use Rattle.wasm_reader_custom.specs.Symbols.{symbol_of};
 
 use crate::Here;
 use std::alloc::Allocator;
+use wasm_base::{Encode, R};
 use wasm_custom::{DataSymbolDefinition, SymbolKind, SymbolTable};
-use wasm_reader_base::{Item, ReadFault, Readable, read_optional};
+use wasm_reader_base::{Item, ReadFault, Readable, Shorten, read_optional};
 
 /// A symbol. Where its flags say that it has no name of its own, it has that of the import.
 #[derive(Clone, Copy, Debug)]
@@ -173,6 +175,92 @@ impl<'a, A: Allocator + Copy> Readable<'a, A> for Symbol<'a> {
                 Ok((symbol, rest))
             }
             _ => Err(ReadFault::UnknownTag),
+        }
+    }
+}
+
+/// Appends a name where one is given.
+#[tactic(auto, using(crate::proofs::ShortSymbols::name_appended, crate::proofs::ShortSymbols::no_name_appended))]
+fn append_name<B: Allocator>(flags: u32, name: Option<&str>, out: &mut Vec<u8, B>) -> R<()>
+    ensures { OnOk result (AppendsShortest (optional (flags_name flags) name_format) (option_map (λ n. n.now) name.entry) out.old.items out.new.items) }
+{
+    match name {
+        Some(name) => name.append_shortest(out),
+        None => Ok(()),
+    }
+}
+
+/// Appends a symbol of an index.
+#[tactic(auto, using(crate::proofs::ShortSymbols::indexed_appended))]
+fn append_indexed<B: Allocator>(
+    kind: SymbolKind,
+    flags: u32,
+    index: u32,
+    name: Option<&str>,
+    out: &mut Vec<u8, B>,
+) -> R<()>
+    ensures { OnOk result (AppendsShortest symbol (indexed kind flags index (option_map (λ n. n.now) name.entry)) out.old.items out.new.items) }
+{
+    kind.encode(out)?;
+    flags.append_shortest(out)?;
+    index.append_shortest(out)?;
+    append_name(flags, name, out)
+}
+
+/// Appends a definition where one is given.
+#[tactic(auto, using(crate::proofs::ShortSymbols::definition_appended, crate::proofs::ShortSymbols::no_definition_appended))]
+fn append_definition<B: Allocator>(
+    flags: u32,
+    definition: Option<DataSymbolDefinition>,
+    out: &mut Vec<u8, B>,
+) -> R<()>
+    ensures { OnOk result (AppendsShortest (optional (flags_definition flags) definition_format) definition out.old.items out.new.items) }
+{
+    match definition {
+        Some(definition) => definition.encode(out),
+        None => Ok(()),
+    }
+}
+
+/// Appends a symbol of data.
+#[tactic(auto, using(crate::proofs::ShortSymbols::data_appended))]
+fn append_data<B: Allocator>(
+    flags: u32,
+    name: &str,
+    definition: Option<DataSymbolDefinition>,
+    out: &mut Vec<u8, B>,
+) -> R<()>
+    ensures { OnOk result (AppendsShortest symbol (of_data flags name.now definition) out.old.items out.new.items) }
+{
+    0x01u8.encode(out)?;
+    flags.append_shortest(out)?;
+    name.append_shortest(out)?;
+    append_definition(flags, definition, out)
+}
+
+impl<'a> Shorten for Symbol<'a> {
+    ghost Value = { SymbolModel };
+
+    ghost format = { symbol };
+
+    ghost view = { symbol_of };
+
+    fn append_shortest<B: Allocator>(&self, out: &mut Vec<u8, B>) -> R<()> {
+        match *self {
+            Symbol::Function { flags, index, name } => {
+                append_indexed(SymbolKind::Function, flags, index, name, out)
+            }
+            Symbol::Global { flags, index, name } => {
+                append_indexed(SymbolKind::Global, flags, index, name, out)
+            }
+            Symbol::Table { flags, index, name } => {
+                append_indexed(SymbolKind::Table, flags, index, name, out)
+            }
+            Symbol::DataSymbol {
+                flags,
+                name,
+                definition,
+            } => append_data(flags, name, definition, out),
         }
     }
 }

@@ -1,15 +1,17 @@
 // The arguments of instructions.
-ghost use Rattle.std.specs.Prelude.{◌≡◌, ◌≢◌, [], IfOk, IfErr, map};
+ghost use Rattle.std.specs.Prelude.{◌≡◌, ◌≢◌, ◌++◌, [], IfOk, IfErr, OnOk, map};
+ghost use Rattle.std.specs.List.{flat_map};
 ghost use Rattle.wasm_base.specs.Numbers.{wide};
 ghost use Rattle.wasm_base.specs.Reading.{Reads, ReadsNothing};
 ghost use Rattle.wasm_insn.specs.Parts.{parts_of};
 ghost use Rattle.wasm_insn.specs.declared.part.Part.TheVariants as parts;
+ghost use Rattle.wasm_insn.specs.Arguments.{argument_text};
 ghost use Rattle.wasm_insn.specs.Plain.{part, arguments};
 ghost use Rattle.wasm_reader_insn.specs.Arguments.{argument_of};
 ghost use Rattle.wasm_reader_base.specs.declared.fault.ReadFault.TheVariants.{Memory};
 
 use std::alloc::{Allocator, Global};
-use wasm_base::{HeapType, ValType};
+use wasm_base::{Encode, HeapType, R, ValType};
 use wasm_insn::{BlockType, Catch, Handle, Ieee32, Ieee64, MemArg, Ordering, Part, Shape};
 use wasm_reader_base::{ReadFault, Readable};
 
@@ -346,4 +348,43 @@ pub(crate) fn read_arguments_into<'a, A: Allocator + Copy>(
 {
     args.clear();
     read_parts(shape.parts(), bytes, alloc, args)
+}
+
+/// Appends the text of the argument.
+#[tactic(auto, using(wasm_immediates::proofs::FixedBytes::vector_bytes))]
+fn append_argument<A: Allocator, B: Allocator>(arg: &Arg<A>, out: &mut Vec<u8, B>) -> R<()>
+    ensures { OnOk result (out.new.items ≡ out.old.items ++ argument_text (argument_of arg.now)) }
+{
+    match arg {
+        Arg::U32(n) => n.encode(out),
+        Arg::S32(n) => n.encode(out),
+        Arg::S64(n) => n.encode(out),
+        Arg::F32(float) => float.encode(out),
+        Arg::F64(float) => float.encode(out),
+        Arg::V128(vector) => vector.to_le_bytes().encode(out),
+        Arg::Mem(memory) => memory.encode(out),
+        Arg::Lane(lane) => lane.encode(out),
+        Arg::Lanes(lanes) => lanes.encode(out),
+        Arg::Block(block) => block.encode(out),
+        Arg::Heap(heap) => heap.encode(out),
+        Arg::Order(ordering) => ordering.encode(out),
+        Arg::Labels(labels) => labels.as_slice().encode(out),
+        Arg::Catches(catches) => catches.as_slice().encode(out),
+        Arg::Types(types) => types.as_slice().encode(out),
+        Arg::Handles(handles) => handles.as_slice().encode(out),
+        Arg::Flag(flag) => flag.encode(out),
+    }
+}
+
+/// Appends the texts of the arguments.
+pub(crate) fn append_arguments<A: Allocator, B: Allocator>(
+    args: &[Arg<A>],
+    out: &mut Vec<u8, B>,
+) -> R<()>
+    ensures { OnOk result (out.new.items ≡ out.old.items ++ flat_map (λ a. argument_text (argument_of a)) args.now) }
+{
+    for arg in args {
+        append_argument(arg, out)?;
+    }
+    Ok(())
 }

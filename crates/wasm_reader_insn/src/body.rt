@@ -1,17 +1,18 @@
 // Lists of instructions up to the last byte, and functions' bodies.
-ghost use Rattle.std.specs.Prelude.{List, map};
+ghost use Rattle.std.specs.Prelude.{List, OnOk, map};
 ghost use Rattle.wasm_base.specs.Formats.{members, frame};
 ghost use Rattle.wasm_insn.specs.Plain.{Plain as PlainInstruction, instruction};
 ghost use Rattle.wasm_insn.specs.Table.{table};
 ghost use Rattle.wasm_insn.proofs.InstructionLaws.{lists-whole};
 ghost use Rattle.wasm_code.specs.Bodies.{Body as BodyModel, body};
 ghost use Rattle.wasm_code.proofs.BodyLaws.{body-whole, frame-body-alone};
+ghost use Rattle.wasm_reader_base.specs.Shortest.{AppendsShortest};
 ghost use Rattle.wasm_reader_insn.specs.Arguments.{plain_of, body_of};
 
 use crate::instruction::Plain;
 use std::alloc::{Allocator, Global};
-use wasm_base::ValType;
-use wasm_reader_base::{Filled, Filling, ReadFault, Readable};
+use wasm_base::{R, ValType};
+use wasm_reader_base::{Filled, Filling, ReadFault, Readable, Shorten, frame_since};
 
 /// Instructions up to the last byte.
 #[derive(Debug, Drop)]
@@ -38,6 +39,20 @@ impl<'a, A: Allocator + Copy> Filling<'a, A> for Code<A> {
             rest = after;
         }
     }
+}
+
+/// Appends the shortest texts of the instructions.
+#[tactic(auto, using(wasm_reader_base::proofs::ShortTexts::members_start))]
+pub(crate) fn append_code<A: Allocator, B: Allocator>(
+    code: &[Plain<A>],
+    out: &mut Vec<u8, B>,
+) -> R<()>
+    ensures { OnOk result (AppendsShortest (members (instruction table)) (map plain_of code.now) out.old.items out.new.items) }
+{
+    for instruction in code {
+        instruction.append_shortest(out)?;
+    }
+    Ok(())
 }
 
 /// A function's body: the runs of its locals, each a count and a type, and its instructions, each `End` among them.
@@ -78,5 +93,21 @@ impl<'a, A: Allocator + Copy> Readable<'a, A> for Body<A> {
     fn read(bytes: &'a [u8], alloc: A) -> Result<(Body<A>, &'a [u8]), ReadFault> {
         let (Filled(body), rest) = <Filled<Body<A>> as Readable<'a, A>>::read(bytes, alloc)?;
         Ok((body, rest))
+    }
+}
+
+/// The same: the text is that of the frame.
+impl<A: Allocator> Shorten for Body<A> {
+    ghost Value = { BodyModel };
+
+    ghost format = { frame body };
+
+    ghost view = { body_of };
+
+    fn append_shortest<B: Allocator>(&self, out: &mut Vec<u8, B>) -> R<()> {
+        let start = out.len();
+        self.runs.append_shortest(out)?;
+        append_code(&self.code, out)?;
+        frame_since(out, start)
     }
 }

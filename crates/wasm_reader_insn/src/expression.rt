@@ -5,9 +5,11 @@ ghost use Rattle.wasm_code.specs.Expressions.{expression};
 ghost use Rattle.wasm_code.proofs.ExpressionLaws.{expression-alone};
 ghost use Rattle.wasm_reader_insn.specs.Arguments.{plain_of};
 
+use crate::body::append_code;
 use crate::instruction::Plain;
 use std::alloc::{Allocator, Global};
-use wasm_reader_base::{ReadFault, Readable};
+use wasm_base::R;
+use wasm_reader_base::{ReadFault, Readable, Shorten};
 
 /// The opcode of `End`.
 pub(crate) const END: u8 = 0x0B;
@@ -40,5 +42,20 @@ impl<'a, A: Allocator + Copy> Readable<'a, A> for Expression<A> {
             items.push(item)?;
             rest = after;
         }
+    }
+}
+
+impl<A: Allocator> Shorten for Expression<A> {
+    ghost Value = { List PlainInstruction };
+
+    ghost format = { expression };
+
+    ghost view = { λ e. map plain_of e.0.items };
+
+    #[tactic(auto, using(crate::proofs::ShortLists::expression_appended))]
+    fn append_shortest<B: Allocator>(&self, out: &mut Vec<u8, B>) -> R<()> {
+        append_code(&self.0, out)?;
+        out.push(END)?;
+        Ok(())
     }
 }

@@ -9,10 +9,11 @@ ghost use Rattle.wasm_insn.proofs.PlainLaws.{opcode-alone};
 ghost use Rattle.wasm_reader_base.specs.declared.fault.ReadFault.TheVariants.{Memory};
 ghost use Rattle.wasm_reader_insn.specs.Arguments.{argument_of, plain_of};
 
-use crate::arguments::{Arg, read_arguments, read_arguments_into};
+use crate::arguments::{Arg, append_arguments, read_arguments, read_arguments_into};
 use std::alloc::{Allocator, Global};
+use wasm_base::{Encode, R};
 use wasm_insn::Op;
-use wasm_reader_base::{ReadFault, Readable};
+use wasm_reader_base::{ReadFault, Readable, Shorten};
 
 /// An instruction in normal form: its opcode, and an argument for each part of the opcode's shape.
 #[derive(Debug, Drop)]
@@ -76,4 +77,17 @@ pub(crate) fn read_instruction_into<'a, A: Allocator + Copy>(
     };
     let rest = read_arguments_into(shape, rest, alloc, args)?;
     Ok((op, rest))
+}
+
+impl<A: Allocator> Shorten for Plain<A> {
+    ghost Value = { PlainInstruction };
+
+    ghost format = { instruction table };
+
+    ghost view = { plain_of };
+
+    fn append_shortest<B: Allocator>(&self, out: &mut Vec<u8, B>) -> R<()> {
+        self.op.encode(out)?;
+        append_arguments(&self.args, out)
+    }
 }

@@ -101,7 +101,7 @@ expressions_told : (told of_expressions : Bool) (mode : Mode) (s : List ℕ) (e 
 expressions_told told true mode s e h = ap are_expressions h.1
 expressions_told told false mode s e h = ap are_expressions h.1
 
-flag_told : TellsTag (λ f. mapped segment_of (pair (place f) (elements_as (tells_kind f) f.expressions))) flag_of
+pub flag_told : TellsTag (λ f. mapped segment_of (pair (place f) (elements_as (tells_kind f) f.expressions))) flag_of
 flag_told mode f s x h =
     let a = inactive_told f mode h.2.front h.0.0 h.2.first in
     let b = second_told f mode h.2.front h.0.0 h.2.first in

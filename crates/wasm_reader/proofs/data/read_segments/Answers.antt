@@ -4,7 +4,7 @@ use Rattle.std.proofs.lemmas.List.{length-append}
 use Rattle.wasm_base.specs.Formats.{vec}
 use Rattle.wasm_base.proofs.FormatLaws.{vec-alone}
 use Rattle.wasm_reader_base.proofs.Faults.{fault_stays, memory_stays}
-use Rattle.wasm_reader_base.proofs.ReadVectors.{HasRead, loop_start, loop_step, loop_reads, loop_nothing}
+use Rattle.wasm_reader_base.proofs.ReadVectors.{HasRead, loop_step, loop_reads, loop_nothing}
 use Rattle.wasm_sections.specs.DataSegments.{data_item}
 use Rattle.wasm_reader.specs.Items.{segment_of}
 use Rattle.wasm_sections.proofs.DataLaws.{data-alone}

@@ -1,7 +1,6 @@
 use Rattle.std.proofs.Common.{length, ap, subst}
 use Rattle.wasm_base.specs.Numbers.{wide}
 use Rattle.wasm_reader.specs.Sections.{content}
-use Rattle.wasm_reader.specs.declared.modules.Listed.{Listed}
 use Rattle.wasm_reader.proofs.ReadModules.{line_reads}
 use Rattle.wasm_reader.proofs.modules.read_line.Goals as goal
 

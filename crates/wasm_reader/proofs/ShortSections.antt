@@ -1,0 +1,213 @@
+-- The one shortest text of sections that were read.
+use Rattle.std.proofs.Common.{◌≡◌, ℕ, List, [], ◌++◌, length, drop, map, refl, sym, ap, subst, ◌∙◌, arith}
+use Rattle.std.proofs.lemmas.List.{length-append, length-drop, append_cancel_left, map-id}
+use Rattle.wasm_base.specs.Numbers.{shortest, wide}
+use Rattle.wasm_base.specs.Formats.{u32, name, any_bytes, frame, pair, vec}
+use Rattle.wasm_base.specs.Reading.{UniqueReading, UniqueWholeReading}
+use Rattle.wasm_base.specs.Texts.{frame_text, FrameFits, vec_text, VecFits}
+use Rattle.wasm_base.proofs.BaseLaws.{name-alone}
+use Rattle.wasm_base.proofs.FormatLaws.{vec-alone, frame-alone, whole_from_alone, mapped-whole, pair-whole, any_bytes-whole}
+use Rattle.wasm_base.proofs.NumberLaws.{u32-alone}
+use Rattle.wasm_base.proofs.ReadingSteps.{reads_same}
+use Rattle.wasm_base.proofs.TextLaws.{frame_spelled}
+use Rattle.wasm_code.specs.Bodies.{Body, body}
+use Rattle.wasm_code.proofs.BodyLaws.{frame-body-alone}
+use Rattle.wasm_insn.specs.Plain.{Plain}
+use Rattle.wasm_sections.specs.DataSegments.{DataItem, data_item}
+use Rattle.wasm_sections.specs.Elements.{Segment, element}
+use Rattle.wasm_sections.specs.Exports.{ExportFits, export_text, item_of, export}
+use Rattle.wasm_sections.specs.Globals.{GlobalItem, global_item}
+use Rattle.wasm_sections.specs.Imports.{ImportItem, import_format}
+use Rattle.wasm_sections.specs.Memories.{memory_text, memory_type}
+use Rattle.wasm_sections.specs.Tables.{TableItem, table_item}
+use Rattle.wasm_sections.specs.Tags.{tag_text, tag_type}
+use Rattle.wasm_sections.specs.declared.export.Export.{Export}
+use Rattle.wasm_sections.specs.declared.memory.MemoryType.{MemoryType}
+use Rattle.wasm_sections.specs.declared.tag.TagType.{TagType}
+use Rattle.wasm_sections.proofs.DataLaws.{data-alone}
+use Rattle.wasm_sections.proofs.ElementLaws.{element-alone}
+use Rattle.wasm_sections.proofs.ExportLaws.{export-alone}
+use Rattle.wasm_sections.proofs.GlobalLaws.{global_item-alone}
+use Rattle.wasm_sections.proofs.ImportLaws.{import-alone}
+use Rattle.wasm_sections.proofs.MemoryLaws.{memory-alone, memory_spelled}
+use Rattle.wasm_sections.proofs.TableLaws.{table_item-alone}
+use Rattle.wasm_sections.proofs.TagLaws.{tag-alone, tag_spelled}
+use Rattle.wasm_custom.specs.CoreDumps.{Instance}
+use Rattle.wasm_custom.specs.CoreStacks.{Frame}
+use Rattle.wasm_custom.specs.Hints.{Hints as FunctionHints}
+use Rattle.wasm_custom.specs.Linking.{LinkItem}
+use Rattle.wasm_custom.specs.Names.{NameItem}
+use Rattle.wasm_custom.specs.Producers.{Field}
+use Rattle.wasm_custom.specs.Readings.{name_payload, linking_payload, producers_payload, hints_payload, core_payload, modules_payload, instances_payload, stack_payload}
+use Rattle.wasm_custom.proofs.SectionLaws.{name-whole, linking-whole, producers-whole, hints-whole, modules-whole, instances-whole, core-whole, stack-whole}
+use Rattle.wasm_reader_base.specs.Shortest.{AppendsShortest}
+use Rattle.wasm_reader_base.proofs.ShortTexts.{text_appended, pair_appended, mapped_appended, records_appended}
+use Rattle.wasm_reader.specs.Sections.{Contents, Bodies, Segments, DataCount, Elements, Exports, Functions, Globals, Imports, Memories, Start, Tables, Tags, Names, Linking, Producers, Hints, Core, CoreModules, CoreInstances, CoreStack, Custom, Raw, content, kind_in, section, Takes, Shortens, HaveOneText}
+use Rattle.wasm_reader.specs.declared.section.SectionKind.{SectionKind}
+use Rattle.wasm_reader.specs.declared.section.SectionKind.TheVariants as kinds
+use Rattle.wasm_reader.proofs.ReadPlain.{memory_is, tag_is, export_short}
+
+-- ---- contents
+
+pub bodies : (xs : List Body) (old new : List ℕ) → AppendsShortest (vec (frame body)) xs old new → AppendsShortest (content kinds.Bodies) (Bodies xs) old new
+bodies xs old new a = mapped_appended Bodies (vec (frame body)) xs old new (λ z e. cc e) a
+
+pub segments : (xs : List DataItem) (old new : List ℕ) → AppendsShortest (vec data_item) xs old new → AppendsShortest (content kinds.Segments) (Segments xs) old new
+segments xs old new a = mapped_appended Segments (vec data_item) xs old new (λ z e. cc e) a
+
+pub data_count : (n : ℕ) (old new : List ℕ) → AppendsShortest u32 n old new → AppendsShortest (content kinds.DataCount) (DataCount n) old new
+data_count n old new a = mapped_appended DataCount u32 n old new (λ z e. cc e) a
+
+pub elements : (xs : List (Segment (List Plain))) (old new : List ℕ) → AppendsShortest (vec element) xs old new → AppendsShortest (content kinds.Elements) (Elements xs) old new
+elements xs old new a = mapped_appended Elements (vec element) xs old new (λ z e. cc e) a
+
+pub exports : (es : List Export) (old new : List ℕ) → VecFits ExportFits es → new ≡ old ++ vec_text export_text es → AppendsShortest (content kinds.Exports) (Exports (map item_of es)) old new
+exports es old new fits e = mapped_appended Exports (vec export) (map item_of es) old new (λ z k. cc k) (records_appended export item_of export_text ExportFits es old new export_short fits e)
+
+pub functions : (ns : List ℕ) (old new : List ℕ) → AppendsShortest (vec u32) (map (λ n. n) ns) old new → AppendsShortest (content kinds.Functions) (Functions ns) old new
+functions ns old new a = mapped_appended Functions (vec u32) ns old new (λ z e. cc e) (subst (λ z. AppendsShortest (vec u32) z old new) (map-id ns) a)
+
+pub globals : (xs : List GlobalItem) (old new : List ℕ) → AppendsShortest (vec global_item) xs old new → AppendsShortest (content kinds.Globals) (Globals xs) old new
+globals xs old new a = mapped_appended Globals (vec global_item) xs old new (λ z e. cc e) a
+
+pub imports : (is : List ImportItem) (old new : List ℕ) → AppendsShortest (vec import_format) is old new → AppendsShortest (content kinds.Imports) (Imports is) old new
+imports is old new a = mapped_appended Imports (vec import_format) is old new (λ z e. cc e) a
+
+pub memories : (ms : List MemoryType) (old new : List ℕ) → VecFits (λ m. Unit {0}) ms → new ≡ old ++ vec_text memory_text ms → AppendsShortest (content kinds.Memories) (Memories ms) old new
+memories ms old new fits e =
+    mapped_appended Memories (vec memory_type) ms old new (λ z k. cc k)
+    (subst (λ z. AppendsShortest (vec memory_type) z old new) (map-id ms) (records_appended memory_type (λ m. m) memory_text (λ m. Unit {0}) ms old new (λ m f s h. memory_spelled m (memory_is wide s m h)) fits e))
+
+pub start : (n : ℕ) (old new : List ℕ) → AppendsShortest u32 n old new → AppendsShortest (content kinds.Start) (Start n) old new
+start n old new a = mapped_appended Start u32 n old new (λ z e. cc e) a
+
+pub tables : (xs : List TableItem) (old new : List ℕ) → AppendsShortest (vec table_item) xs old new → AppendsShortest (content kinds.Tables) (Tables xs) old new
+tables xs old new a = mapped_appended Tables (vec table_item) xs old new (λ z e. cc e) a
+
+pub tags : (ts : List TagType) (old new : List ℕ) → VecFits (λ t. Unit {0}) ts → new ≡ old ++ vec_text tag_text ts → AppendsShortest (content kinds.Tags) (Tags ts) old new
+tags ts old new fits e =
+    mapped_appended Tags (vec tag_type) ts old new (λ z k. cc k)
+    (subst (λ z. AppendsShortest (vec tag_type) z old new) (map-id ts) (records_appended tag_type (λ t. t) tag_text (λ t. Unit {0}) ts old new (λ t f s h. tag_spelled t (tag_is wide s t h)) fits e))
+
+pub names : (x : List NameItem) (old new : List ℕ) → AppendsShortest name_payload x old new → AppendsShortest (content kinds.Names) (Names x) old new
+names x old new a = mapped_appended Names name_payload x old new (λ z e. cc e) a
+
+pub links : (x : List LinkItem) (old new : List ℕ) → AppendsShortest linking_payload x old new → AppendsShortest (content kinds.Linking) (Linking x) old new
+links x old new a = mapped_appended Linking linking_payload x old new (λ z e. cc e) a
+
+pub producers : (x : List Field) (old new : List ℕ) → AppendsShortest producers_payload x old new → AppendsShortest (content kinds.Producers) (Producers x) old new
+producers x old new a = mapped_appended Producers producers_payload x old new (λ z e. cc e) a
+
+pub hints : (x : List FunctionHints) (old new : List ℕ) → AppendsShortest hints_payload x old new → AppendsShortest (content kinds.Hints) (Hints x) old new
+hints x old new a = mapped_appended Hints hints_payload x old new (λ z e. cc e) a
+
+pub process : (x : List ℕ) (old new : List ℕ) → AppendsShortest core_payload x old new → AppendsShortest (content kinds.Core) (Core x) old new
+process x old new a = mapped_appended Core core_payload x old new (λ z e. cc e) a
+
+pub modules : (x : List (List ℕ)) (old new : List ℕ) → AppendsShortest modules_payload x old new → AppendsShortest (content kinds.CoreModules) (CoreModules x) old new
+modules x old new a = mapped_appended CoreModules modules_payload x old new (λ z e. cc e) a
+
+pub instances : (x : List Instance) (old new : List ℕ) → AppendsShortest instances_payload x old new → AppendsShortest (content kinds.CoreInstances) (CoreInstances x) old new
+instances x old new a = mapped_appended CoreInstances instances_payload x old new (λ z e. cc e) a
+
+pub stack : (x : List ℕ × List Frame) (old new : List ℕ) → AppendsShortest stack_payload x old new → AppendsShortest (content kinds.CoreStack) (CoreStack x) old new
+stack x old new a = mapped_appended CoreStack stack_payload x old new (λ z e. cc e) a
+
+pub custom : (n bytes old middle new : List ℕ) → AppendsShortest name n old middle → new ≡ middle ++ bytes → AppendsShortest (content kinds.Custom) (Custom (n, bytes)) old new
+custom n bytes old middle new a e = mapped_appended Custom (pair name any_bytes) (n, bytes) old new (λ z k. cc k) (pair_appended name any_bytes a (text_appended any_bytes bytes bytes middle new (λ s h. refl) e))
+
+pub raw : (bytes old new : List ℕ) → new ≡ old ++ bytes → AppendsShortest (content kinds.Raw) (Raw bytes) old new
+raw bytes old new e = mapped_appended Raw any_bytes bytes old new (λ z k. cc k) (text_appended any_bytes bytes bytes old new (λ s h. refl) e)
+
+pub ruleset contents = (bodies, segments, data_count, elements, exports, functions, globals, imports, memories, start, tables, tags, names, links, producers, hints, process, modules, instances, stack, custom, raw)
+
+-- ---- sections
+
+content-whole : (kind : SectionKind) → UniqueWholeReading (content kind)
+content-whole kinds.Bodies = mapped-whole Bodies (λ x y e. cc) (whole_from_alone (vec-alone frame-body-alone))
+content-whole kinds.Segments = mapped-whole Segments (λ x y e. cc) (whole_from_alone (vec-alone data-alone))
+content-whole kinds.DataCount = mapped-whole DataCount (λ x y e. cc) (whole_from_alone u32-alone)
+content-whole kinds.Elements = mapped-whole Elements (λ x y e. cc) (whole_from_alone (vec-alone element-alone))
+content-whole kinds.Exports = mapped-whole Exports (λ x y e. cc) (whole_from_alone (vec-alone export-alone))
+content-whole kinds.Functions = mapped-whole Functions (λ x y e. cc) (whole_from_alone (vec-alone u32-alone))
+content-whole kinds.Globals = mapped-whole Globals (λ x y e. cc) (whole_from_alone (vec-alone global_item-alone))
+content-whole kinds.Imports = mapped-whole Imports (λ x y e. cc) (whole_from_alone (vec-alone import-alone))
+content-whole kinds.Memories = mapped-whole Memories (λ x y e. cc) (whole_from_alone (vec-alone memory-alone))
+content-whole kinds.Start = mapped-whole Start (λ x y e. cc) (whole_from_alone u32-alone)
+content-whole kinds.Tables = mapped-whole Tables (λ x y e. cc) (whole_from_alone (vec-alone table_item-alone))
+content-whole kinds.Tags = mapped-whole Tags (λ x y e. cc) (whole_from_alone (vec-alone tag-alone))
+content-whole kinds.Names = mapped-whole Names (λ x y e. cc) name-whole
+content-whole kinds.Linking = mapped-whole Linking (λ x y e. cc) linking-whole
+content-whole kinds.Producers = mapped-whole Producers (λ x y e. cc) producers-whole
+content-whole kinds.Hints = mapped-whole Hints (λ x y e. cc) hints-whole
+content-whole kinds.Core = mapped-whole Core (λ x y e. cc) core-whole
+content-whole kinds.CoreModules = mapped-whole CoreModules (λ x y e. cc) modules-whole
+content-whole kinds.CoreInstances = mapped-whole CoreInstances (λ x y e. cc) instances-whole
+content-whole kinds.CoreStack = mapped-whole CoreStack (λ x y e. cc) stack-whole
+content-whole kinds.Custom = mapped-whole Custom (λ x y e. cc) (pair-whole name-alone any_bytes-whole)
+content-whole kinds.Raw = mapped-whole Raw (λ x y e. cc) any_bytes-whole
+
+section-alone : (kind : SectionKind) → UniqueReading (section kind)
+section-alone kind = frame-alone (content-whole kind)
+
+-- What is read as a section of a kind is what sections of that kind hold.
+kind_is : (kind : SectionKind) (s : List ℕ) (x : Contents) → content kind wide s x → kind_in x ≡ kind
+kind_is kinds.Bodies s x h = sym (ap kind_in h.1)
+kind_is kinds.Segments s x h = sym (ap kind_in h.1)
+kind_is kinds.DataCount s x h = sym (ap kind_in h.1)
+kind_is kinds.Elements s x h = sym (ap kind_in h.1)
+kind_is kinds.Exports s x h = sym (ap kind_in h.1)
+kind_is kinds.Functions s x h = sym (ap kind_in h.1)
+kind_is kinds.Globals s x h = sym (ap kind_in h.1)
+kind_is kinds.Imports s x h = sym (ap kind_in h.1)
+kind_is kinds.Memories s x h = sym (ap kind_in h.1)
+kind_is kinds.Start s x h = sym (ap kind_in h.1)
+kind_is kinds.Tables s x h = sym (ap kind_in h.1)
+kind_is kinds.Tags s x h = sym (ap kind_in h.1)
+kind_is kinds.Names s x h = sym (ap kind_in h.1)
+kind_is kinds.Linking s x h = sym (ap kind_in h.1)
+kind_is kinds.Producers s x h = sym (ap kind_in h.1)
+kind_is kinds.Hints s x h = sym (ap kind_in h.1)
+kind_is kinds.Core s x h = sym (ap kind_in h.1)
+kind_is kinds.CoreModules s x h = sym (ap kind_in h.1)
+kind_is kinds.CoreInstances s x h = sym (ap kind_in h.1)
+kind_is kinds.CoreStack s x h = sym (ap kind_in h.1)
+kind_is kinds.Custom s x h = sym (ap kind_in h.1)
+kind_is kinds.Raw s x h = sym (ap kind_in h.1)
+
+-- The content was appended to an empty buffer, and its frame to the sink.
+pub shortened : (kind : SectionKind) (bytes start text old new : List ℕ) (x : Contents) (n : ℕ) → Takes kind bytes x n → start ≡ [] → AppendsShortest (content (kind_in x)) x start text → FrameFits text → new ≡ old ++ frame_text text → Shortens kind bytes n old new
+shortened kind bytes start text old new x n t empty a fits e =
+    let read = t.reads in
+    let given = subst (λ k. AppendsShortest (content k) x start text) (kind_is kind read.spelled.content x read.spelled.spelled) a in
+    let is : text ≡ given.text = given.appended ∙ ap (λ z. z ++ given.text) empty in
+    let spelled = frame_spelled (content kind) text x fits (subst (λ z. content kind shortest z x) (sym is) (given.spelled read.spelled.content read.spelled.spelled)) in
+    let alone = section-alone kind in
+    let less = alone.spellings.shorter read.front x read.spelled in
+    let same = alone.spellings.one less.0 (frame_text text) x less.1 spelled in
+    record {
+      value = x;
+      takes = t;
+      text = frame_text text;
+      spelled = spelled;
+      shorter = omega (arith, less.2, ap length same, ap length read.split, length-append read.front (drop n bytes), length-drop n bytes, t.within);
+      appended = e;
+    }
+
+-- ---- one text
+
+read_as : (kind : SectionKind) (bytes old new : List ℕ) (n : ℕ) (x : Contents) → (s : Shortens kind bytes n old new) → Takes kind bytes x n → section kind shortest s.text x
+read_as kind bytes old new n x s t = subst (λ z. section kind shortest s.text z) (reads_same (section-alone kind) s.takes.reads t.reads).0 s.spelled
+
+pub one_text : HaveOneText
+one_text = record {
+  same = λ kind a b old other s t n m x y p q h g.
+      let alone = section-alone kind in
+      let first = read_as kind a old (old ++ s) n x p h in
+      let second = read_as kind b other (other ++ t) m y q g in
+      let s_is : s ≡ p.text = append_cancel_left old s p.text p.appended in
+      let t_is : t ≡ q.text = append_cancel_left other t q.text q.appended in (
+        λ e. (alone.alone shortest p.text q.text [] [] x y first second (ap (λ z. z ++ []) (sym s_is ∙ e ∙ t_is))).0,
+        λ e. s_is ∙ alone.spellings.one p.text q.text y (subst (λ z. section kind shortest p.text z) e first) second ∙ sym t_is,
+      );
+}

@@ -1,0 +1,42 @@
+-- The one shortest text of expressions and bodies that were read.
+use Rattle.std.proofs.Common.{◌≡◌, ℕ, List, [], ◌∷◌, ◌++◌, map, refl, ap, subst, ◌∙◌, append_assoc}
+use Rattle.std.proofs.lemmas.List.{map-id}
+use Rattle.wasm_base.specs.Numbers.{shortest, wide}
+use Rattle.wasm_base.specs.Formats.{Format, u32, members, ended, such, pair, vec}
+use Rattle.wasm_base.specs.Types.{val_type}
+use Rattle.wasm_insn.specs.Plain.{Plain, instruction}
+use Rattle.wasm_insn.specs.Table.{table}
+use Rattle.wasm_code.specs.Expressions.{IsNoEnd, expression}
+use Rattle.wasm_code.specs.Bodies.{Run, body_of, body}
+use Rattle.wasm_code.proofs.ExpressionLaws.{expression_spelled}
+use Rattle.wasm_reader_base.specs.Shortest.{AppendsShortest}
+use Rattle.wasm_reader_base.proofs.ShortTexts.{pair_appended, mapped_appended}
+
+-- ---- expressions
+
+before_end : {X : Type 0} (P : X → Type 0) (F : Format X) (stop : ℕ) (xs : List X) (s : List ℕ) → ended stop (such P F) wide s xs → (t : List ℕ) × members F wide t xs
+before_end P F stop [] s h = ([], refl)
+before_end P F stop (x ∷ xs) s h = let more = before_end P F stop xs h.1 h.4 in (h.0 ++ more.0, (h.0, more.0, refl, h.3.0, more.1))
+
+such_members : {X : Type 0} (P : X → Type 0) (F : Format X) (stop : ℕ) (xs : List X) (s t : List ℕ) → ended stop (such P F) wide s xs → members F shortest t xs → members (such P F) shortest t xs
+such_members P F stop [] s t h g = g
+such_members P F stop (x ∷ xs) s t h g = (g.0, g.1, g.2, (g.3, h.3.1), such_members P F stop xs h.1 g.1 h.4 g.4)
+
+-- the instructions are appended, and then End
+pub expression_appended : (is : List Plain) (old middle new : List ℕ) → AppendsShortest (members (instruction table)) is old middle → new ≡ middle ++ 0x0B ∷ [] → AppendsShortest expression is old new
+expression_appended is old middle new a e = record {
+  text = a.text ++ 0x0B ∷ [];
+  appended = e ∙ ap (λ z. z ++ 0x0B ∷ []) a.appended ∙ append_assoc old a.text (0x0B ∷ []);
+  spelled = λ s h.
+      let read = before_end IsNoEnd (instruction table) 0x0B is s h in
+      expression_spelled shortest a.text is (such_members IsNoEnd (instruction table) 0x0B is s a.text h (a.spelled read.0 read.1));
+}
+
+-- ---- bodies
+
+-- the runs are appended, as a reader sees them, and then the instructions
+pub body_appended : (runs : List Run) (code : List Plain) (old middle new : List ℕ) → AppendsShortest (vec (pair u32 val_type)) (map (λ r. (r.0, r.1)) runs) old middle → AppendsShortest (members (instruction table)) code middle new
+    → AppendsShortest body (record { runs = runs; code = code }) old new
+body_appended runs code old middle new a b =
+    let given = subst (λ z. AppendsShortest (vec (pair u32 val_type)) z old middle) (map-id runs) a in
+    mapped_appended body_of (pair (vec (pair u32 val_type)) (members (instruction table))) (runs, code) old new (λ z e. ap (λ x. (x.runs, x.code)) e) (pair_appended (vec (pair u32 val_type)) (members (instruction table)) given b)
