@@ -46,7 +46,7 @@ value-alone =
     (fixed-alone [] Missing, (mapped-alone I32 (λ x y e. cc) s32-alone, (mapped-alone I64 (λ x y e. cc) s64-alone, (mapped-alone f32_of (λ x y e. ap bits_of e) (little_endian-alone 4), (mapped-alone f64_of (λ x y e. ap bits_of e) (little_endian-alone 8), tt)))))
     (λ mode s x h. sym (ap code_of h.1), (λ mode s x h. ap code_of h.1, (λ mode s x h. ap code_of h.1, (λ mode s x h. ap code_of h.1, (λ mode s x h. ap code_of h.1, tt)))))
 
-value_spelled : (x : CoreDumpValue) → IsValue x → value shortest (value_text x) x
+pub value_spelled : (x : CoreDumpValue) → IsValue x → value shortest (value_text x) x
 value_spelled Missing plain = tagged_spelled shortest 0x01 [] Missing (refl, refl)
 value_spelled (I32 v) plain = tagged_spelled shortest 0x7F (signed_text v) (I32 v) (v, refl, s32_spelled v plain)
 value_spelled (I64 v) plain = tagged_spelled shortest 0x7E (signed_text v) (I64 v) (v, refl, s64_spelled v plain)

@@ -18,7 +18,7 @@ use Rattle.wasm_base.proofs.PartLaws.{pair_spelled, prefixed_spelled}
 pub hint-alone : UniqueReading hint
 hint-alone = mapped-alone hint_of (λ x y e. ap (λ h. (h.branch_func_offset, h.branch_hint_value)) e) (pair-alone u32-alone (prefixed-alone (0x01 ∷ []) (such-alone (λ b. b < 128) byte-alone)))
 
-hint_spelled : (h : BranchHint) → IsHint h → hint shortest (hint_text h) h
+pub hint_spelled : (h : BranchHint) → IsHint h → hint shortest (hint_text h) h
 hint_spelled h plain =
     let value = h.branch_hint_value in
     let one : such (λ b. b < 128) byte shortest (unsigned_text value) value = (groups_text-last false 0x80 value plain.value, plain.value) in

@@ -46,7 +46,7 @@ is_zero id e = go (eqb id 0) refl e
     go true t e = eqb-true id 0 t
     go false t e = absurd (not_module (is_one_of map_ids id) (is_one_of indirect_ids id) e)
 
-tells : TellsTag (λ id. after_id (kind_of id) id) id_of
+pub tells : TellsTag (λ id. after_id (kind_of id) id) id_of
 tells mode id s x h = go (kind_of id) refl h
   where
     go : (k : NameKind) → kind_of id ≡ k → after_id k id mode s x → id ≡ id_of x

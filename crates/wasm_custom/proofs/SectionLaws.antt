@@ -27,28 +27,28 @@ use Rattle.wasm_custom.proofs.SymbolLaws.{symbol-alone}
 
 -- ---- payloads
 
-name-whole : UniqueWholeReading name_payload
+pub name-whole : UniqueWholeReading name_payload
 name-whole = after-whole name_name name-alone (entries-whole false (fixed-alone [] (tt {0})) (λ e. tagged_begins) subsection-alone)
 
-linking-whole : UniqueWholeReading linking_payload
+pub linking-whole : UniqueWholeReading linking_payload
 linking-whole = after-whole linking_name name-alone (entries-whole false (just-alone version u32-alone) (λ e. tagged_begins) link-alone)
 
-producers-whole : UniqueWholeReading producers_payload
+pub producers-whole : UniqueWholeReading producers_payload
 producers-whole = after-whole producers_name name-alone (entries-whole true (fixed-alone [] (tt {0})) (λ e. absurd (cc e)) field-alone)
 
-hints-whole : UniqueWholeReading hints_payload
+pub hints-whole : UniqueWholeReading hints_payload
 hints-whole = after-whole hints_name name-alone (entries-whole true (fixed-alone [] (tt {0})) (λ e. absurd (cc e)) hints-alone)
 
-modules-whole : UniqueWholeReading modules_payload
+pub modules-whole : UniqueWholeReading modules_payload
 modules-whole = after-whole modules_name name-alone (entries-whole true (fixed-alone [] (tt {0})) (λ e. absurd (cc e)) marked-alone)
 
-instances-whole : UniqueWholeReading instances_payload
+pub instances-whole : UniqueWholeReading instances_payload
 instances-whole = after-whole instances_name name-alone (entries-whole true (fixed-alone [] (tt {0})) (λ e. absurd (cc e)) instance-alone)
 
-core-whole : UniqueWholeReading core_payload
+pub core-whole : UniqueWholeReading core_payload
 core-whole = after-whole core_name name-alone (whole_from_alone marked-alone)
 
-stack-whole : UniqueWholeReading stack_payload
+pub stack-whole : UniqueWholeReading stack_payload
 stack-whole = after-whole stack_name name-alone (pair-whole marked-alone (whole_from_alone (vec-alone stack_frame-alone)))
 
 pub name-payload : ReadsPayloads name_payload

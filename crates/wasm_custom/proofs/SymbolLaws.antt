@@ -17,7 +17,7 @@ use Rattle.wasm_custom.specs.declared.symbols.SymbolKind.TheVariants.{Function, 
 
 -- ---- reading
 
-definition-alone : UniqueReading definition
+pub definition-alone : UniqueReading definition
 definition-alone = mapped-alone definition_of (λ x y e. ap (λ d. (d.index, (d.offset, d.size))) e) (pair-alone u32-alone (pair-alone u32-alone u32-alone))
 
 abbrev flags_of : Symbol → ℕ
@@ -54,7 +54,7 @@ symbol-alone =
 as_flagged : {X : Type 0} (F : Format X) (text : X → List ℕ) (flag : Bool) (part : Option X) → is_given part ≡ flag → optional (is_given part) F shortest (optional_text text part) part → optional flag F shortest (optional_text text part) part
 as_flagged F text flag part e h = subst (λ given. optional given F shortest (optional_text text part) part) e h
 
-definition_spelled : (d : DataSymbolDefinition) → IsDefinition d → definition shortest (definition_text d) d
+pub definition_spelled : (d : DataSymbolDefinition) → IsDefinition d → definition shortest (definition_text d) d
 definition_spelled d plain =
     let last = pair_spelled u32 u32 (unsigned_text d.offset) (unsigned_text d.size) d.offset d.size (u32_spelled d.offset plain.offset) (u32_spelled d.size plain.size) in
     ((d.index, (d.offset, d.size)), refl, pair_spelled u32 (pair u32 u32) (unsigned_text d.index) (unsigned_text d.offset ++ unsigned_text d.size) d.index (d.offset, d.size) (u32_spelled d.index plain.index) last)

@@ -31,4 +31,4 @@ pub use lists::{CountedList, ListKind};
 pub use names::{IndirectMembers, IndirectNameMap, NameItems, NameMap, NameMembers, NameSection};
 pub use producers::{ProducerItems, ProducersField, ProducersSection, ValueMembers};
 pub use raw_custom::RawCustomSection;
-pub use symbols::{DataSymbolDefinition, SymbolMembers, SymbolTable};
+pub use symbols::{DataSymbolDefinition, SymbolKind, SymbolMembers, SymbolTable};

@@ -54,7 +54,7 @@ impl Encode for DataSymbolDefinition {
 
 /// What a symbol with an index is.
 #[derive(Clone, Copy, Debug)]
-pub(crate) enum SymbolKind {
+pub enum SymbolKind {
     Function = 0x00,
     Global = 0x02,
     Table = 0x05,

@@ -6,7 +6,10 @@ use Rattle.wasm_base.specs.Numbers.{shortest, wide}
 use Rattle.wasm_base.specs.Reading.{UniqueReading, Reads, ReadsAlone, ReadsNothing}
 use Rattle.wasm_sections.specs.Exports.{ExportItem, export}
 use Rattle.wasm_sections.proofs.SectionLaws.{functions-alone, exports-alone}
-use Rattle.wasm_reader.specs.Sections.{Contents, Functions, Exports, section, Takes, Shortens}
+use Rattle.wasm_custom.specs.Names.{NameItem}
+use Rattle.wasm_custom.specs.Readings.{name_payload}
+use Rattle.wasm_custom.proofs.SectionLaws.{name_section-alone}
+use Rattle.wasm_reader.specs.Sections.{Contents, Functions, Exports, Names, section, Takes, Shortens}
 use Rattle.wasm_reader.specs.declared.section.SectionKind.TheVariants as kinds
 
 module _ {X : Type 0} (F : Format X) (say : X → Contents) {text bytes : List ℕ} {x : X} (alone : ReadsAlone (frame F) text x) (gained : bytes ≡ [] ++ text) where
@@ -47,3 +50,10 @@ reads_exports g h = (said (vec export) Exports g.alone g.added h.reads).0
 
 pub exports_stand : {bytes : List ℕ} {items : List ExportItem} → GainsReading (frame (vec export)) items [] bytes → ReadsNothing (section kinds.Exports) wide bytes → ⊥
 exports_stand g n = stands (vec export) Exports g.alone g.added exports-alone n
+
+-- The same of names.
+pub reads_names : {bytes : List ℕ} {items : List NameItem} {y : Contents} {n : ℕ} → GainsReading (frame name_payload) items [] bytes → Takes kinds.Names bytes y n → y ≡ Names items
+reads_names g h = (said name_payload Names g.alone g.added h.reads).0
+
+pub names_stand : {bytes : List ℕ} {items : List NameItem} → GainsReading (frame name_payload) items [] bytes → ReadsNothing (section kinds.Names) wide bytes → ⊥
+names_stand g n = stands name_payload Names g.alone g.added name_section-alone n

@@ -25,25 +25,6 @@ use Rattle.wasm_reader_base.specs.Shortest.{AppendsShortest}
 use Rattle.wasm_reader_base.proofs.ReadPlain.{ref_is, val_type_is}
 use Rattle.wasm_reader_base.proofs.ShortTexts.{text_appended}
 
--- ---- lists of records
-
-members_short : {T X : Type 0} (F : Format X) (view : T → X) (text : T → List ℕ) (Fits : T → Type 0) → ((x : T) → Fits x → (s : List ℕ) → F wide s (view x) → F shortest (text x) (view x)) → (xs : List T) → All Fits xs → (s : List ℕ) → members F wide s (map view xs) → members F shortest (flat_map text xs) (map view xs)
-members_short F view text Fits short [] fits s h = refl
-members_short F view text Fits short (x ∷ xs) fits s h = (text x, flat_map text xs, refl, short x (All-head Fits x xs fits) h.0 h.3, members_short F view text Fits short xs (All-tail Fits x xs fits) h.1 h.4)
-
--- The vector of records is appended, each of which has its text as its shortest spelling.
-pub records_appended : {T X : Type 0} (F : Format X) (view : T → X) (text : T → List ℕ) (Fits : T → Type 0) (xs : List T) (old new : List ℕ) → ((x : T) → Fits x → (s : List ℕ) → F wide s (view x) → F shortest (text x) (view x)) → VecFits Fits xs → new ≡ old ++ vec_text text xs → AppendsShortest (vec F) (map view xs) old new
-records_appended F view text Fits xs old new short fits e = text_appended (vec F) (map view xs) (vec_text text xs) old new spelled e
-  where
-    spelled : (s : List ℕ) → vec F wide s (map view xs) → vec F shortest (vec_text text xs) (map view xs)
-    spelled s h = record {
-      front = unsigned_text (length xs);
-      back = flat_map text xs;
-      joined = refl;
-      first = subst (λ n. u32 shortest (unsigned_text n) (length (map view xs))) (length-map xs view) (u32_spelled (length (map view xs)) h.first.range);
-      second = members_short F view text Fits short xs fits.members h.back h.second;
-    }
-
 -- ---- types
 
 optional_is : {X : Type 0} (P : X → Type 0) (F : Format X) → AllValues P F → (flag : Bool) → AllValues (λ o. IfSome o P) (optional flag F)

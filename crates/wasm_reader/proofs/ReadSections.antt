@@ -19,25 +19,16 @@ use Rattle.wasm_sections.specs.Tables.{TableItem, table_item}
 use Rattle.wasm_sections.specs.Tags.{tag_type}
 use Rattle.wasm_sections.specs.declared.memory.MemoryType.{MemoryType}
 use Rattle.wasm_sections.specs.declared.tag.TagType.{TagType}
-use Rattle.wasm_reader.specs.Sections.{Contents, Bodies, Segments, DataCount, Elements, Exports, Functions, Globals, Imports, Memories, Start, Tables, Tags, Custom, Raw, content, section, Takes}
+use Rattle.wasm_custom.specs.CoreDumps.{Instance}
+use Rattle.wasm_custom.specs.CoreStacks.{Frame}
+use Rattle.wasm_custom.specs.Hints.{Hints as FunctionHints}
+use Rattle.wasm_custom.specs.Linking.{LinkItem}
+use Rattle.wasm_custom.specs.Names.{NameItem}
+use Rattle.wasm_custom.specs.Producers.{Field}
+use Rattle.wasm_custom.specs.Readings.{name_payload, linking_payload, producers_payload, hints_payload, core_payload, modules_payload, instances_payload, stack_payload}
+use Rattle.wasm_reader.specs.Sections.{Contents, Bodies, Segments, DataCount, Elements, Exports, Functions, Globals, Imports, Memories, Start, Tables, Tags, Names, Linking, Producers, Hints, Core, CoreModules, CoreInstances, CoreStack, Custom, Raw, content, section, Takes}
 use Rattle.wasm_reader.specs.declared.section.SectionKind.{SectionKind}
 use Rattle.wasm_reader.specs.declared.section.SectionKind.TheVariants as kinds
-
--- ---- a value that all of the bytes spell
-
-all_of : {X : Type 0} (F : Format X) (bytes : List ℕ) (x : X) → F wide bytes x → Reads F wide bytes x []
-all_of F bytes x h = record { front = bytes; split = sym (append-nil bytes); spelled = h }
-
-pub whole_reads : {X : Type 0} (F : Format X) (bytes left : List ℕ) (x : X) → Reads F wide bytes x left → length left ≡ 0 → F wide bytes x
-whole_reads F bytes left x h e = subst (λ z. F wide z x) (sym (h.split ∙ ap (λ z. h.front ++ z) (none_left left e) ∙ append-nil h.front)) h.spelled
-
-pub whole_more : {X : Type 0} (F : Format X) (bytes left : List ℕ) (x : X) → UniqueReading F → Reads F wide bytes x left → length left ≢ 0 → FillsNothing F bytes
-whole_more F bytes left x alone h more = record { none = λ y s. more (ap length (reads_same alone h (all_of F bytes y s)).1) }
-
-pub whole_nothing : {X : Type 0} (F : Format X) (bytes : List ℕ) → ReadsNothing F wide bytes → FillsNothing F bytes
-whole_nothing F bytes n = record { none = λ x s. n.none x [] (all_of F bytes x s) }
-
-pub ruleset whole_steps = (whole_reads, whole_more, whole_nothing)
 
 -- ---- the content of each kind
 
@@ -116,6 +107,54 @@ tags_fill bytes x h = (x, refl, subst (λ z. vec tag_type wide bytes z) (map-id 
 pub no_tags : (bytes : List ℕ) → FillsNothing (vec tag_type) bytes → FillsNothing (content kinds.Tags) bytes
 no_tags bytes n = says_nothing Tags n
 
+pub names_fill : (bytes : List ℕ) (x : List NameItem) → name_payload wide bytes x → content kinds.Names wide bytes (Names x)
+names_fill bytes x h = (x, refl, h)
+
+pub no_names : (bytes : List ℕ) → FillsNothing name_payload bytes → FillsNothing (content kinds.Names) bytes
+no_names bytes n = says_nothing Names n
+
+pub links_fill : (bytes : List ℕ) (x : List LinkItem) → linking_payload wide bytes x → content kinds.Linking wide bytes (Linking x)
+links_fill bytes x h = (x, refl, h)
+
+pub no_links : (bytes : List ℕ) → FillsNothing linking_payload bytes → FillsNothing (content kinds.Linking) bytes
+no_links bytes n = says_nothing Linking n
+
+pub producers_fill : (bytes : List ℕ) (x : List Field) → producers_payload wide bytes x → content kinds.Producers wide bytes (Producers x)
+producers_fill bytes x h = (x, refl, h)
+
+pub no_producers : (bytes : List ℕ) → FillsNothing producers_payload bytes → FillsNothing (content kinds.Producers) bytes
+no_producers bytes n = says_nothing Producers n
+
+pub hints_fill : (bytes : List ℕ) (x : List FunctionHints) → hints_payload wide bytes x → content kinds.Hints wide bytes (Hints x)
+hints_fill bytes x h = (x, refl, h)
+
+pub no_hints : (bytes : List ℕ) → FillsNothing hints_payload bytes → FillsNothing (content kinds.Hints) bytes
+no_hints bytes n = says_nothing Hints n
+
+pub core_fills : (bytes : List ℕ) (x : List ℕ) → core_payload wide bytes x → content kinds.Core wide bytes (Core x)
+core_fills bytes x h = (x, refl, h)
+
+pub no_core : (bytes : List ℕ) → FillsNothing core_payload bytes → FillsNothing (content kinds.Core) bytes
+no_core bytes n = says_nothing Core n
+
+pub modules_fill : (bytes : List ℕ) (x : List (List ℕ)) → modules_payload wide bytes x → content kinds.CoreModules wide bytes (CoreModules x)
+modules_fill bytes x h = (x, refl, h)
+
+pub no_modules : (bytes : List ℕ) → FillsNothing modules_payload bytes → FillsNothing (content kinds.CoreModules) bytes
+no_modules bytes n = says_nothing CoreModules n
+
+pub instances_fill : (bytes : List ℕ) (x : List Instance) → instances_payload wide bytes x → content kinds.CoreInstances wide bytes (CoreInstances x)
+instances_fill bytes x h = (x, refl, h)
+
+pub no_instances : (bytes : List ℕ) → FillsNothing instances_payload bytes → FillsNothing (content kinds.CoreInstances) bytes
+no_instances bytes n = says_nothing CoreInstances n
+
+pub stack_fills : (bytes : List ℕ) (x : List ℕ × List Frame) → stack_payload wide bytes x → content kinds.CoreStack wide bytes (CoreStack x)
+stack_fills bytes x h = (x, refl, h)
+
+pub no_stack : (bytes : List ℕ) → FillsNothing stack_payload bytes → FillsNothing (content kinds.CoreStack) bytes
+no_stack bytes n = says_nothing CoreStack n
+
 pub custom_fills : (bytes rest text : List ℕ) → Reads name wide bytes text rest → content kinds.Custom wide bytes (Custom (text, rest))
 custom_fills bytes rest text h = ((text, rest), refl, record { front = h.front; back = rest; joined = h.split; first = h.spelled; second = refl })
 
@@ -125,7 +164,7 @@ no_custom bytes n = record { none = λ y h. let s = h.2 in n.none h.0.0 s.back (
 pub raw_fills : (bytes : List ℕ) → content kinds.Raw wide bytes (Raw bytes)
 raw_fills bytes = (bytes, refl, refl)
 
-pub ruleset content_steps = (bodies_fill, no_bodies, segments_fill, no_segments, data_count_fills, no_data_count, elements_fill, no_elements, exports_fill, no_exports, functions_fill, no_functions, globals_fill, no_globals, imports_fill, no_imports, memories_fill, no_memories, start_fills, no_start, tables_fill, no_tables, tags_fill, no_tags, custom_fills, no_custom, raw_fills)
+pub ruleset content_steps = (bodies_fill, no_bodies, segments_fill, no_segments, data_count_fills, no_data_count, elements_fill, no_elements, exports_fill, no_exports, functions_fill, no_functions, globals_fill, no_globals, imports_fill, no_imports, memories_fill, no_memories, start_fills, no_start, tables_fill, no_tables, tags_fill, no_tags, names_fill, no_names, links_fill, no_links, producers_fill, no_producers, hints_fill, no_hints, core_fills, no_core, modules_fill, no_modules, instances_fill, no_instances, stack_fills, no_stack, custom_fills, no_custom, raw_fills)
 
 -- ---- sections
 

@@ -32,12 +32,20 @@ use Rattle.wasm_sections.proofs.ImportLaws.{import-alone}
 use Rattle.wasm_sections.proofs.MemoryLaws.{memory-alone, memory_spelled}
 use Rattle.wasm_sections.proofs.TableLaws.{table_item-alone}
 use Rattle.wasm_sections.proofs.TagLaws.{tag-alone, tag_spelled}
+use Rattle.wasm_custom.specs.CoreDumps.{Instance}
+use Rattle.wasm_custom.specs.CoreStacks.{Frame}
+use Rattle.wasm_custom.specs.Hints.{Hints as FunctionHints}
+use Rattle.wasm_custom.specs.Linking.{LinkItem}
+use Rattle.wasm_custom.specs.Names.{NameItem}
+use Rattle.wasm_custom.specs.Producers.{Field}
+use Rattle.wasm_custom.specs.Readings.{name_payload, linking_payload, producers_payload, hints_payload, core_payload, modules_payload, instances_payload, stack_payload}
+use Rattle.wasm_custom.proofs.SectionLaws.{name-whole, linking-whole, producers-whole, hints-whole, modules-whole, instances-whole, core-whole, stack-whole}
 use Rattle.wasm_reader_base.specs.Shortest.{AppendsShortest}
-use Rattle.wasm_reader_base.proofs.ShortTexts.{text_appended, pair_appended, mapped_appended}
-use Rattle.wasm_reader.specs.Sections.{Contents, Bodies, Segments, DataCount, Elements, Exports, Functions, Globals, Imports, Memories, Start, Tables, Tags, Custom, Raw, content, kind_in, section, Takes, Shortens, HaveOneText}
+use Rattle.wasm_reader_base.proofs.ShortTexts.{text_appended, pair_appended, mapped_appended, records_appended}
+use Rattle.wasm_reader.specs.Sections.{Contents, Bodies, Segments, DataCount, Elements, Exports, Functions, Globals, Imports, Memories, Start, Tables, Tags, Names, Linking, Producers, Hints, Core, CoreModules, CoreInstances, CoreStack, Custom, Raw, content, kind_in, section, Takes, Shortens, HaveOneText}
 use Rattle.wasm_reader.specs.declared.section.SectionKind.{SectionKind}
 use Rattle.wasm_reader.specs.declared.section.SectionKind.TheVariants as kinds
-use Rattle.wasm_reader.proofs.ReadPlain.{records_appended, memory_is, tag_is, export_short}
+use Rattle.wasm_reader.proofs.ReadPlain.{memory_is, tag_is, export_short}
 
 -- ---- contents
 
@@ -81,13 +89,37 @@ tags ts old new fits e =
     mapped_appended Tags (vec tag_type) ts old new (λ z k. cc k)
     (subst (λ z. AppendsShortest (vec tag_type) z old new) (map-id ts) (records_appended tag_type (λ t. t) tag_text (λ t. Unit {0}) ts old new (λ t f s h. tag_spelled t (tag_is wide s t h)) fits e))
 
+pub names : (x : List NameItem) (old new : List ℕ) → AppendsShortest name_payload x old new → AppendsShortest (content kinds.Names) (Names x) old new
+names x old new a = mapped_appended Names name_payload x old new (λ z e. cc e) a
+
+pub links : (x : List LinkItem) (old new : List ℕ) → AppendsShortest linking_payload x old new → AppendsShortest (content kinds.Linking) (Linking x) old new
+links x old new a = mapped_appended Linking linking_payload x old new (λ z e. cc e) a
+
+pub producers : (x : List Field) (old new : List ℕ) → AppendsShortest producers_payload x old new → AppendsShortest (content kinds.Producers) (Producers x) old new
+producers x old new a = mapped_appended Producers producers_payload x old new (λ z e. cc e) a
+
+pub hints : (x : List FunctionHints) (old new : List ℕ) → AppendsShortest hints_payload x old new → AppendsShortest (content kinds.Hints) (Hints x) old new
+hints x old new a = mapped_appended Hints hints_payload x old new (λ z e. cc e) a
+
+pub process : (x : List ℕ) (old new : List ℕ) → AppendsShortest core_payload x old new → AppendsShortest (content kinds.Core) (Core x) old new
+process x old new a = mapped_appended Core core_payload x old new (λ z e. cc e) a
+
+pub modules : (x : List (List ℕ)) (old new : List ℕ) → AppendsShortest modules_payload x old new → AppendsShortest (content kinds.CoreModules) (CoreModules x) old new
+modules x old new a = mapped_appended CoreModules modules_payload x old new (λ z e. cc e) a
+
+pub instances : (x : List Instance) (old new : List ℕ) → AppendsShortest instances_payload x old new → AppendsShortest (content kinds.CoreInstances) (CoreInstances x) old new
+instances x old new a = mapped_appended CoreInstances instances_payload x old new (λ z e. cc e) a
+
+pub stack : (x : List ℕ × List Frame) (old new : List ℕ) → AppendsShortest stack_payload x old new → AppendsShortest (content kinds.CoreStack) (CoreStack x) old new
+stack x old new a = mapped_appended CoreStack stack_payload x old new (λ z e. cc e) a
+
 pub custom : (n bytes old middle new : List ℕ) → AppendsShortest name n old middle → new ≡ middle ++ bytes → AppendsShortest (content kinds.Custom) (Custom (n, bytes)) old new
 custom n bytes old middle new a e = mapped_appended Custom (pair name any_bytes) (n, bytes) old new (λ z k. cc k) (pair_appended name any_bytes a (text_appended any_bytes bytes bytes middle new (λ s h. refl) e))
 
 pub raw : (bytes old new : List ℕ) → new ≡ old ++ bytes → AppendsShortest (content kinds.Raw) (Raw bytes) old new
 raw bytes old new e = mapped_appended Raw any_bytes bytes old new (λ z k. cc k) (text_appended any_bytes bytes bytes old new (λ s h. refl) e)
 
-pub ruleset contents = (bodies, segments, data_count, elements, exports, functions, globals, imports, memories, start, tables, tags, custom, raw)
+pub ruleset contents = (bodies, segments, data_count, elements, exports, functions, globals, imports, memories, start, tables, tags, names, links, producers, hints, process, modules, instances, stack, custom, raw)
 
 -- ---- sections
 
@@ -104,6 +136,14 @@ content-whole kinds.Memories = mapped-whole Memories (λ x y e. cc) (whole_from_
 content-whole kinds.Start = mapped-whole Start (λ x y e. cc) (whole_from_alone u32-alone)
 content-whole kinds.Tables = mapped-whole Tables (λ x y e. cc) (whole_from_alone (vec-alone table_item-alone))
 content-whole kinds.Tags = mapped-whole Tags (λ x y e. cc) (whole_from_alone (vec-alone tag-alone))
+content-whole kinds.Names = mapped-whole Names (λ x y e. cc) name-whole
+content-whole kinds.Linking = mapped-whole Linking (λ x y e. cc) linking-whole
+content-whole kinds.Producers = mapped-whole Producers (λ x y e. cc) producers-whole
+content-whole kinds.Hints = mapped-whole Hints (λ x y e. cc) hints-whole
+content-whole kinds.Core = mapped-whole Core (λ x y e. cc) core-whole
+content-whole kinds.CoreModules = mapped-whole CoreModules (λ x y e. cc) modules-whole
+content-whole kinds.CoreInstances = mapped-whole CoreInstances (λ x y e. cc) instances-whole
+content-whole kinds.CoreStack = mapped-whole CoreStack (λ x y e. cc) stack-whole
 content-whole kinds.Custom = mapped-whole Custom (λ x y e. cc) (pair-whole name-alone any_bytes-whole)
 content-whole kinds.Raw = mapped-whole Raw (λ x y e. cc) any_bytes-whole
 
@@ -124,6 +164,14 @@ kind_is kinds.Memories s x h = sym (ap kind_in h.1)
 kind_is kinds.Start s x h = sym (ap kind_in h.1)
 kind_is kinds.Tables s x h = sym (ap kind_in h.1)
 kind_is kinds.Tags s x h = sym (ap kind_in h.1)
+kind_is kinds.Names s x h = sym (ap kind_in h.1)
+kind_is kinds.Linking s x h = sym (ap kind_in h.1)
+kind_is kinds.Producers s x h = sym (ap kind_in h.1)
+kind_is kinds.Hints s x h = sym (ap kind_in h.1)
+kind_is kinds.Core s x h = sym (ap kind_in h.1)
+kind_is kinds.CoreModules s x h = sym (ap kind_in h.1)
+kind_is kinds.CoreInstances s x h = sym (ap kind_in h.1)
+kind_is kinds.CoreStack s x h = sym (ap kind_in h.1)
 kind_is kinds.Custom s x h = sym (ap kind_in h.1)
 kind_is kinds.Raw s x h = sym (ap kind_in h.1)
 

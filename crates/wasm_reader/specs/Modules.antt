@@ -5,8 +5,10 @@ use Rattle.wasm_base.specs.Formats.{Format, byte, any_bytes, fixed, frame, heade
 use Rattle.wasm_base.specs.Reading.{Reads, ReadsNothing}
 use Rattle.wasm_base.specs.SectionId.{number_of}
 use Rattle.wasm_base.specs.declared.section_id.SectionId.TheVariants as ids
-use Rattle.wasm_reader.specs.Sections.{Contents, Bodies, Segments, DataCount, Elements, Exports, Functions, Globals, Imports, Memories, Start, Tables, Tags, Custom, Raw, content}
+use Rattle.wasm_reader.specs.Sections.{Contents, Bodies, Segments, DataCount, Elements, Exports, Functions, Globals, Imports, Memories, Start, Tables, Tags, Names, Linking, Producers, Hints, Core, CoreModules, CoreInstances, CoreStack, Custom, Raw, content}
 use Rattle.wasm_reader.specs.declared.modules.Listed.{Listed}
+use Rattle.wasm_reader.specs.declared.modules.Numbering.{Numbering}
+use Rattle.wasm_reader.specs.declared.modules.Numbering.TheVariants.{InFront, One, Untold}
 use Rattle.wasm_reader.specs.declared.section.SectionKind.{SectionKind}
 use Rattle.wasm_reader.specs.declared.section.SectionKind.TheVariants as kinds
 
@@ -48,8 +50,41 @@ number_in (Memories xs) = Some (length xs)
 number_in (Start n) = Some 1
 number_in (Tables xs) = Some (length xs)
 number_in (Tags xs) = Some (length xs)
+number_in (Names x) = None
+number_in (Linking x) = None
+number_in (Producers x) = None
+number_in (Hints x) = None
+number_in (Core x) = None
+number_in (CoreModules x) = None
+number_in (CoreInstances x) = None
+number_in (CoreStack x) = None
 number_in (Custom x) = None
 number_in (Raw x) = None
+
+-- where the number of the items of a section of the kind stands
+abbrev pub numbering_of : SectionKind → Numbering
+numbering_of kinds.Bodies = InFront
+numbering_of kinds.Segments = InFront
+numbering_of kinds.DataCount = One
+numbering_of kinds.Elements = InFront
+numbering_of kinds.Exports = InFront
+numbering_of kinds.Functions = InFront
+numbering_of kinds.Globals = InFront
+numbering_of kinds.Imports = InFront
+numbering_of kinds.Memories = InFront
+numbering_of kinds.Start = One
+numbering_of kinds.Tables = InFront
+numbering_of kinds.Tags = InFront
+numbering_of kinds.Names = Untold
+numbering_of kinds.Linking = Untold
+numbering_of kinds.Producers = Untold
+numbering_of kinds.Hints = Untold
+numbering_of kinds.Core = Untold
+numbering_of kinds.CoreModules = Untold
+numbering_of kinds.CoreInstances = Untold
+numbering_of kinds.CoreStack = Untold
+numbering_of kinds.Custom = Untold
+numbering_of kinds.Raw = Untold
 
 -- a frame of so many bytes, which spell what a section of the kind holds
 pub record Sized (kind : SectionKind) (mode : Mode) (s : List ℕ) (p : ℕ × Contents) : Type 0 where

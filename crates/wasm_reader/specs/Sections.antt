@@ -16,6 +16,16 @@ use Rattle.wasm_sections.specs.Tables.{TableItem, table_item}
 use Rattle.wasm_sections.specs.Tags.{tag_type}
 use Rattle.wasm_sections.specs.declared.memory.MemoryType.{MemoryType}
 use Rattle.wasm_sections.specs.declared.tag.TagType.{TagType}
+use Rattle.wasm_custom.specs.CoreDumps.{Instance}
+use Rattle.wasm_custom.specs.CoreStacks.{Frame}
+use Rattle.wasm_custom.specs.Hints.{Hints as FunctionHints}
+use Rattle.wasm_custom.specs.Linking.{LinkItem}
+use Rattle.wasm_custom.specs.Names.{NameItem}
+use Rattle.wasm_custom.specs.Producers.{Field}
+use Rattle.wasm_custom.specs.Readings.{name_payload, linking_payload, producers_payload, hints_payload, core_payload, modules_payload, instances_payload, stack_payload}
+use Rattle.wasm_reader_custom.specs.Items.{field_of, hints_of, instance_of, frame_of}
+use Rattle.wasm_reader_custom.specs.Names.{name_item_of}
+use Rattle.wasm_reader_custom.specs.Symbols.{link_of}
 use Rattle.wasm_reader.specs.Items.{global_of, table_of, segment_of, element_of}
 use Rattle.wasm_reader.specs.declared.section.Items.{Items}
 use Rattle.wasm_reader.specs.declared.section.Items.TheVariants as items
@@ -36,6 +46,14 @@ pub data Contents : Type 0 where
   Start : ℕ → Contents
   Tables : List TableItem → Contents
   Tags : List TagType → Contents
+  Names : List NameItem → Contents
+  Linking : List LinkItem → Contents
+  Producers : List Field → Contents
+  Hints : List FunctionHints → Contents
+  Core : List ℕ → Contents
+  CoreModules : List (List ℕ) → Contents
+  CoreInstances : List Instance → Contents
+  CoreStack : List ℕ × List Frame → Contents
   Custom : List ℕ × List ℕ → Contents
   Raw : List ℕ → Contents
 
@@ -53,6 +71,14 @@ content kinds.Memories = mapped Memories (vec memory_type)
 content kinds.Start = mapped Start u32
 content kinds.Tables = mapped Tables (vec table_item)
 content kinds.Tags = mapped Tags (vec tag_type)
+content kinds.Names = mapped Names name_payload
+content kinds.Linking = mapped Linking linking_payload
+content kinds.Producers = mapped Producers producers_payload
+content kinds.Hints = mapped Hints hints_payload
+content kinds.Core = mapped Core core_payload
+content kinds.CoreModules = mapped CoreModules modules_payload
+content kinds.CoreInstances = mapped CoreInstances instances_payload
+content kinds.CoreStack = mapped CoreStack stack_payload
 content kinds.Custom = mapped Custom (pair name any_bytes)
 content kinds.Raw = mapped Raw any_bytes
 
@@ -70,6 +96,14 @@ kind_in (Memories xs) = kinds.Memories
 kind_in (Start n) = kinds.Start
 kind_in (Tables xs) = kinds.Tables
 kind_in (Tags xs) = kinds.Tags
+kind_in (Names x) = kinds.Names
+kind_in (Linking x) = kinds.Linking
+kind_in (Producers x) = kinds.Producers
+kind_in (Hints x) = kinds.Hints
+kind_in (Core x) = kinds.Core
+kind_in (CoreModules x) = kinds.CoreModules
+kind_in (CoreInstances x) = kinds.CoreInstances
+kind_in (CoreStack x) = kinds.CoreStack
 kind_in (Custom x) = kinds.Custom
 kind_in (Raw x) = kinds.Raw
 
@@ -91,6 +125,14 @@ contents_of (items.Memories v) = Memories v.items
 contents_of (items.Start n) = Start n
 contents_of (items.Tables v) = Tables (map table_of v.items)
 contents_of (items.Tags v) = Tags v.items
+contents_of (items.Names v) = Names (map name_item_of v.items)
+contents_of (items.Linking v) = Linking (map link_of v.items)
+contents_of (items.Producers v) = Producers (map field_of v.items)
+contents_of (items.Hints v) = Hints (map hints_of v.items)
+contents_of (items.Core n) = Core n.now
+contents_of (items.CoreModules v) = CoreModules (map (λ n. n.now) v.items)
+contents_of (items.CoreInstances v) = CoreInstances (map instance_of v.items)
+contents_of (items.CoreStack n v) = CoreStack (n.now, map frame_of v.items)
 contents_of (items.Custom n b) = Custom (n.now, b.now)
 contents_of (items.Raw b) = Raw b.now
 

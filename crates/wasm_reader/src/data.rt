@@ -108,7 +108,7 @@ impl<'a, A: Allocator + Copy> Readable<'a, A> for Segment<'a, A> {
 }
 
 /// Segments behind their number, which all of the bytes spell. Memory is taken for those that stand there, and not by their number.
-#[tactic(auto, using(wasm_reader_base::proofs::ReadVectors::vec_steps, crate::proofs::ReadSections::whole_steps))]
+#[tactic(auto, using(wasm_reader_base::proofs::ReadVectors::vec_steps, wasm_reader_base::proofs::ReadWhole::whole_steps))]
 pub(crate) fn read_segments<'a, A: Allocator + Copy>(
     bytes: &'a [u8],
     alloc: A,

@@ -4,12 +4,12 @@ ghost use Rattle.wasm_sections.specs.Exports.{kind_code, ExportItem, item_of, ex
 ghost use Rattle.wasm_sections.specs.declared.export.ExportKind.{ExportKind as Kind};
 ghost use Rattle.wasm_sections.proofs.ExportLaws.{export-alone, export_kind-alone};
 
-use crate::item::{Item, One};
+use crate::Here;
 use std::alloc::Allocator;
-use wasm_reader_base::{ReadFault, Readable};
+use wasm_reader_base::{Item, One, ReadFault, Readable};
 use wasm_sections::{Export, ExportKind};
 
-impl<'a, A: Allocator + Copy> Item<'a, A> for ExportKind {
+impl<'a, A: Allocator + Copy> Item<'a, Here, A> for ExportKind {
     ghost Value = { Kind };
 
     ghost format = { coded kind_code };
@@ -32,7 +32,7 @@ impl<'a, A: Allocator + Copy> Item<'a, A> for ExportKind {
     }
 }
 
-impl<'a, A: Allocator + Copy> Item<'a, A> for Export<'a> {
+impl<'a, A: Allocator + Copy> Item<'a, Here, A> for Export<'a> {
     ghost Value = { ExportItem };
 
     ghost format = { export };
@@ -43,10 +43,10 @@ impl<'a, A: Allocator + Copy> Item<'a, A> for Export<'a> {
 
     #[tactic(auto, using(crate::proofs::ReadItems::export_steps))]
     fn read_item(bytes: &'a [u8], alloc: A) -> Result<(Export<'a>, &'a [u8]), ReadFault> {
-        let ((name, (One(kind), index)), rest) = <(&'a str, (One<ExportKind>, u32)) as Readable<
-            'a,
-            A,
-        >>::read(bytes, alloc)?;
+        let ((name, (One(kind, _), index)), rest) = <(
+            &'a str,
+            (One<ExportKind, Here>, u32),
+        ) as Readable<'a, A>>::read(bytes, alloc)?;
         Ok((Export { name, kind, index }, rest))
     }
 }

@@ -5,10 +5,10 @@ ghost use Rattle.wasm_sections.specs.declared.global.GlobalType.{GlobalType as T
 ghost use Rattle.wasm_sections.proofs.GlobalLaws.{global-alone, global_flags-alone, global_item-alone};
 ghost use Rattle.wasm_reader.specs.Items.{global_flags_of, global_of};
 
-use crate::item::{Item, One};
+use crate::Here;
 use std::alloc::{Allocator, Global};
 use wasm_base::{Encode, R, ValType};
-use wasm_reader_base::{ReadFault, Readable, Shorten};
+use wasm_reader_base::{Item, One, ReadFault, Readable, Shorten};
 use wasm_reader_insn::Expression;
 use wasm_sections::GlobalType;
 
@@ -42,7 +42,7 @@ impl<'a, A: Allocator + Copy> Readable<'a, A> for GlobalFlags {
     }
 }
 
-impl<'a, A: Allocator + Copy> Item<'a, A> for GlobalType {
+impl<'a, A: Allocator + Copy> Item<'a, Here, A> for GlobalType {
     ghost Value = { TypeModel };
 
     ghost format = { global_type };
@@ -83,10 +83,10 @@ impl<'a, A: Allocator + Copy> Readable<'a, A> for GlobalItem<A> {
 
     #[tactic(auto, using(crate::proofs::ReadGlobals::item_steps))]
     fn read(bytes: &'a [u8], alloc: A) -> Result<(GlobalItem<A>, &'a [u8]), ReadFault> {
-        let ((One(global_type), init), rest) = <(One<GlobalType>, Expression<A>) as Readable<
-            'a,
-            A,
-        >>::read(bytes, alloc)?;
+        let ((One(global_type, _), init), rest) = <(
+            One<GlobalType, Here>,
+            Expression<A>,
+        ) as Readable<'a, A>>::read(bytes, alloc)?;
         Ok((GlobalItem { global_type, init }, rest))
     }
 }

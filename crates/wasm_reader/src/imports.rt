@@ -12,15 +12,15 @@ ghost use Rattle.wasm_base.proofs.BaseLaws.{name-alone};
 ghost use Rattle.wasm_base.proofs.FormatLaws.{pair-alone};
 ghost use Rattle.wasm_sections.proofs.ImportLaws.{entity-alone, import-alone};
 
-use crate::item::{Item, One, read_many};
+use crate::Here;
 use std::alloc::Allocator;
 use wasm_base::{CowSlice, Encode, R};
-use wasm_reader_base::{ReadFault, Readable};
+use wasm_reader_base::{Item, One, ReadFault, Readable, read_many};
 use wasm_sections::{
     EntityType, GlobalType, Import, ImportCompact, Imports, MemoryType, TableType, TagType,
 };
 
-impl<'a, A: Allocator + Copy> Item<'a, A> for EntityType {
+impl<'a, A: Allocator + Copy> Item<'a, Here, A> for EntityType {
     ghost Value = { EntityModel };
 
     ghost format = { entity };
@@ -38,19 +38,19 @@ impl<'a, A: Allocator + Copy> Item<'a, A> for EntityType {
                 Ok((EntityType::Function(index), rest))
             }
             0x01 => {
-                let (ty, rest) = <TableType as Item<'a, A>>::read_item(rest, alloc)?;
+                let (ty, rest) = <TableType as Item<'a, Here, A>>::read_item(rest, alloc)?;
                 Ok((EntityType::Table(ty), rest))
             }
             0x02 => {
-                let (ty, rest) = <MemoryType as Item<'a, A>>::read_item(rest, alloc)?;
+                let (ty, rest) = <MemoryType as Item<'a, Here, A>>::read_item(rest, alloc)?;
                 Ok((EntityType::Memory(ty), rest))
             }
             0x03 => {
-                let (ty, rest) = <GlobalType as Item<'a, A>>::read_item(rest, alloc)?;
+                let (ty, rest) = <GlobalType as Item<'a, Here, A>>::read_item(rest, alloc)?;
                 Ok((EntityType::Global(ty), rest))
             }
             0x04 => {
-                let (ty, rest) = <TagType as Item<'a, A>>::read_item(rest, alloc)?;
+                let (ty, rest) = <TagType as Item<'a, Here, A>>::read_item(rest, alloc)?;
                 Ok((EntityType::Tag(ty), rest))
             }
             0x20 => {
@@ -62,7 +62,7 @@ impl<'a, A: Allocator + Copy> Item<'a, A> for EntityType {
     }
 }
 
-impl<'a, A: Allocator + Copy> Item<'a, A> for ImportCompact<'a> {
+impl<'a, A: Allocator + Copy> Item<'a, Here, A> for ImportCompact<'a> {
     ghost Value = { List ℕ × EntityModel };
 
     ghost format = { pair name entity };
@@ -72,9 +72,10 @@ impl<'a, A: Allocator + Copy> Item<'a, A> for ImportCompact<'a> {
     ghost alone = { pair-alone name-alone entity-alone };
 
     fn read_item(bytes: &'a [u8], alloc: A) -> Result<(ImportCompact<'a>, &'a [u8]), ReadFault> {
-        let ((name, One(ty)), rest) = <(&'a str, One<EntityType>) as Readable<'a, A>>::read(
-            bytes, alloc,
-        )?;
+        let ((name, One(ty, _)), rest) = <(&'a str, One<EntityType, Here>) as Readable<
+            'a,
+            A,
+        >>::read(bytes, alloc)?;
         Ok((ImportCompact { name, ty }, rest))
     }
 }
@@ -96,7 +97,7 @@ fn group_kind(bytes: &[u8]) -> Option<(u8, &[u8])>
     Some((*kind, rest))
 }
 
-impl<'a, A: Allocator + Copy> Item<'a, A> for Imports<'a, A> {
+impl<'a, A: Allocator + Copy> Item<'a, Here, A> for Imports<'a, A> {
     ghost Value = { ImportItem };
 
     ghost format = { import_format };
@@ -110,17 +111,17 @@ impl<'a, A: Allocator + Copy> Item<'a, A> for Imports<'a, A> {
         let (module, rest) = <&'a str as Readable<'a, A>>::read(bytes, alloc)?;
         let Some((kind, rest)) = group_kind(rest) else {
             let (name, rest) = <&'a str as Readable<'a, A>>::read(rest, alloc)?;
-            let (ty, rest) = <EntityType as Item<'a, A>>::read_item(rest, alloc)?;
+            let (ty, rest) = <EntityType as Item<'a, Here, A>>::read_item(rest, alloc)?;
             return Ok((Imports::Single(Import { module, name, ty }), rest));
         };
         match kind {
             0x7F => {
-                let (items, rest) = read_many::<'a, ImportCompact<'a>, A>(rest, alloc)?;
+                let (items, rest) = read_many::<'a, ImportCompact<'a>, Here, A>(rest, alloc)?;
                 let items = CowSlice::Owned(items);
                 Ok((Imports::Compact1 { module, items }, rest))
             }
             0x7E => {
-                let (ty, rest) = <EntityType as Item<'a, A>>::read_item(rest, alloc)?;
+                let (ty, rest) = <EntityType as Item<'a, Here, A>>::read_item(rest, alloc)?;
                 let (names, rest) = <Vec<&'a str, A> as Readable<'a, A>>::read(rest, alloc)?;
                 let names = CowSlice::Owned(names);
                 Ok((Imports::Compact2 { module, ty, names }, rest))
@@ -131,7 +132,7 @@ impl<'a, A: Allocator + Copy> Item<'a, A> for Imports<'a, A> {
 }
 
 /// Imports, and groups of them, behind their number, which all of the bytes spell. Memory is taken for those that stand there, and not by their number.
-#[tactic(auto, using(wasm_reader_base::proofs::ReadVectors::vec_steps, crate::proofs::ReadSections::whole_steps))]
+#[tactic(auto, using(wasm_reader_base::proofs::ReadVectors::vec_steps, wasm_reader_base::proofs::ReadWhole::whole_steps))]
 pub(crate) fn read_imports<'a, A: Allocator + Copy>(
     bytes: &'a [u8],
     alloc: A,
@@ -142,7 +143,7 @@ pub(crate) fn read_imports<'a, A: Allocator + Copy>(
     let (count, mut rest) = <u32 as Readable<'a, A>>::read(bytes, alloc)?;
     let mut items = Vec::new(alloc);
     for _taken in 0..count {
-        let (item, after) = <Imports<'a, A> as Item<'a, A>>::read_item(rest, alloc)?;
+        let (item, after) = <Imports<'a, A> as Item<'a, Here, A>>::read_item(rest, alloc)?;
         items.push(item)?;
         rest = after;
     }

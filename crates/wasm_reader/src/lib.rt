@@ -1,8 +1,8 @@
 //! Reads sections, exactly: an answer is the items that the grammar reads there, with padded numbers too, and a cause other than
 //! [`ReadFault::Memory`] says that no reading exists.
 //!
-//! [`read_section`] reads a section of a [`SectionKind`], without its id, into [`Items`], and [`shorten`] writes it in its fewest bytes. Custom sections are read as their names and
-//! data: what names, linking, producers, branch hint and core dump sections hold is not read yet.
+//! [`read_section`] reads a section of a [`SectionKind`], without its id, into [`Items`], and [`shorten`] writes it in its fewest bytes. A custom section is
+//! read as what its name stands for, or, as any is, as its name and data.
 #![tactic(auto)]
 
 mod data;
@@ -10,7 +10,6 @@ mod elements;
 mod exports;
 mod globals;
 mod imports;
-mod item;
 pub mod laws;
 mod limits;
 mod modules;
@@ -26,3 +25,7 @@ pub use modules::{Listed, list_module};
 pub use section::{Items, SectionKind, read_section};
 pub use shortest::shorten;
 pub use tables::TableItem;
+
+/// This crate, which says how items of other crates are read.
+#[derive(Clone, Copy, Debug)]
+pub(crate) struct Here;

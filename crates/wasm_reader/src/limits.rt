@@ -10,10 +10,10 @@ ghost use Rattle.wasm_sections.proofs.MemoryLaws.{memory-alone};
 ghost use Rattle.wasm_sections.proofs.TableLaws.{limits-alone, table-alone};
 ghost use Rattle.wasm_reader.specs.Items.{flags_of, limits_of};
 
-use crate::item::Item;
+use crate::Here;
 use std::alloc::Allocator;
 use wasm_base::RefType;
-use wasm_reader_base::{ReadFault, Readable, read_optional};
+use wasm_reader_base::{Item, ReadFault, Readable, read_optional};
 use wasm_sections::{MemoryType, TableType};
 
 /// The flags of limits.
@@ -50,7 +50,7 @@ impl<'a, A: Allocator + Copy> Readable<'a, A> for Flags {
     }
 }
 
-impl<'a, A: Allocator + Copy> Item<'a, A> for MemoryType {
+impl<'a, A: Allocator + Copy> Item<'a, Here, A> for MemoryType {
     ghost Value = { MemoryModel };
 
     ghost format = { memory_type };
@@ -112,7 +112,7 @@ impl<'a, A: Allocator + Copy> Readable<'a, A> for Limits {
     }
 }
 
-impl<'a, A: Allocator + Copy> Item<'a, A> for TableType {
+impl<'a, A: Allocator + Copy> Item<'a, Here, A> for TableType {
     ghost Value = { TableModel };
 
     ghost format = { table_type };

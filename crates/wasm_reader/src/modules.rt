@@ -5,7 +5,7 @@ ghost use Rattle.wasm_base.specs.Going.{FillsNothing};
 ghost use Rattle.wasm_base.specs.Numbers.{wide};
 ghost use Rattle.wasm_base.specs.Reading.{Reads, ReadsNothing};
 ghost use Rattle.wasm_reader_base.specs.declared.fault.ReadFault.TheVariants.{Ended, UnknownTag, Memory};
-ghost use Rattle.wasm_reader.specs.Modules.{kind_of as kind_of_id, number_in, sized_section, line_of, HasLines, StopsAt};
+ghost use Rattle.wasm_reader.specs.Modules.{kind_of as kind_of_id, numbering_of, number_in, sized_section, line_of, HasLines, StopsAt};
 ghost use Rattle.wasm_reader.specs.Sections.{Contents, content};
 
 use crate::section::{SectionKind, read_content};
@@ -67,7 +67,47 @@ fn kind_of(id: u8) -> SectionKind
     }
 }
 
-/// The number of items of a section of the kind, from what its frame holds. Items stand behind their number.
+/// Where the number of a section's items stands.
+#[derive(Clone, Copy, Debug)]
+enum Numbering {
+    /// Before the items.
+    InFront,
+    /// Nowhere: there is one item.
+    One,
+    /// It is not told.
+    Untold,
+}
+
+/// Where the number of the items of a section of the kind stands.
+fn how_numbered(kind: SectionKind) -> Numbering
+    ensures { result ≡ numbering_of kind }
+{
+    match kind {
+        SectionKind::Bodies
+        | SectionKind::Segments
+        | SectionKind::Elements
+        | SectionKind::Exports
+        | SectionKind::Functions
+        | SectionKind::Globals
+        | SectionKind::Imports
+        | SectionKind::Memories
+        | SectionKind::Tables
+        | SectionKind::Tags => Numbering::InFront,
+        SectionKind::DataCount | SectionKind::Start => Numbering::One,
+        SectionKind::Names
+        | SectionKind::Linking
+        | SectionKind::Producers
+        | SectionKind::Hints
+        | SectionKind::Core
+        | SectionKind::CoreModules
+        | SectionKind::CoreInstances
+        | SectionKind::CoreStack
+        | SectionKind::Custom
+        | SectionKind::Raw => Numbering::Untold,
+    }
+}
+
+/// The number of items of a section of the kind, from what its frame holds.
 #[tactic(auto, using(crate::proofs::ReadModules::number_steps))]
 fn read_number<'a, A: Allocator + Copy>(
     kind: SectionKind,
@@ -78,13 +118,13 @@ fn read_number<'a, A: Allocator + Copy>(
     ensures none { IfErr result (λ e. e ≢ Memory → FillsNothing (content kind) bytes.now) }
 {
     let _items = read_content(kind, bytes, alloc)?;
-    match kind {
-        SectionKind::Custom | SectionKind::Raw => Ok(None),
-        SectionKind::Start | SectionKind::DataCount => Ok(Some(1)),
-        _ => {
+    match how_numbered(kind) {
+        Numbering::InFront => {
             let (number, _) = <u32 as Readable<'a, A>>::read(bytes, alloc)?;
             Ok(Some(number))
         }
+        Numbering::One => Ok(Some(1)),
+        Numbering::Untold => Ok(None),
     }
 }
 

@@ -1,20 +1,24 @@
 // Whole sections.
-ghost use Rattle.std.specs.Prelude.{◌≢◌, IfOk, IfErr, map};
-ghost use Rattle.wasm_base.specs.Formats.{vec};
+ghost use Rattle.std.specs.Prelude.{◌≢◌, IfOk, IfErr};
 ghost use Rattle.wasm_base.specs.Going.{FillsNothing};
 ghost use Rattle.wasm_base.specs.Numbers.{wide};
 ghost use Rattle.wasm_base.specs.Reading.{ReadsNothing};
 ghost use Rattle.wasm_reader_base.specs.declared.fault.ReadFault.TheVariants.{Memory};
 ghost use Rattle.wasm_reader.specs.Sections.{content, section, contents_of, Takes};
 
+use crate::Here;
 use crate::data::{Segment, read_segments};
 use crate::elements::ElementItem;
 use crate::globals::GlobalItem;
 use crate::imports::read_imports;
-use crate::item::{Item, read_many};
 use crate::tables::TableItem;
 use std::alloc::{Allocator, Global};
-use wasm_reader_base::{ReadFault, Readable};
+use wasm_custom::BranchHint;
+use wasm_reader_base::{ReadFault, Readable, read_list, read_whole};
+use wasm_reader_custom::{
+    CoreFrame, LinkItem, NameItem, read_hints, read_instances, read_links, read_modules,
+    read_names, read_process, read_producers, read_stack,
+};
 use wasm_reader_insn::Body;
 use wasm_sections::{Export, Imports, MemoryType, TagType};
 
@@ -35,6 +39,22 @@ pub enum SectionKind {
     Start,
     Tables,
     Tags,
+    /// The name section: names of the module and of its parts.
+    Names,
+    /// The linking section: symbols, and the architecture of the target.
+    Linking,
+    /// The producers section: which tools made the module.
+    Producers,
+    /// The branch hint section.
+    Hints,
+    /// Of a core dump: the process.
+    Core,
+    /// Of a core dump: the modules of the process.
+    CoreModules,
+    /// Of a core dump: the instances of the process.
+    CoreInstances,
+    /// Of a core dump: the stack of a thread.
+    CoreStack,
     /// A custom section of any name.
     Custom,
     /// A section of any bytes.
@@ -59,42 +79,28 @@ pub enum Items<'a, A: Allocator = Global> {
     Start(u32),
     Tables(Vec<TableItem<A>, A>),
     Tags(Vec<TagType, A>),
-    Custom { name: &'a str, bytes: &'a [u8] },
+    Names(Vec<NameItem<'a, A>, A>),
+    Linking(Vec<LinkItem<'a, A>, A>),
+    /// The name of each field, and its values: a name and a version each.
+    Producers(Vec<(&'a str, Vec<(&'a str, &'a str), A>), A>),
+    /// The index of each function that has hints, and these.
+    Hints(Vec<(u32, Vec<BranchHint, A>), A>),
+    /// The name of the process.
+    Core(&'a str),
+    /// The names of the modules.
+    CoreModules(Vec<&'a str, A>),
+    /// The index of its module, the memories and the globals of each instance.
+    CoreInstances(Vec<(u32, Vec<u32, A>, Vec<u32, A>), A>),
+    /// The name of the thread, and the frames of its stack.
+    CoreStack {
+        thread: &'a str,
+        frames: Vec<CoreFrame<A>, A>,
+    },
+    Custom {
+        name: &'a str,
+        bytes: &'a [u8],
+    },
     Raw(&'a [u8]),
-}
-
-/// The value that all of the bytes spell.
-#[tactic(auto, using(crate::proofs::ReadSections::whole_steps))]
-fn read_whole<'a, T: Readable<'a, A>, A: Allocator + Copy>(
-    bytes: &'a [u8],
-    alloc: A,
-) -> Result<T, ReadFault>
-    ensures found { IfOk result (λ x. T.format wide bytes.now (T.view x)) }
-    ensures none { IfErr result (λ e. e ≢ Memory → FillsNothing T.format bytes.now) }
-{
-    let (value, left) = T::read(bytes, alloc)?;
-    if left.is_empty() {
-        Ok(value)
-    } else {
-        Err(ReadFault::SizeMismatch)
-    }
-}
-
-/// The items behind their number that all of the bytes spell.
-#[tactic(auto, using(crate::proofs::ReadSections::whole_steps))]
-fn read_list<'a, T: Item<'a, A>, A: Allocator + Copy>(
-    bytes: &'a [u8],
-    alloc: A,
-) -> Result<Vec<T, A>, ReadFault>
-    ensures found { IfOk result (λ x. vec T.format wide bytes.now (map T.view x.items)) }
-    ensures none { IfErr result (λ e. e ≢ Memory → FillsNothing (vec T.format) bytes.now) }
-{
-    let (items, left) = read_many::<'a, T, A>(bytes, alloc)?;
-    if left.is_empty() {
-        Ok(items)
-    } else {
-        Err(ReadFault::SizeMismatch)
-    }
 }
 
 /// What the frame of a section of the kind holds.
@@ -125,7 +131,7 @@ pub(crate) fn read_content<'a, A: Allocator + Copy>(
             Ok(Items::Elements(items))
         }
         SectionKind::Exports => {
-            let items = read_list::<'a, Export<'a>, A>(bytes, alloc)?;
+            let items = read_list::<'a, Export<'a>, Here, A>(bytes, alloc)?;
             Ok(Items::Exports(items))
         }
         SectionKind::Functions => {
@@ -141,7 +147,7 @@ pub(crate) fn read_content<'a, A: Allocator + Copy>(
             Ok(Items::Imports(items))
         }
         SectionKind::Memories => {
-            let items = read_list::<'a, MemoryType, A>(bytes, alloc)?;
+            let items = read_list::<'a, MemoryType, Here, A>(bytes, alloc)?;
             Ok(Items::Memories(items))
         }
         SectionKind::Start => {
@@ -153,8 +159,40 @@ pub(crate) fn read_content<'a, A: Allocator + Copy>(
             Ok(Items::Tables(items))
         }
         SectionKind::Tags => {
-            let items = read_list::<'a, TagType, A>(bytes, alloc)?;
+            let items = read_list::<'a, TagType, Here, A>(bytes, alloc)?;
             Ok(Items::Tags(items))
+        }
+        SectionKind::Names => {
+            let items = read_names(bytes, alloc)?;
+            Ok(Items::Names(items))
+        }
+        SectionKind::Linking => {
+            let items = read_links(bytes, alloc)?;
+            Ok(Items::Linking(items))
+        }
+        SectionKind::Producers => {
+            let items = read_producers(bytes, alloc)?;
+            Ok(Items::Producers(items))
+        }
+        SectionKind::Hints => {
+            let items = read_hints(bytes, alloc)?;
+            Ok(Items::Hints(items))
+        }
+        SectionKind::Core => {
+            let items = read_process(bytes, alloc)?;
+            Ok(Items::Core(items))
+        }
+        SectionKind::CoreModules => {
+            let items = read_modules(bytes, alloc)?;
+            Ok(Items::CoreModules(items))
+        }
+        SectionKind::CoreInstances => {
+            let items = read_instances(bytes, alloc)?;
+            Ok(Items::CoreInstances(items))
+        }
+        SectionKind::CoreStack => {
+            let (thread, frames) = read_stack(bytes, alloc)?;
+            Ok(Items::CoreStack { thread, frames })
         }
         SectionKind::Custom => {
             let (name, bytes) = <&'a str as Readable<'a, A>>::read(bytes, alloc)?;

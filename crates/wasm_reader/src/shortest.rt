@@ -12,6 +12,10 @@ use crate::section::{Items, SectionKind, read_section};
 use std::alloc::Allocator;
 use wasm_base::{Encode, R, encode_frame};
 use wasm_reader_base::{ReadFault, Shorten};
+use wasm_reader_custom::{
+    append_hints, append_instances, append_links, append_modules, append_names, append_process,
+    append_producers, append_stack,
+};
 
 /// Appends the shortest text of what the frame of a section holds.
 #[tactic(auto, using(crate::proofs::ShortSections::contents))]
@@ -31,6 +35,14 @@ fn append_content<A: Allocator, B: Allocator>(items: Items<'_, A>, out: &mut Vec
         Items::Start(index) => index.append_shortest(out),
         Items::Tables(items) => items.append_shortest(out),
         Items::Tags(items) => items.as_slice().encode(out),
+        Items::Names(items) => append_names(&items, out),
+        Items::Linking(items) => append_links(&items, out),
+        Items::Producers(items) => append_producers(&items, out),
+        Items::Hints(items) => append_hints(&items, out),
+        Items::Core(name) => append_process(name, out),
+        Items::CoreModules(items) => append_modules(&items, out),
+        Items::CoreInstances(items) => append_instances(&items, out),
+        Items::CoreStack { thread, frames } => append_stack(thread, &frames, out),
         Items::Custom { name, bytes } => {
             name.append_shortest(out)?;
             out.extend_from_slice(bytes)?;

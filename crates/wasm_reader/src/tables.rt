@@ -3,10 +3,10 @@ ghost use Rattle.wasm_sections.specs.Tables.{TableItem as TableModel, table_item
 ghost use Rattle.wasm_sections.proofs.TableLaws.{table_item-alone};
 ghost use Rattle.wasm_reader.specs.Items.{table_of};
 
-use crate::item::One;
+use crate::Here;
 use std::alloc::{Allocator, Global};
 use wasm_base::{Encode, R};
-use wasm_reader_base::{ReadFault, Readable, Shorten};
+use wasm_reader_base::{One, ReadFault, Readable, Shorten};
 use wasm_reader_insn::Expression;
 use wasm_sections::TableType;
 
@@ -33,7 +33,9 @@ impl<'a, A: Allocator + Copy> Readable<'a, A> for TableItem<A> {
     fn read(bytes: &'a [u8], alloc: A) -> Result<(TableItem<A>, &'a [u8]), ReadFault> {
         let (first, rest) = <u8 as Readable<'a, A>>::read(bytes, alloc)?;
         if first != 0x40 {
-            let (One(table_type), rest) = <One<TableType> as Readable<'a, A>>::read(bytes, alloc)?;
+            let (One(table_type, _), rest) = <One<TableType, Here> as Readable<'a, A>>::read(
+                bytes, alloc,
+            )?;
             let init = None;
             return Ok((TableItem { table_type, init }, rest));
         }
@@ -41,7 +43,7 @@ impl<'a, A: Allocator + Copy> Readable<'a, A> for TableItem<A> {
         if second != 0x00 {
             return Err(ReadFault::UnknownTag);
         }
-        let ((One(table_type), init), rest) = <(One<TableType>, Expression<A>) as Readable<
+        let ((One(table_type, _), init), rest) = <(One<TableType, Here>, Expression<A>) as Readable<
             'a,
             A,
         >>::read(rest, alloc)?;

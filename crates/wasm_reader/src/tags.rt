@@ -5,12 +5,12 @@ ghost use Rattle.wasm_sections.specs.declared.tag.TagKind.{TagKind as Kind};
 ghost use Rattle.wasm_sections.specs.declared.tag.TagType.{TagType as TagModel};
 ghost use Rattle.wasm_sections.proofs.TagLaws.{tag-alone, tag_kind-alone};
 
-use crate::item::{Item, One};
+use crate::Here;
 use std::alloc::Allocator;
-use wasm_reader_base::{ReadFault, Readable};
+use wasm_reader_base::{Item, One, ReadFault, Readable};
 use wasm_sections::{TagKind, TagType};
 
-impl<'a, A: Allocator + Copy> Item<'a, A> for TagKind {
+impl<'a, A: Allocator + Copy> Item<'a, Here, A> for TagKind {
     ghost Value = { Kind };
 
     ghost format = { coded tag_code };
@@ -30,7 +30,7 @@ impl<'a, A: Allocator + Copy> Item<'a, A> for TagKind {
     }
 }
 
-impl<'a, A: Allocator + Copy> Item<'a, A> for TagType {
+impl<'a, A: Allocator + Copy> Item<'a, Here, A> for TagType {
     ghost Value = { TagModel };
 
     ghost format = { tag_type };
@@ -41,9 +41,10 @@ impl<'a, A: Allocator + Copy> Item<'a, A> for TagType {
 
     #[tactic(auto, using(crate::proofs::ReadItems::tag_steps))]
     fn read_item(bytes: &'a [u8], alloc: A) -> Result<(TagType, &'a [u8]), ReadFault> {
-        let ((One(kind), func_type_idx), rest) = <(One<TagKind>, u32) as Readable<'a, A>>::read(
-            bytes, alloc,
-        )?;
+        let ((One(kind, _), func_type_idx), rest) = <(One<TagKind, Here>, u32) as Readable<
+            'a,
+            A,
+        >>::read(bytes, alloc)?;
         let tag = TagType {
             kind,
             func_type_idx,

@@ -6,4 +6,5 @@ pub mod ReadNumbers
 pub mod ReadPlain
 pub mod ReadTypes
 pub mod ReadVectors
+pub mod ReadWhole
 pub mod ShortTexts

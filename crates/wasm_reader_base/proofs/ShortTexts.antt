@@ -1,9 +1,11 @@
 -- The one shortest text of what was read is appended, part by part.
 use Rattle.std.proofs.Common.{◌≡◌, ℕ, ◌+◌, ◌<◌, ◌≤◌, List, [], ◌∷◌, ◌++◌, length, take, drop, get_or, map, refl, sym, ap, ap₂, subst, ◌∙◌, append_assoc, append-nil}
+use Rattle.std.specs.List.{All, flat_map}
+use Rattle.std.proofs.lemmas.List.Elements.{All-nil, All-cons, All-head, All-tail}
 use Rattle.std.proofs.lemmas.List.{drop_at, take_at, map-append, length-map, take_more, take_all}
 use Rattle.wasm_base.specs.Numbers.{shortest, wide, unsigned_text}
 use Rattle.wasm_base.specs.Formats.{Format, u32, fixed, mapped, Then, pair, prefixed, tagged, members, vec, frame}
-use Rattle.wasm_base.specs.Texts.{frame_text, FrameFits}
+use Rattle.wasm_base.specs.Texts.{frame_text, FrameFits, vec_text, VecFits}
 use Rattle.wasm_base.proofs.TextLaws.{u32_spelled, frame_spelled}
 use Rattle.wasm_reader_base.specs.Shortest.{AppendsShortest}
 
@@ -95,4 +97,23 @@ frame_appended F x start old middle new e a fits is =
       text = frame_text a.text;
       appended = is ∙ ap₂ (λ y z. y ++ frame_text z) before behind;
       spelled = λ s h. frame_spelled F a.text x (subst FrameFits behind fits) (a.spelled h.content h.spelled);
+    }
+
+-- ---- lists of records
+
+members_short : {T X : Type 0} (F : Format X) (view : T → X) (text : T → List ℕ) (Fits : T → Type 0) → ((x : T) → Fits x → (s : List ℕ) → F wide s (view x) → F shortest (text x) (view x)) → (xs : List T) → All Fits xs → (s : List ℕ) → members F wide s (map view xs) → members F shortest (flat_map text xs) (map view xs)
+members_short F view text Fits short [] fits s h = refl
+members_short F view text Fits short (x ∷ xs) fits s h = (text x, flat_map text xs, refl, short x (All-head Fits x xs fits) h.0 h.3, members_short F view text Fits short xs (All-tail Fits x xs fits) h.1 h.4)
+
+-- The vector of records is appended, each of which has its text as its shortest spelling.
+pub records_appended : {T X : Type 0} (F : Format X) (view : T → X) (text : T → List ℕ) (Fits : T → Type 0) (xs : List T) (old new : List ℕ) → ((x : T) → Fits x → (s : List ℕ) → F wide s (view x) → F shortest (text x) (view x)) → VecFits Fits xs → new ≡ old ++ vec_text text xs → AppendsShortest (vec F) (map view xs) old new
+records_appended F view text Fits xs old new short fits e = text_appended (vec F) (map view xs) (vec_text text xs) old new spelled e
+  where
+    spelled : (s : List ℕ) → vec F wide s (map view xs) → vec F shortest (vec_text text xs) (map view xs)
+    spelled s h = record {
+      front = unsigned_text (length xs);
+      back = flat_map text xs;
+      joined = refl;
+      first = subst (λ n. u32 shortest (unsigned_text n) (length (map view xs))) (length-map xs view) (u32_spelled (length (map view xs)) h.first.range);
+      second = members_short F view text Fits short xs fits.members h.back h.second;
     }

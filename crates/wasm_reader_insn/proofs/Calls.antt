@@ -8,7 +8,7 @@ use Rattle.wasm_base.specs.Reading.{Reads, ReadsNothing}
 use Rattle.wasm_insn.specs.Plain.{Plain, instruction}
 use Rattle.wasm_insn.specs.Table.{table}
 use Rattle.wasm_insn.proofs.InstructionLaws.{alone, any_begins}
-use Rattle.wasm_reader_insn.proofs.ReadLists.{HasMembers, members_start, members_step, members_fail, members_done}
+use Rattle.wasm_reader_base.proofs.ReadWhole.{HasMembers, members_start, members_step, members_fail, members_done}
 
 -- These instructions were gone over from `start` on, and `rest` is ahead.
 abbrev pub HasWalked : List ℕ → List Plain → List ℕ → Type 0

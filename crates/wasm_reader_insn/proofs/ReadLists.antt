@@ -19,45 +19,6 @@ use Rattle.wasm_base.specs.Going.{GoesOn, FillsNothing}
 use Rattle.wasm_base.proofs.ReadingSteps.{reads_same, such_reads}
 use Rattle.wasm_base.proofs.ReadingSteps.{front_and_rest}
 
--- ---- members up to the last byte
-
--- after the items
-abbrev pub HasMembers : {T X : Type 0} → Format X → (T → X) → List ℕ → List T → List ℕ → Type 0
-HasMembers {T} {X} F view bytes items rest = ((ys : List X) → members F wide rest ys → members F wide bytes (map view items ++ ys)) × (FillsNothing (members F) rest → FillsNothing (members F) bytes)
-
-module _ {T X : Type 0} (F : Format X) (view : T → X) (bytes : List ℕ) where
-  pub members_start : HasMembers F view bytes [] bytes
-  members_start = (λ ys h. h, λ n. n)
-
-  -- One member is read, and then only others that follow it.
-  after_member : UniqueReading F → (rest after : List ℕ) (x : X) → Reads F wide rest x after → rest ≢ [] → FillsNothing (members F) after → FillsNothing (members F) rest
-  after_member f rest after x h some n = record { none = go }
-    where
-      go : (ys : List X) → members F wide rest ys → ⊥
-      go [] g = some g
-      go (y ∷ ys) g =
-          let same = reads_same f h (record { front = g.0; split = g.2; spelled = g.3 }) in
-          n.none ys (subst (λ z. members F wide z ys) (sym same.1) g.4)
-
-  pub members_step : UniqueReading F → (rest after : List ℕ) (items : List T) (x : T) → HasMembers F view bytes items rest → rest ≢ [] → Reads F wide rest (view x) after → HasMembers F view bytes (items ++ x ∷ []) after
-  members_step f rest after items x go some g = (
-    λ ys h. subst (λ z. members F wide bytes z) (sym (ap (λ z. z ++ ys) (map-append view items (x ∷ [])) ∙ append_assoc (map view items) (view x ∷ []) ys)) (go.0 (view x ∷ ys) (g.front, after, g.split, g.spelled, h)),
-    λ n. go.1 (after_member f rest after (view x) g some n),
-  )
-
-  pub members_fail : (rest : List ℕ) (items : List T) → HasMembers F view bytes items rest → rest ≢ [] → ReadsNothing F wide rest → FillsNothing (members F) bytes
-  members_fail rest items go some n = go.1 (record { none = none })
-    where
-      none : (ys : List X) → members F wide rest ys → ⊥
-      none [] g = some g
-      none (y ∷ ys) g = n.none y g.1 (record { front = g.0; split = g.2; spelled = g.3 })
-
-  pub members_done : (rest : List ℕ) (items : List T) → HasMembers F view bytes items rest → rest ≡ [] → members F wide bytes (map view items)
-  members_done rest items go e = subst (λ z. members F wide bytes z) (append-nil (map view items)) (go.0 [] e)
-
-pub empty_not : (rest : List ℕ) → length rest ≢ 0 → rest ≢ []
-empty_not rest h e = h (ap length e)
-
 -- ---- members up to a byte
 
 abbrev pub HasEnded : {T X : Type 0} → ℕ → Format X → (T → X) → List ℕ → List T → List ℕ → Type 0
@@ -159,8 +120,3 @@ pub ruleset body_steps = (body_no_runs, body_no_code)
 
 pub front_is : (stop : ℕ) (bytes : List ℕ) → 1 ≤ length bytes → slice_index_or bytes 0 0 ≡ stop → bytes ≡ stop ∷ take (length bytes - 1) (drop 1 bytes)
 front_is stop bytes l e = front_and_rest bytes l ∙ ap (λ z. z ∷ take (length bytes - 1) (drop 1 bytes)) e
-
-pub member_shorter : {X : Type 0} (F : Format X) (bytes rest : List ℕ) (x : X) → BeginsWith (λ b. Unit {0}) F → Reads F wide bytes x rest → length rest < length bytes
-member_shorter F bytes rest x begins h =
-    let b = begins wide h.front x h.spelled in
-    omega (arith, ap length h.split, length-append h.front rest, ap length b.2)

@@ -1,13 +1,16 @@
 //! Callers of the reader, which prove what it answers.
 ghost use Rattle.std.specs.Prelude.{◌≡◌, ◌≢◌, ◌++◌, [], ◌∷◌, IfOk, IfErr, OnOk, OnErr};
 ghost use Rattle.wasm_base.specs.Entries.{counted_format};
-ghost use Rattle.wasm_base.specs.Formats.{u32 as u32_format};
+ghost use Rattle.wasm_base.specs.Formats.{u32 as u32_format, frame};
 ghost use Rattle.wasm_base.specs.Modules.{GainsReading};
+ghost use Rattle.wasm_custom.specs.Names.{Module, Map};
+ghost use Rattle.wasm_custom.specs.Readings.{name_payload};
 ghost use Rattle.wasm_reader_base.specs.declared.fault.ReadFault.TheVariants.{Memory};
-ghost use Rattle.wasm_reader.specs.Sections.{Functions, contents_of};
+ghost use Rattle.wasm_reader.specs.Sections.{Functions, Names, contents_of};
 
 use std::alloc::Allocator;
 use wasm_base::{Encode, R};
+use wasm_custom::{NameMap, NameSection};
 use wasm_reader::{Items, SectionKind, read_section, shorten};
 use wasm_reader_base::ReadFault;
 use wasm_sections::FunctionSection;
@@ -57,4 +60,35 @@ pub fn shortened_function<A: Allocator + Copy>(
     }
     let taken = shorten(SectionKind::Functions, text.as_slice(), alloc, sink)?;
     Ok(taken)
+}
+
+/// A name section: the names of the module and of its first function.
+pub fn write_names<A: Allocator + Copy>(sink: &mut Vec<u8, A>, name: &str, function: &str) -> R<()>
+    ensures { OnOk result (GainsReading (frame name_payload) (Module name.now ∷ Map 1 ((0, function.now) ∷ []) ∷ []) sink.old.items sink.new.items) }
+{
+    let mut functions = NameMap::new(*sink.allocator());
+    functions.append(0, function)?;
+    let mut section = NameSection::new(*sink.allocator());
+    section.module(name)?;
+    section.functions(&functions)?;
+    section.encode(sink)
+}
+
+/// Reads a name section that was written: the answer is the names that were added, and no cause but `Memory` is given.
+pub fn written_names<'a, A: Allocator + Copy>(
+    text: &'a mut Vec<u8, A>,
+    name: &str,
+    function: &str,
+) -> Result<Items<'a, A>, ReadFault>
+    requires { text.old.items ≡ [] }
+    ensures read { IfOk result (λ items. contents_of items ≡ Names (Module name.now ∷ Map 1 ((0, function.now) ∷ []) ∷ [])) }
+    ensures memory { IfErr result (λ e. e ≢ Memory → ⊥) }
+{
+    let alloc = *text.allocator();
+    match write_names(text, name, function) {
+        Ok(()) => {}
+        Err(_) => return Err(ReadFault::Memory),
+    }
+    let (items, _taken) = read_section(SectionKind::Names, text.as_slice(), alloc)?;
+    Ok(items)
 }

@@ -16,7 +16,7 @@ fn check(rt: &impl Abort, alloc: Global, kind: SectionKind, bytes: &[u8], expect
 /// Bytes where no section of the kind stands, and the cause.
 pub(crate) type Row = (SectionKind, &'static [u8], ReadFault);
 
-pub(crate) static ROWS: [Row; 23] = [
+pub(crate) static ROWS: [Row; 40] = [
     (
         SectionKind::Functions,
         &[5, 255, 255, 255, 255, 15],
@@ -100,6 +100,87 @@ pub(crate) static ROWS: [Row; 23] = [
     ),
     (SectionKind::Custom, &[2, 2, 97], ReadFault::Ended),
     (SectionKind::Start, &[2, 0, 0], ReadFault::SizeMismatch),
+    (
+        SectionKind::Names,
+        b"\x09\x04nama\x00\x02\x01m",
+        ReadFault::UnknownTag,
+    ),
+    (
+        SectionKind::Names,
+        b"\x0A\x04name\x00\x03\x01m\x00",
+        ReadFault::SizeMismatch,
+    ),
+    (SectionKind::Names, b"\x06\x04name\x00", ReadFault::Ended),
+    (
+        SectionKind::Linking,
+        b"\x0F\x07linking\x02\x08\x04\x01\x00\x00\x01",
+        ReadFault::Ended,
+    ),
+    (
+        SectionKind::Linking,
+        b"\x09\x07linking\x01",
+        ReadFault::UnknownTag,
+    ),
+    (
+        SectionKind::Linking,
+        b"\x0B\x07linking\x02\x05\x00",
+        ReadFault::UnknownTag,
+    ),
+    (
+        SectionKind::Linking,
+        b"\x11\x07linking\x02\x08\x06\x01\x00\x10\x00\x01f",
+        ReadFault::SizeMismatch,
+    ),
+    (
+        SectionKind::Linking,
+        b"\x0F\x07linking\x02\x08\x04\x01\x03\x10\x00",
+        ReadFault::UnknownTag,
+    ),
+    (
+        SectionKind::Producers,
+        b"\x0C\x09producers\x00\x00",
+        ReadFault::SizeMismatch,
+    ),
+    (
+        SectionKind::Hints,
+        b"\x21\x19metadata.code.branch_hint\x01\x00\x01\x03\x01\x80\x01",
+        ReadFault::TooLarge,
+    ),
+    (
+        SectionKind::Hints,
+        b"\x20\x19metadata.code.branch_hint\x01\x00\x01\x03\x02\x01",
+        ReadFault::UnknownTag,
+    ),
+    (
+        SectionKind::Core,
+        b"\x0B\x04core\x01\x04test",
+        ReadFault::UnknownTag,
+    ),
+    (
+        SectionKind::Core,
+        b"\x0C\x04core\x00\x04test\x00",
+        ReadFault::SizeMismatch,
+    ),
+    (
+        SectionKind::CoreModules,
+        b"\x10\x0Bcoremodules\x01\x01\x01m",
+        ReadFault::UnknownTag,
+    ),
+    (
+        SectionKind::CoreInstances,
+        b"\x15\x0Dcoreinstances\x01\x01\x00\x01\x2A\x01\x11",
+        ReadFault::UnknownTag,
+    ),
+    (
+        SectionKind::CoreStack,
+        b"\x1B\x09corestack\x00\x04main\x01\x00\x00\x2A\x33\x01\x7F\x01\x01\x02\x02",
+        ReadFault::UnknownTag,
+    ),
+    (
+        SectionKind::CoreStack,
+        b"\x10\x09corestack\x00\x04main",
+        ReadFault::Ended,
+    ),
 ];
 
 #[test]

@@ -3,6 +3,10 @@
 
 pub mod callers;
 #[cfg(test)]
+mod custom_rows;
+#[cfg(test)]
+mod custom_seen;
+#[cfg(test)]
 mod faults;
 #[cfg(test)]
 mod modules;

@@ -56,7 +56,7 @@ fn check(
 /// A question, the bytes, and how many requests are made.
 type Row = (Question, &'static [u8], u64);
 
-static ROWS: [Row; 16] = [
+static ROWS: [Row; 26] = [
     (Question::Section(SectionKind::Functions), &[2, 1, 5], 1),
     (
         Question::Section(SectionKind::Bodies),
@@ -106,6 +106,56 @@ static ROWS: [Row; 16] = [
     (Question::Section(SectionKind::Tags), &[3, 1, 0, 3], 1),
     (Question::Section(SectionKind::Start), &[1, 7], 0),
     (Question::Section(SectionKind::DataCount), &[1, 7], 0),
+    (
+        Question::Section(SectionKind::Names),
+        b"\x09\x04name\x00\x02\x01m",
+        1,
+    ),
+    (
+        Question::Section(SectionKind::Names),
+        b"\x0B\x04name\x0B\x04\x01\x00\x01t",
+        2,
+    ),
+    (
+        Question::Section(SectionKind::Names),
+        b"\x0D\x04name\x02\x06\x01\x00\x01\x01\x01x",
+        3,
+    ),
+    (
+        Question::Section(SectionKind::Linking),
+        b"\x0F\x07linking\x02\x08\x04\x01\x00\x10\x00",
+        2,
+    ),
+    (
+        Question::Section(SectionKind::Producers),
+        b"\x15\x09producers\x01\x03sdk\x01\x02em\x013",
+        2,
+    ),
+    (
+        Question::Section(SectionKind::Hints),
+        b"\x20\x19metadata.code.branch_hint\x01\x00\x01\x03\x01\x01",
+        2,
+    ),
+    (
+        Question::Section(SectionKind::Core),
+        b"\x0B\x04core\x00\x04test",
+        0,
+    ),
+    (
+        Question::Section(SectionKind::CoreModules),
+        b"\x19\x0Bcoremodules\x02\x00\x04mod1\x00\x04mod2",
+        1,
+    ),
+    (
+        Question::Section(SectionKind::CoreInstances),
+        b"\x15\x0Dcoreinstances\x01\x00\x00\x01\x2A\x01\x11",
+        3,
+    ),
+    (
+        Question::Section(SectionKind::CoreStack),
+        b"\x1B\x09corestack\x00\x04main\x01\x00\x00\x2A\x33\x01\x7F\x01\x01\x7F\x02",
+        3,
+    ),
     (Question::Section(SectionKind::Custom), &[1, 0], 0),
     (Question::Section(SectionKind::Raw), &[1, 0], 0),
     (Question::Module, b"\0asm\x01\0\0\0\x03\x02\x01\x05", 2),

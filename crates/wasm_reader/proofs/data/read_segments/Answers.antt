@@ -8,7 +8,7 @@ use Rattle.wasm_reader_base.proofs.ReadVectors.{HasRead, loop_step, loop_reads, 
 use Rattle.wasm_sections.specs.DataSegments.{data_item}
 use Rattle.wasm_reader.specs.Items.{segment_of}
 use Rattle.wasm_sections.proofs.DataLaws.{data-alone}
-use Rattle.wasm_reader.proofs.ReadSections.{whole_reads, whole_more, whole_nothing}
+use Rattle.wasm_reader_base.proofs.ReadWhole.{whole_reads, whole_more, whole_nothing}
 use Rattle.wasm_reader.proofs.data.read_segments.Goals as goal
 
 pub returns-in_err-item-clause-none : goal.returns-in_err-item-clause-none

@@ -7,7 +7,7 @@ use Rattle.wasm_reader_base.proofs.Faults.{fault_stays, memory_stays}
 use Rattle.wasm_reader_base.proofs.ReadVectors.{HasRead, loop_start, loop_step, loop_reads, loop_nothing}
 use Rattle.wasm_sections.specs.Imports.{imports_item, import_format}
 use Rattle.wasm_sections.proofs.ImportLaws.{import-alone}
-use Rattle.wasm_reader.proofs.ReadSections.{whole_reads, whole_more, whole_nothing}
+use Rattle.wasm_reader_base.proofs.ReadWhole.{whole_reads, whole_more, whole_nothing}
 use Rattle.wasm_reader.proofs.imports.read_imports.Goals as goal
 
 pub loop-taken-init : goal.loop-taken-init

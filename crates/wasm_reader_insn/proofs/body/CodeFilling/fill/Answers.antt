@@ -6,7 +6,7 @@ use Rattle.wasm_insn.proofs.InstructionLaws.{alone}
 use Rattle.wasm_reader_insn.specs.Arguments.{plain_of}
 use Rattle.wasm_reader_base.proofs.Faults.{fault_stays}
 use Rattle.wasm_reader_base.proofs.ReadFrames.{none_left}
-use Rattle.wasm_reader_insn.proofs.ReadLists.{HasMembers, members_step, members_fail, members_done, empty_not}
+use Rattle.wasm_reader_base.proofs.ReadWhole.{HasMembers, members_step, members_fail, members_done, empty_not}
 use Rattle.wasm_reader_insn.proofs.body.CodeFilling.fill.Goals as goal
 
 pub returns-then-is_empty-clause-found : goal.returns-then-is_empty-clause-found

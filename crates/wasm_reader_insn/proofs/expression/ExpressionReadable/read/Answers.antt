@@ -11,7 +11,8 @@ use Rattle.wasm_reader_base.proofs.Faults.{fault_stays, memory_stays}
 use Rattle.wasm_reader_base.proofs.ReadFrames.{none_left}
 use Rattle.wasm_base.proofs.ReadingSteps.{such_none}
 use Rattle.wasm_base.proofs.ReadingSteps.{front_and_rest}
-use Rattle.wasm_reader_insn.proofs.ReadLists.{HasEnded, ended_step, ended_fail, ended_done, ended_short, front_is, not_end, member_shorter}
+use Rattle.wasm_reader_base.proofs.ReadWhole.{member_shorter}
+use Rattle.wasm_reader_insn.proofs.ReadLists.{HasEnded, ended_step, ended_fail, ended_done, ended_short, front_is, not_end}
 use Rattle.wasm_reader_insn.proofs.expression.ExpressionReadable.read.Goals as goal
 
 pub returns-then-first-eq-END-clause-found : goal.returns-then-first-eq-END-clause-found

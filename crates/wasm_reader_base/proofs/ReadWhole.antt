@@ -1,0 +1,69 @@
+-- Values that all of the bytes spell.
+use Rattle.std.proofs.Common.{◌≡◌, ◌≢◌, ℕ, ◌<◌, List, [], ◌∷◌, ◌++◌, length, map, sym, ap, subst, ◌∙◌, append_assoc, append-nil, arith}
+use Rattle.std.proofs.lemmas.List.{map-append, length-append}
+use Rattle.wasm_base.specs.Going.{FillsNothing}
+use Rattle.wasm_base.specs.Numbers.{wide}
+use Rattle.wasm_base.specs.Formats.{Format, members}
+use Rattle.wasm_base.specs.Reading.{UniqueReading, BeginsWith, Reads, ReadsNothing}
+use Rattle.wasm_base.proofs.ReadingSteps.{reads_same}
+use Rattle.wasm_reader_base.proofs.ReadFrames.{none_left}
+
+-- ---- a value that all of the bytes spell
+
+all_of : {X : Type 0} (F : Format X) (bytes : List ℕ) (x : X) → F wide bytes x → Reads F wide bytes x []
+all_of F bytes x h = record { front = bytes; split = sym (append-nil bytes); spelled = h }
+
+pub whole_reads : {X : Type 0} (F : Format X) (bytes left : List ℕ) (x : X) → Reads F wide bytes x left → length left ≡ 0 → F wide bytes x
+whole_reads F bytes left x h e = subst (λ z. F wide z x) (sym (h.split ∙ ap (λ z. h.front ++ z) (none_left left e) ∙ append-nil h.front)) h.spelled
+
+pub whole_more : {X : Type 0} (F : Format X) (bytes left : List ℕ) (x : X) → UniqueReading F → Reads F wide bytes x left → length left ≢ 0 → FillsNothing F bytes
+whole_more F bytes left x alone h more = record { none = λ y s. more (ap length (reads_same alone h (all_of F bytes y s)).1) }
+
+pub whole_nothing : {X : Type 0} (F : Format X) (bytes : List ℕ) → ReadsNothing F wide bytes → FillsNothing F bytes
+whole_nothing F bytes n = record { none = λ x s. n.none x [] (all_of F bytes x s) }
+
+pub ruleset whole_steps = (whole_reads, whole_more, whole_nothing)
+
+-- ---- members up to the last byte
+
+-- after the items
+abbrev pub HasMembers : {T X : Type 0} → Format X → (T → X) → List ℕ → List T → List ℕ → Type 0
+HasMembers {T} {X} F view bytes items rest = ((ys : List X) → members F wide rest ys → members F wide bytes (map view items ++ ys)) × (FillsNothing (members F) rest → FillsNothing (members F) bytes)
+
+module _ {T X : Type 0} (F : Format X) (view : T → X) (bytes : List ℕ) where
+  pub members_start : HasMembers F view bytes [] bytes
+  members_start = (λ ys h. h, λ n. n)
+
+  -- One member is read, and then only others that follow it.
+  after_member : UniqueReading F → (rest after : List ℕ) (x : X) → Reads F wide rest x after → rest ≢ [] → FillsNothing (members F) after → FillsNothing (members F) rest
+  after_member f rest after x h some n = record { none = go }
+    where
+      go : (ys : List X) → members F wide rest ys → ⊥
+      go [] g = some g
+      go (y ∷ ys) g =
+          let same = reads_same f h (record { front = g.0; split = g.2; spelled = g.3 }) in
+          n.none ys (subst (λ z. members F wide z ys) (sym same.1) g.4)
+
+  pub members_step : UniqueReading F → (rest after : List ℕ) (items : List T) (x : T) → HasMembers F view bytes items rest → rest ≢ [] → Reads F wide rest (view x) after → HasMembers F view bytes (items ++ x ∷ []) after
+  members_step f rest after items x go some g = (
+    λ ys h. subst (λ z. members F wide bytes z) (sym (ap (λ z. z ++ ys) (map-append view items (x ∷ [])) ∙ append_assoc (map view items) (view x ∷ []) ys)) (go.0 (view x ∷ ys) (g.front, after, g.split, g.spelled, h)),
+    λ n. go.1 (after_member f rest after (view x) g some n),
+  )
+
+  pub members_fail : (rest : List ℕ) (items : List T) → HasMembers F view bytes items rest → rest ≢ [] → ReadsNothing F wide rest → FillsNothing (members F) bytes
+  members_fail rest items go some n = go.1 (record { none = none })
+    where
+      none : (ys : List X) → members F wide rest ys → ⊥
+      none [] g = some g
+      none (y ∷ ys) g = n.none y g.1 (record { front = g.0; split = g.2; spelled = g.3 })
+
+  pub members_done : (rest : List ℕ) (items : List T) → HasMembers F view bytes items rest → rest ≡ [] → members F wide bytes (map view items)
+  members_done rest items go e = subst (λ z. members F wide bytes z) (append-nil (map view items)) (go.0 [] e)
+
+pub empty_not : (rest : List ℕ) → length rest ≢ 0 → rest ≢ []
+empty_not rest h e = h (ap length e)
+
+pub member_shorter : {X : Type 0} (F : Format X) (bytes rest : List ℕ) (x : X) → BeginsWith (λ b. Unit {0}) F → Reads F wide bytes x rest → length rest < length bytes
+member_shorter F bytes rest x begins h =
+    let b = begins wide h.front x h.spelled in
+    omega (arith, ap length h.split, length-append h.front rest, ap length b.2)

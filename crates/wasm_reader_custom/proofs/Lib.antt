@@ -1,0 +1,13 @@
+pub mod ReadCoreDumps
+pub mod ReadHints
+pub mod ReadLinks
+pub mod ReadMarked
+pub mod ReadNamed
+pub mod ReadNames
+pub mod ReadProducers
+pub mod ReadStacks
+pub mod ReadSymbols
+pub mod ShortCustom
+pub mod ShortLinks
+pub mod ShortNames
+pub mod ShortSymbols

@@ -1,0 +1,6 @@
+use Rattle.wasm_reader_base.proofs.Faults.{fault_stays}
+use Rattle.wasm_reader_custom.proofs.ReadLinks.{links_none}
+use Rattle.wasm_reader_custom.proofs.linking.read_links.Goals as goal
+
+pub returns-in_err-rest-clause-none : goal.returns-in_err-rest-clause-none
+returns-in_err-rest-clause-none g c = fault_stays c.from_residual.result _ c.from_residual.ensures.1 λ n. links_none c.args.bytes.now (c.in_err-rest.ensures.none n)
