@@ -99,9 +99,41 @@ fn shortest_texts(rt: HostRuntime) {
     let padded: &[u8] = &[0x86, 0x00, 0x01, 0x85, 0x80, 0x80, 0x80, 0x00, 0x99];
     check_text(&rt, alloc, 5, padded, &mut [9; 4], (3, 8, 0), &[2, 1, 5, 9]);
     check_text(&rt, alloc, 5, padded, &mut [9; 2], (3, 8, 0), &[9; 2]);
-    check_text(&rt, alloc, 21, padded, &mut [9; 8], (7, 8, 0), &[6, 1, 0x85, 0x80, 0x80, 0x80, 0, 9]);
-    check_text(&rt, alloc, 5, &padded[..7], &mut [9; 3], (NO_ANSWER, 0, 1), &[9; 3]);
-    check_text(&rt, alloc, 11, &[3, 1, 1, 0], &mut [9; 3], (NO_ANSWER, 0, 4), &[9; 3]);
-    check_text(&rt, alloc, 22, padded, &mut [9; 3], (NO_ANSWER, 0, 9), &[9; 3]);
+    check_text(
+        &rt,
+        alloc,
+        21,
+        padded,
+        &mut [9; 8],
+        (7, 8, 0),
+        &[6, 1, 0x85, 0x80, 0x80, 0x80, 0, 9],
+    );
+    check_text(
+        &rt,
+        alloc,
+        5,
+        &padded[..7],
+        &mut [9; 3],
+        (NO_ANSWER, 0, 1),
+        &[9; 3],
+    );
+    check_text(
+        &rt,
+        alloc,
+        11,
+        &[3, 1, 1, 0],
+        &mut [9; 3],
+        (NO_ANSWER, 0, 4),
+        &[9; 3],
+    );
+    check_text(
+        &rt,
+        alloc,
+        22,
+        padded,
+        &mut [9; 3],
+        (NO_ANSWER, 0, 9),
+        &[9; 3],
+    );
     check_text(&rt, alloc, 5, &[], &mut [], (NO_ANSWER, 0, 1), &[]);
 }
