@@ -1,15 +1,15 @@
 -- What callers cite: what the reader answers where a section's text stands.
-use Rattle.std.proofs.Common.{◌≡◌, ℕ, List, [], ◌++◌, refl, sym, ap, ◌∙◌, append-nil}
+use Rattle.std.proofs.Common.{◌≡◌, ℕ, List, [], ◌++◌, refl, sym, ap, subst, ◌∙◌, append-nil}
 use Rattle.wasm_base.specs.Formats.{Format, u32, frame, mapped, vec}
 use Rattle.wasm_base.specs.Modules.{GainsReading}
-use Rattle.wasm_base.specs.Numbers.{wide}
+use Rattle.wasm_base.specs.Numbers.{shortest, wide}
 use Rattle.wasm_base.specs.Reading.{UniqueReading, Reads, ReadsAlone, ReadsNothing}
 use Rattle.wasm_sections.specs.Exports.{ExportItem, export}
 use Rattle.wasm_sections.proofs.SectionLaws.{functions-alone, exports-alone}
 use Rattle.wasm_custom.specs.Names.{NameItem}
 use Rattle.wasm_custom.specs.Readings.{name_payload}
 use Rattle.wasm_custom.proofs.SectionLaws.{name_section-alone}
-use Rattle.wasm_reader.specs.Sections.{Contents, Functions, Exports, Names, section, Takes}
+use Rattle.wasm_reader.specs.Sections.{Contents, Functions, Exports, Names, section, Takes, Shortens}
 use Rattle.wasm_reader.specs.declared.section.SectionKind.TheVariants as kinds
 
 module _ {X : Type 0} (F : Format X) (say : X → Contents) {text bytes : List ℕ} {x : X} (alone : ReadsAlone (frame F) text x) (gained : bytes ≡ [] ++ text) where
@@ -25,6 +25,11 @@ module _ {X : Type 0} (F : Format X) (say : X → Contents) {text bytes : List �
       let s = unique.spellings.wider text x alone.spelled in
       n.none (say x) [] (record { front = text; split = gained ∙ sym (append-nil text); spelled = record { front = s.front; content = s.content; joined = s.joined; size = s.size; spelled = (x, refl, s.spelled) } })
 
+  shortens : ((y : X) → say y ≡ say x → y ≡ x) → {t : List ℕ} → frame (mapped say F) shortest t (say x) → t ≡ text
+  shortens apart {t} h =
+      let s = h.spelled in
+      alone.one t (record { front = h.front; content = h.content; joined = h.joined; size = h.size; spelled = subst (λ z. F shortest h.content z) (apart s.0 s.1) s.2 })
+
 -- The reader answers the indices of a function section that was written into an empty buffer.
 pub reads_functions : {bytes : List ℕ} {types : List ℕ} {y : Contents} {n : ℕ} → GainsReading (frame (vec u32)) types [] bytes → Takes kinds.Functions bytes y n → y ≡ Functions types
 reads_functions {bytes = bytes} g h = (said (vec u32) Functions g.alone g.added h.reads).0
@@ -32,6 +37,12 @@ reads_functions {bytes = bytes} g h = (said (vec u32) Functions g.alone g.added 
 -- It gives no cause but `Memory`.
 pub functions_stand : {bytes : List ℕ} {types : List ℕ} → GainsReading (frame (vec u32)) types [] bytes → ReadsNothing (section kinds.Functions) wide bytes → ⊥
 functions_stand g n = stands (vec u32) Functions g.alone g.added functions-alone n
+
+-- A function section that was written is appended again where it is shortened.
+pub shortens_functions : {bytes : List ℕ} {types : List ℕ} {n : ℕ} {old new : List ℕ} → GainsReading (frame (vec u32)) types [] bytes → Shortens kinds.Functions bytes n old new → new ≡ old ++ bytes
+shortens_functions {types = types} {old = old} g h =
+    let is = reads_functions g h.takes in
+    h.appended ∙ ap (λ t. old ++ t) (shortens (vec u32) Functions g.alone g.added (λ y e. cc e) (subst (λ z. frame (mapped Functions (vec u32)) shortest h.text z) is h.spelled) ∙ sym g.added)
 
 -- The same of exports.
 pub reads_exports : {bytes : List ℕ} {items : List ExportItem} {y : Contents} {n : ℕ} → GainsReading (frame (vec export)) items [] bytes → Takes kinds.Exports bytes y n → y ≡ Exports items

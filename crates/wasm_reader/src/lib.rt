@@ -1,8 +1,8 @@
 //! Reads sections, exactly: an answer is the items that the grammar reads there, with padded numbers too, and a cause other than
 //! [`ReadFault::Memory`] says that no reading exists.
 //!
-//! [`read_section`] reads a section of a [`SectionKind`], without its id, into [`Items`]. A custom section is read as what its name stands
-//! for, or, as any is, as its name and data.
+//! [`read_section`] reads a section of a [`SectionKind`], without its id, into [`Items`], and [`shorten`] writes it in its fewest bytes. A custom section is
+//! read as what its name stands for, or, as any is, as its name and data.
 #![tactic(auto)]
 
 mod data;

@@ -2,7 +2,8 @@
 //! other than [`ReadFault::Memory`] says that no reading exists.
 //!
 //! What is read is a type with [`Readable`]: numbers, fixed bytes, names, frames, pairs, vectors, types and immediates here, and
-//! instructions and sections in the crates above. A content that reaches to the last byte of its frame has [`Filling`].
+//! instructions and sections in the crates above. A content that reaches to the last byte of its frame has [`Filling`], and what is
+//! written in its fewest bytes has [`Shorten`].
 #![tactic(auto)]
 
 mod fault;

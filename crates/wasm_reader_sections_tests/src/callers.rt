@@ -1,5 +1,5 @@
 //! Callers of the reader, which prove what it answers.
-ghost use Rattle.std.specs.Prelude.{◌≡◌, ◌≢◌, [], ◌∷◌, IfOk, IfErr, OnOk};
+ghost use Rattle.std.specs.Prelude.{◌≡◌, ◌≢◌, ◌++◌, [], ◌∷◌, IfOk, IfErr, OnOk, OnErr};
 ghost use Rattle.wasm_base.specs.Entries.{counted_format};
 ghost use Rattle.wasm_base.specs.Formats.{u32 as u32_format, frame};
 ghost use Rattle.wasm_base.specs.Modules.{GainsReading};
@@ -11,7 +11,7 @@ ghost use Rattle.wasm_reader.specs.Sections.{Functions, Names, contents_of};
 use std::alloc::Allocator;
 use wasm_base::{Encode, R};
 use wasm_custom::{NameMap, NameSection};
-use wasm_reader::{Items, SectionKind, read_section};
+use wasm_reader::{Items, SectionKind, read_section, shorten};
 use wasm_reader_base::ReadFault;
 use wasm_sections::FunctionSection;
 
@@ -40,6 +40,26 @@ pub fn written_function<'a, A: Allocator + Copy>(
     }
     let (items, _taken) = read_section(SectionKind::Functions, text.as_slice(), alloc)?;
     Ok(items)
+}
+
+/// Shortens a function section that was written: what is appended is that section again.
+pub fn shortened_function<A: Allocator + Copy>(
+    text: &mut Vec<u8, A>,
+    index: u32,
+    sink: &mut Vec<u8, A>,
+) -> Result<usize, ReadFault>
+    requires { text.old.items ≡ [] }
+    ensures same { OnOk result (sink.new.items ≡ sink.old.items ++ text.new.items) }
+    ensures err { OnErr result (sink.new.items ≡ sink.old.items) }
+    ensures memory { IfErr result (λ e. e ≢ Memory → ⊥) }
+{
+    let alloc = *text.allocator();
+    match write_function(text, index) {
+        Ok(()) => {}
+        Err(_) => return Err(ReadFault::Memory),
+    }
+    let taken = shorten(SectionKind::Functions, text.as_slice(), alloc, sink)?;
+    Ok(taken)
 }
 
 /// A name section: the names of the module and of its first function.

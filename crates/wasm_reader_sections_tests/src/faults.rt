@@ -14,9 +14,9 @@ fn check(rt: &impl Abort, alloc: Global, kind: SectionKind, bytes: &[u8], expect
 }
 
 /// Bytes where no section of the kind stands, and the cause.
-type Row = (SectionKind, &'static [u8], ReadFault);
+pub(crate) type Row = (SectionKind, &'static [u8], ReadFault);
 
-static ROWS: [Row; 40] = [
+pub(crate) static ROWS: [Row; 40] = [
     (
         SectionKind::Functions,
         &[5, 255, 255, 255, 255, 15],

@@ -16,3 +16,5 @@ mod refusals;
 mod rows;
 #[cfg(test)]
 mod seen;
+#[cfg(test)]
+mod shortest;

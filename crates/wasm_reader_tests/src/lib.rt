@@ -14,4 +14,6 @@ mod instructions;
 #[cfg(test)]
 mod refusals;
 #[cfg(test)]
+mod shorten;
+#[cfg(test)]
 mod walks;
