@@ -162,7 +162,11 @@ fn outcome(
         Err(fault) => (0, Some(fault), &[] as &[u8]),
     };
     let (before, after) = sink.split_at(1);
-    Ok((taken, fault, before == [BEFORE].as_slice() && after == gained))
+    Ok((
+        taken,
+        fault,
+        before == [BEFORE].as_slice() && after == gained,
+    ))
 }
 
 fn check(rt: &impl Abort, given: Outcome, taken: usize, fault: Option<ReadFault>) {
