@@ -1,5 +1,5 @@
 // Sections that are shortened.
-use crate::{faults, rows};
+use crate::{custom_rows, faults, rows};
 use std::alloc::Global;
 use std::process::Abort;
 use std::test::Fail;
@@ -16,7 +16,45 @@ const MOST: u64 = 100;
 /// A section with padded numbers, and its shortest text.
 type Row = (SectionKind, &'static [u8], &'static [u8]);
 
-static PADDED: [Row; 25] = [
+static PADDED: [Row; 34] = [
+    (
+        SectionKind::Producers,
+        &[
+            0x13, 9, 0x70, 0x72, 0x6F, 0x64, 0x75, 0x63, 0x65, 0x72, 0x73, 0x81, 0, 1, 0x6C, 1, 1,
+            0x43, 1, 0x31,
+        ],
+        &[
+            0x12, 9, 0x70, 0x72, 0x6F, 0x64, 0x75, 0x63, 0x65, 0x72, 0x73, 1, 1, 0x6C, 1, 1, 0x43,
+            1, 0x31,
+        ],
+    ),
+    (
+        SectionKind::Core,
+        &[9, 4, 0x63, 0x6F, 0x72, 0x65, 0, 0x81, 0, 0x70],
+        &[8, 4, 0x63, 0x6F, 0x72, 0x65, 0, 1, 0x70],
+    ),
+    (
+        SectionKind::CoreModules,
+        &[
+            0x11, 0xB, 0x63, 0x6F, 0x72, 0x65, 0x6D, 0x6F, 0x64, 0x75, 0x6C, 0x65, 0x73, 0x81, 0,
+            0, 1, 0x6D,
+        ],
+        &[
+            0x10, 0xB, 0x63, 0x6F, 0x72, 0x65, 0x6D, 0x6F, 0x64, 0x75, 0x6C, 0x65, 0x73, 1, 0, 1,
+            0x6D,
+        ],
+    ),
+    (
+        SectionKind::CoreInstances,
+        &[
+            0x15, 0xD, 0x63, 0x6F, 0x72, 0x65, 0x69, 0x6E, 0x73, 0x74, 0x61, 0x6E, 0x63, 0x65,
+            0x73, 1, 0, 0x80, 0, 1, 0, 0,
+        ],
+        &[
+            0x14, 0xD, 0x63, 0x6F, 0x72, 0x65, 0x69, 0x6E, 0x73, 0x74, 0x61, 0x6E, 0x63, 0x65,
+            0x73, 1, 0, 0, 1, 0, 0,
+        ],
+    ),
     (
         SectionKind::Functions,
         &[0x86, 0, 1, 0x85, 0x80, 0x80, 0x80, 0],
@@ -139,6 +177,31 @@ static PADDED: [Row; 25] = [
         &[7, 0x84, 0, 0x74, 0x65, 0x73, 0x74, 9],
         &[6, 4, 0x74, 0x65, 0x73, 0x74, 9],
     ),
+    (
+        SectionKind::Names,
+        b"\x8B\x80\x00\x04name\x00\x83\x00\x81\x00m",
+        b"\x09\x04name\x00\x02\x01m",
+    ),
+    (
+        SectionKind::Names,
+        b"\x0F\x04name\x01\x87\x00\x81\x00\x80\x00\x81\x00t",
+        b"\x0B\x04name\x01\x04\x01\x00\x01t",
+    ),
+    (
+        SectionKind::Linking,
+        b"\x12\x07linking\x82\x00\x08\x85\x00\x01\x00\x90\x00\x00",
+        b"\x0F\x07linking\x02\x08\x04\x01\x00\x10\x00",
+    ),
+    (
+        SectionKind::Hints,
+        b"\x22\x19metadata.code.branch_hint\x81\x00\x00\x01\x83\x00\x01\x01",
+        b"\x20\x19metadata.code.branch_hint\x01\x00\x01\x03\x01\x01",
+    ),
+    (
+        SectionKind::CoreStack,
+        b"\x1E\x09corestack\x00\x84\x00main\x01\x00\x80\x00\x2A\x33\x01\x7F\x81\x00\x01\x7F\x02",
+        b"\x1B\x09corestack\x00\x04main\x01\x00\x00\x2A\x33\x01\x7F\x01\x01\x7F\x02",
+    ),
     (SectionKind::Raw, &[0x82, 0, 1, 2], &[2, 1, 2]),
 ];
 
@@ -162,7 +225,11 @@ fn outcome(
         Err(fault) => (0, Some(fault), &[] as &[u8]),
     };
     let (before, after) = sink.split_at(1);
-    Ok((taken, fault, before == [BEFORE].as_slice() && after == gained))
+    Ok((
+        taken,
+        fault,
+        before == [BEFORE].as_slice() && after == gained,
+    ))
 }
 
 fn check(rt: &impl Abort, given: Outcome, taken: usize, fault: Option<ReadFault>) {
@@ -202,6 +269,9 @@ fn padded(rt: HostRuntime) -> Result<(), Fail> {
 fn plain(rt: HostRuntime) -> Result<(), Fail> {
     let heap = Refusing::new(rt.alloc());
     for (kind, bytes, _seen) in rows::ROWS.iter() {
+        check_row(&rt, &heap, *kind, bytes, bytes)?;
+    }
+    for (kind, bytes, _told) in custom_rows::ROWS.iter() {
         check_row(&rt, &heap, *kind, bytes, bytes)?;
     }
     Ok(())
