@@ -30,6 +30,19 @@ module _ {X : Type 0} (F : Format X) (say : X → Contents) {text bytes : List �
       let s = h.spelled in
       alone.one t (record { front = h.front; content = h.content; joined = h.joined; size = h.size; spelled = subst (λ z. F shortest h.content z) (apart s.0 s.1) s.2 })
 
+-- One value stands at the front of bytes.
+module _ {X : Type 0} (F : Format X) (say : X → Contents) (unique : UniqueReading (frame F)) {bytes : List ℕ} where
+  inside : {y : Contents} {rest : List ℕ} → Reads (frame (mapped say F)) wide bytes y rest → (x : X) × (say x ≡ y) × Reads (frame F) wide bytes x rest
+  inside h =
+      let s = h.spelled in
+      (s.spelled.0, s.spelled.1, record { front = h.front; split = h.split; spelled = record { front = s.front; content = s.content; joined = s.joined; size = s.size; spelled = s.spelled.2 } })
+
+  one_reading : {y z : Contents} {rest other : List ℕ} → Reads (frame (mapped say F)) wide bytes y rest → Reads (frame (mapped say F)) wide bytes z other → y ≡ z
+  one_reading {rest = rest} {other = other} h g =
+      let p = inside h in
+      let q = inside g in
+      sym p.1 ∙ ap say (unique.alone wide p.2.front q.2.front rest other p.0 q.0 p.2.spelled q.2.spelled (sym p.2.split ∙ q.2.split)).0 ∙ q.1
+
 -- The reader answers the indices of a function section that was written into an empty buffer.
 pub reads_functions : {bytes : List ℕ} {types : List ℕ} {y : Contents} {n : ℕ} → GainsReading (frame (vec u32)) types [] bytes → Takes kinds.Functions bytes y n → y ≡ Functions types
 reads_functions {bytes = bytes} g h = (said (vec u32) Functions g.alone g.added h.reads).0
@@ -57,3 +70,13 @@ reads_names g h = (said name_payload Names g.alone g.added h.reads).0
 
 pub names_stand : {bytes : List ℕ} {items : List NameItem} → GainsReading (frame name_payload) items [] bytes → ReadsNothing (section kinds.Names) wide bytes → ⊥
 names_stand g n = stands name_payload Names g.alone g.added name_section-alone n
+
+-- Bytes that are read as what was written, some numbers padded, are read as that alone, and shortened to what was written.
+module _ {padded : List ℕ} {types : List ℕ} {rest : List ℕ} (given : Reads (section kinds.Functions) wide padded (Functions types) rest) where
+  pub reads_padded : {y : Contents} {n : ℕ} → Takes kinds.Functions padded y n → y ≡ Functions types
+  reads_padded h = one_reading (vec u32) Functions functions-alone h.reads given
+
+  pub shortens_padded : {bytes : List ℕ} {n : ℕ} {old new : List ℕ} → GainsReading (frame (vec u32)) types [] bytes → Shortens kinds.Functions padded n old new → new ≡ old ++ bytes
+  shortens_padded {old = old} g h =
+      let is = reads_padded h.takes in
+      h.appended ∙ ap (λ t. old ++ t) (shortens (vec u32) Functions g.alone g.added (λ y e. cc e) (subst (λ z. frame (mapped Functions (vec u32)) shortest h.text z) is h.spelled) ∙ sym g.added)

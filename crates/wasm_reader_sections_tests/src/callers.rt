@@ -1,12 +1,15 @@
 //! Callers of the reader, which prove what it answers.
-ghost use Rattle.std.specs.Prelude.{◌≡◌, ◌≢◌, ◌++◌, [], ◌∷◌, IfOk, IfErr, OnOk, OnErr};
+ghost use Rattle.std.specs.Prelude.{◌≡◌, ◌≢◌, ◌++◌, [], ◌∷◌, ℕ, List, IfOk, IfErr, OnOk, OnErr};
 ghost use Rattle.wasm_base.specs.Entries.{counted_format};
 ghost use Rattle.wasm_base.specs.Formats.{u32 as u32_format, frame};
 ghost use Rattle.wasm_base.specs.Modules.{GainsReading};
 ghost use Rattle.wasm_custom.specs.Names.{Module, Map};
 ghost use Rattle.wasm_custom.specs.Readings.{name_payload};
 ghost use Rattle.wasm_reader_base.specs.declared.fault.ReadFault.TheVariants.{Memory};
-ghost use Rattle.wasm_reader.specs.Sections.{Functions, Names, contents_of};
+ghost use Rattle.wasm_base.specs.Numbers.{wide};
+ghost use Rattle.wasm_base.specs.Reading.{Reads};
+ghost use Rattle.wasm_reader.specs.Sections.{Functions, Names, contents_of, section};
+ghost use Rattle.wasm_reader.specs.declared.section.SectionKind.TheVariants as kinds;
 
 use std::alloc::Allocator;
 use wasm_base::{Encode, R};
@@ -60,6 +63,29 @@ pub fn shortened_function<A: Allocator + Copy>(
     }
     let taken = shorten(SectionKind::Functions, text.as_slice(), alloc, sink)?;
     Ok(taken)
+}
+
+/// Reads a section that is a function section which was written, some of its numbers padded, and shortens it: the items are those that were added, and what is appended is
+/// the section as it was written.
+pub fn padded_function<'a, A: Allocator + Copy>(
+    text: &mut Vec<u8, A>,
+    index: u32,
+    padded: &'a [u8],
+    sink: &mut Vec<u8, A>,
+) -> Result<Items<'a, A>, ReadFault>
+    requires { text.old.items ≡ [] }
+    ensures read { IfOk result (λ items. (rest : List ℕ) → Reads (section kinds.Functions) wide padded.now (Functions (index ∷ [])) rest → contents_of items ≡ Functions (index ∷ [])) }
+    ensures same { OnOk result ((rest : List ℕ) → Reads (section kinds.Functions) wide padded.now (Functions (index ∷ [])) rest → sink.new.items ≡ sink.old.items ++ text.new.items) }
+    ensures memory { IfErr result (λ e. e ≢ Memory → (rest : List ℕ) → Reads (section kinds.Functions) wide padded.now (Functions (index ∷ [])) rest → ⊥) }
+{
+    let alloc = *text.allocator();
+    match write_function(text, index) {
+        Ok(()) => {}
+        Err(_) => return Err(ReadFault::Memory),
+    }
+    let (items, _taken) = read_section(SectionKind::Functions, padded, alloc)?;
+    let _taken = shorten(SectionKind::Functions, padded, alloc, sink)?;
+    Ok(items)
 }
 
 /// A name section: the names of the module and of its first function.

@@ -1,4 +1,5 @@
 // Sections that are shortened.
+use crate::callers::padded_function;
 use crate::{custom_rows, faults, rows};
 use std::alloc::Global;
 use std::process::Abort;
@@ -302,5 +303,21 @@ fn bytes_behind(rt: HostRuntime) -> Result<(), Fail> {
         &[1, 7],
     )?;
     check(&rt, given, 4, None);
+    Ok(())
+}
+
+/// The bytes are these.
+fn check_bytes(rt: &impl Abort, given: &[u8], expected: &[u8]) {
+    assert_eq!(rt; given, expected);
+}
+
+#[test]
+fn padding_of_what_was_written(rt: HostRuntime) -> Result<(), Fail> {
+    let mut text = Vec::new(rt.alloc());
+    let mut sink = Vec::new(rt.alloc());
+    let padded = [0x86, 0x00, 0x01, 0x85, 0x80, 0x80, 0x80, 0x00];
+    let _items = padded_function(&mut text, 5, &padded, &mut sink)?;
+    check_bytes(&rt, &text, &[0x02, 0x01, 0x05]);
+    check_bytes(&rt, &sink, &[0x02, 0x01, 0x05]);
     Ok(())
 }
