@@ -1,4 +1,8 @@
 //! Measures the workloads of `crates/wasm_bench`. What is measured, and how, is told in `README.md` beside this file.
+
+mod leb128;
+
+use leb128::{signed, unsigned};
 use std::env;
 use std::hint::black_box;
 use std::process::exit;
@@ -209,22 +213,6 @@ impl Input {
 }
 
 // ---- a straight encoder, by the core specification and without the library
-
-fn unsigned(bytes: &mut Vec<u8>, mut n: u64) {
-    while n >= 0x80 {
-        bytes.push(n as u8 | 0x80);
-        n >>= 7;
-    }
-    bytes.push(n as u8);
-}
-
-fn signed(bytes: &mut Vec<u8>, mut n: i64) {
-    while !(-64..64).contains(&n) {
-        bytes.push(n as u8 | 0x80);
-        n >>= 7;
-    }
-    bytes.push(n as u8 & 0x7F);
-}
 
 fn number(n: usize) -> Vec<u8> {
     let mut number = Vec::new();

@@ -1,6 +1,9 @@
 //! Measures the reader of the library `wasm_bench`: a code section read whole, and its bodies gone over instruction by instruction, beside a
 //! straight decoder that keeps nothing. See README.md.
 
+mod leb128;
+
+use leb128::{signed, unsigned};
 use std::env;
 use std::hint::black_box;
 use std::time::{Duration, Instant};
@@ -45,22 +48,6 @@ impl Numbers {
             _ => (n >> 8) % 128,
         }
     }
-}
-
-fn unsigned(bytes: &mut Vec<u8>, mut n: u64) {
-    while n >= 0x80 {
-        bytes.push(n as u8 | 0x80);
-        n >>= 7;
-    }
-    bytes.push(n as u8);
-}
-
-fn signed(bytes: &mut Vec<u8>, mut n: i64) {
-    while !(-64..64).contains(&n) {
-        bytes.push(n as u8 | 0x80);
-        n >>= 7;
-    }
-    bytes.push((n & 0x7F) as u8);
 }
 
 fn instruction(bytes: &mut Vec<u8>, numbers: &mut Numbers) {
