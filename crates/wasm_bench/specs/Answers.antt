@@ -1,5 +1,5 @@
 -- What workloads answer.
-use Rattle.std.specs.Prelude.{◌≡◌, ℕ, ◌<◌, ◌≤◌, ◌∷◌, [], List, ◌++◌, length, drop, map, Result, IfOk, OnErr, if◌then◌else◌, ◌⊎◌, nat_le}
+use Rattle.std.specs.Prelude.{◌≡◌, ℕ, ◌+◌, ◌*◌, ◌<◌, ◌≤◌, ◌∷◌, [], List, ◌++◌, length, drop, map, Result, IfOk, OnErr, if◌then◌else◌, ◌⊎◌, nat_le}
 use Rattle.wasm_base.specs.Formats.{header}
 use Rattle.wasm_base.specs.Numbers.{unsigned_text}
 use Rattle.wasm_base.specs.Pieces.{joined, section_text}
@@ -48,10 +48,16 @@ pub record CountedAnswer (id count phase : ℕ) (old new : List ℕ) (n : ℕ) :
   pub counted : length pieces ≡ count
   pub has : HasCounted id pieces phase old new n
 
--- the answer of a section of data, whose segments have bytes
-pub record DataAnswer (segment phase : ℕ) (old new : List ℕ) (n : ℕ) : Type 0 where
+-- So many bytes take so many segments, where all but the last one have `segment` bytes each.
+pub record IsSplit (bytes segment segments : ℕ) : Type 0 where
+  pub enough : bytes ≤ segments * segment
+  pub not_more : segments * segment < bytes + segment
+
+-- the answer of a section of data, which has a segment for each so many of the bytes
+pub record DataAnswer (bytes segment phase : ℕ) (old new : List ℕ) (n : ℕ) : Type 0 where
   pub some : 0 < segment
   pub pieces : List (List ℕ)
+  pub split : IsSplit bytes segment (length pieces)
   pub has : HasCounted 11 pieces phase old new n
 
 -- the answer of a name section of so many names of functions

@@ -1,7 +1,8 @@
 -- What workloads that read answer.
 use Rattle.std.specs.Prelude.{◌≡◌, ℕ, List, length}
 use Rattle.std.specs.List.{flat_map}
-use Rattle.wasm_code.specs.Bodies.{Body}
+use Rattle.wasm_base.specs.Numbers.{wide}
+use Rattle.wasm_code.specs.Bodies.{Body, body}
 use Rattle.wasm_reader.specs.Sections.{Bodies, Takes}
 use Rattle.wasm_reader.specs.declared.section.SectionKind.TheVariants as kinds
 
@@ -15,3 +16,9 @@ pub record HasRead (bytes : List ℕ) (n : ℕ) : Type 0 where
   pub taken : ℕ
   pub takes : Takes kinds.Bodies bytes (Bodies bodies) taken
   pub counted : n ≡ instructions_in bodies
+
+-- The bytes are those of a body that has so many instructions.
+pub record HasWalked (bytes : List ℕ) (n : ℕ) : Type 0 where
+  pub walked : Body
+  pub spelled : body wide bytes walked
+  pub counted : n ≡ length walked.code

@@ -1,6 +1,6 @@
 // The data section.
-ghost use Rattle.std.specs.Prelude.{◌≡◌, ◌<◌, IfOk, OnErr};
-ghost use Rattle.wasm_bench.specs.Answers.{DataAnswer, Outcome};
+ghost use Rattle.std.specs.Prelude.{◌≡◌, ◌+◌, ◌<◌, length, IfOk, OnErr, OnOk};
+ghost use Rattle.wasm_bench.specs.Answers.{DataAnswer, IsSplit, Outcome};
 
 use crate::answers::{Fault, answer, number};
 use std::alloc::Global;
@@ -10,7 +10,9 @@ use wasm_sections::DataSection;
 
 /// Adds an active segment of these bytes, which begins at this place.
 #[tactic(auto, using(wasm_base::proofs::KnownLengths::drained_copied))]
-fn add(alloc: Global, section: &mut DataSection, start: i32, bytes: &[u8]) -> R<()> {
+fn add(alloc: Global, section: &mut DataSection, start: i32, bytes: &[u8]) -> R<()>
+    ensures { OnOk result (length section.new ≡ length section.old + 1) }
+{
     let offset = ConstExpr::i32_const(alloc, start)?;
     section.active(0, &offset, bytes.iter().copied())
 }
@@ -18,6 +20,7 @@ fn add(alloc: Global, section: &mut DataSection, start: i32, bytes: &[u8]) -> R<
 /// A section of segments of so many bytes each, but for the last one. All of them begin below 2 GiB.
 fn build(alloc: Global, bytes: &[u8], segment: usize) -> Result<DataSection, Fault>
     requires { 0 < segment }
+    ensures { IfOk result (λ section. IsSplit (length bytes.now) segment (length section)) }
 {
     let mut section = DataSection::new(alloc);
     let mut start = 0;
@@ -39,7 +42,7 @@ fn data_section(
     phase: u32,
     out: &mut [u8],
 ) -> Result<u64, Fault>
-    ensures ok { IfOk result (λ n. DataAnswer segment phase out.old out.new n) }
+    ensures ok { IfOk result (λ n. DataAnswer (length bytes.now) segment phase out.old out.new n) }
     ensures err { OnErr result (out.new ≡ out.old) }
 {
     if segment == 0 {
@@ -58,7 +61,7 @@ pub extern "C" fn wb_data(
     phase: u32,
     out: &mut [u8],
 ) -> u64
-    ensures { Outcome out.old out.new result (DataAnswer segment phase out.old out.new result) }
+    ensures { Outcome out.old out.new result (DataAnswer (length bytes.now) segment phase out.old out.new result) }
 {
     number(data_section(alloc, bytes, segment, phase, out))
 }

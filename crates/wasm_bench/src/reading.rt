@@ -1,6 +1,6 @@
 // Code sections and bodies, read.
-ghost use Rattle.std.specs.Prelude.{◌≡◌, ◌≤◌, ◌⊎◌, ⊤, length, map, IfOk, MatchOption};
-ghost use Rattle.wasm_bench.specs.Readings.{HasRead, instructions_in};
+ghost use Rattle.std.specs.Prelude.{◌≡◌, ◌⊎◌, ⊤, map, IfOk, MatchOption};
+ghost use Rattle.wasm_bench.specs.Readings.{HasRead, HasWalked, instructions_in};
 ghost use Rattle.wasm_bench.specs.declared.answers.TheConstants.{NO_ANSWER as no_answer};
 ghost use Rattle.wasm_reader_insn.specs.Arguments.{body_of};
 
@@ -34,7 +34,7 @@ pub extern "C" fn wb_read(alloc: Global, section: &[u8]) -> u64
 
 /// How many instructions a walk goes over.
 fn walked(alloc: Global, body: &[u8]) -> Result<u64, ReadFault>
-    ensures { IfOk result (λ n. n ≤ length body.now) }
+    ensures { IfOk result (λ n. HasWalked body.now n) }
 {
     let (_runs, mut walk) = Instructions::of_body(body, alloc)?;
     let mut count = 0;
@@ -47,7 +47,7 @@ fn walked(alloc: Global, body: &[u8]) -> Result<u64, ReadFault>
 /// Goes over the instructions of a body, whose bytes are those without its size, and answers how many they are.
 #[unsafe(no_mangle)]
 pub extern "C" fn wb_walk(alloc: Global, body: &[u8]) -> u64
-    ensures { (result ≡ no_answer) ⊎ (result ≤ length body.now) }
+    ensures { (result ≡ no_answer) ⊎ HasWalked body.now result }
 {
     walked(alloc, body).unwrap_or(NO_ANSWER)
 }

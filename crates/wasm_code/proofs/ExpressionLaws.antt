@@ -1,14 +1,20 @@
 -- Expressions are read uniquely, and plain stored bytes spell them.
-use Rattle.std.proofs.Common.{◌≡◌, ◌≢◌, ℕ, List, [], ◌∷◌, ◌++◌, true, false, Option, Ok, map, refl, sym, ap, subst, ◌∙◌, append_assoc, append-nil}
+use Rattle.std.proofs.Common.{◌≡◌, ◌≢◌, ℕ, ◌+◌, ◌≤◌, List, [], ◌∷◌, ◌++◌, length, vec_len, vec_capacity, true, false, Option, None, Some, IfSome, Result, Ok, OnOk, map, refl, sym, ap, subst, ◌∙◌, append_assoc, append-nil}
 use Rattle.std.proofs.lemmas.List.Elements.{All-head, All-tail}
+use Rattle.std.specs.Prelude.{⊤}
 use Rattle.std.specs.List.{All, flat_map}
 use Rattle.std.specs.declared.alloc.Global.{Global}
 use Rattle.wasm_base.specs.Numbers.{Mode, shortest}
 use Rattle.wasm_base.specs.Formats.{Format, such, members, ended}
 use Rattle.wasm_base.specs.Reading.{UniqueReading, UniqueWholeReading, BeginsWith}
-use Rattle.wasm_base.specs.Calls.{ReadsBack}
+use Rattle.std.specs.declared.vec.Vec.{Vec}
+use Rattle.wasm_base.specs.Calls.{Appends, ReadsBack}
+use Rattle.wasm_base.specs.declared.refused.Refused.{Refused}
+use Rattle.wasm_base.proofs.Outcomes.{on_ok}
 use Rattle.wasm_base.proofs.FormatLaws.{such-alone, ended-alone, members-whole}
 use Rattle.wasm_base.proofs.TextLaws.{reads_alone}
+use Rattle.wasm_code.specs.declared.first.First.{First}
+use Rattle.wasm_code.specs.declared.first.First.TheVariants as firsts
 use Rattle.wasm_insn.specs.declared.instruction.Instruction.{Instruction}
 use Rattle.wasm_insn.specs.declared.op.Op.{Op}
 use Rattle.wasm_insn.specs.declared.op.Op.TheVariants.{Byte}
@@ -16,7 +22,7 @@ use Rattle.wasm_insn.specs.Plain.{Plain, instruction, op_after, same_op}
 use Rattle.wasm_insn.specs.Table.{table}
 use Rattle.wasm_insn.specs.Instructions.{row_of, instruction_text, InstructionFits, IsPlainInstruction}
 use Rattle.wasm_insn.proofs.InstructionLaws.{alone, reads}
-use Rattle.wasm_code.specs.Expressions.{IsNoEnd, expression, expression_text, StoresIn, StoresInstructions, StoresWide, normal_row, IsPlainInside, Stores, StoresAll, AppendsEach, StoresGiven}
+use Rattle.wasm_code.specs.Expressions.{IsNoEnd, expression, expression_text, StoresIn, StoresInstructions, StoresWide, normal_row, IsPlainInside, Stores, StoresAll, AppendsEach, StoresGiven, instruction_of, first_text}
 
 -- ---- unique reading
 
@@ -85,6 +91,23 @@ stores i old new other e = record {
       (members_one (such IsNoEnd (instruction table)) shortest (instruction_text i) (normal_row i) inside));
 }
 
+-- An expression that begins with others gains the instruction too.
+pub stores_more : (i : Instruction Global) (front old new whole : List ℕ) → front ++ old ≡ whole → IsNoEnd (row_of i) → new ≡ old ++ instruction_text i → Stores i whole (front ++ new)
+stores_more i front old new whole is other e =
+    stores i whole (front ++ new) other (ap (λ z. front ++ z) e ∙ sym (append_assoc front old (instruction_text i)) ∙ ap (λ z. z ++ instruction_text i) is)
+
+first_no_end : (first : First) → IsNoEnd (row_of (instruction_of first))
+first_no_end (firsts.GlobalGet index) = refl
+first_no_end (firsts.RefNull ty) = refl
+first_no_end (firsts.RefFunc index) = refl
+first_no_end (firsts.I32Const value) = refl
+first_no_end (firsts.I64Const value) = refl
+first_no_end (firsts.F32Const value) = refl
+first_no_end (firsts.F64Const value) = refl
+
+pub stores_first : (first : First) (new : List ℕ) → new ≡ first_text first → Stores (instruction_of first) [] new
+stores_first first new e = stores (instruction_of first) [] new (first_no_end first) e
+
 stored : {A : Type 0} (is : List (Instruction A)) → All IsPlainInside is → StoresInstructions (flat_map instruction_text is) (map normal_row is)
 stored [] h = refl
 stored (i ∷ is) h =
@@ -100,3 +123,20 @@ stores_given becomes gives elements old new e h =
     let given = h.ok in
     let text : new ≡ flat_map instruction_text given.1 = given.5 ∙ ap (λ z. z ++ flat_map instruction_text given.1) e in
     record { ok = (given.0, given.1, given.2, given.3, given.4, text, stores_all given.1 new text); too_long = λ fits is. absurd (cc is) }
+
+-- ---- what a call appends
+
+pub fits_always : {X : Type 0} (part : Option X) → IfSome part (λ x. ⊤)
+fits_always None = tt
+fits_always (Some x) = tt
+
+-- What one form of a text promises, another form of it does.
+pub appends_whole : {A : Type 0} {Fits : Type 0} {text whole : List ℕ} {old new : Vec ℕ A} {result : Result (Unit {0}) Refused} → Fits → text ≡ whole → Appends text Fits old new result → Appends whole ⊤ old new result
+appends_whole {old = old} {new = new} {result = result} fits e h = record {
+  ok = subst (λ t. OnOk result (new.items ≡ old.items ++ t)) e h.ok;
+  err = h.err;
+  fitted = on_ok result _ _ h.fitted (λ f. tt);
+  too_long = λ f. h.too_long fits;
+  room = λ f l. h.room fits (subst (λ t. vec_len old + length t ≤ vec_capacity old) (sym e) l);
+  capacity = h.capacity;
+}

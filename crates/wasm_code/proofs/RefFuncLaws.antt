@@ -1,13 +1,16 @@
 -- The index that the bytes of `RefFunc` tell.
-use Rattle.std.proofs.Common.{◌≡◌, ℕ, ◌<◌, take, drop, slice_index_or, ◌^◌, List, [], ◌∷◌, ◌++◌, length, ◌-◌, ◌≤◌, ◌≢◌, Some, None, refl, sym, ap, subst, ◌∙◌, arith}
-use Rattle.wasm_base.specs.Numbers.{wide, groups_sum}
+use Rattle.std.proofs.Common.{◌≡◌, ℕ, ◌<◌, take, drop, slice_index_or, ◌^◌, List, [], ◌∷◌, ◌++◌, length, ◌-◌, ◌≤◌, ◌≢◌, Some, None, IfSome, append-nil, refl, sym, ap, subst, ◌∙◌, arith}
+use Rattle.wasm_base.specs.Numbers.{wide, groups_sum, unsigned_text}
 use Rattle.wasm_base.specs.Reading.{ReadsNothing}
 use Rattle.wasm_base.specs.Formats.{u32, fixed}
 use Rattle.wasm_base.specs.Groups.{groups, HasGroups}
 use Rattle.wasm_base.proofs.FormatLaws.{fixed-alone, tagged_at}
-use Rattle.wasm_base.proofs.NumberLaws.{groups_apart}
+use Rattle.wasm_base.proofs.NumberLaws.{groups_apart, u32-alone}
 use Rattle.wasm_base.proofs.ReadingSteps.{front_and_rest}
-use Rattle.wasm_code.specs.Expressions.{BeginsWithRefFunc, IsRefFunc}
+use Rattle.wasm_base.proofs.TextLaws.{u32_in}
+use Rattle.wasm_code.specs.declared.first.First.{First}
+use Rattle.wasm_code.specs.declared.first.First.TheVariants as firsts
+use Rattle.wasm_code.specs.Expressions.{BeginsWithRefFunc, IsRefFunc, first_text, index_of}
 
 -- What follows the op is the index.
 after_op : (bytes rest : List ℕ) (f : ℕ) → bytes ≡ 0xD2 ∷ rest → BeginsWithRefFunc bytes f → (t q : List ℕ) × (rest ≡ t ++ q) × u32 wide t f
@@ -80,5 +83,35 @@ other_op bytes other = no_index bytes (λ f h. let op = op_there bytes f h in ot
 
 pub no_bytes : (bytes : List ℕ) → bytes ≡ [] → IsRefFunc bytes None
 no_bytes bytes e = no_index bytes (λ f h. let op = op_there bytes f h in absurd (cc (sym e ∙ op.1)))
+
+-- The op and the text of an index.
+index_written : (bytes rest : List ℕ) (n : ℕ) → n < 2 ^ 32 → bytes ≡ 0xD2 ∷ (unsigned_text n ++ rest) → IsRefFunc bytes (Some n)
+index_written bytes rest n low e =
+    let begins : BeginsWithRefFunc bytes n = record {
+      rest = rest;
+      read = record {
+        front = 0xD2 ∷ unsigned_text n;
+        split = e;
+        spelled = ((tt, n), refl, record { front = 0xD2 ∷ []; back = unsigned_text n; joined = refl; first = (refl, refl); second = u32_in wide n low });
+      };
+    } in
+    record {
+      exactly = λ f. (
+        λ is. let same : n ≡ f = cc is in subst (BeginsWithRefFunc bytes) same begins,
+        λ h.
+            let a = after_op bytes (unsigned_text n ++ rest) f e h in
+            ap Some (u32-alone.alone wide (unsigned_text n) a.0 rest a.1 n f (u32_in wide n low) a.3 a.2).0,
+      );
+    }
+
+-- The first instruction, kept as a value, and the bytes after it.
+pub first_index : (first : First) (rest : List ℕ) → IfSome (index_of first) (λ index. index < 2 ^ 32) → IsRefFunc (first_text first ++ rest) (index_of first)
+first_index (firsts.GlobalGet index) rest low = other_op _ (λ e. let same : 0x23 ≡ 0xD2 = e in omega (arith, same))
+first_index (firsts.RefNull ty) rest low = other_op _ (λ e. let same : 0xD0 ≡ 0xD2 = e in omega (arith, same))
+first_index (firsts.RefFunc index) rest low = index_written _ rest index low (ap (λ z. 0xD2 ∷ (z ++ rest)) (append-nil (unsigned_text index)))
+first_index (firsts.I32Const value) rest low = other_op _ (λ e. let same : 0x41 ≡ 0xD2 = e in omega (arith, same))
+first_index (firsts.I64Const value) rest low = other_op _ (λ e. let same : 0x42 ≡ 0xD2 = e in omega (arith, same))
+first_index (firsts.F32Const value) rest low = other_op _ (λ e. let same : 0x43 ≡ 0xD2 = e in omega (arith, same))
+first_index (firsts.F64Const value) rest low = other_op _ (λ e. let same : 0x44 ≡ 0xD2 = e in omega (arith, same))
 
 pub ruleset ref_func_steps = (index_found, index_large, index_missing, other_op, no_bytes)

@@ -1,5 +1,5 @@
 -- Constant expressions.
-use Rattle.std.specs.Prelude.{◌≡◌, ◌≢◌, ◌↔◌, ℕ, List, [], ◌∷◌, ◌++◌, Result, Err, IfOk, Option, Some, OnOk, map, false}
+use Rattle.std.specs.Prelude.{◌≡◌, ◌≢◌, ◌↔◌, ℕ, List, [], ◌∷◌, ◌++◌, Result, Err, IfOk, Option, None, Some, OnOk, map, false}
 use Rattle.std.specs.Iterator.{Drains, Yields}
 use Rattle.std.specs.List.{All, flat_map}
 use Rattle.std.specs.declared.alloc.Global.{Global}
@@ -8,7 +8,10 @@ use Rattle.wasm_base.specs.Formats.{Format, u32, such, members, ended, prefixed}
 use Rattle.wasm_base.specs.Reading.{Reads}
 use Rattle.wasm_base.specs.declared.refused.Refused.{Refused}
 use Rattle.wasm_base.specs.declared.refused.Refused.TheVariants.{TooLong}
+use Rattle.wasm_code.specs.declared.first.First.{First}
+use Rattle.wasm_code.specs.declared.first.First.TheVariants as firsts
 use Rattle.wasm_insn.specs.declared.instruction.Instruction.{Instruction}
+use Rattle.wasm_insn.specs.declared.instruction.Instruction.TheVariants as instructions
 use Rattle.wasm_insn.specs.declared.op.Op.TheVariants.{Byte}
 use Rattle.wasm_insn.specs.Plain.{Plain, instruction, normal, same_op}
 use Rattle.wasm_insn.specs.Table.{table}
@@ -60,6 +63,27 @@ pub record Stores (i : Instruction Global) (old new : List ℕ) : Type 0 where
 -- Where the instructions are plain and none of them is End, the bytes spell their normal forms.
 pub record StoresAll {A : Type 0} (is : List (Instruction A)) (bytes : List ℕ) : Type 0 where
   pub plain : All IsPlainInside is → StoresInstructions bytes (map normal_row is)
+
+-- ---- the instruction that an expression begins with, where it is kept as a value
+
+-- the instruction
+abbrev pub instruction_of : First → Instruction Global
+instruction_of (firsts.GlobalGet index) = instructions.GlobalGet index
+instruction_of (firsts.RefNull ty) = instructions.RefNull ty
+instruction_of (firsts.RefFunc index) = instructions.RefFunc index
+instruction_of (firsts.I32Const value) = instructions.I32Const value
+instruction_of (firsts.I64Const value) = instructions.I64Const value
+instruction_of (firsts.F32Const value) = instructions.F32Const value
+instruction_of (firsts.F64Const value) = instructions.F64Const value
+
+-- its text
+abbrev pub first_text : First → List ℕ
+first_text first = instruction_text (instruction_of first)
+
+-- the index of `RefFunc`
+abbrev pub index_of : First → Option ℕ
+index_of (firsts.RefFunc index) = Some index
+index_of first = None
 
 -- ---- calls
 

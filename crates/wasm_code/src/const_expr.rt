@@ -3,29 +3,35 @@ ghost use Rattle.std.specs.Prelude.{◌≡◌, ◌≢◌, ◌<◌, ◌≤◌, �
 ghost use Rattle.std.specs.Iterator.{Drains, IsFinite};
 ghost use Rattle.wasm_base.specs.Calls.{ReadsBack};
 ghost use Rattle.wasm_base.specs.declared.refused.Refused.TheVariants.{TooLong};
-ghost use Rattle.wasm_code.specs.Expressions.{expression, expression_text, StoresInstructions, Stores, StoresGiven, AppendsEach, IsRefFunc};
+ghost use Rattle.wasm_base.specs.Texts.{optional_text};
+ghost use Rattle.wasm_code.specs.Expressions.{expression, expression_text, StoresInstructions, instruction_of, first_text, Stores, StoresGiven, AppendsEach, IsRefFunc};
 
+use crate::first::First;
 use crate::function::append_all;
 use std::alloc::{Allocator, Global};
 use std::marker::Model;
-use wasm_base::{Encode, HeapType, R, read_groups};
+use wasm_base::{Encode, HeapType, Optional, R, read_groups};
 use wasm_insn::{Ieee32, Ieee64, Instruction, InstructionSink, Numeric, VectorImmediate};
 
 /// A constant expression, seen as the bytes that are stored: those of its instructions, without the `End` that is written after
 /// them.
+///
+/// The one instruction that `global_get`, `ref_null`, `ref_func`, `i32_const`, `i64_const`, `f32_const` or `f64_const` makes is kept as
+/// a value, which takes no memory. All others are bytes.
 #[derive(Drop, Debug)]
 pub struct ConstExpr<A: Allocator = Global> {
+    first: Option<First>,
     bytes: Vec<u8, A>,
 }
 
 impl<A: Allocator> Model for ConstExpr<A> {
     ghost Value = { List ℕ };
 
-    ghost view = { λ e. e.bytes.items };
+    ghost view = { λ e. optional_text first_text e.first ++ e.bytes.items };
 }
 
-/// The bytes that an expression of one instruction has room for.
-const FIRST_CAPACITY: usize = 16;
+/// How many bytes `V128Const` has.
+const VECTOR_BYTES: usize = 18;
 
 impl<A: Allocator> ConstExpr<A> {
     /// No instructions. It takes no memory.
@@ -33,6 +39,7 @@ impl<A: Allocator> ConstExpr<A> {
         ensures { result ≡ [] }
     {
         ConstExpr {
+            first: None,
             bytes: Vec::new(alloc),
         }
     }
@@ -50,7 +57,10 @@ impl<A: Allocator> ConstExpr<A> {
     {
         let mut stored = Vec::new(alloc);
         append_all(&mut stored, bytes)?;
-        Ok(ConstExpr { bytes: stored })
+        Ok(ConstExpr {
+            first: None,
+            bytes: stored,
+        })
     }
 
     /// The instructions, one after another.
@@ -65,17 +75,18 @@ impl<A: Allocator> ConstExpr<A> {
     {
         let mut bytes = Vec::new(alloc);
         encode_each(instructions, &mut bytes)?;
-        Ok(ConstExpr { bytes })
+        Ok(ConstExpr { first: None, bytes })
     }
 
-    /// No instructions, and room for one of a number.
-    fn with_room(alloc: A) -> R<Self>
-        ensures none { IfOk result (λ e. e ≡ []) }
-        ensures memory { result ≢ Err TooLong }
+    /// The instruction alone. It takes no memory.
+    fn of(alloc: A, first: First) -> Self
+        ensures { Stores (instruction_of first) [] result }
     {
-        Ok(ConstExpr {
-            bytes: Vec::with_capacity(alloc, FIRST_CAPACITY)?,
-        })
+        let bytes = Vec::new(alloc);
+        ConstExpr {
+            first: Some(first),
+            bytes,
+        }
     }
 
     /// `GlobalGet` alone.
@@ -83,7 +94,7 @@ impl<A: Allocator> ConstExpr<A> {
         ensures stores { IfOk result (Stores (Instruction.GlobalGet index) []) }
         ensures memory { result ≢ Err TooLong }
     {
-        ConstExpr::with_room(alloc)?.with_global_get(index)
+        Ok(ConstExpr::of(alloc, First::GlobalGet(index)))
     }
 
     /// `RefNull` alone.
@@ -91,7 +102,7 @@ impl<A: Allocator> ConstExpr<A> {
         ensures stores { IfOk result (Stores (Instruction.RefNull ty) []) }
         ensures memory { result ≢ Err TooLong }
     {
-        ConstExpr::with_room(alloc)?.with_ref_null(ty)
+        Ok(ConstExpr::of(alloc, First::RefNull(ty)))
     }
 
     /// `RefFunc` alone.
@@ -99,7 +110,7 @@ impl<A: Allocator> ConstExpr<A> {
         ensures stores { IfOk result (Stores (Instruction.RefFunc function_index) []) }
         ensures memory { result ≢ Err TooLong }
     {
-        ConstExpr::with_room(alloc)?.with_ref_func(function_index)
+        Ok(ConstExpr::of(alloc, First::RefFunc(function_index)))
     }
 
     /// `I32Const` alone.
@@ -107,7 +118,7 @@ impl<A: Allocator> ConstExpr<A> {
         ensures stores { IfOk result (Stores (Instruction.I32Const value) []) }
         ensures memory { result ≢ Err TooLong }
     {
-        ConstExpr::with_room(alloc)?.with_i32_const(value)
+        Ok(ConstExpr::of(alloc, First::I32Const(value)))
     }
 
     /// `I64Const` alone.
@@ -115,7 +126,7 @@ impl<A: Allocator> ConstExpr<A> {
         ensures stores { IfOk result (Stores (Instruction.I64Const value) []) }
         ensures memory { result ≢ Err TooLong }
     {
-        ConstExpr::with_room(alloc)?.with_i64_const(value)
+        Ok(ConstExpr::of(alloc, First::I64Const(value)))
     }
 
     /// `F32Const` alone.
@@ -123,7 +134,7 @@ impl<A: Allocator> ConstExpr<A> {
         ensures stores { IfOk result (Stores (Instruction.F32Const value) []) }
         ensures memory { result ≢ Err TooLong }
     {
-        ConstExpr::with_room(alloc)?.with_f32_const(value)
+        Ok(ConstExpr::of(alloc, First::F32Const(value)))
     }
 
     /// `F64Const` alone.
@@ -131,7 +142,7 @@ impl<A: Allocator> ConstExpr<A> {
         ensures stores { IfOk result (Stores (Instruction.F64Const value) []) }
         ensures memory { result ≢ Err TooLong }
     {
-        ConstExpr::with_room(alloc)?.with_f64_const(value)
+        Ok(ConstExpr::of(alloc, First::F64Const(value)))
     }
 
     /// `V128Const` alone.
@@ -139,7 +150,8 @@ impl<A: Allocator> ConstExpr<A> {
         ensures stores { IfOk result (Stores (Instruction.VectorImmediate (VectorImmediate.V128Const value)) []) }
         ensures memory { result ≢ Err TooLong }
     {
-        ConstExpr::with_room(alloc)?.with_v128_const(value)
+        let bytes = Vec::with_capacity(alloc, VECTOR_BYTES)?;
+        ConstExpr { first: None, bytes }.with_v128_const(value)
     }
 
     /// This, and then `GlobalGet`.
@@ -269,24 +281,35 @@ impl<A: Allocator> ConstExpr<A> {
     }
 
     /// The index of `RefFunc`, where the expression begins with it.
-    #[tactic(auto, using(crate::proofs::RefFuncLaws::ref_func_steps))]
+    #[tactic(auto, using(crate::proofs::RefFuncLaws::first_index))]
     pub fn get_ref_func(&self) -> Option<u32>
         ensures { IsRefFunc self.now result }
     {
-        let [op, rest @ ..] = self.bytes.as_slice() else {
-            return None;
-        };
-        if *op != 0xD2 {
-            return None;
+        match self.first {
+            Some(first) => first.function_index(),
+            None => function_at_front(&self.bytes),
         }
-        let Ok((index, _)) = read_groups(rest, 5) else {
-            return None;
-        };
-        if index.sum < 1 << 32 {
-            Some(index.sum as u32)
-        } else {
-            None
-        }
+    }
+}
+
+/// The index of `RefFunc`, where the bytes begin with it.
+#[tactic(auto, using(crate::proofs::RefFuncLaws::ref_func_steps))]
+fn function_at_front(bytes: &[u8]) -> Option<u32>
+    ensures { IsRefFunc bytes.now result }
+{
+    let [op, rest @ ..] = bytes else {
+        return None;
+    };
+    if *op != 0xD2 {
+        return None;
+    }
+    let Ok((index, _)) = read_groups(rest, 5) else {
+        return None;
+    };
+    if index.sum < 1 << 32 {
+        Some(index.sum as u32)
+    } else {
+        None
     }
 }
 
@@ -314,10 +337,30 @@ impl<A: Allocator + Copy> ConstExpr<A> {
     {
         let alloc = *self.bytes.allocator();
         Ok(ConstExpr {
+            first: self.first,
             bytes: Vec::from_slice(alloc, &self.bytes)?,
         })
     }
 }
+
+/// Bytes that are stored, as a part of a layout.
+#[derive(Drop)]
+struct Stored<'a>(&'a [u8]);
+
+/// The bytes as they are.
+impl Encode for Stored<'_> {
+    ghost text = { λ stored. stored.0.now };
+
+    ghost fits = { λ _. ⊤ };
+
+    fn encode<A: Allocator>(&self, sink: &mut Vec<u8, A>) -> R<()> {
+        sink.extend_from_slice(self.0)?;
+        Ok(())
+    }
+}
+
+/// The byte of `End`.
+const END: u8 = 0x0B;
 
 /// The stored bytes, and `End`.
 impl<A: Allocator> Encode for ConstExpr<A> {
@@ -329,9 +372,6 @@ impl<A: Allocator> Encode for ConstExpr<A> {
 
     #[tactic(auto, using(crate::proofs::ExpressionLaws::expression_reads))]
     fn encode<B: Allocator>(&self, sink: &mut Vec<u8, B>) -> R<()> {
-        sink.reserve(self.bytes.len().saturating_add(1))?;
-        sink.extend_from_slice(&self.bytes).unwrap();
-        sink.push(0x0B).unwrap();
-        Ok(())
+        (Optional(self.first), Stored(&self.bytes), END).encode(sink)
     }
 }

@@ -4,6 +4,7 @@
 
 mod code_section;
 mod const_expr;
+mod first;
 mod function;
 pub mod laws;
 mod locals;

@@ -11,8 +11,8 @@ use wasm_base::{Counted, Encode, HeapType, R, Section, ValType};
 use wasm_code::{CodeSection, ConstExpr, Function};
 use wasm_insn::{Ieee32, Ieee64, Instruction};
 
-/// How many bytes a buffer has that is full after its first growth.
-const FULL: usize = 8;
+/// The bytes of a buffer that is full after its first growth.
+const FULL_BUFFER: [u8; 8] = [0x01; 8];
 
 /// How many bytes a function has whose first memory is full.
 const FULL_BODY: usize = 128;
@@ -38,6 +38,11 @@ static STORED: [&[u8]; 16] = [
     &[0x7D],
     &[0x7E],
 ];
+
+/// The constructor of this place takes no memory.
+fn takes_none(place: usize) -> bool {
+    1 < place && place < 9
+}
 
 /// The constructor of this place in `STORED`.
 fn made(heap: Heap<'_>, place: usize) -> R<ConstExpr<Heap<'_>>> {
@@ -75,22 +80,22 @@ fn added<'a>(before: ConstExpr<Heap<'a>>, place: usize) -> R<ConstExpr<Heap<'a>>
     }
 }
 
-/// The bytes are as many `Nop`s, what is stored, and `End`.
-fn check_stored(rt: &impl Abort, bytes: &[u8], nops: usize, stored: &[u8]) {
-    let (before, rest) = bytes.split_at(nops.min(bytes.len()));
-    assert_eq!(rt; before, [0x01; FULL].as_slice().split_at(nops.min(FULL)).0);
+/// The bytes are those before, what is stored, and `End`.
+fn check_stored(rt: &impl Abort, bytes: &[u8], before: &[u8], stored: &[u8]) {
+    let (front, rest) = bytes.split_at(before.len().min(bytes.len()));
+    assert_eq!(rt; front, before);
     assert_eq!(rt; rest.split_last(), Some((&0x0B, stored)));
 }
 
-/// What a call answered of which one request was to be refused: an expression of as many `Nop`s and what is stored, where all were
-/// granted. Answers whether they were.
+/// What a call answered of which one request was to be refused: an expression of the bytes before and what is stored, where all
+/// were granted. Answers whether they were.
 fn check_expression(
     rt: &impl Abort,
     alloc: Global,
     heap: Heap<'_>,
     nth: u64,
     answer: R<ConstExpr<Heap<'_>>>,
-    nops: usize,
+    before: &[u8],
     stored: &[u8],
 ) -> Result<bool, Fail> {
     match answer {
@@ -98,7 +103,7 @@ fn check_expression(
             check_answer(rt, heap, nth, Ok(()));
             let mut sink = Vec::new(alloc);
             expression.encode(&mut sink)?;
-            check_stored(rt, &sink, nops, stored);
+            check_stored(rt, &sink, before, stored);
             Ok(true)
         }
         Err(refused) => Ok(check_answer(rt, heap, nth, Err(refused))),
@@ -111,22 +116,38 @@ fn check_made(rt: &impl Abort, alloc: Global, place: usize, stored: &[u8]) -> Re
     for nth in 1..MOST {
         heap.refuse(nth);
         let answer = made(&heap, place);
-        if check_expression(rt, alloc, &heap, nth, answer, 0, stored)? {
+        if check_expression(rt, alloc, &heap, nth, answer, &[], stored)? {
             return Ok(());
         }
     }
     panic!(rt; "no call was granted")
 }
 
-/// The `with` call, on an expression whose buffer is full.
-fn check_added(rt: &impl Abort, alloc: Global, place: usize, stored: &[u8]) -> Result<(), Fail> {
+/// An expression whose buffer is full, and one whose instruction takes no memory.
+fn begun_expression(heap: Heap<'_>, is_full: bool) -> R<ConstExpr<Heap<'_>>> {
+    if is_full {
+        ConstExpr::raw(heap, FULL_BUFFER)
+    } else {
+        ConstExpr::global_get(heap, 1)
+    }
+}
+
+/// The `with` call, on an expression that is begun so.
+fn check_added(
+    rt: &impl Abort,
+    alloc: Global,
+    place: usize,
+    is_full: bool,
+    stored: &[u8],
+) -> Result<(), Fail> {
     let heap = Refusing::new(alloc);
+    let before: &[u8] = if is_full { &FULL_BUFFER } else { &[0x23, 0x01] };
     for nth in 1..MOST {
         heap.refuse(0);
-        let before = ConstExpr::raw(&heap, [0x01; FULL])?;
+        let expression = begun_expression(&heap, is_full)?;
         heap.refuse(nth);
-        let answer = added(before, place);
-        if check_expression(rt, alloc, &heap, nth, answer, FULL, stored)? {
+        let answer = added(expression, place);
+        if check_expression(rt, alloc, &heap, nth, answer, before, stored)? {
             return Ok(());
         }
     }
@@ -136,11 +157,27 @@ fn check_added(rt: &impl Abort, alloc: Global, place: usize, stored: &[u8]) -> R
 #[test]
 fn expressions(rt: HostRuntime) -> Result<(), Fail> {
     for (place, stored) in STORED.iter().enumerate() {
-        if place < 10 {
+        if place < 10 && !takes_none(place) {
             check_made(&rt, rt.alloc(), place, stored)?;
         }
         if place > 1 {
-            check_added(&rt, rt.alloc(), place, stored)?;
+            check_added(&rt, rt.alloc(), place, true, stored)?;
+            check_added(&rt, rt.alloc(), place, false, stored)?;
+        }
+    }
+    Ok(())
+}
+
+#[test]
+fn expressions_without_memory(rt: HostRuntime) -> Result<(), Fail> {
+    let heap = Refusing::new(rt.alloc());
+    heap.refuse_all();
+    for (place, stored) in STORED.iter().enumerate() {
+        if takes_none(place) {
+            let answer = made(&heap, place);
+            let mut sink = Vec::new(rt.alloc());
+            answer?.encode(&mut sink)?;
+            check_stored(&rt, &sink, &[], stored);
         }
     }
     Ok(())
@@ -306,10 +343,13 @@ fn code_sections(rt: HostRuntime) -> Result<(), Fail> {
 #[test]
 fn copies_of_expressions(rt: HostRuntime) -> Result<(), Fail> {
     let heap = Refusing::new(rt.alloc());
-    let expression = ConstExpr::ref_func(&heap, 3)?;
+    let kept = ConstExpr::ref_func(&heap, 3)?;
+    let given = ConstExpr::raw(&heap, [0xD2, 3])?;
     heap.refuse(1);
-    check_refused(&rt, expression.clone().err());
-    check_that(&rt, expression.clone()?.get_ref_func() == Some(3));
+    check_refused(&rt, given.clone().err());
+    check_that(&rt, given.clone()?.get_ref_func() == Some(3));
+    heap.refuse_all();
+    check_that(&rt, kept.clone()?.get_ref_func() == Some(3));
     Ok(())
 }
 
@@ -363,8 +403,34 @@ fn check_written<T: Encode>(
 
 #[test]
 fn written_expressions(rt: HostRuntime) -> Result<(), Fail> {
-    let expression = ConstExpr::ref_func(rt.alloc(), 3)?;
-    check_written(&rt, rt.alloc(), &expression, &[0xD2, 3, 0x0B])
+    let kept = ConstExpr::ref_func(rt.alloc(), 3)?;
+    check_written(&rt, rt.alloc(), &kept, &[0xD2, 3, 0x0B])?;
+    let given = ConstExpr::raw(rt.alloc(), [0xD2, 3])?;
+    check_written(&rt, rt.alloc(), &given, &[0xD2, 3, 0x0B])
+}
+
+/// A sink that is full after the first parts of an expression loses these where the next one is refused.
+#[test]
+fn long_expressions(rt: HostRuntime) -> Result<(), Fail> {
+    let heap = Refusing::new(rt.alloc());
+    let long = ConstExpr::f64_const(rt.alloc(), Ieee64::new(1))?.with_i32_const(2)?;
+    for nth in 1..MOST {
+        let mut sink = Vec::with_capacity(&heap, 1)?;
+        sink.push(7)?;
+        heap.refuse(nth);
+        let answer = long.encode(&mut sink);
+        let granted = check_answer(&rt, &heap, nth, answer);
+        check_sink(
+            &rt,
+            granted,
+            &sink,
+            &[0x44, 1, 0, 0, 0, 0, 0, 0, 0, 0x41, 2, 0x0B],
+        );
+        if granted {
+            return Ok(());
+        }
+    }
+    panic!(rt; "no call was granted")
 }
 
 #[test]

@@ -1,6 +1,7 @@
 // A module's sections, as lines of text.
-ghost use Rattle.std.specs.Prelude.{◌≡◌, ◌++◌, OnOk, IfOk, string_bytes};
+ghost use Rattle.std.specs.Prelude.{◌≡◌, ◌≢◌, ◌++◌, OnOk, IfErr, IfOk, string_bytes};
 ghost use Rattle.wasm_tool.specs.Listings.{line_of, listing_of, DropsBlanks, IsHexText, Lists};
+ghost use Rattle.wasm_tool.specs.declared.program.Trouble.TheVariants.{Usage};
 
 use crate::program::{Trouble, unlisted};
 use hex::FromHexError;
@@ -43,7 +44,8 @@ fn without_end(text: &[u8]) -> &[u8]
 
 /// The bytes that a hexadecimal text tells.
 fn hex_bytes<A: Allocator>(alloc: A, text: &[u8]) -> Result<Vec<u8, A>, Trouble>
-    ensures { IfOk result (λ bytes. IsHexText text.now bytes.items) }
+    ensures bytes { IfOk result (λ bytes. IsHexText text.now bytes.items) }
+    ensures usage { IfErr result (λ trouble. trouble ≢ Usage) }
 {
     if str::from_utf8(text).is_err() {
         return Err(Trouble::NotText);
@@ -56,7 +58,8 @@ fn hex_bytes<A: Allocator>(alloc: A, text: &[u8]) -> Result<Vec<u8, A>, Trouble>
 
 /// What is written for the hexadecimal text of a module.
 pub(crate) fn listing<A: Allocator + Copy>(alloc: A, text: &[u8]) -> Result<String<A>, Trouble>
-    ensures { IfOk result (λ lines. Lists text.now (string_bytes lines)) }
+    ensures listed { IfOk result (λ lines. Lists text.now (string_bytes lines)) }
+    ensures usage { IfErr result (λ trouble. trouble ≢ Usage) }
 {
     let bytes = hex_bytes(alloc, text)?;
     let sections = list_module(&bytes, alloc).map_err(|(number, fault)| Trouble::Section {

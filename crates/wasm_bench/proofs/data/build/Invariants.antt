@@ -1,8 +1,13 @@
-use Rattle.std.proofs.Common.{◌≤◌, ◌-◌, length}
+use Rattle.std.proofs.Common.{◌≡◌, ◌≤◌, ◌<◌, ◌+◌, ◌*◌, ◌-◌, ◌⊎◌, length}
 use Rattle.wasm_bench.proofs.data.build.Given as goal
 
+-- Each segment was whole, or the bytes are at their end.
 abbrev pub invariant-loop-start : goal.invariant-loop-start
-invariant-loop-start l = l.start ≤ length l.bytes
+invariant-loop-start l =
+    (l.start ≤ length l.bytes)
+    × (l.start ≤ length l.section * l.segment)
+    × (length l.section * l.segment < l.start + l.segment)
+    × ((l.start ≡ length l.section * l.segment) ⊎ (l.start ≡ length l.bytes))
 
 abbrev pub decreases-loop-start : goal.decreases-loop-start
 decreases-loop-start l = length l.bytes - l.start

@@ -3,10 +3,10 @@ use Rattle.std.specs.declared.alloc.Global.{Global}
 use Rattle.wasm_insn.specs.Instructions.{instruction_text}
 use Rattle.wasm_insn.specs.declared.instruction.Instruction.TheVariants.{Numeric}
 use Rattle.wasm_insn.specs.declared.numeric.Numeric.TheVariants.{I32Mul}
-use Rattle.wasm_code.proofs.ExpressionLaws.{stores}
+use Rattle.wasm_code.proofs.ExpressionLaws.{stores_more}
 use Rattle.wasm_code.proofs.const_expr.ConstExpr.with_i32_mul.Goals as goal
 
 pub returns-clause-stores : goal.returns-clause-stores
 returns-clause-stores g c =
-    let text : c.i32_mul.new.self.sink.now.items ≡ c.args.self ++ instruction_text {A = Global} (Numeric I32Mul) = search rules in
-    stores _ _ _ refl text
+    let text : c.i32_mul.new.self.sink.now.items ≡ c.self.inside.bytes.items ++ instruction_text {A = Global} (Numeric I32Mul) = search rules in
+    stores_more _ _ _ _ _ c.self.view_is refl text
