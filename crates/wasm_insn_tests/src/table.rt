@@ -5,7 +5,9 @@ use std::alloc::Global;
 use std::process::Abort;
 use std::test::Fail;
 use wasm_base::Encode;
-use wasm_insn::Instruction;
+use wasm_insn::{
+    Aggregate, Atomic, Instruction, Numeric, PrefixedNumeric, Vector, VectorImmediate,
+};
 
 /// The op is in the table.
 fn check_op(rt: &impl Abort, instruction: &Instruction<'_>, row: &str) {
@@ -44,75 +46,102 @@ fn names(rt: HostRuntime) -> Result<(), Fail> {
     Ok(())
 }
 
+/// A case of an enum whose cases are instructions.
+trait Case: Copy {
+    fn instruction(self) -> Instruction<'static>;
+}
+
+impl Case for Numeric {
+    fn instruction(self) -> Instruction<'static> {
+        Instruction::Numeric(self)
+    }
+}
+
+impl Case for Aggregate {
+    fn instruction(self) -> Instruction<'static> {
+        Instruction::Aggregate(self)
+    }
+}
+
+impl Case for PrefixedNumeric {
+    fn instruction(self) -> Instruction<'static> {
+        Instruction::PrefixedNumeric(self)
+    }
+}
+
+impl Case for Vector {
+    fn instruction(self) -> Instruction<'static> {
+        Instruction::Vector(self)
+    }
+}
+
+impl Case for VectorImmediate {
+    fn instruction(self) -> Instruction<'static> {
+        Instruction::VectorImmediate(self)
+    }
+}
+
+impl Case for Atomic {
+    fn instruction(self) -> Instruction<'static> {
+        Instruction::Atomic(self)
+    }
+}
+
 /// There are as many cases as rows.
 fn check_len(rt: &impl Abort, cases: usize, rows: usize) {
     assert_eq!(rt; cases, rows);
 }
 
-#[test]
-fn numerics(rt: HostRuntime) -> Result<(), Fail> {
-    check_len(&rt, cases::NUMERICS.len(), rows::NUMERICS.len());
-    for (case, row) in cases::NUMERICS.iter().zip(rows::NUMERICS.iter()) {
-        check(&rt, rt.alloc(), &Instruction::Numeric(*case), row)?;
+/// Each case is the instruction of its row.
+fn check_cases<C: Case>(
+    rt: &impl Abort,
+    alloc: Global,
+    cases: &[C],
+    rows: &[&str],
+) -> Result<(), Fail> {
+    check_len(rt, cases.len(), rows.len());
+    for (case, row) in cases.iter().zip(rows.iter()) {
+        check(rt, alloc, &case.instruction(), row)?;
     }
     Ok(())
+}
+
+#[test]
+fn numerics(rt: HostRuntime) -> Result<(), Fail> {
+    check_cases(&rt, rt.alloc(), &cases::NUMERICS, &rows::NUMERICS)
 }
 
 #[test]
 fn aggregates(rt: HostRuntime) -> Result<(), Fail> {
-    check_len(&rt, cases::AGGREGATES.len(), rows::AGGREGATES.len());
-    for (case, row) in cases::AGGREGATES.iter().zip(rows::AGGREGATES.iter()) {
-        check(&rt, rt.alloc(), &Instruction::Aggregate(*case), row)?;
-    }
-    Ok(())
+    check_cases(&rt, rt.alloc(), &cases::AGGREGATES, &rows::AGGREGATES)
 }
 
 #[test]
 fn prefixed_numerics(rt: HostRuntime) -> Result<(), Fail> {
-    check_len(
+    check_cases(
         &rt,
-        cases::PREFIXED_NUMERICS.len(),
-        rows::PREFIXED_NUMERICS.len(),
-    );
-    for (case, row) in cases::PREFIXED_NUMERICS
-        .iter()
-        .zip(rows::PREFIXED_NUMERICS.iter())
-    {
-        check(&rt, rt.alloc(), &Instruction::PrefixedNumeric(*case), row)?;
-    }
-    Ok(())
+        rt.alloc(),
+        &cases::PREFIXED_NUMERICS,
+        &rows::PREFIXED_NUMERICS,
+    )
 }
 
 #[test]
 fn vectors(rt: HostRuntime) -> Result<(), Fail> {
-    check_len(&rt, cases::VECTORS.len(), rows::VECTORS.len());
-    for (case, row) in cases::VECTORS.iter().zip(rows::VECTORS.iter()) {
-        check(&rt, rt.alloc(), &Instruction::Vector(*case), row)?;
-    }
-    Ok(())
+    check_cases(&rt, rt.alloc(), &cases::VECTORS, &rows::VECTORS)
 }
 
 #[test]
 fn vector_immediates(rt: HostRuntime) -> Result<(), Fail> {
-    check_len(
+    check_cases(
         &rt,
-        cases::VECTOR_IMMEDIATES.len(),
-        rows::VECTOR_IMMEDIATES.len(),
-    );
-    for (case, row) in cases::VECTOR_IMMEDIATES
-        .iter()
-        .zip(rows::VECTOR_IMMEDIATES.iter())
-    {
-        check(&rt, rt.alloc(), &Instruction::VectorImmediate(*case), row)?;
-    }
-    Ok(())
+        rt.alloc(),
+        &cases::VECTOR_IMMEDIATES,
+        &rows::VECTOR_IMMEDIATES,
+    )
 }
 
 #[test]
 fn atomics(rt: HostRuntime) -> Result<(), Fail> {
-    check_len(&rt, cases::ATOMICS.len(), rows::ATOMICS.len());
-    for (case, row) in cases::ATOMICS.iter().zip(rows::ATOMICS.iter()) {
-        check(&rt, rt.alloc(), &Instruction::Atomic(*case), row)?;
-    }
-    Ok(())
+    check_cases(&rt, rt.alloc(), &cases::ATOMICS, &rows::ATOMICS)
 }
