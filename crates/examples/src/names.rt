@@ -2,9 +2,9 @@
 ghost use Rattle.std.specs.Prelude.{[], ◌∷◌, IfOk};
 ghost use Rattle.wasm_base.specs.Modules.{ReadsSections};
 ghost use Rattle.wasm_code.specs.Code.{SpellsBodies, code_reading};
-ghost use Rattle.wasm_custom.specs.Readings.{HoldsNames, name_reading};
+ghost use Rattle.wasm_custom.specs.Readings.{AreNamings, AreInsides, HoldsNames, name_reading};
 ghost use Rattle.examples.specs.Bodies.{first_body};
-ghost use Rattle.examples.specs.Named.{names_of};
+ghost use Rattle.examples.specs.Named.{x_at_0, names_of};
 
 use std::alloc::Allocator;
 use wasm_base::{Module, R, ValType};
@@ -33,16 +33,32 @@ fn code<A: Allocator + Copy>(alloc: A) -> R<CodeSection<A>>
     Ok(section)
 }
 
+/// The name of the function 0.
+fn functions<A: Allocator + Copy>(alloc: A, name: &str) -> R<NameMap<A>>
+    ensures { IfOk result (λ names. AreNamings names ((0, name.now) ∷ [])) }
+{
+    let mut names = NameMap::new(alloc);
+    names.append(0, name)?;
+    Ok(names)
+}
+
+/// The name of the local of the function 0.
+fn locals<A: Allocator + Copy>(alloc: A) -> R<IndirectNameMap<A>>
+    ensures { IfOk result (λ names. AreInsides names ((0, x_at_0) ∷ [])) }
+{
+    let mut inside = NameMap::new(alloc);
+    inside.append(0, "x")?;
+    let mut names = IndirectNameMap::new(alloc);
+    names.append(0, &inside)?;
+    Ok(names)
+}
+
 /// The names of the module, of its function, and of the local of this.
 fn names<A: Allocator + Copy>(alloc: A, name: &str) -> R<NameSection<A>>
     ensures { IfOk result (λ section. HoldsNames section (names_of name.now)) }
 {
-    let mut functions = NameMap::new(alloc);
-    functions.append(0, name)?;
-    let mut inside = NameMap::new(alloc);
-    inside.append(0, "x")?;
-    let mut locals = IndirectNameMap::new(alloc);
-    locals.append(0, &inside)?;
+    let functions = functions(alloc, name)?;
+    let locals = locals(alloc)?;
     let mut section = NameSection::new(alloc);
     section.module("m")?;
     section.functions(&functions)?;
