@@ -172,4 +172,4 @@ element_no_place bytes start f h n = tagged_nothing {G = after_flag} element_fla
 pub element_no_list : (bytes start middle : List ℕ) (f : ElementFlag) (p : Place (List Plain)) → Reads (numbered flag_code) wide bytes f start → Reads (place f) wide start p middle → ReadsNothing (elements_as (tells_kind f) f.expressions) wide middle → ReadsNothing element wide bytes
 element_no_list bytes start middle f p h g n = tagged_nothing {G = after_flag} element_flag-alone h (mapped_nothing segment_of (then_nothing_second (place-alone f) g n))
 
-pub ruleset element_steps = (element_reads, element_none, element_no_place, element_no_list)
+pub ruleset element_steps = (element_reads, element_no_list)

@@ -195,7 +195,7 @@ line_nothing bytes rest framed after id h g n =
       none = λ p last k. n.none p.1 (subst (λ z. content (kind_of id) wide z p.1) (sym (reads_same frame-bytes-alone g (as_frame k)).0) k.spelled.holds);
     })
 
-pub ruleset line_steps = (line_none, line_no_frame, line_nothing)
+pub ruleset line_steps = (line_nothing)
 
 -- ---- the loop
 

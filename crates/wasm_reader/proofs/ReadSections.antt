@@ -86,4 +86,4 @@ section_none kind bytes n = filled_none (content kind) bytes n
 pub section_nothing : (kind : SectionKind) (bytes framed rest : List ℕ) → Reads (frame any_bytes) wide bytes framed rest → FillsNothing (content kind) framed → ReadsNothing (section kind) wide bytes
 section_nothing kind bytes framed rest h n = filled_nothing (content kind) bytes framed rest h n
 
-pub ruleset section_steps = (takes, section_none, section_nothing)
+pub ruleset section_steps = (takes)
