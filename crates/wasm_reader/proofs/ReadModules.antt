@@ -168,7 +168,7 @@ number_untold kind bytes x place e f h = untold kind (sym e ∙ f) h
     untold kinds.Custom i h = ap number_in h.1
     untold kinds.Raw i h = ap number_in h.1
 
-pub ruleset number_steps = (number_is, number_none, number_is_one, number_untold)
+pub ruleset number_steps = (number_is_one)
 
 -- ---- lines
 
