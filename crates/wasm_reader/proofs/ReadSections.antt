@@ -1,32 +1,18 @@
 -- How the content of a section is read.
-use Rattle.std.proofs.Common.{◌≡◌, ◌≢◌, ℕ, ◌≤◌, ◌+◌, List, [], ◌++◌, length, map, drop, refl, sym, ap, subst, ◌∙◌, append-nil, arith}
+use Rattle.std.proofs.Common.{◌≡◌, ℕ, ◌≤◌, ◌+◌, List, length, map, drop, refl, sym, ap, subst, ◌∙◌, arith}
 use Rattle.std.proofs.lemmas.List.{map-id, length-append, drop_at}
 use Rattle.wasm_base.specs.Going.{FillsNothing}
 use Rattle.wasm_base.specs.Numbers.{wide}
 use Rattle.wasm_base.specs.Formats.{Format, u32, any_bytes, frame, mapped, name, vec}
-use Rattle.wasm_base.specs.Reading.{UniqueReading, Reads, ReadsNothing}
-use Rattle.wasm_base.proofs.ReadingSteps.{reads_same}
-use Rattle.wasm_code.specs.Bodies.{Body, body}
-use Rattle.wasm_insn.specs.Plain.{Plain}
-use Rattle.wasm_reader_base.proofs.ReadFrames.{none_left, filled_reads, filled_none, filled_nothing}
-use Rattle.wasm_sections.specs.DataSegments.{DataItem, data_item}
-use Rattle.wasm_sections.specs.Elements.{Segment, element}
-use Rattle.wasm_sections.specs.Exports.{ExportItem, export}
-use Rattle.wasm_sections.specs.Globals.{GlobalItem, global_item}
-use Rattle.wasm_sections.specs.Imports.{ImportItem, import_format}
+use Rattle.wasm_base.specs.Reading.{Reads, ReadsNothing}
+use Rattle.wasm_reader_base.proofs.ReadFrames.{filled_reads, filled_none, filled_nothing}
 use Rattle.wasm_sections.specs.Memories.{memory_type}
-use Rattle.wasm_sections.specs.Tables.{TableItem, table_item}
 use Rattle.wasm_sections.specs.Tags.{tag_type}
 use Rattle.wasm_sections.specs.declared.memory.MemoryType.{MemoryType}
 use Rattle.wasm_sections.specs.declared.tag.TagType.{TagType}
-use Rattle.wasm_custom.specs.CoreDumps.{Instance}
-use Rattle.wasm_custom.specs.CoreStacks.{Frame}
-use Rattle.wasm_custom.specs.Hints.{Hints as FunctionHints}
-use Rattle.wasm_custom.specs.Linking.{LinkItem}
 use Rattle.wasm_custom.specs.Names.{NameItem}
-use Rattle.wasm_custom.specs.Producers.{Field}
-use Rattle.wasm_custom.specs.Readings.{name_payload, linking_payload, producers_payload, hints_payload, core_payload, modules_payload, instances_payload, stack_payload}
-use Rattle.wasm_reader.specs.Sections.{Contents, Bodies, Segments, DataCount, Elements, Exports, Functions, Globals, Imports, Memories, Start, Tables, Tags, Names, Linking, Producers, Hints, Core, CoreModules, CoreInstances, CoreStack, Custom, Raw, content, section, Takes}
+use Rattle.wasm_custom.specs.Readings.{name_payload}
+use Rattle.wasm_reader.specs.Sections.{Contents, Functions, Memories, Start, Tags, Names, Custom, Raw, content, section, Takes}
 use Rattle.wasm_reader.specs.declared.section.SectionKind.{SectionKind}
 use Rattle.wasm_reader.specs.declared.section.SectionKind.TheVariants as kinds
 
