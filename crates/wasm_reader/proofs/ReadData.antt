@@ -87,4 +87,4 @@ other_zero bytes rest next n m h e g z = segment_not 2 h e (mapped_nothing in_me
 pub other_none : (bytes rest next : List ℕ) (n m : ℕ) → Reads u32 wide bytes n rest → n ≡ 2 → Reads u32 wide rest m next → m ≢ 0 → ReadsNothing placed wide next → ReadsNothing data_item wide bytes
 other_none bytes rest next n m h e g p none = segment_not 2 h e (mapped_nothing in_memory (then_nothing_second (such-alone IsOther u32-alone) (such_reads IsOther g (omega (arith, p))) none))
 
-pub ruleset segment_steps = (segment_none, segment_unknown, first_reads, first_none, passive_reads, passive_none, other_reads, other_no_memory, other_zero, other_none)
+pub ruleset segment_steps = (segment_unknown, first_reads, other_zero)

@@ -159,9 +159,9 @@ pub ruleset list_steps = (as_expressions, no_expressions, as_functions, no_funct
 abbrev after_flag : ElementFlag → Format (Segment (List Plain))
 after_flag f = mapped segment_of (pair (place f) (elements_as (tells_kind f) f.expressions))
 
-pub element_reads : (bytes start middle last : List ℕ) (f : ElementFlag) (p : Place (List Plain)) (x : ElementList (List Plain)) → Reads (numbered flag_code) wide bytes f start → Reads (place f) wide start p middle → Reads (elements_as (tells_kind f) f.expressions) wide middle x last
-    → Reads element wide bytes (record { place = p; elements = x }) last
-element_reads bytes start middle last f p x h g k = tagged_reads {G = after_flag} h (mapped_reads segment_of (then_reads g k))
+pub element_reads : (bytes start middle last : List ℕ) (f : ElementFlag) (p : Place (List Plain)) (x : ElementList (List Plain)) (told : Bool) → Reads (numbered flag_code) wide bytes f start → Reads (place f) wide start p middle → told ≡ tells_kind f
+    → Reads (elements_as told f.expressions) wide middle x last → Reads element wide bytes (record { place = p; elements = x }) last
+element_reads bytes start middle last f p x told h g e k = tagged_reads {G = after_flag} h (mapped_reads segment_of (then_reads g (subst (λ t. Reads (elements_as t f.expressions) wide middle x last) e k)))
 
 pub element_none : (bytes : List ℕ) → ReadsNothing (numbered flag_code) wide bytes → ReadsNothing element wide bytes
 element_none bytes n = tagged_none (numbered flag_code) after_flag bytes n
@@ -172,4 +172,4 @@ element_no_place bytes start f h n = tagged_nothing {G = after_flag} element_fla
 pub element_no_list : (bytes start middle : List ℕ) (f : ElementFlag) (p : Place (List Plain)) → Reads (numbered flag_code) wide bytes f start → Reads (place f) wide start p middle → ReadsNothing (elements_as (tells_kind f) f.expressions) wide middle → ReadsNothing element wide bytes
 element_no_list bytes start middle f p h g n = tagged_nothing {G = after_flag} element_flag-alone h (mapped_nothing segment_of (then_nothing_second (place-alone f) g n))
 
-pub ruleset element_steps = (element_reads, element_none, element_no_place, element_no_list)
+pub ruleset element_steps = (element_no_list)

@@ -75,7 +75,7 @@ entity_exact bytes rest last b n h e g = entity_at 0x20 h e (mapped_reads Functi
 pub entity_no_exact : (bytes rest : List ℕ) (b : ℕ) → Reads byte wide bytes b rest → b ≡ 0x20 → ReadsNothing u32 wide rest → ReadsNothing entity wide bytes
 entity_no_exact bytes rest b h e n = entity_not 0x20 h e (mapped_nothing FunctionExact n)
 
-pub ruleset entity_steps = (entity_none, entity_unknown, entity_function, entity_no_function, entity_table, entity_no_table, entity_memory, entity_no_memory, entity_global, entity_no_global, entity_tag, entity_no_tag, entity_exact, entity_no_exact)
+pub ruleset entity_steps = (entity_unknown, entity_memory, entity_no_memory, entity_exact)
 
 -- ---- where a group stands
 
@@ -195,4 +195,4 @@ alike_no_names bytes rest after next m k ty h e f g n = alike_none h e f (then_n
 pub group_unknown : (bytes rest after m : List ℕ) (k : ℕ) → Reads name wide bytes m rest → rest ≡ 0x00 ∷ k ∷ after → 0x7E ≤ k → k ≢ 0x7F → k ≢ 0x7E → ReadsNothing import_format wide bytes
 group_unknown bytes rest after m k h e l p q = group_nothing h e l (no_choice group_tags k after (p, (q, tt)))
 
-pub ruleset import_steps = (import_no_module, single_reads, single_no_name, single_no_type, named_reads, named_none, alike_reads, alike_no_type, alike_no_names, group_unknown)
+pub ruleset import_steps = (alike_reads, alike_no_type, alike_no_names, group_unknown)

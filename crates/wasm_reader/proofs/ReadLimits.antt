@@ -65,7 +65,7 @@ pub memory_no_page : (bytes start middle next : List ℕ) (f : Flags) (minimum :
     → ReadsNothing (optional f.has_page_size u32) wide next → ReadsNothing memory_type wide bytes
 memory_no_page bytes start middle next f minimum maximum h g k n = memory_nothing bytes start f h (then_nothing_second u64-alone g (then_nothing_second (optional-alone f.has_maximum u64-alone) k n))
 
-pub ruleset memory_steps = (memory_reads, memory_none, memory_no_minimum, memory_no_maximum, memory_no_page)
+pub ruleset memory_steps = (memory_no_page)
 
 -- ---- limits of tables
 
@@ -97,7 +97,7 @@ limits_no_minimum bytes start f h e n = limits_nothing bytes start f h e (then_n
 pub limits_no_maximum : (bytes start middle : List ℕ) (f : Flags) (minimum : ℕ) → Reads flags wide bytes f start → f.has_page_size ≡ false → Reads u64 wide start minimum middle → ReadsNothing (optional f.has_maximum u64) wide middle → ReadsNothing limits wide bytes
 limits_no_maximum bytes start middle f minimum h e g n = limits_nothing bytes start f h e (then_nothing_second u64-alone g n)
 
-pub ruleset limits_steps = (limits_read, limits_none, limits_page, limits_no_minimum, limits_no_maximum)
+pub ruleset limits_steps = (limits_page)
 
 -- ---- table types
 

@@ -168,7 +168,7 @@ number_untold kind bytes x place e f h = untold kind (sym e ∙ f) h
     untold kinds.Custom i h = ap number_in h.1
     untold kinds.Raw i h = ap number_in h.1
 
-pub ruleset number_steps = (number_is, number_none, number_is_one, number_untold)
+pub ruleset number_steps = (number_is_one)
 
 -- ---- lines
 
@@ -195,7 +195,7 @@ line_nothing bytes rest framed after id h g n =
       none = λ p last k. n.none p.1 (subst (λ z. content (kind_of id) wide z p.1) (sym (reads_same frame-bytes-alone g (as_frame k)).0) k.spelled.holds);
     })
 
-pub ruleset line_steps = (line_none, line_no_frame, line_nothing)
+pub ruleset line_steps = (line_nothing)
 
 -- ---- the loop
 

@@ -65,4 +65,4 @@ table_other bytes rest after b c h e g other = with_nothing bytes rest b h e (pr
 pub table_no_with : (bytes rest after : List ℕ) (b c : ℕ) → Reads byte wide bytes b rest → b ≡ 0x40 → Reads byte wide rest c after → c ≡ 0x00 → ReadsNothing typed wide after → ReadsNothing table_item wide bytes
 table_no_with bytes rest after b c h e g f n = with_nothing bytes rest b h e (prefixed_nothing before_init typed (two_bytes bytes rest after b c h e g f) n)
 
-pub ruleset table_steps = (table_reads, table_none, table_no_type, table_with, table_no_second, table_other, table_no_with)
+pub ruleset table_steps = (table_other)

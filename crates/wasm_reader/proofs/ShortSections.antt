@@ -119,7 +119,11 @@ custom n bytes old middle new a e = mapped_appended Custom (pair name any_bytes)
 pub raw : (bytes old new : List ℕ) → new ≡ old ++ bytes → AppendsShortest (content kinds.Raw) (Raw bytes) old new
 raw bytes old new e = mapped_appended Raw any_bytes bytes old new (λ z k. cc k) (text_appended any_bytes bytes bytes old new (λ s h. refl) e)
 
-pub ruleset contents = (bodies, segments, data_count, elements, exports, functions, globals, imports, memories, start, tables, tags, names, links, producers, hints, process, modules, instances, stack, custom, raw)
+-- As what the items are is told by a case of a match.
+pub of_items : (x y : Contents) (old new : List ℕ) → x ≡ y → AppendsShortest (content (kind_in y)) y old new → AppendsShortest (content (kind_in x)) x old new
+of_items x y old new e a = subst (λ z. AppendsShortest (content (kind_in z)) z old new) (sym e) a
+
+pub ruleset contents = (exports, functions, memories, tags, custom, raw)
 
 -- ---- sections
 

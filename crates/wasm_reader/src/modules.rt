@@ -117,7 +117,7 @@ fn read_number<'a, A: Allocator + Copy>(
     ensures found { IfOk result (λ number. (x : Contents) × content kind wide bytes.now x × (number ≡ number_in x)) }
     ensures none { IfErr result (λ e. e ≢ Memory → FillsNothing (content kind) bytes.now) }
 {
-    let _items = read_content(kind, bytes, alloc)?;
+    drop(read_content(kind, bytes, alloc)?);
     match how_numbered(kind) {
         Numbering::InFront => {
             let (number, _) = <u32 as Readable<'a, A>>::read(bytes, alloc)?;

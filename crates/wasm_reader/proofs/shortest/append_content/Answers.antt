@@ -1,35 +1,58 @@
-use Rattle.std.proofs.Common.{map, sym, subst}
+use Rattle.std.proofs.Common.{map, sym, ap, ◌∙◌}
 use Rattle.wasm_base.proofs.Outcomes.{on_ok}
-use Rattle.wasm_custom.specs.Readings.{producers_payload, hints_payload, instances_payload}
-use Rattle.wasm_reader_base.specs.Shortest.{AppendsShortest}
-use Rattle.wasm_reader_custom.specs.Items.{field_of, hints_of, instance_of}
-use Rattle.wasm_reader.specs.Sections.{content, kind_in, contents_of}
-use Rattle.wasm_reader.proofs.ShortSections.{producers, hints, instances}
+use Rattle.wasm_sections.specs.Imports.{imports_item}
+use Rattle.wasm_reader_custom.specs.Items.{instance_of, field_of, hints_of}
+use Rattle.wasm_reader_custom.specs.Names.{name_item_of}
+use Rattle.wasm_reader_custom.specs.Symbols.{link_of}
+use Rattle.wasm_reader.specs.Items.{segment_of}
+use Rattle.wasm_reader.specs.Sections.{Segments, Imports, Names, Linking, Producers, Hints, CoreModules, CoreInstances, contents_of}
+use Rattle.wasm_reader.proofs.ShortSections.{of_items, bodies, segments, data_count, elements, globals, imports, start, tables, names, links, producers, hints, process, modules, instances, stack}
 use Rattle.wasm_reader.proofs.shortest.append_content.Goals as goal
 
+pub returns-in-Bodies : goal.returns-in-Bodies
+returns-in-Bodies g c = on_ok c.append_shortest.result _ _ c.append_shortest.ensures λ a. of_items _ _ _ _ (ap contents_of c.in-Bodies.is) (bodies _ _ _ a)
+
+pub returns-in-Segments : goal.returns-in-Segments
+returns-in-Segments g c = on_ok c.append_segments.result _ _ c.append_segments.ensures λ a. of_items _ _ _ _ (ap contents_of c.in-Segments.is ∙ ap (λ v. Segments (map segment_of v)) (sym c.deref.ensures.value)) (segments _ _ _ a)
+
+pub returns-in-DataCount : goal.returns-in-DataCount
+returns-in-DataCount g c = on_ok c.append_shortest-in-DataCount.result _ _ c.append_shortest-in-DataCount.ensures λ a. of_items _ _ _ _ (ap contents_of c.in-DataCount.is) (data_count _ _ _ a)
+
+pub returns-in-Elements : goal.returns-in-Elements
+returns-in-Elements g c = on_ok c.append_shortest-in-Elements.result _ _ c.append_shortest-in-Elements.ensures λ a. of_items _ _ _ _ (ap contents_of c.in-Elements.is) (elements _ _ _ a)
+
+pub returns-in-Globals : goal.returns-in-Globals
+returns-in-Globals g c = on_ok c.append_shortest-in-Globals.result _ _ c.append_shortest-in-Globals.ensures λ a. of_items _ _ _ _ (ap contents_of c.in-Globals.is) (globals _ _ _ a)
+
+pub returns-in-Imports : goal.returns-in-Imports
+returns-in-Imports g c = on_ok c.append_imports.result _ _ c.append_imports.ensures λ a. of_items _ _ _ _ (ap contents_of c.in-Imports.is ∙ ap (λ v. Imports (map imports_item v)) (sym c.deref-in-Imports.ensures.value)) (imports _ _ _ a)
+
+pub returns-in-Start : goal.returns-in-Start
+returns-in-Start g c = on_ok c.append_shortest-in-Start.result _ _ c.append_shortest-in-Start.ensures λ a. of_items _ _ _ _ (ap contents_of c.in-Start.is) (start _ _ _ a)
+
+pub returns-in-Tables : goal.returns-in-Tables
+returns-in-Tables g c = on_ok c.append_shortest-in-Tables.result _ _ c.append_shortest-in-Tables.ensures λ a. of_items _ _ _ _ (ap contents_of c.in-Tables.is) (tables _ _ _ a)
+
+pub returns-in-Names : goal.returns-in-Names
+returns-in-Names g c = on_ok c.append_names.result _ _ c.append_names.ensures λ a. of_items _ _ _ _ (ap contents_of c.in-Names.is ∙ ap (λ v. Names (map name_item_of v)) (sym c.deref-in-Names.ensures.value)) (names _ _ _ a)
+
+pub returns-in-Linking : goal.returns-in-Linking
+returns-in-Linking g c = on_ok c.append_links.result _ _ c.append_links.ensures λ a. of_items _ _ _ _ (ap contents_of c.in-Linking.is ∙ ap (λ v. Linking (map link_of v)) (sym c.deref-in-Linking.ensures.value)) (links _ _ _ a)
+
 pub returns-in-Producers : goal.returns-in-Producers
-returns-in-Producers g c =
-    let old = c.args.out.now.items in
-    let new = c.append_producers.new.out.items in
-    let items = c.in-Producers.items.items in
-    on_ok c.append_producers.result _ _ c.append_producers.ensures λ a.
-    subst (λ i. AppendsShortest (content (kind_in (contents_of i))) (contents_of i) old new) (sym c.in-Producers.is)
-    (producers (map field_of items) old new (subst (λ xs. AppendsShortest producers_payload (map field_of xs) old new) c.deref-in-Producers.ensures.value a))
+returns-in-Producers g c = on_ok c.append_producers.result _ _ c.append_producers.ensures λ a. of_items _ _ _ _ (ap contents_of c.in-Producers.is ∙ ap (λ v. Producers (map field_of v)) (sym c.deref-in-Producers.ensures.value)) (producers _ _ _ a)
 
 pub returns-in-Hints : goal.returns-in-Hints
-returns-in-Hints g c =
-    let old = c.args.out.now.items in
-    let new = c.append_hints.new.out.items in
-    let items = c.in-Hints.items.items in
-    on_ok c.append_hints.result _ _ c.append_hints.ensures λ a.
-    subst (λ i. AppendsShortest (content (kind_in (contents_of i))) (contents_of i) old new) (sym c.in-Hints.is)
-    (hints (map hints_of items) old new (subst (λ xs. AppendsShortest hints_payload (map hints_of xs) old new) c.deref-in-Hints.ensures.value a))
+returns-in-Hints g c = on_ok c.append_hints.result _ _ c.append_hints.ensures λ a. of_items _ _ _ _ (ap contents_of c.in-Hints.is ∙ ap (λ v. Hints (map hints_of v)) (sym c.deref-in-Hints.ensures.value)) (hints _ _ _ a)
+
+pub returns-in-Core : goal.returns-in-Core
+returns-in-Core g c = on_ok c.append_process.result _ _ c.append_process.ensures λ a. of_items _ _ _ _ (ap contents_of c.in-Core.is) (process _ _ _ a)
+
+pub returns-in-CoreModules : goal.returns-in-CoreModules
+returns-in-CoreModules g c = on_ok c.append_modules.result _ _ c.append_modules.ensures λ a. of_items _ _ _ _ (ap contents_of c.in-CoreModules.is ∙ ap (λ v. CoreModules (map (λ n. n.now) v)) (sym c.deref-in-CoreModules.ensures.value)) (modules _ _ _ a)
 
 pub returns-in-CoreInstances : goal.returns-in-CoreInstances
-returns-in-CoreInstances g c =
-    let old = c.args.out.now.items in
-    let new = c.append_instances.new.out.items in
-    let items = c.in-CoreInstances.items.items in
-    on_ok c.append_instances.result _ _ c.append_instances.ensures λ a.
-    subst (λ i. AppendsShortest (content (kind_in (contents_of i))) (contents_of i) old new) (sym c.in-CoreInstances.is)
-    (instances (map instance_of items) old new (subst (λ xs. AppendsShortest instances_payload (map instance_of xs) old new) c.deref-in-CoreInstances.ensures.value a))
+returns-in-CoreInstances g c = on_ok c.append_instances.result _ _ c.append_instances.ensures λ a. of_items _ _ _ _ (ap contents_of c.in-CoreInstances.is ∙ ap (λ v. CoreInstances (map instance_of v)) (sym c.deref-in-CoreInstances.ensures.value)) (instances _ _ _ a)
+
+pub returns-in-CoreStack : goal.returns-in-CoreStack
+returns-in-CoreStack g c = on_ok c.append_stack.result _ _ c.append_stack.ensures λ a. of_items _ _ _ _ (ap contents_of c.in-CoreStack.is) (stack _ _ _ a)

@@ -1,7 +1,19 @@
 use Rattle.std.proofs.Common.{rules}
 use Rattle.wasm_reader_base.proofs.Faults.{fault_stays}
-use Rattle.wasm_reader.proofs.ReadImports.{named_reads, named_none, alike_reads, alike_no_type, alike_no_names, group_unknown}
+use Rattle.wasm_reader.proofs.ReadImports.{import_no_module, single_no_name, single_no_type, single_reads, named_reads, named_none, alike_reads, alike_no_type, alike_no_names, group_unknown}
 use Rattle.wasm_reader.proofs.imports.ImportsItemHere.read_item.Goals as goal
+
+pub returns-in_err-module-clause-none : goal.returns-in_err-module-clause-none
+returns-in_err-module-clause-none g c = fault_stays c.from_residual.result _ c.from_residual.ensures.1 λ n. import_no_module c.args.bytes.now (c.in_err-module.ensures.none n)
+
+pub returns-in_err-name-clause-none : goal.returns-in_err-name-clause-none
+returns-in_err-name-clause-none g c = fault_stays c.from_residual-in_err-name.result _ c.from_residual-in_err-name.ensures.1 λ n. single_no_name c.args.bytes.now _ _ c.in_ok-module.ensures.found c.in_default.ensures (c.in_err-name.ensures.none n)
+
+pub returns-in_err-ty-clause-none : goal.returns-in_err-ty-clause-none
+returns-in_err-ty-clause-none g c = fault_stays c.from_residual-in_err-ty.result _ c.from_residual-in_err-ty.ensures.1 λ n. single_no_type c.args.bytes.now _ _ _ _ c.in_ok-module.ensures.found c.in_default.ensures c.in_ok-name.ensures.found (c.in_err-ty.ensures.none n)
+
+pub returns-in_default-clause-found : goal.returns-in_default-clause-found
+returns-in_default-clause-found g c = single_reads c.args.bytes.now _ _ _ _ _ _ c.in_ok-module.ensures.found c.in_ok-name.ensures.found c.in_ok-ty.ensures.found
 
 pub returns-in_err-items-in-127-clause-none : goal.returns-in_err-items-in-127-clause-none
 returns-in_err-items-in-127-clause-none g c = fault_stays c.from_residual-in_err-items-in-127.result _ c.from_residual-in_err-items-in-127.ensures.1 λ n.
