@@ -27,7 +27,7 @@ value_none bytes n = such_none (λ b. b < 128) n
 pub value_large : (bytes rest : List ℕ) (b : ℕ) → Reads byte wide bytes b rest → 128 ≤ b → ReadsNothing value wide bytes
 value_large bytes rest b h l = such_nothing (λ b. b < 128) byte-alone h (λ p. omega (arith, p, l))
 
-pub ruleset value_steps = (value_reads, value_none, value_large)
+pub ruleset value_steps = (value_reads, value_large)
 
 -- ---- hints
 
@@ -43,7 +43,7 @@ hint_none bytes n = mapped_nothing hint_of (then_nothing_first n)
 pub hint_nothing : (bytes rest : List ℕ) (n : ℕ) → Reads u32 wide bytes n rest → ReadsNothing marked_value wide rest → ReadsNothing hint wide bytes
 hint_nothing bytes rest n h none = mapped_nothing hint_of (then_nothing_second u32-alone h none)
 
-pub ruleset hint_steps = (hint_reads, hint_none, hint_nothing)
+pub ruleset hint_steps = (hint_reads, hint_nothing)
 
 -- ---- the hints of a function
 
@@ -55,8 +55,6 @@ hints_none bytes n = then_nothing_first n
 
 pub hints_nothing : (bytes rest : List ℕ) (n : ℕ) → Reads u32 wide bytes n rest → ReadsNothing (vec hint) wide rest → ReadsNothing hints wide bytes
 hints_nothing bytes rest n h none = then_nothing_second u32-alone h none
-
-pub ruleset hints_steps = (hints_read, hints_none, hints_nothing)
 
 -- ---- sections
 

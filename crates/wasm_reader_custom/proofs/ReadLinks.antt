@@ -48,7 +48,7 @@ arch_none bytes rest b h e n = id_is_not 9 h e (mapped_nothing Target n)
 pub link_unknown : (bytes rest : List ℕ) (b : ℕ) → Reads byte wide bytes b rest → b ≢ 8 → b ≢ 9 → ReadsNothing link wide bytes
 link_unknown bytes rest b h p q = tagged_nothing {G = after_id} byte-alone h (no_choice link_tags b rest (p, (q, tt)))
 
-pub ruleset link_steps = (link_none, symbols_read, symbols_no_frame, symbols_nothing, arch_reads, arch_none, link_unknown)
+pub ruleset link_steps = (arch_reads, arch_none, link_unknown)
 
 -- ---- the version
 
@@ -61,7 +61,7 @@ version_none bytes n = just_none u32 version bytes n
 pub version_other : (bytes rest : List ℕ) (n : ℕ) → Reads u32 wide bytes n rest → n ≢ 2 → ReadsNothing (just version u32) wide bytes
 version_other bytes rest n h p = just_other u32 version bytes u32-alone rest n h p
 
-pub ruleset version_steps = (version_there, version_none, version_other)
+pub ruleset version_steps = (version_there, version_other)
 
 -- ---- sections
 

@@ -26,4 +26,4 @@ module _ {X : Type 0} (m : ℕ) (F : Format X) (bytes : List ℕ) where
   pub marked_nothing : (rest : List ℕ) (b : ℕ) → Reads byte wide bytes b rest → b ≡ m → ReadsNothing F wide rest → ReadsNothing (prefixed (m ∷ []) F) wide bytes
   marked_nothing rest b h e n = tagged_nothing {G = λ u. F} (fixed-alone (m ∷ []) tt) (mark_there h e) n
 
-pub ruleset marked_steps = (marked_reads, marked_none, marked_other, marked_nothing)
+pub ruleset marked_steps = (marked_reads, marked_other, marked_nothing)

@@ -88,8 +88,6 @@ pub subsection_nothing : (bytes rest content last : List ℕ) (id : ℕ) (k : Na
 subsection_nothing bytes rest content last id k h g e n =
     tagged_nothing {G = behind} byte-alone h (subst (λ k. ReadsNothing (after_id k id) wide rest) e (nothing_behind k id rest (filled_nothing (inside k id) rest content last g n)))
 
-pub ruleset subsection_steps = (subsection_reads, subsection_none, subsection_no_frame, subsection_nothing)
-
 -- ---- sections
 
 pub names_fill : (bytes rest : List ℕ) (items : List NameItem) → Reads (just name_name name) wide bytes tt rest → members subsection wide rest items → name_payload wide bytes items

@@ -65,7 +65,7 @@ f64_none bytes rest b h e n = tag_is_not 0x7C h e (mapped_nothing f64_of n)
 pub value_unknown : (bytes rest : List ℕ) (b : ℕ) → Reads byte wide bytes b rest → b ≢ 0x01 → b ≢ 0x7F → b ≢ 0x7E → b ≢ 0x7D → b ≢ 0x7C → ReadsNothing value wide bytes
 value_unknown bytes rest b h p q r s t = tagged_nothing {G = after_tag} byte-alone h (no_choice value_tags b rest (p, (q, (r, (s, (t, tt))))))
 
-pub ruleset value_steps = (value_none, missing_reads, i32_reads, i32_none, i64_reads, i64_none, f32_reads, f32_none, f64_reads, f64_none, value_unknown)
+pub ruleset value_steps = (missing_reads, value_unknown)
 
 -- ---- frames
 

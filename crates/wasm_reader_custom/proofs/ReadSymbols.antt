@@ -31,8 +31,6 @@ indexed_no_index kind bytes rest flags h n = tagged_nothing {G = flagged kind} u
 pub indexed_no_name : (kind : SymbolKind) (bytes rest next : List ℕ) (flags index : ℕ) → Reads u32 wide bytes flags rest → Reads u32 wide rest index next → ReadsNothing (optional (has_name flags) name) wide next → ReadsNothing (indexed_symbol kind) wide bytes
 indexed_no_name kind bytes rest next flags index h g n = tagged_nothing {G = flagged kind} u32-alone h (mapped_nothing (indexed_of kind flags) (then_nothing_second u32-alone g n))
 
-pub ruleset indexed_steps = (indexed_reads, indexed_none, indexed_no_index, indexed_no_name)
-
 -- ---- data
 
 pub definition_reads : (bytes last : List ℕ) (index offset size : ℕ) → Reads (pair u32 (pair u32 u32)) wide bytes (index, (offset, size)) last → Reads definition wide bytes (record { index = index; offset = offset; size = size }) last
@@ -40,8 +38,6 @@ definition_reads bytes last index offset size h = mapped_reads definition_of h
 
 pub definition_none : (bytes : List ℕ) → ReadsNothing (pair u32 (pair u32 u32)) wide bytes → ReadsNothing definition wide bytes
 definition_none bytes n = mapped_nothing definition_of n
-
-pub ruleset definition_steps = (definition_reads, definition_none)
 
 abbrev given : ℕ → Format Symbol
 given flags = mapped (data_of flags) (pair name (optional (has_definition flags) definition))
@@ -59,7 +55,7 @@ data_no_name bytes rest flags h n = tagged_nothing {G = given} u32-alone h (mapp
 pub data_no_definition : (bytes rest next : List ℕ) (flags : ℕ) (n : List ℕ) → Reads u32 wide bytes flags rest → Reads name wide rest n next → ReadsNothing (optional (has_definition flags) definition) wide next → ReadsNothing data_symbol wide bytes
 data_no_definition bytes rest next flags n h g none = tagged_nothing {G = given} u32-alone h (mapped_nothing (data_of flags) (then_nothing_second name-alone g none))
 
-pub ruleset data_steps = (data_reads, data_none, data_no_name, data_no_definition)
+pub ruleset data_steps = (data_reads, data_no_definition)
 
 -- ---- kinds
 
@@ -102,4 +98,4 @@ table_none bytes rest b h e n = kind_is_not 0x05 h e n
 pub symbol_unknown : (bytes rest : List ℕ) (b : ℕ) → Reads byte wide bytes b rest → b ≢ 0x00 → b ≢ 0x01 → b ≢ 0x02 → b ≢ 0x05 → ReadsNothing symbol wide bytes
 symbol_unknown bytes rest b h p q r s = tagged_nothing {G = after_kind} byte-alone h (no_choice symbol_tags b rest (p, (q, (r, (s, tt)))))
 
-pub ruleset symbol_steps = (symbol_none, function_reads, function_none, of_data_reads, of_data_none, global_reads, global_none, table_reads, table_none, symbol_unknown)
+pub ruleset symbol_steps = (table_reads, table_none, symbol_unknown)

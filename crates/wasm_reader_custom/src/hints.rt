@@ -74,7 +74,7 @@ impl<'a, A: Allocator + Copy> Item<'a, Here, A> for (u32, Vec<BranchHint, A>) {
 
     ghost alone = { hints-alone };
 
-    #[tactic(auto, using(crate::proofs::ReadHints::hints_steps))]
+    #[tactic(auto, using(crate::proofs::ReadHints::hints_read))]
     fn read_item(
         bytes: &'a [u8],
         alloc: A,

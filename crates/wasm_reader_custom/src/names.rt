@@ -88,7 +88,7 @@ impl<'a, A: Allocator + Copy> Item<'a, Here, A> for (u32, Vec<(u32, &'a str), A>
 
     ghost alone = { pair-alone u32-alone map-alone };
 
-    #[tactic(auto, using(wasm_base::proofs::ReadingSteps::steps))]
+    #[tactic(auto, using(wasm_base::proofs::ReadingSteps::then_reads))]
     fn read_item(
         bytes: &'a [u8],
         alloc: A,
@@ -162,7 +162,7 @@ impl<'a, A: Allocator + Copy> Item<'a, Here, A> for NameItem<'a, A> {
 
     ghost alone = { subsection-alone };
 
-    #[tactic(auto, using(crate::proofs::ReadNames::subsection_steps))]
+    #[tactic(auto, using(crate::proofs::ReadNames::subsection_reads))]
     fn read_item(bytes: &'a [u8], alloc: A) -> Result<(NameItem<'a, A>, &'a [u8]), ReadFault> {
         let (id, rest) = <u8 as Readable<'a, A>>::read(bytes, alloc)?;
         let (content, rest) = <&'a [u8] as Readable<'a, A>>::read(rest, alloc)?;

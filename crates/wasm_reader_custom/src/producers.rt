@@ -26,7 +26,7 @@ impl<'a, A: Allocator + Copy> Item<'a, Here, A> for (&'a str, Vec<(&'a str, &'a 
 
     ghost alone = { field-alone };
 
-    #[tactic(auto, using(wasm_base::proofs::ReadingSteps::steps))]
+    #[tactic(auto, using(wasm_base::proofs::ReadingSteps::then_reads))]
     fn read_item(
         bytes: &'a [u8],
         alloc: A,

@@ -60,7 +60,7 @@ fn has_definition(flags: u32) -> bool
 }
 
 /// A symbol of an index, behind its kind.
-#[tactic(auto, using(crate::proofs::ReadSymbols::indexed_steps))]
+#[tactic(auto, using(crate::proofs::ReadSymbols::indexed_reads))]
 fn read_indexed<'a, A: Allocator + Copy>(
     kind: SymbolKind,
     bytes: &'a [u8],
@@ -89,7 +89,7 @@ impl<'a, A: Allocator + Copy> Item<'a, Here, A> for DataSymbolDefinition {
 
     ghost alone = { definition-alone };
 
-    #[tactic(auto, using(crate::proofs::ReadSymbols::definition_steps))]
+    #[tactic(auto, using(crate::proofs::ReadSymbols::definition_reads))]
     fn read_item(bytes: &'a [u8], alloc: A) -> Result<(DataSymbolDefinition, &'a [u8]), ReadFault> {
         let ((index, (offset, size)), rest) = <(u32, (u32, u32)) as Readable<'a, A>>::read(
             bytes, alloc,

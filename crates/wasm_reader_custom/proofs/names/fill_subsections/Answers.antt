@@ -6,6 +6,7 @@ use Rattle.wasm_reader_custom.specs.Names.{name_item_of}
 use Rattle.wasm_reader_base.proofs.Faults.{fault_stays}
 use Rattle.wasm_reader_base.proofs.ReadFrames.{none_left}
 use Rattle.wasm_reader_base.proofs.ReadWhole.{HasMembers, members_step, members_fail, members_done, empty_not}
+use Rattle.wasm_reader_base.proofs.Faults.{memory_stays}
 use Rattle.wasm_reader_custom.proofs.names.fill_subsections.Goals as goal
 
 pub returns-then-is_empty-clause-found : goal.returns-then-is_empty-clause-found
@@ -19,3 +20,6 @@ pub loop-rest-preserved : goal.loop-rest-preserved
 loop-rest-preserved g c =
     subst (λ z. HasMembers subsection name_item_of c.args.bytes.now z c.in_ok-item.after.now) (sym c.in_ok-push.ensures.items)
     (members_step subsection name_item_of c.args.bytes.now subsection-alone c.loop-rest.rest.now c.in_ok-item.after.now c.loop-rest.items.items c.in_ok-item.item c.loop-rest.invariant (empty_not c.loop-rest.rest.now (eqb-false _ _ (sym c.is_empty.ensures ∙ c.if-is_empty.false))) c.in_ok-item.ensures.found)
+
+pub returns-in_err-push-clause-none : goal.returns-in_err-push-clause-none
+returns-in_err-push-clause-none g c = memory_stays _ c.from_residual-in_err-push.result c.from_residual-in_err-push.ensures.1

@@ -1,6 +1,10 @@
 use Rattle.wasm_reader_base.proofs.Faults.{fault_stays}
 use Rattle.wasm_reader_custom.proofs.ReadNames.{names_none}
+use Rattle.wasm_reader_custom.proofs.ReadNames.{no_names}
 use Rattle.wasm_reader_custom.proofs.names.read_names.Goals as goal
 
 pub returns-in_err-rest-clause-none : goal.returns-in_err-rest-clause-none
 returns-in_err-rest-clause-none g c = fault_stays c.from_residual.result _ c.from_residual.ensures.1 λ n. names_none c.args.bytes.now (c.in_err-rest.ensures.none n)
+
+pub returns-in_err-items-clause-none : goal.returns-in_err-items-clause-none
+returns-in_err-items-clause-none g c = fault_stays c.from_residual-in_err-items.result _ c.from_residual-in_err-items.ensures.1 λ n. no_names c.args.bytes.now _ c.in_ok-rest.ensures.found (c.in_err-items.ensures.none n)

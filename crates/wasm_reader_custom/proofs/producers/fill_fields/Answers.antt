@@ -9,6 +9,7 @@ use Rattle.wasm_custom.specs.Producers.{field}
 use Rattle.wasm_reader_custom.specs.Items.{field_of}
 use Rattle.wasm_custom.proofs.ProducerLaws.{field-alone}
 use Rattle.wasm_reader_base.proofs.ReadWhole.{whole_reads, whole_more, whole_nothing}
+use Rattle.wasm_reader_base.proofs.ReadVectors.{vec_nothing_count}
 use Rattle.wasm_reader_custom.proofs.producers.fill_fields.Goals as goal
 
 pub returns-in_err-item-clause-none : goal.returns-in_err-item-clause-none
@@ -33,3 +34,6 @@ returns-then-is_empty-clause-found g c = whole_reads (vec field) c.args.bytes.no
 
 pub returns-clause-none : goal.returns-clause-none
 returns-clause-none g c = λ n. whole_more (vec field) c.args.bytes.now c.loop-taken.rest.now _ (vec-alone field-alone) (loop_reads field field_of c.args.bytes.now _ c.loop-taken.rest.now c.loop-taken.items.items _ c.in_ok-count.ensures.found c.loop-taken.invariant.0 (omega (arith, c.loop-taken.invariant.1, c.loop-taken-test.false, c.loop-taken.auto._taken-end))) (eqb-false _ _ (sym c.is_empty.ensures ∙ c.if-is_empty.false))
+
+pub returns-in_err-count-clause-none : goal.returns-in_err-count-clause-none
+returns-in_err-count-clause-none g c = fault_stays c.from_residual.result _ c.from_residual.ensures.1 λ n. whole_nothing (vec field) c.args.bytes.now (vec_nothing_count field c.args.bytes.now (c.in_err-count.ensures.none n))
