@@ -1,7 +1,6 @@
 // What tests compare, over plain data: an assertion beside values that own memory takes far longer to prove.
 use std::alloc::Global;
 use std::process::Abort;
-use std::test::Fail;
 use test_support::Refusing;
 use wasm_base::{Encode, R, Refused, Section};
 
@@ -46,16 +45,10 @@ pub(crate) fn check_answer(rt: &impl Abort, heap: Heap<'_>, nth: u64, answer: R<
 }
 
 /// The item is written as these bytes.
-pub(crate) fn check_text<T: Encode>(
-    rt: &impl Abort,
-    alloc: Global,
-    item: &T,
-    expected: &[u8],
-) -> Result<(), Fail> {
+pub(crate) fn check_text<T: Encode>(rt: &impl Abort, alloc: Global, item: &T, expected: &[u8]) {
     let mut sink = Vec::new(alloc);
-    item.encode(&mut sink)?;
+    item.encode(&mut sink).expect(rt, "accepted");
     check_bytes(rt, &sink, expected);
-    Ok(())
 }
 
 /// The id is that of custom sections, and stands before the text.
@@ -64,15 +57,9 @@ fn check_id(rt: &impl Abort, id: u8, first: Option<&u8>) {
 }
 
 /// The custom section is written as these bytes.
-pub(crate) fn check<S: Section>(
-    rt: &impl Abort,
-    alloc: Global,
-    section: &S,
-    expected: &[u8],
-) -> Result<(), Fail> {
-    check_text(rt, alloc, section, expected)?;
+pub(crate) fn check<S: Section>(rt: &impl Abort, alloc: Global, section: &S, expected: &[u8]) {
+    check_text(rt, alloc, section, expected);
     let mut sink = Vec::new(alloc);
-    section.append_to(&mut sink)?;
+    section.append_to(&mut sink).expect(rt, "accepted");
     check_id(rt, section.id(), sink.first());
-    Ok(())
 }

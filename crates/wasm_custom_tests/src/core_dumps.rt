@@ -2,7 +2,6 @@
 use crate::checks::{check, check_bytes, check_len, check_text};
 use std::alloc::Global;
 use std::process::Abort;
-use std::test::Fail;
 use wasm_custom::{
     CoreDumpInstancesSection, CoreDumpModulesSection, CoreDumpSection, CoreDumpStackSection,
     CoreDumpValue, CustomSection,
@@ -10,13 +9,13 @@ use wasm_custom::{
 use wasm_immediates::{Ieee32, Ieee64};
 
 #[test]
-fn process(rt: HostRuntime) -> Result<(), Fail> {
-    let section = CoreDumpSection::new(rt.alloc(), "test")?;
-    check(&rt, rt.alloc(), &section, b"\x0B\x04core\x00\x04test")?;
+fn process(rt: HostRuntime) {
+    let section = CoreDumpSection::new(rt.alloc(), "test").expect(&rt, "accepted");
+    check(&rt, rt.alloc(), &section, b"\x0B\x04core\x00\x04test");
     check(
         &rt,
         rt.alloc(),
-        &section.clone()?,
+        &section.clone().expect(&rt, "accepted"),
         b"\x0B\x04core\x00\x04test",
     )
 }
@@ -28,99 +27,93 @@ fn check_custom(rt: &impl Abort, section: &CustomSection<'_>, name: &[u8], bytes
 }
 
 #[test]
-fn modules(rt: HostRuntime) -> Result<(), Fail> {
+fn modules(rt: HostRuntime) {
     let mut section = CoreDumpModulesSection::new(rt.alloc());
     check_len(&rt, section.len(), section.is_empty(), 0);
-    section.module("mod1")?;
-    section.module("mod2")?;
+    section.module("mod1").expect(&rt, "accepted");
+    section.module("mod2").expect(&rt, "accepted");
     check_len(&rt, section.len(), section.is_empty(), 2);
     check(
         &rt,
         rt.alloc(),
         &section,
         b"\x19\x0Bcoremodules\x02\x00\x04mod1\x00\x04mod2",
-    )?;
+    );
     check_custom(
         &rt,
-        &section.as_custom(rt.alloc())?,
+        &section.as_custom(rt.alloc()).expect(&rt, "accepted"),
         b"coremodules",
         b"\x02\x00\x04mod1\x00\x04mod2",
     );
-    Ok(())
 }
 
 #[test]
-fn instances(rt: HostRuntime) -> Result<(), Fail> {
+fn instances(rt: HostRuntime) {
     let mut section = CoreDumpInstancesSection::new(rt.alloc());
     check_len(&rt, section.len(), section.is_empty(), 0);
-    section.instance(0, [42], [17])?;
+    section.instance(0, [42], [17]).expect(&rt, "accepted");
     check_len(&rt, section.len(), section.is_empty(), 1);
     check(
         &rt,
         rt.alloc(),
         &section,
         b"\x15\x0Dcoreinstances\x01\x00\x00\x01\x2A\x01\x11",
-    )?;
+    );
     check_custom(
         &rt,
-        &section.as_custom(rt.alloc())?,
+        &section.as_custom(rt.alloc()).expect(&rt, "accepted"),
         b"coreinstances",
         &[1, 0, 0, 1, 42, 1, 17],
     );
-    Ok(())
 }
 
 #[test]
-fn stack(rt: HostRuntime) -> Result<(), Fail> {
-    let mut section = CoreDumpStackSection::new(rt.alloc(), "main")?;
-    section.frame(0, 42, 51, [CoreDumpValue::I32(1)], [CoreDumpValue::I32(2)])?;
+fn stack(rt: HostRuntime) {
+    let mut section = CoreDumpStackSection::new(rt.alloc(), "main").expect(&rt, "accepted");
+    section
+        .frame(0, 42, 51, [CoreDumpValue::I32(1)], [CoreDumpValue::I32(2)])
+        .expect(&rt, "accepted");
     check(
         &rt,
         rt.alloc(),
         &section,
         b"\x1B\x09corestack\x00\x04main\x01\x00\x00\x2A\x33\x01\x7F\x01\x01\x7F\x02",
-    )?;
+    );
     check_custom(
         &rt,
-        &section.as_custom(rt.alloc())?,
+        &section.as_custom(rt.alloc()).expect(&rt, "accepted"),
         b"corestack",
         b"\x00\x04main\x01\x00\x00\x2A\x33\x01\x7F\x01\x01\x7F\x02",
     );
-    Ok(())
 }
 
 #[test]
-fn copied_stack(rt: HostRuntime) -> Result<(), Fail> {
-    let section = CoreDumpStackSection::new(rt.alloc(), "main")?;
+fn copied_stack(rt: HostRuntime) {
+    let section = CoreDumpStackSection::new(rt.alloc(), "main").expect(&rt, "accepted");
     check(
         &rt,
         rt.alloc(),
-        &section.clone()?,
+        &section.clone().expect(&rt, "accepted"),
         b"\x11\x09corestack\x00\x04main\x00",
     )
 }
 
 /// The value is written as these bytes.
-fn check_value(
-    rt: &impl Abort,
-    alloc: Global,
-    value: CoreDumpValue,
-    expected: &[u8],
-) -> Result<(), Fail> {
+fn check_value(rt: &impl Abort, alloc: Global, value: CoreDumpValue, expected: &[u8]) {
     check_text(rt, alloc, &value, expected)
 }
 
 #[test]
-fn values(rt: HostRuntime) -> Result<(), Fail> {
-    check_value(&rt, rt.alloc(), CoreDumpValue::Missing, &[0x01])?;
-    check_value(&rt, rt.alloc(), CoreDumpValue::I32(-64), &[0x7F, 0x40])?;
-    check_value(&rt, rt.alloc(), CoreDumpValue::I64(64), &[0x7E, 0xC0, 0x00])?;
+fn values(rt: HostRuntime) {
+    check_value(&rt, rt.alloc(), CoreDumpValue::Missing, &[0x01]);
+    check_value(&rt, rt.alloc(), CoreDumpValue::I32(-64), &[0x7F, 0x40]);
+    check_value(&rt, rt.alloc(), CoreDumpValue::I64(64), &[0x7E, 0xC0, 0x00]);
     check_value(
         &rt,
         rt.alloc(),
         CoreDumpValue::F32(Ieee32::new(1)),
         &[0x7D, 1, 0, 0, 0],
-    )?;
+    );
     check_value(
         &rt,
         rt.alloc(),

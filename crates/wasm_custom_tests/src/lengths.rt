@@ -5,7 +5,6 @@ ghost use Rattle.std.specs.Iterator.{at_most};
 use crate::checks::check_text;
 use std::cell::Cell;
 use std::process::Abort;
-use std::test::Fail;
 use wasm_base::{R, Refused};
 use wasm_custom::{
     BranchHint, BranchHints, CoreDumpInstancesSection, CoreDumpStackSection, CoreDumpValue,
@@ -62,7 +61,7 @@ const HINT: BranchHint = BranchHint {
 };
 
 #[test]
-fn hints(rt: HostRuntime) -> Result<(), Fail> {
+fn hints(rt: HostRuntime) {
     let asked = Cell::new(0);
     let mut section = BranchHints::new(rt.alloc());
     let answer = section.function_hints(0, copies_of(HINT, TOO_MANY, &asked));
@@ -76,7 +75,7 @@ fn hints(rt: HostRuntime) -> Result<(), Fail> {
 }
 
 #[test]
-fn memories(rt: HostRuntime) -> Result<(), Fail> {
+fn memories(rt: HostRuntime) {
     let asked = Cell::new(0);
     let mut section = CoreDumpInstancesSection::new(rt.alloc());
     let answer = section.instance(0, copies_of(1, TOO_MANY, &asked), copies_of(2, 1, &asked));
@@ -85,7 +84,7 @@ fn memories(rt: HostRuntime) -> Result<(), Fail> {
 }
 
 #[test]
-fn globals(rt: HostRuntime) -> Result<(), Fail> {
+fn globals(rt: HostRuntime) {
     let asked = Cell::new(0);
     let mut section = CoreDumpInstancesSection::new(rt.alloc());
     let answer = section.instance(0, copies_of(1, 1, &asked), copies_of(2, TOO_MANY, &asked));
@@ -94,9 +93,9 @@ fn globals(rt: HostRuntime) -> Result<(), Fail> {
 }
 
 #[test]
-fn locals(rt: HostRuntime) -> Result<(), Fail> {
+fn locals(rt: HostRuntime) {
     let asked = Cell::new(0);
-    let mut section = CoreDumpStackSection::new(rt.alloc(), "main")?;
+    let mut section = CoreDumpStackSection::new(rt.alloc(), "main").expect(&rt, "accepted");
     let missing = CoreDumpValue::Missing;
     let locals = copies_of(missing, TOO_MANY, &asked);
     let answer = section.frame(0, 42, 51, locals, copies_of(missing, 1, &asked));
@@ -110,9 +109,9 @@ fn locals(rt: HostRuntime) -> Result<(), Fail> {
 }
 
 #[test]
-fn stack(rt: HostRuntime) -> Result<(), Fail> {
+fn stack(rt: HostRuntime) {
     let asked = Cell::new(0);
-    let mut section = CoreDumpStackSection::new(rt.alloc(), "main")?;
+    let mut section = CoreDumpStackSection::new(rt.alloc(), "main").expect(&rt, "accepted");
     let missing = CoreDumpValue::Missing;
     let locals = copies_of(missing, 1, &asked);
     let answer = section.frame(0, 42, 51, locals, copies_of(missing, TOO_MANY, &asked));

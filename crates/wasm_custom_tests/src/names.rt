@@ -1,36 +1,35 @@
 // The name section and its maps: each call once, with ample memory. Calls that take a map stand in `refusals.rt`, where each is granted all in the end.
 use crate::checks::{check, check_bytes, check_len, check_text, check_that};
-use std::test::Fail;
 use wasm_custom::{IndirectNameMap, NameMap, NameSection};
 
 #[test]
-fn module(rt: HostRuntime) -> Result<(), Fail> {
+fn module(rt: HostRuntime) {
     let mut section = NameSection::new(rt.alloc());
     check_len(&rt, section.len(), section.is_empty(), 0);
-    check(&rt, rt.alloc(), &section, b"\x05\x04name")?;
-    section.module("m")?;
+    check(&rt, rt.alloc(), &section, b"\x05\x04name");
+    section.module("m").expect(&rt, "accepted");
     check_len(&rt, section.len(), section.is_empty(), 1);
-    check(&rt, rt.alloc(), &section, b"\x09\x04name\x00\x02\x01m")?;
-    section.raw(20, &[9])?;
+    check(&rt, rt.alloc(), &section, b"\x09\x04name\x00\x02\x01m");
+    section.raw(20, &[9]).expect(&rt, "accepted");
     check(
         &rt,
         rt.alloc(),
-        &section.clone()?,
+        &section.clone().expect(&rt, "accepted"),
         b"\x0C\x04name\x00\x02\x01m\x14\x01\x09",
     )
 }
 
 #[test]
-fn raw(rt: HostRuntime) -> Result<(), Fail> {
+fn raw(rt: HostRuntime) {
     let mut section = NameSection::new(rt.alloc());
-    section.raw(20, &[9])?;
+    section.raw(20, &[9]).expect(&rt, "accepted");
     check(&rt, rt.alloc(), &section, b"\x08\x04name\x14\x01\x09")
 }
 
 #[test]
-fn as_custom(rt: HostRuntime) -> Result<(), Fail> {
+fn as_custom(rt: HostRuntime) {
     let mut section = NameSection::new(rt.alloc());
-    section.module("m")?;
+    section.module("m").expect(&rt, "accepted");
     let custom = section.as_custom();
     check_bytes(&rt, custom.name.as_str().as_bytes(), b"name");
     check_bytes(&rt, custom.bytes.as_slice(), b"\x00\x02\x01m");
@@ -38,23 +37,33 @@ fn as_custom(rt: HostRuntime) -> Result<(), Fail> {
 }
 
 #[test]
-fn entries_of_maps(rt: HostRuntime) -> Result<(), Fail> {
+fn entries_of_maps(rt: HostRuntime) {
     let mut map = NameMap::new(rt.alloc());
     check_that(&rt, map.is_empty());
-    check_text(&rt, rt.alloc(), &map, &[0])?;
-    map.append(300, "b")?;
-    map.append(2, "")?;
+    check_text(&rt, rt.alloc(), &map, &[0]);
+    map.append(300, "b").expect(&rt, "accepted");
+    map.append(2, "").expect(&rt, "accepted");
     map.holds();
     check_len(&rt, map.len(), map.is_empty(), 2);
-    check_text(&rt, rt.alloc(), &map.clone()?, b"\x02\xAC\x02\x01b\x02\x00")
+    check_text(
+        &rt,
+        rt.alloc(),
+        &map.clone().expect(&rt, "accepted"),
+        b"\x02\xAC\x02\x01b\x02\x00",
+    )
 }
 
 #[test]
-fn entries_of_indirect_maps(rt: HostRuntime) -> Result<(), Fail> {
+fn entries_of_indirect_maps(rt: HostRuntime) {
     let mut map = IndirectNameMap::new(rt.alloc());
     check_len(&rt, map.len(), map.is_empty(), 0);
     let inner: NameMap = NameMap::new(rt.alloc());
-    map.append(300, &inner)?;
+    map.append(300, &inner).expect(&rt, "accepted");
     check_len(&rt, map.len(), map.is_empty(), 1);
-    check_text(&rt, rt.alloc(), &map.clone()?, &[1, 0xAC, 0x02, 0])
+    check_text(
+        &rt,
+        rt.alloc(),
+        &map.clone().expect(&rt, "accepted"),
+        &[1, 0xAC, 0x02, 0],
+    )
 }

@@ -2,7 +2,6 @@
 use crate::checks::{Heap, MOST, check_answer, check_bytes, check_refused, check_that};
 use std::alloc::Global;
 use std::process::Abort;
-use std::test::Fail;
 use test_support::Refusing;
 use wasm_base::{Encode, R, Section};
 use wasm_custom::{
@@ -15,37 +14,26 @@ use wasm_custom::{
 type LentEntries<'h, K> = CustomEntries<K, &'h Refusing<Global>>;
 
 /// The item is written as these bytes, where no request is refused.
-pub(crate) fn check_written<T: Encode>(
-    rt: &impl Abort,
-    heap: Heap<'_>,
-    item: &T,
-    expected: &[u8],
-) -> Result<(), Fail> {
+pub(crate) fn check_written<T: Encode>(rt: &impl Abort, heap: Heap<'_>, item: &T, expected: &[u8]) {
     heap.refuse(0);
     let mut sink = Vec::new(heap);
-    item.encode(&mut sink)?;
+    item.encode(&mut sink).expect(rt, "accepted");
     check_bytes(rt, &sink, expected);
-    Ok(())
 }
 
 /// `encode` takes memory once, and none where the sink has room.
-pub(crate) fn check_encode<T: Encode>(
-    rt: &impl Abort,
-    heap: Heap<'_>,
-    item: &T,
-) -> Result<(), Fail> {
+pub(crate) fn check_encode<T: Encode>(rt: &impl Abort, heap: Heap<'_>, item: &T) {
     let mut sink = Vec::new(heap);
     heap.refuse(1);
     check_refused(rt, item.encode(&mut sink).err());
     check_bytes(rt, &sink, &[]);
     heap.refuse(2);
-    item.encode(&mut sink)?;
+    item.encode(&mut sink).expect(rt, "accepted");
     check_that(rt, heap.is_waiting());
     sink.clear();
     heap.refuse(1);
-    item.encode(&mut sink)?;
+    item.encode(&mut sink).expect(rt, "accepted");
     check_that(rt, heap.is_waiting());
-    Ok(())
 }
 
 /// The sink held the byte 7, and then the id of custom sections, or nothing.
@@ -56,20 +44,16 @@ fn check_id(rt: &impl Abort, granted: bool, sink: &[u8]) {
 }
 
 /// `append_to`
-pub(crate) fn check_append_to<S: Section>(
-    rt: &impl Abort,
-    heap: Heap<'_>,
-    section: &S,
-) -> Result<(), Fail> {
+pub(crate) fn check_append_to<S: Section>(rt: &impl Abort, heap: Heap<'_>, section: &S) {
     for nth in 1..MOST {
         heap.refuse(0);
-        let mut sink = Vec::from_slice(heap, &[7])?;
+        let mut sink = Vec::from_slice(heap, &[7]).expect(rt, "accepted");
         heap.refuse(nth);
         let answer = section.append_to(&mut sink);
         let granted = check_answer(rt, heap, nth, answer);
         check_id(rt, granted, &sink);
         if granted {
-            return Ok(());
+            return;
         }
     }
     panic!(rt; "no call was granted")
@@ -87,7 +71,7 @@ fn check_adding<'h, K: CustomKind, F: Fn(&mut LentEntries<'h, K>) -> R<()>>(
     empty: &[u8],
     expected: &[u8],
     add: F,
-) -> Result<(), Fail>
+)
     requires { F.IsAlwaysCallable add }
 {
     for nth in 1..MOST {
@@ -96,7 +80,7 @@ fn check_adding<'h, K: CustomKind, F: Fn(&mut LentEntries<'h, K>) -> R<()>>(
         let answer = add(&mut section);
         let granted = check_answer(rt, heap, nth, answer);
         check_number(rt, granted, section.len());
-        check_written(rt, heap, &section, if granted { expected } else { empty })?;
+        check_written(rt, heap, &section, if granted { expected } else { empty });
         if granted {
             return check_whole(rt, heap, &section, expected);
         }
@@ -110,13 +94,13 @@ fn check_whole<'h, K: CustomKind>(
     heap: Heap<'h>,
     section: &LentEntries<'h, K>,
     expected: &[u8],
-) -> Result<(), Fail> {
-    check_encode(rt, heap, section)?;
-    check_append_to(rt, heap, section)?;
+) {
+    check_encode(rt, heap, section);
+    check_append_to(rt, heap, section);
     for nth in 1..MOST {
         heap.refuse(nth);
-        if check_copy(rt, heap, nth, section.clone(), expected)? {
-            return Ok(());
+        if check_copy(rt, heap, nth, section.clone(), expected) {
+            return;
         }
     }
     panic!(rt; "no call was granted")
@@ -129,14 +113,14 @@ pub(crate) fn check_copy<T: Encode + Drop>(
     nth: u64,
     copy: R<T>,
     expected: &[u8],
-) -> Result<bool, Fail> {
+) -> bool {
     match copy {
         Ok(item) => {
             let granted = check_answer(rt, heap, nth, Ok(()));
-            check_written(rt, heap, &item, expected)?;
-            Ok(granted)
+            check_written(rt, heap, &item, expected);
+            granted
         }
-        Err(refused) => Ok(check_answer(rt, heap, nth, Err(refused))),
+        Err(refused) => check_answer(rt, heap, nth, Err(refused)),
     }
 }
 
@@ -154,7 +138,7 @@ fn check_member<L: Encode + Drop, N: Fn() -> L, F: Fn(&mut L) -> R<()>, C: Fn(&L
     heap: Heap<'_>,
     expected: &[u8],
     calls: &Calls<N, F, C>,
-) -> Result<(), Fail>
+)
     requires new { N.IsAlwaysCallable calls.now.new }
     requires add { F.IsAlwaysCallable calls.now.add }
     requires copy { C.IsAlwaysCallable calls.now.copy }
@@ -164,9 +148,9 @@ fn check_member<L: Encode + Drop, N: Fn() -> L, F: Fn(&mut L) -> R<()>, C: Fn(&L
         heap.refuse(nth);
         let answer = (calls.add)(&mut list);
         let granted = check_answer(rt, heap, nth, answer);
-        check_written(rt, heap, &list, if granted { expected } else { &[0] })?;
+        check_written(rt, heap, &list, if granted { expected } else { &[0] });
         if granted {
-            check_encode(rt, heap, &list)?;
+            check_encode(rt, heap, &list);
             return check_copies(rt, heap, &list, expected, &calls.copy);
         }
     }
@@ -180,20 +164,20 @@ fn check_copies<L: Encode + Drop, C: Fn(&L) -> R<L>>(
     item: &L,
     expected: &[u8],
     copy: &C,
-) -> Result<(), Fail>
+)
     requires { C.IsAlwaysCallable copy.now }
 {
     for nth in 1..MOST {
         heap.refuse(nth);
-        if check_copy(rt, heap, nth, copy(item), expected)? {
-            return Ok(());
+        if check_copy(rt, heap, nth, copy(item), expected) {
+            return;
         }
     }
     panic!(rt; "no call was granted")
 }
 
 #[test]
-fn name_maps(rt: HostRuntime) -> Result<(), Fail> {
+fn name_maps(rt: HostRuntime) {
     let heap = Refusing::new(rt.alloc());
     check_member(
         &rt,
@@ -208,10 +192,10 @@ fn name_maps(rt: HostRuntime) -> Result<(), Fail> {
 }
 
 #[test]
-fn indirect_name_maps(rt: HostRuntime) -> Result<(), Fail> {
+fn indirect_name_maps(rt: HostRuntime) {
     let heap = Refusing::new(rt.alloc());
     let mut inner: NameMap = NameMap::new(rt.alloc());
-    inner.append(1, "x")?;
+    inner.append(1, "x").expect(&rt, "accepted");
     check_member(
         &rt,
         &heap,
@@ -225,7 +209,7 @@ fn indirect_name_maps(rt: HostRuntime) -> Result<(), Fail> {
 }
 
 #[test]
-fn producers_fields(rt: HostRuntime) -> Result<(), Fail> {
+fn producers_fields(rt: HostRuntime) {
     let heap = Refusing::new(rt.alloc());
     check_member(
         &rt,
@@ -264,7 +248,7 @@ fn add_symbol(symbols: &mut SymbolTable<Heap<'_>>, place: usize) -> R<()> {
 }
 
 #[test]
-fn symbol_tables(rt: HostRuntime) -> Result<(), Fail> {
+fn symbol_tables(rt: HostRuntime) {
     let heap = Refusing::new(rt.alloc());
     for (place, row) in TABLES.iter().enumerate() {
         heap.refuse(0);
@@ -277,15 +261,14 @@ fn symbol_tables(rt: HostRuntime) -> Result<(), Fail> {
                 add: |symbols: &mut SymbolTable<_>| add_symbol(symbols, place),
                 copy: |symbols: &SymbolTable<_>| symbols.clone(),
             },
-        )?;
+        );
     }
-    Ok(())
 }
 
 const NO_NAMES: [u8; 6] = [5, 4, b'n', b'a', b'm', b'e'];
 
 #[test]
-fn module_names(rt: HostRuntime) -> Result<(), Fail> {
+fn module_names(rt: HostRuntime) {
     let heap = Refusing::new(rt.alloc());
     check_adding(
         &rt,
@@ -293,7 +276,7 @@ fn module_names(rt: HostRuntime) -> Result<(), Fail> {
         &NO_NAMES,
         b"\x09\x04name\x00\x02\x01m",
         |section: &mut NameSection<_>| section.module("m"),
-    )?;
+    );
     check_adding(
         &rt,
         &heap,
@@ -304,7 +287,7 @@ fn module_names(rt: HostRuntime) -> Result<(), Fail> {
 }
 
 /// The map {0: "t"}.
-fn one_name(alloc: Global) -> Result<NameMap, Fail> {
+fn one_name(alloc: Global) -> R<NameMap> {
     let mut map = NameMap::new(alloc);
     map.append(0, "t")?;
     Ok(map)
@@ -334,9 +317,9 @@ fn add_map(names: &mut NameSection<Heap<'_>>, map: &NameMap, place: usize) -> R<
 }
 
 #[test]
-fn names(rt: HostRuntime) -> Result<(), Fail> {
+fn names(rt: HostRuntime) {
     let heap = Refusing::new(rt.alloc());
-    let map = one_name(rt.alloc())?;
+    let map = one_name(rt.alloc()).expect(&rt, "accepted");
     for (place, id) in MAP_IDS.iter().enumerate() {
         check_adding(
             &rt,
@@ -344,13 +327,12 @@ fn names(rt: HostRuntime) -> Result<(), Fail> {
             &NO_NAMES,
             &map_bytes(*id),
             |names: &mut NameSection<_>| add_map(names, &map, place),
-        )?;
+        );
     }
-    Ok(())
 }
 
 /// The map {0: {1: "x"}}.
-fn one_name_inside(alloc: Global) -> Result<IndirectNameMap, Fail> {
+fn one_name_inside(alloc: Global) -> R<IndirectNameMap> {
     let mut inner: NameMap = NameMap::new(alloc);
     inner.append(1, "x")?;
     let mut map = IndirectNameMap::new(alloc);
@@ -382,9 +364,9 @@ fn add_indirect_map(
 }
 
 #[test]
-fn indirect_names(rt: HostRuntime) -> Result<(), Fail> {
+fn indirect_names(rt: HostRuntime) {
     let heap = Refusing::new(rt.alloc());
-    let map = one_name_inside(rt.alloc())?;
+    let map = one_name_inside(rt.alloc()).expect(&rt, "accepted");
     for (place, id) in INDIRECT_IDS.iter().enumerate() {
         check_adding(
             &rt,
@@ -392,13 +374,12 @@ fn indirect_names(rt: HostRuntime) -> Result<(), Fail> {
             &NO_NAMES,
             &indirect_map_bytes(*id),
             |names: &mut NameSection<_>| add_indirect_map(names, &map, place),
-        )?;
+        );
     }
-    Ok(())
 }
 
 #[test]
-fn linking(rt: HostRuntime) -> Result<(), Fail> {
+fn linking(rt: HostRuntime) {
     let heap = Refusing::new(rt.alloc());
     check_adding(
         &rt,
@@ -410,10 +391,10 @@ fn linking(rt: HostRuntime) -> Result<(), Fail> {
 }
 
 #[test]
-fn linked_symbols(rt: HostRuntime) -> Result<(), Fail> {
+fn linked_symbols(rt: HostRuntime) {
     let heap = Refusing::new(rt.alloc());
     let mut symbols: SymbolTable = SymbolTable::new(rt.alloc());
-    symbols.function(0x10, 0, None)?;
+    symbols.function(0x10, 0, None).expect(&rt, "accepted");
     check_adding(
         &rt,
         &heap,
@@ -424,10 +405,10 @@ fn linked_symbols(rt: HostRuntime) -> Result<(), Fail> {
 }
 
 #[test]
-fn producers(rt: HostRuntime) -> Result<(), Fail> {
+fn producers(rt: HostRuntime) {
     let heap = Refusing::new(rt.alloc());
     let mut field: ProducersField = ProducersField::new(rt.alloc());
-    field.value("a", "1")?;
+    field.value("a", "1").expect(&rt, "accepted");
     check_adding(
         &rt,
         &heap,
@@ -443,7 +424,7 @@ const HINT: BranchHint = BranchHint {
 };
 
 #[test]
-fn hints(rt: HostRuntime) -> Result<(), Fail> {
+fn hints(rt: HostRuntime) {
     let heap = Refusing::new(rt.alloc());
     check_adding(
         &rt,
@@ -455,7 +436,7 @@ fn hints(rt: HostRuntime) -> Result<(), Fail> {
 }
 
 #[test]
-fn modules(rt: HostRuntime) -> Result<(), Fail> {
+fn modules(rt: HostRuntime) {
     let heap = Refusing::new(rt.alloc());
     check_adding(
         &rt,
@@ -467,7 +448,7 @@ fn modules(rt: HostRuntime) -> Result<(), Fail> {
 }
 
 #[test]
-fn instances(rt: HostRuntime) -> Result<(), Fail> {
+fn instances(rt: HostRuntime) {
     let heap = Refusing::new(rt.alloc());
     check_adding(
         &rt,

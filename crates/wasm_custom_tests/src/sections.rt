@@ -2,8 +2,7 @@
 use crate::checks::{check, check_len, check_text, check_that};
 use std::alloc::Global;
 use std::process::Abort;
-use std::test::Fail;
-use wasm_base::{CowSlice, CowStr};
+use wasm_base::{CowSlice, CowStr, R};
 use wasm_custom::{
     BranchHint, BranchHints, CustomSection, DataSymbolDefinition, LinkingSection, ProducersField,
     ProducersSection, RawCustomSection, SymbolTable, laws,
@@ -15,18 +14,18 @@ const TEST: CustomSection<'static> = CustomSection {
 };
 
 #[test]
-fn custom(rt: HostRuntime) -> Result<(), Fail> {
-    check(&rt, rt.alloc(), &TEST, b"\x09\x04test\x0B\x16\x21\x2C")?;
+fn custom(rt: HostRuntime) {
+    check(&rt, rt.alloc(), &TEST, b"\x09\x04test\x0B\x16\x21\x2C");
     let empty: CustomSection<'_> = CustomSection {
         name: CowStr::Borrowed(""),
         bytes: CowSlice::Borrowed(&[]),
     };
-    check(&rt, rt.alloc(), &empty, &[1, 0])?;
+    check(&rt, rt.alloc(), &empty, &[1, 0]);
     check(&rt, rt.alloc(), &RawCustomSection(&[2, 0, 9]), &[2, 0, 9])
 }
 
 /// A custom section whose name and data are owned.
-fn owned(alloc: Global, name: &str, bytes: &[u8]) -> Result<CustomSection<'static>, Fail> {
+fn owned(alloc: Global, name: &str, bytes: &[u8]) -> R<CustomSection<'static>> {
     Ok(CustomSection {
         name: CowStr::Owned(String::from_str(alloc, name)?),
         bytes: CowSlice::Owned(Vec::from_slice(alloc, bytes)?),
@@ -34,61 +33,59 @@ fn owned(alloc: Global, name: &str, bytes: &[u8]) -> Result<CustomSection<'stati
 }
 
 #[test]
-fn equal_custom_sections(rt: HostRuntime) -> Result<(), Fail> {
-    let section = owned(rt.alloc(), "test", &[11, 22, 33, 44])?;
+fn equal_custom_sections(rt: HostRuntime) {
+    let section = owned(rt.alloc(), "test", &[11, 22, 33, 44]).expect(&rt, "accepted");
     check_that(&rt, section == TEST);
-    check_that(&rt, section.clone()? == section);
+    check_that(&rt, section.clone().expect(&rt, "accepted") == section);
     check(&rt, rt.alloc(), &section, b"\x09\x04test\x0B\x16\x21\x2C")
 }
 
 #[test]
-fn unequal_custom_sections(rt: HostRuntime) -> Result<(), Fail> {
-    let section = owned(rt.alloc(), "tes", &[11, 22, 33, 44])?;
+fn unequal_custom_sections(rt: HostRuntime) {
+    let section = owned(rt.alloc(), "tes", &[11, 22, 33, 44]).expect(&rt, "accepted");
     check_that(&rt, section != TEST);
-    let section = owned(rt.alloc(), "test", &[11, 22, 33])?;
+    let section = owned(rt.alloc(), "test", &[11, 22, 33]).expect(&rt, "accepted");
     check_that(&rt, section != TEST);
-    Ok(())
 }
 
 /// The linking section of this table is written as these bytes.
-fn check_table(
-    rt: &impl Abort,
-    alloc: Global,
-    symbols: &SymbolTable,
-    expected: &[u8],
-) -> Result<(), Fail> {
+fn check_table(rt: &impl Abort, alloc: Global, symbols: &SymbolTable, expected: &[u8]) {
     let mut section = LinkingSection::new(alloc);
-    section.symbol_table(symbols)?;
+    section.symbol_table(symbols).expect(rt, "accepted");
     check(rt, alloc, &section, expected)
 }
 
 #[test]
-fn linking(rt: HostRuntime) -> Result<(), Fail> {
+fn linking(rt: HostRuntime) {
     let mut section = LinkingSection::new(rt.alloc());
     check_len(&rt, section.len(), section.is_empty(), 0);
-    check(&rt, rt.alloc(), &section, b"\x09\x07linking\x02")?;
-    section.target_arch("wasm32")?;
+    check(&rt, rt.alloc(), &section, b"\x09\x07linking\x02");
+    section.target_arch("wasm32").expect(&rt, "accepted");
     check_len(&rt, section.len(), section.is_empty(), 1);
     check(
         &rt,
         rt.alloc(),
-        &section.clone()?,
+        &section.clone().expect(&rt, "accepted"),
         b"\x12\x07linking\x02\x09\x07\x06wasm32",
     )
 }
 
 #[test]
-fn function_symbols(rt: HostRuntime) -> Result<(), Fail> {
+fn function_symbols(rt: HostRuntime) {
     let mut symbols = SymbolTable::new(rt.alloc());
-    symbols.function(0x22, 42, Some("my_exported_func"))?;
+    symbols
+        .function(0x22, 42, Some("my_exported_func"))
+        .expect(&rt, "accepted");
     check_table(
         &rt,
         rt.alloc(),
         &symbols,
         b"\x20\x07linking\x02\x08\x15\x01\x00\x22\x2A\x10my_exported_func",
-    )?;
+    );
     let mut symbols = SymbolTable::new(rt.alloc());
-    symbols.function(SymbolTable::WASM_SYM_UNDEFINED, 0, None)?;
+    symbols
+        .function(SymbolTable::WASM_SYM_UNDEFINED, 0, None)
+        .expect(&rt, "accepted");
     check_table(
         &rt,
         rt.alloc(),
@@ -98,10 +95,10 @@ fn function_symbols(rt: HostRuntime) -> Result<(), Fail> {
 }
 
 #[test]
-fn function_without_name(rt: HostRuntime) -> Result<(), Fail> {
+fn function_without_name(rt: HostRuntime) {
     laws::nothing_stands();
     let mut symbols = SymbolTable::new(rt.alloc());
-    symbols.function(0, 1, None)?;
+    symbols.function(0, 1, None).expect(&rt, "accepted");
     check_table(
         &rt,
         rt.alloc(),
@@ -111,16 +108,16 @@ fn function_without_name(rt: HostRuntime) -> Result<(), Fail> {
 }
 
 #[test]
-fn globals_and_tables(rt: HostRuntime) -> Result<(), Fail> {
+fn globals_and_tables(rt: HostRuntime) {
     let mut symbols = SymbolTable::new(rt.alloc());
     check_len(&rt, symbols.len(), symbols.is_empty(), 0);
-    symbols.global(0x10, 1, None)?;
-    symbols.table(0x80, 2, Some("t"))?;
+    symbols.global(0x10, 1, None).expect(&rt, "accepted");
+    symbols.table(0x80, 2, Some("t")).expect(&rt, "accepted");
     check_len(&rt, symbols.len(), symbols.is_empty(), 2);
     check_text(
         &rt,
         rt.alloc(),
-        &symbols.clone()?,
+        &symbols.clone().expect(&rt, "accepted"),
         b"\x02\x02\x10\x01\x05\x80\x01\x02\x01t",
     )
 }
@@ -132,18 +129,20 @@ const DEFINITION: DataSymbolDefinition = DataSymbolDefinition {
 };
 
 #[test]
-fn data_symbols(rt: HostRuntime) -> Result<(), Fail> {
-    check_text(&rt, rt.alloc(), &DEFINITION, &[1, 2, 3])?;
+fn data_symbols(rt: HostRuntime) {
+    check_text(&rt, rt.alloc(), &DEFINITION, &[1, 2, 3]);
     let mut symbols = SymbolTable::new(rt.alloc());
-    symbols.data(0, "d", Some(DEFINITION))?;
+    symbols
+        .data(0, "d", Some(DEFINITION))
+        .expect(&rt, "accepted");
     check_table(
         &rt,
         rt.alloc(),
         &symbols,
         b"\x13\x07linking\x02\x08\x08\x01\x01\x00\x01d\x01\x02\x03",
-    )?;
+    );
     let mut symbols = SymbolTable::new(rt.alloc());
-    symbols.data(0x10, "d", None)?;
+    symbols.data(0x10, "d", None).expect(&rt, "accepted");
     check_text(&rt, rt.alloc(), &symbols, b"\x01\x01\x10\x01d")
 }
 
@@ -167,37 +166,39 @@ fn flags(rt: HostRuntime) {
 }
 
 #[test]
-fn producers(rt: HostRuntime) -> Result<(), Fail> {
+fn producers(rt: HostRuntime) {
     let mut field = ProducersField::new(rt.alloc());
     check_len(&rt, field.len(), field.is_empty(), 0);
-    field.value("clang", "14.0.4")?;
-    field.value("rustc", "1.66.1")?;
+    field.value("clang", "14.0.4").expect(&rt, "accepted");
+    field.value("rustc", "1.66.1").expect(&rt, "accepted");
     check_len(&rt, field.len(), field.is_empty(), 2);
     let mut section = ProducersSection::new(rt.alloc());
-    section.field("processed-by", &field.clone()?)?;
+    section
+        .field("processed-by", &field.clone().expect(&rt, "accepted"))
+        .expect(&rt, "accepted");
     check_len(&rt, section.len(), section.is_empty(), 1);
     check(
         &rt,
         rt.alloc(),
-        &section.clone()?,
+        &section.clone().expect(&rt, "accepted"),
         b"\x33\x09producers\x01\x0Cprocessed-by\x02\x05clang\x0614.0.4\x05rustc\x061.66.1",
     )
 }
 
 /// A section of one hint is written as these bytes.
-fn check_hint(rt: &impl Abort, alloc: Global, value: u32, expected: &[u8]) -> Result<(), Fail> {
+fn check_hint(rt: &impl Abort, alloc: Global, value: u32, expected: &[u8]) {
     let hint = BranchHint {
         branch_func_offset: 3,
         branch_hint_value: value,
     };
     let mut section = BranchHints::new(alloc);
-    section.function_hints(0, [hint])?;
+    section.function_hints(0, [hint]).expect(rt, "accepted");
     check_len(rt, section.len(), section.is_empty(), 1);
     check(rt, alloc, &section, expected)
 }
 
 #[test]
-fn hints(rt: HostRuntime) -> Result<(), Fail> {
+fn hints(rt: HostRuntime) {
     let section = BranchHints::new(rt.alloc());
     check_len(&rt, section.len(), section.is_empty(), 0);
     check_hint(
@@ -205,7 +206,7 @@ fn hints(rt: HostRuntime) -> Result<(), Fail> {
         rt.alloc(),
         1,
         b"\x20\x19metadata.code.branch_hint\x01\x00\x01\x03\x01\x01",
-    )?;
+    );
     check_hint(
         &rt,
         rt.alloc(),
@@ -215,7 +216,7 @@ fn hints(rt: HostRuntime) -> Result<(), Fail> {
 }
 
 #[test]
-fn single_hint(rt: HostRuntime) -> Result<(), Fail> {
+fn single_hint(rt: HostRuntime) {
     laws::sections();
     laws::wide();
     laws::calls();

@@ -3,7 +3,6 @@ use crate::checks::{Heap, MOST, check_answer};
 use crate::refusals::{check_append_to, check_copy, check_encode, check_written};
 use std::alloc::Global;
 use std::process::Abort;
-use std::test::Fail;
 use test_support::Refusing;
 use wasm_base::{CowSlice, CowStr, Encode, R};
 use wasm_custom::{
@@ -17,13 +16,13 @@ fn check_made<'h, T: Encode + Drop, F: Fn() -> R<T>>(
     heap: Heap<'h>,
     expected: &[u8],
     make: F,
-) -> Result<(), Fail>
+)
     requires { F.IsAlwaysCallable make }
 {
     for nth in 1..MOST {
         heap.refuse(nth);
-        if check_copy(rt, heap, nth, make(), expected)? {
-            return Ok(());
+        if check_copy(rt, heap, nth, make(), expected) {
+            return;
         }
     }
     panic!(rt; "no call was granted")
@@ -32,44 +31,44 @@ fn check_made<'h, T: Encode + Drop, F: Fn() -> R<T>>(
 const PROCESS: &[u8] = b"\x0B\x04core\x00\x04test";
 
 #[test]
-fn process(rt: HostRuntime) -> Result<(), Fail> {
+fn process(rt: HostRuntime) {
     let heap = Refusing::new(rt.alloc());
     check_made(&rt, &heap, PROCESS, || CoreDumpSection::new(&heap, "test"))
 }
 
 #[test]
-fn copied_process(rt: HostRuntime) -> Result<(), Fail> {
+fn copied_process(rt: HostRuntime) {
     let heap = Refusing::new(rt.alloc());
-    let section = CoreDumpSection::new(&heap, "test")?;
-    check_encode(&rt, &heap, &section)?;
-    check_append_to(&rt, &heap, &section)?;
+    let section = CoreDumpSection::new(&heap, "test").expect(&rt, "accepted");
+    check_encode(&rt, &heap, &section);
+    check_append_to(&rt, &heap, &section);
     check_made(&rt, &heap, PROCESS, || section.clone())
 }
 
 const MODULES: &[u8] = b"\x13\x0Bcoremodules\x01\x00\x04mod1";
 
 #[test]
-fn custom_modules(rt: HostRuntime) -> Result<(), Fail> {
+fn custom_modules(rt: HostRuntime) {
     let heap = Refusing::new(rt.alloc());
     let mut section: CoreDumpModulesSection = CoreDumpModulesSection::new(rt.alloc());
-    section.module("mod1")?;
+    section.module("mod1").expect(&rt, "accepted");
     check_made(&rt, &heap, MODULES, || section.as_custom(&heap))
 }
 
 const INSTANCES: &[u8] = b"\x15\x0Dcoreinstances\x01\x00\x00\x01\x2A\x01\x11";
 
 #[test]
-fn custom_instances(rt: HostRuntime) -> Result<(), Fail> {
+fn custom_instances(rt: HostRuntime) {
     let heap = Refusing::new(rt.alloc());
     let mut section: CoreDumpInstancesSection = CoreDumpInstancesSection::new(rt.alloc());
-    section.instance(0, [42], [17])?;
+    section.instance(0, [42], [17]).expect(&rt, "accepted");
     check_made(&rt, &heap, INSTANCES, || section.as_custom(&heap))
 }
 
 const EMPTY_STACK: &[u8] = b"\x11\x09corestack\x00\x04main\x00";
 
 #[test]
-fn stack(rt: HostRuntime) -> Result<(), Fail> {
+fn stack(rt: HostRuntime) {
     let heap = Refusing::new(rt.alloc());
     check_made(&rt, &heap, EMPTY_STACK, || {
         CoreDumpStackSection::new(&heap, "main")
@@ -84,11 +83,11 @@ fn add_frame(section: &mut CoreDumpStackSection<Heap<'_>>) -> R<()> {
 }
 
 #[test]
-fn frames(rt: HostRuntime) -> Result<(), Fail> {
+fn frames(rt: HostRuntime) {
     let heap = Refusing::new(rt.alloc());
     for nth in 1..MOST {
         heap.refuse(0);
-        let mut section = CoreDumpStackSection::new(&heap, "main")?;
+        let mut section = CoreDumpStackSection::new(&heap, "main").expect(&rt, "accepted");
         heap.refuse(nth);
         let answer = add_frame(&mut section);
         let granted = check_answer(&rt, &heap, nth, answer);
@@ -97,7 +96,7 @@ fn frames(rt: HostRuntime) -> Result<(), Fail> {
             &heap,
             &section,
             if granted { STACK } else { EMPTY_STACK },
-        )?;
+        );
         if granted {
             return check_stack(&rt, &heap, &section);
         }
@@ -106,35 +105,31 @@ fn frames(rt: HostRuntime) -> Result<(), Fail> {
 }
 
 /// What is done with a stack.
-fn check_stack<'h>(
-    rt: &impl Abort,
-    heap: Heap<'h>,
-    section: &CoreDumpStackSection<Heap<'h>>,
-) -> Result<(), Fail> {
-    check_encode(rt, heap, section)?;
-    check_append_to(rt, heap, section)?;
-    check_made(rt, heap, STACK, || section.clone())?;
+fn check_stack<'h>(rt: &impl Abort, heap: Heap<'h>, section: &CoreDumpStackSection<Heap<'h>>) {
+    check_encode(rt, heap, section);
+    check_append_to(rt, heap, section);
+    check_made(rt, heap, STACK, || section.clone());
     check_made(rt, heap, STACK, || section.as_custom(heap))
 }
 
 #[test]
-fn custom(rt: HostRuntime) -> Result<(), Fail> {
+fn custom(rt: HostRuntime) {
     let heap = Refusing::new(rt.alloc());
     let section = CustomSection {
-        name: CowStr::Owned(String::from_str(&heap, "test")?),
-        bytes: CowSlice::Owned(Vec::from_slice(&heap, &[11, 22, 33, 44])?),
+        name: CowStr::Owned(String::from_str(&heap, "test").expect(&rt, "accepted")),
+        bytes: CowSlice::Owned(Vec::from_slice(&heap, &[11, 22, 33, 44]).expect(&rt, "accepted")),
     };
-    check_encode(&rt, &heap, &section)?;
-    check_append_to(&rt, &heap, &section)?;
+    check_encode(&rt, &heap, &section);
+    check_append_to(&rt, &heap, &section);
     check_made(&rt, &heap, b"\x09\x04test\x0B\x16\x21\x2C", || {
         section.clone()
     })
 }
 
 #[test]
-fn raw_custom(rt: HostRuntime) -> Result<(), Fail> {
+fn raw_custom(rt: HostRuntime) {
     let heap = Refusing::new(rt.alloc());
-    check_encode(&rt, &heap, &RawCustomSection(&[1, 0]))?;
+    check_encode(&rt, &heap, &RawCustomSection(&[1, 0]));
     check_append_to(&rt, &heap, &RawCustomSection(&[1, 0]))
 }
 
@@ -145,21 +140,16 @@ fn check_sink(rt: &impl Abort, granted: bool, sink: &[u8], expected: &[u8]) {
 }
 
 /// `encode` of a part appends these bytes. Where a request is refused, the sink is as it was.
-fn check_part<T: Encode>(
-    rt: &impl Abort,
-    heap: Heap<'_>,
-    part: &T,
-    expected: &[u8],
-) -> Result<(), Fail> {
+fn check_part<T: Encode>(rt: &impl Abort, heap: Heap<'_>, part: &T, expected: &[u8]) {
     for nth in 1..MOST {
         heap.refuse(0);
-        let mut sink = Vec::from_slice(heap, &[7])?;
+        let mut sink = Vec::from_slice(heap, &[7]).expect(rt, "accepted");
         heap.refuse(nth);
         let answer = part.encode(&mut sink);
         let granted = check_answer(rt, heap, nth, answer);
         check_sink(rt, granted, &sink, expected);
         if granted {
-            return Ok(());
+            return;
         }
     }
     panic!(rt; "no call was granted")
@@ -172,14 +162,14 @@ const DEFINITION: DataSymbolDefinition = DataSymbolDefinition {
 };
 
 #[test]
-fn parts(rt: HostRuntime) -> Result<(), Fail> {
+fn parts(rt: HostRuntime) {
     let heap = Refusing::new(rt.alloc());
     let hint = BranchHint {
         branch_func_offset: 3,
         branch_hint_value: 1,
     };
-    check_part(&rt, &heap, &hint, &[3, 1, 1])?;
-    check_part(&rt, &heap, &DEFINITION, &[1, 2, 3])?;
-    check_part(&rt, &heap, &CoreDumpValue::Missing, &[0x01])?;
+    check_part(&rt, &heap, &hint, &[3, 1, 1]);
+    check_part(&rt, &heap, &DEFINITION, &[1, 2, 3]);
+    check_part(&rt, &heap, &CoreDumpValue::Missing, &[0x01]);
     check_part(&rt, &heap, &CoreDumpValue::I64(-1), &[0x7E, 0x7F])
 }

@@ -1,7 +1,6 @@
 // Each call of `wasm_base` once, with ample memory.
 use crate::checks::{check, check_bytes, check_numbers, check_piece};
 use std::process::Abort;
-use std::test::Fail;
 use wasm_base::{
     CORE_FUNCTION_EXACT_SORT, CORE_FUNCTION_SORT, CORE_GLOBAL_SORT, CORE_MEMORY_SORT,
     CORE_TABLE_SORT, CORE_TAG_SORT, Encode, Module, Pieces, RawSection, Refused, Section,
@@ -9,9 +8,9 @@ use wasm_base::{
 };
 
 #[test]
-fn unsigned_numbers(rt: HostRuntime) -> Result<(), Fail> {
-    check(&rt, rt.alloc(), &0xFEu8, &[0xFE])?;
-    check(&rt, rt.alloc(), &300usize, &[0xAC, 0x02])?;
+fn unsigned_numbers(rt: HostRuntime) {
+    check(&rt, rt.alloc(), &0xFEu8, &[0xFE]);
+    check(&rt, rt.alloc(), &300usize, &[0xAC, 0x02]);
     for (n, expected) in [
         (0u32, [0x00].as_slice()),
         (127, &[0x7F]),
@@ -19,8 +18,8 @@ fn unsigned_numbers(rt: HostRuntime) -> Result<(), Fail> {
         (16384, &[0x80, 0x80, 0x01]),
         (u32::MAX, &[0xFF, 0xFF, 0xFF, 0xFF, 0x0F]),
     ] {
-        check(&rt, rt.alloc(), &n, expected)?;
-        check(&rt, rt.alloc(), &u64::from(n), expected)?;
+        check(&rt, rt.alloc(), &n, expected);
+        check(&rt, rt.alloc(), &u64::from(n), expected);
     }
     check(
         &rt,
@@ -31,7 +30,7 @@ fn unsigned_numbers(rt: HostRuntime) -> Result<(), Fail> {
 }
 
 #[test]
-fn signed_numbers(rt: HostRuntime) -> Result<(), Fail> {
+fn signed_numbers(rt: HostRuntime) {
     for (n, expected) in [
         (63i32, [0x3F].as_slice()),
         (64, &[0xC0, 0x00]),
@@ -40,8 +39,8 @@ fn signed_numbers(rt: HostRuntime) -> Result<(), Fail> {
         (-65, &[0xBF, 0x7F]),
         (i32::MIN, &[0x80, 0x80, 0x80, 0x80, 0x78]),
     ] {
-        check(&rt, rt.alloc(), &n, expected)?;
-        check(&rt, rt.alloc(), &i64::from(n), expected)?;
+        check(&rt, rt.alloc(), &n, expected);
+        check(&rt, rt.alloc(), &i64::from(n), expected);
     }
     check(
         &rt,
@@ -77,41 +76,39 @@ fn lengths_past_32_bits(rt: HostRuntime) {
 }
 
 #[test]
-fn names_and_tuples(rt: HostRuntime) -> Result<(), Fail> {
+fn names_and_tuples(rt: HostRuntime) {
     for (name, expected) in [("", [0].as_slice()), ("m", &[1, b'm'])] {
-        check(&rt, rt.alloc(), &name, expected)?;
+        check(&rt, rt.alloc(), &name, expected);
     }
-    check(&rt, rt.alloc(), &(0x20u8, 128u32), &[0x20, 0x80, 1])?;
+    check(&rt, rt.alloc(), &(0x20u8, 128u32), &[0x20, 0x80, 1]);
     check(&rt, rt.alloc(), &(0x11u8, 1u32, 2u32), &[0x11, 1, 2])
 }
 
 #[test]
-fn vectors(rt: HostRuntime) -> Result<(), Fail> {
-    check(&rt, rt.alloc(), &[1u32, 128].as_slice(), &[2, 1, 0x80, 1])?;
+fn vectors(rt: HostRuntime) {
+    check(&rt, rt.alloc(), &[1u32, 128].as_slice(), &[2, 1, 0x80, 1]);
     check(
         &rt,
         rt.alloc(),
         &["a", "bc"].as_slice(),
         &[2, 1, b'a', 2, b'b', b'c'],
-    )?;
+    );
     let mut sink = Vec::new(rt.alloc());
-    encode_vec([1u32, 128], &mut sink)?;
+    encode_vec([1u32, 128], &mut sink).expect(&rt, "accepted");
     check_bytes(&rt, &sink, &[2, 1, 0x80, 1]);
-    Ok(())
 }
 
 #[test]
-fn frames(rt: HostRuntime) -> Result<(), Fail> {
+fn frames(rt: HostRuntime) {
     let mut sink = Vec::new(rt.alloc());
-    begin_frame(&mut sink, 300)?;
-    encode_frame(&mut sink, &[11, 22])?;
-    encode_section(&mut sink, 1, &[2, 0, 11])?;
+    begin_frame(&mut sink, 300).expect(&rt, "accepted");
+    encode_frame(&mut sink, &[11, 22]).expect(&rt, "accepted");
+    encode_section(&mut sink, 1, &[2, 0, 11]).expect(&rt, "accepted");
     check_bytes(&rt, &sink, &[0xAC, 0x02, 2, 11, 22, 4, 1, 2, 0, 11]);
-    Ok(())
 }
 
 #[test]
-fn sections(rt: HostRuntime) -> Result<(), Fail> {
+fn sections(rt: HostRuntime) {
     let types = RawSection { id: 1, bytes: &[0] };
     assert_eq!(rt; types.id(), 1);
     check(&rt, rt.alloc(), &types, &[1, 0])
@@ -159,38 +156,40 @@ fn check_pieces(rt: &impl Abort, pieces: &Pieces) {
 }
 
 #[test]
-fn pieces(rt: HostRuntime) -> Result<(), Fail> {
+fn pieces(rt: HostRuntime) {
     let mut pieces = Pieces::new(rt.alloc());
-    pieces.add(&[2, 0, 11])?;
-    pieces.add_encoded(&128u32)?;
+    pieces.add(&[2, 0, 11]).expect(&rt, "accepted");
+    pieces.add_encoded(&128u32).expect(&rt, "accepted");
     check_pieces(&rt, &pieces);
-    let copy: Pieces = pieces.clone()?;
+    let copy: Pieces = pieces.clone().expect(&rt, "accepted");
     check_pieces(&rt, &copy);
     check(&rt, rt.alloc(), &pieces, &[6, 2, 2, 0, 11, 0x80, 1])
 }
 
 #[test]
-fn modules(rt: HostRuntime) -> Result<(), Fail> {
-    let mut module = Module::new(rt.alloc())?;
-    module.section(&RawSection { id: 1, bytes: &[0] })?;
-    module.section(&RawSection {
-        id: 10,
-        bytes: &[1, 2],
-    })?;
+fn modules(rt: HostRuntime) {
+    let mut module = Module::new(rt.alloc()).expect(&rt, "accepted");
+    module
+        .section(&RawSection { id: 1, bytes: &[0] })
+        .expect(&rt, "accepted");
+    module
+        .section(&RawSection {
+            id: 10,
+            bytes: &[1, 2],
+        })
+        .expect(&rt, "accepted");
     let expected = b"\0asm\x01\0\0\0\x01\x01\0\x0A\x02\x01\x02";
-    let copy: Module = module.clone()?;
+    let copy: Module = module.clone().expect(&rt, "accepted");
     check_bytes(&rt, &copy.finish(), expected);
     check_bytes(&rt, &module.finish(), expected);
-    Ok(())
 }
 
 #[test]
-fn texts_of_refusals(rt: HostRuntime) -> Result<(), Fail> {
-    let memory = format!(in rt.alloc(); "{}", Refused::Memory)?;
+fn texts_of_refusals(rt: HostRuntime) {
+    let memory = format!(in rt.alloc(); "{}", Refused::Memory).expect(&rt, "accepted");
     assert_eq!(rt; memory.as_str(), "out of memory");
-    let length = format!(in rt.alloc(); "{}", Refused::TooLong)?;
+    let length = format!(in rt.alloc(); "{}", Refused::TooLong).expect(&rt, "accepted");
     assert_eq!(rt; length.as_str(), "too long");
-    Ok(())
 }
 
 #[test]

@@ -2,7 +2,6 @@
 use crate::checks::{MOST, check_bytes, check_call, check_refusals, check_refused};
 use std::alloc::Global;
 use std::process::Abort;
-use std::test::Fail;
 use test_support::Refusing;
 use wasm_base::{
     Encode, Module, Pieces, R, RawSection, Refused, Section, encode_section, encode_vec,
@@ -14,12 +13,12 @@ const TYPES: RawSection<'static> = RawSection {
 };
 
 #[test]
-fn numbers_and_names(rt: HostRuntime) -> Result<(), Fail> {
+fn numbers_and_names(rt: HostRuntime) {
     let alloc = rt.alloc();
-    check_refusals(&rt, alloc, &8u8, &[8])?;
-    check_refusals(&rt, alloc, &i32::MIN, &[0x80, 0x80, 0x80, 0x80, 0x78])?;
-    check_refusals(&rt, alloc, &(0x11u8, 1u32, 300u32), &[0x11, 1, 0xAC, 0x02])?;
-    check_refusals(&rt, alloc, &"processed-by", b"\x0Cprocessed-by")?;
+    check_refusals(&rt, alloc, &8u8, &[8]);
+    check_refusals(&rt, alloc, &i32::MIN, &[0x80, 0x80, 0x80, 0x80, 0x78]);
+    check_refusals(&rt, alloc, &(0x11u8, 1u32, 300u32), &[0x11, 1, 0xAC, 0x02]);
+    check_refusals(&rt, alloc, &"processed-by", b"\x0Cprocessed-by");
     check_refusals(
         &rt,
         alloc,
@@ -29,7 +28,7 @@ fn numbers_and_names(rt: HostRuntime) -> Result<(), Fail> {
 }
 
 #[test]
-fn sections(rt: HostRuntime) -> Result<(), Fail> {
+fn sections(rt: HostRuntime) {
     check_refusals(&rt, rt.alloc(), &TYPES, &[3, 96, 0, 0])
 }
 
@@ -39,14 +38,14 @@ const VECTOR: [u8; 12] = [
 ];
 
 #[test]
-fn calls(rt: HostRuntime) -> Result<(), Fail> {
+fn calls(rt: HostRuntime) {
     let heap = Refusing::new(rt.alloc());
     check_call(&rt, &heap, &[1, 3, 96, 0, 0], |sink: &mut Vec<u8, _>| {
         TYPES.append_to(sink)
-    })?;
+    });
     check_call(&rt, &heap, &[4, 2, 1, 0x80, 1], |sink: &mut Vec<u8, _>| {
         encode_section(sink, 2, &[1, 0x80, 1])
-    })?;
+    });
     check_call(&rt, &heap, &VECTOR, |sink: &mut Vec<u8, _>| {
         encode_vec([1u32, 4294967295, 4294967295], sink)
     })
@@ -54,15 +53,14 @@ fn calls(rt: HostRuntime) -> Result<(), Fail> {
 
 /// Into a sink with room `encode` takes no memory.
 #[test]
-fn a_section_takes_no_request(rt: HostRuntime) -> Result<(), Fail> {
+fn a_section_takes_no_request(rt: HostRuntime) {
     let heap = Refusing::new(rt.alloc());
-    let mut sink = Vec::with_capacity(&heap, 4)?;
+    let mut sink = Vec::with_capacity(&heap, 4).expect(&rt, "accepted");
     heap.refuse_all();
     let answer = TYPES.encode(&mut sink);
     check_taken(&rt, heap.requests(), 0);
-    answer?;
+    answer.expect(&rt, "accepted");
     check_bytes(&rt, &sink, &[3, 96, 0, 0]);
-    Ok(())
 }
 
 /// So many requests were made.
@@ -91,10 +89,10 @@ fn check_module(rt: &impl Abort, granted: bool, answer: R<()>, bytes: &[u8]) -> 
 }
 
 #[test]
-fn modules(rt: HostRuntime) -> Result<(), Fail> {
+fn modules(rt: HostRuntime) {
     let heap = Refusing::new(rt.alloc());
     for nth in 1..MOST {
-        let mut module = Module::new(&heap)?;
+        let mut module = Module::new(&heap).expect(&rt, "accepted");
         heap.refuse(nth);
         let answer = module.section(&TYPES);
         let granted = heap.is_waiting();
@@ -102,7 +100,7 @@ fn modules(rt: HostRuntime) -> Result<(), Fail> {
         check_refused(&rt, module.clone().err());
         let bytes = module.finish();
         if check_module(&rt, granted, answer, &bytes) {
-            return Ok(());
+            return;
         }
     }
     panic!(rt; "no call was granted")
@@ -122,7 +120,7 @@ fn check_pieces(rt: &impl Abort, granted: bool, answer: R<()>, len: u32, bytes: 
 }
 
 /// An adding call, with each request refused in turn.
-fn check_adding(rt: &impl Abort, alloc: Global, encoded: bool) -> Result<(), Fail> {
+fn check_adding(rt: &impl Abort, alloc: Global, encoded: bool) {
     let heap = Refusing::new(alloc);
     for nth in 1..MOST {
         let mut pieces = Pieces::new(&heap);
@@ -134,15 +132,15 @@ fn check_adding(rt: &impl Abort, alloc: Global, encoded: bool) -> Result<(), Fai
         };
         let granted = heap.is_waiting();
         if check_pieces(rt, granted, answer, pieces.len(), pieces.bytes()) {
-            return Ok(());
+            return;
         }
     }
     panic!(rt; "no call was granted")
 }
 
 #[test]
-fn pieces(rt: HostRuntime) -> Result<(), Fail> {
-    check_adding(&rt, rt.alloc(), false)?;
+fn pieces(rt: HostRuntime) {
+    check_adding(&rt, rt.alloc(), false);
     check_adding(&rt, rt.alloc(), true)
 }
 
@@ -153,15 +151,15 @@ fn check_copy(rt: &impl Abort, granted: bool, answer: R<u32>) -> bool {
 }
 
 #[test]
-fn copies_of_pieces(rt: HostRuntime) -> Result<(), Fail> {
+fn copies_of_pieces(rt: HostRuntime) {
     let heap = Refusing::new(rt.alloc());
     let mut pieces = Pieces::new(&heap);
-    pieces.add(&[1])?;
+    pieces.add(&[1]).expect(&rt, "accepted");
     for nth in 1..MOST {
         heap.refuse(nth);
         let answer = pieces.clone().map(|copy| copy.len());
         if check_copy(&rt, heap.is_waiting(), answer) {
-            return Ok(());
+            return;
         }
     }
     panic!(rt; "no call was granted")

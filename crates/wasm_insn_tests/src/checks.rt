@@ -1,7 +1,6 @@
 // What tests compare, over plain data: an assertion beside values that own memory takes far longer to prove.
 use std::alloc::Global;
 use std::process::Abort;
-use std::test::Fail;
 use test_support::Refusing;
 use wasm_base::{Encode, R, Refused};
 
@@ -51,16 +50,10 @@ pub(crate) fn check_piece(rt: &impl Abort, piece: Option<&[u8]>, expected: Optio
 }
 
 /// The item is written as these bytes.
-pub(crate) fn check<T: Encode>(
-    rt: &impl Abort,
-    alloc: Global,
-    item: &T,
-    expected: &[u8],
-) -> Result<(), Fail> {
+pub(crate) fn check<T: Encode>(rt: &impl Abort, alloc: Global, item: &T, expected: &[u8]) {
     let mut sink = Vec::new(alloc);
-    item.encode(&mut sink)?;
+    item.encode(&mut sink).expect(rt, "accepted");
     check_bytes(rt, &sink, expected);
-    Ok(())
 }
 
 /// The text is this.
@@ -69,26 +62,15 @@ fn check_text(rt: &impl Abort, text: &str, expected: &str) {
 }
 
 /// The bytes are these, in hexadecimal.
-pub(crate) fn check_hex(
-    rt: &impl Abort,
-    alloc: Global,
-    bytes: &[u8],
-    row: &str,
-) -> Result<(), Fail> {
-    let text = hex::encode(alloc, bytes)?;
+pub(crate) fn check_hex(rt: &impl Abort, alloc: Global, bytes: &[u8], row: &str) {
+    let text = hex::encode(alloc, bytes).expect(rt, "accepted");
     check_text(rt, text.as_str(), row);
-    Ok(())
 }
 
 /// The item is written as these bytes, in hexadecimal.
-pub(crate) fn check_row<T: Encode>(
-    rt: &impl Abort,
-    alloc: Global,
-    item: &T,
-    row: &str,
-) -> Result<(), Fail> {
+pub(crate) fn check_row<T: Encode>(rt: &impl Abort, alloc: Global, item: &T, row: &str) {
     let mut sink = Vec::new(alloc);
-    item.encode(&mut sink)?;
+    item.encode(&mut sink).expect(rt, "accepted");
     check_hex(rt, alloc, &sink, row)
 }
 
@@ -98,28 +80,23 @@ pub(crate) fn check_call<'h, F: Fn(&mut Vec<u8, Heap<'h>>) -> R<()>>(
     heap: Heap<'h>,
     expected: &[u8],
     call: F,
-) -> Result<(), Fail>
+)
     requires { F.IsAlwaysCallable call }
 {
     for nth in 1..MOST {
         heap.refuse(0);
-        let mut sink = Vec::from_slice(heap, &[7])?;
+        let mut sink = Vec::from_slice(heap, &[7]).expect(rt, "accepted");
         heap.refuse(nth);
         let answer = call(&mut sink);
         if check_sink(rt, heap.is_waiting(), answer, &sink, expected) {
-            return Ok(());
+            return;
         }
     }
     panic!(rt; "no call was granted")
 }
 
 /// The item is written as these bytes, each request for memory refused in turn.
-pub(crate) fn check_refusals<T: Encode>(
-    rt: &impl Abort,
-    alloc: Global,
-    item: &T,
-    expected: &[u8],
-) -> Result<(), Fail> {
+pub(crate) fn check_refusals<T: Encode>(rt: &impl Abort, alloc: Global, item: &T, expected: &[u8]) {
     let heap = Refusing::new(alloc);
     check_call(rt, &heap, expected, |sink: &mut Vec<u8, Heap<'_>>| {
         item.encode(sink)

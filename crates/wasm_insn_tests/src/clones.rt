@@ -2,7 +2,6 @@
 use crate::checks::{Heap, check_refused, check_row};
 use std::alloc::Global;
 use std::process::Abort;
-use std::test::Fail;
 use test_support::Refusing;
 use wasm_base::{CowSlice, R, ValType};
 use wasm_insn::{BlockType, Catch, Handle, Instruction};
@@ -14,10 +13,10 @@ fn check_clone(
     heap: Heap<'_>,
     instruction: &Instruction<'_, Heap<'_>>,
     row: &str,
-) -> Result<(), Fail> {
+) {
     heap.refuse(1);
     check_refused(rt, instruction.clone().err());
-    check_row(rt, alloc, &instruction.clone()?, row)?;
+    check_row(rt, alloc, &instruction.clone().expect(rt, "accepted"), row);
     check_row(rt, alloc, instruction, row)
 }
 
@@ -66,20 +65,30 @@ fn handles<'h>(heap: Heap<'h>) -> R<CowSlice<'static, Handle, Heap<'h>>> {
 }
 
 #[test]
-fn owned_lists(rt: HostRuntime) -> Result<(), Fail> {
+fn owned_lists(rt: HostRuntime) {
     let heap = Refusing::new(rt.alloc());
     for (place, row) in ROWS.iter().enumerate() {
-        check_clone(&rt, rt.alloc(), &heap, &owned(&heap, place)?, row)?;
+        check_clone(
+            &rt,
+            rt.alloc(),
+            &heap,
+            &owned(&heap, place).expect(&rt, "accepted"),
+            row,
+        );
     }
-    Ok(())
 }
 
 /// An instruction that borrows its labels is cloned without memory.
 #[test]
-fn borrowed_labels(rt: HostRuntime) -> Result<(), Fail> {
+fn borrowed_labels(rt: HostRuntime) {
     let heap = Refusing::new(rt.alloc());
     let labels: CowSlice<'_, u32, Heap<'_>> = CowSlice::Borrowed(&[1, 2]);
     let instruction = Instruction::BrTable(labels, 3);
     heap.refuse_all();
-    check_row(&rt, rt.alloc(), &instruction.clone()?, "0e02010203")
+    check_row(
+        &rt,
+        rt.alloc(),
+        &instruction.clone().expect(&rt, "accepted"),
+        "0e02010203",
+    )
 }

@@ -1,7 +1,6 @@
 //! Instructions whose bytes are known from the format's documents.
 use crate::checks::check;
 use std::alloc::Global;
-use std::test::Fail;
 use wasm_base::{AbstractHeapType, CowSlice, HeapType, RefType, ValType};
 use wasm_insn::{
     Atomic, BlockType, Catch, Handle, Ieee32, Instruction, MemArg, MemArgOrdering, MemArgTarget,
@@ -235,9 +234,8 @@ fn constants(place: usize) -> Instruction<'static> {
 }
 
 #[test]
-fn examples(rt: HostRuntime) -> Result<(), Fail> {
+fn examples(rt: HostRuntime) {
     for (place, row) in ROWS.iter().enumerate() {
-        check(&rt, rt.alloc(), &instruction(place), row)?;
+        check(&rt, rt.alloc(), &instruction(place), row);
     }
-    Ok(())
 }

@@ -4,7 +4,6 @@ ghost use Rattle.std.specs.Iterator.{at_most};
 
 use std::cell::Cell;
 use std::process::Abort;
-use std::test::Fail;
 use wasm_base::{R, Refused, encode_vec};
 use wasm_insn::InstructionSink;
 
@@ -46,7 +45,7 @@ fn check_too_long(rt: &impl Abort, answer: R<()>, asked: u64, written: usize) {
 }
 
 #[test]
-fn long_vector(rt: HostRuntime) -> Result<(), Fail> {
+fn long_vector(rt: HostRuntime) {
     let asked = Cell::new(0);
     let labels = CountedLabels {
         left: 4294967296,
@@ -55,11 +54,10 @@ fn long_vector(rt: HostRuntime) -> Result<(), Fail> {
     let mut sink = Vec::new(rt.alloc());
     let answer = encode_vec(labels, &mut sink);
     check_too_long(&rt, answer, asked.get(), sink.len());
-    Ok(())
 }
 
 #[test]
-fn long_br_table(rt: HostRuntime) -> Result<(), Fail> {
+fn long_br_table(rt: HostRuntime) {
     let asked = Cell::new(0);
     let labels = CountedLabels {
         left: 4294967296,
@@ -68,5 +66,4 @@ fn long_br_table(rt: HostRuntime) -> Result<(), Fail> {
     let mut bytes = Vec::new(rt.alloc());
     let answer = InstructionSink::new(&mut bytes).br_table(labels, 2);
     check_too_long(&rt, answer, asked.get(), bytes.len());
-    Ok(())
 }

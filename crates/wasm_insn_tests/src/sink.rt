@@ -1,6 +1,5 @@
 //! Each named call of the sink writes the bytes of its instruction, and leaves the buffer where memory is refused.
 use crate::checks::check_call;
-use std::test::Fail;
 use test_support::Refusing;
 use wasm_base::{HeapType, R, ValType};
 use wasm_insn::{BlockType, Buffer, Ieee32, Ieee64, InstructionSink, MemArg, MemArgTarget, Op};
@@ -120,12 +119,11 @@ fn later_call<B: Buffer>(sink: &mut InstructionSink<'_, B>, place: usize) -> R<(
 }
 
 #[test]
-fn named_calls(rt: HostRuntime) -> Result<(), Fail> {
+fn named_calls(rt: HostRuntime) {
     let heap = Refusing::new(rt.alloc());
     for (place, row) in ROWS.iter().enumerate() {
         check_call(&rt, &heap, row, |bytes: &mut Vec<u8, _>| {
             call(&mut InstructionSink::new(bytes), place)
-        })?;
+        });
     }
-    Ok(())
 }

@@ -3,7 +3,6 @@ use crate::checks::{check_hex, check_refusals, check_row};
 use crate::{cases, rows};
 use std::alloc::Global;
 use std::process::Abort;
-use std::test::Fail;
 use wasm_base::Encode;
 use wasm_insn::{
     Aggregate, Atomic, Instruction, Numeric, PrefixedNumeric, Vector, VectorImmediate,
@@ -16,34 +15,27 @@ fn check_op(rt: &impl Abort, instruction: &Instruction<'_>, row: &str) {
 
 /// The instruction and its clone have these bytes, and the op is in the table. Where a request for memory is refused, each
 /// in turn, the sink is as it was.
-fn check(
-    rt: &impl Abort,
-    alloc: Global,
-    instruction: &Instruction<'_>,
-    row: &str,
-) -> Result<(), Fail> {
+fn check(rt: &impl Abort, alloc: Global, instruction: &Instruction<'_>, row: &str) {
     check_op(rt, instruction, row);
-    check_row(rt, alloc, &instruction.clone()?, row)?;
+    check_row(rt, alloc, &instruction.clone().expect(rt, "accepted"), row);
     let mut bytes = Vec::new(alloc);
-    instruction.encode(&mut bytes)?;
-    check_hex(rt, alloc, &bytes, row)?;
+    instruction.encode(&mut bytes).expect(rt, "accepted");
+    check_hex(rt, alloc, &bytes, row);
     check_refusals(rt, alloc, instruction, &bytes)
 }
 
 #[test]
-fn instructions(rt: HostRuntime) -> Result<(), Fail> {
+fn instructions(rt: HostRuntime) {
     for (place, row) in rows::INSTRUCTIONS.iter().enumerate() {
-        check(&rt, rt.alloc(), &cases::instruction(place), row)?;
+        check(&rt, rt.alloc(), &cases::instruction(place), row);
     }
-    Ok(())
 }
 
 #[test]
-fn names(rt: HostRuntime) -> Result<(), Fail> {
+fn names(rt: HostRuntime) {
     for (place, row) in rows::NAMES.iter().enumerate() {
-        check(&rt, rt.alloc(), &cases::name(place), row)?;
+        check(&rt, rt.alloc(), &cases::name(place), row);
     }
-    Ok(())
 }
 
 /// A case of an enum whose cases are instructions.
@@ -93,31 +85,25 @@ fn check_len(rt: &impl Abort, cases: usize, rows: usize) {
 }
 
 /// Each case is the instruction of its row.
-fn check_cases<C: Case>(
-    rt: &impl Abort,
-    alloc: Global,
-    cases: &[C],
-    rows: &[&str],
-) -> Result<(), Fail> {
+fn check_cases<C: Case>(rt: &impl Abort, alloc: Global, cases: &[C], rows: &[&str]) {
     check_len(rt, cases.len(), rows.len());
     for (case, row) in cases.iter().zip(rows.iter()) {
-        check(rt, alloc, &case.instruction(), row)?;
+        check(rt, alloc, &case.instruction(), row);
     }
-    Ok(())
 }
 
 #[test]
-fn numerics(rt: HostRuntime) -> Result<(), Fail> {
+fn numerics(rt: HostRuntime) {
     check_cases(&rt, rt.alloc(), &cases::NUMERICS, &rows::NUMERICS)
 }
 
 #[test]
-fn aggregates(rt: HostRuntime) -> Result<(), Fail> {
+fn aggregates(rt: HostRuntime) {
     check_cases(&rt, rt.alloc(), &cases::AGGREGATES, &rows::AGGREGATES)
 }
 
 #[test]
-fn prefixed_numerics(rt: HostRuntime) -> Result<(), Fail> {
+fn prefixed_numerics(rt: HostRuntime) {
     check_cases(
         &rt,
         rt.alloc(),
@@ -127,12 +113,12 @@ fn prefixed_numerics(rt: HostRuntime) -> Result<(), Fail> {
 }
 
 #[test]
-fn vectors(rt: HostRuntime) -> Result<(), Fail> {
+fn vectors(rt: HostRuntime) {
     check_cases(&rt, rt.alloc(), &cases::VECTORS, &rows::VECTORS)
 }
 
 #[test]
-fn vector_immediates(rt: HostRuntime) -> Result<(), Fail> {
+fn vector_immediates(rt: HostRuntime) {
     check_cases(
         &rt,
         rt.alloc(),
@@ -142,6 +128,6 @@ fn vector_immediates(rt: HostRuntime) -> Result<(), Fail> {
 }
 
 #[test]
-fn atomics(rt: HostRuntime) -> Result<(), Fail> {
+fn atomics(rt: HostRuntime) {
     check_cases(&rt, rt.alloc(), &cases::ATOMICS, &rows::ATOMICS)
 }

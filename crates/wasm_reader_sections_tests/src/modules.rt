@@ -1,12 +1,12 @@
 // Lists of modules' sections.
 use std::alloc::Global;
 use std::process::Abort;
-use std::test::Fail;
+use wasm_base::R;
 use wasm_reader::{Listed, list_module};
 use wasm_reader_base::ReadFault;
 
 /// The magic and version, and the bytes behind them.
-fn module(alloc: Global, sections: &[u8]) -> Result<Vec<u8>, Fail> {
+fn module(alloc: Global, sections: &[u8]) -> R<Vec<u8>> {
     let mut bytes = Vec::new(alloc);
     bytes.extend_from_slice(b"\0asm\x01\0\0\0")?;
     bytes.extend_from_slice(sections)?;
@@ -22,18 +22,12 @@ fn check_lines(rt: &impl Abort, given: &[Listed], expected: &[(u8, u32, Option<u
 }
 
 /// The module of these sections has these lines.
-fn check(
-    rt: &impl Abort,
-    alloc: Global,
-    sections: &[u8],
-    expected: &[(u8, u32, Option<u32>)],
-) -> Result<(), Fail> {
-    let bytes = module(alloc, sections)?;
+fn check(rt: &impl Abort, alloc: Global, sections: &[u8], expected: &[(u8, u32, Option<u32>)]) {
+    let bytes = module(alloc, sections).expect(rt, "accepted");
     match list_module(&bytes, alloc) {
         Ok(lines) => check_lines(rt, &lines, expected),
         Err(_) => panic!(rt; "no module"),
     }
-    Ok(())
 }
 
 /// Where the bytes are no module, and why.
@@ -46,10 +40,10 @@ fn check_stop(rt: &impl Abort, alloc: Global, bytes: &[u8], expected: (usize, Re
 }
 
 #[test]
-fn modules(rt: HostRuntime) -> Result<(), Fail> {
+fn modules(rt: HostRuntime) {
     let alloc = rt.alloc();
-    check(&rt, alloc, &[], &[])?;
-    check(&rt, alloc, &[3, 0x83, 0, 1, 0x80, 0], &[(3, 3, Some(1))])?;
+    check(&rt, alloc, &[], &[]);
+    check(&rt, alloc, &[3, 0x83, 0, 1, 0x80, 0], &[(3, 3, Some(1))]);
     let sections = [
         1, 7, 1, 0x60, 2, 0x7F, 0x7F, 1, 0x7F, 3, 2, 1, 0, 7, 5, 1, 1, 0x66, 0, 0, 10, 9, 1, 7, 0,
         0x20, 0, 0x20, 1, 0x6A, 0x0B,
@@ -64,7 +58,7 @@ fn modules(rt: HostRuntime) -> Result<(), Fail> {
             (7, 5, Some(1)),
             (10, 9, Some(1)),
         ],
-    )?;
+    );
     let others = [
         0, 2, 1, 97, 2, 1, 0, 4, 1, 0, 5, 1, 0, 6, 1, 0, 8, 1, 7, 9, 1, 0, 11, 1, 0, 12, 1, 2, 13,
         1, 0, 14, 0,
@@ -87,13 +81,12 @@ fn modules(rt: HostRuntime) -> Result<(), Fail> {
 }
 
 #[test]
-fn stops(rt: HostRuntime) -> Result<(), Fail> {
+fn stops(rt: HostRuntime) {
     let alloc = rt.alloc();
     check_stop(&rt, alloc, &[0x00, 0x61], (0, ReadFault::Ended));
     check_stop(&rt, alloc, b"\0asm\x02\0\0\0", (0, ReadFault::UnknownTag));
-    let body = module(alloc, &[10, 6, 1, 4, 0, 40, 16, 0])?;
+    let body = module(alloc, &[10, 6, 1, 4, 0, 40, 16, 0]).expect(&rt, "accepted");
     check_stop(&rt, alloc, &body, (1, ReadFault::Ended));
-    let second = module(alloc, &[3, 1, 0, 0, 1, 5])?;
+    let second = module(alloc, &[3, 1, 0, 0, 1, 5]).expect(&rt, "accepted");
     check_stop(&rt, alloc, &second, (2, ReadFault::Ended));
-    Ok(())
 }

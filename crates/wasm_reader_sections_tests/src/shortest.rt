@@ -3,8 +3,8 @@ use crate::callers::padded_function;
 use crate::{custom_rows, faults, rows};
 use std::alloc::Global;
 use std::process::Abort;
-use std::test::Fail;
 use test_support::Refusing;
+use wasm_base::R;
 use wasm_reader::{SectionKind, shorten};
 use wasm_reader_base::ReadFault;
 
@@ -216,7 +216,7 @@ fn outcome(
     kind: SectionKind,
     bytes: &[u8],
     text: &[u8],
-) -> Result<Outcome, Fail> {
+) -> R<Outcome> {
     heap.refuse(0);
     let mut sink = Vec::new(heap);
     sink.push(BEFORE)?;
@@ -244,12 +244,12 @@ fn check_row(
     kind: SectionKind,
     bytes: &[u8],
     text: &[u8],
-) -> Result<(), Fail> {
+) {
     for nth in 1..MOST {
-        let given = outcome(heap, nth, kind, bytes, text)?;
+        let given = outcome(heap, nth, kind, bytes, text).expect(rt, "accepted");
         if heap.is_waiting() {
             check(rt, given, bytes.len(), None);
-            return Ok(());
+            return;
         }
         check(rt, given, 0, Some(ReadFault::Memory));
     }
@@ -257,43 +257,42 @@ fn check_row(
 }
 
 #[test]
-fn padded(rt: HostRuntime) -> Result<(), Fail> {
+fn padded(rt: HostRuntime) {
     let heap = Refusing::new(rt.alloc());
     for (kind, bytes, text) in PADDED.iter() {
-        check_row(&rt, &heap, *kind, bytes, text)?;
+        check_row(&rt, &heap, *kind, bytes, text);
     }
-    Ok(())
 }
 
 /// What is as short as can be stays as it is.
 #[test]
-fn plain(rt: HostRuntime) -> Result<(), Fail> {
+fn plain(rt: HostRuntime) {
     let heap = Refusing::new(rt.alloc());
     for (kind, bytes, _seen) in rows::ROWS.iter() {
-        check_row(&rt, &heap, *kind, bytes, bytes)?;
+        check_row(&rt, &heap, *kind, bytes, bytes);
     }
     for (kind, bytes, _told) in custom_rows::ROWS.iter() {
-        check_row(&rt, &heap, *kind, bytes, bytes)?;
+        check_row(&rt, &heap, *kind, bytes, bytes);
     }
-    Ok(())
 }
 
 /// Where no section stands nothing is appended.
 #[test]
-fn none(rt: HostRuntime) -> Result<(), Fail> {
+fn none(rt: HostRuntime) {
     let heap = Refusing::new(rt.alloc());
     for (kind, bytes, fault) in faults::ROWS.iter() {
-        let given = outcome(&heap, 0, *kind, bytes, &[])?;
+        let given = outcome(&heap, 0, *kind, bytes, &[]).expect(&rt, "accepted");
         check(&rt, given, 0, Some(*fault));
     }
-    Ok(())
 }
 
 /// What follows a section is left.
 #[test]
-fn bytes_behind(rt: HostRuntime) -> Result<(), Fail> {
+fn bytes_behind(rt: HostRuntime) {
     let heap = Refusing::new(rt.alloc());
-    let given = outcome(&heap, 0, SectionKind::Start, &[0x82, 0, 7, 0, 9], &[1, 7])?;
+    let given = outcome(&heap, 0, SectionKind::Start, &[0x82, 0, 7, 0, 9], &[1, 7]).expect(
+        &rt, "accepted",
+    );
     check(&rt, given, 0, Some(ReadFault::SizeMismatch));
     let given = outcome(
         &heap,
@@ -301,9 +300,9 @@ fn bytes_behind(rt: HostRuntime) -> Result<(), Fail> {
         SectionKind::Start,
         &[0x82, 0, 0x87, 0, 9],
         &[1, 7],
-    )?;
+    )
+    .expect(&rt, "accepted");
     check(&rt, given, 4, None);
-    Ok(())
 }
 
 /// The bytes are these.
@@ -312,12 +311,11 @@ fn check_bytes(rt: &impl Abort, given: &[u8], expected: &[u8]) {
 }
 
 #[test]
-fn padding_of_what_was_written(rt: HostRuntime) -> Result<(), Fail> {
+fn padding_of_what_was_written(rt: HostRuntime) {
     let mut text = Vec::new(rt.alloc());
     let mut sink = Vec::new(rt.alloc());
     let padded = [0x86, 0x00, 0x01, 0x85, 0x80, 0x80, 0x80, 0x00];
-    let _items = padded_function(&mut text, 5, &padded, &mut sink)?;
+    let _items = padded_function(&mut text, 5, &padded, &mut sink).expect(&rt, "accepted");
     check_bytes(&rt, &text, &[0x02, 0x01, 0x05]);
     check_bytes(&rt, &sink, &[0x02, 0x01, 0x05]);
-    Ok(())
 }

@@ -1,7 +1,6 @@
 // Numbers, fixed bytes, names, types and immediates, with ample memory.
 use crate::checks::{check_fault, check_read, check_text};
 use std::process::Abort;
-use std::test::Fail;
 use wasm_base::{AbstractHeapType, HeapType, NoGroups, RefType, ValType, read_groups};
 use wasm_immediates::{BlockType, Catch, Handle, Ieee32, Ieee64, MemArg, MemArgOrdering, Ordering};
 use wasm_reader_base::ReadFault;
@@ -34,13 +33,13 @@ fn groups(rt: HostRuntime) {
 }
 
 #[test]
-fn unsigned_numbers(rt: HostRuntime) -> Result<(), Fail> {
+fn unsigned_numbers(rt: HostRuntime) {
     let alloc = rt.alloc();
-    check_read(&rt, alloc, &[0x7F, 9], 0x7Fu8, 1)?;
-    check_read(&rt, alloc, &[0x05], 5u32, 0)?;
-    check_read(&rt, alloc, &[0x85, 0x80, 0x80, 0x80, 0x00, 9], 5u32, 1)?;
-    check_read(&rt, alloc, &[0xFF, 0xFF, 0xFF, 0xFF, 0x0F], u32::MAX, 0)?;
-    check_read(&rt, alloc, &[0x80, 0x80, 0x00, 1, 2], 0u64, 2)?;
+    check_read(&rt, alloc, &[0x7F, 9], 0x7Fu8, 1);
+    check_read(&rt, alloc, &[0x05], 5u32, 0);
+    check_read(&rt, alloc, &[0x85, 0x80, 0x80, 0x80, 0x00, 9], 5u32, 1);
+    check_read(&rt, alloc, &[0xFF, 0xFF, 0xFF, 0xFF, 0x0F], u32::MAX, 0);
+    check_read(&rt, alloc, &[0x80, 0x80, 0x00, 1, 2], 0u64, 2);
     check_read(
         &rt,
         alloc,
@@ -51,14 +50,14 @@ fn unsigned_numbers(rt: HostRuntime) -> Result<(), Fail> {
 }
 
 #[test]
-fn signed_numbers(rt: HostRuntime) -> Result<(), Fail> {
+fn signed_numbers(rt: HostRuntime) {
     let alloc = rt.alloc();
-    check_read(&rt, alloc, &[0x3F], 63i32, 0)?;
-    check_read(&rt, alloc, &[0x40], -64i32, 0)?;
-    check_read(&rt, alloc, &[0xC0, 0x00], 64i32, 0)?;
-    check_read(&rt, alloc, &[0xFF, 0xFF, 0xFF, 0xFF, 0x7F, 9], -1i32, 1)?;
-    check_read(&rt, alloc, &[0x80, 0x80, 0x80, 0x80, 0x78], i32::MIN, 0)?;
-    check_read(&rt, alloc, &[0x7F], -1i64, 0)?;
+    check_read(&rt, alloc, &[0x3F], 63i32, 0);
+    check_read(&rt, alloc, &[0x40], -64i32, 0);
+    check_read(&rt, alloc, &[0xC0, 0x00], 64i32, 0);
+    check_read(&rt, alloc, &[0xFF, 0xFF, 0xFF, 0xFF, 0x7F, 9], -1i32, 1);
+    check_read(&rt, alloc, &[0x80, 0x80, 0x80, 0x80, 0x78], i32::MIN, 0);
+    check_read(&rt, alloc, &[0x7F], -1i64, 0);
     check_read(
         &rt,
         alloc,
@@ -113,7 +112,7 @@ fn numbers_that_are_none(rt: HostRuntime) {
 }
 
 #[test]
-fn fixed_bytes(rt: HostRuntime) -> Result<(), Fail> {
+fn fixed_bytes(rt: HostRuntime) {
     let alloc = rt.alloc();
     check_read(
         &rt,
@@ -121,59 +120,57 @@ fn fixed_bytes(rt: HostRuntime) -> Result<(), Fail> {
         &[0, 0, 0x80, 0x3F, 9],
         Ieee32::new(0x3F80_0000),
         1,
-    )?;
+    );
     check_read(
         &rt,
         alloc,
         &[0, 0, 0, 0, 0, 0, 0xF0, 0x3F],
         Ieee64::new(0x3FF0_0000_0000_0000),
         0,
-    )?;
-    check_read(&rt, alloc, &[0xFF; 16], -1i128, 0)?;
-    check_read(&rt, alloc, &[3; 17], [3u8; 16], 1)?;
+    );
+    check_read(&rt, alloc, &[0xFF; 16], -1i128, 0);
+    check_read(&rt, alloc, &[3; 17], [3u8; 16], 1);
     check_fault::<Ieee32>(&rt, alloc, &[0, 0, 0x80], ReadFault::Ended);
     check_fault::<Ieee64>(&rt, alloc, &[0, 0, 0x80, 0x3F], ReadFault::Ended);
     check_fault::<i128>(&rt, alloc, &[0xFF; 15], ReadFault::Ended);
     check_fault::<[u8; 16]>(&rt, alloc, &[0xFF; 15], ReadFault::Ended);
-    Ok(())
 }
 
 #[test]
-fn names(rt: HostRuntime) -> Result<(), Fail> {
+fn names(rt: HostRuntime) {
     let alloc = rt.alloc();
-    check_read(&rt, alloc, b"\x03abc\x01", "abc", 1)?;
-    check_read(&rt, alloc, b"\x81\x00m", "m", 0)?;
+    check_read(&rt, alloc, b"\x03abc\x01", "abc", 1);
+    check_read(&rt, alloc, b"\x81\x00m", "m", 0);
     check_read(
         &rt,
         alloc,
         &[2, 0xFF, 0xFE, 7],
         [0xFFu8, 0xFE].as_slice(),
         1,
-    )?;
+    );
     check_fault::<&str>(&rt, alloc, &[1, 0xFF], ReadFault::NotUtf8);
     check_fault::<&str>(&rt, alloc, b"\x02m", ReadFault::Ended);
-    Ok(())
 }
 
 #[test]
-fn types(rt: HostRuntime) -> Result<(), Fail> {
+fn types(rt: HostRuntime) {
     let alloc = rt.alloc();
-    check_read(&rt, alloc, &[0x71], AbstractHeapType::None, 0)?;
-    check_read(&rt, alloc, &[0x70, 9], HeapType::FUNC, 1)?;
-    check_read(&rt, alloc, &[0xC0, 0x00], HeapType::Concrete(64), 0)?;
-    check_read(&rt, alloc, &[0x62, 0x83, 0x00], HeapType::Exact(3), 0)?;
+    check_read(&rt, alloc, &[0x71], AbstractHeapType::None, 0);
+    check_read(&rt, alloc, &[0x70, 9], HeapType::FUNC, 1);
+    check_read(&rt, alloc, &[0xC0, 0x00], HeapType::Concrete(64), 0);
+    check_read(&rt, alloc, &[0x62, 0x83, 0x00], HeapType::Exact(3), 0);
     let shared = HeapType::Abstract {
         shared: true,
         ty: AbstractHeapType::Any,
     };
-    check_read(&rt, alloc, &[0x65, 0x6E], shared, 0)?;
-    check_read(&rt, alloc, &[0x6F], RefType::EXTERNREF, 0)?;
+    check_read(&rt, alloc, &[0x65, 0x6E], shared, 0);
+    check_read(&rt, alloc, &[0x6F], RefType::EXTERNREF, 0);
     let to_func = RefType {
         nullable: false,
         heap_type: HeapType::FUNC,
     };
-    check_read(&rt, alloc, &[0x64, 0x70], to_func, 0)?;
-    check_read(&rt, alloc, &[0x7B], ValType::V128, 0)?;
+    check_read(&rt, alloc, &[0x64, 0x70], to_func, 0);
+    check_read(&rt, alloc, &[0x7B], ValType::V128, 0);
     check_read(&rt, alloc, &[0x64, 0x70, 9], ValType::Ref(to_func), 1)
 }
 
@@ -190,25 +187,25 @@ fn types_that_are_none(rt: HostRuntime) {
 }
 
 #[test]
-fn memory_arguments(rt: HostRuntime) -> Result<(), Fail> {
+fn memory_arguments(rt: HostRuntime) {
     let alloc = rt.alloc();
-    check_text::<MemArg>(&rt, alloc, &[0x02, 0x04, 9], &[0x02, 0x04], 1)?;
+    check_text::<MemArg>(&rt, alloc, &[0x02, 0x04, 9], &[0x02, 0x04], 1);
     check_text::<MemArg>(
         &rt,
         alloc,
         &[0x82, 0x00, 0x84, 0x80, 0x00],
         &[0x02, 0x04],
         0,
-    )?;
+    );
     check_text::<MemArg>(
         &rt,
         alloc,
         &[0x42, 0x81, 0x00, 0x04],
         &[0x42, 0x01, 0x04],
         0,
-    )?;
-    check_text::<MemArg>(&rt, alloc, &[0x22, 0x00, 0x04], &[0x22, 0x00, 0x04], 0)?;
-    check_text::<MemArg>(&rt, alloc, &[0x12, 0x11, 0x00], &[0x12, 0x11, 0x00], 0)?;
+    );
+    check_text::<MemArg>(&rt, alloc, &[0x22, 0x00, 0x04], &[0x22, 0x00, 0x04], 0);
+    check_text::<MemArg>(&rt, alloc, &[0x12, 0x11, 0x00], &[0x12, 0x11, 0x00], 0);
     check_text::<MemArg>(
         &rt,
         alloc,
@@ -229,28 +226,28 @@ fn memory_arguments_that_are_none(rt: HostRuntime) {
 }
 
 #[test]
-fn immediates(rt: HostRuntime) -> Result<(), Fail> {
+fn immediates(rt: HostRuntime) {
     let alloc = rt.alloc();
-    check_read(&rt, alloc, &[0x01], Ordering::AcqRel, 0)?;
-    check_read(&rt, alloc, &[0x00], MemArgOrdering::Op(Ordering::SeqCst), 0)?;
-    check_text::<BlockType>(&rt, alloc, &[0x40, 9], &[0x40], 1)?;
-    check_text::<BlockType>(&rt, alloc, &[0x64, 0x70], &[0x64, 0x70], 0)?;
-    check_text::<BlockType>(&rt, alloc, &[0xC0, 0x80, 0x00], &[0xC0, 0x00], 0)?;
+    check_read(&rt, alloc, &[0x01], Ordering::AcqRel, 0);
+    check_read(&rt, alloc, &[0x00], MemArgOrdering::Op(Ordering::SeqCst), 0);
+    check_text::<BlockType>(&rt, alloc, &[0x40, 9], &[0x40], 1);
+    check_text::<BlockType>(&rt, alloc, &[0x64, 0x70], &[0x64, 0x70], 0);
+    check_text::<BlockType>(&rt, alloc, &[0xC0, 0x80, 0x00], &[0xC0, 0x00], 0);
     check_text::<Catch>(
         &rt,
         alloc,
         &[0x00, 0x81, 0x00, 0x02],
         &[0x00, 0x01, 0x02],
         0,
-    )?;
-    check_text::<Catch>(&rt, alloc, &[0x03, 0x07], &[0x03, 0x07], 0)?;
+    );
+    check_text::<Catch>(&rt, alloc, &[0x03, 0x07], &[0x03, 0x07], 0);
     check_text::<Handle>(
         &rt,
         alloc,
         &[0x00, 0x01, 0x82, 0x00],
         &[0x00, 0x01, 0x02],
         0,
-    )?;
+    );
     check_text::<Handle>(&rt, alloc, &[0x01, 0x05, 9], &[0x01, 0x05], 1)
 }
 

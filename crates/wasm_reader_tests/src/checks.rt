@@ -1,7 +1,6 @@
 // What tests compare, over plain data: an assertion beside values that own memory takes far longer to prove.
 use std::alloc::Global;
 use std::process::Abort;
-use std::test::Fail;
 use wasm_base::Encode;
 use wasm_reader_base::{ReadFault, Readable};
 
@@ -45,11 +44,10 @@ pub(crate) fn check_read<'a, T: Readable<'a, Global> + Copy + PartialEq>(
     bytes: &'a [u8],
     expected: T,
     left: usize,
-) -> Result<(), Fail> {
-    let (value, rest) = T::read(bytes, alloc)?;
+) {
+    let (value, rest) = T::read(bytes, alloc).expect(rt, "accepted");
     assert!(rt; value == expected);
     check_left(rt, rest, left);
-    Ok(())
 }
 
 /// The bytes are these.
@@ -64,11 +62,10 @@ pub(crate) fn check_text<'a, T: Readable<'a, Global> + Encode>(
     bytes: &'a [u8],
     text: &[u8],
     left: usize,
-) -> Result<(), Fail> {
-    let (value, rest) = T::read(bytes, alloc)?;
+) {
+    let (value, rest) = T::read(bytes, alloc).expect(rt, "accepted");
     let mut sink = Vec::new(alloc);
-    value.encode(&mut sink)?;
+    value.encode(&mut sink).expect(rt, "accepted");
     check_bytes(rt, &sink, text);
     check_left(rt, rest, left);
-    Ok(())
 }

@@ -2,39 +2,31 @@
 use crate::checks::{check_fault, check_left, check_numbers};
 use std::alloc::Global;
 use std::process::Abort;
-use std::test::Fail;
 use wasm_reader_base::{Framed, ReadFault, Readable, read_optional};
 
 /// A section of indices.
 type Numbers = Framed<Vec<u32>>;
 
 /// These numbers are read as a section of indices, and so many bytes follow it.
-fn check_section(
-    rt: &impl Abort,
-    alloc: Global,
-    bytes: &[u8],
-    expected: &[u32],
-    left: usize,
-) -> Result<(), Fail> {
-    let (Framed(numbers), rest) = Numbers::read(bytes, alloc)?;
+fn check_section(rt: &impl Abort, alloc: Global, bytes: &[u8], expected: &[u32], left: usize) {
+    let (Framed(numbers), rest) = Numbers::read(bytes, alloc).expect(rt, "accepted");
     check_numbers(rt, &numbers, expected);
     check_left(rt, rest, left);
-    Ok(())
 }
 
 #[test]
-fn sections_of_numbers(rt: HostRuntime) -> Result<(), Fail> {
+fn sections_of_numbers(rt: HostRuntime) {
     let alloc = rt.alloc();
-    check_section(&rt, alloc, &[2, 1, 5, 0x99], &[5], 1)?;
+    check_section(&rt, alloc, &[2, 1, 5, 0x99], &[5], 1);
     check_section(
         &rt,
         alloc,
         &[0x86, 0, 1, 0x85, 0x80, 0x80, 0x80, 0],
         &[5],
         0,
-    )?;
-    check_section(&rt, alloc, &[3, 1, 0x80, 0], &[0], 0)?;
-    check_section(&rt, alloc, &[1, 0, 7], &[], 1)?;
+    );
+    check_section(&rt, alloc, &[3, 1, 0x80, 0], &[0], 0);
+    check_section(&rt, alloc, &[1, 0, 7], &[], 1);
     check_section(&rt, alloc, &[4, 3, 1, 2, 3], &[1, 2, 3], 0)
 }
 
@@ -74,26 +66,23 @@ fn check_optional(rt: &impl Abort, given: Option<u64>, expected: Option<u64>) {
 }
 
 #[test]
-fn optional_values(rt: HostRuntime) -> Result<(), Fail> {
-    let (some, rest) = read_optional::<u64, Global>(true, &[0x85, 0, 9], rt.alloc())?;
+fn optional_values(rt: HostRuntime) {
+    let (some, rest) = read_optional::<u64, Global>(true, &[0x85, 0, 9], rt.alloc()).expect(
+        &rt, "accepted",
+    );
     check_optional(&rt, some, Some(5));
     check_left(&rt, rest, 1);
-    let (none, rest) = read_optional::<u64, Global>(false, &[0x85, 0, 9], rt.alloc())?;
+    let (none, rest) = read_optional::<u64, Global>(false, &[0x85, 0, 9], rt.alloc()).expect(
+        &rt, "accepted",
+    );
     check_optional(&rt, none, None);
     check_left(&rt, rest, 3);
-    Ok(())
 }
 
 /// The text of the fault is this.
-fn check_said(
-    rt: &impl Abort,
-    alloc: Global,
-    fault: ReadFault,
-    expected: &str,
-) -> Result<(), Fail> {
-    let said = format!(in alloc; "{fault}")?;
+fn check_said(rt: &impl Abort, alloc: Global, fault: ReadFault, expected: &str) {
+    let said = format!(in alloc; "{fault}").expect(rt, "accepted");
     check_same(rt, said.as_str(), expected);
-    Ok(())
 }
 
 /// The texts are one.
@@ -102,14 +91,14 @@ fn check_same(rt: &impl Abort, given: &str, expected: &str) {
 }
 
 #[test]
-fn texts_of_faults(rt: HostRuntime) -> Result<(), Fail> {
+fn texts_of_faults(rt: HostRuntime) {
     let alloc = rt.alloc();
-    check_said(&rt, alloc, ReadFault::Ended, "Ended")?;
-    check_said(&rt, alloc, ReadFault::NotShortest, "NotShortest")?;
-    check_said(&rt, alloc, ReadFault::TooLarge, "TooLarge")?;
-    check_said(&rt, alloc, ReadFault::UnknownTag, "UnknownTag")?;
-    check_said(&rt, alloc, ReadFault::UnknownOpcode, "UnknownOpcode")?;
-    check_said(&rt, alloc, ReadFault::NotUtf8, "NotUtf8")?;
-    check_said(&rt, alloc, ReadFault::SizeMismatch, "SizeMismatch")?;
+    check_said(&rt, alloc, ReadFault::Ended, "Ended");
+    check_said(&rt, alloc, ReadFault::NotShortest, "NotShortest");
+    check_said(&rt, alloc, ReadFault::TooLarge, "TooLarge");
+    check_said(&rt, alloc, ReadFault::UnknownTag, "UnknownTag");
+    check_said(&rt, alloc, ReadFault::UnknownOpcode, "UnknownOpcode");
+    check_said(&rt, alloc, ReadFault::NotUtf8, "NotUtf8");
+    check_said(&rt, alloc, ReadFault::SizeMismatch, "SizeMismatch");
     check_said(&rt, alloc, ReadFault::Memory, "Memory")
 }

@@ -2,7 +2,6 @@
 use crate::checks::{check_fault, check_left};
 use std::alloc::Global;
 use std::process::Abort;
-use std::test::Fail;
 use wasm_base::ValType;
 use wasm_insn::{Op, Part, Shape};
 use wasm_reader_base::{Filling, Framed, ReadFault, Readable};
@@ -52,21 +51,14 @@ fn check_len(rt: &impl Abort, given: usize, expected: usize) {
 }
 
 /// All of the bytes are an instruction of this opcode and these arguments.
-fn check(
-    rt: &impl Abort,
-    alloc: Global,
-    bytes: &[u8],
-    op: Op,
-    expected: &[(&str, i128)],
-) -> Result<(), Fail> {
-    let (plain, rest) = Plain::read(bytes, alloc)?;
+fn check(rt: &impl Abort, alloc: Global, bytes: &[u8], op: Op, expected: &[(&str, i128)]) {
+    let (plain, rest) = Plain::read(bytes, alloc).expect(rt, "accepted");
     check_left(rt, rest, 0);
     check_op(rt, plain.op, op);
     check_len(rt, plain.args.len(), expected.len());
     for (at, wanted) in expected.iter().enumerate() {
         check_arg(rt, &plain.args, at, *wanted);
     }
-    Ok(())
 }
 
 #[test]
@@ -81,68 +73,68 @@ fn parts_of_shapes(rt: HostRuntime) {
 }
 
 #[test]
-fn numbers_and_types(rt: HostRuntime) -> Result<(), Fail> {
+fn numbers_and_types(rt: HostRuntime) {
     let alloc = rt.alloc();
-    check(&rt, alloc, &[0x0B], Op::Byte(0x0B), &[])?;
+    check(&rt, alloc, &[0x0B], Op::Byte(0x0B), &[]);
     check(
         &rt,
         alloc,
         &[0x20, 0x85, 0x00],
         Op::Byte(0x20),
         &[("u32", 5)],
-    )?;
+    );
     check(
         &rt,
         alloc,
         &[0x11, 7, 1],
         Op::Byte(0x11),
         &[("u32", 7), ("u32", 1)],
-    )?;
+    );
     check(
         &rt,
         alloc,
         &[0x41, 0xFF, 0x7F],
         Op::Byte(0x41),
         &[("s32", -1)],
-    )?;
-    check(&rt, alloc, &[0x42, 0x40], Op::Byte(0x42), &[("s64", -64)])?;
+    );
+    check(&rt, alloc, &[0x42, 0x40], Op::Byte(0x42), &[("s64", -64)]);
     check(
         &rt,
         alloc,
         &[0x43, 1, 1, 0, 0],
         Op::Byte(0x43),
         &[("f32", 257)],
-    )?;
+    );
     check(
         &rt,
         alloc,
         &[0x44, 1, 1, 0, 0, 0, 0, 0, 0],
         Op::Byte(0x44),
         &[("f64", 257)],
-    )?;
-    check(&rt, alloc, &[0x02, 0x40], Op::Byte(0x02), &[("block", 0)])?;
-    check(&rt, alloc, &[0xD0, 0x70], Op::Byte(0xD0), &[("heap", 0)])?;
+    );
+    check(&rt, alloc, &[0x02, 0x40], Op::Byte(0x02), &[("block", 0)]);
+    check(&rt, alloc, &[0xD0, 0x70], Op::Byte(0xD0), &[("heap", 0)]);
     check(
         &rt,
         alloc,
         &[0x1C, 1, 0x7F],
         Op::Byte(0x1C),
         &[("types", 1)],
-    )?;
+    );
     check(
         &rt,
         alloc,
         &[0x0E, 2, 0, 1, 3],
         Op::Byte(0x0E),
         &[("labels", 2), ("u32", 3)],
-    )?;
+    );
     check(
         &rt,
         alloc,
         &[0x1F, 0x40, 1, 0, 1, 2],
         Op::Byte(0x1F),
         &[("block", 0), ("catches", 1)],
-    )?;
+    );
     check(
         &rt,
         alloc,
@@ -153,37 +145,37 @@ fn numbers_and_types(rt: HostRuntime) -> Result<(), Fail> {
 }
 
 #[test]
-fn prefixed(rt: HostRuntime) -> Result<(), Fail> {
+fn prefixed(rt: HostRuntime) {
     let alloc = rt.alloc();
-    check(&rt, alloc, &[0x28, 2, 4], Op::Byte(0x28), &[("mem", 4)])?;
+    check(&rt, alloc, &[0x28, 2, 4], Op::Byte(0x28), &[("mem", 4)]);
     check(
         &rt,
         alloc,
         &[0xFC, 0x8A, 0x00, 1, 0],
         Op::Prefixed(0xFC, 10),
         &[("u32", 1), ("u32", 0)],
-    )?;
+    );
     check(
         &rt,
         alloc,
         &[0xFB, 24, 3, 5, 0x6E, 0x6D],
         Op::Prefixed(0xFB, 24),
         &[("flag", 3), ("u32", 5), ("heap", 0), ("heap", 0)],
-    )?;
+    );
     check(
         &rt,
         alloc,
         &[0xFD, 21, 15],
         Op::Prefixed(0xFD, 21),
         &[("lane", 15)],
-    )?;
+    );
     check(
         &rt,
         alloc,
         &[0xFD, 84, 0, 8, 3],
         Op::Prefixed(0xFD, 84),
         &[("mem", 8), ("lane", 3)],
-    )?;
+    );
     check(
         &rt,
         alloc,
@@ -193,7 +185,7 @@ fn prefixed(rt: HostRuntime) -> Result<(), Fail> {
         ],
         Op::Prefixed(0xFD, 12),
         &[("v128", -2)],
-    )?;
+    );
     check(
         &rt,
         alloc,
@@ -202,7 +194,7 @@ fn prefixed(rt: HostRuntime) -> Result<(), Fail> {
         ],
         Op::Prefixed(0xFD, 13),
         &[("lanes", 31)],
-    )?;
+    );
     check(
         &rt,
         alloc,
@@ -249,40 +241,40 @@ fn check_first(rt: &impl Abort, code: &[Plain], op: Op, expected: (&str, i128)) 
 }
 
 #[test]
-fn expressions(rt: HostRuntime) -> Result<(), Fail> {
+fn expressions(rt: HostRuntime) {
     let bytes = [0x41, 0xFF, 0xFF, 0xFF, 0xFF, 0x7F, 0x0B, 9];
-    let (Expression(code), rest) = Expression::read(&bytes, rt.alloc())?;
+    let (Expression(code), rest) = Expression::read(&bytes, rt.alloc()).expect(&rt, "accepted");
     check_left(&rt, rest, 1);
     check_len(&rt, code.len(), 1);
     check_first(&rt, &code, Op::Byte(0x41), ("s32", -1));
-    Ok(())
 }
 
 #[test]
-fn codes(rt: HostRuntime) -> Result<(), Fail> {
-    let Code(code) = Code::fill(&[0x20, 3, 0x1A, 0x0B], rt.alloc())?;
+fn codes(rt: HostRuntime) {
+    let Code(code) = Code::fill(&[0x20, 3, 0x1A, 0x0B], rt.alloc()).expect(&rt, "accepted");
     check_len(&rt, code.len(), 3);
     check_first(&rt, &code, Op::Byte(0x20), ("u32", 3));
-    Ok(())
 }
 
 #[test]
-fn bodies(rt: HostRuntime) -> Result<(), Fail> {
+fn bodies(rt: HostRuntime) {
     let (body, rest) = Body::read(
         &[8, 1, 2, 0x7F, 0x20, 0x81, 0x00, 0x1A, 0x0B, 9],
         rt.alloc(),
-    )?;
+    )
+    .expect(&rt, "accepted");
     check_left(&rt, rest, 1);
     check_len(&rt, body.runs.len(), 1);
     check_len(&rt, body.code.len(), 3);
     check_first(&rt, &body.code, Op::Byte(0x20), ("u32", 1));
-    Ok(())
 }
 
 #[test]
-fn padded_bodies(rt: HostRuntime) -> Result<(), Fail> {
-    let (Framed(bodies), rest) = <Framed<Vec<Body>>>::read(&[5, 1, 3, 0x80, 0, 11], rt.alloc())?;
+fn padded_bodies(rt: HostRuntime) {
+    let (Framed(bodies), rest) = <Framed<Vec<Body>>>::read(
+        &[5, 1, 3, 0x80, 0, 11],
+        rt.alloc(),
+    ).expect(&rt, "accepted");
     check_left(&rt, rest, 0);
     check_len(&rt, bodies.len(), 1);
-    Ok(())
 }

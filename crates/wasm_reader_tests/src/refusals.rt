@@ -2,7 +2,6 @@
 use crate::checks::check_cause;
 use std::alloc::Global;
 use std::process::Abort;
-use std::test::Fail;
 use test_support::Refusing;
 use wasm_insn::Op;
 use wasm_reader_base::{Framed, ReadFault, Readable};
@@ -63,7 +62,7 @@ fn instructions(rt: HostRuntime) {
 }
 
 #[test]
-fn walks_of_bodies(rt: HostRuntime) -> Result<(), Fail> {
+fn walks_of_bodies(rt: HostRuntime) {
     let heap = Refusing::new(rt.alloc());
     heap.refuse(1);
     let refused = match Instructions::of_body(&[1, 1, 0x7F, 0x0B], &heap) {
@@ -71,7 +70,6 @@ fn walks_of_bodies(rt: HostRuntime) -> Result<(), Fail> {
         Err(fault) => Some(fault),
     };
     check_cause(&rt, refused, ReadFault::Memory);
-    Ok(())
 }
 
 /// What a walk answered, and where it is then.

@@ -2,7 +2,6 @@
 use crate::checks::check_bytes;
 use std::alloc::Global;
 use std::process::Abort;
-use std::test::Fail;
 use test_support::Refusing;
 use wasm_base::{Refused, ValType};
 use wasm_reader_base::{Filled, Framed, Readable, Shorten};
@@ -39,46 +38,46 @@ fn check<'a, T: Readable<'a, Global> + Shorten>(
     alloc: Global,
     bytes: &'a [u8],
     text: &[u8],
-) -> Result<(), Fail> {
-    let (value, _rest) = T::read(bytes, alloc)?;
+) {
+    let (value, _rest) = T::read(bytes, alloc).expect(rt, "accepted");
     check_value(rt, alloc, &value, text);
-    Ok(())
 }
 
 #[test]
-fn numbers_and_names(rt: HostRuntime) -> Result<(), Fail> {
+fn numbers_and_names(rt: HostRuntime) {
     let alloc = rt.alloc();
-    check::<u32>(&rt, alloc, &[0x85, 0x80, 0], &[5])?;
-    check::<&[u8]>(&rt, alloc, &[0x82, 0, 1, 2], &[2, 1, 2])?;
-    check::<&str>(&rt, alloc, b"\x81\x00a", b"\x01a")?;
+    check::<u32>(&rt, alloc, &[0x85, 0x80, 0], &[5]);
+    check::<&[u8]>(&rt, alloc, &[0x82, 0, 1, 2], &[2, 1, 2]);
+    check::<&str>(&rt, alloc, b"\x81\x00a", b"\x01a");
     check::<ValType>(&rt, alloc, &[0x63, 0x85, 0], &[0x63, 5])
 }
 
 #[test]
-fn parts(rt: HostRuntime) -> Result<(), Fail> {
+fn parts(rt: HostRuntime) {
     let alloc = rt.alloc();
-    check::<(u32, u32)>(&rt, alloc, &[0x81, 0, 0x82, 0], &[1, 2])?;
-    check::<Vec<u32>>(&rt, alloc, &[0x82, 0, 0x85, 0, 6], &[2, 5, 6])?;
-    check::<Framed<Vec<u32>>>(&rt, alloc, &[0x84, 0, 1, 0x85, 0x80, 0], &[2, 1, 5])?;
+    check::<(u32, u32)>(&rt, alloc, &[0x81, 0, 0x82, 0], &[1, 2]);
+    check::<Vec<u32>>(&rt, alloc, &[0x82, 0, 0x85, 0, 6], &[2, 5, 6]);
+    check::<Framed<Vec<u32>>>(&rt, alloc, &[0x84, 0, 1, 0x85, 0x80, 0], &[2, 1, 5]);
     check_value(&rt, alloc, &Filled(7u32), &[1, 7]);
-    Ok(())
 }
 
 /// Frames whose sizes have two bytes.
 #[test]
-fn long_frames(rt: HostRuntime) -> Result<(), Fail> {
+fn long_frames(rt: HostRuntime) {
     let alloc = rt.alloc();
     let mut bytes = Vec::new(alloc);
-    bytes.extend_from_slice(&[0x82, 0x01, 0x80, 0x01])?;
-    bytes.extend_from_slice(&[7; 128])?;
+    bytes
+        .extend_from_slice(&[0x82, 0x01, 0x80, 0x01])
+        .expect(&rt, "accepted");
+    bytes.extend_from_slice(&[7; 128]).expect(&rt, "accepted");
     check::<Framed<&[u8]>>(&rt, alloc, &bytes, &bytes)
 }
 
 #[test]
-fn code(rt: HostRuntime) -> Result<(), Fail> {
+fn code(rt: HostRuntime) {
     let alloc = rt.alloc();
-    check::<Plain>(&rt, alloc, &[0x0E, 0x81, 0, 0, 1], &[0x0E, 1, 0, 1])?;
-    check::<Plain>(&rt, alloc, &[0x28, 2, 0x90, 0], &[0x28, 2, 0x10])?;
-    check::<Expression>(&rt, alloc, &[0x41, 0x80, 0, 0x0B], &[0x41, 0, 0x0B])?;
+    check::<Plain>(&rt, alloc, &[0x0E, 0x81, 0, 0, 1], &[0x0E, 1, 0, 1]);
+    check::<Plain>(&rt, alloc, &[0x28, 2, 0x90, 0], &[0x28, 2, 0x10]);
+    check::<Expression>(&rt, alloc, &[0x41, 0x80, 0, 0x0B], &[0x41, 0, 0x0B]);
     check::<Body>(&rt, alloc, &[3, 0x80, 0, 0x0B], &[2, 0, 0x0B])
 }

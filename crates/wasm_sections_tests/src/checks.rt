@@ -1,7 +1,6 @@
 // What tests compare, over plain data: an assertion beside values that own memory takes far longer to prove.
 use std::alloc::Global;
 use std::process::Abort;
-use std::test::Fail;
 use test_support::Refusing;
 use wasm_base::{Encode, R, Refused};
 
@@ -57,14 +56,8 @@ pub(crate) fn check_sink(rt: &impl Abort, granted: bool, sink: &[u8], expected: 
 }
 
 /// The item is written as these bytes.
-pub(crate) fn check<T: Encode>(
-    rt: &impl Abort,
-    alloc: Global,
-    item: &T,
-    expected: &[u8],
-) -> Result<(), Fail> {
+pub(crate) fn check<T: Encode>(rt: &impl Abort, alloc: Global, item: &T, expected: &[u8]) {
     let mut sink = Vec::new(alloc);
-    item.encode(&mut sink)?;
+    item.encode(&mut sink).expect(rt, "accepted");
     check_bytes(rt, &sink, expected);
-    Ok(())
 }

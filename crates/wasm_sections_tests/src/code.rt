@@ -4,7 +4,6 @@ use crate::checks::{check, check_bytes, check_number, check_piece, check_that};
 use crate::functions::without_locals;
 use std::alloc::Global;
 use std::process::Abort;
-use std::test::Fail;
 use wasm_base::{HeapType, R, Section, ValType, add_all};
 use wasm_code::{CodeSection, ConstExpr, Function};
 use wasm_insn::{Instruction, MemArg, MemArgTarget};
@@ -27,13 +26,16 @@ fn empty_function(alloc: Global) -> R<Function> {
 }
 
 #[test]
-fn expressions(rt: HostRuntime) -> Result<(), Fail> {
-    let sum = ConstExpr::i32_const(rt.alloc(), 42)?
-        .with_i32_const(1)?
-        .with_i32_add()?;
-    check(&rt, rt.alloc(), &sum, &[0x41, 0x2A, 0x41, 0x01, 0x6A, 0x0B])?;
-    check(&rt, rt.alloc(), &ConstExpr::empty(rt.alloc()), &[0x0B])?;
-    let null = ConstExpr::ref_null(rt.alloc(), HeapType::FUNC)?;
+fn expressions(rt: HostRuntime) {
+    let sum = ConstExpr::i32_const(rt.alloc(), 42)
+        .expect(&rt, "accepted")
+        .with_i32_const(1)
+        .expect(&rt, "accepted")
+        .with_i32_add()
+        .expect(&rt, "accepted");
+    check(&rt, rt.alloc(), &sum, &[0x41, 0x2A, 0x41, 0x01, 0x6A, 0x0B]);
+    check(&rt, rt.alloc(), &ConstExpr::empty(rt.alloc()), &[0x0B]);
+    let null = ConstExpr::ref_null(rt.alloc(), HeapType::FUNC).expect(&rt, "accepted");
     check(&rt, rt.alloc(), &null, &[0xD0, 0x70, 0x0B])
 }
 
@@ -43,27 +45,23 @@ fn check_index(rt: &impl Abort, index: Option<u32>, expected: Option<u32>) {
 }
 
 /// What the bytes have as the index of a function.
-fn check_raw(
-    rt: &impl Abort,
-    alloc: Global,
-    bytes: &[u8],
-    expected: Option<u32>,
-) -> Result<(), Fail> {
-    let raw = ConstExpr::raw(alloc, bytes.iter().copied())?;
+fn check_raw(rt: &impl Abort, alloc: Global, bytes: &[u8], expected: Option<u32>) {
+    let raw = ConstExpr::raw(alloc, bytes.iter().copied()).expect(rt, "accepted");
     check_index(rt, raw.get_ref_func(), expected);
-    Ok(())
 }
 
 #[test]
-fn indices_of_functions(rt: HostRuntime) -> Result<(), Fail> {
-    let plain = ConstExpr::ref_func(rt.alloc(), 3)?.with_i32_add()?;
+fn indices_of_functions(rt: HostRuntime) {
+    let plain = ConstExpr::ref_func(rt.alloc(), 3)
+        .expect(&rt, "accepted")
+        .with_i32_add()
+        .expect(&rt, "accepted");
     check_index(&rt, plain.get_ref_func(), Some(3));
     check_index(&rt, ConstExpr::empty(rt.alloc()).get_ref_func(), None);
-    Ok(())
 }
 
 #[test]
-fn indices_of_given_bytes(rt: HostRuntime) -> Result<(), Fail> {
+fn indices_of_given_bytes(rt: HostRuntime) {
     let rows: [(&[u8], Option<u32>); 5] = [
         (&[0xD2], None),
         (&[0xD2, 0x83, 0x00], Some(3)),
@@ -72,40 +70,38 @@ fn indices_of_given_bytes(rt: HostRuntime) -> Result<(), Fail> {
         (&[0x41, 0xD2, 0x03], None),
     ];
     for (bytes, expected) in rows {
-        check_raw(&rt, rt.alloc(), bytes, expected)?;
+        check_raw(&rt, rt.alloc(), bytes, expected);
     }
-    Ok(())
 }
 
 /// A code section of one function or raw body.
-fn check_body(rt: &impl Abort, alloc: Global, body: &[u8], expected: &[u8]) -> Result<(), Fail> {
+fn check_body(rt: &impl Abort, alloc: Global, body: &[u8], expected: &[u8]) {
     let mut code = CodeSection::new(alloc);
-    code.raw(body)?;
+    code.raw(body).expect(rt, "accepted");
     check(rt, alloc, &code, expected)
 }
 
 /// A code section of the function, and one of its raw body.
-fn check_function(
-    rt: &impl Abort,
-    alloc: Global,
-    function: Function,
-    expected: &[u8],
-) -> Result<(), Fail> {
+fn check_function(rt: &impl Abort, alloc: Global, function: Function, expected: &[u8]) {
     let mut code = CodeSection::new(alloc);
-    code.function(&function)?;
-    check(rt, alloc, &code, expected)?;
+    code.function(&function).expect(rt, "accepted");
+    check(rt, alloc, &code, expected);
     check_body(rt, alloc, &function.into_raw_body(), expected)
 }
 
 #[test]
-fn locals(rt: HostRuntime) -> Result<(), Fail> {
-    let mut function = Function::new(rt.alloc(), [(1, ValType::I32), (1, ValType::F32)])?;
-    function.instruction(&Instruction::End)?;
+fn locals(rt: HostRuntime) {
+    let mut function = Function::new(rt.alloc(), [(1, ValType::I32), (1, ValType::F32)]).expect(
+        &rt, "accepted",
+    );
+    function
+        .instruction(&Instruction::End)
+        .expect(&rt, "accepted");
     check_function(&rt, rt.alloc(), function, &[8, 1, 6, 2, 1, 127, 1, 125, 11])
 }
 
 #[test]
-fn locals_by_their_types(rt: HostRuntime) -> Result<(), Fail> {
+fn locals_by_their_types(rt: HostRuntime) {
     let types = [
         ValType::I32,
         ValType::I32,
@@ -117,7 +113,7 @@ fn locals_by_their_types(rt: HostRuntime) -> Result<(), Fail> {
         ValType::I64,
         ValType::I64,
     ];
-    let function = Function::new_with_locals_types(rt.alloc(), types)?;
+    let function = Function::new_with_locals_types(rt.alloc(), types).expect(&rt, "accepted");
     let runs = [
         (2, ValType::I32),
         (1, ValType::I64),
@@ -125,53 +121,53 @@ fn locals_by_their_types(rt: HostRuntime) -> Result<(), Fail> {
         (1, ValType::I32),
         (2, ValType::I64),
     ];
-    check_that(&rt, function == Function::new(rt.alloc(), runs)?);
+    check_that(
+        &rt,
+        function == Function::new(rt.alloc(), runs).expect(&rt, "accepted"),
+    );
     check_bytes(
         &rt,
         &function.into_raw_body(),
         &[5, 2, 0x7F, 1, 0x7E, 3, 0x7D, 1, 0x7F, 2, 0x7E],
     );
-    Ok(())
 }
 
 #[test]
-fn no_locals(rt: HostRuntime) -> Result<(), Fail> {
-    let without = Function::new_with_locals_types(rt.alloc(), [])?;
+fn no_locals(rt: HostRuntime) {
+    let without = Function::new_with_locals_types(rt.alloc(), []).expect(&rt, "accepted");
     check_bytes(&rt, &without.into_raw_body(), &[0]);
-    Ok(())
 }
 
 /// A function that is given its instructions, and written alone.
 #[test]
-fn functions(rt: HostRuntime) -> Result<(), Fail> {
-    let mut function = without_locals(rt.alloc())?;
+fn functions(rt: HostRuntime) {
+    let mut function = without_locals(rt.alloc()).expect(&rt, "accepted");
     check_number(&rt, function.byte_len(), 1);
-    function.raw([0x0B])?;
+    function.raw([0x0B]).expect(&rt, "accepted");
     check_number(&rt, function.byte_len(), 2);
-    check(&rt, rt.alloc(), &function, &[2, 0, 11])?;
+    check(&rt, rt.alloc(), &function, &[2, 0, 11]);
     check_bytes(&rt, &function.into_raw_body(), &[0, 11]);
-    Ok(())
 }
 
 #[test]
-fn places(rt: HostRuntime) -> Result<(), Fail> {
-    let mut function = without_locals(rt.alloc())?;
-    check_number(&rt, branch_on_one(&mut function)?, 3);
+fn places(rt: HostRuntime) {
+    let mut function = without_locals(rt.alloc()).expect(&rt, "accepted");
+    check_number(&rt, branch_on_one(&mut function).expect(&rt, "accepted"), 3);
     let expected = [0x00, 0x41, 0x01, 0x04, 0x40, 0x0B, 0x0B];
     check_bytes(&rt, &function.into_raw_body(), &expected);
-    Ok(())
 }
 
 /// What is added next stands after as many bytes as the body had.
 #[test]
-fn the_next_place(rt: HostRuntime) -> Result<(), Fail> {
-    let mut function = without_locals(rt.alloc())?;
-    function.instructions().i32_const(1)?;
+fn the_next_place(rt: HostRuntime) {
+    let mut function = without_locals(rt.alloc()).expect(&rt, "accepted");
+    function.instructions().i32_const(1).expect(&rt, "accepted");
     let place = function.byte_len();
     check_number(&rt, place, 3);
-    function.instruction(&Instruction::Nop)?;
+    function
+        .instruction(&Instruction::Nop)
+        .expect(&rt, "accepted");
     check_place(&rt, &function.into_raw_body(), place);
-    Ok(())
 }
 
 /// A constant, and after so many bytes a `Nop`.
@@ -181,7 +177,7 @@ fn check_place(rt: &impl Abort, body: &[u8], place: usize) {
 }
 
 #[test]
-fn empty_code_sections(rt: HostRuntime) -> Result<(), Fail> {
+fn empty_code_sections(rt: HostRuntime) {
     let code: CodeSection = CodeSection::new(rt.alloc());
     check_that(&rt, code.is_empty());
     check_number(&rt, usize::from(code.id()), 10);
@@ -201,20 +197,25 @@ fn check_entries(rt: &impl Abort, code: &CodeSection, len: u32, byte_len: usize)
 }
 
 #[test]
-fn code_sections(rt: HostRuntime) -> Result<(), Fail> {
+fn code_sections(rt: HostRuntime) {
     let mut code = CodeSection::new(rt.alloc());
-    code.raw(&[0, 11])?;
+    code.raw(&[0, 11]).expect(&rt, "accepted");
     check_entries(&rt, &code, 1, 3);
-    code.function(&empty_function(rt.alloc())?)?;
+    code.function(&empty_function(rt.alloc()).expect(&rt, "accepted"))
+        .expect(&rt, "accepted");
     check_entries(&rt, &code, 2, 6);
     check(&rt, rt.alloc(), &code, &[7, 2, 2, 0, 11, 2, 0, 11])
 }
 
 #[test]
-fn all_functions(rt: HostRuntime) -> Result<(), Fail> {
+fn all_functions(rt: HostRuntime) {
     let mut functions = Vec::new(rt.alloc());
-    functions.push(empty_function(rt.alloc())?)?;
-    functions.push(Function::new_with_locals_types(rt.alloc(), [ValType::I32])?)?;
+    functions
+        .push(empty_function(rt.alloc()).expect(&rt, "accepted"))
+        .expect(&rt, "accepted");
+    functions
+        .push(Function::new_with_locals_types(rt.alloc(), [ValType::I32]).expect(&rt, "accepted"))
+        .expect(&rt, "accepted");
     let mut code = CodeSection::new(rt.alloc());
     check_that(&rt, add_all(&mut code, &functions).is_ok());
     check(&rt, rt.alloc(), &code, &[8, 2, 2, 0, 11, 3, 1, 1, 127])
@@ -222,61 +223,57 @@ fn all_functions(rt: HostRuntime) -> Result<(), Fail> {
 
 /// The sum of two arguments.
 #[test]
-fn a_sum(rt: HostRuntime) -> Result<(), Fail> {
-    let mut function = without_locals(rt.alloc())?;
+fn a_sum(rt: HostRuntime) {
+    let mut function = without_locals(rt.alloc()).expect(&rt, "accepted");
     let mut instructions = function.instructions();
-    instructions.local_get(0)?;
-    instructions.local_get(1)?;
-    instructions.i32_add()?;
-    instructions.end()?;
+    instructions.local_get(0).expect(&rt, "accepted");
+    instructions.local_get(1).expect(&rt, "accepted");
+    instructions.i32_add().expect(&rt, "accepted");
+    instructions.end().expect(&rt, "accepted");
     let mut code = CodeSection::new(rt.alloc());
-    code.function(&function)?;
+    code.function(&function).expect(&rt, "accepted");
     let mut sink = Vec::new(rt.alloc());
-    code.append_to(&mut sink)?;
+    code.append_to(&mut sink).expect(&rt, "accepted");
     check_bytes(&rt, &sink, &[10, 9, 1, 7, 0, 0x20, 0, 0x20, 1, 0x6A, 0x0B]);
-    Ok(())
 }
 
 /// Bodies are written as they are given, whether they spell one or not.
 #[test]
-fn given_bodies(rt: HostRuntime) -> Result<(), Fail> {
+fn given_bodies(rt: HostRuntime) {
     let rows: [(&[u8], &[u8]); 3] = [
         (&[0, 11], &[4, 1, 2, 0, 11]),
         (&[0, 65, 0, 11], &[6, 1, 4, 0, 65, 0, 11]),
         (&[128, 0, 11], &[5, 1, 3, 128, 0, 11]),
     ];
     for (body, expected) in rows {
-        check_body(&rt, rt.alloc(), body, expected)?;
+        check_body(&rt, rt.alloc(), body, expected);
     }
-    Ok(())
 }
 
 #[test]
-fn alignments_of_16(rt: HostRuntime) -> Result<(), Fail> {
-    let mut function = without_locals(rt.alloc())?;
-    function.instruction(&load(16))?;
+fn alignments_of_16(rt: HostRuntime) {
+    let mut function = without_locals(rt.alloc()).expect(&rt, "accepted");
+    function.instruction(&load(16)).expect(&rt, "accepted");
     check_function(&rt, rt.alloc(), function, &[6, 1, 4, 0, 40, 16, 0])
 }
 
 #[test]
-fn alignments_of_16_before_the_end(rt: HostRuntime) -> Result<(), Fail> {
-    let mut function = without_locals(rt.alloc())?;
-    function.instruction(&load(16))?;
-    function.instructions().end()?;
+fn alignments_of_16_before_the_end(rt: HostRuntime) {
+    let mut function = without_locals(rt.alloc()).expect(&rt, "accepted");
+    function.instruction(&load(16)).expect(&rt, "accepted");
+    function.instructions().end().expect(&rt, "accepted");
     check_bytes(
         &rt,
         &function.into_raw_body(),
         &[0x00, 0x28, 0x10, 0x00, 0x0B],
     );
-    Ok(())
 }
 
 /// Neither piece spells instructions, and both together do.
 #[test]
-fn pieces_of_an_instruction(rt: HostRuntime) -> Result<(), Fail> {
-    let mut function = without_locals(rt.alloc())?;
-    function.raw([65])?;
-    function.raw([1, 11])?;
+fn pieces_of_an_instruction(rt: HostRuntime) {
+    let mut function = without_locals(rt.alloc()).expect(&rt, "accepted");
+    function.raw([65]).expect(&rt, "accepted");
+    function.raw([1, 11]).expect(&rt, "accepted");
     check_bytes(&rt, &function.into_raw_body(), &[0x00, 0x41, 0x01, 0x0B]);
-    Ok(())
 }

@@ -5,7 +5,6 @@ use crate::checks::{
 use crate::functions::without_locals;
 use std::alloc::Global;
 use std::process::Abort;
-use std::test::Fail;
 use test_support::Refusing;
 use wasm_base::{Counted, Encode, HeapType, R, Section, ValType};
 use wasm_code::{CodeSection, ConstExpr, Function};
@@ -97,27 +96,27 @@ fn check_expression(
     answer: R<ConstExpr<Heap<'_>>>,
     before: &[u8],
     stored: &[u8],
-) -> Result<bool, Fail> {
+) -> bool {
     match answer {
         Ok(expression) => {
             check_answer(rt, heap, nth, Ok(()));
             let mut sink = Vec::new(alloc);
-            expression.encode(&mut sink)?;
+            expression.encode(&mut sink).expect(rt, "accepted");
             check_stored(rt, &sink, before, stored);
-            Ok(true)
+            true
         }
-        Err(refused) => Ok(check_answer(rt, heap, nth, Err(refused))),
+        Err(refused) => check_answer(rt, heap, nth, Err(refused)),
     }
 }
 
 /// The constructor.
-fn check_made(rt: &impl Abort, alloc: Global, place: usize, stored: &[u8]) -> Result<(), Fail> {
+fn check_made(rt: &impl Abort, alloc: Global, place: usize, stored: &[u8]) {
     let heap = Refusing::new(alloc);
     for nth in 1..MOST {
         heap.refuse(nth);
         let answer = made(&heap, place);
-        if check_expression(rt, alloc, &heap, nth, answer, &[], stored)? {
-            return Ok(());
+        if check_expression(rt, alloc, &heap, nth, answer, &[], stored) {
+            return;
         }
     }
     panic!(rt; "no call was granted")
@@ -133,54 +132,49 @@ fn begun_expression(heap: Heap<'_>, is_full: bool) -> R<ConstExpr<Heap<'_>>> {
 }
 
 /// The `with` call, on an expression that is begun so.
-fn check_added(
-    rt: &impl Abort,
-    alloc: Global,
-    place: usize,
-    is_full: bool,
-    stored: &[u8],
-) -> Result<(), Fail> {
+fn check_added(rt: &impl Abort, alloc: Global, place: usize, is_full: bool, stored: &[u8]) {
     let heap = Refusing::new(alloc);
     let before: &[u8] = if is_full { &FULL_BUFFER } else { &[0x23, 0x01] };
     for nth in 1..MOST {
         heap.refuse(0);
-        let expression = begun_expression(&heap, is_full)?;
+        let expression = begun_expression(&heap, is_full).expect(rt, "accepted");
         heap.refuse(nth);
         let answer = added(expression, place);
-        if check_expression(rt, alloc, &heap, nth, answer, before, stored)? {
-            return Ok(());
+        if check_expression(rt, alloc, &heap, nth, answer, before, stored) {
+            return;
         }
     }
     panic!(rt; "no call was granted")
 }
 
 #[test]
-fn expressions(rt: HostRuntime) -> Result<(), Fail> {
+fn expressions(rt: HostRuntime) {
     for (place, stored) in STORED.iter().enumerate() {
         if place < 10 && !takes_none(place) {
-            check_made(&rt, rt.alloc(), place, stored)?;
+            check_made(&rt, rt.alloc(), place, stored);
         }
         if place > 1 {
-            check_added(&rt, rt.alloc(), place, true, stored)?;
-            check_added(&rt, rt.alloc(), place, false, stored)?;
+            check_added(&rt, rt.alloc(), place, true, stored);
+            check_added(&rt, rt.alloc(), place, false, stored);
         }
     }
-    Ok(())
 }
 
 #[test]
-fn expressions_without_memory(rt: HostRuntime) -> Result<(), Fail> {
+fn expressions_without_memory(rt: HostRuntime) {
     let heap = Refusing::new(rt.alloc());
     heap.refuse_all();
     for (place, stored) in STORED.iter().enumerate() {
         if takes_none(place) {
             let answer = made(&heap, place);
             let mut sink = Vec::new(rt.alloc());
-            answer?.encode(&mut sink)?;
+            answer
+                .expect(&rt, "accepted")
+                .encode(&mut sink)
+                .expect(&rt, "accepted");
             check_stored(&rt, &sink, &[], stored);
         }
     }
-    Ok(())
 }
 
 /// What each call on a function appends. The second takes memory twice.
@@ -216,29 +210,28 @@ fn check_grown(rt: &impl Abort, granted: bool, body: &[u8], appended: &[u8]) {
 }
 
 /// A call on a function whose buffer is full.
-fn check_growth(rt: &impl Abort, alloc: Global, place: usize, appended: &[u8]) -> Result<(), Fail> {
+fn check_growth(rt: &impl Abort, alloc: Global, place: usize, appended: &[u8]) {
     let heap = Refusing::new(alloc);
     for nth in 1..MOST {
         heap.refuse(0);
-        let mut function = without_locals(&heap)?;
-        function.raw([0x01; FULL_BODY - 1])?;
+        let mut function = without_locals(&heap).expect(rt, "accepted");
+        function.raw([0x01; FULL_BODY - 1]).expect(rt, "accepted");
         heap.refuse(nth);
         let answer = grow(&mut function, place);
         let granted = check_answer(rt, &heap, nth, answer);
         check_grown(rt, granted, &function.into_raw_body(), appended);
         if granted {
-            return Ok(());
+            return;
         }
     }
     panic!(rt; "no call was granted")
 }
 
 #[test]
-fn bodies(rt: HostRuntime) -> Result<(), Fail> {
+fn bodies(rt: HostRuntime) {
     for (place, appended) in GROWN.iter().enumerate() {
-        check_growth(&rt, rt.alloc(), place, appended)?;
+        check_growth(&rt, rt.alloc(), place, appended);
     }
-    Ok(())
 }
 
 /// A function of locals, by their runs or by their types, or a copy of one.
@@ -268,30 +261,26 @@ fn check_function(
 }
 
 /// The call of `begun` of this place.
-fn check_begun<'a>(
-    rt: &impl Abort,
-    heap: Heap<'a>,
-    given: &Function<Heap<'a>>,
-    place: usize,
-) -> Result<(), Fail> {
+fn check_begun<'a>(rt: &impl Abort, heap: Heap<'a>, given: &Function<Heap<'a>>, place: usize) {
     for nth in 1..MOST {
         heap.refuse(nth);
         let answer = begun(heap, given, place);
         if check_function(rt, heap, nth, answer) {
-            return Ok(());
+            return;
         }
     }
     panic!(rt; "no call was granted")
 }
 
 #[test]
-fn functions(rt: HostRuntime) -> Result<(), Fail> {
+fn functions(rt: HostRuntime) {
     let heap = Refusing::new(rt.alloc());
-    let given = begun(&heap, &without_locals(&heap)?, 0)?;
+    let given = begun(&heap, &without_locals(&heap).expect(&rt, "accepted"), 0).expect(
+        &rt, "accepted",
+    );
     for place in 0..3 {
-        check_begun(&rt, &heap, &given, place)?;
+        check_begun(&rt, &heap, &given, place);
     }
-    Ok(())
 }
 
 /// A call that adds the body.
@@ -310,12 +299,7 @@ fn check_section(rt: &impl Abort, granted: bool, len: u32, byte_len: usize) {
 }
 
 /// The call of `add` of this place.
-fn check_adding(
-    rt: &impl Abort,
-    heap: Heap<'_>,
-    function: &Function<Heap<'_>>,
-    place: usize,
-) -> Result<(), Fail> {
+fn check_adding(rt: &impl Abort, heap: Heap<'_>, function: &Function<Heap<'_>>, place: usize) {
     for nth in 1..MOST {
         let mut code = CodeSection::new(heap);
         heap.refuse(nth);
@@ -323,34 +307,38 @@ fn check_adding(
         let granted = check_answer(rt, heap, nth, answer);
         check_section(rt, granted, code.len(), code.byte_len());
         if granted {
-            return Ok(());
+            return;
         }
     }
     panic!(rt; "no call was granted")
 }
 
 #[test]
-fn code_sections(rt: HostRuntime) -> Result<(), Fail> {
+fn code_sections(rt: HostRuntime) {
     let heap = Refusing::new(rt.alloc());
-    let mut function = without_locals(&heap)?;
-    function.instructions().end()?;
+    let mut function = without_locals(&heap).expect(&rt, "accepted");
+    function.instructions().end().expect(&rt, "accepted");
     for place in 0..3 {
-        check_adding(&rt, &heap, &function, place)?;
+        check_adding(&rt, &heap, &function, place);
     }
-    Ok(())
 }
 
 #[test]
-fn copies_of_expressions(rt: HostRuntime) -> Result<(), Fail> {
+fn copies_of_expressions(rt: HostRuntime) {
     let heap = Refusing::new(rt.alloc());
-    let kept = ConstExpr::ref_func(&heap, 3)?;
-    let given = ConstExpr::raw(&heap, [0xD2, 3])?;
+    let kept = ConstExpr::ref_func(&heap, 3).expect(&rt, "accepted");
+    let given = ConstExpr::raw(&heap, [0xD2, 3]).expect(&rt, "accepted");
     heap.refuse(1);
     check_refused(&rt, given.clone().err());
-    check_that(&rt, given.clone()?.get_ref_func() == Some(3));
+    check_that(
+        &rt,
+        given.clone().expect(&rt, "accepted").get_ref_func() == Some(3),
+    );
     heap.refuse_all();
-    check_that(&rt, kept.clone()?.get_ref_func() == Some(3));
-    Ok(())
+    check_that(
+        &rt,
+        kept.clone().expect(&rt, "accepted").get_ref_func() == Some(3),
+    );
 }
 
 /// What a copy answered of which one request was to be refused. Answers whether all were granted.
@@ -365,58 +353,55 @@ fn check_copy(rt: &impl Abort, heap: Heap<'_>, nth: u64, copy: R<CodeSection<Hea
 }
 
 #[test]
-fn copies(rt: HostRuntime) -> Result<(), Fail> {
+fn copies(rt: HostRuntime) {
     let heap = Refusing::new(rt.alloc());
     let mut code = CodeSection::new(&heap);
-    code.raw(&[0, 11])?;
+    code.raw(&[0, 11]).expect(&rt, "accepted");
     for nth in 1..MOST {
         heap.refuse(nth);
         if check_copy(&rt, &heap, nth, code.clone()) {
-            return Ok(());
+            return;
         }
     }
     panic!(rt; "no call was granted")
 }
 
 /// `encode`, into a sink that holds the byte 7. It takes memory once, and none where the sink has room.
-fn check_written<T: Encode>(
-    rt: &impl Abort,
-    alloc: Global,
-    item: &T,
-    expected: &[u8],
-) -> Result<(), Fail> {
+fn check_written<T: Encode>(rt: &impl Abort, alloc: Global, item: &T, expected: &[u8]) {
     let heap = Refusing::new(alloc);
-    let mut sink = Vec::with_capacity(&heap, 1)?;
-    sink.push(7)?;
+    let mut sink = Vec::with_capacity(&heap, 1).expect(rt, "accepted");
+    sink.push(7).expect(rt, "accepted");
     heap.refuse(1);
     check_refused(rt, item.encode(&mut sink).err());
     check_sink(rt, false, &sink, expected);
     heap.refuse(2);
-    item.encode(&mut sink)?;
+    item.encode(&mut sink).expect(rt, "accepted");
     check_that(rt, heap.is_waiting());
     check_sink(rt, true, &sink, expected);
     sink.truncate(1);
     heap.refuse_all();
-    item.encode(&mut sink)?;
-    Ok(())
+    item.encode(&mut sink).expect(rt, "accepted");
 }
 
 #[test]
-fn written_expressions(rt: HostRuntime) -> Result<(), Fail> {
-    let kept = ConstExpr::ref_func(rt.alloc(), 3)?;
-    check_written(&rt, rt.alloc(), &kept, &[0xD2, 3, 0x0B])?;
-    let given = ConstExpr::raw(rt.alloc(), [0xD2, 3])?;
+fn written_expressions(rt: HostRuntime) {
+    let kept = ConstExpr::ref_func(rt.alloc(), 3).expect(&rt, "accepted");
+    check_written(&rt, rt.alloc(), &kept, &[0xD2, 3, 0x0B]);
+    let given = ConstExpr::raw(rt.alloc(), [0xD2, 3]).expect(&rt, "accepted");
     check_written(&rt, rt.alloc(), &given, &[0xD2, 3, 0x0B])
 }
 
 /// A sink that is full after the first parts of an expression loses these where the next one is refused.
 #[test]
-fn long_expressions(rt: HostRuntime) -> Result<(), Fail> {
+fn long_expressions(rt: HostRuntime) {
     let heap = Refusing::new(rt.alloc());
-    let long = ConstExpr::f64_const(rt.alloc(), Ieee64::new(1))?.with_i32_const(2)?;
+    let long = ConstExpr::f64_const(rt.alloc(), Ieee64::new(1))
+        .expect(&rt, "accepted")
+        .with_i32_const(2)
+        .expect(&rt, "accepted");
     for nth in 1..MOST {
-        let mut sink = Vec::with_capacity(&heap, 1)?;
-        sink.push(7)?;
+        let mut sink = Vec::with_capacity(&heap, 1).expect(&rt, "accepted");
+        sink.push(7).expect(&rt, "accepted");
         heap.refuse(nth);
         let answer = long.encode(&mut sink);
         let granted = check_answer(&rt, &heap, nth, answer);
@@ -427,36 +412,36 @@ fn long_expressions(rt: HostRuntime) -> Result<(), Fail> {
             &[0x44, 1, 0, 0, 0, 0, 0, 0, 0, 0x41, 2, 0x0B],
         );
         if granted {
-            return Ok(());
+            return;
         }
     }
     panic!(rt; "no call was granted")
 }
 
 #[test]
-fn written(rt: HostRuntime) -> Result<(), Fail> {
-    let mut function = without_locals(rt.alloc())?;
-    function.instructions().end()?;
-    check_written(&rt, rt.alloc(), &function, &[2, 0, 11])?;
+fn written(rt: HostRuntime) {
+    let mut function = without_locals(rt.alloc()).expect(&rt, "accepted");
+    function.instructions().end().expect(&rt, "accepted");
+    check_written(&rt, rt.alloc(), &function, &[2, 0, 11]);
     let mut code = CodeSection::new(rt.alloc());
-    code.function(&function)?;
+    code.function(&function).expect(&rt, "accepted");
     check_written(&rt, rt.alloc(), &code, &[4, 1, 2, 0, 11])
 }
 
 #[test]
-fn written_with_its_id(rt: HostRuntime) -> Result<(), Fail> {
+fn written_with_its_id(rt: HostRuntime) {
     let heap = Refusing::new(rt.alloc());
     let mut code = CodeSection::new(rt.alloc());
-    code.raw(&[0, 11])?;
+    code.raw(&[0, 11]).expect(&rt, "accepted");
     for nth in 1..MOST {
-        let mut sink = Vec::with_capacity(&heap, 1)?;
-        sink.push(7)?;
+        let mut sink = Vec::with_capacity(&heap, 1).expect(&rt, "accepted");
+        sink.push(7).expect(&rt, "accepted");
         heap.refuse(nth);
         let answer = code.append_to(&mut sink);
         let granted = check_answer(&rt, &heap, nth, answer);
         check_sink(&rt, granted, &sink, &[10, 4, 1, 2, 0, 11]);
         if granted {
-            return Ok(());
+            return;
         }
     }
     panic!(rt; "no call was granted")

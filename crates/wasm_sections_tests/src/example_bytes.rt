@@ -13,25 +13,24 @@ use wasm_base::R;
 use wasm_sections::{Export, ExportKind};
 
 #[test]
-fn module_of_one_section(rt: HostRuntime) -> Result<(), Fail> {
-    let first = first_module(rt.alloc())?;
+fn module_of_one_section(rt: HostRuntime) {
+    let first = first_module(rt.alloc()).expect(&rt, "accepted");
     check_bytes(
         &rt,
         &first,
         b"\0asm\x01\0\0\0\x0A\x06\x01\x04\x01\x01\x7F\x0B",
     );
-    let padded = padded_module(rt.alloc())?;
+    let padded = padded_module(rt.alloc()).expect(&rt, "accepted");
     check_bytes(
         &rt,
         &padded,
         b"\0asm\x01\0\0\0\x0A\x0B\x02\x04\x80\x80\0\x0B\x04\x01\x01\x7F\x0B",
     );
-    Ok(())
 }
 
 #[test]
-fn module_of_eight_sections(rt: HostRuntime) -> Result<(), Fail> {
-    let whole = whole_module(rt.alloc())?;
+fn module_of_eight_sections(rt: HostRuntime) {
+    let whole = whole_module(rt.alloc()).expect(&rt, "accepted");
     let header_and_types = b"\0asm\x01\0\0\0\x01\x09\x02\x60\0\0\x60\x01\x7F\x01\x7F";
     let imports = b"\x02\x0E\x01\x04host\x05ready\0\0";
     let functions = b"\x03\x03\x02\x01\0";
@@ -52,39 +51,39 @@ fn module_of_eight_sections(rt: HostRuntime) -> Result<(), Fail> {
         start,
         code,
     ] {
-        expected.extend_from_slice(section)?;
+        expected.extend_from_slice(section).expect(&rt, "accepted");
     }
     check_bytes(&rt, &whole, &expected);
-    Ok(())
 }
 
 #[test]
-fn functions(rt: HostRuntime) -> Result<(), Fail> {
-    let body = factorial(rt.alloc(), 300)?.into_raw_body();
+fn functions(rt: HostRuntime) {
+    let body = factorial(rt.alloc(), 300)
+        .expect(&rt, "accepted")
+        .into_raw_body();
     check_bytes(
         &rt,
         &body,
         b"\0\x02\x40\x20\0\x45\x0D\0\x20\0\x20\0\x41\x01\x6B\x10\xAC\x02\x6C\x0F\x0B\x41\x01\x0B",
     );
-    let body = choice(rt.alloc())?.into_raw_body();
+    let body = choice(rt.alloc()).expect(&rt, "accepted").into_raw_body();
     check_bytes(
         &rt,
         &body,
         b"\0\x02\x40\x02\x40\x20\0\x0E\x01\0\x01\x0B\x0B\x0B",
     );
-    Ok(())
 }
 
 #[test]
-fn sections(rt: HostRuntime) -> Result<(), Fail> {
+fn sections(rt: HostRuntime) {
     let mut sink = Vec::new(rt.alloc());
-    encode_local(&mut sink, 300)?;
+    encode_local(&mut sink, 300).expect(&rt, "accepted");
     check_bytes(&rt, &sink, b"\x07\x01\x05\0\x20\xAC\x02\x0B");
     sink.clear();
-    encode_import(&mut sink, "a", "bc", 3)?;
+    encode_import(&mut sink, "a", "bc", 3).expect(&rt, "accepted");
     check_bytes(&rt, &sink, b"\x08\x01\x01a\x02bc\0\x03");
     sink.clear();
-    encode_group(&mut sink, "a", &["b", "cd"], 3)?;
+    encode_group(&mut sink, "a", &["b", "cd"], 3).expect(&rt, "accepted");
     check_bytes(&rt, &sink, b"\x0D\x01\x01a\0\x7E\0\x03\x02\x01b\x02cd");
     sink.clear();
     let exports = [
@@ -99,9 +98,8 @@ fn sections(rt: HostRuntime) -> Result<(), Fail> {
             index: 0,
         },
     ];
-    encode_exports(&mut sink, &exports)?;
+    encode_exports(&mut sink, &exports).expect(&rt, "accepted");
     check_bytes(&rt, &sink, b"\x08\x02\x01f\0\x01\0\x02\0");
-    Ok(())
 }
 
 /// A function appends these bytes. Where a request is refused, the sink is as it was.
@@ -110,34 +108,34 @@ fn check_appending<'h, F: Fn(&mut Vec<u8, &'h Refusing<Global>>) -> R<()>>(
     heap: &'h Refusing<Global>,
     expected: &[u8],
     append: F,
-) -> Result<(), Fail>
+)
     requires { F.IsAlwaysCallable append }
 {
     for nth in 1..MOST {
         heap.refuse(0);
-        let mut sink = Vec::from_slice(heap, &[7])?;
+        let mut sink = Vec::from_slice(heap, &[7]).expect(rt, "accepted");
         heap.refuse(nth);
         let answer = append(&mut sink);
         let granted = check_answer(rt, heap, nth, answer);
         check_sink(rt, granted, &sink, expected);
         if granted {
-            return Ok(());
+            return;
         }
     }
     panic!(rt; "no call was granted")
 }
 
 #[test]
-fn padded_numbers(rt: HostRuntime) -> Result<(), Fail> {
+fn padded_numbers(rt: HostRuntime) {
     let heap = Refusing::new(rt.alloc());
     let bodies = b"\x0B\x02\x03\x80\0\x0B\x05\0\x20\xAC\x02\x0B";
     check_appending(&rt, &heap, bodies, |sink: &mut Vec<u8, _>| {
         encode_padded_body(sink, 300)
-    })?;
+    });
     let globals = b"\x10\x02\x7F\0\x41\xFF\xFF\xFF\xFF\x7F\x0B\x7F\0\x41\x80\0\x0B";
     check_appending(&rt, &heap, globals, |sink: &mut Vec<u8, _>| {
         encode_padded_globals(sink)
-    })?;
+    });
     let names = b"\x0C\x04name\x01\x05\x01\x80\0\x01a";
     check_appending(&rt, &heap, names, |sink: &mut Vec<u8, _>| {
         encode_padded_names(sink)

@@ -6,7 +6,6 @@ use crate::checks::check_bytes;
 use std::alloc::Global;
 use std::cell::Cell;
 use std::process::Abort;
-use std::test::Fail;
 use wasm_base::{Refused, ValType};
 use wasm_code::Function;
 
@@ -51,7 +50,7 @@ fn check_asked(rt: &impl Abort, asked: &Cell<u64>, expected: u64) {
 }
 
 #[test]
-fn runs_of_locals(rt: HostRuntime) -> Result<(), Fail> {
+fn runs_of_locals(rt: HostRuntime) {
     let asked = Cell::new(0);
     let long = CountedRuns {
         left: 4294967296,
@@ -64,8 +63,7 @@ fn runs_of_locals(rt: HostRuntime) -> Result<(), Fail> {
         left: 2,
         asked: &asked,
     };
-    let function: Function<Global> = Function::new(rt.alloc(), short)?;
+    let function: Function<Global> = Function::new(rt.alloc(), short).expect(&rt, "accepted");
     check_bytes(&rt, &function.into_raw_body(), &[2, 1, 127, 1, 127]);
     check_asked(&rt, &asked, 3);
-    Ok(())
 }

@@ -3,7 +3,6 @@ use crate::checks::{MOST, check_answer, check_bytes, check_refused, check_sink, 
 use crate::samples::{GLOBAL, LIMITED_MEMORY, LIMITED_TABLE, SET_GLOBAL, TABLE, TAG};
 use std::alloc::Global;
 use std::process::Abort;
-use std::test::Fail;
 use test_support::Refusing;
 use wasm_base::{Counted, CowSlice, Encode, HeapType, R, Refused, Section, add_all};
 use wasm_code::ConstExpr;
@@ -28,7 +27,7 @@ pub(crate) fn check_adding<'h, K: ItemKind, F: Fn(&mut OnHeap<'h, K>) -> R<()>>(
     heap: &'h Refusing<Global>,
     entry: &[u8],
     add: F,
-) -> Result<(), Fail>
+)
     requires { F.IsAlwaysCallable add }
 {
     for nth in 1..MOST {
@@ -50,9 +49,9 @@ fn check_whole<'h, K: ItemKind>(
     heap: &'h Refusing<Global>,
     section: &OnHeap<'h, K>,
     entry: &[u8],
-) -> Result<(), Fail> {
-    check_clone(rt, heap, section, entry)?;
-    check_encode(rt, heap, section)?;
+) {
+    check_clone(rt, heap, section, entry);
+    check_encode(rt, heap, section);
     check_append_to(rt, heap, section)
 }
 
@@ -62,11 +61,11 @@ fn check_clone<'h, K: ItemKind>(
     heap: &'h Refusing<Global>,
     section: &OnHeap<'h, K>,
     entry: &[u8],
-) -> Result<(), Fail> {
+) {
     for nth in 1..MOST {
         heap.refuse(nth);
         if check_copy(rt, heap, nth, section.clone(), entry) {
-            return Ok(());
+            return;
         }
     }
     panic!(rt; "no call was granted")
@@ -90,19 +89,18 @@ fn check_copy<'h, K: ItemKind>(
 }
 
 /// `encode` takes memory once, and none where the sink has room.
-fn check_encode<T: Encode>(rt: &impl Abort, heap: &Refusing<Global>, item: &T) -> Result<(), Fail> {
+fn check_encode<T: Encode>(rt: &impl Abort, heap: &Refusing<Global>, item: &T) {
     let mut sink = Vec::new(heap);
     heap.refuse(1);
     check_refused(rt, item.encode(&mut sink).err());
     check_bytes(rt, &sink, &[]);
     heap.refuse(2);
-    item.encode(&mut sink)?;
+    item.encode(&mut sink).expect(rt, "accepted");
     check_that(rt, heap.is_waiting());
     sink.clear();
     heap.refuse(1);
-    item.encode(&mut sink)?;
+    item.encode(&mut sink).expect(rt, "accepted");
     check_that(rt, heap.is_waiting());
-    Ok(())
 }
 
 /// The sink held the byte 7, and then the id, or nothing.
@@ -113,40 +111,36 @@ fn check_id(rt: &impl Abort, granted: bool, sink: &[u8], id: u8) {
 }
 
 /// `append_to`
-fn check_append_to<S: Section>(
-    rt: &impl Abort,
-    heap: &Refusing<Global>,
-    section: &S,
-) -> Result<(), Fail> {
+fn check_append_to<S: Section>(rt: &impl Abort, heap: &Refusing<Global>, section: &S) {
     for nth in 1..MOST {
         heap.refuse(0);
-        let mut sink = Vec::from_slice(heap, &[7])?;
+        let mut sink = Vec::from_slice(heap, &[7]).expect(rt, "accepted");
         heap.refuse(nth);
         let answer = section.append_to(&mut sink);
         let granted = check_answer(rt, heap, nth, answer);
         check_id(rt, granted, &sink, section.id());
         if granted {
-            return Ok(());
+            return;
         }
     }
     panic!(rt; "no call was granted")
 }
 
 #[test]
-fn functions(rt: HostRuntime) -> Result<(), Fail> {
+fn functions(rt: HostRuntime) {
     let heap = Refusing::new(rt.alloc());
     check_adding(&rt, &heap, &[128, 1], |section: &mut FunctionSection<_>| {
         section.function(128)
-    })?;
+    });
     check_adding(&rt, &heap, &[128, 1], |section: &mut FunctionSection<_>| {
         section.add(&128u32)
     })
 }
 
 #[test]
-fn globals(rt: HostRuntime) -> Result<(), Fail> {
+fn globals(rt: HostRuntime) {
     let heap = Refusing::new(rt.alloc());
-    let init = ConstExpr::i32_const(rt.alloc(), 42)?;
+    let init = ConstExpr::i32_const(rt.alloc(), 42).expect(&rt, "accepted");
     check_adding(
         &rt,
         &heap,
@@ -156,21 +150,21 @@ fn globals(rt: HostRuntime) -> Result<(), Fail> {
 }
 
 #[test]
-fn tables(rt: HostRuntime) -> Result<(), Fail> {
+fn tables(rt: HostRuntime) {
     let heap = Refusing::new(rt.alloc());
     check_adding(
         &rt,
         &heap,
         &[112, 5, 1, 2],
         |section: &mut TableSection<_>| section.table(LIMITED_TABLE),
-    )?;
+    );
     check_adding(
         &rt,
         &heap,
         &[112, 5, 1, 2],
         |section: &mut TableSection<_>| section.add(&LIMITED_TABLE),
-    )?;
-    let init = ConstExpr::ref_null(rt.alloc(), HeapType::FUNC)?;
+    );
+    let init = ConstExpr::ref_null(rt.alloc(), HeapType::FUNC).expect(&rt, "accepted");
     check_adding(
         &rt,
         &heap,
@@ -180,14 +174,14 @@ fn tables(rt: HostRuntime) -> Result<(), Fail> {
 }
 
 #[test]
-fn memories(rt: HostRuntime) -> Result<(), Fail> {
+fn memories(rt: HostRuntime) {
     let heap = Refusing::new(rt.alloc());
     check_adding(
         &rt,
         &heap,
         &[15, 1, 2, 0],
         |section: &mut MemorySection<_>| section.memory(LIMITED_MEMORY),
-    )?;
+    );
     check_adding(
         &rt,
         &heap,
@@ -197,11 +191,11 @@ fn memories(rt: HostRuntime) -> Result<(), Fail> {
 }
 
 #[test]
-fn tags(rt: HostRuntime) -> Result<(), Fail> {
+fn tags(rt: HostRuntime) {
     let heap = Refusing::new(rt.alloc());
     check_adding(&rt, &heap, &[0, 3], |section: &mut TagSection<_>| {
         section.tag(TAG)
-    })?;
+    });
     check_adding(&rt, &heap, &[0, 3], |section: &mut TagSection<_>| {
         section.add(&TAG)
     })
@@ -214,14 +208,14 @@ const EXPORT: Export<'static> = Export {
 };
 
 #[test]
-fn exports(rt: HostRuntime) -> Result<(), Fail> {
+fn exports(rt: HostRuntime) {
     let heap = Refusing::new(rt.alloc());
     check_adding(
         &rt,
         &heap,
         &[1, b'm', 2, 0],
         |section: &mut ExportSection<_>| section.export("m", ExportKind::Memory, 0),
-    )?;
+    );
     check_adding(
         &rt,
         &heap,
@@ -239,20 +233,20 @@ const IMPORT: Import<'static> = Import {
 const IMPORT_BYTES: [u8; 6] = [1, b'm', 1, b'f', 32, 5];
 
 #[test]
-fn imports(rt: HostRuntime) -> Result<(), Fail> {
+fn imports(rt: HostRuntime) {
     let heap = Refusing::new(rt.alloc());
     check_adding(
         &rt,
         &heap,
         &IMPORT_BYTES,
         |section: &mut ImportSection<_>| section.import("m", "f", EntityType::FunctionExact(5)),
-    )?;
+    );
     check_adding(
         &rt,
         &heap,
         &IMPORT_BYTES,
         |section: &mut ImportSection<_>| section.add(&IMPORT),
-    )?;
+    );
     check_adding(
         &rt,
         &heap,
@@ -262,7 +256,7 @@ fn imports(rt: HostRuntime) -> Result<(), Fail> {
 }
 
 #[test]
-fn groups(rt: HostRuntime) -> Result<(), Fail> {
+fn groups(rt: HostRuntime) {
     let heap = Refusing::new(rt.alloc());
     let ty = EntityType::Function(0);
     check_adding(
@@ -275,7 +269,7 @@ fn groups(rt: HostRuntime) -> Result<(), Fail> {
                 items: CowSlice::Borrowed(&[ImportCompact { name: "a", ty }]),
             })
         },
-    )?;
+    );
     check_adding(
         &rt,
         &heap,
@@ -296,34 +290,34 @@ pub(crate) fn check_part<T: Encode>(
     heap: &Refusing<Global>,
     part: &T,
     expected: &[u8],
-) -> Result<(), Fail> {
+) {
     for nth in 1..MOST {
         heap.refuse(0);
-        let mut sink = Vec::from_slice(heap, &[7])?;
+        let mut sink = Vec::from_slice(heap, &[7]).expect(rt, "accepted");
         heap.refuse(nth);
         let answer = part.encode(&mut sink);
         let granted = check_answer(rt, heap, nth, answer);
         check_sink(rt, granted, &sink, expected);
         if granted {
-            return Ok(());
+            return;
         }
     }
     panic!(rt; "no call was granted")
 }
 
 #[test]
-fn types(rt: HostRuntime) -> Result<(), Fail> {
+fn types(rt: HostRuntime) {
     let heap = Refusing::new(rt.alloc());
-    check_part(&rt, &heap, &LIMITED_TABLE, &[112, 5, 1, 2])?;
-    check_part(&rt, &heap, &LIMITED_MEMORY, &[15, 1, 2, 0])?;
-    check_part(&rt, &heap, &SET_GLOBAL, &[126, 3])?;
-    check_part(&rt, &heap, &TAG, &[0, 3])?;
-    check_part(&rt, &heap, &ExportKind::Tag, &[4])?;
+    check_part(&rt, &heap, &LIMITED_TABLE, &[112, 5, 1, 2]);
+    check_part(&rt, &heap, &LIMITED_MEMORY, &[15, 1, 2, 0]);
+    check_part(&rt, &heap, &SET_GLOBAL, &[126, 3]);
+    check_part(&rt, &heap, &TAG, &[0, 3]);
+    check_part(&rt, &heap, &ExportKind::Tag, &[4]);
     check_part(&rt, &heap, &EXPORT, &[1, b'm', 2, 0])
 }
 
 #[test]
-fn entities(rt: HostRuntime) -> Result<(), Fail> {
+fn entities(rt: HostRuntime) {
     let heap = Refusing::new(rt.alloc());
     for (ty, expected) in [
         (EntityType::Function(128), [0, 128, 1].as_slice()),
@@ -333,25 +327,24 @@ fn entities(rt: HostRuntime) -> Result<(), Fail> {
         (EntityType::Tag(TAG), &[4, 0, 3]),
         (EntityType::FunctionExact(5), &[32, 5]),
     ] {
-        check_part(&rt, &heap, &ty, expected)?;
+        check_part(&rt, &heap, &ty, expected);
     }
-    Ok(())
 }
 
 #[test]
-fn parts_of_imports(rt: HostRuntime) -> Result<(), Fail> {
+fn parts_of_imports(rt: HostRuntime) {
     let heap = Refusing::new(rt.alloc());
     let ty = EntityType::Function(0);
     let items = [ImportCompact { name: "a", ty }];
-    check_part(&rt, &heap, &IMPORT, &IMPORT_BYTES)?;
-    check_part(&rt, &heap, &items[0], &[1, b'a', 0, 0])?;
+    check_part(&rt, &heap, &IMPORT, &IMPORT_BYTES);
+    check_part(&rt, &heap, &items[0], &[1, b'a', 0, 0]);
     let single: Imports<'_> = Imports::Single(IMPORT);
-    check_part(&rt, &heap, &single, &IMPORT_BYTES)?;
+    check_part(&rt, &heap, &single, &IMPORT_BYTES);
     let named: Imports<'_> = Imports::Compact1 {
         module: "m",
         items: CowSlice::Borrowed(&items),
     };
-    check_part(&rt, &heap, &named, &[1, b'm', 0, 127, 1, 1, b'a', 0, 0])?;
+    check_part(&rt, &heap, &named, &[1, b'm', 0, 127, 1, 1, b'a', 0, 0]);
     let alike: Imports<'_> = Imports::Compact2 {
         module: "m",
         ty,
@@ -369,22 +362,22 @@ fn check_clone_of_imports<'h>(
     heap: &'h Refusing<Global>,
     imports: OwnedImports<'h>,
     expected: &[u8],
-) -> Result<(), Fail> {
+) {
     heap.refuse(1);
     check_refused(rt, imports.clone().err());
-    check_part(rt, heap, &imports, expected)?;
+    check_part(rt, heap, &imports, expected);
     heap.refuse(2);
-    let copy = imports.clone()?;
+    let copy = imports.clone().expect(rt, "accepted");
     check_that(rt, heap.is_waiting());
-    check_part(rt, heap, &copy, expected)?;
+    check_part(rt, heap, &copy, expected);
     check_part(rt, heap, &imports, expected)
 }
 
 #[test]
-fn clones_of_owned_items(rt: HostRuntime) -> Result<(), Fail> {
+fn clones_of_owned_items(rt: HostRuntime) {
     let heap = Refusing::new(rt.alloc());
     let ty = EntityType::Function(0);
-    let items = Vec::from_slice(&heap, &[ImportCompact { name: "a", ty }])?;
+    let items = Vec::from_slice(&heap, &[ImportCompact { name: "a", ty }]).expect(&rt, "accepted");
     let named = Imports::Compact1 {
         module: "m",
         items: CowSlice::Owned(items),
@@ -393,11 +386,11 @@ fn clones_of_owned_items(rt: HostRuntime) -> Result<(), Fail> {
 }
 
 #[test]
-fn clones_of_owned_names(rt: HostRuntime) -> Result<(), Fail> {
+fn clones_of_owned_names(rt: HostRuntime) {
     let heap = Refusing::new(rt.alloc());
     let mut names = Vec::new(&heap);
-    names.push("a")?;
-    names.push("b")?;
+    names.push("a").expect(&rt, "accepted");
+    names.push("b").expect(&rt, "accepted");
     let alike = Imports::Compact2 {
         module: "m",
         ty: EntityType::Function(0),
@@ -413,35 +406,35 @@ fn clones_of_owned_names(rt: HostRuntime) -> Result<(), Fail> {
 
 /// A clone of what is borrowed takes no memory.
 #[test]
-fn clones_of_borrowed_imports(rt: HostRuntime) -> Result<(), Fail> {
+fn clones_of_borrowed_imports(rt: HostRuntime) {
     let heap = Refusing::new(rt.alloc());
     let single: OwnedImports<'_> = Imports::Single(IMPORT);
     heap.refuse(1);
-    let copy = single.clone()?;
+    let copy = single.clone().expect(&rt, "accepted");
     check_that(&rt, heap.is_waiting());
-    check_part(&rt, &heap, &copy, &IMPORT_BYTES)?;
+    check_part(&rt, &heap, &copy, &IMPORT_BYTES);
     let alike: OwnedImports<'_> = Imports::Compact2 {
         module: "m",
         ty: EntityType::Function(0),
         names: CowSlice::Borrowed(&["a"]),
     };
     heap.refuse(1);
-    let copy = alike.clone()?;
+    let copy = alike.clone().expect(&rt, "accepted");
     check_that(&rt, heap.is_waiting());
     check_part(&rt, &heap, &copy, &[1, b'm', 0, 126, 0, 0, 1, 1, b'a'])
 }
 
 /// Sections of one number.
 #[test]
-fn numbers(rt: HostRuntime) -> Result<(), Fail> {
+fn numbers(rt: HostRuntime) {
     let heap = Refusing::new(rt.alloc());
     let start = StartSection {
         function_index: 300,
     };
-    check_encode(&rt, &heap, &start)?;
-    check_append_to(&rt, &heap, &start)?;
+    check_encode(&rt, &heap, &start);
+    check_append_to(&rt, &heap, &start);
     let count = DataCountSection { count: 128 };
-    check_encode(&rt, &heap, &count)?;
+    check_encode(&rt, &heap, &count);
     check_append_to(&rt, &heap, &count)
 }
 
@@ -458,7 +451,7 @@ fn check_added(rt: &impl Abort, answer: Result<(), (usize, Refused)>, sink: &[u8
 }
 
 #[test]
-fn adding_all(rt: HostRuntime) -> Result<(), Fail> {
+fn adding_all(rt: HostRuntime) {
     let heap = Refusing::new(rt.alloc());
     for nth in 1..MOST {
         let mut section = FunctionSection::new(&heap);
@@ -466,10 +459,10 @@ fn adding_all(rt: HostRuntime) -> Result<(), Fail> {
         let answer = add_all(&mut section, &[1u32, 128]);
         let granted = heap.is_waiting();
         let mut sink = Vec::new(rt.alloc());
-        section.encode(&mut sink)?;
+        section.encode(&mut sink).expect(&rt, "accepted");
         check_that(&rt, check_added(&rt, answer, &sink) == granted);
         if granted {
-            return Ok(());
+            return;
         }
     }
     panic!(rt; "no call was granted")
@@ -487,7 +480,7 @@ fn check_stopped(rt: &impl Abort, answer: Result<(), (usize, Refused)>, len: u32
 
 /// `add_all` where the second item is refused: the room of the first is taken, and no more is given.
 #[test]
-fn adding_one_of_two(rt: HostRuntime) -> Result<(), Fail> {
+fn adding_one_of_two(rt: HostRuntime) {
     let heap = Refusing::new(rt.alloc());
     let long = Export {
         name: LONG,
@@ -500,7 +493,7 @@ fn adding_one_of_two(rt: HostRuntime) -> Result<(), Fail> {
         let answer = add_all(&mut section, &[EXPORT, long]);
         if heap.is_waiting() {
             check_that(&rt, answer.is_ok() && stopped);
-            return Ok(());
+            return;
         }
         stopped = check_stopped(&rt, answer, section.len()) == 1 || stopped;
     }

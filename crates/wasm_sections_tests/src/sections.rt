@@ -4,7 +4,6 @@ use crate::checks::{check_bytes, check_number, check_piece, check_that};
 use crate::samples::{GLOBAL, LIMITED_MEMORY, LIMITED_TABLE, MEMORY, SET_GLOBAL, TABLE, TAG};
 use std::alloc::Global;
 use std::process::Abort;
-use std::test::Fail;
 use wasm_base::{Counted, CowSlice, Encode, HeapType, Section, ValType, add_all};
 use wasm_code::ConstExpr;
 use wasm_sections::{
@@ -20,14 +19,13 @@ pub(crate) fn check<S: Section>(
     section: &S,
     id: u8,
     expected: &[u8],
-) -> Result<(), Fail> {
+) {
     let mut sink = Vec::new(alloc);
-    section.encode(&mut sink)?;
+    section.encode(&mut sink).expect(rt, "accepted");
     check_bytes(rt, &sink, expected);
     sink.clear();
-    section.append_to(&mut sink)?;
+    section.append_to(&mut sink).expect(rt, "accepted");
     check_id(rt, section.id(), sink.first(), id);
-    Ok(())
 }
 
 /// The section has this id, and so does its text with the id before it.
@@ -41,71 +39,74 @@ fn check_len(rt: &impl Abort, len: u32, expected: u32) {
 }
 
 #[test]
-fn functions(rt: HostRuntime) -> Result<(), Fail> {
+fn functions(rt: HostRuntime) {
     let mut section = FunctionSection::new(rt.alloc());
     check_that(&rt, section.is_empty());
-    check(&rt, rt.alloc(), &section, 3, &[1, 0])?;
+    check(&rt, rt.alloc(), &section, 3, &[1, 0]);
     check_that(&rt, add_all(&mut section, &[1u32, 128]).is_ok());
-    check(&rt, rt.alloc(), &section, 3, &[4, 2, 1, 128, 1])?;
+    check(&rt, rt.alloc(), &section, 3, &[4, 2, 1, 128, 1]);
     check_len(&rt, section.len(), 2);
     check_piece(&rt, section.piece(1), Some(&[128, 1]));
     check_piece(&rt, section.piece(2), None);
-    Ok(())
 }
 
 #[test]
-fn copies(rt: HostRuntime) -> Result<(), Fail> {
+fn copies(rt: HostRuntime) {
     let mut section = FunctionSection::new(rt.alloc());
-    section.function(1)?;
-    section.function(128)?;
-    let mut same = section.clone()?;
-    same.function(0)?;
-    check(&rt, rt.alloc(), &same, 3, &[5, 3, 1, 128, 1, 0])?;
+    section.function(1).expect(&rt, "accepted");
+    section.function(128).expect(&rt, "accepted");
+    let mut same = section.clone().expect(&rt, "accepted");
+    same.function(0).expect(&rt, "accepted");
+    check(&rt, rt.alloc(), &same, 3, &[5, 3, 1, 128, 1, 0]);
     check(&rt, rt.alloc(), &section, 3, &[4, 2, 1, 128, 1])
 }
 
 /// A section of a global of this first value.
-fn check_global(rt: &impl Abort, alloc: Global, value: i32, expected: &[u8]) -> Result<(), Fail> {
+fn check_global(rt: &impl Abort, alloc: Global, value: i32, expected: &[u8]) {
     let mut section = GlobalSection::new(alloc);
-    section.global(GLOBAL, &ConstExpr::i32_const(alloc, value)?)?;
+    section
+        .global(
+            GLOBAL,
+            &ConstExpr::i32_const(alloc, value).expect(rt, "accepted"),
+        )
+        .expect(rt, "accepted");
     check(rt, alloc, &section, 6, expected)
 }
 
 #[test]
-fn globals(rt: HostRuntime) -> Result<(), Fail> {
-    check_global(&rt, rt.alloc(), 42, &[6, 1, 127, 0, 65, 42, 11])?;
-    check_global(&rt, rt.alloc(), -1, &[6, 1, 127, 0, 65, 127, 11])?;
+fn globals(rt: HostRuntime) {
+    check_global(&rt, rt.alloc(), 42, &[6, 1, 127, 0, 65, 42, 11]);
+    check_global(&rt, rt.alloc(), -1, &[6, 1, 127, 0, 65, 127, 11]);
     let mut section = GlobalSection::new(rt.alloc());
-    section.global(SET_GLOBAL, &ConstExpr::empty(rt.alloc()))?;
+    section
+        .global(SET_GLOBAL, &ConstExpr::empty(rt.alloc()))
+        .expect(&rt, "accepted");
     check_piece(&rt, section.piece(0), Some(&[126, 3, 11]));
-    Ok(())
 }
 
 #[test]
-fn page_sizes(rt: HostRuntime) -> Result<(), Fail> {
+fn page_sizes(rt: HostRuntime) {
     assert_eq!(rt;
         (LIMITED_MEMORY.page_size(), LIMITED_MEMORY.page_size_log2()),
         (1, 0)
     );
     assert_eq!(rt; (MEMORY.page_size(), MEMORY.page_size_log2()), (65536, 16));
-    Ok(())
 }
 
 #[test]
-fn memories(rt: HostRuntime) -> Result<(), Fail> {
+fn memories(rt: HostRuntime) {
     for (ty, expected) in [
         (MEMORY, [3, 1, 0, 1].as_slice()),
         (LIMITED_MEMORY, &[5, 1, 15, 1, 2, 0]),
     ] {
         let mut section = MemorySection::new(rt.alloc());
-        section.memory(ty)?;
-        check(&rt, rt.alloc(), &section, 5, expected)?;
+        section.memory(ty).expect(&rt, "accepted");
+        check(&rt, rt.alloc(), &section, 5, expected);
     }
-    Ok(())
 }
 
 #[test]
-fn tables(rt: HostRuntime) -> Result<(), Fail> {
+fn tables(rt: HostRuntime) {
     assert_eq!(rt; LIMITED_TABLE.index_type(), ValType::I64);
     assert_eq!(rt; TABLE.index_type(), ValType::I32);
     for (ty, expected) in [
@@ -113,29 +114,30 @@ fn tables(rt: HostRuntime) -> Result<(), Fail> {
         (LIMITED_TABLE, &[5, 1, 112, 5, 1, 2]),
     ] {
         let mut section = TableSection::new(rt.alloc());
-        section.table(ty)?;
-        check(&rt, rt.alloc(), &section, 4, expected)?;
+        section.table(ty).expect(&rt, "accepted");
+        check(&rt, rt.alloc(), &section, 4, expected);
     }
-    Ok(())
 }
 
 #[test]
-fn first_values(rt: HostRuntime) -> Result<(), Fail> {
+fn first_values(rt: HostRuntime) {
     let empty = TableType {
         minimum: 0,
         ..TABLE
     };
-    let null = ConstExpr::ref_null(rt.alloc(), HeapType::FUNC)?;
+    let null = ConstExpr::ref_null(rt.alloc(), HeapType::FUNC).expect(&rt, "accepted");
     let mut section = TableSection::new(rt.alloc());
-    section.table_with_init(empty, &null)?;
+    section
+        .table_with_init(empty, &null)
+        .expect(&rt, "accepted");
     check(
         &rt,
         rt.alloc(),
         &section,
         4,
         &[9, 1, 64, 0, 112, 0, 0, 208, 112, 11],
-    )?;
-    section.table(empty)?;
+    );
+    section.table(empty).expect(&rt, "accepted");
     check(
         &rt,
         rt.alloc(),
@@ -146,42 +148,44 @@ fn first_values(rt: HostRuntime) -> Result<(), Fail> {
 }
 
 #[test]
-fn tags(rt: HostRuntime) -> Result<(), Fail> {
+fn tags(rt: HostRuntime) {
     let mut section = TagSection::new(rt.alloc());
-    section.tag(TAG)?;
+    section.tag(TAG).expect(&rt, "accepted");
     check(&rt, rt.alloc(), &section, 13, &[3, 1, 0, 3])
 }
 
 #[test]
-fn exports(rt: HostRuntime) -> Result<(), Fail> {
+fn exports(rt: HostRuntime) {
     let mut section = ExportSection::new(rt.alloc());
-    section.export("foo", ExportKind::Func, 0)?;
+    section
+        .export("foo", ExportKind::Func, 0)
+        .expect(&rt, "accepted");
     check(
         &rt,
         rt.alloc(),
         &section,
         7,
         &[7, 1, 3, b'f', b'o', b'o', 0, 0],
-    )?;
-    section.add(&Export {
-        name: "m",
-        kind: ExportKind::Memory,
-        index: 1,
-    })?;
+    );
+    section
+        .add(&Export {
+            name: "m",
+            kind: ExportKind::Memory,
+            index: 1,
+        })
+        .expect(&rt, "accepted");
     check_piece(&rt, section.piece(1), Some(&[1, b'm', 2, 1]));
-    Ok(())
 }
 
 /// The kind is written as this byte.
-fn check_kind(rt: &impl Abort, alloc: Global, kind: ExportKind, byte: u8) -> Result<(), Fail> {
+fn check_kind(rt: &impl Abort, alloc: Global, kind: ExportKind, byte: u8) {
     let mut sink = Vec::new(alloc);
-    kind.encode(&mut sink)?;
+    kind.encode(&mut sink).expect(rt, "accepted");
     check_bytes(rt, &sink, &[byte]);
-    Ok(())
 }
 
 #[test]
-fn kinds(rt: HostRuntime) -> Result<(), Fail> {
+fn kinds(rt: HostRuntime) {
     for (kind, byte) in [
         (ExportKind::Func, 0x00u8),
         (ExportKind::Table, 0x01),
@@ -189,31 +193,24 @@ fn kinds(rt: HostRuntime) -> Result<(), Fail> {
         (ExportKind::Global, 0x03),
         (ExportKind::Tag, 0x04),
     ] {
-        check_kind(&rt, rt.alloc(), kind, byte)?;
+        check_kind(&rt, rt.alloc(), kind, byte);
     }
-    Ok(())
 }
 
 /// A section of one import.
-fn check_import(
-    rt: &impl Abort,
-    alloc: Global,
-    import: Imports<'_>,
-    expected: &[u8],
-) -> Result<(), Fail> {
+fn check_import(rt: &impl Abort, alloc: Global, import: Imports<'_>, expected: &[u8]) {
     let mut section = ImportSection::new(alloc);
-    let same = import.clone()?;
-    section.imports(import)?;
-    check(rt, alloc, &section, 2, expected)?;
+    let same = import.clone().expect(rt, "accepted");
+    section.imports(import).expect(rt, "accepted");
+    check(rt, alloc, &section, 2, expected);
     check_len(rt, section.len(), 1);
-    section.imports(same)?;
+    section.imports(same).expect(rt, "accepted");
     check_len(rt, section.len(), 2);
     check_piece(rt, section.piece(0), section.piece(1));
-    Ok(())
 }
 
 #[test]
-fn imports(rt: HostRuntime) -> Result<(), Fail> {
+fn imports(rt: HostRuntime) {
     let ty = EntityType::Function(0);
     let single = Import {
         module: "m",
@@ -225,7 +222,7 @@ fn imports(rt: HostRuntime) -> Result<(), Fail> {
         rt.alloc(),
         Imports::Single(single),
         &[6, 1, 1, b'm', 0, 0, 5],
-    )?;
+    );
     let items = [ImportCompact { name: "a", ty }];
     let named = Imports::Compact1 {
         module: "m",
@@ -236,12 +233,12 @@ fn imports(rt: HostRuntime) -> Result<(), Fail> {
         rt.alloc(),
         named,
         &[10, 1, 1, b'm', 0, 127, 1, 1, b'a', 0, 0],
-    )?;
+    );
     let none = Imports::Compact1 {
         module: "m",
         items: CowSlice::Borrowed(&[]),
     };
-    check_import(&rt, rt.alloc(), none, &[6, 1, 1, b'm', 0, 127, 0])?;
+    check_import(&rt, rt.alloc(), none, &[6, 1, 1, b'm', 0, 127, 0]);
     let alike = Imports::Compact2 {
         module: "m",
         ty,
@@ -256,22 +253,25 @@ fn imports(rt: HostRuntime) -> Result<(), Fail> {
 }
 
 #[test]
-fn owned_groups(rt: HostRuntime) -> Result<(), Fail> {
+fn owned_groups(rt: HostRuntime) {
     let ty = EntityType::Function(0);
     let named = Imports::Compact1 {
         module: "m",
-        items: CowSlice::Owned(Vec::from_slice(rt.alloc(), &[ImportCompact { name: "a", ty }])?),
+        items: CowSlice::Owned(Vec::from_slice(
+            rt.alloc(),
+            &[ImportCompact { name: "a", ty }],
+        ).expect(&rt, "accepted")),
     };
     check_import(
         &rt,
         rt.alloc(),
         named,
         &[10, 1, 1, b'm', 0, 127, 1, 1, b'a', 0, 0],
-    )?;
+    );
     let alike = Imports::Compact2 {
         module: "m",
         ty,
-        names: CowSlice::Owned(Vec::from_slice(rt.alloc(), &["a", "b"])?),
+        names: CowSlice::Owned(Vec::from_slice(rt.alloc(), &["a", "b"]).expect(&rt, "accepted")),
     };
     check_import(
         &rt,
@@ -282,21 +282,15 @@ fn owned_groups(rt: HostRuntime) -> Result<(), Fail> {
 }
 
 /// What an import of the type has after its names.
-fn check_entity(
-    rt: &impl Abort,
-    alloc: Global,
-    ty: EntityType,
-    expected: &[u8],
-) -> Result<(), Fail> {
+fn check_entity(rt: &impl Abort, alloc: Global, ty: EntityType, expected: &[u8]) {
     let mut section = ImportSection::new(alloc);
-    section.import("m", "f", ty)?;
+    section.import("m", "f", ty).expect(rt, "accepted");
     let entry = section.piece(0).unwrap_or(&[]);
     check_bytes(rt, &entry[4.min(entry.len())..], expected);
-    Ok(())
 }
 
 #[test]
-fn entities(rt: HostRuntime) -> Result<(), Fail> {
+fn entities(rt: HostRuntime) {
     for (ty, expected) in [
         (EntityType::Function(128), [0, 128, 1].as_slice()),
         (EntityType::from(TABLE), &[1, 112, 0, 128, 1]),
@@ -305,24 +299,27 @@ fn entities(rt: HostRuntime) -> Result<(), Fail> {
         (EntityType::from(TAG), &[4, 0, 3]),
         (EntityType::FunctionExact(5), &[32, 5]),
     ] {
-        check_entity(&rt, rt.alloc(), ty, expected)?;
+        check_entity(&rt, rt.alloc(), ty, expected);
     }
-    Ok(())
 }
 
 #[test]
-fn imported(rt: HostRuntime) -> Result<(), Fail> {
+fn imported(rt: HostRuntime) {
     let mut section = ImportSection::new(rt.alloc());
-    section.import("m", "f", EntityType::FunctionExact(5))?;
+    section
+        .import("m", "f", EntityType::FunctionExact(5))
+        .expect(&rt, "accepted");
     check(
         &rt,
         rt.alloc(),
         &section,
         2,
         &[7, 1, 1, b'm', 1, b'f', 32, 5],
-    )?;
+    );
     let mut section = ImportSection::new(rt.alloc());
-    section.import("env", "memory", EntityType::Memory(MEMORY))?;
+    section
+        .import("env", "memory", EntityType::Memory(MEMORY))
+        .expect(&rt, "accepted");
     check(
         &rt,
         rt.alloc(),
@@ -333,11 +330,11 @@ fn imported(rt: HostRuntime) -> Result<(), Fail> {
 }
 
 #[test]
-fn numbers(rt: HostRuntime) -> Result<(), Fail> {
+fn numbers(rt: HostRuntime) {
     let start = StartSection {
         function_index: 300,
     };
-    check(&rt, rt.alloc(), &start, 8, &[2, 0xAC, 2])?;
+    check(&rt, rt.alloc(), &start, 8, &[2, 0xAC, 2]);
     check(
         &rt,
         rt.alloc(),
@@ -348,15 +345,14 @@ fn numbers(rt: HostRuntime) -> Result<(), Fail> {
 }
 
 #[test]
-fn from_callers(rt: HostRuntime) -> Result<(), Fail> {
+fn from_callers(rt: HostRuntime) {
     let mut sink = Vec::new(rt.alloc());
-    encode_copied(&mut sink, 0)?;
+    encode_copied(&mut sink, 0).expect(&rt, "accepted");
     check_bytes(&rt, &sink, &[6, 1, 127, 0, 35, 0, 11]);
     sink.clear();
-    encode_null_tables(&mut sink, 0)?;
+    encode_null_tables(&mut sink, 0).expect(&rt, "accepted");
     let expected = [12, 2, 112, 0, 0, 64, 0, 112, 0, 0, 208, 112, 11];
     check_bytes(&rt, &sink, &expected);
-    Ok(())
 }
 
 #[test]

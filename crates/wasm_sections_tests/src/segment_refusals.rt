@@ -7,7 +7,6 @@ use crate::section_refusals::{check_adding, check_part};
 use std::alloc::Global;
 use std::cell::Cell;
 use std::process::Abort;
-use std::test::Fail;
 use test_support::Refusing;
 use wasm_base::{CowSlice, Encode, R, RefType, Refused};
 use wasm_code::ConstExpr;
@@ -20,13 +19,13 @@ const BYTES: [u8; 2] = [8, 9];
 
 #[test]
 #[tactic(auto, using(wasm_base::proofs::KnownLengths::drained_array))]
-fn active_data(rt: HostRuntime) -> Result<(), Fail> {
+fn active_data(rt: HostRuntime) {
     let heap = Refusing::new(rt.alloc());
-    let offset = ConstExpr::i32_const(rt.alloc(), 0)?;
+    let offset = ConstExpr::i32_const(rt.alloc(), 0).expect(&rt, "accepted");
     let first = [0, 65, 0, 11, 2, 8, 9];
     check_adding(&rt, &heap, &first, |section: &mut DataSection<_>| {
         section.active(0, &offset, BYTES)
-    })?;
+    });
     let other = [2, 1, 65, 0, 11, 2, 8, 9];
     check_adding(&rt, &heap, &other, |section: &mut DataSection<_>| {
         section.active(1, &offset, BYTES)
@@ -35,22 +34,22 @@ fn active_data(rt: HostRuntime) -> Result<(), Fail> {
 
 #[test]
 #[tactic(auto, using(wasm_base::proofs::KnownLengths::drained_array))]
-fn passive_data(rt: HostRuntime) -> Result<(), Fail> {
+fn passive_data(rt: HostRuntime) {
     let heap = Refusing::new(rt.alloc());
     check_adding(&rt, &heap, &[1, 2, 8, 9], |section: &mut DataSection<_>| {
         section.passive(BYTES)
-    })?;
+    });
     check_adding(&rt, &heap, &[1, 2, 8, 9], |section: &mut DataSection<_>| {
         let mode: DataSegmentMode<'_> = DataSegmentMode::Passive;
         section.segment(DataSegment { mode, bytes: BYTES })
-    })?;
+    });
     check_adding(&rt, &heap, &[1, 0], |section: &mut DataSection<_>| {
         section.raw(&[1, 0])
     })
 }
 
 #[test]
-fn raw_globals(rt: HostRuntime) -> Result<(), Fail> {
+fn raw_globals(rt: HostRuntime) {
     let heap = Refusing::new(rt.alloc());
     let entry = [127, 0, 65, 42, 11];
     check_adding(&rt, &heap, &entry, |section: &mut GlobalSection<_>| {
@@ -64,25 +63,25 @@ fn seventh<'a>() -> Elements<'a> {
 }
 
 #[test]
-fn elements(rt: HostRuntime) -> Result<(), Fail> {
+fn elements(rt: HostRuntime) {
     let heap = Refusing::new(rt.alloc());
-    let offset = ConstExpr::i32_const(rt.alloc(), 0)?;
+    let offset = ConstExpr::i32_const(rt.alloc(), 0).expect(&rt, "accepted");
     let active = [2, 7, 65, 0, 11, 0, 1, 7];
     check_adding(&rt, &heap, &active, |section: &mut ElementSection<_>| {
         section.active(Some(7), &offset, seventh())
-    })?;
+    });
     check_adding(
         &rt,
         &heap,
         &[1, 0, 1, 7],
         |section: &mut ElementSection<_>| { section.passive(seventh()) },
-    )?;
+    );
     check_adding(
         &rt,
         &heap,
         &[3, 0, 1, 7],
         |section: &mut ElementSection<_>| { section.declared(seventh()) },
-    )?;
+    );
     check_adding(&rt, &heap, &[1, 0, 0], |section: &mut ElementSection<_>| {
         section.raw(&[1, 0, 0])
     })
@@ -105,26 +104,26 @@ fn check_clone<'h>(
     nth: u64,
     copy: R<ElementSegment<'h, &'h Refusing<Global>>>,
     expected: &[u8],
-) -> Result<bool, Fail> {
+) -> bool {
     let granted = heap.is_waiting();
     match copy {
-        Ok(segment) => check_part(rt, heap, &segment, expected)?,
+        Ok(segment) => check_part(rt, heap, &segment, expected),
         Err(refused) => check_refused(rt, Some(refused)),
     }
     check_that(rt, !granted || nth > 1);
-    Ok(granted)
+    granted
 }
 
 #[test]
-fn clones(rt: HostRuntime) -> Result<(), Fail> {
+fn clones(rt: HostRuntime) {
     let heap = Refusing::new(rt.alloc());
     let segment = ElementSegment {
         mode: ElementMode::Passive,
-        elements: third(&heap)?,
+        elements: third(&heap).expect(&rt, "accepted"),
     };
     for nth in 1..MOST {
         heap.refuse(nth);
-        if check_clone(&rt, &heap, nth, segment.clone(), &[5, 112, 1, 210, 3, 11])? {
+        if check_clone(&rt, &heap, nth, segment.clone(), &[5, 112, 1, 210, 3, 11]) {
             return check_part(&rt, &heap, &segment, &[5, 112, 1, 210, 3, 11]);
         }
     }
@@ -134,21 +133,20 @@ fn clones(rt: HostRuntime) -> Result<(), Fail> {
 /// 128 zero bytes go into a sink that has room for their section, where no memory is given; into one of a byte less they do not.
 #[test]
 #[tactic(auto, using(wasm_base::proofs::KnownLengths::drained_array))]
-fn exact_room(rt: HostRuntime) -> Result<(), Fail> {
+fn exact_room(rt: HostRuntime) {
     let mut section = DataSection::new(rt.alloc());
-    section.passive([0u8; 128])?;
+    section.passive([0u8; 128]).expect(&rt, "accepted");
     let heap = Refusing::new(rt.alloc());
-    let mut sink = Vec::with_capacity(&heap, 134)?;
+    let mut sink = Vec::with_capacity(&heap, 134).expect(&rt, "accepted");
     heap.refuse(1);
-    section.encode(&mut sink)?;
+    section.encode(&mut sink).expect(&rt, "accepted");
     check_bytes(&rt, &sink[..6.min(sink.len())], &[0x84, 1, 1, 1, 0x80, 1]);
     check_number(&rt, sink.len(), 134);
     heap.refuse(0);
-    let mut short = Vec::with_capacity(&heap, 133)?;
+    let mut short = Vec::with_capacity(&heap, 133).expect(&rt, "accepted");
     heap.refuse(1);
     check_refused(&rt, section.encode(&mut short).err());
     check_bytes(&rt, &short, &[]);
-    Ok(())
 }
 
 /// Zero bytes, which count how often one was asked for.
@@ -189,13 +187,15 @@ fn check_asked(rt: &impl Abort, section: &DataSection, asked: &Cell<u64>, expect
 
 /// A length that is too long is answered before any byte is asked for, and the section stays as it was.
 #[test]
-fn too_many_bytes(rt: HostRuntime) -> Result<(), Fail> {
+fn too_many_bytes(rt: HostRuntime) {
     let asked = Cell::new(0);
     let mut section: DataSection = DataSection::new(rt.alloc());
-    section.passive(CountedBytes {
-        left: 2,
-        asked: &asked,
-    })?;
+    section
+        .passive(CountedBytes {
+            left: 2,
+            asked: &asked,
+        })
+        .expect(&rt, "accepted");
     check_that(&rt, asked.get() >= 2);
     asked.set(0);
     let refused = section.passive(CountedBytes {
@@ -204,18 +204,16 @@ fn too_many_bytes(rt: HostRuntime) -> Result<(), Fail> {
     });
     check_that(&rt, refused == Err(Refused::TooLong));
     check_asked(&rt, &section, &asked, 0);
-    Ok(())
 }
 
 /// The first growth refused, to 128 bytes.
 #[test]
 #[tactic(auto, using(wasm_base::proofs::KnownLengths::drained_array))]
-fn first_growth(rt: HostRuntime) -> Result<(), Fail> {
+fn first_growth(rt: HostRuntime) {
     let heap = Refusing::new(rt.alloc());
     let mut section = DataSection::new(&heap);
     heap.refuse(1);
     let answer = section.passive([0u8; 128]);
     check_that(&rt, !check_answer(&rt, &heap, 1, answer));
     check_that(&rt, section.is_empty());
-    Ok(())
 }
