@@ -38,7 +38,7 @@ bytes_none bytes n = record {
       n.none x rest (record { front = h.front; split = h.split; spelled = record { front = s.front; content = s.back; joined = s.joined; size = subst (λ z. u32 wide s.front (length z)) (sym same) s.first; spelled = same } });
 }
 
-pub ruleset bytes_steps = (bytes_read, bytes_none)
+pub ruleset bytes_steps = (bytes_read)
 
 -- ---- segments
 

@@ -42,7 +42,7 @@ flag_unknown bytes rest b h l = record {
   none = λ f last g. let same = reads_same u32-alone h (record { front = g.front; split = g.split; spelled = g.spelled }) in omega (arith, l, same.0, flag_small f);
 }
 
-pub ruleset flag_steps = (flag_reads, flag_none, flag_unknown)
+pub ruleset flag_steps = (flag_reads)
 
 -- ---- places
 
@@ -136,7 +136,7 @@ expressions_untold told bytes last es p h = expressions_at told p (mapped_reads 
 pub expressions_none_untold : (told : Bool) (bytes : List ℕ) → told ≡ false → ReadsNothing (vec expression) wide bytes → ReadsNothing (elements_as told true) wide bytes
 expressions_none_untold told bytes p n = no_expressions_at told p (mapped_nothing list_of (then_nothing_second (fixed-alone [] FUNCREF) (fixed_reads bytes FUNCREF) n))
 
-pub ruleset expression_steps = (expressions_read, expressions_none, expressions_untold, expressions_none_untold)
+pub ruleset expression_steps = (expressions_read)
 
 -- ---- elements of both kinds
 
@@ -152,7 +152,7 @@ as_functions told of_expressions bytes rest x e h = subst (λ z. Reads (elements
 pub no_functions : (told of_expressions : Bool) (bytes : List ℕ) → of_expressions ≡ false → ReadsNothing (elements_as told false) wide bytes → ReadsNothing (elements_as told of_expressions) wide bytes
 no_functions told of_expressions bytes e n = subst (λ z. ReadsNothing (elements_as told z) wide bytes) (sym e) n
 
-pub ruleset list_steps = (as_expressions, no_expressions, as_functions, no_functions)
+pub ruleset list_steps = (as_expressions)
 
 -- ---- segments
 

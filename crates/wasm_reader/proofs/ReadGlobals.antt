@@ -33,7 +33,7 @@ flags_small f = omega (arith, bit_low f.mutable, bit_low f.shared, weight_is f.s
 pub flags_unknown : (bytes rest : List ℕ) (b : ℕ) → Reads byte wide bytes b rest → 4 ≤ b → ReadsNothing (coded global_code) wide bytes
 flags_unknown bytes rest b h l = code_unknown global_code bytes rest b h (λ f e. omega (arith, l, e, flags_small f))
 
-pub ruleset flag_steps = (flags_read, flags_none, flags_unknown)
+pub ruleset flag_steps = (flags_read)
 
 pub type_reads : (bytes rest : List ℕ) (v : ValType) (f : GlobalFlags) → Reads (pair val_type (coded global_code)) wide bytes (v, f) rest → Reads global_type wide bytes (record { val_type = v; mutable = f.mutable; shared = f.shared }) rest
 type_reads bytes rest v f h = mapped_reads global_of h
@@ -41,7 +41,7 @@ type_reads bytes rest v f h = mapped_reads global_of h
 pub type_none : (bytes : List ℕ) → ReadsNothing (pair val_type (coded global_code)) wide bytes → ReadsNothing global_type wide bytes
 type_none bytes n = mapped_nothing global_of n
 
-pub ruleset type_steps = (type_reads, type_none)
+pub ruleset type_steps = (type_reads)
 
 pub item_reads : (bytes rest : List ℕ) (g : GlobalType) (is : List Plain) → Reads (pair global_type expression) wide bytes (g, is) rest → Reads global_item wide bytes (record { global_type = g; init = is }) rest
 item_reads bytes rest g is h = mapped_reads global_from h
@@ -49,4 +49,4 @@ item_reads bytes rest g is h = mapped_reads global_from h
 pub item_none : (bytes : List ℕ) → ReadsNothing (pair global_type expression) wide bytes → ReadsNothing global_item wide bytes
 item_none bytes n = mapped_nothing global_from n
 
-pub ruleset item_steps = (item_reads, item_none)
+pub ruleset item_steps = (item_reads)

@@ -75,7 +75,7 @@ entity_exact bytes rest last b n h e g = entity_at 0x20 h e (mapped_reads Functi
 pub entity_no_exact : (bytes rest : List ℕ) (b : ℕ) → Reads byte wide bytes b rest → b ≡ 0x20 → ReadsNothing u32 wide rest → ReadsNothing entity wide bytes
 entity_no_exact bytes rest b h e n = entity_not 0x20 h e (mapped_nothing FunctionExact n)
 
-pub ruleset entity_steps = (entity_unknown, entity_memory, entity_no_memory, entity_exact)
+pub ruleset entity_steps = (entity_unknown, entity_memory, entity_exact)
 
 -- ---- where a group stands
 

@@ -30,7 +30,7 @@ export_kind_unknown bytes rest b h l = code_unknown kind_code bytes rest b h oth
     other kinds.Global e = omega (arith, l, e)
     other kinds.Tag e = omega (arith, l, e)
 
-pub ruleset export_kind_steps = (export_kind_reads, export_kind_none, export_kind_unknown)
+pub ruleset export_kind_steps = (export_kind_reads, export_kind_unknown)
 
 pub export_reads : (bytes rest text : List ℕ) (k : ExportKind) (n : ℕ) → Reads (pair name (pair (coded kind_code) u32)) wide bytes (text, (k, n)) rest → Reads export wide bytes (record { name = text; kind = k; index = n }) rest
 export_reads bytes rest text k n h = mapped_reads export_of h
@@ -38,7 +38,7 @@ export_reads bytes rest text k n h = mapped_reads export_of h
 pub export_none : (bytes : List ℕ) → ReadsNothing (pair name (pair (coded kind_code) u32)) wide bytes → ReadsNothing export wide bytes
 export_none bytes n = mapped_nothing export_of n
 
-pub ruleset export_steps = (export_reads, export_none)
+pub ruleset export_steps = (export_reads)
 
 -- ---- tags
 
@@ -54,7 +54,7 @@ tag_kind_unknown bytes rest b h p = code_unknown tag_code bytes rest b h other
     other : (k : TagKind) → b ≢ tag_code k
     other Exception e = p e
 
-pub ruleset tag_kind_steps = (tag_kind_reads, tag_kind_none, tag_kind_unknown)
+pub ruleset tag_kind_steps = (tag_kind_reads)
 
 pub tag_reads : (bytes rest : List ℕ) (k : TagKind) (n : ℕ) → Reads (pair (coded tag_code) u32) wide bytes (k, n) rest → Reads tag_type wide bytes (record { kind = k; func_type_idx = n }) rest
 tag_reads bytes rest k n h = mapped_reads tag_of h
@@ -62,4 +62,4 @@ tag_reads bytes rest k n h = mapped_reads tag_of h
 pub tag_none : (bytes : List ℕ) → ReadsNothing (pair (coded tag_code) u32) wide bytes → ReadsNothing tag_type wide bytes
 tag_none bytes n = mapped_nothing tag_of n
 
-pub ruleset tag_steps = (tag_reads, tag_none)
+pub ruleset tag_steps = (tag_reads)

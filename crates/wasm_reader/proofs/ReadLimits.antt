@@ -39,7 +39,7 @@ flags_small f = omega (arith, bit_low f.has_maximum, bit_low f.shared, bit_low f
 pub flags_unknown : (bytes rest : List ℕ) (b : ℕ) → Reads byte wide bytes b rest → 16 ≤ b → ReadsNothing flags wide bytes
 flags_unknown bytes rest b h l = code_unknown flags_code bytes rest b h (λ f e. omega (arith, l, e, flags_small f))
 
-pub ruleset flag_steps = (flags_read, flags_none, flags_unknown)
+pub ruleset flag_steps = (flags_read)
 
 -- ---- memory types
 
@@ -107,4 +107,4 @@ table_reads bytes rest r l h = mapped_reads table_of h
 pub table_none : (bytes : List ℕ) → ReadsNothing (pair ref_type limits) wide bytes → ReadsNothing table_type wide bytes
 table_none bytes n = mapped_nothing table_of n
 
-pub ruleset table_steps = (table_reads, table_none)
+pub ruleset table_steps = (table_reads)

@@ -1,5 +1,5 @@
 use Rattle.wasm_reader_base.proofs.Faults.{fault_stays}
-use Rattle.wasm_reader.proofs.ReadImports.{entity_none, entity_no_function, entity_no_table, entity_no_global, entity_no_tag, entity_no_exact, entity_function, entity_table, entity_global, entity_tag}
+use Rattle.wasm_reader.proofs.ReadImports.{entity_none, entity_no_function, entity_no_table, entity_no_memory, entity_no_global, entity_no_tag, entity_no_exact, entity_function, entity_table, entity_global, entity_tag}
 use Rattle.wasm_reader.proofs.imports.EntityTypeItemHere.read_item.Goals as goal
 
 pub returns-in_err-kind-clause-none : goal.returns-in_err-kind-clause-none
@@ -12,6 +12,10 @@ returns-in_err-index-in-0-clause-none g c = fault_stays c.from_residual-in_err-i
 pub returns-in_err-ty-in-1-clause-none : goal.returns-in_err-ty-in-1-clause-none
 returns-in_err-ty-in-1-clause-none g c = fault_stays c.from_residual-in_err-ty-in-1.result _ c.from_residual-in_err-ty-in-1.ensures.1 λ n.
     entity_no_table c.args.bytes.now _ _ c.in_ok-kind.ensures.found c.in-1.is (c.in_err-ty-in-1.ensures.none n)
+
+pub returns-in_err-ty-in-2-clause-none : goal.returns-in_err-ty-in-2-clause-none
+returns-in_err-ty-in-2-clause-none g c = fault_stays c.from_residual-in_err-ty-in-2.result _ c.from_residual-in_err-ty-in-2.ensures.1 λ n.
+    entity_no_memory c.args.bytes.now _ _ c.in_ok-kind.ensures.found c.in-2.is (c.in_err-ty-in-2.ensures.none n)
 
 pub returns-in_err-ty-in-3-clause-none : goal.returns-in_err-ty-in-3-clause-none
 returns-in_err-ty-in-3-clause-none g c = fault_stays c.from_residual-in_err-ty-in-3.result _ c.from_residual-in_err-ty-in-3.ensures.1 λ n.

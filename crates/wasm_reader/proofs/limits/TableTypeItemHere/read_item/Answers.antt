@@ -1,0 +1,6 @@
+use Rattle.wasm_reader_base.proofs.Faults.{fault_stays}
+use Rattle.wasm_reader.proofs.ReadLimits.{table_none}
+use Rattle.wasm_reader.proofs.limits.TableTypeItemHere.read_item.Goals as goal
+
+pub returns-in_err-element_type-clause-none : goal.returns-in_err-element_type-clause-none
+returns-in_err-element_type-clause-none g c = fault_stays c.from_residual.result _ c.from_residual.ensures.1 λ n. table_none c.args.bytes.now (c.in_err-element_type.ensures.none n)
