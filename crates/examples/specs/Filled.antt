@@ -35,6 +35,10 @@ bytes_at_8 bytes = segments.active 0 (row (I32Const (pos 8)) ∷ []) bytes
 abbrev pub bytes_later : segments.DataItem
 bytes_later = segments.passive (1 ∷ 2 ∷ 3 ∷ [])
 
+-- the sections of what is to be filled, and of the function that fills it
+abbrev pub empty_sections : List SectionReading
+empty_sections = raw_reading 1 one_type ∷ import_reading (ready ∷ []) ∷ table_reading (three_places ∷ []) ∷ memory_reading (one_page ∷ []) ∷ []
+
 -- the sections in order
 abbrev pub filled_sections : List ℕ → List SectionReading
 filled_sections bytes =

@@ -1,5 +1,5 @@
 -- The module of eight sections.
-use Rattle.std.specs.Prelude.{ℕ, List, [], ◌∷◌, true, false, None, pos}
+use Rattle.std.specs.Prelude.{ℕ, List, [], ◌∷◌, ◌++◌, true, false, None, pos}
 use Rattle.wasm_base.specs.Modules.{SectionReading, raw_reading}
 use Rattle.wasm_base.specs.declared.types.ValType.TheVariants.{I32}
 use Rattle.wasm_code.specs.Bodies.{Body}
@@ -49,6 +49,14 @@ memory_export = record { name = 109 ∷ 101 ∷ 109 ∷ 111 ∷ 114 ∷ 121 ∷ 
 -- the start function
 abbrev pub start_body : Body
 start_body = record { runs = []; code = row (GlobalGet 0) ∷ row (Call 1) ∷ row (GlobalSet 0) ∷ row (Call 0) ∷ row End ∷ [] }
+
+-- the sections that declare what the functions are
+abbrev pub declared_sections : List SectionReading
+declared_sections = raw_reading 1 two_types ∷ import_reading (ready ∷ []) ∷ function_reading (1 ∷ 0 ∷ []) ∷ []
+
+-- these, and those of what is stored and seen from outside
+abbrev pub stored_sections : List SectionReading
+stored_sections = declared_sections ++ memory_reading (one_page ∷ []) ∷ global_reading (five ∷ []) ∷ export_reading (factorial_export ∷ memory_export ∷ []) ∷ []
 
 -- the sections in order
 abbrev pub whole_sections : List SectionReading

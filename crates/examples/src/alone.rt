@@ -10,11 +10,11 @@ ghost use Rattle.examples.specs.Bodies.{local_body};
 ghost use Rattle.examples.specs.Filled.{later};
 ghost use Rattle.examples.specs.Whole.{import_of_function, import_of_functions};
 
+use crate::bodies::local_function;
 use std::alloc::Allocator;
 use wasm_base::laws::plain_names;
 use wasm_base::{CowSlice, Encode, R, RefType, add_all};
-use wasm_code::{CodeSection, ConstExpr, Function};
-use wasm_insn::Instruction;
+use wasm_code::{CodeSection, ConstExpr};
 use wasm_sections::laws::plain_exports;
 use wasm_sections::{
     ElementSection, Elements, EntityType, Export, ExportSection, ImportSection, Imports,
@@ -25,11 +25,8 @@ pub fn encode_local<A: Allocator + Copy>(sink: &mut Vec<u8, A>, index: u32) -> R
     ensures { OnOk result (GainsReading code_section (local_body index ∷ []) sink.old.items sink.new.items) }
 {
     let alloc = *sink.allocator();
-    let mut function = Function::new(alloc, [])?;
-    function.instruction(&Instruction::LocalGet(index))?;
-    function.instruction(&Instruction::End)?;
     let mut code = CodeSection::new(alloc);
-    code.function(&function)?;
+    code.function(&local_function(alloc, index)?)?;
     code.encode(sink)
 }
 

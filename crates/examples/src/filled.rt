@@ -1,8 +1,8 @@
 // A module whose table and memory are filled.
-ghost use Rattle.std.specs.Prelude.{IfOk, [], ◌∷◌};
+ghost use Rattle.std.specs.Prelude.{IfOk, OnOk, [], ◌∷◌};
 ghost use Rattle.wasm_base.specs.Modules.{ReadsSections};
 ghost use Rattle.wasm_sections.specs.Readings.{HoldsTables, HoldsElements, HoldsSegments};
-ghost use Rattle.examples.specs.Filled.{three_places, ready_at_0, bytes_at_8, bytes_later, filled_sections};
+ghost use Rattle.examples.specs.Filled.{three_places, ready_at_0, bytes_at_8, bytes_later, empty_sections, filled_sections};
 
 use crate::whole::{imports, memories};
 use std::alloc::Allocator;
@@ -17,17 +17,25 @@ pub fn filled_module<A: Allocator + Copy>(alloc: A, bytes: &[u8]) -> R<Vec<u8, A
     ensures { IfOk result (λ made. ReadsSections (filled_sections bytes.now) made.items) }
 {
     let mut module = Module::new(alloc)?;
-    module.section(&RawSection {
-        id: 1,
-        bytes: &[0x01, 0x60, 0x00, 0x00],
-    })?;
-    module.section(&imports(alloc)?)?;
-    module.section(&tables(alloc)?)?;
-    module.section(&memories(alloc)?)?;
+    add_empty(&mut module, alloc)?;
     module.section(&elements(alloc)?)?;
     module.section(&DataCountSection { count: 2 })?;
     module.section(&segments(alloc, bytes)?)?;
     Ok(module.finish())
+}
+
+/// Adds the function that is imported, the table and the memory.
+fn add_empty<A: Allocator + Copy>(built: &mut Module<A>, alloc: A) -> R<()>
+    ensures { ReadsSections [] built.old → OnOk result (ReadsSections empty_sections built.new) }
+{
+    built.section(&RawSection {
+        id: 1,
+        bytes: &[0x01, 0x60, 0x00, 0x00],
+    })?;
+    built.section(&imports(alloc)?)?;
+    built.section(&tables(alloc)?)?;
+    built.section(&memories(alloc)?)?;
+    Ok(())
 }
 
 /// A table of three functions.

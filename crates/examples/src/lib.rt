@@ -2,6 +2,7 @@
 #![tactic(auto, using(wasm_base::proofs::KnownLengths::drained_array))]
 
 mod alone;
+mod bodies;
 mod filled;
 mod first;
 mod names;

@@ -6,11 +6,11 @@ ghost use Rattle.wasm_custom.specs.Readings.{AreNamings, AreInsides, HoldsNames,
 ghost use Rattle.examples.specs.Bodies.{first_body};
 ghost use Rattle.examples.specs.Named.{x_at_0, names_of};
 
+use crate::bodies::first_function;
 use std::alloc::Allocator;
-use wasm_base::{Module, R, ValType};
-use wasm_code::{CodeSection, Function};
+use wasm_base::{Module, R};
+use wasm_code::CodeSection;
 use wasm_custom::{IndirectNameMap, NameMap, NameSection};
-use wasm_insn::Instruction;
 
 /// A module of one function, which does nothing, and of its names.
 pub fn named_module<A: Allocator + Copy>(alloc: A, name: &str) -> R<Vec<u8, A>>
@@ -26,10 +26,8 @@ pub fn named_module<A: Allocator + Copy>(alloc: A, name: &str) -> R<Vec<u8, A>>
 fn code<A: Allocator + Copy>(alloc: A) -> R<CodeSection<A>>
     ensures { IfOk result (λ section. SpellsBodies section (first_body ∷ [])) }
 {
-    let mut function = Function::new(alloc, [(1, ValType::I32)])?;
-    function.instruction(&Instruction::End)?;
     let mut section = CodeSection::new(alloc);
-    section.function(&function)?;
+    section.function(&first_function(alloc)?)?;
     Ok(section)
 }
 
@@ -57,11 +55,9 @@ fn locals<A: Allocator + Copy>(alloc: A) -> R<IndirectNameMap<A>>
 fn names<A: Allocator + Copy>(alloc: A, name: &str) -> R<NameSection<A>>
     ensures { IfOk result (λ section. HoldsNames section (names_of name.now)) }
 {
-    let functions = functions(alloc, name)?;
-    let locals = locals(alloc)?;
     let mut section = NameSection::new(alloc);
     section.module("m")?;
-    section.functions(&functions)?;
-    section.locals(&locals)?;
+    section.functions(&functions(alloc, name)?)?;
+    section.locals(&locals(alloc)?)?;
     Ok(section)
 }

@@ -10,11 +10,11 @@ ghost use Rattle.wasm_sections.specs.Globals.{global_item};
 ghost use Rattle.examples.specs.Bodies.{first_body, local_body};
 ghost use Rattle.examples.specs.Padded.{bare_body, number};
 
+use crate::bodies::{first_function, local_function};
 use std::alloc::Allocator;
 use wasm_base::{Encode, Module, R, ValType};
-use wasm_code::{CodeSection, ConstExpr, Function};
+use wasm_code::{CodeSection, ConstExpr};
 use wasm_custom::NameSection;
-use wasm_insn::Instruction;
 use wasm_sections::{GlobalSection, GlobalType};
 
 /// A code section of a body whose number of runs is padded, and of a function, which gives the local of this index.
@@ -22,12 +22,9 @@ pub fn encode_padded_body<A: Allocator + Copy>(sink: &mut Vec<u8, A>, index: u32
     ensures { OnOk result (GainsReadingWide code_section (bare_body ∷ local_body index ∷ []) sink.old.items sink.new.items) }
 {
     let alloc = *sink.allocator();
-    let mut function = Function::new(alloc, [])?;
-    function.instruction(&Instruction::LocalGet(index))?;
-    function.instruction(&Instruction::End)?;
     let mut code = CodeSection::new(alloc);
     code.raw(&[0x80, 0x00, 0x0B])?;
-    code.function(&function)?;
+    code.function(&local_function(alloc, index)?)?;
     code.encode(sink)
 }
 
@@ -61,11 +58,9 @@ pub fn encode_padded_names<A: Allocator + Copy>(sink: &mut Vec<u8, A>) -> R<()>
 pub fn padded_module<A: Allocator + Copy>(alloc: A) -> R<Vec<u8, A>>
     ensures { IfOk result (λ bytes. ReadsSections (wide_code_reading (bare_body ∷ first_body ∷ []) ∷ []) bytes.items) }
 {
-    let mut function = Function::new(alloc, [(1, ValType::I32)])?;
-    function.instruction(&Instruction::End)?;
     let mut code = CodeSection::new(alloc);
     code.raw(&[0x80, 0x80, 0x00, 0x0B])?;
-    code.function(&function)?;
+    code.function(&first_function(alloc)?)?;
     let mut module = Module::new(alloc)?;
     module.section(&code)?;
     Ok(module.finish())

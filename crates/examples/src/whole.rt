@@ -1,17 +1,16 @@
 // A module of eight sections.
-ghost use Rattle.std.specs.Prelude.{IfOk, [], ◌∷◌};
+ghost use Rattle.std.specs.Prelude.{IfOk, OnOk, [], ◌∷◌};
 ghost use Rattle.wasm_base.specs.Modules.{ReadsSections};
 ghost use Rattle.wasm_code.specs.Bodies.{IsPlainBody};
 ghost use Rattle.wasm_code.specs.Code.{SpellsBodies};
 ghost use Rattle.wasm_sections.specs.Readings.{HoldsImports, HoldsFunctions, HoldsMemories, HoldsGlobals, HoldsExports};
 ghost use Rattle.examples.specs.Bodies.{factorial_body};
-ghost use Rattle.examples.specs.Whole.{ready, one_page, five, factorial_export, memory_export, start_body, whole_sections};
+ghost use Rattle.examples.specs.Whole.{ready, one_page, five, factorial_export, memory_export, start_body, declared_sections, stored_sections, whole_sections};
 
 use crate::recursion::factorial;
 use std::alloc::Allocator;
 use wasm_base::{Module, R, RawSection, ValType};
 use wasm_code::{CodeSection, ConstExpr, Function};
-use wasm_insn::Instruction;
 use wasm_sections::{
     EntityType, ExportKind, ExportSection, FunctionSection, GlobalSection, GlobalType,
     ImportSection, MemorySection, MemoryType, StartSection,
@@ -22,18 +21,34 @@ pub fn whole_module<A: Allocator + Copy>(alloc: A) -> R<Vec<u8, A>>
     ensures { IfOk result (λ bytes. ReadsSections whole_sections bytes.items) }
 {
     let mut module = Module::new(alloc)?;
-    module.section(&RawSection {
-        id: 1,
-        bytes: &[0x02, 0x60, 0x00, 0x00, 0x60, 0x01, 0x7F, 0x01, 0x7F],
-    })?;
-    module.section(&imports(alloc)?)?;
-    module.section(&functions(alloc)?)?;
-    module.section(&memories(alloc)?)?;
-    module.section(&globals(alloc)?)?;
-    module.section(&exports(alloc)?)?;
+    add_declared(&mut module, alloc)?;
+    add_stored(&mut module, alloc)?;
     module.section(&StartSection { function_index: 2 })?;
     module.section(&code(alloc)?)?;
     Ok(module.finish())
+}
+
+/// Adds the types, the function that is imported, and the types of the others.
+fn add_declared<A: Allocator + Copy>(built: &mut Module<A>, alloc: A) -> R<()>
+    ensures { ReadsSections [] built.old → OnOk result (ReadsSections declared_sections built.new) }
+{
+    built.section(&RawSection {
+        id: 1,
+        bytes: &[0x02, 0x60, 0x00, 0x00, 0x60, 0x01, 0x7F, 0x01, 0x7F],
+    })?;
+    built.section(&imports(alloc)?)?;
+    built.section(&functions(alloc)?)?;
+    Ok(())
+}
+
+/// Adds the memory, the global, and what is seen from outside.
+fn add_stored<A: Allocator + Copy>(built: &mut Module<A>, alloc: A) -> R<()>
+    ensures { ReadsSections declared_sections built.old → OnOk result (ReadsSections stored_sections built.new) }
+{
+    built.section(&memories(alloc)?)?;
+    built.section(&globals(alloc)?)?;
+    built.section(&exports(alloc)?)?;
+    Ok(())
 }
 
 /// The function 0, which the host has.
@@ -109,10 +124,11 @@ fn start<A: Allocator>(alloc: A) -> R<Function<A>>
     ensures { IfOk result (λ function. IsPlainBody function start_body) }
 {
     let mut function = Function::new(alloc, [])?;
-    function.instruction(&Instruction::GlobalGet(0))?;
-    function.instruction(&Instruction::Call(1))?;
-    function.instruction(&Instruction::GlobalSet(0))?;
-    function.instruction(&Instruction::Call(0))?;
-    function.instruction(&Instruction::End)?;
+    let mut sink = function.instructions();
+    sink.global_get(0)?;
+    sink.call(1)?;
+    sink.global_set(0)?;
+    sink.call(0)?;
+    sink.end()?;
     Ok(function)
 }

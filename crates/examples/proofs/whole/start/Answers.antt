@@ -1,12 +1,14 @@
-use Rattle.std.proofs.Common.{arith}
-use Rattle.wasm_code.proofs.Calls.{new_function, adds_instruction}
+use Rattle.std.proofs.Common.{arith, rules}
+use Rattle.wasm_code.proofs.Calls.{new_function, lent, writes_instruction}
+use Rattle.wasm_insn.specs.declared.instruction.Instruction.TheVariants.{GlobalGet, GlobalSet, Call, End}
 use Rattle.examples.proofs.whole.start.Goals as goal
 
 pub returns : goal.returns
 returns g c =
-    let b0 = new_function c.in_ok-function.ensures tt in
-    let b1 = adds_instruction b0 c.in_ok-instruction.ensures.ok (omega arith, tt) in
-    let b2 = adds_instruction b1 c.in_ok-instruction-2.ensures.ok (omega arith, tt) in
-    let b3 = adds_instruction b2 c.in_ok-instruction-3.ensures.ok (omega arith, tt) in
-    let b4 = adds_instruction b3 c.in_ok-instruction-4.ensures.ok (omega arith, tt) in
-    adds_instruction b4 c.in_ok-instruction-5.ensures.ok tt
+    let begun = lent (new_function c.in_ok-function.ensures tt) c.instructions-sink.ensures.same in
+    let b1 = writes_instruction begun (GlobalGet 0) c.in_ok-global_get.ensures.writes.bytes (omega arith, tt) in
+    let b2 = writes_instruction b1 (Call 1) c.in_ok-call.ensures.writes.bytes (omega arith, tt) in
+    let b3 = writes_instruction b2 (GlobalSet 0) c.in_ok-global_set.ensures.writes.bytes (omega arith, tt) in
+    let b4 = writes_instruction b3 (Call 0) c.in_ok-call-2.ensures.writes.bytes (omega arith, tt) in
+    let b5 = writes_instruction b4 End c.in_ok-end.ensures.writes.bytes tt in
+    lent b5 (search rules)
