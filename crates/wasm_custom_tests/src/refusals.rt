@@ -5,9 +5,10 @@ use std::process::Abort;
 use test_support::Refusing;
 use wasm_base::{Encode, R, Section};
 use wasm_custom::{
-    BranchHint, BranchHints, CoreDumpInstancesSection, CoreDumpModulesSection, CustomEntries,
-    CustomKind, DataSymbolDefinition, IndirectNameMap, LinkingSection, NameMap, NameSection,
-    ProducersField, ProducersSection, SymbolTable,
+    BranchHint, CountedList, CustomEntries, CustomKind, DataSymbolDefinition, HintItems,
+    IndirectMembers, IndirectNameMap, InstanceItems, LinkingItems, ListKind, ModuleItems,
+    NameItems, NameMap, NameMembers, ProducerItems, ProducersField, SymbolMembers, SymbolTable,
+    ValueMembers,
 };
 
 /// A section that takes its memory from an allocator that refuses.
@@ -64,23 +65,48 @@ fn check_number(rt: &impl Abort, granted: bool, len: u32) {
     assert_eq!(rt; len, u32::from(granted));
 }
 
-/// An adding call makes a section of these bytes of an empty one. Where a request is refused, the section is as it was.
-fn check_adding<'h, K: CustomKind, F: Fn(&mut LentEntries<'h, K>) -> R<()>>(
+/// A kind of section, and calls that add to it.
+trait SectionCalls: CustomKind {
+    /// What the calls are handed.
+    type Given;
+
+    /// A section of no entries.
+    const EMPTY: &'static [u8];
+
+    /// What each call makes of an empty section.
+    const SECTIONS: &'static [&'static [u8]];
+
+    /// The call of this place in `SECTIONS`.
+    fn add(section: &mut LentEntries<'_, Self>, given: &Self::Given, place: usize) -> R<()>;
+}
+
+/// Each call of the kind.
+fn check_sections<K: SectionCalls>(rt: &impl Abort, heap: Heap<'_>, given: &K::Given) {
+    for (place, expected) in K::SECTIONS.iter().enumerate() {
+        check_section::<K>(rt, heap, given, place, expected);
+    }
+}
+
+/// The call of this place makes a section of these bytes of an empty one. Where a request is refused, the section is as it was.
+fn check_section<K: SectionCalls>(
     rt: &impl Abort,
-    heap: Heap<'h>,
-    empty: &[u8],
+    heap: Heap<'_>,
+    given: &K::Given,
+    place: usize,
     expected: &[u8],
-    add: F,
-)
-    requires { F.IsAlwaysCallable add }
-{
+) {
     for nth in 1..MOST {
         let mut section = CustomEntries::new(heap);
         heap.refuse(nth);
-        let answer = add(&mut section);
+        let answer = K::add(&mut section, given, place);
         let granted = check_answer(rt, heap, nth, answer);
         check_number(rt, granted, section.len());
-        check_written(rt, heap, &section, if granted { expected } else { empty });
+        check_written(
+            rt,
+            heap,
+            &section,
+            if granted { expected } else { K::EMPTY },
+        );
         if granted {
             return check_whole(rt, heap, &section, expected);
         }
@@ -124,103 +150,113 @@ pub(crate) fn check_copy<T: Encode + Drop>(
     }
 }
 
-/// What is done with lists of one type: one is made, an entry is added, and a copy is made.
-#[derive(Drop)]
-struct Calls<N, F, C> {
-    new: N,
-    add: F,
-    copy: C,
+/// A list that takes its memory from an allocator that refuses.
+type LentList<'h, K> = CountedList<K, &'h Refusing<Global>>;
+
+/// A kind of list, and calls that add to it.
+trait ListCalls: ListKind {
+    /// What the calls are handed.
+    type Given;
+
+    /// What each call makes of an empty list.
+    const LISTS: &'static [&'static [u8]];
+
+    /// The call of this place in `LISTS`.
+    fn add(list: &mut LentList<'_, Self>, given: &Self::Given, place: usize) -> R<()>;
 }
 
-/// An adding call makes a list of these bytes of an empty one. Where a request is refused, the list is as it was.
-fn check_member<L: Encode + Drop, N: Fn() -> L, F: Fn(&mut L) -> R<()>, C: Fn(&L) -> R<L>>(
+/// Each call of the kind.
+fn check_lists<K: ListCalls>(rt: &impl Abort, heap: Heap<'_>, given: &K::Given) {
+    for (place, expected) in K::LISTS.iter().enumerate() {
+        check_list::<K>(rt, heap, given, place, expected);
+    }
+}
+
+/// The call of this place makes a list of these bytes of an empty one. Where a request is refused, the list is as it was.
+fn check_list<K: ListCalls>(
     rt: &impl Abort,
     heap: Heap<'_>,
+    given: &K::Given,
+    place: usize,
     expected: &[u8],
-    calls: &Calls<N, F, C>,
-)
-    requires new { N.IsAlwaysCallable calls.now.new }
-    requires add { F.IsAlwaysCallable calls.now.add }
-    requires copy { C.IsAlwaysCallable calls.now.copy }
-{
+) {
     for nth in 1..MOST {
-        let mut list = (calls.new)();
+        let mut list = CountedList::new(heap);
         heap.refuse(nth);
-        let answer = (calls.add)(&mut list);
+        let answer = K::add(&mut list, given, place);
         let granted = check_answer(rt, heap, nth, answer);
         check_written(rt, heap, &list, if granted { expected } else { &[0] });
         if granted {
-            check_encode(rt, heap, &list);
-            return check_copies(rt, heap, &list, expected, &calls.copy);
+            return check_whole_list(rt, heap, &list, expected);
         }
     }
     panic!(rt; "no call was granted")
 }
 
-/// A copy of the item has these bytes.
-fn check_copies<L: Encode + Drop, C: Fn(&L) -> R<L>>(
+/// What is done with a list of these bytes.
+fn check_whole_list<'h, K: ListKind>(
     rt: &impl Abort,
-    heap: Heap<'_>,
-    item: &L,
+    heap: Heap<'h>,
+    list: &LentList<'h, K>,
     expected: &[u8],
-    copy: &C,
-)
-    requires { C.IsAlwaysCallable copy.now }
-{
+) {
+    check_encode(rt, heap, list);
     for nth in 1..MOST {
         heap.refuse(nth);
-        if check_copy(rt, heap, nth, copy(item), expected) {
+        if check_copy(rt, heap, nth, list.clone(), expected) {
             return;
         }
     }
     panic!(rt; "no call was granted")
 }
 
+impl ListCalls for NameMembers {
+    type Given = ();
+
+    const LISTS: &'static [&'static [u8]] = &[b"\x01\x00\x01t"];
+
+    fn add(map: &mut LentList<'_, Self>, _: &(), _: usize) -> R<()> {
+        map.append(0, "t")
+    }
+}
+
 #[test]
 fn name_maps(rt: HostRuntime) {
     let heap = Refusing::new(rt.alloc());
-    check_member(
-        &rt,
-        &heap,
-        b"\x01\x00\x01t",
-        &Calls {
-            new: || NameMap::new(&heap),
-            add: |map: &mut NameMap<_>| map.append(0, "t"),
-            copy: |map: &NameMap<_>| map.clone(),
-        },
-    )
+    check_lists::<NameMembers>(&rt, &heap, &())
+}
+
+impl ListCalls for IndirectMembers {
+    type Given = NameMap;
+
+    const LISTS: &'static [&'static [u8]] = &[b"\x01\x00\x01\x01\x01x"];
+
+    fn add(map: &mut LentList<'_, Self>, names: &NameMap, _: usize) -> R<()> {
+        map.append(0, names)
+    }
 }
 
 #[test]
 fn indirect_name_maps(rt: HostRuntime) {
     let heap = Refusing::new(rt.alloc());
-    let mut inner: NameMap = NameMap::new(rt.alloc());
-    inner.append(1, "x").expect(&rt, "accepted");
-    check_member(
-        &rt,
-        &heap,
-        b"\x01\x00\x01\x01\x01x",
-        &Calls {
-            new: || IndirectNameMap::new(&heap),
-            add: |map: &mut IndirectNameMap<_>| map.append(0, &inner),
-            copy: |map: &IndirectNameMap<_>| map.clone(),
-        },
-    )
+    let names = names_inside(rt.alloc()).expect(&rt, "accepted");
+    check_lists::<IndirectMembers>(&rt, &heap, &names)
+}
+
+impl ListCalls for ValueMembers {
+    type Given = ();
+
+    const LISTS: &'static [&'static [u8]] = &[b"\x01\x01a\x011"];
+
+    fn add(field: &mut LentList<'_, Self>, _: &(), _: usize) -> R<()> {
+        field.value("a", "1")
+    }
 }
 
 #[test]
 fn producers_fields(rt: HostRuntime) {
     let heap = Refusing::new(rt.alloc());
-    check_member(
-        &rt,
-        &heap,
-        b"\x01\x01a\x011",
-        &Calls {
-            new: || ProducersField::new(&heap),
-            add: |field: &mut ProducersField<_>| field.value("a", "1"),
-            copy: |field: &ProducersField<_>| field.clone(),
-        },
-    )
+    check_lists::<ValueMembers>(&rt, &heap, &())
 }
 
 const DEFINITION: DataSymbolDefinition = DataSymbolDefinition {
@@ -229,61 +265,37 @@ const DEFINITION: DataSymbolDefinition = DataSymbolDefinition {
     size: 3,
 };
 
-/// The tables of one symbol that the calls below make.
-static TABLES: [&[u8]; 4] = [
-    b"\x01\x00\x20\x01\x01f",
-    &[1, 2, 16, 1],
-    &[1, 5, 16, 1],
-    b"\x01\x01\x00\x01d\x01\x02\x03",
-];
+impl ListCalls for SymbolMembers {
+    type Given = ();
 
-/// The call of this place in `TABLES`.
-fn add_symbol(symbols: &mut SymbolTable<Heap<'_>>, place: usize) -> R<()> {
-    match place {
-        0 => symbols.function(0x20, 1, Some("f")),
-        1 => symbols.global(16, 1, None),
-        2 => symbols.table(16, 1, None),
-        _ => symbols.data(0, "d", Some(DEFINITION)),
+    const LISTS: &'static [&'static [u8]] = &[
+        b"\x01\x00\x20\x01\x01f",
+        &[1, 2, 16, 1],
+        &[1, 5, 16, 1],
+        b"\x01\x01\x00\x01d\x01\x02\x03",
+    ];
+
+    fn add(symbols: &mut LentList<'_, Self>, _: &(), place: usize) -> R<()> {
+        match place {
+            0 => symbols.function(0x20, 1, Some("f")),
+            1 => symbols.global(16, 1, None),
+            2 => symbols.table(16, 1, None),
+            _ => symbols.data(0, "d", Some(DEFINITION)),
+        }
     }
 }
 
 #[test]
 fn symbol_tables(rt: HostRuntime) {
     let heap = Refusing::new(rt.alloc());
-    for (place, row) in TABLES.iter().enumerate() {
-        heap.refuse(0);
-        check_member(
-            &rt,
-            &heap,
-            row,
-            &Calls {
-                new: || SymbolTable::new(&heap),
-                add: |symbols: &mut SymbolTable<_>| add_symbol(symbols, place),
-                copy: |symbols: &SymbolTable<_>| symbols.clone(),
-            },
-        );
-    }
+    check_lists::<SymbolMembers>(&rt, &heap, &())
 }
 
-const NO_NAMES: [u8; 6] = [5, 4, b'n', b'a', b'm', b'e'];
-
-#[test]
-fn module_names(rt: HostRuntime) {
-    let heap = Refusing::new(rt.alloc());
-    check_adding(
-        &rt,
-        &heap,
-        &NO_NAMES,
-        b"\x09\x04name\x00\x02\x01m",
-        |section: &mut NameSection<_>| section.module("m"),
-    );
-    check_adding(
-        &rt,
-        &heap,
-        &NO_NAMES,
-        b"\x08\x04name\x14\x01\x09",
-        |section: &mut NameSection<_>| section.raw(20, &[9]),
-    )
+/// The maps that calls on a name section take.
+#[derive(Drop)]
+struct Maps {
+    names: NameMap,
+    indirect: IndirectNameMap,
 }
 
 /// The map {0: "t"}.
@@ -293,115 +305,112 @@ fn one_name(alloc: Global) -> R<NameMap> {
     Ok(map)
 }
 
-/// The name section of that map as a subsection of this id.
-fn map_bytes(id: u8) -> [u8; 12] {
-    [11, 4, b'n', b'a', b'm', b'e', id, 4, 1, 0, 1, b't']
+/// The map {1: "x"}.
+fn names_inside(alloc: Global) -> R<NameMap> {
+    let mut map = NameMap::new(alloc);
+    map.append(1, "x")?;
+    Ok(map)
 }
 
-/// The ids of the subsections that the calls below add.
-static MAP_IDS: [u8; 9] = [1, 4, 5, 6, 7, 8, 9, 11, 11];
+/// The map {0: {1: "x"}}.
+fn one_name_inside(alloc: Global) -> R<IndirectNameMap> {
+    let mut map = IndirectNameMap::new(alloc);
+    map.append(0, &names_inside(alloc)?)?;
+    Ok(map)
+}
 
-/// The call of this place in `MAP_IDS`.
-fn add_map(names: &mut NameSection<Heap<'_>>, map: &NameMap, place: usize) -> R<()> {
-    match place {
-        0 => names.functions(map),
-        1 => names.types(map),
-        2 => names.tables(map),
-        3 => names.memories(map),
-        4 => names.globals(map),
-        5 => names.elements(map),
-        6 => names.data(map),
-        7 => names.tag(map),
-        _ => names.tags(map),
+impl SectionCalls for NameItems {
+    type Given = Maps;
+
+    const EMPTY: &'static [u8] = b"\x05\x04name";
+
+    const SECTIONS: &'static [&'static [u8]] = &[
+        b"\x09\x04name\x00\x02\x01m",
+        b"\x08\x04name\x14\x01\x09",
+        b"\x0B\x04name\x01\x04\x01\x00\x01t",
+        b"\x0B\x04name\x04\x04\x01\x00\x01t",
+        b"\x0B\x04name\x05\x04\x01\x00\x01t",
+        b"\x0B\x04name\x06\x04\x01\x00\x01t",
+        b"\x0B\x04name\x07\x04\x01\x00\x01t",
+        b"\x0B\x04name\x08\x04\x01\x00\x01t",
+        b"\x0B\x04name\x09\x04\x01\x00\x01t",
+        b"\x0B\x04name\x0B\x04\x01\x00\x01t",
+        b"\x0B\x04name\x0B\x04\x01\x00\x01t",
+        b"\x0D\x04name\x02\x06\x01\x00\x01\x01\x01x",
+        b"\x0D\x04name\x03\x06\x01\x00\x01\x01\x01x",
+        b"\x0D\x04name\x0A\x06\x01\x00\x01\x01\x01x",
+        b"\x0D\x04name\x0C\x06\x01\x00\x01\x01\x01x",
+        b"\x0D\x04name\x0D\x06\x01\x00\x01\x01\x01x",
+    ];
+
+    fn add(section: &mut LentEntries<'_, Self>, maps: &Maps, place: usize) -> R<()> {
+        match place {
+            0 => section.module("m"),
+            1 => section.raw(20, &[9]),
+            2 => section.functions(&maps.names),
+            3 => section.types(&maps.names),
+            4 => section.tables(&maps.names),
+            5 => section.memories(&maps.names),
+            6 => section.globals(&maps.names),
+            7 => section.elements(&maps.names),
+            8 => section.data(&maps.names),
+            9 => section.tag(&maps.names),
+            10 => section.tags(&maps.names),
+            11 => section.locals(&maps.indirect),
+            12 => section.labels(&maps.indirect),
+            13 => section.fields(&maps.indirect),
+            14 => section.parameters(&maps.indirect),
+            _ => section.tag_parameters(&maps.indirect),
+        }
     }
 }
 
 #[test]
 fn names(rt: HostRuntime) {
     let heap = Refusing::new(rt.alloc());
-    let map = one_name(rt.alloc()).expect(&rt, "accepted");
-    for (place, id) in MAP_IDS.iter().enumerate() {
-        check_adding(
-            &rt,
-            &heap,
-            &NO_NAMES,
-            &map_bytes(*id),
-            |names: &mut NameSection<_>| add_map(names, &map, place),
-        );
-    }
+    let maps = Maps {
+        names: one_name(rt.alloc()).expect(&rt, "accepted"),
+        indirect: one_name_inside(rt.alloc()).expect(&rt, "accepted"),
+    };
+    check_sections::<NameItems>(&rt, &heap, &maps)
 }
 
-/// The map {0: {1: "x"}}.
-fn one_name_inside(alloc: Global) -> R<IndirectNameMap> {
-    let mut inner: NameMap = NameMap::new(alloc);
-    inner.append(1, "x")?;
-    let mut map = IndirectNameMap::new(alloc);
-    map.append(0, &inner)?;
-    Ok(map)
-}
+impl SectionCalls for LinkingItems {
+    type Given = SymbolTable;
 
-/// The name section of that map as a subsection of this id.
-fn indirect_map_bytes(id: u8) -> [u8; 14] {
-    [13, 4, b'n', b'a', b'm', b'e', id, 6, 1, 0, 1, 1, 1, b'x']
-}
+    const EMPTY: &'static [u8] = b"\x09\x07linking\x02";
 
-/// The ids of the subsections that the calls below add.
-static INDIRECT_IDS: [u8; 5] = [2, 3, 10, 12, 13];
+    const SECTIONS: &'static [&'static [u8]] = &[
+        b"\x12\x07linking\x02\x09\x07\x06wasm32",
+        b"\x0F\x07linking\x02\x08\x04\x01\x00\x10\x00",
+    ];
 
-/// The call of this place in `INDIRECT_IDS`.
-fn add_indirect_map(
-    names: &mut NameSection<Heap<'_>>,
-    map: &IndirectNameMap,
-    place: usize,
-) -> R<()> {
-    match place {
-        0 => names.locals(map),
-        1 => names.labels(map),
-        2 => names.fields(map),
-        3 => names.parameters(map),
-        _ => names.tag_parameters(map),
-    }
-}
-
-#[test]
-fn indirect_names(rt: HostRuntime) {
-    let heap = Refusing::new(rt.alloc());
-    let map = one_name_inside(rt.alloc()).expect(&rt, "accepted");
-    for (place, id) in INDIRECT_IDS.iter().enumerate() {
-        check_adding(
-            &rt,
-            &heap,
-            &NO_NAMES,
-            &indirect_map_bytes(*id),
-            |names: &mut NameSection<_>| add_indirect_map(names, &map, place),
-        );
+    fn add(section: &mut LentEntries<'_, Self>, symbols: &SymbolTable, place: usize) -> R<()> {
+        match place {
+            0 => section.target_arch("wasm32"),
+            _ => section.symbol_table(symbols),
+        }
     }
 }
 
 #[test]
 fn linking(rt: HostRuntime) {
     let heap = Refusing::new(rt.alloc());
-    check_adding(
-        &rt,
-        &heap,
-        b"\x09\x07linking\x02",
-        b"\x12\x07linking\x02\x09\x07\x06wasm32",
-        |section: &mut LinkingSection<_>| section.target_arch("wasm32"),
-    )
-}
-
-#[test]
-fn linked_symbols(rt: HostRuntime) {
-    let heap = Refusing::new(rt.alloc());
     let mut symbols: SymbolTable = SymbolTable::new(rt.alloc());
     symbols.function(0x10, 0, None).expect(&rt, "accepted");
-    check_adding(
-        &rt,
-        &heap,
-        b"\x09\x07linking\x02",
-        b"\x0F\x07linking\x02\x08\x04\x01\x00\x10\x00",
-        |section: &mut LinkingSection<_>| section.symbol_table(&symbols),
-    )
+    check_sections::<LinkingItems>(&rt, &heap, &symbols)
+}
+
+impl SectionCalls for ProducerItems {
+    type Given = ProducersField;
+
+    const EMPTY: &'static [u8] = b"\x0B\x09producers\x00";
+
+    const SECTIONS: &'static [&'static [u8]] = &[b"\x13\x09producers\x01\x02by\x01\x01a\x011"];
+
+    fn add(section: &mut LentEntries<'_, Self>, field: &ProducersField, _: usize) -> R<()> {
+        section.field("by", field)
+    }
 }
 
 #[test]
@@ -409,13 +418,7 @@ fn producers(rt: HostRuntime) {
     let heap = Refusing::new(rt.alloc());
     let mut field: ProducersField = ProducersField::new(rt.alloc());
     field.value("a", "1").expect(&rt, "accepted");
-    check_adding(
-        &rt,
-        &heap,
-        b"\x0B\x09producers\x00",
-        b"\x13\x09producers\x01\x02by\x01\x01a\x011",
-        |section: &mut ProducersSection<_>| section.field("by", &field),
-    )
+    check_sections::<ProducerItems>(&rt, &heap, &field)
 }
 
 const HINT: BranchHint = BranchHint {
@@ -423,38 +426,60 @@ const HINT: BranchHint = BranchHint {
     branch_hint_value: 1,
 };
 
+impl SectionCalls for HintItems {
+    type Given = ();
+
+    const EMPTY: &'static [u8] = b"\x1B\x19metadata.code.branch_hint\x00";
+
+    const SECTIONS: &'static [&'static [u8]] = &[
+        b"\x20\x19metadata.code.branch_hint\x01\x00\x01\x03\x01\x01",
+    ];
+
+    fn add(section: &mut LentEntries<'_, Self>, _: &(), _: usize) -> R<()> {
+        section.function_hints(0, [HINT])
+    }
+}
+
 #[test]
 fn hints(rt: HostRuntime) {
     let heap = Refusing::new(rt.alloc());
-    check_adding(
-        &rt,
-        &heap,
-        b"\x1B\x19metadata.code.branch_hint\x00",
-        b"\x20\x19metadata.code.branch_hint\x01\x00\x01\x03\x01\x01",
-        |section: &mut BranchHints<_>| section.function_hints(0, [HINT]),
-    )
+    check_sections::<HintItems>(&rt, &heap, &())
+}
+
+impl SectionCalls for ModuleItems {
+    type Given = ();
+
+    const EMPTY: &'static [u8] = b"\x0D\x0Bcoremodules\x00";
+
+    const SECTIONS: &'static [&'static [u8]] = &[b"\x13\x0Bcoremodules\x01\x00\x04mod1"];
+
+    fn add(section: &mut LentEntries<'_, Self>, _: &(), _: usize) -> R<()> {
+        section.module("mod1")
+    }
 }
 
 #[test]
 fn modules(rt: HostRuntime) {
     let heap = Refusing::new(rt.alloc());
-    check_adding(
-        &rt,
-        &heap,
-        b"\x0D\x0Bcoremodules\x00",
-        b"\x13\x0Bcoremodules\x01\x00\x04mod1",
-        |section: &mut CoreDumpModulesSection<_>| section.module("mod1"),
-    )
+    check_sections::<ModuleItems>(&rt, &heap, &())
+}
+
+impl SectionCalls for InstanceItems {
+    type Given = ();
+
+    const EMPTY: &'static [u8] = b"\x0F\x0Dcoreinstances\x00";
+
+    const SECTIONS: &'static [&'static [u8]] = &[
+        b"\x15\x0Dcoreinstances\x01\x00\x00\x01\x2A\x01\x11",
+    ];
+
+    fn add(section: &mut LentEntries<'_, Self>, _: &(), _: usize) -> R<()> {
+        section.instance(0, [42], [17])
+    }
 }
 
 #[test]
 fn instances(rt: HostRuntime) {
     let heap = Refusing::new(rt.alloc());
-    check_adding(
-        &rt,
-        &heap,
-        b"\x0F\x0Dcoreinstances\x00",
-        b"\x15\x0Dcoreinstances\x01\x00\x00\x01\x2A\x01\x11",
-        |section: &mut CoreDumpInstancesSection<_>| section.instance(0, [42], [17]),
-    )
+    check_sections::<InstanceItems>(&rt, &heap, &())
 }

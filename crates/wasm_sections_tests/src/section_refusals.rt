@@ -7,9 +7,9 @@ use test_support::Refusing;
 use wasm_base::{Counted, CowSlice, Encode, HeapType, R, Refused, Section, add_all};
 use wasm_code::ConstExpr;
 use wasm_sections::{
-    CountedSection, DataCountSection, EntityType, Export, ExportKind, ExportSection,
-    FunctionSection, GlobalSection, Import, ImportCompact, ImportSection, Imports, ItemKind,
-    MemorySection, StartSection, TableSection, TagSection,
+    CountedSection, DataCountSection, EntityType, Export, ExportItems, ExportKind, ExportSection,
+    FunctionItems, FunctionSection, GlobalItems, Import, ImportCompact, ImportItems, Imports,
+    ItemKind, MemoryItems, StartSection, TableItems, TagItems,
 };
 
 /// A section that takes its memory from an allocator that refuses.
@@ -21,19 +21,41 @@ fn check_entry(rt: &impl Abort, granted: bool, len: u32, piece: Option<&[u8]>, e
     assert_eq!(rt; (len, piece), expected);
 }
 
-/// An adding call makes an entry of these bytes. Where a request is refused, the section is as it was.
-pub(crate) fn check_adding<'h, K: ItemKind, F: Fn(&mut OnHeap<'h, K>) -> R<()>>(
+/// A kind of section, and calls that add an entry to it.
+pub(crate) trait SectionCalls: ItemKind {
+    /// What the calls are handed.
+    type Given;
+
+    /// The entry that each call makes.
+    const ENTRIES: &'static [&'static [u8]];
+
+    /// The call of this place in `ENTRIES`.
+    fn add(section: &mut OnHeap<'_, Self>, given: &Self::Given, place: usize) -> R<()>;
+}
+
+/// Each call of the kind.
+pub(crate) fn check_calls<K: SectionCalls>(
     rt: &impl Abort,
-    heap: &'h Refusing<Global>,
+    heap: &Refusing<Global>,
+    given: &K::Given,
+) {
+    for (place, entry) in K::ENTRIES.iter().enumerate() {
+        check_call::<K>(rt, heap, given, place, entry);
+    }
+}
+
+/// The call of this place makes an entry of these bytes. Where a request is refused, the section is as it was.
+fn check_call<K: SectionCalls>(
+    rt: &impl Abort,
+    heap: &Refusing<Global>,
+    given: &K::Given,
+    place: usize,
     entry: &[u8],
-    add: F,
-)
-    requires { F.IsAlwaysCallable add }
-{
+) {
     for nth in 1..MOST {
         let mut section = CountedSection::new(heap);
         heap.refuse(nth);
-        let answer = add(&mut section);
+        let answer = K::add(&mut section, given, place);
         let granted = check_answer(rt, heap, nth, answer);
         check_entry(rt, granted, section.len(), section.piece(0), entry);
         if granted {
@@ -126,79 +148,106 @@ fn check_append_to<S: Section>(rt: &impl Abort, heap: &Refusing<Global>, section
     panic!(rt; "no call was granted")
 }
 
+impl SectionCalls for FunctionItems {
+    type Given = ();
+
+    const ENTRIES: &'static [&'static [u8]] = &[&[128, 1], &[128, 1]];
+
+    fn add(section: &mut OnHeap<'_, Self>, _: &(), place: usize) -> R<()> {
+        match place {
+            0 => section.function(128),
+            _ => section.add(&128u32),
+        }
+    }
+}
+
 #[test]
 fn functions(rt: HostRuntime) {
     let heap = Refusing::new(rt.alloc());
-    check_adding(&rt, &heap, &[128, 1], |section: &mut FunctionSection<_>| {
-        section.function(128)
-    });
-    check_adding(&rt, &heap, &[128, 1], |section: &mut FunctionSection<_>| {
-        section.add(&128u32)
-    })
+    check_calls::<FunctionItems>(&rt, &heap, &())
+}
+
+impl SectionCalls for GlobalItems {
+    type Given = ConstExpr;
+
+    const ENTRIES: &'static [&'static [u8]] = &[&[127, 0, 65, 42, 11], &[127, 0, 65, 42, 11]];
+
+    fn add(section: &mut OnHeap<'_, Self>, init: &ConstExpr, place: usize) -> R<()> {
+        match place {
+            0 => section.global(GLOBAL, init),
+            _ => section.raw(&[127, 0, 65, 42, 11]),
+        }
+    }
 }
 
 #[test]
 fn globals(rt: HostRuntime) {
     let heap = Refusing::new(rt.alloc());
     let init = ConstExpr::i32_const(rt.alloc(), 42).expect(&rt, "accepted");
-    check_adding(
-        &rt,
-        &heap,
-        &[127, 0, 65, 42, 11],
-        |section: &mut GlobalSection<_>| section.global(GLOBAL, &init),
-    )
+    check_calls::<GlobalItems>(&rt, &heap, &init)
+}
+
+impl SectionCalls for TableItems {
+    type Given = ConstExpr;
+
+    const ENTRIES: &'static [&'static [u8]] = &[
+        &[112, 5, 1, 2],
+        &[112, 5, 1, 2],
+        &[64, 0, 112, 0, 128, 1, 208, 112, 11],
+    ];
+
+    fn add(section: &mut OnHeap<'_, Self>, init: &ConstExpr, place: usize) -> R<()> {
+        match place {
+            0 => section.table(LIMITED_TABLE),
+            1 => section.add(&LIMITED_TABLE),
+            _ => section.table_with_init(TABLE, init),
+        }
+    }
 }
 
 #[test]
 fn tables(rt: HostRuntime) {
     let heap = Refusing::new(rt.alloc());
-    check_adding(
-        &rt,
-        &heap,
-        &[112, 5, 1, 2],
-        |section: &mut TableSection<_>| section.table(LIMITED_TABLE),
-    );
-    check_adding(
-        &rt,
-        &heap,
-        &[112, 5, 1, 2],
-        |section: &mut TableSection<_>| section.add(&LIMITED_TABLE),
-    );
     let init = ConstExpr::ref_null(rt.alloc(), HeapType::FUNC).expect(&rt, "accepted");
-    check_adding(
-        &rt,
-        &heap,
-        &[64, 0, 112, 0, 128, 1, 208, 112, 11],
-        |section: &mut TableSection<_>| section.table_with_init(TABLE, &init),
-    )
+    check_calls::<TableItems>(&rt, &heap, &init)
+}
+
+impl SectionCalls for MemoryItems {
+    type Given = ();
+
+    const ENTRIES: &'static [&'static [u8]] = &[&[15, 1, 2, 0], &[15, 1, 2, 0]];
+
+    fn add(section: &mut OnHeap<'_, Self>, _: &(), place: usize) -> R<()> {
+        match place {
+            0 => section.memory(LIMITED_MEMORY),
+            _ => section.add(&LIMITED_MEMORY),
+        }
+    }
 }
 
 #[test]
 fn memories(rt: HostRuntime) {
     let heap = Refusing::new(rt.alloc());
-    check_adding(
-        &rt,
-        &heap,
-        &[15, 1, 2, 0],
-        |section: &mut MemorySection<_>| section.memory(LIMITED_MEMORY),
-    );
-    check_adding(
-        &rt,
-        &heap,
-        &[15, 1, 2, 0],
-        |section: &mut MemorySection<_>| section.add(&LIMITED_MEMORY),
-    )
+    check_calls::<MemoryItems>(&rt, &heap, &())
+}
+
+impl SectionCalls for TagItems {
+    type Given = ();
+
+    const ENTRIES: &'static [&'static [u8]] = &[&[0, 3], &[0, 3]];
+
+    fn add(section: &mut OnHeap<'_, Self>, _: &(), place: usize) -> R<()> {
+        match place {
+            0 => section.tag(TAG),
+            _ => section.add(&TAG),
+        }
+    }
 }
 
 #[test]
 fn tags(rt: HostRuntime) {
     let heap = Refusing::new(rt.alloc());
-    check_adding(&rt, &heap, &[0, 3], |section: &mut TagSection<_>| {
-        section.tag(TAG)
-    });
-    check_adding(&rt, &heap, &[0, 3], |section: &mut TagSection<_>| {
-        section.add(&TAG)
-    })
+    check_calls::<TagItems>(&rt, &heap, &())
 }
 
 const EXPORT: Export<'static> = Export {
@@ -207,21 +256,23 @@ const EXPORT: Export<'static> = Export {
     index: 0,
 };
 
+impl SectionCalls for ExportItems {
+    type Given = ();
+
+    const ENTRIES: &'static [&'static [u8]] = &[&[1, b'm', 2, 0], &[1, b'm', 2, 0]];
+
+    fn add(section: &mut OnHeap<'_, Self>, _: &(), place: usize) -> R<()> {
+        match place {
+            0 => section.export("m", ExportKind::Memory, 0),
+            _ => section.add(&EXPORT),
+        }
+    }
+}
+
 #[test]
 fn exports(rt: HostRuntime) {
     let heap = Refusing::new(rt.alloc());
-    check_adding(
-        &rt,
-        &heap,
-        &[1, b'm', 2, 0],
-        |section: &mut ExportSection<_>| section.export("m", ExportKind::Memory, 0),
-    );
-    check_adding(
-        &rt,
-        &heap,
-        &[1, b'm', 2, 0],
-        |section: &mut ExportSection<_>| section.add(&EXPORT),
-    )
+    check_calls::<ExportItems>(&rt, &heap, &())
 }
 
 const IMPORT: Import<'static> = Import {
@@ -232,56 +283,55 @@ const IMPORT: Import<'static> = Import {
 
 const IMPORT_BYTES: [u8; 6] = [1, b'm', 1, b'f', 32, 5];
 
-#[test]
-fn imports(rt: HostRuntime) {
-    let heap = Refusing::new(rt.alloc());
-    check_adding(
-        &rt,
-        &heap,
+/// Imports whose lists are in memory that is refused.
+type OwnedImports<'h> = Imports<'h, &'h Refusing<Global>>;
+
+/// A group of one item.
+fn listed<'h>() -> OwnedImports<'h> {
+    Imports::Compact1 {
+        module: "m",
+        items: CowSlice::Borrowed(&[ImportCompact {
+            name: "a",
+            ty: EntityType::Function(0),
+        }]),
+    }
+}
+
+/// A group of two names.
+fn alike<'h>() -> OwnedImports<'h> {
+    Imports::Compact2 {
+        module: "m",
+        ty: EntityType::Function(0),
+        names: CowSlice::Borrowed(&["a", "b"]),
+    }
+}
+
+impl SectionCalls for ImportItems {
+    type Given = ();
+
+    const ENTRIES: &'static [&'static [u8]] = &[
         &IMPORT_BYTES,
-        |section: &mut ImportSection<_>| section.import("m", "f", EntityType::FunctionExact(5)),
-    );
-    check_adding(
-        &rt,
-        &heap,
         &IMPORT_BYTES,
-        |section: &mut ImportSection<_>| section.add(&IMPORT),
-    );
-    check_adding(
-        &rt,
-        &heap,
         &IMPORT_BYTES,
-        |section: &mut ImportSection<_>| section.imports(Imports::Single(IMPORT)),
-    )
+        &[1, b'm', 0, 127, 1, 1, b'a', 0, 0],
+        &[1, b'm', 0, 126, 0, 0, 2, 1, b'a', 1, b'b'],
+    ];
+
+    fn add(section: &mut OnHeap<'_, Self>, _: &(), place: usize) -> R<()> {
+        match place {
+            0 => section.import("m", "f", EntityType::FunctionExact(5)),
+            1 => section.add(&IMPORT),
+            2 => section.imports(Imports::Single(IMPORT)),
+            3 => section.imports(listed()),
+            _ => section.imports(alike()),
+        }
+    }
 }
 
 #[test]
-fn groups(rt: HostRuntime) {
+fn imports(rt: HostRuntime) {
     let heap = Refusing::new(rt.alloc());
-    let ty = EntityType::Function(0);
-    check_adding(
-        &rt,
-        &heap,
-        &[1, b'm', 0, 127, 1, 1, b'a', 0, 0],
-        |section: &mut ImportSection<_>| {
-            section.imports(Imports::Compact1 {
-                module: "m",
-                items: CowSlice::Borrowed(&[ImportCompact { name: "a", ty }]),
-            })
-        },
-    );
-    check_adding(
-        &rt,
-        &heap,
-        &[1, b'm', 0, 126, 0, 0, 2, 1, b'a', 1, b'b'],
-        |section: &mut ImportSection<_>| {
-            section.imports(Imports::Compact2 {
-                module: "m",
-                ty,
-                names: CowSlice::Borrowed(&["a", "b"]),
-            })
-        },
-    )
+    check_calls::<ImportItems>(&rt, &heap, &())
 }
 
 /// `encode` of a part appends these bytes. Where a request is refused, the sink is as it was.
@@ -352,9 +402,6 @@ fn parts_of_imports(rt: HostRuntime) {
     };
     check_part(&rt, &heap, &alike, &[1, b'm', 0, 126, 0, 0, 1, 1, b'a'])
 }
-
-/// Imports whose lists are in memory that is refused.
-type OwnedImports<'h> = Imports<'h, &'h Refusing<Global>>;
 
 /// The one request of a clone of an owned list is refused, and then granted. The imports are as they were.
 fn check_clone_of_imports<'h>(

@@ -3,7 +3,7 @@ ghost use Rattle.std.specs.Prelude.{◌≡◌, ◌+◌, MatchOption};
 ghost use Rattle.std.specs.Iterator.{at_most};
 
 use crate::checks::{MOST, check_answer, check_bytes, check_number, check_refused, check_that};
-use crate::section_refusals::{check_adding, check_part};
+use crate::section_refusals::{OnHeap, SectionCalls, check_calls, check_part};
 use std::alloc::Global;
 use std::cell::Cell;
 use std::process::Abort;
@@ -11,50 +11,48 @@ use test_support::Refusing;
 use wasm_base::{CowSlice, Encode, R, RefType, Refused};
 use wasm_code::ConstExpr;
 use wasm_sections::{
-    DataSection, DataSegment, DataSegmentMode, ElementMode, ElementSection, ElementSegment,
-    Elements, GlobalSection,
+    DataItems, DataSection, DataSegment, DataSegmentMode, ElementItems, ElementMode,
+    ElementSegment, Elements,
 };
 
 const BYTES: [u8; 2] = [8, 9];
 
+/// Two bytes that are not active.
+fn passive_segment<'a>() -> DataSegment<'a, [u8; 2]> {
+    DataSegment {
+        mode: DataSegmentMode::Passive,
+        bytes: BYTES,
+    }
+}
+
+impl SectionCalls for DataItems {
+    type Given = ConstExpr;
+
+    const ENTRIES: &'static [&'static [u8]] = &[
+        &[0, 65, 0, 11, 2, 8, 9],
+        &[2, 1, 65, 0, 11, 2, 8, 9],
+        &[1, 2, 8, 9],
+        &[1, 2, 8, 9],
+        &[1, 0],
+    ];
+
+    #[tactic(auto, using(wasm_base::proofs::KnownLengths::drained_array))]
+    fn add(section: &mut OnHeap<'_, Self>, offset: &ConstExpr, place: usize) -> R<()> {
+        match place {
+            0 => section.active(0, offset, BYTES),
+            1 => section.active(1, offset, BYTES),
+            2 => section.passive(BYTES),
+            3 => section.segment(passive_segment()),
+            _ => section.raw(&[1, 0]),
+        }
+    }
+}
+
 #[test]
-#[tactic(auto, using(wasm_base::proofs::KnownLengths::drained_array))]
-fn active_data(rt: HostRuntime) {
+fn data(rt: HostRuntime) {
     let heap = Refusing::new(rt.alloc());
     let offset = ConstExpr::i32_const(rt.alloc(), 0).expect(&rt, "accepted");
-    let first = [0, 65, 0, 11, 2, 8, 9];
-    check_adding(&rt, &heap, &first, |section: &mut DataSection<_>| {
-        section.active(0, &offset, BYTES)
-    });
-    let other = [2, 1, 65, 0, 11, 2, 8, 9];
-    check_adding(&rt, &heap, &other, |section: &mut DataSection<_>| {
-        section.active(1, &offset, BYTES)
-    })
-}
-
-#[test]
-#[tactic(auto, using(wasm_base::proofs::KnownLengths::drained_array))]
-fn passive_data(rt: HostRuntime) {
-    let heap = Refusing::new(rt.alloc());
-    check_adding(&rt, &heap, &[1, 2, 8, 9], |section: &mut DataSection<_>| {
-        section.passive(BYTES)
-    });
-    check_adding(&rt, &heap, &[1, 2, 8, 9], |section: &mut DataSection<_>| {
-        let mode: DataSegmentMode<'_> = DataSegmentMode::Passive;
-        section.segment(DataSegment { mode, bytes: BYTES })
-    });
-    check_adding(&rt, &heap, &[1, 0], |section: &mut DataSection<_>| {
-        section.raw(&[1, 0])
-    })
-}
-
-#[test]
-fn raw_globals(rt: HostRuntime) {
-    let heap = Refusing::new(rt.alloc());
-    let entry = [127, 0, 65, 42, 11];
-    check_adding(&rt, &heap, &entry, |section: &mut GlobalSection<_>| {
-        section.raw(&entry)
-    })
+    check_calls::<DataItems>(&rt, &heap, &offset)
 }
 
 /// The function 7.
@@ -62,29 +60,31 @@ fn seventh<'a>() -> Elements<'a> {
     Elements::Functions(CowSlice::Borrowed(&[7]))
 }
 
+impl SectionCalls for ElementItems {
+    type Given = ConstExpr;
+
+    const ENTRIES: &'static [&'static [u8]] = &[
+        &[2, 7, 65, 0, 11, 0, 1, 7],
+        &[1, 0, 1, 7],
+        &[3, 0, 1, 7],
+        &[1, 0, 0],
+    ];
+
+    fn add(section: &mut OnHeap<'_, Self>, offset: &ConstExpr, place: usize) -> R<()> {
+        match place {
+            0 => section.active(Some(7), offset, seventh()),
+            1 => section.passive(seventh()),
+            2 => section.declared(seventh()),
+            _ => section.raw(&[1, 0, 0]),
+        }
+    }
+}
+
 #[test]
 fn elements(rt: HostRuntime) {
     let heap = Refusing::new(rt.alloc());
     let offset = ConstExpr::i32_const(rt.alloc(), 0).expect(&rt, "accepted");
-    let active = [2, 7, 65, 0, 11, 0, 1, 7];
-    check_adding(&rt, &heap, &active, |section: &mut ElementSection<_>| {
-        section.active(Some(7), &offset, seventh())
-    });
-    check_adding(
-        &rt,
-        &heap,
-        &[1, 0, 1, 7],
-        |section: &mut ElementSection<_>| { section.passive(seventh()) },
-    );
-    check_adding(
-        &rt,
-        &heap,
-        &[3, 0, 1, 7],
-        |section: &mut ElementSection<_>| { section.declared(seventh()) },
-    );
-    check_adding(&rt, &heap, &[1, 0, 0], |section: &mut ElementSection<_>| {
-        section.raw(&[1, 0, 0])
-    })
+    check_calls::<ElementItems>(&rt, &heap, &offset)
 }
 
 /// Expressions whose list and members are in memory that is refused.
