@@ -8,7 +8,7 @@ use Rattle.std.proofs.Common.{Bor}
 use Rattle.std.proofs.lemmas.Iterator.{YieldsList}
 use Rattle.std.proofs.lemmas.Iterator.Consumers.{YieldsList-end}
 use Rattle.wasm_tool.proofs.LineLemmas.{all_lines}
-use Rattle.std.specs.Prelude.{All, IsOk, IsOkAnd, IsErrAnd, IfErr, option_map}
+use Rattle.std.specs.Prelude.{All, IsOk, IsOkAnd, IsErrAnd, IfOk, MatchResult, option_map}
 use Rattle.wasm_tool.specs.declared.fault.RecipeFault.{RecipeFault}
 use Rattle.wasm_base.specs.declared.refused.Refused.{Refused}
 use Rattle.wasm_base.specs.declared.refused.Refused.TheVariants as refusals
@@ -27,20 +27,7 @@ use Rattle.wasm_base.specs.Reading.{ReadsWhole}
 use Rattle.wasm_base.specs.Pieces.{SectionFits}
 use Rattle.wasm_base.proofs.ModuleLaws.{module_text-reads}
 use Rattle.wasm_tool.specs.Recipe.{Addition, IsGood, NamesFit, RecipeFits, entries_of, entry_of, added_to, last_of, names_of, section_of, start_of, sections_of, recipe_module, lines_before, lines_through}
-use Rattle.wasm_tool.specs.Steps.{AddsEntries, Explains, FitsWith, FitsSections, IsEmpty, Follows, SaysCause, cause_of, listed, replaced, start_items}
-
--- no line of these has a fault, and the sections have their items
-pub record HoldsLines {A : Type 0} (lines : List (List ℕ)) (recipe : Recipe A) : Type 0 where
-  pub good : All IsGood lines
-  pub types : recipe.types ≡ added_to 1 (entries_of lines)
-  pub functions : recipe.functions ≡ added_to 3 (entries_of lines)
-  pub memories : recipe.memories ≡ added_to 5 (entries_of lines)
-  pub globals : recipe.globals ≡ added_to 6 (entries_of lines)
-  pub exports : recipe.exports ≡ added_to 7 (entries_of lines)
-  pub start : start_items recipe.start ≡ last_of (added_to 8 (entries_of lines))
-  pub code : recipe.code ≡ added_to 10 (entries_of lines)
-  pub segments : recipe.segments ≡ added_to 11 (entries_of lines)
-  pub names : recipe.names ≡ added_to 0 (entries_of lines)
+use Rattle.wasm_tool.specs.Steps.{AddsEntries, Explains, FitsWith, FitsSections, HoldsLines, IsEmpty, IsModule, Follows, SaysCause, cause_of, listed, replaced, start_items}
 
 good_line : (line : List ℕ) (entries : List Addition) → entry_of line ≡ Ok entries → IsGood line
 unfolding IsGood
@@ -227,11 +214,11 @@ explains_at_end text recipe refused holds full = record { within = omega arith; 
     says refusals.TooLong full = (holds.good, λ fits. full refl (sections_fit (lines_of text) recipe holds fits))
 
 -- a refusal after the last line, made a fault
-pub refused_at_end : {X A : Type 0} (text : List ℕ) (recipe : Recipe A) (refused : Refused) (result : Result X RecipeFault) → HoldsLines (lines_of text) recipe
+pub refused_at_end : {X A : Type 0} (text : List ℕ) (recipe : Recipe A) (refused : Refused) (result : Result X RecipeFault) (P : X → Type 0) → HoldsLines (lines_of text) recipe
     → (refused ≡ refusals.TooLong → ¬ (FitsSections recipe))
-    → IsErrAnd result (λ fault. (fault.line ≡ 0) × (fault.cause ≡ cause_of refused)) → IfErr result (λ fault. Explains text fault.line fault.cause)
-refused_at_end text recipe refused (Ok x) holds full made = absurd made
-refused_at_end text recipe refused (Err fault) holds full made =
+    → IsErrAnd result (λ fault. (fault.line ≡ 0) × (fault.cause ≡ cause_of refused)) → MatchResult result P (λ fault. Explains text fault.line fault.cause)
+refused_at_end text recipe refused (Ok x) P holds full made = absurd made
+refused_at_end text recipe refused (Err fault) P holds full made =
     let at_zero = explains_at_end text recipe refused holds full in
     rw (made.0, made.1) at_zero
 
@@ -273,13 +260,20 @@ module_reads lines recipe bytes holds fits is =
     subst (λ sections. ReadsWhole wasm_module bytes sections) (listed-holds lines recipe holds)
     (subst (λ bytes. ReadsWhole wasm_module bytes (listed recipe)) (sym is) (module_text-reads (listed recipe) (listed-fits recipe fits)))
 
--- the text of some sections, and of some more
+-- what follows where a module was answered
+pub on_module : {X A : Type 0} (text : List ℕ) (recipe : Recipe A) (result : Result X RecipeFault) (items : X → List ℕ) (P : X → Type 0)
+    → MatchResult result (λ x. IsModule (lines_of text) recipe (items x)) (λ fault. Explains text fault.line fault.cause)
+    → ((x : X) → IsModule (lines_of text) recipe (items x) → P x) → IfOk result P
+on_module text recipe (Ok x) items P made follows = follows x made
+on_module text recipe (Err fault) items P made follows = tt
+
+-- the text of some sections behind a header, and of some more behind any text
 pub first_sections : (xs : List (ℕ × List ℕ)) (old new : List ℕ) → old ≡ header → new ≡ old ++ flat_map any_section_text xs → new ≡ module_text xs
 unfolding module_text
 first_sections xs old new e f = f ∙ ap (λ t. t ++ flat_map any_section_text xs) e
 
-pub more_sections : (xs ys : List (ℕ × List ℕ)) (old new : List ℕ) → old ≡ module_text xs → new ≡ old ++ flat_map any_section_text ys → new ≡ module_text (xs ++ ys)
-unfolding module_text
-more_sections xs ys old new e f =
-    f ∙ ap (λ t. t ++ flat_map any_section_text ys) e ∙ append_assoc header (flat_map any_section_text xs) (flat_map any_section_text ys)
-    ∙ ap (λ t. header ++ t) (sym (flat_map-append any_section_text xs ys))
+pub more_sections : (xs ys : List (ℕ × List ℕ)) (old mid new : List ℕ) → mid ≡ old ++ flat_map any_section_text xs → new ≡ mid ++ flat_map any_section_text ys
+    → new ≡ old ++ flat_map any_section_text (xs ++ ys)
+more_sections xs ys old mid new e f =
+    f ∙ ap (λ t. t ++ flat_map any_section_text ys) e ∙ append_assoc old (flat_map any_section_text xs) (flat_map any_section_text ys)
+    ∙ ap (λ t. old ++ t) (sym (flat_map-append any_section_text xs ys))

@@ -2,7 +2,7 @@
 use Rattle.std.specs.Prelude.{ℕ, [], ◌≡◌, ◌≢◌, ◌++◌, ◌-◌, ◌≤◌, ⊤, List, ◌∷◌, Option, None, Result, Ok, Err, All, IsOkAnd, OnOk, length, Some, option_map}
 use Rattle.std.specs.List.{slice_get, flat_map}
 use Rattle.wasm_base.specs.Numbers.{unsigned_text}
-use Rattle.wasm_base.specs.Texts.{any_section_text, FrameFits}
+use Rattle.wasm_base.specs.Texts.{any_section_text, FrameFits, module_text}
 use Rattle.wasm_base.specs.Pieces.{SectionFits}
 use Rattle.wasm_base.specs.declared.refused.Refused.{Refused}
 use Rattle.wasm_base.specs.declared.refused.Refused.TheVariants as refusals
@@ -74,6 +74,25 @@ pub record FitsSections {A : Type 0} (recipe : Recipe A) : Type 0 where
 -- the sections of the recipe, in order
 abbrev pub listed : {A : Type 0} → Recipe A → List (ℕ × List ℕ)
 listed recipe = in_order recipe.types recipe.functions recipe.memories recipe.globals recipe.exports (start_items recipe.start) recipe.code recipe.segments recipe.names
+
+-- No line of these has a fault, and the sections have their items.
+pub record HoldsLines {A : Type 0} (lines : List (List ℕ)) (recipe : Recipe A) : Type 0 where
+  pub good : All IsGood lines
+  pub types : recipe.types ≡ added_to 1 (entries_of lines)
+  pub functions : recipe.functions ≡ added_to 3 (entries_of lines)
+  pub memories : recipe.memories ≡ added_to 5 (entries_of lines)
+  pub globals : recipe.globals ≡ added_to 6 (entries_of lines)
+  pub exports : recipe.exports ≡ added_to 7 (entries_of lines)
+  pub start : start_items recipe.start ≡ last_of (added_to 8 (entries_of lines))
+  pub code : recipe.code ≡ added_to 10 (entries_of lines)
+  pub segments : recipe.segments ≡ added_to 11 (entries_of lines)
+  pub names : recipe.names ≡ added_to 0 (entries_of lines)
+
+-- The bytes are the module of these lines, which the sections hold.
+pub record IsModule {A : Type 0} (lines : List (List ℕ)) (recipe : Recipe A) (bytes : List ℕ) : Type 0 where
+  pub holds : HoldsLines lines recipe
+  pub fits : FitsSections recipe
+  pub text : bytes ≡ module_text (listed recipe)
 
 -- What a call that reads a line answers and leaves, where the line says `said`.
 abbrev pub Follows : {A : Type 0} → Result (List Addition) RecipeCause → Recipe A → Recipe A → Result (Unit {0}) RecipeCause → Type 0

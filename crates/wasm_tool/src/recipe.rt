@@ -34,7 +34,7 @@ ghost use Rattle.wasm_tool.specs.Recipe.{
   recipe_module,
   RecipeFits,
 };
-ghost use Rattle.wasm_tool.specs.Steps.{Follows, Explains, IsEmpty, FitsSections, Puts, listed, start_items};
+ghost use Rattle.wasm_tool.specs.Steps.{Follows, Explains, HoldsLines, IsEmpty, IsModule, FitsSections, Puts, listed, start_items};
 
 use crate::fault::{RecipeCause, RecipeFault};
 use crate::words::Words;
@@ -200,6 +200,23 @@ impl<A: Allocator + Copy> Recipe<A> {
         }
     }
 
+    /// Reads the lines of a text into sections without items.
+    fn read_lines(&mut self, alloc: A, lines: &str) -> Result<(), RecipeFault>
+        ensures { IsEmpty self.old → MatchResult result (λ _. HoldsLines (lines_of lines.now) self.new) (λ fault. Explains lines.now fault.line fault.cause) }
+    {
+        let mut number = 0;
+        for line in lines.split('\n') {
+            number += 1;
+            if let Err(cause) = self.read_line(alloc, without_return(line)) {
+                return Err(RecipeFault {
+                    line: number,
+                    cause,
+                });
+            }
+        }
+        Ok(())
+    }
+
     fn read_type(&mut self, alloc: A, mut words: Words<'_>) -> Result<(), RecipeCause>
         ensures { Follows (type_entry (words_of words.entry.rest.now)) self.old self.new result }
     {
@@ -344,6 +361,21 @@ impl<A: Allocator + Copy> Recipe<A> {
         }
     }
 
+    /// Puts the sections into the module, in the order of the standard.
+    fn put_sections(&self, alloc: A, target: &mut Module<A>) -> R<()>
+        ensures { Puts (listed self.now) (FitsSections self.now) target.old target.new result }
+    {
+        self.put_types(alloc, target)?;
+        put_counted(&self.functions, target)?;
+        put_counted(&self.memories, target)?;
+        put_counted(&self.globals, target)?;
+        put_counted(&self.exports, target)?;
+        self.put_start(target)?;
+        self.put_code(target)?;
+        put_counted(&self.segments, target)?;
+        self.put_names(target)
+    }
+
     /// The module of the sections.
     fn finish(&self, alloc: A) -> R<Vec<u8, A>>
         ensures ok { IfOk result (λ bytes. bytes.items ≡ module_text (listed self.now)) }
@@ -351,16 +383,16 @@ impl<A: Allocator + Copy> Recipe<A> {
         ensures too_long { FitsSections self.now → result ≢ Err refusals.TooLong }
     {
         let mut module = Module::new(alloc)?;
-        self.put_types(alloc, &mut module)?;
-        put_counted(&self.functions, &mut module)?;
-        put_counted(&self.memories, &mut module)?;
-        put_counted(&self.globals, &mut module)?;
-        put_counted(&self.exports, &mut module)?;
-        self.put_start(&mut module)?;
-        self.put_code(&mut module)?;
-        put_counted(&self.segments, &mut module)?;
-        self.put_names(&mut module)?;
+        self.put_sections(alloc, &mut module)?;
         Ok(module.finish())
+    }
+
+    /// The module of the lines of a text, which are read into sections without items.
+    fn module_of(&mut self, alloc: A, lines: &str) -> Result<Vec<u8, A>, RecipeFault>
+        ensures { IsEmpty self.old → MatchResult result (λ bytes. IsModule (lines_of lines.now) self.new bytes.items) (λ fault. Explains lines.now fault.line fault.cause) }
+    {
+        self.read_lines(alloc, lines)?;
+        Ok(self.finish(alloc)?)
     }
 }
 
@@ -392,15 +424,5 @@ pub fn assemble<A: Allocator + Copy>(alloc: A, lines: &str) -> Result<Vec<u8, A>
     ensures fault { IfErr result (λ fault. Explains lines.now fault.line fault.cause) }
 {
     let mut recipe = Recipe::new(alloc);
-    let mut number = 0;
-    for line in lines.split('\n') {
-        number += 1;
-        if let Err(cause) = recipe.read_line(alloc, without_return(line)) {
-            return Err(RecipeFault {
-                line: number,
-                cause,
-            });
-        }
-    }
-    Ok(recipe.finish(alloc)?)
+    recipe.module_of(alloc, lines)
 }
