@@ -2,7 +2,6 @@
 use crate::checks::{MOST, check_run, check_that};
 use std::alloc::Global;
 use std::process::Abort;
-use std::test::Fail;
 use test_support::{FailingReader, FailingWriter, Refusing};
 use wasm_tool::run;
 
@@ -33,13 +32,13 @@ fn check_text(
 }
 
 /// The word `--read`.
-fn word(alloc: Global) -> Result<[String; 1], Fail> {
-    Ok([String::from_str(alloc, "--read")?])
+fn word(rt: &impl Abort, alloc: Global) -> [String; 1] {
+    [String::from_str(alloc, "--read").expect(rt, "accepted")]
 }
 
 #[test]
-fn lines_of_modules(rt: HostRuntime) -> Result<(), Fail> {
-    let args = word(rt.alloc())?;
+fn lines_of_modules(rt: HostRuntime) {
+    let args = word(&rt, rt.alloc());
     let cases = [
         ("0061736d01000000", ""),
         ("0061736D01000000 \r\n \n", ""),
@@ -60,12 +59,11 @@ fn lines_of_modules(rt: HostRuntime) -> Result<(), Fail> {
     for (text, lines) in cases {
         check_text(&rt, &args, rt.alloc(), text.as_bytes(), (0, lines, ""));
     }
-    Ok(())
 }
 
 #[test]
-fn faults(rt: HostRuntime) -> Result<(), Fail> {
-    let args = word(rt.alloc())?;
+fn faults(rt: HostRuntime) {
+    let args = word(&rt, rt.alloc());
     let cases = [
         ("0061736d010000000a06010400281000", "section 1: Ended\n"),
         ("", "section 0: Ended\n"),
@@ -91,7 +89,6 @@ fn faults(rt: HostRuntime) -> Result<(), Fail> {
         &[0xFF],
         (1, "", "input: not text\n"),
     );
-    Ok(())
 }
 
 /// What the program answered and wrote where a request was to be refused: the lines where none was, and else that memory was refused.
@@ -106,9 +103,9 @@ fn check_answer(rt: &impl Abort, granted: bool, status: u8, out: &[u8], message:
 }
 
 #[test]
-fn each_request_refused(rt: HostRuntime) -> Result<(), Fail> {
+fn each_request_refused(rt: HostRuntime) {
     let heap = Refusing::new(rt.alloc());
-    let args = [String::from_str(&heap, "--read")?];
+    let args = [String::from_str(&heap, "--read").expect(&rt, "accepted")];
     for nth in 1..MOST {
         let mut out = FailingWriter::new(rt.alloc(), 0);
         let mut err = FailingWriter::new(rt.alloc(), 0);
@@ -116,15 +113,15 @@ fn each_request_refused(rt: HostRuntime) -> Result<(), Fail> {
         let status = run(&heap, &args, &mut TEXT.as_bytes(), &mut out, &mut err);
         check_answer(&rt, heap.is_waiting(), status, out.bytes(), err.bytes());
         if heap.is_waiting() {
-            return Ok(());
+            return;
         }
     }
     panic!(rt; "no call was granted")
 }
 
 #[test]
-fn a_read_fails(rt: HostRuntime) -> Result<(), Fail> {
-    let args = word(rt.alloc())?;
+fn a_read_fails(rt: HostRuntime) {
+    let args = word(&rt, rt.alloc());
     let mut input = FailingReader::new(TEXT.as_bytes(), 2, 3);
     let mut out = FailingWriter::new(rt.alloc(), 0);
     let mut err = FailingWriter::new(rt.alloc(), 0);
@@ -135,5 +132,4 @@ fn a_read_fails(rt: HostRuntime) -> Result<(), Fail> {
         (status, out.bytes(), err.bytes()),
         (1, b"", b"input: not text\n"),
     );
-    Ok(())
 }

@@ -2,7 +2,6 @@
 use crate::checks::{check_bytes, check_run};
 use std::alloc::Global;
 use std::process::Abort;
-use std::test::Fail;
 use wasm_tool::{RecipeCause, RecipeFault, assemble, run};
 
 /// What the program answers and writes for a text.
@@ -113,8 +112,8 @@ fn inputs_that_are_no_text(rt: HostRuntime) {
 }
 
 /// The program with an argument says how it is called.
-fn check_argument(rt: &impl Abort, alloc: Global, word: &str) -> Result<(), Fail> {
-    let args = [String::from_str(alloc, word)?];
+fn check_argument(rt: &impl Abort, alloc: Global, word: &str) {
+    let args = [String::from_str(alloc, word).expect(rt, "accepted")];
     let mut out = Vec::new(alloc);
     let mut err = Vec::new(alloc);
     let text: &str = "body 0b";
@@ -125,20 +124,18 @@ fn check_argument(rt: &impl Abort, alloc: Global, word: &str) -> Result<(), Fail
         (answer, &out, &err),
         (2, b"", b"usage: wasmrow [--read]\n"),
     );
-    Ok(())
 }
 
 #[test]
-fn arguments(rt: HostRuntime) -> Result<(), Fail> {
-    check_argument(&rt, rt.alloc(), "-x")?;
-    check_argument(&rt, rt.alloc(), "--read=")
+fn arguments(rt: HostRuntime) {
+    check_argument(&rt, rt.alloc(), "-x");
+    check_argument(&rt, rt.alloc(), "--read=");
 }
 
 #[test]
-fn modules_as_bytes(rt: HostRuntime) -> Result<(), Fail> {
-    let bytes = assemble(rt.alloc(), "body 0b").ok().ok_or("no module")?;
+fn modules_as_bytes(rt: HostRuntime) {
+    let bytes = assemble(rt.alloc(), "body 0b").expect(&rt, "accepted");
     check_bytes(&rt, &bytes, b"\0asm\x01\0\0\0\x0A\x04\x01\x02\0\x0B");
-    Ok(())
 }
 
 /// The recipe has this fault.
@@ -158,7 +155,7 @@ fn check_shown(rt: &impl Abort, text: &str, expected: &str) {
 }
 
 #[test]
-fn texts_of_faults(rt: HostRuntime) -> Result<(), Fail> {
+fn texts_of_faults(rt: HostRuntime) {
     let cases = [
         (RecipeCause::UnknownCommand, "line 7: unknown command"),
         (RecipeCause::BadNumber, "line 7: bad number"),
@@ -168,8 +165,8 @@ fn texts_of_faults(rt: HostRuntime) -> Result<(), Fail> {
         (RecipeCause::TooLong, "line 7: too long"),
     ];
     for (cause, text) in cases {
-        let shown = format!(in rt.alloc(); "{}", RecipeFault { line: 7, cause })?;
+        let fault = RecipeFault { line: 7, cause };
+        let shown = format!(in rt.alloc(); "{fault}").expect(&rt, "accepted");
         check_shown(&rt, shown.as_str(), text);
     }
-    Ok(())
 }
