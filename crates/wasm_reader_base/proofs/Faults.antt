@@ -13,6 +13,10 @@ pub if_ok_more : {T E : Type 0} (r : Result T E) {P Q : T → Type 0} → ((x : 
 if_ok_more (Ok x) f p = f x p
 if_ok_more (Err e) f p = p
 
+pub if_err_more : {T E : Type 0} (r : Result T E) {P Q : E → Type 0} → ((e : E) → P e → Q e) → IfErr r P → IfErr r Q
+if_err_more (Ok x) f p = p
+if_err_more (Err e) f p = f e p
+
 -- A refusal of memory says nothing.
 pub memory_stays : {T : Type 0} (P : Type 0) (r : Result T ReadFault) → IsErrAnd r (λ y. y ≡ Memory) → IfErr r (λ e. e ≢ Memory → P)
 memory_stays P (Ok x) h = elim h [ ]

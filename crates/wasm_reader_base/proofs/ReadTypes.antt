@@ -1,5 +1,5 @@
 -- How types are read.
-use Rattle.std.proofs.Common.{◌≡◌, ◌≢◌, ◌⊎◌, inl, inr, ℕ, ◌<◌, ◌≤◌, List, [], ◌∷◌, Bool, true, false, refl, sym, ap, subst, ◌∙◌, arith}
+use Rattle.std.proofs.Common.{◌≡◌, ◌≢◌, ◌⊎◌, inl, inr, Result, IfErr, ℕ, ◌<◌, ◌≤◌, List, [], ◌∷◌, Bool, true, false, refl, sym, ap, subst, ◌∙◌, arith}
 use Rattle.wasm_base.specs.Numbers.{wide}
 use Rattle.wasm_base.specs.Formats.{Format, u32, byte, s33, choice, impossible, mapped, tagged, one_of}
 use Rattle.wasm_base.specs.Reading.{Reads, ReadsNothing}
@@ -14,6 +14,9 @@ use Rattle.wasm_base.specs.declared.types.ValType.TheVariants.{I32, I64, F32, F6
 use Rattle.wasm_base.proofs.FormatLaws.{byte-alone}
 use Rattle.wasm_base.proofs.TypeLaws.{abstract_bytes, begins_s33, heap-alone}
 use Rattle.wasm_base.proofs.ReadingSteps.{mapped_reads, mapped_nothing, such_reads, such_none, such_nothing}
+use Rattle.wasm_reader_base.specs.declared.fault.ReadFault.{ReadFault}
+use Rattle.wasm_reader_base.specs.declared.fault.ReadFault.TheVariants.{Memory}
+use Rattle.wasm_reader_base.proofs.Faults.{if_err_more}
 use Rattle.wasm_base.proofs.Tags.{tagged_reads, tagged_none, tagged_nothing, no_choice, choice_other, fixed_reads, one_of_nothing, one_of_left, one_of_right, not_begun, no_bytes, code_reads, code_none, code_unknown}
 
 -- ---- abstract types
@@ -128,6 +131,9 @@ ref_type_none bytes none = tagged_none byte after_ref bytes none
 pub ref_type_nothing : (bytes rest : List ℕ) (b : ℕ) → Reads byte wide bytes b rest → ReadsNothing (after_ref b) wide rest → ReadsNothing ref_type wide bytes
 ref_type_nothing bytes rest b h none = tagged_nothing {G = after_ref} byte-alone h none
 
+pub ref_type_fails : {T : Type 0} (bytes rest : List ℕ) (b : ℕ) (r : Result T ReadFault) → Reads byte wide bytes b rest → IfErr r (λ e. e ≢ Memory → ReadsNothing (after_ref b) wide rest) → IfErr r (λ e. e ≢ Memory → ReadsNothing ref_type wide bytes)
+ref_type_fails bytes rest b r h = if_err_more r λ e none n. ref_type_nothing bytes rest b h (none n)
+
 pub ruleset ref_type_steps = (ref_type_reads, ref_type_none, ref_type_nothing)
 
 -- ---- value types
@@ -169,5 +175,8 @@ val_type_none bytes none = tagged_none byte after_val bytes none
 
 pub val_type_nothing : (bytes rest : List ℕ) (b : ℕ) → Reads byte wide bytes b rest → ReadsNothing (after_val b) wide rest → ReadsNothing val_type wide bytes
 val_type_nothing bytes rest b h none = tagged_nothing {G = after_val} byte-alone h none
+
+pub val_type_fails : {T : Type 0} (bytes rest : List ℕ) (b : ℕ) (r : Result T ReadFault) → Reads byte wide bytes b rest → IfErr r (λ e. e ≢ Memory → ReadsNothing (after_val b) wide rest) → IfErr r (λ e. e ≢ Memory → ReadsNothing val_type wide bytes)
+val_type_fails bytes rest b r h = if_err_more r λ e none n. val_type_nothing bytes rest b h (none n)
 
 pub ruleset val_type_steps = (val_type_reads, val_type_none, val_type_nothing)

@@ -1,5 +1,5 @@
 use Rattle.wasm_reader_base.proofs.Faults.{fault_stays}
-use Rattle.wasm_reader_custom.proofs.ReadNames.{names_none}
+use Rattle.wasm_reader_custom.proofs.ReadNames.{names_none, names_fill}
 use Rattle.wasm_reader_custom.proofs.ReadNames.{no_names}
 use Rattle.wasm_reader_custom.proofs.names.read_names.Goals as goal
 
@@ -8,3 +8,6 @@ returns-in_err-rest-clause-none g c = fault_stays c.from_residual.result _ c.fro
 
 pub returns-in_err-items-clause-none : goal.returns-in_err-items-clause-none
 returns-in_err-items-clause-none g c = fault_stays c.from_residual-in_err-items.result _ c.from_residual-in_err-items.ensures.1 λ n. no_names c.args.bytes.now _ c.in_ok-rest.ensures.found (c.in_err-items.ensures.none n)
+
+pub returns-clause-found : goal.returns-clause-found
+returns-clause-found g c = search (names_fill, c.in_ok-rest.ensures.found, c.in_ok-items.ensures.found)

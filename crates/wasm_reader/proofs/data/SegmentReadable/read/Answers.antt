@@ -1,6 +1,6 @@
 use Rattle.wasm_reader_base.proofs.Faults.{fault_stays}
 use Rattle.wasm_reader.specs.Items.{instructions_of}
-use Rattle.wasm_reader.proofs.ReadData.{segment_none, first_none, passive_none, passive_reads, other_no_memory, other_none, other_reads}
+use Rattle.wasm_reader.proofs.ReadData.{segment_none, first_none, passive_none, passive_reads, other_no_memory, other_none, other_reads, first_reads}
 use Rattle.wasm_reader.proofs.data.SegmentReadable.read.Goals as goal
 
 pub returns-in_err-flag-clause-none : goal.returns-in_err-flag-clause-none
@@ -23,3 +23,6 @@ returns-in_err-offset-in-2-clause-none g c = fault_stays c.from_residual-in_err-
 
 pub returns-in_ok-offset-in-2-clause-found : goal.returns-in_ok-offset-in-2-clause-found
 returns-in_ok-offset-in-2-clause-found g c = other_reads c.args.bytes.now _ _ _ _ _ (instructions_of c.in_ok-offset-in-2.offset) c.in_ok-offset-in-2.field-0-0-1.0.now c.in_ok-flag.ensures.found c.in-2.is c.in_ok-memory-in-2.ensures.found c.if-memory-eq0.false c.in_ok-offset-in-2.ensures.found
+
+pub returns-in_ok-offset-in-0-clause-found : goal.returns-in_ok-offset-in-0-clause-found
+returns-in_ok-offset-in-0-clause-found g c = search (first_reads, c.in_ok-flag.ensures.found, c.in-0.is, c.in_ok-offset-in-0.ensures.found)

@@ -1,5 +1,5 @@
 use Rattle.wasm_reader_base.proofs.Faults.{fault_stays}
-use Rattle.wasm_reader.proofs.ReadImports.{entity_none, entity_no_function, entity_no_table, entity_no_memory, entity_no_global, entity_no_tag, entity_no_exact, entity_function, entity_table, entity_global, entity_tag}
+use Rattle.wasm_reader.proofs.ReadImports.{entity_none, entity_no_function, entity_no_table, entity_no_memory, entity_no_global, entity_no_tag, entity_no_exact, entity_function, entity_table, entity_global, entity_tag, entity_exact, entity_memory}
 use Rattle.wasm_reader.proofs.imports.EntityTypeItemHere.read_item.Goals as goal
 
 pub returns-in_err-kind-clause-none : goal.returns-in_err-kind-clause-none
@@ -40,3 +40,9 @@ returns-in_ok-ty-in-3-clause-found g c = entity_global c.args.bytes.now _ _ _ _ 
 
 pub returns-in_ok-ty-in-4-clause-found : goal.returns-in_ok-ty-in-4-clause-found
 returns-in_ok-ty-in-4-clause-found g c = entity_tag c.args.bytes.now _ _ _ _ c.in_ok-kind.ensures.found c.in-4.is c.in_ok-ty-in-4.ensures.found
+
+pub returns-in_ok-index-in-32-clause-found : goal.returns-in_ok-index-in-32-clause-found
+returns-in_ok-index-in-32-clause-found g c = search (entity_exact, c.in_ok-kind.ensures.found, c.in-32.is, c.in_ok-index-in-32.ensures.found)
+
+pub returns-in_ok-ty-in-2-clause-found : goal.returns-in_ok-ty-in-2-clause-found
+returns-in_ok-ty-in-2-clause-found g c = search (entity_memory, c.in_ok-kind.ensures.found, c.in-2.is, c.in_ok-ty-in-2.ensures.found)

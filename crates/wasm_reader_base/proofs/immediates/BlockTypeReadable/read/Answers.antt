@@ -1,6 +1,6 @@
 use Rattle.std.proofs.Common.{arith}
 use Rattle.wasm_reader_base.proofs.Faults.{fault_stays}
-use Rattle.wasm_reader_base.proofs.ReadImmediates.{block_result_reads, block_index, block_none, block_no_result}
+use Rattle.wasm_reader_base.proofs.ReadImmediates.{block_result_reads, block_index, block_none, block_no_result, block_empty}
 use Rattle.wasm_reader_base.proofs.immediates.BlockTypeReadable.read.Goals as goal
 
 pub returns-in_err-tag-clause-none : goal.returns-in_err-tag-clause-none
@@ -14,3 +14,6 @@ returns-in_ok-ty-in-65-to-127-clause-found g c = block_result_reads c.args.bytes
 
 pub returns-in_ok-index-in_default-clause-found : goal.returns-in_ok-index-in_default-clause-found
 returns-in_ok-index-in_default-clause-found g c = block_index c.args.bytes.now _ _ c.in_ok-index-in_default.ensures.found
+
+pub returns-in-64-clause-found : goal.returns-in-64-clause-found
+returns-in-64-clause-found g c = search (block_empty, c.in_ok-tag.ensures.found, c.in-64.is)

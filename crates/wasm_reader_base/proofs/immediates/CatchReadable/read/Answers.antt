@@ -1,5 +1,5 @@
 use Rattle.wasm_reader_base.proofs.Faults.{fault_stays}
-use Rattle.wasm_reader_base.proofs.ReadImmediates.{catch_one, catch_one_ref, catch_all, catch_none, catch_no_one, catch_no_one_ref, catch_no_all, catch_no_all_ref}
+use Rattle.wasm_reader_base.proofs.ReadImmediates.{catch_one, catch_one_ref, catch_all, catch_none, catch_no_one, catch_no_one_ref, catch_no_all, catch_no_all_ref, catch_all_ref}
 use Rattle.wasm_reader_base.proofs.immediates.CatchReadable.read.Goals as goal
 
 pub returns-in_err-kind-clause-none : goal.returns-in_err-kind-clause-none
@@ -25,3 +25,6 @@ returns-in_ok-tag-in-1-clause-found g c = catch_one_ref c.args.bytes.now _ _ _ _
 
 pub returns-in_ok-label-in-2-clause-found : goal.returns-in_ok-label-in-2-clause-found
 returns-in_ok-label-in-2-clause-found g c = catch_all c.args.bytes.now _ _ _ _ c.in_ok-kind.ensures.found c.in-2.is c.in_ok-label-in-2.ensures.found
+
+pub returns-in_ok-label-in-3-clause-found : goal.returns-in_ok-label-in-3-clause-found
+returns-in_ok-label-in-3-clause-found g c = search (catch_all_ref, c.in_ok-kind.ensures.found, c.in-3.is, c.in_ok-label-in-3.ensures.found)

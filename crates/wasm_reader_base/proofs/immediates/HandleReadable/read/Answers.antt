@@ -1,5 +1,5 @@
 use Rattle.wasm_reader_base.proofs.Faults.{fault_stays}
-use Rattle.wasm_reader_base.proofs.ReadImmediates.{handle_on_switch, handle_none, handle_no_label, handle_no_switch}
+use Rattle.wasm_reader_base.proofs.ReadImmediates.{handle_on_switch, handle_none, handle_no_label, handle_no_switch, handle_on_label}
 use Rattle.wasm_reader_base.proofs.immediates.HandleReadable.read.Goals as goal
 
 pub returns-in_err-kind-clause-none : goal.returns-in_err-kind-clause-none
@@ -13,3 +13,6 @@ returns-in_err-tag-in-1-clause-none g c = fault_stays c.from_residual-in_err-tag
 
 pub returns-in_ok-tag-in-1-clause-found : goal.returns-in_ok-tag-in-1-clause-found
 returns-in_ok-tag-in-1-clause-found g c = handle_on_switch c.args.bytes.now _ _ _ _ c.in_ok-kind.ensures.found c.in-1.is c.in_ok-tag-in-1.ensures.found
+
+pub returns-in_ok-tag-in-0-clause-found : goal.returns-in_ok-tag-in-0-clause-found
+returns-in_ok-tag-in-0-clause-found g c = search (handle_on_label, c.in_ok-kind.ensures.found, c.in-0.is, c.in_ok-tag-in-0.ensures.found)

@@ -1,5 +1,5 @@
 use Rattle.wasm_reader_base.proofs.Faults.{fault_stays}
-use Rattle.wasm_reader_base.proofs.ReadTypes.{heap_none}
+use Rattle.wasm_reader_base.proofs.ReadTypes.{heap_none, heap_shared}
 use Rattle.std.proofs.Common.{arith}
 use Rattle.wasm_reader_base.proofs.ReadTypes.{heap_exact, heap_abstract, heap_index, heap_no_exact, heap_no_shared, heap_no_index}
 use Rattle.wasm_reader_base.proofs.types.HeapTypeReadable.read.Goals as goal
@@ -24,3 +24,6 @@ returns-in-Some-clause-found g c = heap_abstract c.args.bytes.now _ _ _ c.in_ok-
 
 pub returns-in_ok-index-in-None-clause-found : goal.returns-in_ok-index-in-None-clause-found
 returns-in_ok-index-in-None-clause-found g c = heap_index c.args.bytes.now _ _ c.in_ok-index-in-None.ensures.found
+
+pub returns-in_ok-ty-in-101-clause-found : goal.returns-in_ok-ty-in-101-clause-found
+returns-in_ok-ty-in-101-clause-found g c = search (heap_shared, c.in_ok-tag.ensures.found, c.in-101.is, c.in_ok-ty-in-101.ensures.found)

@@ -1,7 +1,7 @@
 use Rattle.wasm_reader_base.proofs.Faults.{if_ok_more}
 use Rattle.wasm_reader_base.proofs.ReadTypes.{val_type_reads}
 use Rattle.wasm_reader_base.proofs.Faults.{fault_stays}
-use Rattle.wasm_reader_base.proofs.ReadTypes.{val_type_none}
+use Rattle.wasm_reader_base.proofs.ReadTypes.{val_type_none, val_type_fails}
 use Rattle.wasm_reader_base.proofs.types.ValTypeReadable.read.Goals as goal
 
 pub returns-clause-found : goal.returns-clause-found
@@ -9,3 +9,6 @@ returns-clause-found g c = if_ok_more c.read_val_after.result (λ x h. val_type_
 
 pub returns-in_err-tag-clause-none : goal.returns-in_err-tag-clause-none
 returns-in_err-tag-clause-none g c = fault_stays c.from_residual.result _ c.from_residual.ensures.1 λ n. val_type_none c.args.bytes.now (c.in_err-tag.ensures.none n)
+
+pub returns-clause-none : goal.returns-clause-none
+returns-clause-none g c = search (val_type_fails, c.in_ok-tag.ensures.found, c.read_val_after.ensures.none)

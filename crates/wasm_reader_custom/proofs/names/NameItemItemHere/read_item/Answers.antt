@@ -1,5 +1,5 @@
 use Rattle.wasm_reader_base.proofs.Faults.{fault_stays}
-use Rattle.wasm_reader_custom.proofs.ReadNames.{subsection_none, subsection_no_frame, subsection_nothing}
+use Rattle.wasm_reader_custom.proofs.ReadNames.{subsection_none, subsection_no_frame, subsection_nothing, subsection_reads}
 use Rattle.wasm_reader_custom.proofs.names.NameItemItemHere.read_item.Goals as goal
 
 pub returns-in_err-id-clause-none : goal.returns-in_err-id-clause-none
@@ -10,3 +10,6 @@ returns-in_err-content-clause-none g c = fault_stays c.from_residual-in_err-cont
 
 pub returns-in_err-item-clause-none : goal.returns-in_err-item-clause-none
 returns-in_err-item-clause-none g c = fault_stays c.from_residual-in_err-item.result _ c.from_residual-in_err-item.ensures.1 λ n. subsection_nothing c.args.bytes.now _ _ _ _ _ c.in_ok-id.ensures.found c.in_ok-content.ensures.found c.kind_of.ensures (c.in_err-item.ensures.none n)
+
+pub returns-clause-found : goal.returns-clause-found
+returns-clause-found g c = search (subsection_reads, c.in_ok-id.ensures.found, c.in_ok-content.ensures.found, c.in_ok-item.ensures.found, c.kind_of.ensures)
