@@ -13,15 +13,19 @@ Format X = Mode → Spelling X
 
 -- ---- numbers and bytes
 
+-- an unsigned number of 32 bits: an index, a count, a size
 abbrev pub u32 : Format ℕ
 u32 mode = Unsigned mode 32
 
+-- an unsigned number of 64 bits
 abbrev pub u64 : Format ℕ
 u64 mode = Unsigned mode 64
 
+-- a signed number of 32 bits
 abbrev pub s32 : Format ℤ
 s32 mode = Signed mode 32
 
+-- a signed number of 64 bits
 abbrev pub s64 : Format ℤ
 s64 mode = Signed mode 64
 
@@ -41,6 +45,7 @@ raw_bytes n mode s x = (s ≡ x) × (length x ≡ n)
 abbrev pub any_bytes : Format (List ℕ)
 any_bytes mode s x = s ≡ x
 
+-- Each number is below 256.
 abbrev pub AreBytes : List ℕ → Type 0
 AreBytes = AllByRecursion (λ b. b < 0x100)
 
@@ -117,6 +122,7 @@ pub record Framed {X : Type 0} (F : Format X) (mode : Mode) (s : List ℕ) (x : 
   pub size : u32 mode front (length content)
   pub spelled : F mode content x
 
+-- the format of frames of a format
 abbrev pub frame : {X : Type 0} → Format X → Format X
 frame F = Framed F
 

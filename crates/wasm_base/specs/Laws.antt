@@ -15,9 +15,11 @@ FitsUnsigned bits n = n < 2 ^ bits
 abbrev pub FitsBytes : ℕ → ℕ → Type 0
 FitsBytes n v = v < 256 ^ n
 
+-- a signed number of 32 bits
 abbrev pub FitsSigned32 : ℤ → Type 0
 FitsSigned32 v = (neg_ℤ (pos (2 ^ 31)) ≤ℤ v) × (v <ℤ pos (2 ^ 31))
 
+-- a signed number of 64 bits
 abbrev pub FitsSigned64 : ℤ → Type 0
 FitsSigned64 v = (neg_ℤ (pos (2 ^ 63)) ≤ℤ v) × (v <ℤ pos (2 ^ 63))
 

@@ -27,7 +27,7 @@ AreRead [] (s ∷ sections) = ⊥
 AreRead (r ∷ readings) [] = ⊥
 AreRead (r ∷ readings) (s ∷ sections) = (s.0 ≡ r.0) × r.1 s.1 × AreRead readings sections
 
--- The bytes are read as a module of sections of these ids alone, and the payload of each as its items alone.
+-- The bytes are read as a module of sections of these ids alone, and of the payload of each holds what its reading says.
 pub record ReadsSections (readings : List SectionReading) (bytes : List ℕ) : Type 0 where
   pub sections : List (ℕ × List ℕ)
   pub read : ReadsWhole wasm_module bytes sections

@@ -17,6 +17,7 @@ abbrev pub groups_sum : List ℕ → ℕ
 groups_sum [] = 0
 groups_sum (b ∷ bs) = b % 128 + 128 * groups_sum bs
 
+-- the last of the bytes, and 0 where there is none
 abbrev pub last_byte : List ℕ → ℕ
 last_byte [] = 0
 last_byte (b ∷ []) = b
@@ -26,6 +27,7 @@ last_byte (b ∷ c ∷ bs) = last_byte (c ∷ bs)
 abbrev pub byte_limit : ℕ → ℕ
 byte_limit bits = (bits + 6) / 7
 
+-- shortest: One byte, or a last one that is not 00. Padded: at most as many bytes as the limit.
 abbrev pub IsUnsignedSize : Mode → ℕ → List ℕ → Type 0
 IsUnsignedSize shortest bits s = (length s ≡ 1) ⊎ (0 < last_byte s)
 IsUnsignedSize wide bits s = length s ≤ byte_limit bits
@@ -47,6 +49,7 @@ IsShortSigned (b ∷ c ∷ []) = (c ≡ 0x00 → 0x40 ≤ b % 128) × (c ≡ 0x7
 IsShortSigned (b ∷ c ∷ d ∷ bs) = IsShortSigned (c ∷ d ∷ bs)
 IsShortSigned _ = Unit {0}
 
+-- shortest: as above. Padded: At most as many bytes as the limit.
 abbrev pub IsSignedSize : Mode → ℕ → List ℕ → Type 0
 IsSignedSize shortest bits s = IsShortSigned s
 IsSignedSize wide bits s = length s ≤ byte_limit bits
@@ -82,7 +85,7 @@ groups_of negative limit (suc more) n =
       | false ↦ next_group negative n ∷ groups_of negative limit more (n / 128)
     ]
 
--- n in groups: n is more than the number of groups that it needs
+-- n in groups: there are at most n of them after the first
 unfoldable pub groups_text : Bool → ℕ → ℕ → List ℕ
 groups_text negative limit n = groups_of negative limit n n
 

@@ -39,15 +39,15 @@ pub record ReadsWholeWide {X : Type 0} (F : Format X) (text : List ℕ) (x : X) 
 
 -- ---- all texts of a format
 
--- One value stands at the front of bytes, and its spelling ends in one place.
+-- At most one value stands at the front of bytes, and its spelling ends in one place.
 abbrev pub IsReadAlone : {X : Type 0} → Spelling X → Type 0
 IsReadAlone {X} S = (s t r q : List ℕ) (x y : X) → S s x → S t y → s ++ r ≡ t ++ q → (x ≡ y) × (s ≡ t) × (r ≡ q)
 
--- Bytes spell one value.
+-- Bytes spell at most one value.
 abbrev pub IsReadWhole : {X : Type 0} → Spelling X → Type 0
 IsReadWhole {X} S = (s : List ℕ) (x y : X) → S s x → S s y → x ≡ y
 
--- A value has one spelling.
+-- A value has at most one spelling.
 abbrev pub HasOneSpelling : {X : Type 0} → Spelling X → Type 0
 HasOneSpelling {X} S = (s t : List ℕ) (x : X) → S s x → S t x → s ≡ t
 

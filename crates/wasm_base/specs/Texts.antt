@@ -40,6 +40,7 @@ little_endian_text (suc n) v = v % 256 ∷ little_endian_text n (v / 256)
 abbrev pub any_section_text : ℕ × List ℕ → List ℕ
 any_section_text section = section.0 ∷ frame_text section.1
 
+-- The size of the payload can be spelled.
 abbrev pub AnySectionFits : ℕ × List ℕ → Type 0
 AnySectionFits section = FrameFits section.1
 

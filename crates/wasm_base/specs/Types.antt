@@ -42,13 +42,16 @@ nullable_text (Abstract false kinds.Func) = 0x70 ∷ []
 nullable_text (Abstract false kinds.Extern) = 0x6F ∷ []
 nullable_text heap = 0x63 ∷ heap_text heap
 
+-- a reference type, by whether it is nullable
 abbrev pub ref_bytes : (nullable : Bool) → HeapType → List ℕ
 ref_bytes true heap = nullable_text heap
 ref_bytes false heap = 0x64 ∷ heap_text heap
 
+-- the text of a reference type
 abbrev pub ref_text : RefType → List ℕ
 ref_text r = ref_bytes r.nullable r.heap_type
 
+-- the text of a value type
 abbrev pub val_text : ValType → List ℕ
 val_text I32 = 0x7F ∷ []
 val_text I64 = 0x7E ∷ []
@@ -59,26 +62,32 @@ val_text (Ref r) = ref_text r
 
 -- ---- indices of 32 bits
 
+-- An index has 32 bits.
 abbrev pub IsHeap : HeapType → Type 0
 IsHeap (Abstract shared ty) = Unit {0}
 IsHeap (Concrete index) = index < 2 ^ 32
 IsHeap (Exact index) = index < 2 ^ 32
 
+-- The index of its heap type, if any, has 32 bits.
 abbrev pub IsRef : RefType → Type 0
 IsRef r = IsHeap r.heap_type
 
+-- The index of a reference type, if any, has 32 bits.
 abbrev pub IsVal : ValType → Type 0
 IsVal (Ref r) = IsRef r
 IsVal _ = Unit {0}
 
 -- ---- formats
 
+-- abstract heap type: one byte
 abbrev pub abstract_type : Format AbstractHeapType
 abstract_type = coded abstract_code
 
+-- the heap type of an abstract type
 abbrev pub unshared : AbstractHeapType → HeapType
 unshared ty = Abstract false ty
 
+-- the heap type of a shared abstract type
 abbrev pub shared : AbstractHeapType → HeapType
 shared ty = Abstract true ty
 
@@ -90,19 +99,23 @@ heap_tags = (0x65, mapped shared abstract_type) ∷ (0x62, mapped Exact u32) ∷
 abbrev pub heap_type : Format HeapType
 heap_type = one_of (mapped unshared abstract_type) (one_of (tagged byte (choice heap_tags (λ b. impossible))) (mapped Concrete s33))
 
+-- the nullable reference type to unshared functions
 abbrev pub FUNCREF : RefType
 FUNCREF = record { nullable = true; heap_type = unshared kinds.Func }
 
+-- the nullable reference type to unshared external values
 abbrev pub EXTERNREF : RefType
 EXTERNREF = record { nullable = true; heap_type = unshared kinds.Extern }
 
+-- the nullable reference type to a heap type
 abbrev pub nullable_to : HeapType → RefType
 nullable_to heap = record { nullable = true; heap_type = heap }
 
+-- the reference type to a heap type that is not nullable
 abbrev pub to : HeapType → RefType
 to heap = record { nullable = false; heap_type = heap }
 
--- FUNCREF and EXTERNREF have a byte of their own.
+-- It is neither that of FUNCREF nor that of EXTERNREF, which have a byte of their own.
 abbrev pub HasNoByte : HeapType → Type 0
 HasNoByte heap = (heap ≢ unshared kinds.Func) × (heap ≢ unshared kinds.Extern)
 
@@ -110,6 +123,7 @@ HasNoByte heap = (heap ≢ unshared kinds.Func) × (heap ≢ unshared kinds.Exte
 abbrev pub ref_tags : List (ℕ × Format RefType)
 ref_tags = (0x70, fixed [] FUNCREF) ∷ (0x6F, fixed [] EXTERNREF) ∷ (0x63, mapped nullable_to (such HasNoByte heap_type)) ∷ (0x64, mapped to heap_type) ∷ []
 
+-- reference type: the first byte tells what follows
 abbrev pub ref_type : Format RefType
 ref_type = tagged byte (choice ref_tags (λ b. impossible))
 
@@ -121,6 +135,7 @@ val_tags = (0x7F, fixed [] I32) ∷ (0x7E, fixed [] I64) ∷ (0x7D, fixed [] F32
 abbrev pub val_ref : ℕ → Format ValType
 val_ref b = mapped Ref (choice ref_tags (λ c. impossible) b)
 
+-- value type: a byte of a number or vector type, or a reference type
 abbrev pub val_type : Format ValType
 val_type = tagged byte (choice val_tags val_ref)
 

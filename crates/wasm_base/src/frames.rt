@@ -59,7 +59,7 @@ fn encode_long_frame<A: Allocator>(sink: &mut Vec<u8, A>, bytes: &[u8]) -> R<()>
     Ok(())
 }
 
-/// Appends the frame of the spelled count and the bytes, which are the members of a vector of that length.
+/// Appends the frame of the spelled count and the bytes: a section, where these are that many members of a vector. This is not looked at.
 pub fn encode_section<A: Allocator>(sink: &mut Vec<u8, A>, count: u32, bytes: &[u8]) -> R<()>
     ensures { Appends (frame_text (unsigned_text count ++ bytes.now)) (FrameFits (unsigned_text count ++ bytes.now)) sink.old sink.new result }
 {

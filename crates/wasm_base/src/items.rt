@@ -14,7 +14,7 @@ pub trait Items {
     /// text: the bytes of a record.
     ghost record_text: { Record → List ℕ };
 
-    /// plain: its numbers are in range, its names are UTF-8, and its expressions are plain.
+    /// plain: what a record needs to be read back, as numbers in range, names of UTF-8 and plain expressions.
     ghost is_plain: { Record → Type 0 };
 
     /// normal form: what a plain record says.

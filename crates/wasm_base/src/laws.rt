@@ -1,7 +1,7 @@
 //! What is promised of all lists of bytes, and not of a call: each function does nothing, and its clauses are the promise.
 //!
-//! `UniqueReading F` says that bytes begin with a spelling in the format `F` of one value alone, whatever follows, both with
-//! shortest and with padded numbers, and that a value has one shortest spelling. `HasTexts F fits text` says that the text of each
+//! `UniqueReading F` says that bytes begin with a spelling in the format `F` of at most one value, whatever follows, both with
+//! shortest and with padded numbers, and that a value has at most one shortest spelling. `HasTexts F fits text` says that the text of each
 //! value that fits is this spelling. No clause ranges over all formats, so vectors and frames are stated for those named here.
 ghost use Rattle.std.specs.Prelude.{pos, All, IsUtf8};
 ghost use Rattle.wasm_base.specs.Formats.{

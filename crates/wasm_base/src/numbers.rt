@@ -11,7 +11,7 @@ use std::alloc::Allocator;
 /// An unsigned number below this is a group by itself, the last one.
 const UNSIGNED_LIMIT: u64 = 0x80;
 
-/// A signed number from its negation less 1 up to this is a group by itself: bit 6 is the sign.
+/// A signed number from the negation of this on, and below this, is a group by itself: bit 6 is the sign.
 const SIGNED_LIMIT: u64 = 0x40;
 
 /// How many bytes the shortest unsigned spelling of `n` has.

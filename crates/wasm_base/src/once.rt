@@ -53,8 +53,8 @@ fn count_of<I: ExactSizeIterator>(items: &I) -> R<u32>
     Ok(count)
 }
 
-/// The vector of the elements, to be written once. It takes no memory and asks for no element; it is refused where there are
-/// too many.
+/// The vector of the elements, to be written once. It is refused where there are too many, and never for want of memory; it asks for no
+/// element, as tests show.
 pub fn vec_of<V: IntoIterator>(elements: V) -> R<VecOf<V::IntoIter>>
 where
     V::IntoIter: ExactSizeIterator + Drop,
@@ -68,8 +68,8 @@ where
     Ok(VecOf { items, count })
 }
 
-/// The vector of the bytes, to be written once, as a whole where the iterator lends them so. It takes no memory and asks for no
-/// byte; it is refused where there are too many.
+/// The vector of the bytes, to be written once, as a whole where the iterator lends them so. It is refused where there are too many, and
+/// never for want of memory; it asks for no byte, as tests show.
 pub fn bytes_of<V: IntoIterator>(bytes: V) -> R<BytesOf<V::IntoIter>>
 where
     V::IntoIter: ExactSizeIterator + Drop,

@@ -27,7 +27,7 @@ impl<T: Encode> Encode for &[T] {
 }
 
 /// Appends the vector of the elements: the length that they tell, and each of them. A refused call leaves the bytes of the
-/// sink as they were; where the length is too long, no element is asked for.
+/// sink as they were. Where the length is too long, it answers `TooLong`, and asks for no element, as tests show.
 pub fn encode_vec<T: Encode + Drop, V: IntoIterator<Item = T>, A: Allocator>(
     elements: V,
     sink: &mut Vec<u8, A>,

@@ -81,13 +81,13 @@ uint64_t dz_assemble(const uint8_t *recipe, size_t recipe_len, uint8_t *out, siz
 
 /* Lists the sections of a module. Answers how many there are, and copies them to the front of `out` where it has room for all of them. Where the bytes
    are no module the answer is DZ_NO_ANSWER, `out` is as it was, `*place` is the number of the section at which they are none, counted from 1, or 0 for
-   the header, and `*cause` is one of dz_fault. Else both are 0. */
+   the header, and `*cause` is one of dz_fault. So it is where memory was refused (DZ_OUT_OF_MEMORY). Else both are 0. */
 uint64_t dz_list(const uint8_t *module, size_t module_len, dz_section *out, size_t out_len, uint64_t *place, uint32_t *cause);
 
 /* Writes the one shortest text of the section of this kind (one of dz_kind) that the bytes begin with, from its size on, without its id. Answers how many
    bytes the text has, which are at most as many as the section takes, and copies them to the front of `out` where it has room for all of them; `*taken` is how
-   many bytes the section takes, and `*cause` 0. Where no such section stands there the answer is DZ_NO_ANSWER, `out` is as it was, `*taken` is 0, and
-   `*cause` is one of dz_fault. */
+   many bytes the section takes, and `*cause` 0. Where no such section stands there, no kind has the number (DZ_NO_KIND) or memory was refused (DZ_OUT_OF_MEMORY),
+   the answer is DZ_NO_ANSWER, `out` is as it was, `*taken` is 0, and `*cause` is one of dz_fault. */
 uint64_t dz_shorten(uint32_t kind, const uint8_t *bytes, size_t bytes_len, uint8_t *out, size_t out_len, uint64_t *taken, uint32_t *cause);
 
 #ifdef __cplusplus

@@ -39,7 +39,7 @@ pub record Assembled (recipe old new : List ℕ) (line cause n : ℕ) : Type 0 w
   pub no_line : line ≡ 0
   pub no_cause : cause ≡ 0
 
--- The recipe is no text, or this line has a fault of this number, and none before it has one.
+-- The recipe is no text, or this line has a fault of this number, or memory was refused there, and no line before it has one.
 abbrev pub IsWhy : List ℕ → ℕ → ℕ → Type 0
 IsWhy recipe line cause = ((line ≡ 0) × (cause ≡ 7) × (IsUtf8 recipe → ⊥)) ⊎ ((c : RecipeCause) × (cause ≡ cause_number c) × Explains recipe line c)
 

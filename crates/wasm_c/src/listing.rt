@@ -62,7 +62,7 @@ fn put(lines: &[Listed], out: &mut [DzSection]) -> u64
 }
 
 /// Lists the sections of a module, in order. Where the bytes are none, `place` is the number of the section at which they are not, counted from 1, or 0 where
-/// they don't begin with the header, and `cause` the number of what is wrong there; both are 0 where there is a list.
+/// they don't begin with the header, and `cause` the number of what is wrong there, or that memory was refused; both are 0 where there is a list.
 #[unsafe(no_mangle)]
 pub extern "C" fn dz_list(
     alloc: Global,

@@ -22,6 +22,7 @@ use Rattle.wasm_code.specs.Expressions.{normal_row}
 abbrev pub Run : Type 0
 Run = ℕ × ValType
 
+-- the text of a run: its count and its type
 abbrev pub run_text : Run → List ℕ
 run_text run = unsigned_text run.0 ++ val_text run.1
 
@@ -73,10 +74,12 @@ pub record IsFull (type : ValType) (runs : List Run) : Type 0 where
 
 -- ---- bodies
 
+-- what a body spells: the runs of its locals, and its instructions
 pub record Body : Type 0 where
   pub runs : List Run
   pub code : List Plain
 
+-- the body of these runs and instructions
 abbrev pub body_of : List Run × List Plain → Body
 body_of p = record { runs = p.0; code = p.1 }
 
@@ -96,8 +99,8 @@ IsWideBody bytes x = body wide bytes x
 abbrev pub and_then : Body → List Plain → Body
 and_then x more = record { runs = x.runs; code = x.code ++ more }
 
--- The new bytes are the old ones and the text of i. Where the old ones spell a body, the new ones spell it with the normal form of i
--- after its instructions.
+-- The new bytes are the old ones and the text of i. Where i is plain and the old ones spell a body, the new ones spell it with the normal
+-- form of i after its instructions.
 pub record Grows {A : Type 0} (i : Instruction A) (old new : List ℕ) : Type 0 where
   pub text : new ≡ old ++ instruction_text i
   pub plain : IsPlainInstruction i → (x : Body) → IsPlainBody old x → IsPlainBody new (and_then x (normal_row i ∷ []))

@@ -46,8 +46,10 @@ pub record ReadsCode (entries : List (List ℕ)) (text : List ℕ) : Type 0 wher
 abbrev pub raw_code_reading : List (List ℕ) → SectionReading
 raw_code_reading bodies = reading_of (number_of ids.Code) (vec (frame any_bytes)) bodies
 
+-- a code section of these bodies
 abbrev pub code_reading : List Body → SectionReading
 code_reading bodies = reading_of (number_of ids.Code) (vec (frame body)) bodies
 
+-- a code section that padded numbers spell as these bodies
 abbrev pub wide_code_reading : List Body → SectionReading
 wide_code_reading bodies = wide_reading_of (number_of ids.Code) (vec (frame body)) bodies

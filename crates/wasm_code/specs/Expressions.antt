@@ -54,8 +54,8 @@ pub record IsPlainInside {A : Type 0} (i : Instruction A) : Type 0 where
   pub plain : IsPlainInstruction i
   pub no_end : IsNoEnd (row_of i)
 
--- The new bytes are the old ones and the text of i. Where the old ones spell instructions, the new ones spell these and the normal
--- form of i.
+-- The new bytes are the old ones and the text of i. Where i is plain and the old ones spell instructions, the new ones spell these and the
+-- normal form of i.
 pub record Stores (i : Instruction Global) (old new : List ℕ) : Type 0 where
   pub text : new ≡ old ++ instruction_text i
   pub plain : IsPlainInstruction i → (is : List Plain) → StoresInstructions old is → StoresInstructions new (is ++ normal_row i ∷ [])

@@ -16,7 +16,7 @@ use Rattle.wasm_code.specs.Expressions.{normal_row, IsNoEnd, expression, express
 use Rattle.wasm_code.specs.Bodies.{Body, body, and_then, IsPlainBody, IsWideBody, Grows, Run, expand, IsRun, IsRuns, locals_text}
 use Rattle.wasm_code.specs.Code.{SpellsBodies, SpellsBodiesWide}
 
--- No value stands at the front of the text, whatever follows.
+-- With shortest numbers no value stands at the front of the text, whatever follows.
 pub record NothingStands {X : Type 0} (F : Format X) (text : List ℕ) : Type 0 where
   pub none : (after : List ℕ) → ReadsNothing F shortest (text ++ after)
 
@@ -34,7 +34,7 @@ pub record HasOffsets : Type 0 where
 pub record FindsAdded {A : Type 0} (i : Instruction A) : Type 0 where
   pub begins : (front rest : List ℕ) (x y : Body) → IsPlainInstruction i → body shortest front x → body shortest (front ++ (instruction_text i ++ rest)) y → GoesOnWith (instruction_text i ++ rest) x y (normal_row i)
 
--- A list of types has one list of runs.
+-- A list of types has at most one list of runs.
 pub record HaveOneExpansion (xs ys : List Run) : Type 0 where
   pub same : IsRuns xs → IsRuns ys → expand xs ≡ expand ys → xs ≡ ys
 
@@ -57,6 +57,7 @@ code_text is = flat_map plain_text is
 abbrev pub plain_expression_text : List Plain → List ℕ
 plain_expression_text is = expression_text (code_text is)
 
+-- Each instruction is plain, in normal form, and not End.
 abbrev pub PlainExpressionFits : List Plain → Type 0
 PlainExpressionFits = All IsNormalInside
 
@@ -69,6 +70,7 @@ pub record BodyFits (x : Body) : Type 0 where
   pub runs : VecFits IsRun x.runs
   pub code : All IsNormal x.code
 
+-- the text of an entry of a code section: the frame of a body
 abbrev pub body_frame_text : Body → List ℕ
 body_frame_text x = frame_text (body_text x)
 
@@ -81,6 +83,7 @@ pub record BodyFrameFits (x : Body) : Type 0 where
 abbrev pub raw_code_text : List (List ℕ) → List ℕ
 raw_code_text raw = frame_text (vec_text frame_text raw)
 
+-- Raw bodies whose sizes and count can be spelled, and the size of all.
 pub record RawCodeFits (raw : List (List ℕ)) : Type 0 where
   pub members : VecFits FrameFits raw
   pub size : FrameFits (vec_text frame_text raw)
@@ -89,6 +92,7 @@ pub record RawCodeFits (raw : List (List ℕ)) : Type 0 where
 abbrev pub code_section_text : List Body → List ℕ
 code_section_text bodies = frame_text (vec_text body_frame_text bodies)
 
+-- Bodies that fit, whose count can be spelled, and the size of all.
 pub record CodeSectionFits (bodies : List Body) : Type 0 where
   pub members : VecFits BodyFrameFits bodies
   pub size : FrameFits (vec_text body_frame_text bodies)
@@ -104,7 +108,7 @@ pub record HoldsMoreBodies : Type 0 where
   pub all : (entries : List (List ℕ)) (bodies : List Body) (raw : List (List ℕ)) (xs : List Body) → SpellsBodies entries bodies → AllZip IsPlainBody raw xs
       → SpellsBodies (entries ++ map frame_text raw) (bodies ++ xs)
 
--- Where bytes gain the text of an instruction, a body gains the instruction.
+-- Where bytes gain the text of an instruction that is plain, a body gains the instruction.
 pub record GrowsByText {A : Type 0} (i : Instruction A) : Type 0 where
   pub grows : (old : List ℕ) → Grows i old (old ++ instruction_text i)
 
@@ -112,7 +116,7 @@ pub record GrowsByText {A : Type 0} (i : Instruction A) : Type 0 where
 abbrev pub br_table_row : List ℕ → ℕ → Plain
 br_table_row ls default = record { op = Byte 0x0E; arguments = labels ls ∷ unsigned default ∷ [] }
 
--- Where bytes gain the text of `BrTable` of labels that can be counted, a body gains this instruction.
+-- Where bytes gain the text of `BrTable`, of labels in range that can be counted and a default one in range, a body gains this instruction.
 pub record GrowsByLabels : Type 0 where
   pub grows : (ls : List ℕ) (default : ℕ) (old : List ℕ) (x : Body) → VecFits (λ n. n < 2 ^ 32) ls → default < 2 ^ 32 → IsPlainBody old x
       → IsPlainBody (old ++ br_table_text ls default) (and_then x (br_table_row ls default ∷ []))
@@ -134,7 +138,7 @@ pub record GrowsWide : Type 0 where
   pub plain : (bytes : List ℕ) (x : Body) → IsPlainBody bytes x → IsWideBody bytes x
   pub raw : (old more : List ℕ) (x : Body) (is : List Plain) → IsWideBody old x → members (instruction table) wide more is → IsWideBody (old ++ more) (and_then x is)
 
--- Where bytes gain the text of an instruction, a body with padded numbers gains the instruction.
+-- Where bytes gain the text of an instruction that is plain, a body with padded numbers gains the instruction.
 pub record GrowsByTextWide {A : Type 0} (i : Instruction A) : Type 0 where
   pub grows : (old : List ℕ) (x : Body) → IsPlainInstruction i → IsWideBody old x → IsWideBody (old ++ instruction_text i) (and_then x (normal_row i ∷ []))
 

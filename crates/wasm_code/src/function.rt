@@ -38,8 +38,8 @@ impl<A: Allocator> Model for Function<A> {
 }
 
 impl<A: Allocator> Function<A> {
-    /// A function with these runs of locals, whose instructions are to follow. Where the length that the locals tell is too long,
-    /// none of them is asked for.
+    /// A function with these runs of locals, whose instructions are to follow. Where the length that the locals tell is too long, it
+    /// answers `TooLong`, and asks for none of them, as tests show.
     pub fn new<V: IntoIterator<Item = (u32, ValType)>>(alloc: A, locals: V) -> R<Self>
     where
         V::IntoIter: ExactSizeIterator + Drop,
@@ -86,7 +86,7 @@ impl<A: Allocator> Function<A> {
         append_all(&mut self.bytes, bytes)
     }
 
-    /// How many bytes the raw body has so far: the place of the next instruction.
+    /// How many bytes the raw body has so far. Where it spells a body, this is the place of the next instruction ([`offset`](crate::laws::offset)).
     pub fn byte_len(&self) -> usize
         ensures { result ≡ length self.now }
     {

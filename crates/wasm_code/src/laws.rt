@@ -1,7 +1,7 @@
 //! What is promised of all lists of bytes, and not of a call: each function does nothing, and its clauses are the promise.
 //!
-//! `UniqueReading F` says that bytes begin with a spelling in the format `F` of one value alone, whatever follows, both with
-//! shortest and with padded numbers, and that a value has one shortest spelling; `UniqueWholeReading F` the same of a format whose
+//! `UniqueReading F` says that bytes begin with a spelling in the format `F` of at most one value, whatever follows, both with
+//! shortest and with padded numbers, and that a value has at most one shortest spelling; `UniqueWholeReading F` the same of a format whose
 //! spellings reach to the last byte. `HasTexts F fits text` says that the text of each value that fits is its shortest spelling.
 ghost use Rattle.std.specs.Prelude.{◌∷◌, [], List};
 ghost use Rattle.wasm_base.specs.Formats.{any_bytes, frame, vec};
@@ -100,13 +100,14 @@ pub fn wide()
     ensures code_section { IsUniqueWide code_section }
 {}
 
-/// A list of types has one list of runs with counts of at least 1 and no two neighbours of one type.
+/// A list of types has at most one list of runs with counts of at least 1 and no two neighbours of one type.
 #[tactic(auto, using(crate::proofs::RunLaws::one_expansion))]
 pub fn locals()
     ensures { (xs ys : List Run) → HaveOneExpansion xs ys }
 {}
 
-/// No code section stands where a memory argument is cut short, nor where a count of runs is padded.
+/// With shortest numbers no code section stands in these two texts: in one a memory argument is cut short, in the other a count of runs is
+/// padded. With padded numbers the second is one.
 #[tactic(auto, using(crate::proofs::NothingLaws::nothing))]
 pub fn nothing_stands()
     ensures cut { NothingStands code_section (6 ∷ 1 ∷ 4 ∷ 0 ∷ 40 ∷ 16 ∷ 0 ∷ []) }

@@ -212,8 +212,8 @@ impl CustomKind for InstanceItems {
 }
 
 impl<A: Allocator> CoreDumpInstancesSection<A> {
-    /// Adds an instance of the module, with these memories and globals. A refused call leaves the section as it was; where there are
-    /// too many of either, none is asked for.
+    /// Adds an instance of the module, with these memories and globals. A refused call leaves the section as it was. Where there are
+    /// too many of either, it answers `TooLong`, and asks for none, as tests show.
     pub fn instance<M: IntoIterator<Item = u32>, G: IntoIterator<Item = u32> + Drop>(
         &mut self,
         module_index: u32,

@@ -67,7 +67,8 @@ impl<A: Allocator + Copy> CoreDumpStackSection<A> {
 
 impl<A: Allocator> CoreDumpStackSection<A> {
     /// Adds a frame: the instance and the function where it is, how far into the function, its locals, and its part of the stack. A
-    /// refused call leaves the section as it was; where there are too many values of either list, none is asked for.
+    /// refused call leaves the section as it was. Where there are too many values of either list, it answers `TooLong`, and
+    /// asks for none, as tests show.
     pub fn frame<
         L: IntoIterator<Item = CoreDumpValue>,
         S: IntoIterator<Item = CoreDumpValue> + Drop,

@@ -40,10 +40,11 @@ pub(crate) fn begin_custom<A: Allocator>(sink: &mut Vec<u8, A>, name: &str, size
 /// A custom section of any name and data.
 ///
 /// ```rust
-/// module.section(&CustomSection {
+/// let section: CustomSection<'_> = CustomSection {
 ///     name: CowStr::Borrowed("test"),
 ///     bytes: CowSlice::Borrowed(&[11, 22, 33, 44]),
-/// })?;
+/// };
+/// module.section(&section)?;
 /// ```
 #[derive(Drop, Debug)]
 pub struct CustomSection<'a, A: Allocator = Global> {

@@ -90,7 +90,8 @@ impl CustomKind for HintItems {
 }
 
 impl<A: Allocator> BranchHints<A> {
-    /// Adds the hints of a function. A refused call leaves the section as it was; where there are too many hints, none is asked for.
+    /// Adds the hints of a function. A refused call leaves the section as it was. Where there are too many hints, it answers `TooLong`, and
+    /// asks for none, as tests show.
     pub fn function_hints<H: IntoIterator<Item = BranchHint>>(
         &mut self,
         func: u32,

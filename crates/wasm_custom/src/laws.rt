@@ -18,7 +18,7 @@ ghost use Rattle.wasm_custom.specs.Producers.{producer_text, IsProducer, field_t
 ghost use Rattle.wasm_custom.specs.Readings.{name_payload, linking_payload, producers_payload, hints_payload, modules_payload, instances_payload, core_payload, stack_payload};
 ghost use Rattle.wasm_custom.specs.Symbols.{symbol_text, IsGivenSymbol, symbol};
 
-/// Sections are read uniquely, and so are their items, each of which has a text.
+/// Sections are read uniquely, and so are their items; the text of a plain record spells what it says.
 #[tactic(auto, using(crate::proofs::SectionLaws::sections))]
 pub fn sections()
     ensures names { UniqueReading (frame name_payload) }
@@ -109,8 +109,8 @@ pub fn payloads()
     ensures customs { ReadsPayloads (pair name any_bytes) }
 {}
 
-/// No section of branch hints stands where a value is spelled by two bytes, and no linking section where a function that is defined has
-/// no name.
+/// No section stands in these two texts, with padded numbers neither: in that of branch hints a value is spelled by two bytes, in that of
+/// links a function that is defined has no name.
 #[tactic(auto, using(crate::proofs::NothingLaws::nothing))]
 pub fn nothing_stands()
     ensures long_value { NothingStandsWide (frame hints_payload) (33 ∷ 25 ∷ (hints_name ++ (1 ∷ 0 ∷ 1 ∷ 3 ∷ 1 ∷ 128 ∷ 1 ∷ []))) }

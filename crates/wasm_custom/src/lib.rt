@@ -1,6 +1,7 @@
 //! The custom sections of a WebAssembly module: names, linking, producers, branch hints and core dumps.
 //!
-//! The name section is that of the WebAssembly core specification, "Custom Sections"; the others are those of the tool conventions.
+//! The name section is that of the WebAssembly core specification, "Custom Sections", with further subsections; linking, producers and core
+//! dumps are those of the tool conventions, and branch hints those of their proposal.
 #![tactic(auto)]
 
 mod core_dumps;

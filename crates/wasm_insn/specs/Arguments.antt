@@ -16,6 +16,7 @@ use Rattle.wasm_immediates.specs.Immediates.{ordering_code, mem_arg_text, block_
 use Rattle.wasm_insn.specs.declared.part.Part.TheVariants as parts
 use Rattle.wasm_insn.specs.declared.part.Part.{Part}
 
+-- an immediate of an instruction, or a list of them
 pub data Argument : Type 0 where
   unsigned : ℕ → Argument
   signed32 : ℤ → Argument
@@ -55,6 +56,7 @@ part_of (types ts) = parts.Types
 part_of (handles hs) = parts.Handles
 part_of (flag n) = parts.Flag
 
+-- the text of an argument
 abbrev pub argument_text : Argument → List ℕ
 argument_text (unsigned n) = unsigned_text n
 argument_text (signed32 v) = signed_text v
@@ -87,6 +89,7 @@ argument_fits (types ts) = VecFits (λ t. ⊤) ts
 argument_fits (handles hs) = VecFits (λ h. ⊤) hs
 argument_fits _ = ⊤
 
+-- The lists among all arguments can be counted.
 abbrev pub arguments_fit : List Argument → Type 0
 arguments_fit [] = ⊤
 arguments_fit (x ∷ xs) = argument_fits x × arguments_fit xs

@@ -16,6 +16,7 @@ use Rattle.wasm_insn.specs.Vector.{vector_number}
 use Rattle.wasm_insn.specs.VectorImmediate.{vector_immediate_row}
 use Rattle.wasm_insn.specs.Atomic.{atomic_row}
 
+-- 1 where the flag is set, and 0 where it is not
 abbrev pub bit_of : Bool → ℕ
 bit_of true = 1
 bit_of false = 0

@@ -17,25 +17,28 @@ use Rattle.wasm_insn.specs.Arguments.{Argument, unsigned, signed32, signed64, fl
 
 -- ---- normal form
 
+-- the argument, a memory argument in normal form
 abbrev pub normal_argument : Argument → Argument
 normal_argument (memory m) = memory (normal_memory m)
 normal_argument x = x
 
--- an opcode, and an argument for each part of its shape
+-- an opcode, and arguments
 pub record Plain : Type 0 where
   pub op : Op
   pub arguments : List Argument
 
+-- the arguments, each in normal form
 abbrev pub normal_arguments : List Argument → List Argument
 normal_arguments [] = []
 normal_arguments (x ∷ xs) = normal_argument x ∷ normal_arguments xs
 
+-- the instruction with its arguments in normal form
 abbrev pub normal : Plain → Plain
 normal i = record { op = i.op; arguments = normal_arguments i.arguments }
 
 -- ---- plain arguments
 
--- Numbers are in the range of their part, and alignments below 16.
+-- Numbers are in the range of their part, alignments below 16, and flags of a cast below 4; lists can be counted, and there are 16 lanes.
 abbrev pub IsPlainArgument : Argument → Type 0
 IsPlainArgument (unsigned n) = n < 2 ^ 32
 IsPlainArgument (signed32 v) = FitsSigned32 v
@@ -55,17 +58,21 @@ IsPlainArgument (types ts) = VecFits IsVal ts
 IsPlainArgument (handles hs) = VecFits IsPlainHandle hs
 IsPlainArgument (flag n) = n < 4
 
+-- Each argument is plain.
 abbrev pub ArePlain : List Argument → Type 0
 ArePlain = AllByRecursion IsPlainArgument
 
 -- ---- formats of parts, opcodes and instructions
 
+-- the argument of a float of 32 bits, from its bits
 abbrev pub float32_of : ℕ → Argument
 float32_of bits = float32 (record { bits = bits })
 
+-- the argument of a float of 64 bits, from its bits
 abbrev pub float64_of : ℕ → Argument
 float64_of bits = float64 (record { bits = bits })
 
+-- the format of the argument that a part stands for
 abbrev pub part : Part → Format Argument
 part parts.Unsigned = mapped unsigned u32
 part parts.Signed32 = mapped signed32 s32
@@ -85,6 +92,7 @@ part parts.Types = mapped types (vec val_type)
 part parts.Handles = mapped handles (vec handle)
 part parts.Flag = mapped flag (such (λ b. b < 4) byte)
 
+-- a member, and the list behind it
 abbrev pub cons : {X : Type 0} → X × List X → List X
 cons p = p.0 ∷ p.1
 
@@ -102,6 +110,7 @@ abbrev pub IsOpcode : Op → Type 0
 IsOpcode (Byte b) = is_prefix b ≡ false
 IsOpcode (Prefixed prefix number) = (is_prefix prefix ≡ true) × (number < 2 ^ 32)
 
+-- what follows the first byte of an opcode: a number after a prefix, and nothing after any other byte
 abbrev pub op_after : ℕ → Format Op
 op_after b = when (is_prefix b) (mapped (Prefixed b) u32) (fixed [] (Byte b))
 
@@ -109,6 +118,7 @@ op_after b = when (is_prefix b) (mapped (Prefixed b) u32) (fixed [] (Byte b))
 abbrev pub opcode : Format Op
 opcode = tagged byte op_after
 
+-- whether two opcodes are the same
 abbrev pub same_op : Op → Op → Bool
 same_op (Byte a) (Byte b) = a == b
 same_op (Byte a) (Prefixed p n) = false
@@ -119,14 +129,17 @@ same_op (Prefixed p n) (Prefixed q m) = (p == q) && (n == m)
 abbrev pub Table : Type 0
 Table = List (Op × Shape)
 
+-- the shape of an opcode: that of its first row in the table
 abbrev pub shape_of : Table → Op → Option Shape
 shape_of [] op = None
 shape_of (row ∷ rows) op = cond (same_op row.0 op) (Some row.1) (shape_of rows op)
 
+-- the arguments after an opcode of this shape, and none after one that the table does not have
 abbrev pub arguments_after : Option Shape → Format (List Argument)
 arguments_after None = impossible
 arguments_after (Some shape) = arguments (parts_of shape)
 
+-- the instruction of an opcode and arguments
 abbrev pub plain_of : Op × List Argument → Plain
 plain_of p = record { op = p.0; arguments = p.1 }
 
@@ -144,5 +157,6 @@ pub record IsPlain (table : Table) (i : Plain) : Type 0 where
   pub parts : map part_of i.arguments ≡ parts_of shape
   pub arguments : ArePlain i.arguments
 
+-- the text of an instruction: its opcode, and then its arguments
 abbrev pub plain_text : Plain → List ℕ
 plain_text i = op_text i.op ++ arguments_text i.arguments

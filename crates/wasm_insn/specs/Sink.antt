@@ -16,7 +16,7 @@ use Rattle.wasm_insn.specs.Instructions.{instruction_text, InstructionFits}
 abbrev pub appended : Result (Unit {0}) Refused → List ℕ → List ℕ → List ℕ
 appended result old text = if is_ok result then old ++ text else old
 
--- The buffer gains the text, or keeps what it has. Where it has room for the text, the call takes no memory and is accepted.
+-- The buffer gains the text, or keeps what it has. Where it has room for the text, and this fits, the call is accepted.
 pub record Writes (text : List ℕ) (fits has_room : Type 0) (old new : List ℕ) (result : Result (Unit {0}) Refused) : Type 0 where
   pub bytes : new ≡ appended result old text
   pub fitted : OnOk result fits

@@ -157,6 +157,7 @@ table = table_of one_byte after_fb after_fc after_fd after_fe
 
 -- ---- looked up by runs
 
+-- whether the number is one of the run
 abbrev pub has_number : ℕ → Run → Bool
 has_number n r = nat_le r.0 n && nat_le n r.1
 

@@ -22,8 +22,8 @@ use wasm_immediates::{BlockType, Catch, Handle, Ieee32, Ieee64, MemArg};
 
 /// An instruction.
 ///
-/// One-byte instructions, and those with fields of the prefixes FB and FC, are cases of their own; the others are in an enum
-/// for each group of ops. Those without fields have a constant here, so that `Instruction::I32Add` is an instruction too.
+/// One-byte instructions outside 45 to C4 (hexadecimal), and those with fields of the prefixes FB and FC, are cases of their own; the
+/// others are in an enum for each group of ops. Those without fields have a constant here, so that `Instruction::I32Add` is an instruction too.
 #[derive(Drop)]
 pub enum Instruction<'a, A: Allocator = Global> {
     Unreachable,

@@ -18,15 +18,15 @@ pub trait Buffer {
     /// written: the bytes that the buffer has.
     ghost written: { Self → List ℕ };
 
-    /// has_room: So many bytes more take no memory. A buffer may leave this open.
+    /// has_room: There is room for so many bytes more. A buffer may leave this open.
     ghost has_room: { Self → ℕ → Type 0 } = { λ _ _. ⊥ };
 
     /// Appends the text of the value. A refused call leaves the bytes as they were.
     fn append<E: Encode>(&mut self, value: &E) -> R<()>
         ensures { Writes (E.text value.now) (E.fits value.now) (has_room self.old (length (E.text value.now))) (written self.old) (written self.new) result };
 
-    /// Appends a value, the vector of the elements, and another value. A refused call leaves the bytes as they were; where the
-    /// length that the elements tell is too long, none of them is asked for.
+    /// Appends a value, the vector of the elements, and another value. A refused call leaves the bytes as they were. Where the
+    /// length that the elements tell is too long, it answers `TooLong`; a `Vec` asks for none of them then, as tests show.
     fn append_vec<S: Encode, T: Encode + Drop, V: IntoIterator<Item = T>, U: Encode>(
         &mut self,
         before: &S,
@@ -91,7 +91,7 @@ impl<'a, B: Buffer> InstructionSink<'a, B> {
         InstructionSink { sink }
     }
 
-    /// Each call writes by this one.
+    /// Each call writes by this one, but `br_table`.
     fn emit<E: Encode>(&mut self, value: &E) -> R<()>
         ensures same_reference { self.new.sink.ghost_name ≡ self.old.sink.ghost_name }
         ensures writes { Writes (E.text value.now) (E.fits value.now) (B.has_room self.old.sink.now (length (E.text value.now))) (B.written self.old.sink.now) (B.written self.new.sink.now) result }

@@ -146,8 +146,8 @@ fn read_line<'a, A: Allocator + Copy>(
 
 /// The sections of a module, each as far as it is read: by the kind of its id, type sections and those of ids past 13 as any bytes.
 ///
-/// The number beside a fault is that of the section at which the bytes are no module, counted from 1, or 0 where they don't begin with
-/// the header.
+/// The number beside a fault other than `Memory` is that of the section at which the bytes are no module, counted from 1, or 0 where they
+/// don't begin with the header. Beside `Memory` it is that of the section that was being read; no contract says so.
 pub fn list_module<'a, A: Allocator + Copy>(
     bytes: &'a [u8],
     alloc: A,

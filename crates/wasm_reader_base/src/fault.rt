@@ -7,7 +7,7 @@ use std::alloc::{AllocError, AllocFailed};
 use thiserror::Error;
 use wasm_base::{NoGroups, Refused};
 
-/// Why nothing was read. A cause other than `Memory` says that no reading exists.
+/// Why nothing was read. A cause other than `Memory` says that no reading exists. Which of the others it is, tests show, and no contract says.
 #[derive(Clone, Copy, PartialEq, Eq, Debug, Error)]
 pub enum ReadFault {
     /// The bytes end before the value does.
@@ -19,7 +19,7 @@ pub enum ReadFault {
     /// A number is out of the range of its type, or has more bytes than the type's limit.
     #[error("TooLarge")]
     TooLarge,
-    /// A byte or number that tells what follows is none that the grammar knows.
+    /// A byte, a number or a name that tells what stands there is none that the grammar knows there.
     #[error("UnknownTag")]
     UnknownTag,
     /// No instruction has the opcode.
@@ -63,7 +63,7 @@ impl From<NoGroups> for ReadFault {
     }
 }
 
-/// What was read is written in no more bytes than it had, so no length of it is too long to be spelled.
+/// What was read is written in no more bytes than it had, so no length of it is too long to be spelled. No contract says so.
 impl From<Refused> for ReadFault {
     ghost from_gives = { λ _ fault. fault ≡ Memory };
 

@@ -92,7 +92,8 @@ pub(crate) fn append_marked<B: Allocator>(name: &str, out: &mut Vec<u8, B>) -> R
     name.append_shortest(out)
 }
 
-/// Appends the shortest text of what the section of this process holds. After a refusal a part of it may stand there.
+/// Appends the shortest text of what the section of this process holds, where some bytes are read as it. After a refusal a part of it may
+/// stand there.
 #[tactic(auto, using(crate::proofs::ShortCustom::process_appended))]
 pub fn append_process<B: Allocator>(name: &str, out: &mut Vec<u8, B>) -> R<()>
     ensures { OnOk result (AppendsShortest core_payload name.now out.old.items out.new.items) }
@@ -113,7 +114,8 @@ fn append_names<B: Allocator>(items: &[&str], out: &mut Vec<u8, B>) -> R<()>
     Ok(())
 }
 
-/// Appends the shortest text of what a section of these modules holds. After a refusal a part of it may stand there.
+/// Appends the shortest text of what a section of these modules holds, where some bytes are read as it. After a refusal a part of it may
+/// stand there.
 #[tactic(auto, using(crate::proofs::ShortCustom::modules_appended))]
 pub fn append_modules<B: Allocator>(names: &[&str], out: &mut Vec<u8, B>) -> R<()>
     ensures { OnOk result (AppendsShortest modules_payload (map (λ n. n.now) names.now) out.old.items out.new.items) }
@@ -152,7 +154,8 @@ fn append_all_instances<A: Allocator, B: Allocator>(
     Ok(())
 }
 
-/// Appends the shortest text of what a section of these instances holds. After a refusal a part of it may stand there.
+/// Appends the shortest text of what a section of these instances holds, where some bytes are read as it. After a refusal a part of it may
+/// stand there.
 #[tactic(auto, using(crate::proofs::ShortCustom::instances_appended))]
 pub fn append_instances<A: Allocator, B: Allocator>(
     instances: &[(u32, Vec<u32, A>, Vec<u32, A>)],

@@ -127,7 +127,8 @@ impl<A: Allocator> Shorten for CoreFrame<A> {
     }
 }
 
-/// Appends the shortest text of what the section of this stack holds. After a refusal a part of it may stand there.
+/// Appends the shortest text of what the section of this stack holds, where some bytes are read as it. After a refusal a part of it may
+/// stand there.
 #[tactic(auto, using(crate::proofs::ShortCustom::stack_appended))]
 pub fn append_stack<A: Allocator, B: Allocator>(
     thread: &str,

@@ -127,7 +127,8 @@ fn append_functions<A: Allocator, B: Allocator>(
     Ok(())
 }
 
-/// Appends the shortest text of what a section of these hints holds. After a refusal a part of it may stand there.
+/// Appends the shortest text of what a section of these hints holds, where some bytes are read as it. After a refusal a part of it may
+/// stand there.
 #[tactic(auto, using(crate::proofs::ShortCustom::hints_appended))]
 pub fn append_hints<A: Allocator, B: Allocator>(
     functions: &[(u32, Vec<BranchHint, A>)],

@@ -161,7 +161,8 @@ fn append_subsections<A: Allocator, B: Allocator>(
     Ok(())
 }
 
-/// Appends the shortest text of what a linking section of these subsections holds. After a refusal a part of it may stand there.
+/// Appends the shortest text of what a linking section of these subsections holds, where some bytes are read as it. After a refusal a part of it may
+/// stand there.
 #[tactic(auto, using(crate::proofs::ShortLinks::links_appended))]
 pub fn append_links<A: Allocator, B: Allocator>(
     items: &[LinkItem<'_, A>],

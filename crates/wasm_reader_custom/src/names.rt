@@ -293,7 +293,8 @@ fn append_subsections<A: Allocator, B: Allocator>(
     Ok(())
 }
 
-/// Appends the shortest text of what a name section of these subsections holds. After a refusal a part of it may stand there.
+/// Appends the shortest text of what a name section of these subsections holds, where some bytes are read as it. After a refusal a part of it may
+/// stand there.
 #[tactic(auto, using(crate::proofs::ShortNames::names_appended))]
 pub fn append_names<A: Allocator, B: Allocator>(
     items: &[NameItem<'_, A>],

@@ -104,7 +104,8 @@ fn append_fields<'a, A: Allocator, B: Allocator>(
     Ok(())
 }
 
-/// Appends the shortest text of what a producers section of these fields holds. After a refusal a part of it may stand there.
+/// Appends the shortest text of what a producers section of these fields holds, where some bytes are read as it. After a refusal a part of it may
+/// stand there.
 #[tactic(auto, using(crate::proofs::ShortCustom::producers_appended))]
 pub fn append_producers<'a, A: Allocator, B: Allocator>(
     fields: &[(&'a str, Vec<(&'a str, &'a str), A>)],

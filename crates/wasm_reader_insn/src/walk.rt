@@ -99,7 +99,7 @@ impl<'a, A: Allocator + Copy> Instructions<'a, A> {
         Ok(Step { place, op })
     }
 
-    /// The next instruction, and `None` where the bytes end. After an error the walk is where it was.
+    /// The next instruction, and `None` where the bytes end. After an error the place is what it was.
     pub fn next(&mut self) -> Result<Option<Step>, ReadFault>
         ensures place { IfOk result (λ next. IfSome next (λ step. step.place ≡ self.old.place)) }
         ensures found { IfOk result (λ next. IfSome next (λ step. Reads (instruction table) wide (ahead self.old) (record { op = step.op; arguments = self.new.arguments }) (ahead self.new))) }
@@ -117,8 +117,8 @@ impl<'a, A: Allocator + Copy> Instructions<'a, A> {
         Ok(Some(step))
     }
 
-    /// The next instruction of an expression, and `None` where `End` stands, which the walk doesn't go past. After an error it is
-    /// where it was.
+    /// The next instruction of an expression, and `None` where `End` stands, which the walk doesn't go past. After an error the place is
+    /// what it was.
     pub fn next_before_end(&mut self) -> Result<Option<Step>, ReadFault>
         ensures place { IfOk result (λ next. IfSome next (λ step. step.place ≡ self.old.place)) }
         ensures found { IfOk result (λ next. IfSome next (λ step. Reads (such IsNoEnd (instruction table)) wide (ahead self.old) (record { op = step.op; arguments = self.new.arguments }) (ahead self.new))) }
@@ -138,7 +138,7 @@ impl<'a, A: Allocator + Copy> Instructions<'a, A> {
         Ok(Some(step))
     }
 
-    /// The arguments of the instruction that was gone over last.
+    /// The arguments of the instruction that was gone over last. After an error they say nothing.
     pub fn args(&self) -> &[Arg<A>]
         ensures { map argument_of result.now ≡ self.now.arguments }
     {

@@ -20,7 +20,7 @@ ghost use Rattle.wasm_sections.specs.Tags.{tag_text, IsTag, tag_type};
 
 use crate::export::Export;
 
-/// Sections are read uniquely, and so are their items, each of which has a text.
+/// Sections are read uniquely, and so are their items; the text of a plain record spells what it says.
 #[tactic(auto, using(crate::proofs::SectionLaws::sections))]
 pub fn sections()
     ensures functions { UniqueReading (counted_format u32_format) }
@@ -110,8 +110,8 @@ pub fn payloads()
     ensures numbers { ReadsPayloads u32_format }
 {}
 
-/// No section of globals stands where bytes follow the first `End` of a constant expression, none of imports where the byte 00
-/// before a group is padded, and none of data where a segment that names its memory names memory 0.
+/// No section stands in these three texts, with padded numbers neither: in that of globals bytes follow the first `End` of a constant
+/// expression, in that of data a segment that names its memory names memory 0, and in that of imports the byte 00 before a group is padded.
 #[tactic(auto, using(crate::proofs::NothingLaws::nothing))]
 pub fn nothing_stands()
     ensures inner_end { NothingStandsWide (counted_format global_item) (9 ∷ 1 ∷ 127 ∷ 0 ∷ 65 ∷ 1 ∷ 11 ∷ 65 ∷ 2 ∷ 11 ∷ []) }
@@ -119,7 +119,7 @@ pub fn nothing_stands()
     ensures padded_group { NothingStandsWide (counted_format import_format) (6 ∷ 1 ∷ 0 ∷ 128 ∷ 0 ∷ 127 ∷ 0 ∷ []) }
 {}
 
-/// An export is plain: its name is UTF-8, and its index in range. The result is the index.
+/// An export is plain: its name is UTF-8, and its index in range.
 pub fn plain_export(export: &Export<'_>) -> u32
     ensures plain { IsExport export.now }
 {

@@ -11,7 +11,7 @@ use Rattle.wasm_tool.specs.declared.program.Trouble.TheVariants.{Recipe}
 abbrev pub hex_line_of : List ℕ → List ℕ
 hex_line_of text = encode_lower (recipe_module (entries_of (lines_of text))) ++ 0x0A ∷ []
 
--- memory was refused after the last line of a recipe
+-- memory was refused, and at no line of a recipe
 abbrev pub IsLateRefusal : Trouble → Type 0
 IsLateRefusal (Recipe fault) = (fault.line ≡ 0) × (fault.cause ≡ Memory)
 IsLateRefusal _ = ⊥

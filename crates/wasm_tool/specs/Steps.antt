@@ -117,7 +117,7 @@ SaysCause text line Memory = ⊤
 SaysCause text line TooLong = All IsGood (lines_through line text) × (¬ (RecipeFits (entries_of (lines_through line text))))
 SaysCause text line cause = (1 ≤ line) × (option_map (λ l. entry_of l) (slice_get (lines_of text) (line - 1)) ≡ Some (Err cause))
 
--- A fault names a line of the text, before which no line has a fault, and what is wrong there.
+-- A fault names a line of the text, or 0 after the last one, before which no line has a fault, and what is wrong there.
 pub record Explains (text : List ℕ) (line : ℕ) (cause : RecipeCause) : Type 0 where
   pub within : line ≤ length (lines_of text)
   pub before : All IsGood (lines_before line text)

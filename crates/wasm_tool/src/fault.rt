@@ -7,13 +7,13 @@ use wasm_base::Refused;
 /// Why a line of a recipe is refused.
 #[derive(Clone, Copy, PartialEq, Eq, Debug, Error)]
 pub enum RecipeCause {
-    /// The first word of the line is no command.
+    /// The first word of the line is no command, or the kind of an export is none.
     #[error("unknown command")]
     UnknownCommand,
     /// A word that is to be a number is none in range.
     #[error("bad number")]
     BadNumber,
-    /// A word that is to be bytes has other than an even number of hexadecimal digits.
+    /// A word that is to be bytes is no even number of hexadecimal digits.
     #[error("bad hex")]
     BadHex,
     /// The command needs more words.
@@ -27,7 +27,7 @@ pub enum RecipeCause {
     TooLong,
 }
 
-/// The first faulty line of a recipe, counted from 1, or 0 for a refusal after the last line.
+/// The first faulty line of a recipe, or the one at which it was refused, counted from 1; 0 for a refusal after the last line.
 #[derive(Clone, Copy, PartialEq, Eq, Debug, Error)]
 #[error("line {line}: {cause}")]
 pub struct RecipeFault {

@@ -1,7 +1,7 @@
 //! Recipes of WebAssembly modules: lines of text that each add an item to a section.
 //!
-//! What a text says is defined in `specs/Recipe.antt`: its lines, their words, the entry or the fault of each line, and the module
-//! of the sections that the entries add to. [`assemble`] gives that module, and [`run`] is the program around it.
+//! What a text says is defined: its lines and their words in `specs/Lines.antt`, the entry or the fault of each line, and the module
+//! of the sections that the entries add to, in `specs/Recipe.antt`. [`assemble`] gives that module, and [`run`] is the program around it.
 #![tactic(auto)]
 
 mod fault;
