@@ -4,7 +4,7 @@ use Rattle.wasm_base.specs.Numbers.{Mode, shortest, wide}
 use Rattle.wasm_code.specs.Expressions.{StoresIn}
 use Rattle.wasm_insn.specs.Plain.{Plain}
 
--- an expression that a call handed in: its stored bytes, and beside them the instructions that it has where it is plain
+-- an expression that a call handed in: its stored bytes, and beside them the instructions that these are to spell
 pub record Stored : Type 0 where
   pub bytes : List ℕ
   pub instructions : List Plain

@@ -16,11 +16,12 @@ use Rattle.wasm_sections.specs.Constants.{Stored, IsStoredIn}
 
 -- ---- tables
 
--- the type of nullable references to unshared functions, which the forms without a type stand for
+-- whether it is the type of nullable references to unshared functions, which the forms without a type stand for
 abbrev pub is_nullable_func : Bool → HeapType → Bool
 is_nullable_func true (Abstract false kinds.Func) = true
 is_nullable_func _ _ = false
 
+-- whether it is `funcref`, the type of nullable references to unshared functions
 abbrev pub is_funcref : RefType → Bool
 is_funcref r = is_nullable_func r.nullable r.heap_type
 
@@ -38,10 +39,12 @@ pub data Place (E : Type 0) : Type 0 where
   declared : Place E
   active : Option ℕ → E → Place E
 
+-- the elements of a segment: indices of functions, or expressions and their reference type
 pub data ElementList (E : Type 0) : Type 0 where
   functions : List ℕ → ElementList E
   expressions : RefType → List E → ElementList E
 
+-- an element segment: where its elements go, and what they are
 pub record Segment (E : Type 0) : Type 0 where
   pub place : Place E
   pub elements : ElementList E
@@ -53,49 +56,57 @@ abbrev pub needs_table : {E : Type 0} → ElementList E → Bool
 needs_table (functions fs) = false
 needs_table (expressions r es) = cond (is_funcref r) false true
 
+-- the place, with table 0 where it is active, a table is needed and none is given
 abbrev pub settled_place : {E : Type 0} → Bool → Place E → Place E
 settled_place needed passive = passive
 settled_place needed declared = declared
 settled_place needed (active table offset) = active (settled_table needed table) offset
 
--- the segment with table 0 where it needs a table and has none
+-- the segment, with table 0 where it is active, needs a table and has none
 abbrev pub settled : {E : Type 0} → Segment E → Segment E
 settled s = record { place = settled_place (needs_table s.elements) s.place; elements = s.elements }
 
 -- ---- flags
 
+-- the three bits of the flag of an element segment: that the segment isn't active, a second one, and that the elements are expressions
 pub record ElementFlag : Type 0 where
   pub not_active : Bool
   pub second : Bool
   pub expressions : Bool
 
+-- the number of the flag: its bits count 1, 2 and 4
 abbrev pub flag_code : ElementFlag → ℕ
 flag_code f = where_set f.not_active 1 + where_set f.second 2 + where_set f.expressions 4
 
--- the kind of the elements is told where the flag isn't 0 or 4
+-- whether the kind of the elements is told: where the flag isn't 0 or 4
 abbrev pub tells_kind : ElementFlag → Bool
 tells_kind f = cond f.not_active true f.second
 
+-- whether it is the place of a passive or declared segment
 abbrev pub is_inactive : {E : Type 0} → Place E → Bool
 is_inactive passive = true
 is_inactive declared = true
 is_inactive (active table offset) = false
 
+-- whether the flag's second bit is set: where the segment is declared, or is active and names its table
 abbrev pub is_second : {E : Type 0} → Place E → Bool
 is_second passive = false
 is_second declared = true
 is_second (active table offset) = is_given table
 
+-- whether the elements are expressions, and not indices of functions
 abbrev pub are_expressions : {E : Type 0} → ElementList E → Bool
 are_expressions (functions fs) = false
 are_expressions (expressions r es) = true
 
+-- the flag of an element segment, by its place and its elements
 abbrev pub flag_of : {E : Type 0} → Segment E → ElementFlag
 flag_of s = record { not_active = is_inactive s.place; second = is_second s.place; expressions = are_expressions s.elements }
 
 -- ---- text
 
 module _ {E : Type 0} (text : E → List ℕ) where
+  -- the text of a place: nothing where the segment isn't active, else the table if one is given, and the expression
   abbrev pub place_text : Place E → List ℕ
   place_text passive = []
   place_text declared = []
@@ -106,26 +117,32 @@ module _ {E : Type 0} (text : E → List ℕ) where
   elements_text told (functions fs) = cond told (0x00 ∷ []) [] ++ vec_text unsigned_text fs
   elements_text told (expressions r es) = cond told (ref_text r) [] ++ vec_text text es
 
+  -- the text of a segment that is settled: the flag, the place, and the elements
   abbrev pub settled_text : Segment E → List ℕ
   settled_text s = flag_code (flag_of s) ∷ (place_text s.place ++ elements_text (tells_kind (flag_of s)) s.elements)
 
+-- The number of the elements can be spelled.
 abbrev pub ElementsFit : {E : Type 0} → ElementList E → Type 0
 ElementsFit (functions fs) = VecFits (λ f. Unit {0}) fs
 ElementsFit (expressions r es) = VecFits (λ e. Unit {0}) es
 
 -- ---- what calls hand in, and what a section says
 
+-- the text of an expression that a call hands in
 abbrev pub stored_text : Stored → List ℕ
 stored_text e = expression_text e.bytes
 
+-- the text of the element segment that a call hands in, once it is settled
 abbrev pub element_text : Segment Stored → List ℕ
 element_text s = settled_text stored_text (settled s)
 
+-- Where the segment is active, its table is in range if one is given, and the bytes of the expression spell its instructions.
 abbrev pub IsPlaceIn : Mode → Place Stored → Type 0
 IsPlaceIn mode passive = Unit {0}
 IsPlaceIn mode declared = Unit {0}
 IsPlaceIn mode (active table offset) = IfSome table (λ t. t < 2 ^ 32) × IsStoredIn mode offset
 
+-- The indices are in range, the bytes of the expressions spell their instructions, and the number of the elements can be spelled.
 abbrev pub AreElementsIn : Mode → ElementList Stored → Type 0
 AreElementsIn mode (functions fs) = VecFits (FitsUnsigned 32) fs
 AreElementsIn mode (expressions r es) = IsRef r × VecFits (IsStoredIn mode) es
@@ -135,26 +152,30 @@ pub record IsSegmentIn (mode : Mode) (s : Segment Stored) : Type 0 where
   pub place : IsPlaceIn mode s.place
   pub elements : AreElementsIn mode s.elements
 
--- The expressions are plain.
+-- Where the segment is active, its table is in range if one is given, and the expression is plain.
 abbrev pub IsPlace : Place Stored → Type 0
 IsPlace p = IsPlaceIn shortest p
 
+-- The numbers are in range, and the expressions are plain.
 abbrev pub IsSegment : Segment Stored → Type 0
 IsSegment s = IsSegmentIn shortest s
 
--- The expressions are plain but for padded numbers.
+-- The numbers are in range, and the expressions are plain but for padded numbers.
 abbrev pub IsSegmentWide : Segment Stored → Type 0
 IsSegmentWide s = IsSegmentIn wide s
 
+-- the same place, with the instructions of its expression
 abbrev pub place_of : Place Stored → Place (List Plain)
 place_of passive = passive
 place_of declared = declared
 place_of (active table offset) = active table offset.instructions
 
+-- the same elements, with the instructions of their expressions
 abbrev pub elements_of : ElementList Stored → ElementList (List Plain)
 elements_of (functions fs) = functions fs
 elements_of (expressions r es) = expressions r (map (λ e. e.instructions) es)
 
+-- what the segment says: the same segment, with the instructions of its expressions
 abbrev pub said_by : Segment Stored → Segment (List Plain)
 said_by s = record { place = place_of s.place; elements = elements_of s.elements }
 
@@ -164,23 +185,30 @@ element_of s = said_by (settled s)
 
 -- ---- format
 
+-- the place of an active segment that names no table, with these instructions of its expression
 abbrev pub in_no_table : List Plain → Place (List Plain)
 in_no_table offset = active None offset
 
+-- the place of an active segment that names this table, with these instructions of its expression
 abbrev pub in_table : ℕ × List Plain → Place (List Plain)
 in_table parts = active (Some parts.0) parts.1
 
+-- place: no bytes for a passive or declared segment, and for an active one a table where the flag's second bit is set, and an expression
 abbrev pub place : ElementFlag → Format (Place (List Plain))
 place f = when f.not_active (when f.second (fixed [] declared) (fixed [] passive)) (when f.second (mapped in_table (pair u32 expression)) (mapped in_no_table expression))
 
+-- elements that are expressions: their reference type, and the instructions of each
 abbrev pub list_of : RefType × List (List Plain) → ElementList (List Plain)
 list_of parts = expressions parts.0 parts.1
 
+-- elements: a vector of expressions, after their reference type where it is told, which is `funcref` where it isn't; or a vector of indices of
+-- functions, after the byte 00 where their kind is told
 abbrev pub elements_as : (told of_expressions : Bool) → Format (ElementList (List Plain))
 elements_as told of_expressions =
     when of_expressions (mapped list_of (pair (when told ref_type (fixed [] FUNCREF)) (vec expression)))
     (mapped functions (prefixed (cond told (0x00 ∷ []) []) (vec u32)))
 
+-- an element segment of this place and these elements
 abbrev pub segment_of : Place (List Plain) × ElementList (List Plain) → Segment (List Plain)
 segment_of parts = record { place = parts.0; elements = parts.1 }
 

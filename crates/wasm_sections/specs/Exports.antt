@@ -7,6 +7,7 @@ use Rattle.wasm_sections.specs.declared.export.Export.{Export}
 use Rattle.wasm_sections.specs.declared.export.ExportKind.{ExportKind}
 use Rattle.wasm_sections.specs.declared.export.ExportKind.TheVariants.{Func, Table, Memory, Global, Tag}
 
+-- the byte for the kind of an export
 abbrev pub kind_code : ExportKind → ℕ
 kind_code Func = 0x00
 kind_code Table = 0x01
@@ -14,9 +15,11 @@ kind_code Memory = 0x02
 kind_code Global = 0x03
 kind_code Tag = 0x04
 
+-- the text of an export: the frame of its name, the byte for its kind, and its index
 abbrev pub export_text : Export → List ℕ
 export_text e = frame_text e.name.now ++ (kind_code e.kind ∷ [] ++ unsigned_text e.index)
 
+-- The length of the name can be spelled.
 abbrev pub ExportFits : Export → Type 0
 ExportFits e = FrameFits e.name.now
 
@@ -31,9 +34,11 @@ pub record ExportItem : Type 0 where
   pub kind : ExportKind
   pub index : ℕ
 
+-- what the export that a call hands in says
 abbrev pub item_of : Export → ExportItem
 item_of e = record { name = e.name.now; kind = e.kind; index = e.index }
 
+-- an export of this name, this kind and this index
 abbrev pub export_of : List ℕ × (ExportKind × ℕ) → ExportItem
 export_of parts = record { name = parts.0; kind = parts.1.0; index = parts.1.1 }
 

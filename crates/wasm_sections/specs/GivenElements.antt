@@ -9,17 +9,21 @@ use Rattle.wasm_sections.specs.declared.element.ElementSegment.{ElementSegment}
 use Rattle.wasm_sections.specs.declared.element.Elements.{Elements}
 use Rattle.wasm_sections.specs.declared.element.Elements.TheVariants as lists
 
+-- the place that a mode gives, with the stored bytes of its expression
 abbrev pub mode_of : {A : Type 0} → ElementMode A → Place (List ℕ)
 mode_of modes.Passive = passive
 mode_of modes.Declared = declared
 mode_of (modes.Active table offset) = active table offset.now
 
+-- the elements, borrowed or owned, with the stored bytes of their expressions
 abbrev pub list_in : {A : Type 0} → Elements A → ElementList (List ℕ)
 list_in (lists.Functions fs) = functions (items_of fs)
 list_in (lists.Expressions r es) = expressions r (items_of es)
 
+-- the element segment that a call hands in, with the stored bytes of its expressions
 abbrev pub segment_in : {A : Type 0} → ElementSegment A → Segment (List ℕ)
 segment_in s = record { place = mode_of s.mode; elements = list_in s.elements }
 
+-- the text of the element segment that a call hands in, once it is settled
 abbrev pub given_text : {A : Type 0} → ElementSegment A → List ℕ
 given_text s = settled_text expression_text (settled (segment_in s))

@@ -19,9 +19,11 @@ pub record GlobalFlags : Type 0 where
 abbrev pub global_code : GlobalFlags → ℕ
 global_code f = where_set f.mutable 0x01 + where_set f.shared 0x02
 
+-- the flags of a global type: whether it is mutable, and whether it is shared
 abbrev pub global_flags : GlobalType → GlobalFlags
 global_flags g = record { mutable = g.mutable; shared = g.shared }
 
+-- the text of a global type: the type of the value, and the byte of the flags
 abbrev pub global_text : GlobalType → List ℕ
 global_text g = val_text g.val_type ++ global_code (global_flags g) ∷ []
 
@@ -29,6 +31,7 @@ global_text g = val_text g.val_type ++ global_code (global_flags g) ∷ []
 abbrev pub IsGlobal : GlobalType → Type 0
 IsGlobal g = IsVal g.val_type
 
+-- a global type of this value type and these flags
 abbrev pub global_of : ValType × GlobalFlags → GlobalType
 global_of parts = record { val_type = parts.0; mutable = parts.1.mutable; shared = parts.1.shared }
 
@@ -48,6 +51,7 @@ pub record GlobalItem : Type 0 where
   pub global_type : GlobalType
   pub init : List Plain
 
+-- the text of the global that a call hands in: its type, and the expression of its first value
 abbrev pub global_item_text : GivenGlobal → List ℕ
 global_item_text g = global_text g.global_type ++ expression_text g.init.bytes
 
@@ -56,17 +60,19 @@ pub record IsGivenGlobalIn (mode : Mode) (g : GivenGlobal) : Type 0 where
   pub global_type : IsGlobal g.global_type
   pub init : IsStoredIn mode g.init
 
--- The expression is plain.
+-- The numbers are in range, and the expression is plain.
 abbrev pub IsGivenGlobal : GivenGlobal → Type 0
 IsGivenGlobal g = IsGivenGlobalIn shortest g
 
--- The expression is plain but for padded numbers.
+-- The numbers are in range, and the expression is plain but for padded numbers.
 abbrev pub IsGivenGlobalWide : GivenGlobal → Type 0
 IsGivenGlobalWide g = IsGivenGlobalIn wide g
 
+-- normal form: the same global, with the instructions of the expression
 abbrev pub global_item_of : GivenGlobal → GlobalItem
 global_item_of g = record { global_type = g.global_type; init = g.init.instructions }
 
+-- a global of this type, with these instructions of its first value
 abbrev pub global_from : GlobalType × List Plain → GlobalItem
 global_from parts = record { global_type = parts.0; init = parts.1 }
 

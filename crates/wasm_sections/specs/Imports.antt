@@ -18,6 +18,7 @@ use Rattle.wasm_sections.specs.declared.import.Imports.TheVariants as groups
 
 -- ---- what is imported
 
+-- the text of an entity: a byte for its kind, and its type
 abbrev pub entity_text : EntityType → List ℕ
 entity_text (Function index) = 0x00 ∷ unsigned_text index
 entity_text (Table ty) = 0x01 ∷ table_text ty
@@ -35,6 +36,7 @@ IsEntity (Global ty) = IsGlobal ty
 IsEntity (Tag ty) = IsTag ty
 IsEntity (FunctionExact index) = index < 2 ^ 32
 
+-- what follows the byte for the kind of an entity: its type
 abbrev pub entity_tags : List (ℕ × Format EntityType)
 entity_tags =
     (0x00, mapped Function u32) ∷ (0x01, mapped Table table_type) ∷ (0x02, mapped Memory memory_type) ∷ (0x03, mapped Global global_type) ∷ (0x04, mapped Tag tag_type)
@@ -62,26 +64,31 @@ pub record ImportItem : Type 0 where
 abbrev pub named_text : List ℕ × EntityType → List ℕ
 named_text i = frame_text i.0 ++ entity_text i.1
 
--- An empty name and a byte that is no kind's stand before a group.
+-- The byte 00 and a byte that is no kind's stand before a group.
 abbrev pub imported_text : Imported → List ℕ
 imported_text (single n ty) = frame_text n ++ entity_text ty
 imported_text (named items) = 0x00 ∷ 0x7F ∷ vec_text named_text items
 imported_text (alike ty names) = 0x00 ∷ 0x7E ∷ (entity_text ty ++ vec_text frame_text names)
 
+-- the text of an import: the frame of the name of the module, and what is imported from it
 abbrev pub import_text : ImportItem → List ℕ
 import_text i = frame_text i.module_name ++ imported_text i.imported
 
+-- The lengths of the items' names can be spelled, and in a group the number of the items too.
 abbrev pub ImportedFits : Imported → Type 0
 ImportedFits (single n ty) = FrameFits n
 ImportedFits (named items) = VecFits (λ i. FrameFits i.0) items
 ImportedFits (alike ty names) = VecFits FrameFits names
 
+-- The lengths of the names of the module and of the items can be spelled, and in a group the number of the items too.
 abbrev pub ImportFits : ImportItem → Type 0
 ImportFits i = FrameFits i.module_name × ImportedFits i.imported
 
+-- The name is UTF-8 whose length can be spelled, and the numbers of the entity are in range.
 abbrev pub IsNamed : List ℕ × EntityType → Type 0
 IsNamed i = NameFits i.0 × IsEntity i.1
 
+-- The names of the items are UTF-8, numbers in range, and the list of a group fits.
 abbrev pub IsImported : Imported → Type 0
 IsImported (single n ty) = IsUtf8 n × IsEntity ty
 IsImported (named items) = VecFits IsNamed items
@@ -93,9 +100,11 @@ IsImport i = IsUtf8 i.module_name × IsImported i.imported
 
 -- ---- what calls hand in
 
+-- what an import of one entity says
 abbrev pub import_item : Import → ImportItem
 import_item i = record { module_name = i.«module».now; imported = single i.name.now i.ty }
 
+-- what an item of a group says: its name, and its entity
 abbrev pub compact_item : ImportCompact → List ℕ × EntityType
 compact_item i = (i.name.now, i.ty)
 
@@ -107,13 +116,15 @@ imports_item (groups.Compact2 m ty names) = record { module_name = m.now; import
 
 -- ---- format
 
+-- a group of this entity and of these names, which have it
 abbrev pub alike_of : EntityType × List (List ℕ) → Imported
 alike_of parts = alike parts.0 parts.1
 
--- group: names with an entity each, or an entity and the names that have it
+-- what follows the byte for the kind of a group: names with an entity each, or an entity and the names that have it
 abbrev pub group_tags : List (ℕ × Format Imported)
 group_tags = (0x7F, mapped named (vec (pair name entity))) ∷ (0x7E, mapped alike_of (pair entity (vec name))) ∷ []
 
+-- group: a byte for its kind, and names with an entity each, or an entity and the names that have it
 abbrev pub group : Format Imported
 group = tagged byte (choice group_tags (λ b. impossible))
 
@@ -125,6 +136,7 @@ named_entity = tagged name (λ item. mapped (single item) entity)
 abbrev pub after_module : Format Imported
 after_module = one_of named_entity (prefixed (0x00 ∷ []) group)
 
+-- an import of this name of a module, and of what is imported from it
 abbrev pub import_of : List ℕ × Imported → ImportItem
 import_of parts = record { module_name = parts.0; imported = parts.1 }
 

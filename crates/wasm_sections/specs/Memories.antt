@@ -6,9 +6,11 @@ use Rattle.wasm_base.specs.Texts.{optional_text}
 use Rattle.wasm_sections.specs.Flags.{Flags, flags, flags_code}
 use Rattle.wasm_sections.specs.declared.memory.MemoryType.{MemoryType}
 
+-- the flags of a memory type, as its parts are given or set
 abbrev pub memory_flags : MemoryType → Flags
 memory_flags m = record { has_maximum = is_given m.maximum; shared = m.shared; is_64 = m.memory64; has_page_size = is_given m.page_size_log2 }
 
+-- the text of a memory type: flags, the minimum, and the maximum and the exponent of the page size where they are given
 abbrev pub memory_text : MemoryType → List ℕ
 memory_text m = flags_code (memory_flags m) ∷ (unsigned_text m.minimum ++ (optional_text unsigned_text m.maximum ++ optional_text unsigned_text m.page_size_log2))
 
@@ -22,6 +24,7 @@ pub record IsMemory (m : MemoryType) : Type 0 where
 abbrev pub memory_of : Flags → ℕ × (Option ℕ × Option ℕ) → MemoryType
 memory_of f parts = record { minimum = parts.0; maximum = parts.1.0; memory64 = f.is_64; shared = f.shared; page_size_log2 = parts.1.1 }
 
+-- what follows these flags: the minimum, and the maximum and the exponent of the page size where the flags tell of them
 abbrev pub after_memory_flags : Flags → Format MemoryType
 after_memory_flags f = mapped (memory_of f) (pair u64 (pair (optional f.has_maximum u64) (optional f.has_page_size u32)))
 

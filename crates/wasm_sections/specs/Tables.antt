@@ -13,10 +13,11 @@ use Rattle.wasm_sections.specs.Constants.{Stored, IsStoredIn}
 use Rattle.wasm_sections.specs.Flags.{Flags, flags, flags_code}
 use Rattle.wasm_sections.specs.declared.table.TableType.{TableType}
 
--- A table has no page size.
+-- the flags of a table type, which has no page size
 abbrev pub table_flags : TableType → Flags
 table_flags t = record { has_maximum = is_given t.maximum; shared = t.shared; is_64 = t.table64; has_page_size = false }
 
+-- the text of a table type: the type of the elements, flags, the minimum, and the maximum where one is given
 abbrev pub table_text : TableType → List ℕ
 table_text t = ref_text t.element_type ++ (flags_code (table_flags t) ∷ (unsigned_text t.minimum ++ optional_text unsigned_text t.maximum))
 
@@ -33,9 +34,11 @@ pub record Limits : Type 0 where
   pub minimum : ℕ
   pub maximum : Option ℕ
 
+-- limits of these flags, of a minimum and a maximum
 abbrev pub limits_of : Flags → ℕ × Option ℕ → Limits
 limits_of f parts = record { table64 = f.is_64; shared = f.shared; minimum = parts.0; maximum = parts.1 }
 
+-- what follows these flags, which tell of no page size: the minimum, and the maximum where they tell of it
 abbrev pub after_limits_flags : Flags → Format Limits
 after_limits_flags f = when f.has_page_size impossible (mapped (limits_of f) (pair u64 (optional f.has_maximum u64)))
 
@@ -43,6 +46,7 @@ after_limits_flags f = when f.has_page_size impossible (mapped (limits_of f) (pa
 abbrev pub limits : Format Limits
 limits = tagged flags after_limits_flags
 
+-- a table type of this element type and these limits
 abbrev pub table_of : RefType × Limits → TableType
 table_of parts = record { element_type = parts.0; table64 = parts.1.table64; minimum = parts.1.minimum; maximum = parts.1.maximum; shared = parts.1.shared }
 
@@ -71,10 +75,12 @@ pub record TableItem : Type 0 where
 abbrev pub before_init : List ℕ
 before_init = 0x40 ∷ 0x00 ∷ []
 
+-- the text of a table: its type; or where a first value is given, two bytes, its type and the expression
 abbrev pub table_init_text : TableType → Option Stored → List ℕ
 table_init_text t None = table_text t
 table_init_text t (Some e) = before_init ++ (table_text t ++ expression_text e.bytes)
 
+-- the text of the table that a call hands in
 abbrev pub table_item_text : GivenTable → List ℕ
 table_item_text t = table_init_text t.table_type t.init
 
@@ -83,24 +89,28 @@ pub record IsGivenTableIn (mode : Mode) (t : GivenTable) : Type 0 where
   pub table_type : IsTable t.table_type
   pub init : IfSome t.init (IsStoredIn mode)
 
--- The expression is plain.
+-- The numbers are in range, and the expression is plain.
 abbrev pub IsGivenTable : GivenTable → Type 0
 IsGivenTable t = IsGivenTableIn shortest t
 
--- The expression is plain but for padded numbers.
+-- The numbers are in range, and the expression is plain but for padded numbers.
 abbrev pub IsGivenTableWide : GivenTable → Type 0
 IsGivenTableWide t = IsGivenTableIn wide t
 
+-- the instructions of a first value, where one is given
 abbrev pub init_of : Option Stored → Option (List Plain)
 init_of None = None
 init_of (Some e) = Some e.instructions
 
+-- normal form: the same table, with the instructions of the expression where one is given
 abbrev pub table_item_of : GivenTable → TableItem
 table_item_of t = record { table_type = t.table_type; init = init_of t.init }
 
+-- a table of this type, for which no first value is given
 abbrev pub without_init : TableType → TableItem
 without_init t = record { table_type = t; init = None }
 
+-- a table of this type, with these instructions of its elements' first value
 abbrev pub with_init : TableType × List Plain → TableItem
 with_init parts = record { table_type = parts.0; init = Some parts.1 }
 

@@ -6,9 +6,11 @@ use Rattle.wasm_sections.specs.declared.tag.TagKind.{TagKind}
 use Rattle.wasm_sections.specs.declared.tag.TagKind.TheVariants.{Exception}
 use Rattle.wasm_sections.specs.declared.tag.TagType.{TagType}
 
+-- the byte for the kind of a tag
 abbrev pub tag_code : TagKind → ℕ
 tag_code Exception = 0x00
 
+-- the text of a tag type: the byte for the kind, and the index of a function type
 abbrev pub tag_text : TagType → List ℕ
 tag_text t = tag_code t.kind ∷ unsigned_text t.func_type_idx
 
@@ -16,6 +18,7 @@ tag_text t = tag_code t.kind ∷ unsigned_text t.func_type_idx
 abbrev pub IsTag : TagType → Type 0
 IsTag t = t.func_type_idx < 2 ^ 32
 
+-- a tag type of this kind, and of this index of a function type
 abbrev pub tag_of : TagKind × ℕ → TagType
 tag_of parts = record { kind = parts.0; func_type_idx = parts.1 }
 
