@@ -12,6 +12,7 @@ use Rattle.wasm_custom.specs.Customs.{named_section}
 abbrev pub marked_text : List ℕ → List ℕ
 marked_text n = 0x00 ∷ frame_text n
 
+-- name of a process, of a module or of a thread: the byte 00, and a name
 abbrev pub marked_name : Format (List ℕ)
 marked_name = prefixed (0x00 ∷ []) name
 
@@ -23,7 +24,7 @@ core_name = codes "core"
 abbrev pub core_section : Format (List ℕ)
 core_section = named_section core_name marked_name
 
--- The data are this name of a process.
+-- The data are the byte 00 and this name of a process, which is UTF-8.
 abbrev pub SaysProcess : List ℕ → List ℕ → Type 0
 SaysProcess content n = IsUtf8 n × (content ≡ marked_text n)
 
@@ -43,6 +44,7 @@ pub record Instance : Type 0 where
   pub memories : List ℕ
   pub globals : List ℕ
 
+-- the text of an instance: the byte 00, the index of its module, and the vectors of its memories and of its globals
 abbrev pub instance_text : Instance → List ℕ
 instance_text i = (0x00 ∷ unsigned_text i.module_index) ++ (vec_text unsigned_text i.memories ++ vec_text unsigned_text i.globals)
 
@@ -52,9 +54,11 @@ pub record IsInstance (i : Instance) : Type 0 where
   pub memories : VecFits (FitsUnsigned 32) i.memories
   pub globals : VecFits (FitsUnsigned 32) i.globals
 
+-- the instance of this module, of these memories and these globals
 abbrev pub instance_of : ℕ × (List ℕ × List ℕ) → Instance
 instance_of parts = record { module_index = parts.0; memories = parts.1.0; globals = parts.1.1 }
 
+-- instance: the byte 00, the index of a module, a vector of memories, and a vector of globals
 abbrev pub instance : Format Instance
 instance = mapped instance_of (prefixed (0x00 ∷ []) (pair u32 (pair (vec u32) (vec u32))))
 

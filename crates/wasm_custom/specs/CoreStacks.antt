@@ -17,10 +17,11 @@ pub record Frame : Type 0 where
   pub locals : List CoreDumpValue
   pub stack : List CoreDumpValue
 
+-- the text of a frame: the byte 00, where it is, and the vectors of its locals and of its part of the stack
 abbrev pub frame_entry : Frame → List ℕ
 frame_entry f = (0x00 ∷ (unsigned_text f.instance ++ (unsigned_text f.function ++ unsigned_text f.offset))) ++ (vec_text value_text f.locals ++ vec_text value_text f.stack)
 
--- plain: Its numbers are in range, and the lists can be counted.
+-- plain: Its numbers and values are in range, and the lists can be counted.
 pub record IsFrame (f : Frame) : Type 0 where
   pub instance : f.instance < 2 ^ 32
   pub function : f.function < 2 ^ 32
@@ -32,9 +33,11 @@ pub record IsFrame (f : Frame) : Type 0 where
 abbrev pub Place : Type 0
 Place = ℕ × (ℕ × ℕ)
 
+-- the frame at this place, of these locals and this part of the stack
 abbrev pub frame_of : Place × (List CoreDumpValue × List CoreDumpValue) → Frame
 frame_of p = record { instance = p.0.0; function = p.0.1.0; offset = p.0.1.1; locals = p.1.0; stack = p.1.1 }
 
+-- frame of a stack: the byte 00, where it is, and the vectors of its locals and of its part of the stack
 abbrev pub stack_frame : Format Frame
 stack_frame = mapped frame_of (pair (prefixed (0x00 ∷ []) (pair u32 (pair u32 u32))) (pair (vec value) (vec value)))
 
@@ -46,6 +49,6 @@ stack_name = codes "corestack"
 abbrev pub stack_section : Format (List ℕ × List Frame)
 stack_section = named_section stack_name (pair marked_name (vec stack_frame))
 
--- The section has this name of its thread, and holds these frames.
+-- The front is the byte 00 and this name of a thread, which is UTF-8, and the entries hold these frames.
 abbrev pub SaysStack : List ℕ → List (List ℕ) → List ℕ × List Frame → Type 0
 SaysStack front frames said = IsUtf8 said.0 × (front ≡ marked_text said.0) × HoldsItems frame_entry IsFrame (λ f. f) stack_frame frames said.1

@@ -21,8 +21,8 @@ listing counted F = when counted (vec F) (members F)
 abbrev pub entries : {Item : Type 0} → Format (Unit {0}) → Bool → Format Item → Format (List Item)
 entries front counted F = tagged front (λ u. listing counted F)
 
--- What a kind of custom section owes beside the laws of its items: its name is UTF-8, what stands before the items is spelled, and
--- where these are not counted, none of them is empty.
+-- What a kind of custom section owes beside the laws of its items: its name is UTF-8, what stands before the items is spelled, in a format that
+-- is read uniquely, and where the items are not counted, none of them is empty.
 pub record FrameLaws {Item : Type 0} (F : Format Item) (name front : List ℕ) (front_format : Format (Unit {0})) (counted : Bool) : Type 0 where
   pub name_utf8 : IsUtf8 name
   pub front_alone : UniqueReading front_format

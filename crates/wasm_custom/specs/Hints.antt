@@ -5,10 +5,11 @@ use Rattle.wasm_base.specs.Numbers.{unsigned_text}
 use Rattle.wasm_base.specs.Texts.{vec_text, VecFits}
 use Rattle.wasm_custom.specs.declared.hints.BranchHint.{BranchHint}
 
+-- the text of a branch hint: the offset of the branch, the byte 01, and the value
 abbrev pub hint_text : BranchHint → List ℕ
 hint_text h = unsigned_text h.branch_func_offset ++ (0x01 ∷ unsigned_text h.branch_hint_value)
 
--- plain: The value has one byte.
+-- plain: The offset is in range, and the value is below 128, so that it has one byte.
 pub record IsHint (h : BranchHint) : Type 0 where
   pub offset : h.branch_func_offset < 2 ^ 32
   pub value : h.branch_hint_value < 128
@@ -17,19 +18,23 @@ pub record IsHint (h : BranchHint) : Type 0 where
 abbrev pub Hints : Type 0
 Hints = ℕ × List BranchHint
 
+-- the text of the hints of a function: its index, and the vector of these
 abbrev pub hints_text : Hints → List ℕ
 hints_text h = unsigned_text h.0 ++ vec_text hint_text h.1
 
+-- plain: The index of the function is in range, and its hints are plain and can be counted.
 abbrev pub AreHints : Hints → Type 0
 AreHints h = (h.0 < 2 ^ 32) × VecFits IsHint h.1
 
+-- the branch hint of this offset and this value
 abbrev pub hint_of : ℕ × ℕ → BranchHint
 hint_of parts = record { branch_func_offset = parts.0; branch_hint_value = parts.1 }
 
--- hint: an offset, the byte 01, and a value of one byte
+-- branch hint: an offset, the byte 01, and a byte below 128, the value
 abbrev pub hint : Format BranchHint
 hint = mapped hint_of (pair u32 (prefixed (0x01 ∷ []) (such (λ b. b < 128) byte)))
 
+-- hints of a function: its index, and a vector of branch hints
 abbrev pub hints : Format Hints
 hints = pair u32 (vec hint)
 

@@ -10,15 +10,17 @@ pub data LinkItem : Type 0 where
   Symbols : List Symbol → LinkItem
   Target : List ℕ → LinkItem
 
+-- the text of a subsection: 8 and the frame of a symbol table, or 9 and the frame of the name of an architecture
 abbrev pub link_text : LinkItem → List ℕ
 link_text (Symbols symbols) = subsection_text 8 (vec_text symbol_text symbols)
 link_text (Target n) = subsection_text 9 (frame_text n)
 
--- plain: The symbols are plain, and the name is UTF-8.
+-- plain: The symbols are plain and can be counted, or the name is UTF-8.
 abbrev pub IsLink : LinkItem → Type 0
 IsLink (Symbols symbols) = VecFits IsSymbol symbols
 IsLink (Target n) = IsUtf8 n
 
+-- what follows the id of a subsection: after 8 the frame of a symbol table, after 9 the frame of the name of an architecture
 abbrev pub link_tags : List (ℕ × Format LinkItem)
 link_tags = (8, mapped Symbols (frame (vec symbol))) ∷ (9, mapped Target (frame name)) ∷ []
 
@@ -26,9 +28,10 @@ link_tags = (8, mapped Symbols (frame (vec symbol))) ∷ (9, mapped Target (fram
 abbrev pub link : Format LinkItem
 link = tagged byte (choice link_tags (λ b. impossible))
 
--- "linking", and the version that stands before its subsections
+-- "linking"
 abbrev pub linking_name : List ℕ
 linking_name = codes "linking"
 
+-- the version that stands before the subsections of a linking section
 abbrev pub version : ℕ
 version = 2

@@ -9,12 +9,12 @@ use Rattle.wasm_base.specs.Texts.{longest, vec_text, VecFits}
 unfoldable pub list_text : List (List ℕ) → List ℕ
 list_text pieces = unsigned_text (length pieces) ++ joined pieces
 
--- The pieces are the texts of these members, one each, and each of them is one that can be handed in.
+-- The pieces are the texts of these members, one each. The members can be counted, and each is one that can be handed in.
 pub record IsListOf {X : Type 0} (text : X → List ℕ) (Is : X → Type 0) (pieces : List (List ℕ)) (xs : List X) : Type 0 where
   pub held : pieces ≡ map text xs
   pub fits : VecFits Is xs
 
--- The pieces are the texts of some members.
+-- The pieces are the texts of some such members.
 pub record HoldsList {X : Type 0} (text : X → List ℕ) (Is : X → Type 0) (pieces : List (List ℕ)) : Type 0 where
   pub list : List X
   pub is : IsListOf text Is pieces list
@@ -29,7 +29,7 @@ pub record IsTextOf {X : Type 0} (text : X → List ℕ) (Is : X → Type 0) (pi
 pub record IsVectorOf {X : Type 0} (text : X → List ℕ) (Is : X → Type 0) : Type 0 where
   pub is : (pieces : List (List ℕ)) (xs : List X) → IsListOf text Is pieces xs → list_text pieces ≡ vec_text text xs
 
--- A list without entries holds no members, and an entry that is the text of a member adds this one.
+-- A list without entries holds no members. Where one more entry can be counted, one that is the text of a member adds this member.
 pub record ListMore {X : Type 0} (text : X → List ℕ) (Is : X → Type 0) : Type 0 where
   pub none : IsListOf text Is [] []
   pub given : (pieces : List (List ℕ)) (xs : List X) (x : X) → IsListOf text Is pieces xs → length pieces < longest → Is x → IsListOf text Is (pieces ++ text x ∷ []) (xs ++ x ∷ [])

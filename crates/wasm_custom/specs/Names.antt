@@ -1,4 +1,4 @@
--- Names of the parts of a module.
+-- Names of a module and of its parts.
 use Rattle.std.specs.Prelude.{◌≡◌, ℕ, ◌^◌, ◌<◌, List, [], ◌∷◌, ◌++◌, Bool, true, false, cond, ◌==◌, IsUtf8, codes}
 use Rattle.wasm_base.specs.Formats.{Format, u32, byte, any_bytes, name, mapped, pair, tagged, vec, frame}
 use Rattle.wasm_base.specs.Laws.{NameFits}
@@ -6,17 +6,19 @@ use Rattle.wasm_base.specs.Numbers.{unsigned_text}
 use Rattle.wasm_base.specs.Texts.{frame_text, vec_text, VecFits}
 use Rattle.wasm_custom.specs.Customs.{subsection_text}
 
--- an index, and its name
+-- name association: an index, and its name
 abbrev pub Naming : Type 0
 Naming = ℕ × List ℕ
 
--- an index, and the names of what is inside
+-- indirect name association: an index, and the names of what is inside
 abbrev pub Inside : Type 0
 Inside = ℕ × List Naming
 
+-- the text of a name association: the index, and the name
 abbrev pub naming_text : Naming → List ℕ
 naming_text n = unsigned_text n.0 ++ frame_text n.1
 
+-- the text of an indirect name association: the index, and the name map of what is inside
 abbrev pub inside_text : Inside → List ℕ
 inside_text i = unsigned_text i.0 ++ vec_text naming_text i.1
 
@@ -24,15 +26,19 @@ inside_text i = unsigned_text i.0 ++ vec_text naming_text i.1
 abbrev pub IsNaming : Naming → Type 0
 IsNaming n = (n.0 < 2 ^ 32) × NameFits n.1
 
+-- The indices are in range, the names are UTF-8 whose length can be spelled, and they can be counted.
 abbrev pub IsInside : Inside → Type 0
 IsInside i = (i.0 < 2 ^ 32) × VecFits IsNaming i.1
 
+-- name association: an index, and a name
 abbrev pub naming : Format Naming
 naming = pair u32 name
 
+-- name map: a vector of name associations
 abbrev pub name_map : Format (List Naming)
 name_map = vec naming
 
+-- indirect name map: a vector of indices with a name map each
 abbrev pub indirect_map : Format (List Inside)
 indirect_map = vec (pair u32 name_map)
 
@@ -82,13 +88,14 @@ subsection = tagged byte (λ id. after_id (kind_of id) id)
 
 -- ---- texts
 
+-- the text of a subsection: its id, and the frame of the name of the module, of a name map, of an indirect name map, or of any bytes
 abbrev pub name_text : NameItem → List ℕ
 name_text (Module n) = subsection_text 0 (frame_text n)
 name_text (Map id names) = subsection_text id (vec_text naming_text names)
 name_text (Indirect id names) = subsection_text id (vec_text inside_text names)
 name_text (Other id content) = subsection_text id content
 
--- plain: The id is one of what is named, and the names are UTF-8.
+-- plain: The id is one of what the subsection holds, for bytes one that stands for no names. Names are UTF-8, indices in range, and name maps fit.
 abbrev pub IsName : NameItem → Type 0
 IsName (Module n) = IsUtf8 n
 IsName (Map id names) = (kind_of id ≡ of_map) × VecFits IsNaming names

@@ -4,10 +4,11 @@ use Rattle.wasm_base.specs.Formats.{Format, name, pair, vec}
 use Rattle.wasm_base.specs.Laws.{NameFits}
 use Rattle.wasm_base.specs.Texts.{frame_text, vec_text, VecFits}
 
--- a name, and its version
+-- versioned name: a name, and its version
 abbrev pub Producer : Type 0
 Producer = List ℕ × List ℕ
 
+-- the text of a versioned name: the name, and the version
 abbrev pub producer_text : Producer → List ℕ
 producer_text v = frame_text v.0 ++ frame_text v.1
 
@@ -19,16 +20,19 @@ IsProducer v = NameFits v.0 × NameFits v.1
 abbrev pub Field : Type 0
 Field = List ℕ × List Producer
 
+-- the text of a field: its name, and the vector of its values
 abbrev pub field_text : Field → List ℕ
 field_text f = frame_text f.0 ++ vec_text producer_text f.1
 
--- plain: The names are UTF-8 whose length can be spelled, and the values can be counted.
+-- plain: Names and versions are UTF-8 whose length can be spelled, and the values can be counted.
 abbrev pub IsField : Field → Type 0
 IsField f = NameFits f.0 × VecFits IsProducer f.1
 
+-- versioned name: a name, and a version, which is spelled as a name too
 abbrev pub producer : Format Producer
 producer = pair name name
 
+-- field: a name, and a vector of versioned names
 abbrev pub field : Format Field
 field = pair name (vec producer)
 

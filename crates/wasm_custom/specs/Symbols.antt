@@ -9,33 +9,38 @@ use Rattle.wasm_custom.specs.declared.symbols.DataSymbolDefinition.{DataSymbolDe
 use Rattle.wasm_custom.specs.declared.symbols.SymbolKind.{SymbolKind}
 use Rattle.wasm_custom.specs.declared.symbols.SymbolKind.TheVariants.{Function, Global, Table}
 
+-- the byte of the kind of a symbol with an index
 abbrev pub kind_code : SymbolKind → ℕ
 kind_code Function = 0x00
 kind_code Global = 0x02
 kind_code Table = 0x05
 
--- what a symbol says: flags, and an index and a name, or a name and a definition
+-- what a symbol says: a kind, flags, an index, and a name where it is given; or of data, flags, a name, and a definition where it is given
 pub data Symbol : Type 0 where
   indexed : SymbolKind → ℕ → ℕ → Option (List ℕ) → Symbol
   of_data : ℕ → List ℕ → Option DataSymbolDefinition → Symbol
 
--- Flag 4: the symbol is undefined. It has the name of what is imported then, unless flag 6 says that it has one of its own.
+-- whether a symbol with an index has a name of its own: where bit 4 (undefined) of the flags isn't set, or bit 6 (explicit name) is
 abbrev pub has_name : ℕ → Bool
 has_name flags = not (cond (bit 4 flags) (not (bit 6 flags)) false)
 
--- An undefined symbol has no definition.
+-- whether a symbol of data has a definition: where bit 4 (undefined) of the flags isn't set
 abbrev pub has_definition : ℕ → Bool
 has_definition flags = not (bit 4 flags)
 
+-- the text of the definition of data: the index of a data segment, an offset there, and a size
 abbrev pub definition_text : DataSymbolDefinition → List ℕ
 definition_text d = unsigned_text d.index ++ (unsigned_text d.offset ++ unsigned_text d.size)
 
+-- the text of a symbol with an index: its kind, its flags, the index, and the bytes of its name, which may be none
 abbrev pub indexed_text : SymbolKind → ℕ → ℕ → List ℕ → List ℕ
 indexed_text kind flags index named = kind_code kind ∷ (unsigned_text flags ++ (unsigned_text index ++ named))
 
+-- the text of a symbol of data: the byte 01, its flags, its name, and the bytes of its definition, which may be none
 abbrev pub of_data_text : ℕ → List ℕ → List ℕ → List ℕ
 of_data_text flags n defined = 0x01 ∷ (unsigned_text flags ++ (frame_text n ++ defined))
 
+-- the text of a symbol, with the name or the definition where it is given
 abbrev pub symbol_text : Symbol → List ℕ
 symbol_text (indexed kind flags index n) = indexed_text kind flags index (optional_text frame_text n)
 symbol_text (of_data flags n d) = of_data_text flags n (optional_text definition_text d)
@@ -46,38 +51,45 @@ pub record IsDefinition (d : DataSymbolDefinition) : Type 0 where
   pub offset : d.offset < 2 ^ 32
   pub size : d.size < 2 ^ 32
 
--- The numbers are in range, and the name is UTF-8 whose length can be spelled.
+-- The numbers are in range, and a name that is given is UTF-8 whose length can be spelled.
 abbrev pub IsGivenSymbol : Symbol → Type 0
 IsGivenSymbol (indexed kind flags index n) = (flags < 2 ^ 32) × (index < 2 ^ 32) × IfSome n NameFits
 IsGivenSymbol (of_data flags n d) = (flags < 2 ^ 32) × NameFits n × IfSome d IsDefinition
 
--- A name or a definition is given where the flags say so.
+-- The name, or of data the definition, is given exactly where the flags tell of it.
 abbrev pub IsAsFlagged : Symbol → Type 0
 IsAsFlagged (indexed kind flags index n) = is_given n ≡ has_name flags
 IsAsFlagged (of_data flags n d) = is_given d ≡ has_definition flags
 
--- plain: The symbol is as its flags say.
+-- plain: The symbol is one that can be handed in, and it is as its flags say.
 abbrev pub IsSymbol : Symbol → Type 0
 IsSymbol symbol = IsGivenSymbol symbol × IsAsFlagged symbol
 
+-- the definition of data in this segment, at this offset and of this size
 abbrev pub definition_of : ℕ × (ℕ × ℕ) → DataSymbolDefinition
 definition_of parts = record { index = parts.0; offset = parts.1.0; size = parts.1.1 }
 
+-- definition of data: the index of a data segment, an offset there, and a size
 abbrev pub definition : Format DataSymbolDefinition
 definition = mapped definition_of (pair u32 (pair u32 u32))
 
+-- the symbol of this kind and these flags, of an index, and of a name where it is given
 abbrev pub indexed_of : SymbolKind → ℕ → ℕ × Option (List ℕ) → Symbol
 indexed_of kind flags parts = indexed kind flags parts.0 parts.1
 
+-- the symbol of data of these flags, of a name, and of a definition where it is given
 abbrev pub data_of : ℕ → List ℕ × Option DataSymbolDefinition → Symbol
 data_of flags parts = of_data flags parts.0 parts.1
 
+-- what follows the kind of a symbol with an index: flags, the index, and a name where the flags tell of one
 abbrev pub indexed_symbol : SymbolKind → Format Symbol
 indexed_symbol kind = tagged u32 (λ flags. mapped (indexed_of kind flags) (pair u32 (optional (has_name flags) name)))
 
+-- what follows the kind of a symbol of data: flags, a name, and a definition where the flags tell of one
 abbrev pub data_symbol : Format Symbol
 data_symbol = tagged u32 (λ flags. mapped (data_of flags) (pair name (optional (has_definition flags) definition)))
 
+-- what follows the kind of a symbol: 00 is a function, 01 data, 02 a global, 05 a table
 abbrev pub symbol_tags : List (ℕ × Format Symbol)
 symbol_tags = (0x00, indexed_symbol Function) ∷ (0x01, data_symbol) ∷ (0x02, indexed_symbol Global) ∷ (0x05, indexed_symbol Table) ∷ []
 

@@ -20,11 +20,12 @@ use Rattle.wasm_immediates.specs.declared.control.Handle.TheVariants.{OnLabel, O
 
 -- ---- memory arguments
 
+-- the byte of an ordering
 abbrev pub ordering_code : Ordering → ℕ
 ordering_code SeqCst = 0x00
 ordering_code AcqRel = 0x01
 
--- The ordering SeqCst has one byte for both.
+-- the byte of a memory argument's ordering: SeqCst has one for an operation and for one that reads, modifies and writes
 abbrev pub mem_ordering_code : MemArgOrdering → ℕ
 mem_ordering_code (orders.Op SeqCst) = 0x00
 mem_ordering_code (orders.Op AcqRel) = 0x01
@@ -42,7 +43,7 @@ abbrev pub has_ordering : Option MemArgOrdering → Bool
 has_ordering None = false
 has_ordering (Some ordering) = true
 
--- bit 5 of the flags
+-- bit 5 of the flags: an array
 abbrev pub is_array : MemArgTarget → Bool
 is_array (Memory n) = false
 is_array (Array n) = true
@@ -62,23 +63,27 @@ where_set false weight = 0
 abbrev pub mem_flags : MemArg → ℕ
 mem_flags m = bit_or (bit_or m.align (where_set (has_ordering m.ordering) 0x10)) (bit_or (where_set (is_array m.target) 0x20) (where_set (has_memory m.target) 0x40))
 
+-- the text of a memory argument: flags, the index that is written, the byte of an ordering where it is given, and the offset
 abbrev pub mem_arg_text : MemArg → List ℕ
 mem_arg_text m =
     unsigned_text (mem_flags m) ++ (optional_text unsigned_text (index_of m.target) ++ (optional_text (λ o. mem_ordering_code o ∷ []) m.ordering ++ unsigned_text m.offset))
 
 -- ---- blocks, catches and handles
 
+-- the text of a block type: the byte 40 without a result, a value type, or the index of a function type as a signed number
 abbrev pub block_text : BlockType → List ℕ
 block_text blocks.Empty = 0x40 ∷ []
 block_text (blocks.Result ty) = val_text ty
 block_text (blocks.FunctionType index) = signed_text (pos index)
 
+-- the text of a catch: a byte for its kind, the tag where it has one, and the label
 abbrev pub catch_text : Catch → List ℕ
 catch_text (One tag label) = 0x00 ∷ (unsigned_text tag ++ unsigned_text label)
 catch_text (OneRef tag label) = 0x01 ∷ (unsigned_text tag ++ unsigned_text label)
 catch_text (All label) = 0x02 ∷ unsigned_text label
 catch_text (AllRef label) = 0x03 ∷ unsigned_text label
 
+-- the text of a handle: a byte for its kind, the tag, and the label where it has one
 abbrev pub handle_text : Handle → List ℕ
 handle_text (OnLabel tag label) = 0x00 ∷ (unsigned_text tag ++ unsigned_text label)
 handle_text (OnSwitch tag) = 0x01 ∷ unsigned_text tag

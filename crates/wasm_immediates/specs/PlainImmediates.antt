@@ -26,36 +26,42 @@ normal_ordering (orders.Op o) = orders.Op o
 normal_ordering (orders.Rmw SeqCst) = orders.Op SeqCst
 normal_ordering (orders.Rmw AcqRel) = orders.Rmw AcqRel
 
+-- the normal form of an ordering, where one is given
 abbrev pub normal_order : Option MemArgOrdering → Option MemArgOrdering
 normal_order None = None
 normal_order (Some o) = Some (normal_ordering o)
 
+-- normal form: the memory argument with the normal form of its ordering
 abbrev pub normal_memory : MemArg → MemArg
 normal_memory m = record { offset = m.offset; align = m.align; target = m.target; ordering = normal_order m.ordering }
 
 -- ---- plain immediates
 
+-- The index of the memory or of the array type is in range.
 abbrev pub IsPlainTarget : MemArgTarget → Type 0
 IsPlainTarget (Memory n) = n < 2 ^ 32
 IsPlainTarget (Array n) = n < 2 ^ 32
 
--- The alignment is below 16.
+-- plain: The alignment is below 16, and the index and the offset are in range.
 pub record IsPlainMemory (m : MemArg) : Type 0 where
   pub align : m.align < 16
   pub target : IsPlainTarget m.target
   pub offset : m.offset < 2 ^ 64
 
+-- plain: The index of the function type, or that in the type of the result, is in range.
 abbrev pub IsPlainBlock : BlockType → Type 0
 IsPlainBlock blocks.Empty = ⊤
 IsPlainBlock (blocks.Result type) = IsVal type
 IsPlainBlock (blocks.FunctionType index) = index < 2 ^ 32
 
+-- plain: The tag, where there is one, and the label are in range.
 abbrev pub IsPlainCatch : Catch → Type 0
 IsPlainCatch (One tag label) = (tag < 2 ^ 32) × (label < 2 ^ 32)
 IsPlainCatch (OneRef tag label) = (tag < 2 ^ 32) × (label < 2 ^ 32)
 IsPlainCatch (All label) = label < 2 ^ 32
 IsPlainCatch (AllRef label) = label < 2 ^ 32
 
+-- plain: The tag, and the label where there is one, are in range.
 abbrev pub IsPlainHandle : Handle → Type 0
 IsPlainHandle (OnLabel tag label) = (tag < 2 ^ 32) × (label < 2 ^ 32)
 IsPlainHandle (OnSwitch tag) = tag < 2 ^ 32
@@ -70,23 +76,25 @@ pub record IsNormalMemory (m : MemArg) : Type 0 where
   pub plain : IsPlainMemory m
   pub normal : normal_memory m ≡ m
 
--- the byte of an ordering
+-- the text of an ordering: its byte
 abbrev pub ordering_text : Ordering → List ℕ
 ordering_text o = ordering_code o ∷ []
 
 -- ---- formats
 
--- block type: the first byte of an index is no type's and not 40
+-- block type: the byte 40, a value type, or an index, whose first byte is no type's and not 40
 abbrev pub block_type : Format BlockType
 block_type = one_of (tagged byte (choice ((0x40, fixed [] blocks.Empty) ∷ []) (λ b. mapped blocks.Result (choice val_tags val_ref b)))) (mapped blocks.FunctionType s33)
 
+-- ordering: its byte
 abbrev pub ordering_format : Format Ordering
 ordering_format = coded ordering_code
 
--- in normal form, so 00 is the ordering of an operation
+-- the orderings of memory arguments beside their bytes, in normal form, so 00 is that of an operation
 abbrev pub mem_orderings : List (ℕ × Format MemArgOrdering)
 mem_orderings = (0x00, fixed [] (orders.Op SeqCst)) ∷ (0x01, fixed [] (orders.Op AcqRel)) ∷ (0x11, fixed [] (orders.Rmw AcqRel)) ∷ []
 
+-- ordering of a memory argument, in normal form: its byte
 abbrev pub mem_ordering : Format MemArgOrdering
 mem_ordering = tagged byte (choice mem_orderings (λ b. impossible))
 
@@ -101,13 +109,15 @@ target_of true false = mapped Array u32
 target_of false true = mapped Memory (such (λ n. 0 < n) u32)
 target_of true true = impossible
 
+-- the memory argument of this alignment, of a target, of an ordering where it is given, and of an offset
 abbrev pub mem_arg_of : ℕ → MemArgTarget × (Option MemArgOrdering × ℕ) → MemArg
 mem_arg_of align p = record { offset = p.1.1; align = align; target = p.0; ordering = p.1.0 }
 
--- what follows flags of which bits 4, 5 and 6 are these
+-- what follows flags of this alignment, of which bits 4, 5 and 6 are these
 abbrev pub mem_arg_with : ℕ → (ordered array other_memory : Bool) → Format MemArg
 mem_arg_with align ordered array other_memory = mapped (mem_arg_of align) (pair (target_of array other_memory) (pair (optional ordered mem_ordering) u64))
 
+-- what follows the flags, which are below 128: bits 0 to 3 are the alignment, and bits 4, 5 and 6 tell of other parts
 abbrev pub after_flags : ℕ → Format MemArg
 after_flags flags = when (nat_lt flags 0x80) (mem_arg_with (flags % 16) (bit 4 flags) (bit 5 flags) (bit 6 flags)) impossible
 
@@ -115,12 +125,15 @@ after_flags flags = when (nat_lt flags 0x80) (mem_arg_with (flags % 16) (bit 4 f
 abbrev pub mem_arg : Format MemArg
 mem_arg = tagged u32 after_flags
 
+-- the clause `catch` of this tag and this label
 abbrev pub one_of_pair : ℕ × ℕ → Catch
 one_of_pair p = One p.0 p.1
 
+-- the clause `catch_ref` of this tag and this label
 abbrev pub one_ref_of_pair : ℕ × ℕ → Catch
 one_ref_of_pair p = OneRef p.0 p.1
 
+-- what follows the byte of a catch: a tag and a label after 00 and 01, and a label alone after 02 and 03
 abbrev pub catch_tags : List (ℕ × Format Catch)
 catch_tags =
     (0x00, mapped one_of_pair (pair u32 u32)) ∷ (0x01, mapped one_ref_of_pair (pair u32 u32)) ∷ (0x02, mapped All u32) ∷ (0x03, mapped AllRef u32) ∷ []
@@ -129,9 +142,11 @@ catch_tags =
 abbrev pub catch : Format Catch
 catch = tagged byte (choice catch_tags (λ b. impossible))
 
+-- the clause `on` of this tag and this label
 abbrev pub on_label_of_pair : ℕ × ℕ → Handle
 on_label_of_pair p = OnLabel p.0 p.1
 
+-- what follows the byte of a handle: a tag and a label after 00, and a tag alone after 01
 abbrev pub handle_tags : List (ℕ × Format Handle)
 handle_tags = (0x00, mapped on_label_of_pair (pair u32 u32)) ∷ (0x01, mapped OnSwitch u32) ∷ []
 

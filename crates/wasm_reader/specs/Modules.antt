@@ -14,10 +14,12 @@ use Rattle.wasm_reader.specs.declared.section.SectionKind.TheVariants as kinds
 
 -- ---- kinds
 
+-- the kind that stands beside the id, and `Raw` where none does
 abbrev pub kind_among : List (ℕ × SectionKind) → ℕ → SectionKind
 kind_among [] id = kinds.Raw
 kind_among (k ∷ ks) id = cond (id == k.0) k.1 (kind_among ks id)
 
+-- the kinds of sections beside their ids: a custom section is of the kind `Custom`, whatever its name
 abbrev pub known_kinds : List (ℕ × SectionKind)
 known_kinds =
     (number_of ids.Custom, kinds.Custom) ∷ (number_of ids.Import, kinds.Imports) ∷ (number_of ids.Function, kinds.Functions) ∷ (number_of ids.Table, kinds.Tables) ∷ (number_of ids.Memory, kinds.Memories) ∷ (number_of ids.Global, kinds.Globals)

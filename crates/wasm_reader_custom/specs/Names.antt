@@ -38,13 +38,14 @@ name_item_of (items.Map id ns) = names.Map id (names_of ns.items)
 name_item_of (items.Indirect id ms) = names.Indirect id (map inside_of ms.items)
 name_item_of (items.Other id bytes) = names.Other id bytes.now
 
--- the id of a subsection, and what it holds
+-- the id of a subsection
 abbrev pub id_of : names.NameItem → ℕ
 id_of (names.Module n) = 0
 id_of (names.Map id ns) = id
 id_of (names.Indirect id ms) = id
 id_of (names.Other id bytes) = id
 
+-- the kind of what a subsection holds
 abbrev pub held_by : names.NameItem → names.NameKind
 held_by (names.Module n) = names.of_module
 held_by (names.Map id ns) = names.of_map
