@@ -43,7 +43,8 @@ pub trait CustomKind: Items {
     fn counted() -> bool
         ensures { result ≡ counted };
 
-    /// What stands before the items is spelled, and where items are not counted, none of them is empty. The function does nothing.
+    /// The section's name is UTF-8, what stands before the items is spelled, in a format that is read uniquely, and where items are not
+    /// counted, none of them is empty. The function does nothing.
     fn frame_laws()
         ensures { FrameLaws Self.item_format name front front_format counted };
 }
