@@ -122,7 +122,7 @@ pub record Framed {X : Type 0} (F : Format X) (mode : Mode) (s : List ℕ) (x : 
   pub size : u32 mode front (length content)
   pub spelled : F mode content x
 
--- the format of frames of a format
+-- the same, as a format
 abbrev pub frame : {X : Type 0} → Format X → Format X
 frame F = Framed F
 

@@ -27,7 +27,7 @@ last_byte (b ∷ c ∷ bs) = last_byte (c ∷ bs)
 abbrev pub byte_limit : ℕ → ℕ
 byte_limit bits = (bits + 6) / 7
 
--- shortest: One byte, or a last one that is not 00. Padded: at most as many bytes as the limit.
+-- Shortest: one byte, or a last one that is not 00. Padded: at most as many bytes as the limit.
 abbrev pub IsUnsignedSize : Mode → ℕ → List ℕ → Type 0
 IsUnsignedSize shortest bits s = (length s ≡ 1) ⊎ (0 < last_byte s)
 IsUnsignedSize wide bits s = length s ≤ byte_limit bits
@@ -49,7 +49,7 @@ IsShortSigned (b ∷ c ∷ []) = (c ≡ 0x00 → 0x40 ≤ b % 128) × (c ≡ 0x7
 IsShortSigned (b ∷ c ∷ d ∷ bs) = IsShortSigned (c ∷ d ∷ bs)
 IsShortSigned _ = Unit {0}
 
--- shortest: as above. Padded: At most as many bytes as the limit.
+-- Shortest: the last byte cannot be left out. Padded: at most as many bytes as the limit.
 abbrev pub IsSignedSize : Mode → ℕ → List ℕ → Type 0
 IsSignedSize shortest bits s = IsShortSigned s
 IsSignedSize wide bits s = length s ≤ byte_limit bits

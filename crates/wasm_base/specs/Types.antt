@@ -111,7 +111,7 @@ EXTERNREF = record { nullable = true; heap_type = unshared kinds.Extern }
 abbrev pub nullable_to : HeapType → RefType
 nullable_to heap = record { nullable = true; heap_type = heap }
 
--- the reference type to a heap type that is not nullable
+-- the reference type to a heap type, not nullable
 abbrev pub to : HeapType → RefType
 to heap = record { nullable = false; heap_type = heap }
 

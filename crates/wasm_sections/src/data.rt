@@ -112,7 +112,7 @@ impl<A: Allocator> DataSection<A> {
     ghost use Rattle.wasm_sections.specs.DataSegments.{segment_text, active_text, passive_text, AddsBytes};
 
     /// Adds a segment. A refused call leaves the section as it was. Where there are too many bytes, it answers `TooLong`, and asks for
-    /// none, as tests show; so do the other calls.
+    /// none, as tests show.
     pub fn segment<D: IntoIterator<Item = u8>, B: Allocator>(
         &mut self,
         segment: DataSegment<'_, D, B>,
@@ -133,7 +133,7 @@ impl<A: Allocator> DataSection<A> {
     }
 
     /// Adds a segment whose bytes are put in this memory when the module is instantiated. A refused call leaves the section as it
-    /// was.
+    /// was; where there are too many bytes, the answer is `TooLong`.
     pub fn active<D: IntoIterator<Item = u8>, B: Allocator>(
         &mut self,
         memory_index: u32,
@@ -152,7 +152,8 @@ impl<A: Allocator> DataSection<A> {
         }
     }
 
-    /// Adds a segment whose bytes are put in a memory when code says so. A refused call leaves the section as it was.
+    /// Adds a segment whose bytes are put in a memory when code says so. A refused call leaves the section as it was; where there
+    /// are too many bytes, the answer is `TooLong`.
     pub fn passive<D: IntoIterator<Item = u8>>(&mut self, bytes: D) -> R<()>
     where
         D::IntoIter: ExactSizeIterator + Drop,
