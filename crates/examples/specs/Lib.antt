@@ -3,3 +3,4 @@ pub mod Whole
 pub mod Filled
 pub mod Named
 pub mod Padded
+pub mod Sums

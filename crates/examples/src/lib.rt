@@ -8,6 +8,7 @@ mod first;
 mod names;
 mod padded;
 mod recursion;
+mod sums;
 mod whole;
 
 pub use alone::{encode_exports, encode_group, encode_import, encode_local, encode_reference};
@@ -16,4 +17,5 @@ pub use first::first_module;
 pub use names::named_module;
 pub use padded::{encode_padded_body, encode_padded_globals, encode_padded_names, padded_module};
 pub use recursion::{choice, factorial};
+pub use sums::{encode_sum, encode_sum_and_padded};
 pub use whole::whole_module;

@@ -2,7 +2,8 @@
 use crate::checks::{MOST, check_answer, check_bytes, check_sink};
 use examples::{
     choice, encode_exports, encode_group, encode_import, encode_local, encode_padded_body,
-    encode_padded_globals, encode_padded_names, factorial, first_module, padded_module,
+    encode_padded_globals, encode_padded_names, encode_reference, encode_sum,
+    encode_sum_and_padded, factorial, filled_module, first_module, named_module, padded_module,
     whole_module,
 };
 use std::alloc::Global;
@@ -54,6 +55,26 @@ fn module_of_eight_sections(rt: HostRuntime) {
         expected.extend_from_slice(section).expect(&rt, "accepted");
     }
     check_bytes(&rt, &whole, &expected);
+}
+
+#[test]
+fn module_that_is_filled(rt: HostRuntime) {
+    let filled = filled_module(rt.alloc(), &[9, 10]).expect(&rt, "accepted");
+    check_bytes(
+        &rt,
+        &filled,
+        b"\0asm\x01\0\0\0\x01\x04\x01\x60\0\0\x02\x0E\x01\x04host\x05ready\0\0\x04\x04\x01\x70\0\x03\x05\x03\x01\0\x01\x09\x07\x01\0\x41\0\x0B\x01\0\x0C\x01\x02\x0B\x0D\x02\0\x41\x08\x0B\x02\x09\x0A\x01\x03\x01\x02\x03",
+    );
+}
+
+#[test]
+fn module_with_names(rt: HostRuntime) {
+    let named = named_module(rt.alloc(), "f").expect(&rt, "accepted");
+    check_bytes(
+        &rt,
+        &named,
+        b"\0asm\x01\0\0\0\x0A\x06\x01\x04\x01\x01\x7F\x0B\0\x17\x04name\0\x02\x01m\x01\x04\x01\0\x01f\x02\x06\x01\0\x01\0\x01x",
+    );
 }
 
 #[test]
@@ -140,6 +161,20 @@ fn padded_numbers(rt: HostRuntime) {
     check_appending(&rt, &heap, names, |sink: &mut Vec<u8, _>| {
         encode_padded_names(sink)
     })
+}
+
+#[test]
+fn expressions(rt: HostRuntime) {
+    let mut sink = Vec::new(rt.alloc());
+    encode_reference(&mut sink, 300).expect(&rt, "accepted");
+    check_bytes(&rt, &sink, b"\x08\x01\x05\x70\x01\xD2\xAC\x02\x0B");
+    sink.clear();
+    encode_sum(&mut sink, 300).expect(&rt, "accepted");
+    check_bytes(&rt, &sink, b"\x0A\x01\x7F\0\x23\xAC\x02\x41\x05\x6A\x0B");
+    sink.clear();
+    encode_sum_and_padded(&mut sink, 1).expect(&rt, "accepted");
+    let padded = b"\x0F\x02\x7F\0\x23\x01\x41\x05\x6A\x0B\x7F\0\x41\x80\0\x0B";
+    check_bytes(&rt, &sink, padded);
 }
 
 #[test]
