@@ -1,11 +1,15 @@
-//! Tests of `wasm_reader`: bytes that were worked out from the format's documents, and requests for memory that are refused.
+//! Tests of `wasm_reader` and `examples`: bytes that were worked out from the format's documents, and requests for memory that are refused.
 #![tactic(auto)]
 
 pub mod callers;
 #[cfg(test)]
+mod checks;
+#[cfg(test)]
 mod custom_rows;
 #[cfg(test)]
 mod custom_seen;
+#[cfg(test)]
+mod example_bytes;
 #[cfg(test)]
 mod faults;
 #[cfg(test)]

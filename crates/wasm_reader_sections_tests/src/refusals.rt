@@ -1,12 +1,10 @@
 // Each request for memory refused in turn: the cause is `Memory`.
+use crate::checks::MOST;
 use std::alloc::Global;
 use std::process::Abort;
 use test_support::Refusing;
 use wasm_reader::{SectionKind, list_module, read_section};
 use wasm_reader_base::ReadFault;
-
-/// More requests than any call here makes.
-const MOST: u64 = 100;
 
 /// What is asked of the reader.
 #[derive(Clone, Copy)]

@@ -1,5 +1,6 @@
 // Sections that are shortened.
 use crate::callers::padded_function;
+use crate::checks::{MOST, check_bytes};
 use crate::{custom_rows, faults, rows};
 use std::alloc::Global;
 use std::process::Abort;
@@ -10,9 +11,6 @@ use wasm_reader_base::ReadFault;
 
 /// A byte that stands in the sink before the call.
 const BEFORE: u8 = 0xAA;
-
-/// More requests than any call here makes.
-const MOST: u64 = 100;
 
 /// A section with padded numbers, and its shortest text.
 type Row = (SectionKind, &'static [u8], &'static [u8]);
@@ -303,11 +301,6 @@ fn bytes_behind(rt: HostRuntime) {
     )
     .expect(&rt, "accepted");
     check(&rt, given, 4, None);
-}
-
-/// The bytes are these.
-fn check_bytes(rt: &impl Abort, given: &[u8], expected: &[u8]) {
-    assert_eq!(rt; given, expected);
 }
 
 #[test]

@@ -1,4 +1,4 @@
-//! Tests of `wasm_code`, `wasm_sections` and `examples`: bytes that the format's documents give or that were worked out by hand, requests for memory
+//! Tests of `wasm_code` and `wasm_sections`: bytes that the format's documents give or that were worked out by hand, requests for memory
 //! that are refused, and callers that prove what they append and what a reader finds.
 #![tactic(auto)]
 
@@ -10,8 +10,6 @@ mod checks;
 mod code;
 #[cfg(test)]
 mod code_refusals;
-#[cfg(test)]
-mod example_bytes;
 #[cfg(test)]
 mod functions;
 #[cfg(test)]

@@ -364,3 +364,17 @@ fn laws_do_nothing(_rt: HostRuntime) {
     laws::payloads();
     laws::nothing_stands();
 }
+
+/// Nor do those of the crates below that callers cite.
+#[test]
+fn laws_for_callers_do_nothing(_rt: HostRuntime) {
+    wasm_base::laws::payloads();
+    wasm_code::laws::payloads();
+    wasm_code::laws::calls::<Global>();
+    wasm_code::laws::wide_calls::<Global>();
+    laws::plain_export(&Export {
+        name: "f",
+        kind: ExportKind::Func,
+        index: 1,
+    });
+}
