@@ -8,6 +8,10 @@ use std::hint::black_box;
 use std::process::exit;
 use std::time::{Duration, Instant};
 
+/// The workloads in the build by rustc.
+#[cfg(feature = "rust")]
+extern crate dolzhytik_bench as _;
+
 unsafe extern "C" {
     fn wb_code(
         words: *const u32,

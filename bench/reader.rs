@@ -10,6 +10,10 @@ use std::time::{Duration, Instant};
 
 // Slices are handed over as a pointer and a length.
 #[rustfmt::skip]
+/// The workloads in the build by rustc.
+#[cfg(feature = "rust")]
+extern crate dolzhytik_bench as _;
+
 unsafe extern "C" {
     fn wb_read(section: *const u8, section_len: usize) -> u64;
     fn wb_walk(body: *const u8, body_len: usize) -> u64;

@@ -3,6 +3,8 @@
 //!
 //! [`read_section`] reads a section of a [`SectionKind`], without its id, into [`Items`], and [`shorten`] writes it in its fewest bytes. A custom section is
 //! read as what its name stands for, or, as any is, as its name and data.
+//!
+//! [`ReadFault::Memory`]: wasm_reader_base::ReadFault::Memory
 #![tactic(auto)]
 
 mod data;

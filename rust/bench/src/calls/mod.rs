@@ -1,0 +1,21 @@
+// Written by tools/to-rust from crates/wasm_bench/src/lib.rt: change that.
+//! Workloads that a program in C or Rust calls to measure the encoder. What each function reads and answers is told in `bench/README.md`.
+
+pub(crate) mod answers;
+pub(crate) mod bodies;
+pub(crate) mod calls;
+pub(crate) mod code;
+pub(crate) mod codes;
+pub(crate) mod data;
+pub(crate) mod exports;
+pub(crate) mod functions;
+pub(crate) mod imports;
+pub(crate) mod kinds;
+pub(crate) mod line;
+pub(crate) mod name_section;
+pub(crate) mod names;
+pub(crate) mod reading;
+pub(crate) mod values;
+pub(crate) mod words;
+
+pub use answers::NO_ANSWER;

@@ -1,0 +1,64 @@
+// Written by tools/to-rust from crates/wasm_bench/src/reading.rt: change that.
+// Code sections and bodies, read.
+
+use crate::calls::answers::NO_ANSWER;
+use dolzhytik::alloc::Global;
+use dolzhytik::reader::{Items, SectionKind, read_section};
+use dolzhytik::reader::base::ReadFault;
+use dolzhytik::reader::insn::{Body, Instructions};
+
+/// How many instructions the bodies have together; none where these are more than can be counted.
+///
+/// # Proved
+///
+/// ```text
+/// ensures { MatchOption result ⊤ (λ n. n ≡ instructions_in (map body_of bodies.now)) }
+/// ```
+fn instructions(bodies: &[Body]) -> Option<u64> {
+    let mut count: u64 = 0;
+    for body in bodies {
+        count = count.checked_add(body.code.len() as u64)?;
+    }
+    Some(count)
+}
+
+/// Reads a code section, whose bytes begin at its size, into a list of its bodies, and answers how many instructions these have.
+///
+/// # Proved
+///
+/// ```text
+/// ensures { (result ≡ no_answer) ⊎ HasRead section.now result }
+/// ```
+pub fn wb_read(alloc: Global, section: &[u8]) -> u64 {
+    match read_section(SectionKind::Bodies, section, alloc) {
+        Ok((Items::Bodies(bodies), _)) => instructions(&bodies).unwrap_or(NO_ANSWER),
+        _ => NO_ANSWER,
+    }
+}
+
+/// How many instructions a walk goes over.
+///
+/// # Proved
+///
+/// ```text
+/// ensures { IfOk result (λ n. HasWalked body.now n) }
+/// ```
+fn walked(alloc: Global, body: &[u8]) -> Result<u64, ReadFault> {
+    let (_runs, mut walk) = Instructions::of_body(body, alloc)?;
+    let mut count = 0;
+    while let Some(_step) = walk.next()? {
+        count += 1;
+    }
+    Ok(count)
+}
+
+/// Goes over the instructions of a body, whose bytes are those without its size, and answers how many they are.
+///
+/// # Proved
+///
+/// ```text
+/// ensures { (result ≡ no_answer) ⊎ HasWalked body.now result }
+/// ```
+pub fn wb_walk(alloc: Global, body: &[u8]) -> u64 {
+    walked(alloc, body).unwrap_or(NO_ANSWER)
+}

@@ -1,0 +1,74 @@
+// Written by tools/to-rust from crates/wasm_c/src/recipes.rt: change that.
+// Recipes.
+
+use crate::calls::NO_ANSWER;
+use dolzhytik::alloc::Global;
+use dolzhytik::recipe::{RecipeCause, assemble};
+
+/// The number of the cause that a recipe is no text.
+const NOT_TEXT: u32 = 7;
+
+/// The number of a cause.
+///
+/// # Proved
+///
+/// ```text
+/// ensures { result ≡ cause_number cause }
+/// ```
+fn number_of(cause: RecipeCause) -> u32 {
+    match cause {
+        RecipeCause::UnknownCommand => 1,
+        RecipeCause::BadNumber => 2,
+        RecipeCause::BadHex => 3,
+        RecipeCause::MissingWord => 4,
+        RecipeCause::Memory => 5,
+        RecipeCause::TooLong => 6,
+    }
+}
+
+/// Copies the bytes to the front of `out`, where it has room for them, and answers how many they are.
+///
+/// # Proved
+///
+/// ```text
+/// ensures { Gives bytes.now out.old out.new result }
+/// ```
+pub(in crate::calls) fn copied(bytes: &[u8], out: &mut [u8]) -> u64 {
+    let count = bytes.len();
+    if count <= out.len() {
+        let (room, _) = out.split_at_mut(count);
+        room.copy_from_slice(bytes);
+    }
+    count as u64
+}
+
+/// Assembles a recipe. Where it is refused, `line` is the line of its first fault, counted from 1, or 0, and `cause` the number of what is wrong there;
+/// both are 0 where there is a module.
+///
+/// # Proved
+///
+/// ```text
+/// ensures { Outcome recipe.now out.old out.new line.new cause.new result }
+/// ```
+pub fn dz_assemble(
+    alloc: Global,
+    recipe: &[u8],
+    out: &mut [u8],
+    line: &mut u64,
+    cause: &mut u32,
+) -> u64 {
+    *line = 0;
+    *cause = 0;
+    let Ok(text) = str::from_utf8(recipe) else {
+        *cause = NOT_TEXT;
+        return NO_ANSWER;
+    };
+    match assemble(alloc, text) {
+        Ok(bytes) => copied(&bytes, out),
+        Err(fault) => {
+            *line = fault.line as u64;
+            *cause = number_of(fault.cause);
+            NO_ANSWER
+        }
+    }
+}

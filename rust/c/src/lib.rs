@@ -1,0 +1,95 @@
+//! The functions of `dolzhytik.h` on any platform. What each does stands in [`calls`], which is written from the proved source; here is the border: pointers and
+//! lengths become slices.
+use calls::{DzSection, listing, recipes, shortest};
+use dolzhytik::alloc::Global;
+use std::slice;
+
+#[cfg(test)]
+#[macro_use]
+#[path = "../../tests/support/host.rs"]
+mod host;
+
+#[allow(unused_imports, clippy::all, reason = "written by tools/to-rust")]
+mod calls;
+
+/// The list of so many items from this one on.
+///
+/// # Safety
+///
+/// The pointer is valid for so many items, or there are none.
+unsafe fn list<'a, T>(first: *const T, len: usize) -> &'a [T] {
+    if len == 0 {
+        return &[];
+    }
+    unsafe { slice::from_raw_parts(first, len) }
+}
+
+/// The room for so many items from this one on.
+///
+/// # Safety
+///
+/// The pointer is valid for so many items, which nobody else reads or writes, or there are none.
+unsafe fn room<'a, T>(first: *mut T, len: usize) -> &'a mut [T] {
+    if len == 0 {
+        return &mut [];
+    }
+    unsafe { slice::from_raw_parts_mut(first, len) }
+}
+
+/// Assembles a recipe.
+///
+/// # Safety
+///
+/// As the header says: pointers are valid for their lengths, and what is written overlaps nothing else.
+#[unsafe(no_mangle)]
+pub unsafe extern "C" fn dz_assemble(
+    recipe: *const u8,
+    recipe_len: usize,
+    out: *mut u8,
+    out_len: usize,
+    line: &mut u64,
+    cause: &mut u32,
+) -> u64 {
+    let recipe = unsafe { list(recipe, recipe_len) };
+    let out = unsafe { room(out, out_len) };
+    recipes::dz_assemble(Global, recipe, out, line, cause)
+}
+
+/// Lists the sections of a module.
+///
+/// # Safety
+///
+/// As the header says: pointers are valid for their lengths, and what is written overlaps nothing else.
+#[unsafe(no_mangle)]
+pub unsafe extern "C" fn dz_list(
+    module: *const u8,
+    module_len: usize,
+    out: *mut DzSection,
+    out_len: usize,
+    place: &mut u64,
+    cause: &mut u32,
+) -> u64 {
+    let module = unsafe { list(module, module_len) };
+    let out = unsafe { room(out, out_len) };
+    listing::dz_list(Global, module, out, place, cause)
+}
+
+/// Writes the shortest text of a section.
+///
+/// # Safety
+///
+/// As the header says: pointers are valid for their lengths, and what is written overlaps nothing else.
+#[unsafe(no_mangle)]
+pub unsafe extern "C" fn dz_shorten(
+    kind: u32,
+    bytes: *const u8,
+    bytes_len: usize,
+    out: *mut u8,
+    out_len: usize,
+    taken: &mut u64,
+    cause: &mut u32,
+) -> u64 {
+    let bytes = unsafe { list(bytes, bytes_len) };
+    let out = unsafe { room(out, out_len) };
+    shortest::dz_shorten(Global, kind, bytes, out, taken, cause)
+}

@@ -1,0 +1,45 @@
+// Written by tools/to-rust from crates/wasm_base/src/lib.rt: change that.
+//! The base of a WebAssembly encoder: numbers, names, vectors and frames, the entries of a builder, sections and modules.
+//!
+//! The formats are those of the WebAssembly core specification, "Binary Format". What bytes spell is defined in
+//! `specs/Formats.antt`, what a call appends in `specs/Calls.antt`, and [`laws`] says that bytes are read in one way.
+
+mod counted;
+mod cow;
+mod encode;
+mod fixed;
+mod frames;
+mod groups;
+mod items;
+pub mod laws;
+mod modules;
+mod numbers;
+mod once;
+mod parts;
+mod pieces;
+mod refused;
+mod section_id;
+mod sections;
+mod tuples;
+mod types;
+mod vectors;
+
+pub use counted::{Counted, add_all};
+pub use cow::{CowSlice, CowStr};
+pub use encode::Encode;
+pub use frames::{begin_frame, encode_frame, encode_section};
+pub use groups::{Groups, NoGroups, read_groups};
+pub use items::Items;
+pub use modules::Module;
+pub use numbers::encoding_size;
+pub use once::{BytesOf, EncodeOnce, VecOf, bytes_of, vec_of};
+pub use parts::{Lent, Optional};
+pub use pieces::Pieces;
+pub use refused::{R, Refused};
+pub use section_id::{
+    CORE_FUNCTION_EXACT_SORT, CORE_FUNCTION_SORT, CORE_GLOBAL_SORT, CORE_MEMORY_SORT,
+    CORE_TABLE_SORT, CORE_TAG_SORT, SectionId,
+};
+pub use sections::{RawSection, Section};
+pub use types::{AbstractHeapType, HeapType, RefType, ValType};
+pub use vectors::encode_vec;

@@ -1,0 +1,87 @@
+// Written by tools/to-rust from crates/wasm_base/src/modules.rt: change that.
+// Modules: the header, and sections one after another.
+
+use crate::vec::Vec;
+use crate::base::refused::R;
+use crate::base::sections::Section;
+use crate::alloc::{Allocator, Global};
+
+/// A module, seen as its bytes.
+///
+/// ```
+/// # use dolzhytik::{alloc::Global, base::*, code::*, custom::*, immediates::*, insn::*, reader::*, recipe::*, sections::*};
+/// # use dolzhytik::vec::Vec;
+/// # fn example(alloc: Global) -> Result<(), Box<dyn std::error::Error>> {
+/// let mut module = Module::new(alloc)?;
+/// module.section(&RawSection { id: 1, bytes: &[0] })?;
+/// let bytes = module.finish();
+/// # Ok(())
+/// # }
+/// # example(Global).unwrap();
+/// ```
+#[derive(Debug)]
+pub struct Module<A: Allocator = Global> {
+    bytes: Vec<u8, A>,
+}
+
+impl<A: Allocator> Module<A> {
+    /// A module of no sections.
+    ///
+    /// # Proved
+    ///
+    /// ```text
+    /// ensures bytes { IfOk result (λ m. m ≡ header) }
+    /// ensures read { IfOk result (λ m. ReadsWhole wasm_module m []) }
+    /// ensures memory { result ≢ Err Refused.TooLong }
+    /// ```
+    pub fn new(alloc: A) -> R<Module<A>> {
+        Ok(Module {
+            bytes: Vec::from_slice(alloc, b"\0asm\x01\0\0\0")?,
+        })
+    }
+
+    /// Appends a section. A refused call leaves the module as it was.
+    ///
+    /// # Proved
+    ///
+    /// ```text
+    /// ensures ok { OnOk result (self.new ≡ self.old ++ (S.id_of section.now ∷ S.text section.now)) }
+    /// ensures read { OnOk result (ReadsOneMore (S.payload section.now) (S.id_of section.now) self.old self.new) }
+    /// ensures section { OnOk result (S.reading section.now) }
+    /// ensures err { OnErr result (self.new ≡ self.old) }
+    /// ensures fitted { OnOk result (S.fits section.now) }
+    /// ensures too_long { S.fits section.now → result ≢ Err Refused.TooLong }
+    /// ```
+    pub fn section<S: Section>(&mut self, section: &S) -> R<()> {
+        section.append_to(&mut self.bytes)
+    }
+
+    /// A module with the same bytes, in memory of its own.
+    ///
+    /// # Proved
+    ///
+    /// ```text
+    /// ensures same { IfOk result (λ m. m ≡ self.now) }
+    /// ensures memory { result ≢ Err Refused.TooLong }
+    /// ```
+    pub fn clone(&self) -> R<Module<A>>
+    where
+        A: Clone,
+    {
+        let alloc = self.bytes.allocator().clone();
+        Ok(Module {
+            bytes: Vec::from_slice(alloc, self.bytes.as_slice())?,
+        })
+    }
+
+    /// The bytes of the module.
+    ///
+    /// # Proved
+    ///
+    /// ```text
+    /// ensures { result.items ≡ self }
+    /// ```
+    pub fn finish(self) -> Vec<u8, A> {
+        self.bytes
+    }
+}

@@ -1,0 +1,260 @@
+// Written by tools/to-rust from crates/wasm_base/src/once.rt: change that.
+// Values that are written once.
+
+use crate::vec::Sink;
+use crate::base::encode::Encode;
+use crate::base::refused::{R, Refused};
+
+/// A value with a layout that is used up where it is written, since an iterator in it gives its items but once.
+///
+/// # Defined
+///
+/// ```text
+/// // What its iterators promise.
+/// lawful: { Self → Type 0 }
+/// // The texts that it may have.
+/// gives: { Self → List ℕ → Type 0 }
+/// // fits: whatever its iterators give, every count, run and length of the text can be spelled.
+/// fits: { Self → Type 0 }
+/// ```
+pub trait EncodeOnce {
+    /// Appends a text of the value. A refused call leaves the bytes of the sink as they were.
+    ///
+    /// # Asks
+    ///
+    /// ```text
+    /// requires { lawful self }
+    /// ```
+    ///
+    /// # Proved
+    ///
+    /// ```text
+    /// ensures { AppendsOnce (gives self) (fits self) sink.old sink.new result }
+    /// ```
+    fn encode_once<A: Sink>(self, sink: &mut A) -> R<()>;
+}
+
+/// The vector of the items of an iterator, which told their number before any was asked for: see [`vec_of`].
+pub struct VecOf<I> {
+    items: I,
+    count: u32,
+}
+
+/// The vector of the bytes of an iterator, which told their number before any was asked for: see [`bytes_of`].
+pub struct BytesOf<I> {
+    items: I,
+    count: u32,
+}
+
+/// How many items the iterator tells, where so many can be counted.
+///
+/// # Proved
+///
+/// ```text
+/// ensures ok { IfOk result (λ count. IsFinite (I.remaining items.now) × (size (I.remaining items.now) ≡ count) × (count ≤ longest)) }
+/// ensures too_long { size (I.remaining items.now) ≤ longest → result ≢ Err TooLong }
+/// ensures too_many { longest < size (I.remaining items.now) → result ≡ Err TooLong }
+/// ensures refused { IfErr result (λ refused. refused ≡ TooLong) }
+/// ```
+fn count_of<I: ExactSizeIterator>(items: &I) -> R<u32> {
+    let Ok(count) = u32::try_from(items.len()) else {
+        return Err(Refused::TooLong);
+    };
+    Ok(count)
+}
+
+/// The vector of the elements, to be written once. It is refused where there are too many, and never for want of memory; it asks for no
+/// element, as tests show.
+///
+/// # Proved
+///
+/// ```text
+/// ensures ok { IfOk result (λ v. V.into_iter_gives elements v.items × IsFinite (V.IntoIter.remaining v.items) × (size (V.IntoIter.remaining v.items) ≡ v.count) × (v.count ≤ longest)) }
+/// ensures too_long { ((it : V.IntoIter) → V.into_iter_gives elements it → size (V.IntoIter.remaining it) ≤ longest) → result ≢ Err TooLong }
+/// ensures too_many { ((it : V.IntoIter) → V.into_iter_gives elements it → longest < size (V.IntoIter.remaining it)) → result ≡ Err TooLong }
+/// ensures refused { IfErr result (λ refused. refused ≡ TooLong) }
+/// ```
+pub fn vec_of<V: IntoIterator>(elements: V) -> R<VecOf<V::IntoIter>>
+where
+    V::IntoIter: ExactSizeIterator,
+{
+    let items = elements.into_iter();
+    let count = count_of(&items)?;
+    Ok(VecOf { items, count })
+}
+
+/// The vector of the bytes, to be written once, as a whole where the iterator lends them so. It is refused where there are too many, and
+/// never for want of memory; it asks for no byte, as tests show.
+///
+/// # Proved
+///
+/// ```text
+/// ensures ok { IfOk result (λ v. V.into_iter_gives bytes v.items × IsFinite (V.IntoIter.remaining v.items) × (size (V.IntoIter.remaining v.items) ≡ v.count) × (v.count ≤ longest)) }
+/// ensures too_long { ((it : V.IntoIter) → V.into_iter_gives bytes it → size (V.IntoIter.remaining it) ≤ longest) → result ≢ Err TooLong }
+/// ensures too_many { ((it : V.IntoIter) → V.into_iter_gives bytes it → longest < size (V.IntoIter.remaining it)) → result ≡ Err TooLong }
+/// ensures refused { IfErr result (λ refused. refused ≡ TooLong) }
+/// ```
+pub fn bytes_of<V: IntoIterator>(bytes: V) -> R<BytesOf<V::IntoIter>>
+where
+    V::IntoIter: ExactSizeIterator,
+{
+    let items = bytes.into_iter();
+    let count = count_of(&items)?;
+    Ok(BytesOf { items, count })
+}
+
+/// # Defined
+///
+/// ```text
+/// lawful = { λ v. TellsCount I.can_next I.next_gives I.remaining v.items v.count }
+/// gives = { λ v. GivesVec I.next_gives T.fits T.text v.items }
+/// fits = { λ v. YieldsFitting I.next_gives T.fits v.items }
+/// ```
+impl<T: Encode, I: Iterator<Item = T>> EncodeOnce for VecOf<I> {
+    fn encode_once<A: Sink>(self, sink: &mut A) -> R<()> {
+        let VecOf { items, count } = self;
+        let start = sink.len();
+        count.encode(sink)?;
+        for item in items {
+            if let Err(refused) = item.encode(sink) {
+                sink.truncate(start);
+                return Err(refused);
+            }
+        }
+        Ok(())
+    }
+}
+
+/// The largest number of bytes of a spelled count.
+const COUNT_BYTES: usize = 5;
+
+/// How many bytes are taken at a time of a short run.
+const BLOCK: usize = 16;
+
+/// The most bytes of a short run.
+const SHORT: usize = 256;
+
+/// The next bytes of an iterator that gives as many. Nothing but their number is tested, so that they are copied as a whole.
+///
+/// # Asks
+///
+/// ```text
+/// requires ready { I.can_next items.old × IsFinite (I.remaining items.old) }
+/// requires many { (xs : List ℕ) → Drains I.next_gives items.old xs → 16 ≤ length xs }
+/// ```
+///
+/// # Proved
+///
+/// ```text
+/// ensures yields { Yields I.next_gives items.old result items.new }
+/// ensures count { length result ≡ 16 }
+/// ensures ready { I.can_next items.new × IsFinite (I.remaining items.new) }
+/// ```
+fn next_block<I: Iterator<Item = u8>>(items: &mut I) -> [u8; BLOCK] {
+    let mut block = [0; BLOCK];
+    for i in 0..BLOCK {
+        block[i] = items.next().unwrap();
+    }
+    block
+}
+
+/// Appends the bytes of a short run but for the last few, a block at a time, and of a long one none. The sink has room for them.
+///
+/// # Asks
+///
+/// ```text
+/// requires ready { I.can_next items.old × IsFinite (I.remaining items.old) }
+/// requires told { (xs : List ℕ) → Drains I.next_gives items.old xs → length xs ≡ count }
+/// requires room { vec_len sink.old + count ≤ vec_capacity sink.old }
+/// ```
+///
+/// # Proved
+///
+/// ```text
+/// ensures appends { (xs : List ℕ) × Yields I.next_gives items.old xs items.new × (sink.new.items ≡ sink.old.items ++ xs) }
+/// ensures ready { I.can_next items.new × IsFinite (I.remaining items.new) }
+/// ensures capacity { vec_capacity sink.old ≤ vec_capacity sink.new }
+/// ```
+fn append_blocks<I: Iterator<Item = u8>, A: Sink>(
+    sink: &mut A,
+    items: &mut I,
+    count: usize,
+) {
+    let mut left = if count <= SHORT { count } else { 0 };
+    while left >= BLOCK {
+        let block = next_block(items);
+        sink.extend_from_slice(&block).unwrap();
+        left -= BLOCK;
+    }
+}
+
+/// # Defined
+///
+/// ```text
+/// lawful = { λ v. TellsCount I.can_next I.next_gives I.remaining v.items v.count }
+/// gives = { λ v. GivesBytes I.next_gives v.items }
+/// fits = { λ _. Unit {0} }
+/// ```
+impl<I: Iterator<Item = u8>> EncodeOnce for BytesOf<I> {
+    fn encode_once<A: Sink>(self, sink: &mut A) -> R<()> {
+        let BytesOf { mut items, count } = self;
+        let start = sink.len();
+        let len = count as usize;
+        sink.reserve(len.saturating_add(COUNT_BYTES))?;
+        count.encode(sink)?;
+        append_blocks(sink, &mut items, len);
+        let Ok(()) = sink.extend(items) else {
+            sink.truncate(start);
+            return Err(Refused::Memory);
+        };
+        Ok(())
+    }
+}
+
+/// A part, and then one that is written once.
+///
+/// # Defined
+///
+/// ```text
+/// lawful = { λ p. T.lawful p.1 }
+/// gives = { λ p. GivesPair (S.text p.0) (S.fits p.0) (T.gives p.1) }
+/// fits = { λ p. S.fits p.0 × T.fits p.1 }
+/// ```
+impl<S: Encode, T: EncodeOnce> EncodeOnce for (S, T) {
+    fn encode_once<A: Sink>(self, sink: &mut A) -> R<()> {
+        let (front, back) = self;
+        let start = sink.len();
+        front.encode(sink)?;
+        if let Err(refused) = back.encode_once(sink) {
+            sink.truncate(start);
+            return Err(refused);
+        }
+        Ok(())
+    }
+}
+
+/// A part, and then two that are written once.
+///
+/// # Defined
+///
+/// ```text
+/// lawful = { λ p. T.lawful p.1 × U.lawful p.2 }
+/// gives = { λ p. GivesTriple (S.text p.0) (S.fits p.0) (T.gives p.1) (U.gives p.2) }
+/// fits = { λ p. S.fits p.0 × T.fits p.1 × U.fits p.2 }
+/// ```
+impl<S: Encode, T: EncodeOnce, U: EncodeOnce> EncodeOnce for (S, T, U) {
+    fn encode_once<A: Sink>(self, sink: &mut A) -> R<()> {
+        let (front, middle, back) = self;
+        let start = sink.len();
+        front.encode(sink)?;
+        if let Err(refused) = middle.encode_once(sink) {
+            sink.truncate(start);
+            return Err(refused);
+        }
+        if let Err(refused) = back.encode_once(sink) {
+            sink.truncate(start);
+            return Err(refused);
+        }
+        Ok(())
+    }
+}

@@ -1,0 +1,50 @@
+// Written by tools/to-rust from crates/wasm_base/src/section_id.rt: change that.
+// The numbers of sections and sorts.
+
+/// The kinds of sections, by the ids of the core specification, "Modules", and of its proposals.
+#[derive(Clone, Copy, PartialEq, Eq, Debug)]
+pub enum SectionId {
+    Custom = 0,
+    Types = 1,
+    Import = 2,
+    Function = 3,
+    Table = 4,
+    Memory = 5,
+    Global = 6,
+    Export = 7,
+    Start = 8,
+    Element = 9,
+    Code = 10,
+    Data = 11,
+    DataCount = 12,
+    Tag = 13,
+}
+
+/// # Defined
+///
+/// ```text
+/// from_gives = { λ id n. n ≡ number_of id }
+/// ```
+impl From<SectionId> for u8 {
+    fn from(id: SectionId) -> u8 {
+        id as u8
+    }
+}
+
+/// The sort of functions, in imports and exports.
+pub const CORE_FUNCTION_SORT: u8 = 0x00;
+
+/// The sort of tables.
+pub const CORE_TABLE_SORT: u8 = 0x01;
+
+/// The sort of memories.
+pub const CORE_MEMORY_SORT: u8 = 0x02;
+
+/// The sort of globals.
+pub const CORE_GLOBAL_SORT: u8 = 0x03;
+
+/// The sort of tags.
+pub const CORE_TAG_SORT: u8 = 0x04;
+
+/// The sort of functions of an exact type.
+pub const CORE_FUNCTION_EXACT_SORT: u8 = 0x20;

@@ -1,0 +1,182 @@
+// Written by tools/to-rust from crates/wasm_base/src/types.rt: change that.
+// Heap types, reference types and value types.
+
+use crate::vec::Sink;
+use crate::base::encode::Encode;
+use crate::base::refused::R;
+
+/// The heap types that have a name, as the core specification and its proposals have them.
+#[derive(Clone, Copy, PartialEq, Eq, Hash, Debug)]
+pub enum AbstractHeapType {
+    Func = 0x70,
+    Extern = 0x6F,
+    Any = 0x6E,
+    Eq = 0x6D,
+    I31 = 0x6C,
+    Struct = 0x6B,
+    Array = 0x6A,
+    Exn = 0x69,
+    NoExn = 0x74,
+    NoFunc = 0x73,
+    NoExtern = 0x72,
+    None = 0x71,
+    Cont = 0x68,
+    NoCont = 0x75,
+}
+
+/// What a reference leads to.
+#[derive(Clone, Copy, PartialEq, Eq, Hash, Debug)]
+pub enum HeapType {
+    Abstract { shared: bool, ty: AbstractHeapType },
+    /// The type of this index, and its subtypes.
+    Concrete(u32),
+    /// The type of this index alone.
+    Exact(u32),
+}
+
+impl HeapType {
+    /// Any function.
+    pub const FUNC: HeapType = HeapType::Abstract {
+        shared: false,
+        ty: AbstractHeapType::Func,
+    };
+
+    /// Any value of the host.
+    pub const EXTERN: HeapType = HeapType::Abstract {
+        shared: false,
+        ty: AbstractHeapType::Extern,
+    };
+}
+
+/// A reference, which may be null or not.
+#[derive(Clone, Copy, PartialEq, Eq, Hash, Debug)]
+pub struct RefType {
+    pub nullable: bool,
+    pub heap_type: HeapType,
+}
+
+impl RefType {
+    /// A function or null.
+    pub const FUNCREF: RefType = RefType {
+        nullable: true,
+        heap_type: HeapType::FUNC,
+    };
+
+    /// A value of the host or null.
+    pub const EXTERNREF: RefType = RefType {
+        nullable: true,
+        heap_type: HeapType::EXTERN,
+    };
+}
+
+/// The type of a value: a number, a vector or a reference.
+#[derive(Clone, Copy, PartialEq, Eq, Hash, Debug)]
+pub enum ValType {
+    I32,
+    I64,
+    F32,
+    F64,
+    V128,
+    Ref(RefType),
+}
+
+impl AbstractHeapType {
+    /// Its byte.
+    ///
+    /// # Proved
+    ///
+    /// ```text
+    /// ensures { result ≡ abstract_code self }
+    /// ```
+    #[inline]
+    fn byte(self) -> u8 {
+        self as u8
+    }
+}
+
+/// One byte.
+///
+/// # Defined
+///
+/// ```text
+/// text = { λ ty. abstract_code ty ∷ [] }
+/// fits = { λ _. ⊤ }
+/// ```
+impl Encode for AbstractHeapType {
+    fn encode<A: Sink>(&self, sink: &mut A) -> R<()> {
+        self.byte().encode(sink)
+    }
+}
+
+/// A byte, or an index as a signed number, or a byte and what follows it.
+///
+/// # Defined
+///
+/// ```text
+/// text = { heap_text }
+/// fits = { λ _. ⊤ }
+/// ```
+impl Encode for HeapType {
+    fn encode<A: Sink>(&self, sink: &mut A) -> R<()> {
+        match *self {
+            HeapType::Abstract { shared: false, ty } => ty.encode(sink),
+            HeapType::Abstract { shared: true, ty } => (0x65u8, ty).encode(sink),
+            HeapType::Concrete(index) => i64::from(index).encode(sink),
+            HeapType::Exact(index) => (0x62u8, index).encode(sink),
+        }
+    }
+}
+
+/// `FUNCREF` and `EXTERNREF` have a byte of their own; others are a byte and the heap type.
+///
+/// # Defined
+///
+/// ```text
+/// text = { ref_text }
+/// fits = { λ _. ⊤ }
+/// ```
+impl Encode for RefType {
+    fn encode<A: Sink>(&self, sink: &mut A) -> R<()> {
+        let byte: u8 = match (self.nullable, self.heap_type) {
+            (
+                true,
+                HeapType::Abstract {
+                    shared: false,
+                    ty: AbstractHeapType::Func,
+                },
+            ) => 0x70,
+            (
+                true,
+                HeapType::Abstract {
+                    shared: false,
+                    ty: AbstractHeapType::Extern,
+                },
+            ) => 0x6F,
+            (true, heap_type) => return (0x63u8, heap_type).encode(sink),
+            (false, heap_type) => return (0x64u8, heap_type).encode(sink),
+        };
+        byte.encode(sink)
+    }
+}
+
+/// One byte, or the reference type.
+///
+/// # Defined
+///
+/// ```text
+/// text = { val_text }
+/// fits = { λ _. ⊤ }
+/// ```
+impl Encode for ValType {
+    fn encode<A: Sink>(&self, sink: &mut A) -> R<()> {
+        let byte: u8 = match *self {
+            ValType::I32 => 0x7F,
+            ValType::I64 => 0x7E,
+            ValType::F32 => 0x7D,
+            ValType::F64 => 0x7C,
+            ValType::V128 => 0x7B,
+            ValType::Ref(ty) => return ty.encode(sink),
+        };
+        byte.encode(sink)
+    }
+}

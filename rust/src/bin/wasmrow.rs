@@ -1,0 +1,29 @@
+//! Reads a recipe from standard input and writes the module in hexadecimal; with `--read` it goes the other way.
+use dolzhytik::alloc::{AllocError, Global};
+use dolzhytik::recipe::run;
+use dolzhytik::string::String;
+use std::io::{self, IsTerminal};
+use std::process::ExitCode;
+use std::env;
+
+/// What a build by rustc says where somebody looks on.
+const UNPROVED: &str = "wasmrow: compiled by rustc from the proved source, and not proved on this machine: ./check does that";
+
+/// The words after the program's name. One that is no text is none that the program knows.
+fn words() -> Result<Vec<String>, AllocError> {
+    env::args_os()
+        .skip(1)
+        .map(|word| String::from_str(Global, &word.to_string_lossy()))
+        .collect()
+}
+
+fn main() -> ExitCode {
+    if io::stderr().is_terminal() {
+        eprintln!("{UNPROVED}");
+    }
+    let Ok(words) = words() else {
+        return ExitCode::FAILURE;
+    };
+    let (mut input, mut out, mut err) = (io::stdin(), io::stdout(), io::stderr());
+    ExitCode::from(run(Global, &words, &mut input, &mut out, &mut err))
+}

@@ -1,0 +1,496 @@
+// Written by tools/to-rust from crates/wasm_code/src/const_expr.rt: change that.
+// Constant expressions.
+
+use crate::vec::{Sink, Vec};
+use crate::code::first::First;
+use crate::code::function::append_all;
+use crate::alloc::{Allocator, Global};
+use crate::base::{Encode, HeapType, Optional, R, read_groups};
+use crate::insn::{Ieee32, Ieee64, Instruction, InstructionSink};
+
+/// A constant expression, seen as the bytes that are stored: those of its instructions, without the `End` that is written after
+/// them.
+///
+/// The one instruction that `global_get`, `ref_null`, `ref_func`, `i32_const`, `i64_const`, `f32_const` or `f64_const` makes is kept as
+/// a value, which takes no memory, as tests show. All others are bytes.
+#[derive(Debug)]
+pub struct ConstExpr<A: Allocator = Global> {
+    first: Option<First>,
+    bytes: Vec<u8, A>,
+}
+
+/// How many bytes `V128Const` has.
+const VECTOR_BYTES: usize = 18;
+
+impl<A: Allocator> ConstExpr<A> {
+    /// No instructions. It takes no memory.
+    ///
+    /// # Proved
+    ///
+    /// ```text
+    /// ensures { result ≡ [] }
+    /// ```
+    pub fn empty(alloc: A) -> Self {
+        ConstExpr {
+            first: None,
+            bytes: Vec::new(alloc),
+        }
+    }
+
+    /// Bytes that spell instructions.
+    ///
+    /// # Asks
+    ///
+    /// ```text
+    /// requires { (it : I.IntoIter) → I.into_iter_gives bytes it → I.IntoIter.can_next it × IsFinite (I.IntoIter.remaining it) }
+    /// ```
+    ///
+    /// # Proved
+    ///
+    /// ```text
+    /// ensures ok { IfOk result (λ e. (it : I.IntoIter) × (xs : List ℕ)
+    ///     × I.into_iter_gives bytes it
+    ///     × Drains I.IntoIter.next_gives it xs
+    ///     × (e ≡ xs)) }
+    /// ensures memory { result ≢ Err TooLong }
+    /// ```
+    pub fn raw<I: IntoIterator<Item = u8>>(alloc: A, bytes: I) -> R<Self> {
+        let mut stored = Vec::new(alloc);
+        append_all(&mut stored, bytes)?;
+        Ok(ConstExpr {
+            first: None,
+            bytes: stored,
+        })
+    }
+
+    /// The instructions, one after another.
+    ///
+    /// # Asks
+    ///
+    /// ```text
+    /// requires { (it : I.IntoIter) → I.into_iter_gives instructions it → I.IntoIter.can_next it × IsFinite (I.IntoIter.remaining it) }
+    /// ```
+    ///
+    /// # Proved
+    ///
+    /// ```text
+    /// ensures { StoresGiven I.into_iter_gives I.IntoIter.next_gives instructions result }
+    /// ```
+    pub fn extended<'i, I: IntoIterator<Item = Instruction<'i>>>(
+        alloc: A,
+        instructions: I,
+    ) -> R<Self> {
+        let mut bytes = Vec::new(alloc);
+        encode_each(instructions, &mut bytes)?;
+        Ok(ConstExpr { first: None, bytes })
+    }
+
+    /// The instruction alone. It takes no memory.
+    ///
+    /// # Proved
+    ///
+    /// ```text
+    /// ensures { Stores (instruction_of first) [] result }
+    /// ```
+    fn of(alloc: A, first: First) -> Self {
+        let bytes = Vec::new(alloc);
+        ConstExpr {
+            first: Some(first),
+            bytes,
+        }
+    }
+
+    /// `GlobalGet` alone.
+    ///
+    /// # Proved
+    ///
+    /// ```text
+    /// ensures stores { IfOk result (Stores (Instruction.GlobalGet index) []) }
+    /// ensures memory { result ≢ Err TooLong }
+    /// ```
+    pub fn global_get(alloc: A, index: u32) -> R<Self> {
+        Ok(ConstExpr::of(alloc, First::GlobalGet(index)))
+    }
+
+    /// `RefNull` alone.
+    ///
+    /// # Proved
+    ///
+    /// ```text
+    /// ensures stores { IfOk result (Stores (Instruction.RefNull ty) []) }
+    /// ensures memory { result ≢ Err TooLong }
+    /// ```
+    pub fn ref_null(alloc: A, ty: HeapType) -> R<Self> {
+        Ok(ConstExpr::of(alloc, First::RefNull(ty)))
+    }
+
+    /// `RefFunc` alone.
+    ///
+    /// # Proved
+    ///
+    /// ```text
+    /// ensures stores { IfOk result (Stores (Instruction.RefFunc function_index) []) }
+    /// ensures memory { result ≢ Err TooLong }
+    /// ```
+    pub fn ref_func(alloc: A, function_index: u32) -> R<Self> {
+        Ok(ConstExpr::of(alloc, First::RefFunc(function_index)))
+    }
+
+    /// `I32Const` alone.
+    ///
+    /// # Proved
+    ///
+    /// ```text
+    /// ensures stores { IfOk result (Stores (Instruction.I32Const value) []) }
+    /// ensures memory { result ≢ Err TooLong }
+    /// ```
+    pub fn i32_const(alloc: A, value: i32) -> R<Self> {
+        Ok(ConstExpr::of(alloc, First::I32Const(value)))
+    }
+
+    /// `I64Const` alone.
+    ///
+    /// # Proved
+    ///
+    /// ```text
+    /// ensures stores { IfOk result (Stores (Instruction.I64Const value) []) }
+    /// ensures memory { result ≢ Err TooLong }
+    /// ```
+    pub fn i64_const(alloc: A, value: i64) -> R<Self> {
+        Ok(ConstExpr::of(alloc, First::I64Const(value)))
+    }
+
+    /// `F32Const` alone.
+    ///
+    /// # Proved
+    ///
+    /// ```text
+    /// ensures stores { IfOk result (Stores (Instruction.F32Const value) []) }
+    /// ensures memory { result ≢ Err TooLong }
+    /// ```
+    pub fn f32_const(alloc: A, value: Ieee32) -> R<Self> {
+        Ok(ConstExpr::of(alloc, First::F32Const(value)))
+    }
+
+    /// `F64Const` alone.
+    ///
+    /// # Proved
+    ///
+    /// ```text
+    /// ensures stores { IfOk result (Stores (Instruction.F64Const value) []) }
+    /// ensures memory { result ≢ Err TooLong }
+    /// ```
+    pub fn f64_const(alloc: A, value: Ieee64) -> R<Self> {
+        Ok(ConstExpr::of(alloc, First::F64Const(value)))
+    }
+
+    /// `V128Const` alone.
+    ///
+    /// # Proved
+    ///
+    /// ```text
+    /// ensures stores { IfOk result (Stores (Instruction.VectorImmediate (VectorImmediate.V128Const value)) []) }
+    /// ensures memory { result ≢ Err TooLong }
+    /// ```
+    pub fn v128_const(alloc: A, value: i128) -> R<Self> {
+        let bytes = Vec::with_capacity(alloc, VECTOR_BYTES)?;
+        ConstExpr { first: None, bytes }.with_v128_const(value)
+    }
+
+    /// This, and then `GlobalGet`.
+    ///
+    /// # Proved
+    ///
+    /// ```text
+    /// ensures stores { IfOk result (Stores (Instruction.GlobalGet index) self) }
+    /// ensures memory { result ≢ Err TooLong }
+    /// ```
+    pub fn with_global_get(mut self, index: u32) -> R<Self> {
+        InstructionSink::new(&mut self.bytes).global_get(index)?;
+        Ok(self)
+    }
+
+    /// This, and then `RefNull`.
+    ///
+    /// # Proved
+    ///
+    /// ```text
+    /// ensures stores { IfOk result (Stores (Instruction.RefNull ty) self) }
+    /// ensures memory { result ≢ Err TooLong }
+    /// ```
+    pub fn with_ref_null(mut self, ty: HeapType) -> R<Self> {
+        InstructionSink::new(&mut self.bytes).ref_null(ty)?;
+        Ok(self)
+    }
+
+    /// This, and then `RefFunc`.
+    ///
+    /// # Proved
+    ///
+    /// ```text
+    /// ensures stores { IfOk result (Stores (Instruction.RefFunc function_index) self) }
+    /// ensures memory { result ≢ Err TooLong }
+    /// ```
+    pub fn with_ref_func(mut self, function_index: u32) -> R<Self> {
+        InstructionSink::new(&mut self.bytes).ref_func(function_index)?;
+        Ok(self)
+    }
+
+    /// This, and then `I32Const`.
+    ///
+    /// # Proved
+    ///
+    /// ```text
+    /// ensures stores { IfOk result (Stores (Instruction.I32Const value) self) }
+    /// ensures memory { result ≢ Err TooLong }
+    /// ```
+    pub fn with_i32_const(mut self, value: i32) -> R<Self> {
+        InstructionSink::new(&mut self.bytes).i32_const(value)?;
+        Ok(self)
+    }
+
+    /// This, and then `I64Const`.
+    ///
+    /// # Proved
+    ///
+    /// ```text
+    /// ensures stores { IfOk result (Stores (Instruction.I64Const value) self) }
+    /// ensures memory { result ≢ Err TooLong }
+    /// ```
+    pub fn with_i64_const(mut self, value: i64) -> R<Self> {
+        InstructionSink::new(&mut self.bytes).i64_const(value)?;
+        Ok(self)
+    }
+
+    /// This, and then `F32Const`.
+    ///
+    /// # Proved
+    ///
+    /// ```text
+    /// ensures stores { IfOk result (Stores (Instruction.F32Const value) self) }
+    /// ensures memory { result ≢ Err TooLong }
+    /// ```
+    pub fn with_f32_const(mut self, value: Ieee32) -> R<Self> {
+        InstructionSink::new(&mut self.bytes).f32_const(value)?;
+        Ok(self)
+    }
+
+    /// This, and then `F64Const`.
+    ///
+    /// # Proved
+    ///
+    /// ```text
+    /// ensures stores { IfOk result (Stores (Instruction.F64Const value) self) }
+    /// ensures memory { result ≢ Err TooLong }
+    /// ```
+    pub fn with_f64_const(mut self, value: Ieee64) -> R<Self> {
+        InstructionSink::new(&mut self.bytes).f64_const(value)?;
+        Ok(self)
+    }
+
+    /// This, and then `V128Const`.
+    ///
+    /// # Proved
+    ///
+    /// ```text
+    /// ensures stores { IfOk result (Stores (Instruction.VectorImmediate (VectorImmediate.V128Const value)) self) }
+    /// ensures memory { result ≢ Err TooLong }
+    /// ```
+    pub fn with_v128_const(mut self, value: i128) -> R<Self> {
+        InstructionSink::new(&mut self.bytes).v128_const(value)?;
+        Ok(self)
+    }
+
+    /// This, and then `I32Add`.
+    ///
+    /// # Proved
+    ///
+    /// ```text
+    /// ensures stores { IfOk result (Stores (Instruction.Numeric Numeric.I32Add) self) }
+    /// ensures memory { result ≢ Err TooLong }
+    /// ```
+    pub fn with_i32_add(mut self) -> R<Self> {
+        InstructionSink::new(&mut self.bytes).i32_add()?;
+        Ok(self)
+    }
+
+    /// This, and then `I32Sub`.
+    ///
+    /// # Proved
+    ///
+    /// ```text
+    /// ensures stores { IfOk result (Stores (Instruction.Numeric Numeric.I32Sub) self) }
+    /// ensures memory { result ≢ Err TooLong }
+    /// ```
+    pub fn with_i32_sub(mut self) -> R<Self> {
+        InstructionSink::new(&mut self.bytes).i32_sub()?;
+        Ok(self)
+    }
+
+    /// This, and then `I32Mul`.
+    ///
+    /// # Proved
+    ///
+    /// ```text
+    /// ensures stores { IfOk result (Stores (Instruction.Numeric Numeric.I32Mul) self) }
+    /// ensures memory { result ≢ Err TooLong }
+    /// ```
+    pub fn with_i32_mul(mut self) -> R<Self> {
+        InstructionSink::new(&mut self.bytes).i32_mul()?;
+        Ok(self)
+    }
+
+    /// This, and then `I64Add`.
+    ///
+    /// # Proved
+    ///
+    /// ```text
+    /// ensures stores { IfOk result (Stores (Instruction.Numeric Numeric.I64Add) self) }
+    /// ensures memory { result ≢ Err TooLong }
+    /// ```
+    pub fn with_i64_add(mut self) -> R<Self> {
+        InstructionSink::new(&mut self.bytes).i64_add()?;
+        Ok(self)
+    }
+
+    /// This, and then `I64Sub`.
+    ///
+    /// # Proved
+    ///
+    /// ```text
+    /// ensures stores { IfOk result (Stores (Instruction.Numeric Numeric.I64Sub) self) }
+    /// ensures memory { result ≢ Err TooLong }
+    /// ```
+    pub fn with_i64_sub(mut self) -> R<Self> {
+        InstructionSink::new(&mut self.bytes).i64_sub()?;
+        Ok(self)
+    }
+
+    /// This, and then `I64Mul`.
+    ///
+    /// # Proved
+    ///
+    /// ```text
+    /// ensures stores { IfOk result (Stores (Instruction.Numeric Numeric.I64Mul) self) }
+    /// ensures memory { result ≢ Err TooLong }
+    /// ```
+    pub fn with_i64_mul(mut self) -> R<Self> {
+        InstructionSink::new(&mut self.bytes).i64_mul()?;
+        Ok(self)
+    }
+
+    /// The index of `RefFunc`, where the expression begins with it.
+    ///
+    /// # Proved
+    ///
+    /// ```text
+    /// ensures { IsRefFunc self.now result }
+    /// ```
+    pub fn get_ref_func(&self) -> Option<u32> {
+        match self.first {
+            Some(first) => first.function_index(),
+            None => function_at_front(&self.bytes),
+        }
+    }
+}
+
+/// The index of `RefFunc`, where the bytes begin with it.
+///
+/// # Proved
+///
+/// ```text
+/// ensures { IsRefFunc bytes.now result }
+/// ```
+fn function_at_front(bytes: &[u8]) -> Option<u32> {
+    let [op, rest @ ..] = bytes else {
+        return None;
+    };
+    if *op != 0xD2 {
+        return None;
+    }
+    let Ok((index, _)) = read_groups(rest, 5) else {
+        return None;
+    };
+    if index.sum < 1 << 32 {
+        Some(index.sum as u32)
+    } else {
+        None
+    }
+}
+
+/// Appends the texts of the elements.
+///
+/// # Asks
+///
+/// ```text
+/// requires { (it : I.IntoIter) → I.into_iter_gives elements it → I.IntoIter.can_next it × IsFinite (I.IntoIter.remaining it) }
+/// ```
+///
+/// # Proved
+///
+/// ```text
+/// ensures { AppendsEach I.into_iter_gives I.IntoIter.next_gives T.fits T.text elements sink.old.items sink.new.items result }
+/// ```
+fn encode_each<T: Encode, I: IntoIterator<Item = T>, A: Sink>(
+    elements: I,
+    sink: &mut A,
+) -> R<()> {
+    for element in elements {
+        element.encode(sink)?;
+    }
+    Ok(())
+}
+
+impl<A: Allocator + Copy> ConstExpr<A> {
+    /// The same expression, in memory of its own.
+    ///
+    /// # Proved
+    ///
+    /// ```text
+    /// ensures same { IfOk result (λ e. e ≡ self.now) }
+    /// ensures memory { result ≢ Err TooLong }
+    /// ```
+    pub fn clone(&self) -> R<Self> {
+        let alloc = *self.bytes.allocator();
+        Ok(ConstExpr {
+            first: self.first,
+            bytes: Vec::from_slice(alloc, &self.bytes)?,
+        })
+    }
+}
+
+/// Bytes that are stored, as a part of a layout.
+struct Stored<'a>(&'a [u8]);
+
+/// The bytes as they are.
+///
+/// # Defined
+///
+/// ```text
+/// text = { λ stored. stored.0.now }
+/// fits = { λ _. ⊤ }
+/// ```
+impl Encode for Stored<'_> {
+    fn encode<A: Sink>(&self, sink: &mut A) -> R<()> {
+        sink.extend_from_slice(self.0)?;
+        Ok(())
+    }
+}
+
+/// The byte of `End`.
+const END: u8 = 0x0B;
+
+/// The stored bytes, and `End`.
+///
+/// # Defined
+///
+/// ```text
+/// text = { expression_text }
+/// fits = { λ _. ⊤ }
+/// reading = { λ e. ReadsBack expression (StoresInstructions e) (expression_text e) }
+/// ```
+impl<A: Allocator> Encode for ConstExpr<A> {
+    fn encode<B: Sink>(&self, sink: &mut B) -> R<()> {
+        (Optional(self.first), Stored(&self.bytes), END).encode(sink)
+    }
+}

@@ -1,0 +1,58 @@
+// Written by tools/to-rust from crates/wasm_code/src/first.rt: change that.
+// The instruction that an expression begins with.
+
+use crate::vec::Sink;
+use crate::base::{Encode, HeapType, R};
+use crate::insn::{Ieee32, Ieee64};
+
+/// An instruction that is mostly an expression alone, kept as a value and not as bytes: it takes no memory, and is written once,
+/// where the expression is.
+#[derive(Clone, Copy, Debug)]
+pub enum First {
+    GlobalGet(u32),
+    RefNull(HeapType),
+    RefFunc(u32),
+    I32Const(i32),
+    I64Const(i64),
+    F32Const(Ieee32),
+    F64Const(Ieee64),
+}
+
+impl First {
+    /// The index of `RefFunc`.
+    ///
+    /// # Proved
+    ///
+    /// ```text
+    /// ensures index { result ≡ index_of self }
+    /// ensures range { IfSome result (λ index. index < 2 ^ 32) }
+    /// ```
+    pub fn function_index(self) -> Option<u32> {
+        match self {
+            First::RefFunc(index) => Some(index),
+            _ => None,
+        }
+    }
+}
+
+/// The text of the instruction.
+///
+/// # Defined
+///
+/// ```text
+/// text = { first_text }
+/// fits = { λ _. ⊤ }
+/// ```
+impl Encode for First {
+    fn encode<A: Sink>(&self, sink: &mut A) -> R<()> {
+        match *self {
+            First::GlobalGet(index) => (0x23u8, index).encode(sink),
+            First::RefNull(ty) => (0xD0u8, ty).encode(sink),
+            First::RefFunc(index) => (0xD2u8, index).encode(sink),
+            First::I32Const(value) => (0x41u8, value).encode(sink),
+            First::I64Const(value) => (0x42u8, value).encode(sink),
+            First::F32Const(value) => (0x43u8, value).encode(sink),
+            First::F64Const(value) => (0x44u8, value).encode(sink),
+        }
+    }
+}

@@ -1,0 +1,14 @@
+// Written by tools/to-rust from crates/wasm_code/src/lib.rt: change that.
+//! Constant expressions, function bodies and the code section of a WebAssembly module, by the core specification, "Binary Format",
+//! "Instructions" and "Modules".
+
+mod code_section;
+mod const_expr;
+mod first;
+mod function;
+pub mod laws;
+mod locals;
+
+pub use code_section::CodeSection;
+pub use const_expr::ConstExpr;
+pub use function::Function;

@@ -1,0 +1,242 @@
+// Written by tools/to-rust from crates/wasm_custom/src/core_dumps.rt: change that.
+// Core dumps: the process, its modules and its instances.
+
+use crate::vec::{Sink, Vec};
+use crate::custom::custom_section::{CustomSection, begin_custom};
+use crate::custom::entries::{CustomEntries, CustomKind};
+use crate::alloc::{Allocator, Global};
+use crate::base::{Encode, Items, R, Section, SectionId, vec_of};
+
+/// The process that was dumped, seen as the data of its section: the byte 00, and its name.
+#[derive(Debug)]
+pub struct CoreDumpSection<A: Allocator = Global> {
+    data: Vec<u8, A>,
+}
+
+impl<A: Allocator> CoreDumpSection<A> {
+    /// The process of this name.
+    ///
+    /// # Proved
+    ///
+    /// ```text
+    /// ensures is { IfOk result (λ s. s ≡ marked_text name.now) }
+    /// ensures too_long { FrameFits name.now → result ≢ Err TooLong }
+    /// ```
+    pub fn new(alloc: A, name: &str) -> R<Self> {
+        let mut data = Vec::new(alloc);
+        (0x00u8, name).encode(&mut data)?;
+        Ok(CoreDumpSection { data })
+    }
+
+    /// The same process, in memory of its own.
+    ///
+    /// # Proved
+    ///
+    /// ```text
+    /// ensures same { IfOk result (λ s. s ≡ self.now) }
+    /// ensures memory { result ≢ Err TooLong }
+    /// ```
+    pub fn clone(&self) -> R<Self>
+    where
+        A: Copy,
+    {
+        Ok(CoreDumpSection {
+            data: Vec::from_slice(*self.data.allocator(), &self.data)?,
+        })
+    }
+}
+
+/// The frame of the name of the section, and of the data.
+///
+/// # Defined
+///
+/// ```text
+/// text = { λ s. named_text core_name s }
+/// fits = { λ s. NamedFits core_name s }
+/// reading = { λ s. ReadsBack core_section (SaysProcess s) (named_text core_name s) }
+/// ```
+impl<A: Allocator> Encode for CoreDumpSection<A> {
+    fn encode<B: Sink>(&self, sink: &mut B) -> R<()> {
+        let data = self.data.as_slice();
+        begin_custom(sink, "core", data.len())?;
+        sink.extend_from_slice(data).unwrap();
+        Ok(())
+    }
+}
+
+/// # Defined
+///
+/// ```text
+/// id_of = { λ _. number_of ids.Custom }
+/// Items = { List ℕ }
+/// format = { core_section }
+/// says = { SaysProcess }
+/// payload = { NamedPayload core_name }
+/// framed = { λ s bytes fits pays. named_framed core_name s bytes fits pays }
+/// reads_back = { λ s promised. promised }
+/// ```
+impl<A: Allocator> Section for CoreDumpSection<A> {
+    fn id(&self) -> u8 {
+        SectionId::Custom.into()
+    }
+}
+
+/// The modules of the process, by their names.
+pub type CoreDumpModulesSection<A = Global> = CustomEntries<ModuleItems, A>;
+
+/// The items of a section of modules: their names.
+#[derive(Clone, Copy, Debug)]
+pub struct ModuleItems;
+
+/// # Defined
+///
+/// ```text
+/// Record = { List ℕ }
+/// Item = { List ℕ }
+/// record_text = { marked_text }
+/// is_plain = { IsModule }
+/// normal_form = { λ item. item }
+/// item_format = { marked_name }
+/// ```
+impl Items for ModuleItems {
+    fn laws() {}
+}
+
+/// # Defined
+///
+/// ```text
+/// name = { modules_name }
+/// front = { [] }
+/// front_format = { fixed [] (tt {0}) }
+/// counted = { true }
+/// ```
+impl CustomKind for ModuleItems {
+    fn name() -> &'static str {
+        "coremodules"
+    }
+
+    fn front() -> &'static [u8] {
+        &[]
+    }
+
+    fn counted() -> bool {
+        true
+    }
+
+    fn frame_laws() {}
+}
+
+impl<A: Allocator> CoreDumpModulesSection<A> {
+    /// Adds a module. A refused call leaves the section as it was.
+    ///
+    /// # Proved
+    ///
+    /// ```text
+    /// ensures { Adds (marked_text name.now) (⊤ × FrameFits name.now) self.old self.new result }
+    /// ```
+    pub fn module(&mut self, name: &str) -> R<()> {
+        self.add_record(&(0x00u8, name))
+    }
+
+    /// The section as a custom section, whose data are in memory of their own.
+    ///
+    /// # Proved
+    ///
+    /// ```text
+    /// ensures same { IfOk result (λ s. (text_of s.name ≡ modules_name) × (items_of s.bytes ≡ entries_text [] true self.now)) }
+    /// ensures memory { result ≢ Err TooLong }
+    /// ```
+    pub fn as_custom<B: Allocator>(&self, alloc: B) -> R<CustomSection<'_, B>> {
+        self.owned(alloc)
+    }
+}
+
+/// The instances of the process. `len` is their number.
+pub type CoreDumpInstancesSection<A = Global> = CustomEntries<InstanceItems, A>;
+
+/// The items of a section of instances.
+#[derive(Clone, Copy, Debug)]
+pub struct InstanceItems;
+
+/// # Defined
+///
+/// ```text
+/// Record = { Instance }
+/// Item = { Instance }
+/// record_text = { instance_text }
+/// is_plain = { IsInstance }
+/// normal_form = { λ item. item }
+/// item_format = { instance }
+/// ```
+impl Items for InstanceItems {
+    fn laws() {}
+}
+
+/// # Defined
+///
+/// ```text
+/// name = { instances_name }
+/// front = { [] }
+/// front_format = { fixed [] (tt {0}) }
+/// counted = { true }
+/// ```
+impl CustomKind for InstanceItems {
+    fn name() -> &'static str {
+        "coreinstances"
+    }
+
+    fn front() -> &'static [u8] {
+        &[]
+    }
+
+    fn counted() -> bool {
+        true
+    }
+
+    fn frame_laws() {}
+}
+
+impl<A: Allocator> CoreDumpInstancesSection<A> {
+    /// Adds an instance of the module, with these memories and globals. A refused call leaves the section as it was. Where there are
+    /// too many of either, it answers `TooLong`, and asks for none, as tests show.
+    ///
+    /// # Asks
+    ///
+    /// ```text
+    /// requires memories { HasKnownLength M.into_iter_gives M.IntoIter.can_next M.IntoIter.next_gives M.IntoIter.remaining memories }
+    /// requires globals { HasKnownLength G.into_iter_gives G.IntoIter.can_next G.IntoIter.next_gives G.IntoIter.remaining globals }
+    /// ```
+    ///
+    /// # Proved
+    ///
+    /// ```text
+    /// ensures { AddsTwoLists M.into_iter_gives M.IntoIter.next_gives M.IntoIter.remaining memories G.into_iter_gives G.IntoIter.next_gives G.IntoIter.remaining globals (λ _. ⊤) (λ _. ⊤)
+    ///     (λ xs ys. (0x00 ∷ unsigned_text module_index) ++ (vec_text unsigned_text xs ++ vec_text unsigned_text ys)) self.old self.new result }
+    /// ```
+    pub fn instance<M: IntoIterator<Item = u32>, G: IntoIterator<Item = u32>>(
+        &mut self,
+        module_index: u32,
+        memories: M,
+        globals: G,
+    ) -> R<()>
+    where
+        M::IntoIter: ExactSizeIterator,
+        G::IntoIter: ExactSizeIterator,
+    {
+        let memories = vec_of(memories)?;
+        let globals = vec_of(globals)?;
+        self.add_once(((0x00u8, module_index), memories, globals))
+    }
+
+    /// The section as a custom section, whose data are in memory of their own.
+    ///
+    /// # Proved
+    ///
+    /// ```text
+    /// ensures same { IfOk result (λ s. (text_of s.name ≡ instances_name) × (items_of s.bytes ≡ entries_text [] true self.now)) }
+    /// ensures memory { result ≢ Err TooLong }
+    /// ```
+    pub fn as_custom<B: Allocator>(&self, alloc: B) -> R<CustomSection<'_, B>> {
+        self.owned(alloc)
+    }
+}

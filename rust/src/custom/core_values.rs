@@ -1,0 +1,36 @@
+// Written by tools/to-rust from crates/wasm_custom/src/core_values.rt: change that.
+// Values of a core dump.
+
+use crate::vec::Sink;
+use crate::base::{Encode, R};
+use crate::immediates::{Ieee32, Ieee64};
+
+/// A value of a local or of the stack, or none where it was optimised away.
+#[derive(Clone, Copy, Debug)]
+pub enum CoreDumpValue {
+    Missing,
+    I32(i32),
+    I64(i64),
+    F32(Ieee32),
+    F64(Ieee64),
+}
+
+/// A byte for the type, and the value.
+///
+/// # Defined
+///
+/// ```text
+/// text = { value_text }
+/// fits = { λ _. ⊤ }
+/// ```
+impl Encode for CoreDumpValue {
+    fn encode<A: Sink>(&self, sink: &mut A) -> R<()> {
+        match *self {
+            CoreDumpValue::Missing => 0x01u8.encode(sink),
+            CoreDumpValue::I32(value) => (0x7Fu8, value).encode(sink),
+            CoreDumpValue::I64(value) => (0x7Eu8, value).encode(sink),
+            CoreDumpValue::F32(value) => (0x7Du8, value).encode(sink),
+            CoreDumpValue::F64(value) => (0x7Cu8, value).encode(sink),
+        }
+    }
+}

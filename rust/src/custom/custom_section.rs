@@ -1,0 +1,131 @@
+// Written by tools/to-rust from crates/wasm_custom/src/custom_section.rt: change that.
+// Custom sections: a name, and data up to the end of the frame.
+
+use crate::vec::Sink;
+use crate::alloc::{Allocator, Global};
+use crate::base::{CowSlice, CowStr, Encode, R, Refused, Section, SectionId, begin_frame, encoding_size};
+
+/// Appends the size and the name of a custom section, and makes room for data of `size` bytes that are to follow.
+///
+/// # Proved
+///
+/// ```text
+/// ensures ok { OnOk result (sink.new.items ≡ sink.old.items ++ (unsigned_text (length (frame_text name.now) + size) ++ frame_text name.now)) }
+/// ensures made_room { OnOk result (vec_len sink.new + size ≤ vec_capacity sink.new) }
+/// ensures err { OnErr result (sink.new.items ≡ sink.old.items) }
+/// ensures fitted { OnOk result (length (frame_text name.now) + size ≤ longest) }
+/// ensures too_long { length (frame_text name.now) + size ≤ longest → result ≢ Err Refused.TooLong }
+/// ensures room { length (frame_text name.now) + size ≤ longest
+///     → vec_len sink.old + (length (unsigned_text (length (frame_text name.now) + size)) + (length (frame_text name.now) + size)) ≤ vec_capacity sink.old
+///     → IsOk result }
+/// ensures capacity { vec_capacity sink.old ≤ vec_capacity sink.new }
+/// ```
+pub(in crate::custom) fn begin_custom<A: Sink>(sink: &mut A, name: &str, size: usize) -> R<()> {
+    let Ok(short) = u32::try_from(name.len()) else {
+        return Err(Refused::TooLong);
+    };
+    begin_frame(
+        sink,
+        (encoding_size(short) + name.len()).saturating_add(size),
+    )?;
+    name.encode(sink).unwrap();
+    Ok(())
+}
+
+/// A custom section of any name and data.
+///
+/// ```
+/// # use dolzhytik::{alloc::Global, base::*, code::*, custom::*, immediates::*, insn::*, reader::*, recipe::*, sections::*};
+/// # use dolzhytik::vec::Vec;
+/// # fn example(alloc: Global) -> Result<(), Box<dyn std::error::Error>> {
+/// # let mut module = Module::new(alloc)?;
+/// # let bytes = *b"\0\x01";
+/// let section: CustomSection<'_> = CustomSection {
+///     name: CowStr::Borrowed("test"),
+///     bytes: CowSlice::Borrowed(&[11, 22, 33, 44]),
+/// };
+/// module.section(&section)?;
+/// # Ok(())
+/// # }
+/// # example(Global).unwrap();
+/// ```
+#[derive(Debug)]
+pub struct CustomSection<'a, A: Allocator = Global> {
+    pub name: CowStr<'a, A>,
+    /// The data.
+    pub bytes: CowSlice<'a, u8, A>,
+}
+
+impl<'a, A: Allocator + Copy> CustomSection<'a, A> {
+    /// The same name and data: what is owned in memory of its own.
+    ///
+    /// # Proved
+    ///
+    /// ```text
+    /// ensures same { IfOk result (λ s. (text_of s.name ≡ text_of self.now.name) × (items_of s.bytes ≡ items_of self.now.bytes)) }
+    /// ensures memory { result ≢ Err Refused.TooLong }
+    /// ```
+    pub fn clone(&self) -> R<Self> {
+        Ok(CustomSection {
+            name: self.name.clone()?,
+            bytes: self.bytes.clone()?,
+        })
+    }
+}
+
+/// Sections are equal where their names and data have equal bytes.
+///
+/// # Defined
+///
+/// ```text
+/// eq = { same_section }
+/// laws = { Prim.search (comparing, rules) }
+/// ```
+impl<A: Allocator> PartialEq for CustomSection<'_, A> {
+    fn eq(&self, other: &Self) -> bool {
+        self.name.as_str().as_bytes() == other.name.as_str().as_bytes()
+            && self.bytes.as_slice() == other.bytes.as_slice()
+    }
+}
+
+/// # Defined
+///
+/// ```text
+/// laws = { Prim.search (comparing, rules) }
+/// ```
+impl<A: Allocator> Eq for CustomSection<'_, A> {}
+
+/// The frame of the name and the data.
+///
+/// # Defined
+///
+/// ```text
+/// text = { λ s. named_text (text_of s.name) (items_of s.bytes) }
+/// fits = { λ s. NamedFits (text_of s.name) (items_of s.bytes) }
+/// reading = { λ s. ReadsBack custom (λ said. IsUtf8 (text_of s.name) × (said ≡ (text_of s.name, items_of s.bytes))) (named_text (text_of s.name) (items_of s.bytes)) }
+/// ```
+impl<A: Allocator> Encode for CustomSection<'_, A> {
+    fn encode<B: Sink>(&self, sink: &mut B) -> R<()> {
+        let bytes = self.bytes.as_slice();
+        begin_custom(sink, self.name.as_str(), bytes.len())?;
+        sink.extend_from_slice(bytes).unwrap();
+        Ok(())
+    }
+}
+
+/// # Defined
+///
+/// ```text
+/// id_of = { λ _. number_of ids.Custom }
+/// Items = { List ℕ × List ℕ }
+/// format = { custom }
+/// says = { λ s said. IsUtf8 (text_of s.name) × (said ≡ (text_of s.name, items_of s.bytes)) }
+/// payload = { λ s. NamedPayload (text_of s.name) (items_of s.bytes) }
+/// framed = { λ s bytes fits pays. named_framed (text_of s.name) (items_of s.bytes) bytes fits pays }
+/// reads_back = { λ s promised. promised }
+/// ```
+impl<A: Allocator> Section for CustomSection<'_, A> {
+    fn id(&self) -> u8 {
+        SectionId::Custom.into()
+    }
+}

@@ -1,0 +1,120 @@
+// Written by tools/to-rust from crates/wasm_custom/src/laws.rt: change that.
+//! What is promised of all lists of bytes, and not of a call: each function does nothing, and its clauses are the promise.
+//!
+//! `ItemLaws` says of a kind of items that they are read uniquely, and that the text of a plain record spells what it says.
+
+/// Sections are read uniquely, and so are their items; the text of a plain record spells what it says.
+///
+/// # Proved
+///
+/// ```text
+/// ensures names { UniqueReading (frame name_payload) }
+/// ensures linking { UniqueReading (frame linking_payload) }
+/// ensures producers { UniqueReading (frame producers_payload) }
+/// ensures hints { UniqueReading (frame hints_payload) }
+/// ensures modules { UniqueReading (frame modules_payload) }
+/// ensures instances { UniqueReading (frame instances_payload) }
+/// ensures core { UniqueReading (frame core_payload) }
+/// ensures stack { UniqueReading (frame stack_payload) }
+/// ensures customs { UniqueReading custom }
+/// ensures subsections { UniqueReading subsection }
+/// ensures links { UniqueReading link }
+/// ensures symbols { UniqueReading symbol }
+/// ensures fields { UniqueReading field }
+/// ensures functions_hints { UniqueReading hints }
+/// ensures marked_names { UniqueReading marked_name }
+/// ensures single_instances { UniqueReading instance }
+/// ensures frames { UniqueReading stack_frame }
+/// ensures values { UniqueReading value }
+/// ensures name_items { ItemLaws name_text IsName (λ item. item) subsection }
+/// ensures linking_items { ItemLaws link_text IsLink (λ item. item) link }
+/// ensures producer_items { ItemLaws field_text IsField (λ field. field) field }
+/// ensures hint_items { ItemLaws hints_text AreHints (λ hints. hints) hints }
+/// ensures module_items { ItemLaws marked_text IsModule (λ n. n) marked_name }
+/// ensures instance_items { ItemLaws instance_text IsInstance (λ instance. instance) instance }
+/// ensures frame_items { ItemLaws frame_entry IsFrame (λ frame. frame) stack_frame }
+/// ```
+pub fn sections() {}
+
+/// With padded numbers too, sections are read uniquely, and what shortest numbers spell is among it.
+///
+/// # Proved
+///
+/// ```text
+/// ensures names { IsUniqueWide (frame name_payload) }
+/// ensures linking { IsUniqueWide (frame linking_payload) }
+/// ensures producers { IsUniqueWide (frame producers_payload) }
+/// ensures hints { IsUniqueWide (frame hints_payload) }
+/// ensures modules { IsUniqueWide (frame modules_payload) }
+/// ensures instances { IsUniqueWide (frame instances_payload) }
+/// ensures core { IsUniqueWide (frame core_payload) }
+/// ensures stack { IsUniqueWide (frame stack_payload) }
+/// ensures customs { IsUniqueWide custom }
+/// ```
+pub fn wide() {}
+
+/// What sections and lists hold, call by call: at first nothing, and after a call that adds a plain record what this says too. The text
+/// of a list is the vector of its members.
+///
+/// # Proved
+///
+/// ```text
+/// ensures names { HoldsMore name_text IsName (λ item. item) subsection }
+/// ensures linking { HoldsMore link_text IsLink (λ item. item) link }
+/// ensures producers { HoldsMore field_text IsField (λ field. field) field }
+/// ensures hints { HoldsMore hints_text AreHints (λ hints. hints) hints }
+/// ensures modules { HoldsMore marked_text IsModule (λ n. n) marked_name }
+/// ensures instances { HoldsMore instance_text IsInstance (λ instance. instance) instance }
+/// ensures frames { HoldsMore frame_entry IsFrame (λ frame. frame) stack_frame }
+/// ensures name_maps { ListMore naming_text IsNaming }
+/// ensures indirect_maps { ListMore inside_text IsInside }
+/// ensures symbol_tables { ListMore symbol_text IsGivenSymbol }
+/// ensures producer_fields { ListMore producer_text IsProducer }
+/// ensures name_maps_text { IsVectorOf naming_text IsNaming }
+/// ensures indirect_maps_text { IsVectorOf inside_text IsInside }
+/// ensures symbol_tables_text { IsVectorOf symbol_text IsGivenSymbol }
+/// ensures producer_fields_text { IsVectorOf producer_text IsProducer }
+/// ```
+pub fn calls() {}
+
+/// The same with padded numbers, of the sections of entries: a piece may spell its item with padded numbers.
+///
+/// # Proved
+///
+/// ```text
+/// ensures names { HoldsMoreWide name_text IsName IsName (λ item. item) subsection }
+/// ensures linking { HoldsMoreWide link_text IsLink IsLink (λ item. item) link }
+/// ensures producers { HoldsMoreWide field_text IsField IsField (λ field. field) field }
+/// ensures hints { HoldsMoreWide hints_text AreHints AreHints (λ hints. hints) hints }
+/// ensures modules { HoldsMoreWide marked_text IsModule IsModule (λ n. n) marked_name }
+/// ensures instances { HoldsMoreWide instance_text IsInstance IsInstance (λ instance. instance) instance }
+/// ```
+pub fn wide_calls() {}
+
+/// Where a module is read as ids and payloads, and a section as its items alone, its payload is read as these alone.
+///
+/// # Proved
+///
+/// ```text
+/// ensures names { ReadsPayloads name_payload }
+/// ensures linking { ReadsPayloads linking_payload }
+/// ensures producers { ReadsPayloads producers_payload }
+/// ensures hints { ReadsPayloads hints_payload }
+/// ensures modules { ReadsPayloads modules_payload }
+/// ensures instances { ReadsPayloads instances_payload }
+/// ensures core { ReadsPayloads core_payload }
+/// ensures stack { ReadsPayloads stack_payload }
+/// ensures customs { ReadsPayloads (pair name any_bytes) }
+/// ```
+pub fn payloads() {}
+
+/// No section stands in these two texts, with padded numbers neither: in that of branch hints a value is spelled by two bytes, in that of
+/// links a function that is defined has no name.
+///
+/// # Proved
+///
+/// ```text
+/// ensures long_value { NothingStandsWide (frame hints_payload) (33 ∷ 25 ∷ (hints_name ++ (1 ∷ 0 ∷ 1 ∷ 3 ∷ 1 ∷ 128 ∷ 1 ∷ []))) }
+/// ensures no_name { NothingStandsWide (frame linking_payload) (15 ∷ 7 ∷ (linking_name ++ (2 ∷ 8 ∷ 4 ∷ 1 ∷ 0 ∷ 0 ∷ 1 ∷ []))) }
+/// ```
+pub fn nothing_stands() {}

@@ -1,0 +1,109 @@
+// Written by tools/to-rust from crates/wasm_custom/src/producers.rt: change that.
+// The producers section.
+
+use crate::custom::entries::{CustomEntries, CustomKind};
+use crate::custom::lists::{CountedList, ListKind};
+use crate::alloc::{Allocator, Global};
+use crate::base::{Items, Lent, R};
+
+/// The values of a field: what has produced the module, and in which version.
+pub type ProducersField<A = Global> = CountedList<ValueMembers, A>;
+
+/// The members of a field: a name, and its version.
+#[derive(Clone, Copy, Debug)]
+pub struct ValueMembers;
+
+/// # Defined
+///
+/// ```text
+/// Member = { Producer }
+/// member_text = { producer_text }
+/// is_member = { IsProducer }
+/// ```
+impl ListKind for ValueMembers {}
+
+impl<A: Allocator> ProducersField<A> {
+    /// Adds a value. A refused call leaves the field as it was.
+    ///
+    /// # Proved
+    ///
+    /// ```text
+    /// ensures { Adds (frame_text name.now ++ frame_text version.now) (FrameFits name.now × FrameFits version.now) self.old self.new result }
+    /// ```
+    pub fn value(&mut self, name: &str, version: &str) -> R<()> {
+        self.add_record(&(name, version))
+    }
+}
+
+/// What has produced the module.
+///
+/// ```
+/// # use dolzhytik::{alloc::Global, base::*, code::*, custom::*, immediates::*, insn::*, reader::*, recipe::*, sections::*};
+/// # use dolzhytik::vec::Vec;
+/// # fn example(alloc: Global) -> Result<(), Box<dyn std::error::Error>> {
+/// # let mut module = Module::new(alloc)?;
+/// let mut field = ProducersField::new(alloc);
+/// field.value("clang", "14.0.4")?;
+/// let mut producers = ProducersSection::new(alloc);
+/// producers.field("processed-by", &field)?;
+/// module.section(&producers)?;
+/// # Ok(())
+/// # }
+/// # example(Global).unwrap();
+/// ```
+pub type ProducersSection<A = Global> = CustomEntries<ProducerItems, A>;
+
+/// The items of a producers section: fields.
+#[derive(Clone, Copy, Debug)]
+pub struct ProducerItems;
+
+/// # Defined
+///
+/// ```text
+/// Record = { Field }
+/// Item = { Field }
+/// record_text = { field_text }
+/// is_plain = { IsField }
+/// normal_form = { λ item. item }
+/// item_format = { field }
+/// ```
+impl Items for ProducerItems {
+    fn laws() {}
+}
+
+/// # Defined
+///
+/// ```text
+/// name = { producers_name }
+/// front = { [] }
+/// front_format = { fixed [] (tt {0}) }
+/// counted = { true }
+/// ```
+impl CustomKind for ProducerItems {
+    fn name() -> &'static str {
+        "producers"
+    }
+
+    fn front() -> &'static [u8] {
+        &[]
+    }
+
+    fn counted() -> bool {
+        true
+    }
+
+    fn frame_laws() {}
+}
+
+impl<A: Allocator> ProducersSection<A> {
+    /// Adds a field, as `language`, `processed-by` or `sdk`. A refused call leaves the section as it was.
+    ///
+    /// # Proved
+    ///
+    /// ```text
+    /// ensures { Adds (frame_text name.now ++ list_text values.now) (FrameFits name.now × ⊤) self.old self.new result }
+    /// ```
+    pub fn field<B: Allocator>(&mut self, name: &str, values: &ProducersField<B>) -> R<()> {
+        self.add_record(&(name, Lent(values)))
+    }
+}

@@ -1,0 +1,37 @@
+// Written by tools/to-rust from crates/wasm_insn/src/lib.rt: change that.
+//! The instructions of WebAssembly: their immediates, their opcodes, and what bytes spell them.
+//!
+//! An instruction is found by its opcode. One-byte instructions outside 45 to C4 (hexadecimal), and those with fields after the
+//! prefixes FB and FC, are cases of [`Instruction`]; the others are in an enum for each group of opcodes: [`Numeric`] (45 to C4),
+//! [`Aggregate`] (FB), [`PrefixedNumeric`] (FC), [`Vector`] and [`VectorImmediate`] (FD, without and with fields) and [`Atomic`]
+//! (FE). Those without fields have a constant too, so that `Instruction::I32Add` is an instruction.
+//!
+//! The opcode table is `specs/Table.antt`, the text of an instruction `specs/Instructions.antt`, and what bytes spell an
+//! instruction `specs/Plain.antt`.
+
+mod aggregate;
+mod atomic;
+mod instruction;
+pub mod laws;
+mod numeric;
+mod op;
+mod part;
+mod prefixed_numeric;
+mod sink;
+mod table;
+mod vector;
+mod vector_immediate;
+
+pub use aggregate::Aggregate;
+pub use atomic::Atomic;
+pub use instruction::Instruction;
+pub use numeric::Numeric;
+pub use op::{Op, Shape};
+pub use part::Part;
+pub use prefixed_numeric::PrefixedNumeric;
+pub use sink::{Buffer, InstructionSink};
+pub use vector::Vector;
+pub use vector_immediate::VectorImmediate;
+pub use crate::immediates::{
+    BlockType, Catch, Handle, Ieee32, Ieee64, Lane, MemArg, MemArgOrdering, MemArgTarget, Ordering,
+};

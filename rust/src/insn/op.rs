@@ -1,0 +1,80 @@
+// Written by tools/to-rust from crates/wasm_insn/src/op.rt: change that.
+// Opcodes, and the shapes of what follows them.
+
+use crate::vec::Sink;
+use crate::base::{Encode, R};
+
+/// An opcode: a byte, or a prefix and a number.
+#[derive(Clone, Copy, PartialEq, Eq, Hash, Debug)]
+pub enum Op {
+    Byte(u8),
+    Prefixed(u8, u32),
+}
+
+/// Which parts follow an opcode.
+#[derive(Clone, Copy, PartialEq, Eq, Hash, Debug)]
+pub enum Shape {
+    Nothing,
+    /// A number.
+    U,
+    /// Two numbers.
+    Uu,
+    /// A memory argument.
+    M,
+    /// A memory argument and a lane.
+    Ml,
+    /// A lane.
+    L,
+    /// A block type.
+    B,
+    /// A heap type.
+    H,
+    /// An ordering.
+    O,
+    /// An ordering and a number.
+    Ou,
+    /// An ordering and two numbers.
+    Ouu,
+    /// A signed number of 32 bits.
+    C32,
+    /// A signed number of 64 bits.
+    C64,
+    /// A float of 32 bits.
+    F32,
+    /// A float of 64 bits.
+    F64,
+    /// A vector of 128 bits.
+    V,
+    /// Sixteen lanes.
+    Ls,
+    /// Labels, and one label more.
+    Bt,
+    /// A block type and clauses that catch.
+    Tt,
+    /// Value types.
+    Ts,
+    /// Flags, a label and two heap types.
+    K,
+    /// A number and clauses that handle.
+    Uh,
+    /// Two numbers and clauses that handle.
+    Uuh,
+}
+
+/// The byte, or the prefix and the number.
+///
+/// # Defined
+///
+/// ```text
+/// text = { op_text }
+/// fits = { λ _. ⊤ }
+/// ```
+impl Encode for Op {
+    #[inline]
+    fn encode<A: Sink>(&self, sink: &mut A) -> R<()> {
+        match *self {
+            Op::Byte(byte) => byte.encode(sink),
+            Op::Prefixed(prefix, number) => (prefix, number).encode(sink),
+        }
+    }
+}

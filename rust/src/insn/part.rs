@@ -1,0 +1,80 @@
+// Written by tools/to-rust from crates/wasm_insn/src/part.rt: change that.
+// The parts of shapes.
+
+use crate::insn::op::Shape;
+
+/// What can follow an opcode.
+#[derive(Clone, Copy, PartialEq, Eq, Hash, Debug)]
+pub enum Part {
+    /// A number of 32 bits.
+    Unsigned,
+    /// A signed number of 32 bits.
+    Signed32,
+    /// A signed number of 64 bits.
+    Signed64,
+    /// A float of 32 bits, in 4 bytes.
+    Float32,
+    /// A float of 64 bits, in 8 bytes.
+    Float64,
+    /// A vector of 128 bits, in 16 bytes.
+    Vector,
+    /// A memory argument.
+    Memory,
+    /// A lane, in one byte.
+    Lane,
+    /// Sixteen lanes.
+    Lanes,
+    /// A block type.
+    Block,
+    /// A heap type.
+    Heap,
+    /// An ordering.
+    Ordering,
+    /// A vector of labels.
+    Labels,
+    /// A vector of clauses that catch.
+    Catches,
+    /// A vector of value types.
+    Types,
+    /// A vector of clauses that handle.
+    Handles,
+    /// The flags of a cast.
+    Flag,
+}
+
+impl Shape {
+    /// The parts that follow an opcode of the shape, in order.
+    ///
+    /// # Proved
+    ///
+    /// ```text
+    /// ensures { result.now ≡ parts_of self }
+    /// ```
+    pub fn parts(self) -> &'static [Part] {
+        match self {
+            Shape::Nothing => &[],
+            Shape::U => &[Part::Unsigned],
+            Shape::Uu => &[Part::Unsigned, Part::Unsigned],
+            Shape::M => &[Part::Memory],
+            Shape::Ml => &[Part::Memory, Part::Lane],
+            Shape::L => &[Part::Lane],
+            Shape::B => &[Part::Block],
+            Shape::H => &[Part::Heap],
+            Shape::O => &[Part::Ordering],
+            Shape::Ou => &[Part::Ordering, Part::Unsigned],
+            Shape::Ouu => &[Part::Ordering, Part::Unsigned, Part::Unsigned],
+            Shape::C32 => &[Part::Signed32],
+            Shape::C64 => &[Part::Signed64],
+            Shape::F32 => &[Part::Float32],
+            Shape::F64 => &[Part::Float64],
+            Shape::V => &[Part::Vector],
+            Shape::Ls => &[Part::Lanes],
+            Shape::Bt => &[Part::Labels, Part::Unsigned],
+            Shape::Tt => &[Part::Block, Part::Catches],
+            Shape::Ts => &[Part::Types],
+            Shape::K => &[Part::Flag, Part::Unsigned, Part::Heap, Part::Heap],
+            Shape::Uh => &[Part::Unsigned, Part::Handles],
+            Shape::Uuh => &[Part::Unsigned, Part::Unsigned, Part::Handles],
+        }
+    }
+}

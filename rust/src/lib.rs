@@ -1,0 +1,27 @@
+#![doc = include_str!("../README.md")]
+//! ## What is asked
+//!
+//! These calls ask something of their caller that types don't keep: mostly that an iterator ends, or that one of known length tells it truly.
+//!
+#![doc = include_str!("asks.md")]
+#![forbid(unsafe_code)]
+
+#[cfg(not(target_pointer_width = "64"))]
+compile_error!("the proofs take a pointer to have 64 bits, and this target's have not");
+
+pub mod alloc;
+pub mod hex;
+pub mod string;
+pub mod vec;
+
+/// Names the modules that `tools/to-rust` writes: they keep the names of their source, and arguments of which clauses alone speak.
+macro_rules! written {
+    ($($name:ident)*) => {
+        $(
+            #[allow(non_upper_case_globals, unused_variables, clippy::all)]
+            pub mod $name;
+        )*
+    };
+}
+
+written! { base code custom immediates insn reader recipe sections }

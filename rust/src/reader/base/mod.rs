@@ -1,0 +1,30 @@
+// Written by tools/to-rust from crates/wasm_reader_base/src/lib.rt: change that.
+//! Reads what stands at the front of bytes, exactly: an answer is what the grammar reads there, with padded numbers too, and a cause
+//! other than [`ReadFault::Memory`] says that no reading exists.
+//!
+//! What is read is a type with [`Readable`]: numbers, fixed bytes, names, frames, pairs, vectors, types and immediates here, and
+//! instructions and sections in the crates above. A content that reaches to the last byte of its frame has [`Filling`], and what is
+//! written in its fewest bytes has [`Shorten`].
+
+mod fault;
+mod fixed;
+mod frames;
+mod immediates;
+mod item;
+mod names;
+mod numbers;
+mod optional;
+mod readable;
+mod shorten;
+mod tuples;
+mod types;
+mod vectors;
+mod whole;
+
+pub use fault::ReadFault;
+pub use frames::{Filled, Framed, frame_since};
+pub use item::{Item, One, read_many};
+pub use optional::read_optional;
+pub use readable::{Filling, Readable};
+pub use shorten::Shorten;
+pub use whole::{read_list, read_whole};

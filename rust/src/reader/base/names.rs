@@ -1,0 +1,75 @@
+// Written by tools/to-rust from crates/wasm_reader_base/src/names.rt: change that.
+// Framed bytes and names, which are slices of the input.
+
+use crate::vec::Sink;
+use crate::reader::base::fault::ReadFault;
+use crate::reader::base::readable::Readable;
+use crate::reader::base::shorten::Shorten;
+use crate::alloc::Allocator;
+use crate::base::{Encode, R, encode_frame};
+
+/// The bytes of a frame.
+///
+/// # Defined
+///
+/// ```text
+/// Value = { List ℕ }
+/// format = { frame any_bytes }
+/// view = { λ b. b.now }
+/// alone = { frame-bytes-alone }
+/// ```
+impl<'a, A: Allocator + Copy> Readable<'a, A> for &'a [u8] {
+    fn read(bytes: &'a [u8], alloc: A) -> Result<(&'a [u8], &'a [u8]), ReadFault> {
+        let (size, rest) = <u32 as Readable<'a, A>>::read(bytes, alloc)?;
+        if rest.len() < size as usize {
+            return Err(ReadFault::Ended);
+        }
+        Ok(rest.split_at(size as usize))
+    }
+}
+
+/// A name: a length, and that many bytes of UTF-8.
+///
+/// # Defined
+///
+/// ```text
+/// Value = { List ℕ }
+/// format = { name }
+/// view = { λ s. s.now }
+/// alone = { name-alone }
+/// ```
+impl<'a, A: Allocator + Copy> Readable<'a, A> for &'a str {
+    fn read(bytes: &'a [u8], alloc: A) -> Result<(&'a str, &'a [u8]), ReadFault> {
+        let (text, rest) = <&'a [u8] as Readable<'a, A>>::read(bytes, alloc)?;
+        match str::from_utf8(text) {
+            Ok(name) => Ok((name, rest)),
+            Err(_) => Err(ReadFault::NotUtf8),
+        }
+    }
+}
+
+/// # Defined
+///
+/// ```text
+/// Value = { List ℕ }
+/// format = { frame any_bytes }
+/// view = { λ b. b.now }
+/// ```
+impl Shorten for &[u8] {
+    fn append_shortest<B: Sink>(&self, out: &mut B) -> R<()> {
+        encode_frame(out, self)
+    }
+}
+
+/// # Defined
+///
+/// ```text
+/// Value = { List ℕ }
+/// format = { name }
+/// view = { λ s. s.now }
+/// ```
+impl Shorten for &str {
+    fn append_shortest<B: Sink>(&self, out: &mut B) -> R<()> {
+        self.encode(out)
+    }
+}

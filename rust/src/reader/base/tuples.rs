@@ -1,0 +1,42 @@
+// Written by tools/to-rust from crates/wasm_reader_base/src/tuples.rt: change that.
+// Values one after the other.
+
+use crate::vec::Sink;
+use crate::reader::base::fault::ReadFault;
+use crate::reader::base::readable::Readable;
+use crate::reader::base::shorten::Shorten;
+use crate::alloc::Allocator;
+use crate::base::R;
+
+/// One value, and then another.
+///
+/// # Defined
+///
+/// ```text
+/// Value = { T.Value × U.Value }
+/// format = { pair T.format U.format }
+/// view = { λ p. (T.view p.0, U.view p.1) }
+/// alone = { pair-alone T.alone U.alone }
+/// ```
+impl<'a, A: Allocator + Copy, T: Readable<'a, A>, U: Readable<'a, A>> Readable<'a, A> for (T, U) {
+    #[inline]
+    fn read(bytes: &'a [u8], alloc: A) -> Result<((T, U), &'a [u8]), ReadFault> {
+        let (first, rest) = T::read(bytes, alloc)?;
+        let (second, rest) = U::read(rest, alloc)?;
+        Ok(((first, second), rest))
+    }
+}
+
+/// # Defined
+///
+/// ```text
+/// Value = { T.Value × U.Value }
+/// format = { pair T.format U.format }
+/// view = { λ p. (T.view p.0, U.view p.1) }
+/// ```
+impl<T: Shorten, U: Shorten> Shorten for (T, U) {
+    fn append_shortest<B: Sink>(&self, out: &mut B) -> R<()> {
+        self.0.append_shortest(out)?;
+        self.1.append_shortest(out)
+    }
+}

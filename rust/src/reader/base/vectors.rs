@@ -1,0 +1,49 @@
+// Written by tools/to-rust from crates/wasm_reader_base/src/vectors.rt: change that.
+// Vectors.
+
+use crate::vec::{Sink, Vec};
+use crate::reader::base::fault::ReadFault;
+use crate::reader::base::readable::Readable;
+use crate::reader::base::shorten::Shorten;
+use crate::alloc::Allocator;
+use crate::base::{Encode, R};
+
+/// A count, and that many members. Memory is taken for members that stand there, and not by the count.
+///
+/// # Defined
+///
+/// ```text
+/// Value = { List T.Value }
+/// format = { vec T.format }
+/// view = { λ v. map T.view v.items }
+/// alone = { vec-alone T.alone }
+/// ```
+impl<'a, A: Allocator + Copy, T: Readable<'a, A>> Readable<'a, A> for Vec<T, A> {
+    fn read(bytes: &'a [u8], alloc: A) -> Result<(Vec<T, A>, &'a [u8]), ReadFault> {
+        let (count, mut rest) = <u32 as Readable<'a, A>>::read(bytes, alloc)?;
+        let mut items = Vec::new(alloc);
+        for _taken in 0..count {
+            let (item, after) = T::read(rest, alloc)?;
+            items.push(item)?;
+            rest = after;
+        }
+        Ok((items, rest))
+    }
+}
+
+/// # Defined
+///
+/// ```text
+/// Value = { List T.Value }
+/// format = { vec T.format }
+/// view = { λ v. map T.view v.items }
+/// ```
+impl<T: Shorten, A: Allocator> Shorten for Vec<T, A> {
+    fn append_shortest<B: Sink>(&self, out: &mut B) -> R<()> {
+        self.len().encode(out)?;
+        for item in self.iter() {
+            item.append_shortest(out)?;
+        }
+        Ok(())
+    }
+}

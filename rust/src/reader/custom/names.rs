@@ -1,0 +1,335 @@
+// Written by tools/to-rust from crates/wasm_reader_custom/src/names.rt: change that.
+// Names of a module and of its parts.
+
+use crate::vec::{Sink, Vec};
+use crate::reader::custom::Here;
+use crate::reader::custom::named::after_name;
+use crate::alloc::{Allocator, Global};
+use crate::base::{Encode, R};
+use crate::reader::base::{Item, ReadFault, Readable, Shorten, frame_since, read_whole};
+
+/// What a subsection of a name section says.
+#[derive(Debug)]
+pub enum NameItem<'a, A: Allocator = Global> {
+    /// The name of the module.
+    Module(&'a str),
+    /// Indices of what the id stands for, as functions, and their names.
+    Map {
+        id: u8,
+        names: Vec<(u32, &'a str), A>,
+    },
+    /// Indices of that in which they stand, as functions for locals, and the indices and names of each.
+    Indirect {
+        id: u8,
+        maps: Vec<(u32, Vec<(u32, &'a str), A>), A>,
+    },
+    /// A subsection of another id.
+    Other {
+        id: u8,
+        bytes: &'a [u8],
+    },
+}
+
+/// What a subsection holds.
+#[derive(Clone, Copy, Debug)]
+enum NameKind {
+    Module,
+    Map,
+    Indirect,
+    Other,
+}
+
+/// What a subsection of the id holds.
+///
+/// # Proved
+///
+/// ```text
+/// ensures { kind_as result ≡ kind_of_id id }
+/// ```
+fn kind_of(id: u8) -> NameKind {
+    match id {
+        0 => NameKind::Module,
+        1 | 4..=9 | 11 => NameKind::Map,
+        2 | 3 | 10 | 12 | 13 => NameKind::Indirect,
+        _ => NameKind::Other,
+    }
+}
+
+/// Indices and names behind their number, which all of the bytes spell.
+///
+/// # Proved
+///
+/// ```text
+/// ensures found { IfOk result (λ x. name_map wide bytes.now (names_of x.items)) }
+/// ensures none { IfErr result (λ e. e ≢ Memory → FillsNothing name_map bytes.now) }
+/// ```
+fn fill_map<'a, A: Allocator + Copy>(
+    bytes: &'a [u8],
+    alloc: A,
+) -> Result<Vec<(u32, &'a str), A>, ReadFault> {
+    let (names, rest) = <Vec<(u32, &'a str), A> as Readable<'a, A>>::read(bytes, alloc)?;
+    if rest.is_empty() {
+        Ok(names)
+    } else {
+        Err(ReadFault::SizeMismatch)
+    }
+}
+
+/// An index, and the indices and names of what is inside.
+///
+/// # Defined
+///
+/// ```text
+/// Value = { Inside }
+/// format = { pair u32 name_map }
+/// view = { inside_of }
+/// alone = { pair-alone u32-alone map-alone }
+/// ```
+impl<'a, A: Allocator + Copy> Item<'a, Here, A> for (u32, Vec<(u32, &'a str), A>) {
+    fn read_item(
+        bytes: &'a [u8],
+        alloc: A,
+    ) -> Result<((u32, Vec<(u32, &'a str), A>), &'a [u8]), ReadFault> {
+        let (index, rest) = <u32 as Readable<'a, A>>::read(bytes, alloc)?;
+        let (names, rest) = <Vec<(u32, &'a str), A> as Readable<'a, A>>::read(rest, alloc)?;
+        Ok(((index, names), rest))
+    }
+}
+
+/// Indices, and the indices and names of each, behind their number, which all of the bytes spell. Memory is taken for those that stand there,
+/// and not by their number.
+///
+/// # Proved
+///
+/// ```text
+/// ensures found { IfOk result (λ x. indirect_map wide bytes.now (map inside_of x.items)) }
+/// ensures none { IfErr result (λ e. e ≢ Memory → FillsNothing indirect_map bytes.now) }
+/// ```
+fn fill_indirect<'a, A: Allocator + Copy>(
+    bytes: &'a [u8],
+    alloc: A,
+) -> Result<Vec<(u32, Vec<(u32, &'a str), A>), A>, ReadFault> {
+    let (count, mut rest) = <u32 as Readable<'a, A>>::read(bytes, alloc)?;
+    let mut items = Vec::new(alloc);
+    for _taken in 0..count {
+        let (item, after) = <(u32, Vec<(u32, &'a str), A>) as Item<'a, Here, A>>::read_item(
+            rest, alloc,
+        )?;
+        items.push(item)?;
+        rest = after;
+    }
+    if rest.is_empty() {
+        Ok(items)
+    } else {
+        Err(ReadFault::SizeMismatch)
+    }
+}
+
+/// What a subsection of the id says, which holds this.
+///
+/// # Proved
+///
+/// ```text
+/// ensures found { IfOk result (λ x. inside (kind_as kind) id wide bytes.now (name_item_of x)) }
+/// ensures none { IfErr result (λ e. e ≢ Memory → FillsNothing (inside (kind_as kind) id) bytes.now) }
+/// ```
+fn fill_subsection<'a, A: Allocator + Copy>(
+    kind: NameKind,
+    id: u8,
+    bytes: &'a [u8],
+    alloc: A,
+) -> Result<NameItem<'a, A>, ReadFault> {
+    match kind {
+        NameKind::Module => {
+            let name = read_whole::<'a, &'a str, A>(bytes, alloc)?;
+            Ok(NameItem::Module(name))
+        }
+        NameKind::Map => {
+            let names = fill_map(bytes, alloc)?;
+            Ok(NameItem::Map { id, names })
+        }
+        NameKind::Indirect => {
+            let maps = fill_indirect(bytes, alloc)?;
+            Ok(NameItem::Indirect { id, maps })
+        }
+        NameKind::Other => Ok(NameItem::Other { id, bytes }),
+    }
+}
+
+/// # Defined
+///
+/// ```text
+/// Value = { NameModel }
+/// format = { subsection }
+/// view = { name_item_of }
+/// alone = { subsection-alone }
+/// ```
+impl<'a, A: Allocator + Copy> Item<'a, Here, A> for NameItem<'a, A> {
+    fn read_item(bytes: &'a [u8], alloc: A) -> Result<(NameItem<'a, A>, &'a [u8]), ReadFault> {
+        let (id, rest) = <u8 as Readable<'a, A>>::read(bytes, alloc)?;
+        let (content, rest) = <&'a [u8] as Readable<'a, A>>::read(rest, alloc)?;
+        let item = fill_subsection(kind_of(id), id, content, alloc)?;
+        Ok((item, rest))
+    }
+}
+
+/// Subsections up to the last byte.
+///
+/// # Proved
+///
+/// ```text
+/// ensures found { IfOk result (λ x. members subsection wide bytes.now (map name_item_of x.items)) }
+/// ensures none { IfErr result (λ e. e ≢ Memory → FillsNothing (members subsection) bytes.now) }
+/// ```
+fn fill_subsections<'a, A: Allocator + Copy>(
+    bytes: &'a [u8],
+    alloc: A,
+) -> Result<Vec<NameItem<'a, A>, A>, ReadFault> {
+    let mut items = Vec::new(alloc);
+    let mut rest = bytes;
+    loop {
+        if rest.is_empty() {
+            return Ok(items);
+        }
+        let (item, after) = <NameItem<'a, A> as Item<'a, Here, A>>::read_item(rest, alloc)?;
+        items.push(item)?;
+        rest = after;
+    }
+}
+
+/// The subsections of a name section.
+///
+/// # Proved
+///
+/// ```text
+/// ensures found { IfOk result (λ x. name_payload wide bytes.now (map name_item_of x.items)) }
+/// ensures none { IfErr result (λ e. e ≢ Memory → FillsNothing name_payload bytes.now) }
+/// ```
+pub fn read_names<'a, A: Allocator + Copy>(
+    bytes: &'a [u8],
+    alloc: A,
+) -> Result<Vec<NameItem<'a, A>, A>, ReadFault> {
+    let rest = after_name("name", bytes, alloc)?;
+    let items = fill_subsections(rest, alloc)?;
+    Ok(items)
+}
+
+/// Appends an index, and the indices and names of what is inside.
+///
+/// # Proved
+///
+/// ```text
+/// ensures { OnOk result (AppendsShortest (pair u32 name_map) (inside_of given.now) out.old.items out.new.items) }
+/// ```
+fn append_inside<'a, A: Allocator, B: Sink>(
+    given: &(u32, Vec<(u32, &'a str), A>),
+    out: &mut B,
+) -> R<()> {
+    let (index, names) = given;
+    index.append_shortest(out)?;
+    names.append_shortest(out)
+}
+
+/// Appends indices, and the indices and names of each, behind their number.
+///
+/// # Proved
+///
+/// ```text
+/// ensures { OnOk result (AppendsShortest indirect_map (map inside_of items.now) out.old.items out.new.items) }
+/// ```
+fn append_indirect<'a, A: Allocator, B: Sink>(
+    items: &[(u32, Vec<(u32, &'a str), A>)],
+    out: &mut B,
+) -> R<()> {
+    items.len().encode(out)?;
+    for item in items {
+        append_inside(item, out)?;
+    }
+    Ok(())
+}
+
+impl<'a, A: Allocator> NameItem<'a, A> {
+    /// The id of the subsection.
+    ///
+    /// # Proved
+    ///
+    /// ```text
+    /// ensures { result ≡ id_of (name_item_of self.now) }
+    /// ```
+    fn id(&self) -> u8 {
+        match self {
+            NameItem::Module(_) => 0,
+            NameItem::Map { id, .. } => *id,
+            NameItem::Indirect { id, .. } => *id,
+            NameItem::Other { id, .. } => *id,
+        }
+    }
+
+    /// Appends what the frame of the subsection holds.
+    ///
+    /// # Proved
+    ///
+    /// ```text
+    /// ensures { OnOk result (AppendsShortest (inside (held_by (name_item_of self.now)) (id_of (name_item_of self.now))) (name_item_of self.now) out.old.items out.new.items) }
+    /// ```
+    fn append_content<B: Sink>(&self, out: &mut B) -> R<()> {
+        match self {
+            NameItem::Module(name) => name.append_shortest(out),
+            NameItem::Map { names, .. } => names.append_shortest(out),
+            NameItem::Indirect { maps, .. } => append_indirect(maps, out),
+            NameItem::Other { bytes, .. } => {
+                out.extend_from_slice(bytes)?;
+                Ok(())
+            }
+        }
+    }
+}
+
+/// # Defined
+///
+/// ```text
+/// Value = { NameModel }
+/// format = { subsection }
+/// view = { name_item_of }
+/// ```
+impl<'a, A: Allocator> Shorten for NameItem<'a, A> {
+    fn append_shortest<B: Sink>(&self, out: &mut B) -> R<()> {
+        self.id().encode(out)?;
+        let start = out.len();
+        self.append_content(out)?;
+        frame_since(out, start)
+    }
+}
+
+/// Appends subsections.
+///
+/// # Proved
+///
+/// ```text
+/// ensures { OnOk result (AppendsShortest (members subsection) (map name_item_of items.now) out.old.items out.new.items) }
+/// ```
+fn append_subsections<A: Allocator, B: Sink>(
+    items: &[NameItem<'_, A>],
+    out: &mut B,
+) -> R<()> {
+    for item in items {
+        item.append_shortest(out)?;
+    }
+    Ok(())
+}
+
+/// Appends the shortest text of what a name section of these subsections holds, where some bytes are read as it. After a refusal a part of it may
+/// stand there.
+///
+/// # Proved
+///
+/// ```text
+/// ensures { OnOk result (AppendsShortest name_payload (map name_item_of items.now) out.old.items out.new.items) }
+/// ```
+pub fn append_names<A: Allocator, B: Sink>(
+    items: &[NameItem<'_, A>],
+    out: &mut B,
+) -> R<()> {
+    "name".encode(out)?;
+    append_subsections(items, out)
+}

@@ -1,0 +1,112 @@
+// Written by tools/to-rust from crates/wasm_reader_insn/src/body.rt: change that.
+// Lists of instructions up to the last byte, and functions' bodies.
+
+use crate::vec::{Sink, Vec};
+use crate::reader::insn::instruction::Plain;
+use crate::alloc::{Allocator, Global};
+use crate::base::{R, ValType};
+use crate::reader::base::{Filled, Filling, ReadFault, Readable, Shorten, frame_since};
+
+/// Instructions up to the last byte.
+#[derive(Debug)]
+pub struct Code<A: Allocator = Global>(pub Vec<Plain<A>, A>);
+
+/// # Defined
+///
+/// ```text
+/// Value = { List PlainInstruction }
+/// format = { members (instruction table) }
+/// view = { λ c. map plain_of c.0.items }
+/// whole = { lists-whole }
+/// ```
+impl<'a, A: Allocator + Copy> Filling<'a, A> for Code<A> {
+    fn fill(bytes: &'a [u8], alloc: A) -> Result<Code<A>, ReadFault> {
+        let mut items = Vec::new(alloc);
+        let mut rest = bytes;
+        loop {
+            if rest.is_empty() {
+                return Ok(Code(items));
+            }
+            let (item, after) = <Plain<A> as Readable<'a, A>>::read(rest, alloc)?;
+            items.push(item)?;
+            rest = after;
+        }
+    }
+}
+
+/// Appends the shortest texts of the instructions.
+///
+/// # Proved
+///
+/// ```text
+/// ensures { OnOk result (AppendsShortest (members (instruction table)) (map plain_of code.now) out.old.items out.new.items) }
+/// ```
+pub(in crate::reader::insn) fn append_code<A: Allocator, B: Sink>(
+    code: &[Plain<A>],
+    out: &mut B,
+) -> R<()> {
+    for instruction in code {
+        instruction.append_shortest(out)?;
+    }
+    Ok(())
+}
+
+/// A function's body: the runs of its locals, each a count and a type, and its instructions, each `End` among them.
+#[derive(Debug)]
+pub struct Body<A: Allocator = Global> {
+    pub runs: Vec<(u32, ValType), A>,
+    pub code: Vec<Plain<A>, A>,
+}
+
+/// The bytes of a body, without its size.
+///
+/// # Defined
+///
+/// ```text
+/// Value = { BodyModel }
+/// format = { body }
+/// view = { body_of }
+/// whole = { body-whole }
+/// ```
+impl<'a, A: Allocator + Copy> Filling<'a, A> for Body<A> {
+    fn fill(bytes: &'a [u8], alloc: A) -> Result<Body<A>, ReadFault> {
+        let (runs, rest) = <Vec<(u32, ValType), A> as Readable<'a, A>>::read(bytes, alloc)?;
+        let Code(code) = <Code<A> as Filling<'a, A>>::fill(rest, alloc)?;
+        Ok(Body { runs, code })
+    }
+}
+
+/// A body in its frame, as it stands in a code section.
+///
+/// # Defined
+///
+/// ```text
+/// Value = { BodyModel }
+/// format = { frame body }
+/// view = { body_of }
+/// alone = { frame-body-alone }
+/// ```
+impl<'a, A: Allocator + Copy> Readable<'a, A> for Body<A> {
+    fn read(bytes: &'a [u8], alloc: A) -> Result<(Body<A>, &'a [u8]), ReadFault> {
+        let (Filled(body), rest) = <Filled<Body<A>> as Readable<'a, A>>::read(bytes, alloc)?;
+        Ok((body, rest))
+    }
+}
+
+/// The same: the text is that of the frame.
+///
+/// # Defined
+///
+/// ```text
+/// Value = { BodyModel }
+/// format = { frame body }
+/// view = { body_of }
+/// ```
+impl<A: Allocator> Shorten for Body<A> {
+    fn append_shortest<B: Sink>(&self, out: &mut B) -> R<()> {
+        let start = out.len();
+        self.runs.append_shortest(out)?;
+        append_code(&self.code, out)?;
+        frame_since(out, start)
+    }
+}

@@ -1,0 +1,57 @@
+// Written by tools/to-rust from crates/wasm_reader_insn/src/expression.rt: change that.
+// Constant expressions: instructions up to `End`.
+
+use crate::vec::{Sink, Vec};
+use crate::reader::insn::body::append_code;
+use crate::reader::insn::instruction::Plain;
+use crate::alloc::{Allocator, Global};
+use crate::base::R;
+use crate::reader::base::{ReadFault, Readable, Shorten};
+
+/// The opcode of `End`.
+pub(in crate::reader::insn) const END: u8 = 0x0B;
+
+/// The instructions of a constant expression, without the `End` that ends it.
+#[derive(Debug)]
+pub struct Expression<A: Allocator = Global>(pub Vec<Plain<A>, A>);
+
+/// # Defined
+///
+/// ```text
+/// Value = { List PlainInstruction }
+/// format = { expression }
+/// view = { λ e. map plain_of e.0.items }
+/// alone = { expression-alone }
+/// ```
+impl<'a, A: Allocator + Copy> Readable<'a, A> for Expression<A> {
+    fn read(bytes: &'a [u8], alloc: A) -> Result<(Expression<A>, &'a [u8]), ReadFault> {
+        let mut items = Vec::new(alloc);
+        let mut rest = bytes;
+        loop {
+            let [first, after @ ..] = rest else {
+                return Err(ReadFault::Ended);
+            };
+            if *first == END {
+                return Ok((Expression(items), after));
+            }
+            let (item, after) = <Plain<A> as Readable<'a, A>>::read(rest, alloc)?;
+            items.push(item)?;
+            rest = after;
+        }
+    }
+}
+
+/// # Defined
+///
+/// ```text
+/// Value = { List PlainInstruction }
+/// format = { expression }
+/// view = { λ e. map plain_of e.0.items }
+/// ```
+impl<A: Allocator> Shorten for Expression<A> {
+    fn append_shortest<B: Sink>(&self, out: &mut B) -> R<()> {
+        append_code(&self.0, out)?;
+        out.push(END)?;
+        Ok(())
+    }
+}

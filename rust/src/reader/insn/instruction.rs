@@ -1,0 +1,92 @@
+// Written by tools/to-rust from crates/wasm_reader_insn/src/instruction.rt: change that.
+// Instructions: an opcode, and an argument for each part of its shape.
+
+use crate::vec::{Sink, Vec};
+use crate::reader::insn::arguments::{Arg, append_arguments, read_arguments, read_arguments_into};
+use crate::alloc::{Allocator, Global};
+use crate::base::{Encode, R};
+use crate::insn::Op;
+use crate::reader::base::{ReadFault, Readable, Shorten};
+
+/// An instruction in normal form: its opcode, and an argument for each part of the opcode's shape.
+#[derive(Debug)]
+pub struct Plain<A: Allocator = Global> {
+    pub op: Op,
+    pub args: Vec<Arg<A>, A>,
+}
+
+/// The opcode that the bytes begin with, and the bytes after it.
+///
+/// # Proved
+///
+/// ```text
+/// ensures found { IfOk result (λ x. Reads opcode wide bytes.now x.0 x.1.now) }
+/// ensures none { IfErr result (λ e. e ≢ Memory → ReadsNothing opcode wide bytes.now) }
+/// ```
+#[inline]
+fn read_op<'a, A: Allocator + Copy>(bytes: &'a [u8], alloc: A) -> Result<(Op, &'a [u8]), ReadFault> {
+    let (byte, rest) = <u8 as Readable<'a, A>>::read(bytes, alloc)?;
+    if byte < 0xFB {
+        return Ok((Op::Byte(byte), rest));
+    }
+    if byte == 0xFF {
+        return Ok((Op::Byte(byte), rest));
+    }
+    let (number, rest) = <u32 as Readable<'a, A>>::read(rest, alloc)?;
+    Ok((Op::Prefixed(byte, number), rest))
+}
+
+/// # Defined
+///
+/// ```text
+/// Value = { PlainInstruction }
+/// format = { instruction table }
+/// view = { plain_of }
+/// alone = { alone }
+/// ```
+impl<'a, A: Allocator + Copy> Readable<'a, A> for Plain<A> {
+    fn read(bytes: &'a [u8], alloc: A) -> Result<(Plain<A>, &'a [u8]), ReadFault> {
+        let (op, rest) = read_op(bytes, alloc)?;
+        let Some(shape) = op.shape() else {
+            return Err(ReadFault::UnknownOpcode);
+        };
+        let (args, rest) = read_arguments(shape, rest, alloc)?;
+        Ok((Plain { op, args }, rest))
+    }
+}
+
+/// The opcode of the instruction that the bytes begin with, and the bytes after the instruction. Its arguments are in the list, which
+/// loses what it had.
+///
+/// # Proved
+///
+/// ```text
+/// ensures found { IfOk result (λ x. Reads (instruction table) wide bytes.now (record { op = x.0; arguments = map argument_of args.new.items }) x.1.now) }
+/// ensures none { IfErr result (λ e. e ≢ Memory → ReadsNothing (instruction table) wide bytes.now) }
+/// ```
+pub(in crate::reader::insn) fn read_instruction_into<'a, A: Allocator + Copy>(
+    bytes: &'a [u8],
+    alloc: A,
+    args: &mut Vec<Arg<A>, A>,
+) -> Result<(Op, &'a [u8]), ReadFault> {
+    let (op, rest) = read_op(bytes, alloc)?;
+    let Some(shape) = op.shape() else {
+        return Err(ReadFault::UnknownOpcode);
+    };
+    let rest = read_arguments_into(shape, rest, alloc, args)?;
+    Ok((op, rest))
+}
+
+/// # Defined
+///
+/// ```text
+/// Value = { PlainInstruction }
+/// format = { instruction table }
+/// view = { plain_of }
+/// ```
+impl<A: Allocator> Shorten for Plain<A> {
+    fn append_shortest<B: Sink>(&self, out: &mut B) -> R<()> {
+        self.op.encode(out)?;
+        append_arguments(&self.args, out)
+    }
+}

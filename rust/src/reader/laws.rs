@@ -1,0 +1,11 @@
+// Written by tools/to-rust from crates/wasm_reader/src/laws.rt: change that.
+//! What is promised of all lists of bytes, and not of a call: the function does nothing, and its clause is the promise.
+
+/// Two sections of a kind that are shortened gain one text exactly where they are read as the same items.
+///
+/// # Proved
+///
+/// ```text
+/// ensures { HaveOneText }
+/// ```
+pub fn texts() {}

@@ -1,0 +1,36 @@
+// Written by tools/to-rust from crates/wasm_reader/src/lib.rt: change that.
+//! Reads sections, exactly: an answer is the items that the grammar reads there, with padded numbers too, and a cause other than
+//! [`ReadFault::Memory`] says that no reading exists.
+//!
+//! [`read_section`] reads a section of a [`SectionKind`], without its id, into [`Items`], and [`shorten`] writes it in its fewest bytes. A custom section is
+//! read as what its name stands for, or, as any is, as its name and data.
+//!
+//! [`ReadFault::Memory`]: crate::reader::base::ReadFault::Memory
+
+pub mod base;
+pub mod custom;
+pub mod insn;
+mod data;
+mod elements;
+mod exports;
+mod globals;
+mod imports;
+pub mod laws;
+mod limits;
+mod modules;
+mod section;
+mod shortest;
+mod tables;
+mod tags;
+
+pub use data::Segment;
+pub use elements::{ElementItem, ElementItemMode, ElementList};
+pub use globals::GlobalItem;
+pub use modules::{Listed, list_module};
+pub use section::{Items, SectionKind, read_section};
+pub use shortest::shorten;
+pub use tables::TableItem;
+
+/// This crate, which says how items of other crates are read.
+#[derive(Clone, Copy, Debug)]
+pub(in crate::reader) struct Here;

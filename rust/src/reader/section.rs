@@ -1,0 +1,222 @@
+// Written by tools/to-rust from crates/wasm_reader/src/section.rt: change that.
+// Whole sections.
+
+use crate::vec::Vec;
+use crate::reader::Here;
+use crate::reader::data::{Segment, read_segments};
+use crate::reader::elements::ElementItem;
+use crate::reader::globals::GlobalItem;
+use crate::reader::imports::read_imports;
+use crate::reader::tables::TableItem;
+use crate::alloc::{Allocator, Global};
+use crate::custom::BranchHint;
+use crate::reader::base::{ReadFault, Readable, read_list, read_whole};
+use crate::reader::custom::{CoreFrame, LinkItem, NameItem, read_hints, read_instances, read_links, read_modules, read_names, read_process, read_producers, read_stack};
+use crate::reader::insn::Body;
+use crate::sections::{Export, Imports, MemoryType, TagType};
+
+/// What a section is read as.
+#[derive(Clone, Copy, PartialEq, Eq, Debug)]
+pub enum SectionKind {
+    /// The code section: functions' bodies.
+    Bodies,
+    /// The data section.
+    Segments,
+    DataCount,
+    Elements,
+    Exports,
+    Functions,
+    Globals,
+    Imports,
+    Memories,
+    Start,
+    Tables,
+    Tags,
+    /// The name section: names of the module and of its parts.
+    Names,
+    /// The linking section: symbols, and the architecture of the target.
+    Linking,
+    /// The producers section: which tools made the module.
+    Producers,
+    /// The branch hint section.
+    Hints,
+    /// Of a core dump: the process.
+    Core,
+    /// Of a core dump: the modules of the process.
+    CoreModules,
+    /// Of a core dump: the instances of the process.
+    CoreInstances,
+    /// Of a core dump: the stack of a thread.
+    CoreStack,
+    /// A custom section of any name.
+    Custom,
+    /// A section of any bytes.
+    Raw,
+}
+
+/// The items of a section. Names, data and raw parts are slices of the input; lists are in memory of the allocator.
+#[derive(Debug)]
+pub enum Items<'a, A: Allocator = Global> {
+    Bodies(Vec<Body<A>, A>),
+    Segments(Vec<Segment<'a, A>, A>),
+    DataCount(u32),
+    Elements(Vec<ElementItem<A>, A>),
+    Exports(Vec<Export<'a>, A>),
+    /// The indices of the functions' types.
+    Functions(Vec<u32, A>),
+    Globals(Vec<GlobalItem<A>, A>),
+    /// Imports and groups of them, whose lists are owned.
+    Imports(Vec<Imports<'a, A>, A>),
+    Memories(Vec<MemoryType, A>),
+    /// The index of a function.
+    Start(u32),
+    Tables(Vec<TableItem<A>, A>),
+    Tags(Vec<TagType, A>),
+    Names(Vec<NameItem<'a, A>, A>),
+    Linking(Vec<LinkItem<'a, A>, A>),
+    /// The name of each field, and its values: a name and a version each.
+    Producers(Vec<(&'a str, Vec<(&'a str, &'a str), A>), A>),
+    /// The index of each function that has hints, and these.
+    Hints(Vec<(u32, Vec<BranchHint, A>), A>),
+    /// The name of the process.
+    Core(&'a str),
+    /// The names of the modules.
+    CoreModules(Vec<&'a str, A>),
+    /// The index of its module, the memories and the globals of each instance.
+    CoreInstances(Vec<(u32, Vec<u32, A>, Vec<u32, A>), A>),
+    /// The name of the thread, and the frames of its stack.
+    CoreStack {
+        thread: &'a str,
+        frames: Vec<CoreFrame<A>, A>,
+    },
+    Custom {
+        name: &'a str,
+        bytes: &'a [u8],
+    },
+    Raw(&'a [u8]),
+}
+
+/// What the frame of a section of the kind holds.
+///
+/// # Proved
+///
+/// ```text
+/// ensures found { IfOk result (λ x. content kind wide bytes.now (contents_of x)) }
+/// ensures none { IfErr result (λ e. e ≢ Memory → FillsNothing (content kind) bytes.now) }
+/// ```
+pub(in crate::reader) fn read_content<'a, A: Allocator + Copy>(
+    kind: SectionKind,
+    bytes: &'a [u8],
+    alloc: A,
+) -> Result<Items<'a, A>, ReadFault> {
+    match kind {
+        SectionKind::Bodies => {
+            let items = read_whole::<'a, Vec<Body<A>, A>, A>(bytes, alloc)?;
+            Ok(Items::Bodies(items))
+        }
+        SectionKind::Segments => {
+            let items = read_segments(bytes, alloc)?;
+            Ok(Items::Segments(items))
+        }
+        SectionKind::DataCount => {
+            let items = read_whole::<'a, u32, A>(bytes, alloc)?;
+            Ok(Items::DataCount(items))
+        }
+        SectionKind::Elements => {
+            let items = read_whole::<'a, Vec<ElementItem<A>, A>, A>(bytes, alloc)?;
+            Ok(Items::Elements(items))
+        }
+        SectionKind::Exports => {
+            let items = read_list::<'a, Export<'a>, Here, A>(bytes, alloc)?;
+            Ok(Items::Exports(items))
+        }
+        SectionKind::Functions => {
+            let items = read_whole::<'a, Vec<u32, A>, A>(bytes, alloc)?;
+            Ok(Items::Functions(items))
+        }
+        SectionKind::Globals => {
+            let items = read_whole::<'a, Vec<GlobalItem<A>, A>, A>(bytes, alloc)?;
+            Ok(Items::Globals(items))
+        }
+        SectionKind::Imports => {
+            let items = read_imports(bytes, alloc)?;
+            Ok(Items::Imports(items))
+        }
+        SectionKind::Memories => {
+            let items = read_list::<'a, MemoryType, Here, A>(bytes, alloc)?;
+            Ok(Items::Memories(items))
+        }
+        SectionKind::Start => {
+            let items = read_whole::<'a, u32, A>(bytes, alloc)?;
+            Ok(Items::Start(items))
+        }
+        SectionKind::Tables => {
+            let items = read_whole::<'a, Vec<TableItem<A>, A>, A>(bytes, alloc)?;
+            Ok(Items::Tables(items))
+        }
+        SectionKind::Tags => {
+            let items = read_list::<'a, TagType, Here, A>(bytes, alloc)?;
+            Ok(Items::Tags(items))
+        }
+        SectionKind::Names => {
+            let items = read_names(bytes, alloc)?;
+            Ok(Items::Names(items))
+        }
+        SectionKind::Linking => {
+            let items = read_links(bytes, alloc)?;
+            Ok(Items::Linking(items))
+        }
+        SectionKind::Producers => {
+            let items = read_producers(bytes, alloc)?;
+            Ok(Items::Producers(items))
+        }
+        SectionKind::Hints => {
+            let items = read_hints(bytes, alloc)?;
+            Ok(Items::Hints(items))
+        }
+        SectionKind::Core => {
+            let items = read_process(bytes, alloc)?;
+            Ok(Items::Core(items))
+        }
+        SectionKind::CoreModules => {
+            let items = read_modules(bytes, alloc)?;
+            Ok(Items::CoreModules(items))
+        }
+        SectionKind::CoreInstances => {
+            let items = read_instances(bytes, alloc)?;
+            Ok(Items::CoreInstances(items))
+        }
+        SectionKind::CoreStack => {
+            let (thread, frames) = read_stack(bytes, alloc)?;
+            Ok(Items::CoreStack { thread, frames })
+        }
+        SectionKind::Custom => {
+            let (name, bytes) = <&'a str as Readable<'a, A>>::read(bytes, alloc)?;
+            Ok(Items::Custom { name, bytes })
+        }
+        SectionKind::Raw => Ok(Items::Raw(bytes)),
+    }
+}
+
+/// The items of the section that the bytes begin with, and how many bytes it takes. The bytes begin at the section's size, behind its id.
+///
+/// ```text
+/// let (items, taken) = read_section(SectionKind::Functions, &[0x02, 0x01, 0x05, 0x99], alloc)?;
+/// // items are the one index 5, and 3 bytes were taken
+/// ```
+///
+/// # Proved
+///
+/// ```text
+/// ensures found { IfOk result (λ x. Takes kind bytes.now (contents_of x.0) x.1) }
+/// ensures none { IfErr result (λ e. e ≢ Memory → ReadsNothing (section kind) wide bytes.now) }
+/// ```
+pub fn read_section<'a, A: Allocator + Copy>(
+    kind: SectionKind,
+    bytes: &'a [u8],
+    alloc: A,
+) -> Result<(Items<'a, A>, usize), ReadFault> {
+    let (framed, rest) = <&'a [u8] as Readable<'a, A>>::read(bytes, alloc)?;
+    let items = read_content(kind, framed, alloc)?;
+    Ok((items, bytes.len() - rest.len()))
+}

@@ -1,0 +1,80 @@
+// Written by tools/to-rust from crates/wasm_reader/src/shortest.rt: change that.
+// Sections, written as shortly as can be.
+
+use crate::vec::{Sink, Vec};
+use crate::reader::data::append_segments;
+use crate::reader::imports::append_imports;
+use crate::reader::section::{Items, SectionKind, read_section};
+use crate::alloc::Allocator;
+use crate::base::{Encode, R, encode_frame};
+use crate::reader::base::{ReadFault, Shorten};
+use crate::reader::custom::{append_hints, append_instances, append_links, append_modules, append_names, append_process, append_producers, append_stack};
+
+/// Appends the shortest text of what the frame of a section holds.
+///
+/// # Proved
+///
+/// ```text
+/// ensures { OnOk result (AppendsShortest (content (kind_in (contents_of items.entry))) (contents_of items.entry) out.old.items out.new.items) }
+/// ```
+fn append_content<A: Allocator, B: Sink>(items: Items<'_, A>, out: &mut B) -> R<()> {
+    match items {
+        Items::Bodies(items) => items.append_shortest(out),
+        Items::Segments(items) => append_segments(&items, out),
+        Items::DataCount(count) => count.append_shortest(out),
+        Items::Elements(items) => items.append_shortest(out),
+        Items::Exports(items) => items.as_slice().encode(out),
+        Items::Functions(items) => items.append_shortest(out),
+        Items::Globals(items) => items.append_shortest(out),
+        Items::Imports(items) => append_imports(&items, out),
+        Items::Memories(items) => items.as_slice().encode(out),
+        Items::Start(index) => index.append_shortest(out),
+        Items::Tables(items) => items.append_shortest(out),
+        Items::Tags(items) => items.as_slice().encode(out),
+        Items::Names(items) => append_names(&items, out),
+        Items::Linking(items) => append_links(&items, out),
+        Items::Producers(items) => append_producers(&items, out),
+        Items::Hints(items) => append_hints(&items, out),
+        Items::Core(name) => append_process(name, out),
+        Items::CoreModules(items) => append_modules(&items, out),
+        Items::CoreInstances(items) => append_instances(&items, out),
+        Items::CoreStack { thread, frames } => append_stack(thread, &frames, out),
+        Items::Custom { name, bytes } => {
+            name.append_shortest(out)?;
+            out.extend_from_slice(bytes)?;
+            Ok(())
+        }
+        Items::Raw(bytes) => {
+            out.extend_from_slice(bytes)?;
+            Ok(())
+        }
+    }
+}
+
+/// Appends the one shortest text of the section that the bytes begin with, and tells how many bytes it takes there. Both are without the
+/// section's id. A refused call leaves the bytes of the sink as they were.
+///
+/// ```text
+/// let taken = shorten(SectionKind::Functions, &[0x86, 0x00, 0x01, 0x85, 0x80, 0x80, 0x80, 0x00], alloc, &mut sink)?;
+/// // 02 01 05 was appended, and 8 bytes were taken
+/// ```
+///
+/// # Proved
+///
+/// ```text
+/// ensures ok { IfOk result (λ n. Shortens kind bytes.now n sink.old.items sink.new.items) }
+/// ensures err { OnErr result (sink.new.items ≡ sink.old.items) }
+/// ensures none { IfErr result (λ e. e ≢ Memory → ReadsNothing (section kind) wide bytes.now) }
+/// ```
+pub fn shorten<A: Allocator + Copy, B: Sink>(
+    kind: SectionKind,
+    bytes: &[u8],
+    alloc: A,
+    sink: &mut B,
+) -> Result<usize, ReadFault> {
+    let (items, taken) = read_section(kind, bytes, alloc)?;
+    let mut content = Vec::new(alloc);
+    append_content(items, &mut content)?;
+    encode_frame(sink, &content)?;
+    Ok(taken)
+}

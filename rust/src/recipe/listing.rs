@@ -1,0 +1,90 @@
+// Written by tools/to-rust from crates/wasm_tool/src/listing.rt: change that.
+// A module's sections, as lines of text.
+
+use crate::vec::Vec;
+use crate::string::String;
+use crate::recipe::program::{Trouble, unlisted};
+use crate::hex::FromHexError;
+use crate::alloc::{AllocError, Allocator};
+use crate::reader::{Listed, list_module};
+
+/// The line of a section: its id, its size and its number of items.
+///
+/// # Proved
+///
+/// ```text
+/// ensures { OnOk result (string_bytes text.new ≡ string_bytes text.old ++ line_of section.now) }
+/// ```
+fn push_line<A: Allocator>(text: &mut String<A>, section: &Listed) -> Result<(), AllocError> {
+    let id = section.id;
+    let size = section.size;
+    match section.items {
+        Some(items) => writeln!(text, "{id} {size} {items}"),
+        None => writeln!(text, "{id} {size} -"),
+    }
+}
+
+/// The lines of the sections.
+///
+/// # Proved
+///
+/// ```text
+/// ensures { IfOk result (λ text. string_bytes text ≡ listing_of sections.now) }
+/// ```
+fn lines<A: Allocator>(alloc: A, sections: &[Listed]) -> Result<String<A>, AllocError> {
+    let mut text = String::new(alloc);
+    for section in sections {
+        push_line(&mut text, section)?;
+    }
+    Ok(text)
+}
+
+/// The text without the spaces and line ends at its end.
+///
+/// # Proved
+///
+/// ```text
+/// ensures { DropsBlanks text.now result.now }
+/// ```
+fn without_end(text: &[u8]) -> &[u8] {
+    let mut text = text;
+    while let [front @ .., b' ' | b'\r' | b'\n'] = text {
+        text = front;
+    }
+    text
+}
+
+/// The bytes that a hexadecimal text tells.
+///
+/// # Proved
+///
+/// ```text
+/// ensures bytes { IfOk result (λ bytes. IsHexText text.now bytes.items) }
+/// ensures usage { IfErr result (λ trouble. trouble ≢ Usage) }
+/// ```
+fn hex_bytes<A: Allocator>(alloc: A, text: &[u8]) -> Result<Vec<u8, A>, Trouble> {
+    if str::from_utf8(text).is_err() {
+        return Err(Trouble::NotText);
+    }
+    crate::hex::decode(alloc, without_end(text)).map_err(|e| match e {
+        FromHexError::OutOfMemory => unlisted(),
+        _ => Trouble::BadHex,
+    })
+}
+
+/// What is written for the hexadecimal text of a module.
+///
+/// # Proved
+///
+/// ```text
+/// ensures listed { IfOk result (λ lines. Lists text.now (string_bytes lines)) }
+/// ensures usage { IfErr result (λ trouble. trouble ≢ Usage) }
+/// ```
+pub(in crate::recipe) fn listing<A: Allocator + Copy>(alloc: A, text: &[u8]) -> Result<String<A>, Trouble> {
+    let bytes = hex_bytes(alloc, text)?;
+    let sections = list_module(&bytes, alloc).map_err(|(number, fault)| Trouble::Section {
+        number,
+        fault,
+    })?;
+    lines(alloc, &sections).map_err(|_| unlisted())
+}

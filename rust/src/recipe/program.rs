@@ -1,0 +1,272 @@
+// Written by tools/to-rust from crates/wasm_tool/src/program.rt: change that.
+// The program: from standard input to hexadecimal text, and with `--read` from that to a list of sections.
+
+use crate::vec::Vec;
+use crate::string::String;
+use crate::recipe::fault::{RecipeCause, RecipeFault};
+use crate::recipe::listing::listing;
+use crate::recipe::recipe::assemble;
+use crate::alloc::{AllocError, Allocator};
+use std::io::{Read, Write};
+use crate::reader::base::ReadFault;
+
+/// Why the program gives no answer.
+#[derive(Debug)]
+pub(in crate::recipe) enum Trouble {
+    Usage,
+    NotText,
+    BadHex,
+    Recipe(RecipeFault),
+    Section { number: usize, fault: ReadFault },
+}
+
+/// Memory was refused, and at no line of a recipe.
+///
+/// # Defined
+///
+/// ```text
+/// from_gives = { λ _ trouble. IsLateRefusal trouble }
+/// ```
+impl From<AllocError> for Trouble {
+    fn from(_e: AllocError) -> Trouble {
+        Trouble::Recipe(RecipeFault {
+            line: 0,
+            cause: RecipeCause::Memory,
+        })
+    }
+}
+
+/// Memory was refused, and not at a section of a module.
+///
+/// # Proved
+///
+/// ```text
+/// ensures { result ≡ troubles.Section 0 faults.Memory }
+/// ```
+pub(in crate::recipe) fn unlisted() -> Trouble {
+    Trouble::Section {
+        number: 0,
+        fault: ReadFault::Memory,
+    }
+}
+
+/// How often the input is asked for bytes, and for how many.
+const MOST_READS: u32 = 1048576;
+
+const READ_SIZE: usize = 4096;
+
+/// Why the input was not read to its end.
+#[derive(Debug)]
+enum Unread {
+    NotText,
+    Memory,
+}
+
+/// # Defined
+///
+/// ```text
+/// from_gives = { λ _ unread. unread ≡ Memory }
+/// ```
+impl From<AllocError> for Unread {
+    fn from(_e: AllocError) -> Unread {
+        Unread::Memory
+    }
+}
+
+/// All that a reader gives. A reader that fails, or does not end in time, gives no text.
+///
+/// # Proved
+///
+/// ```text
+/// ensures bytes { IfOk result (λ bytes. Consumes (R.remaining input.old) (R.remaining input.new) bytes.items) }
+/// ensures end { IfOk result (λ _. IsAtEnd (R.remaining input.new)) }
+/// ```
+fn read_to_end<A: Allocator, R: Read>(alloc: A, input: &mut R) -> Result<Vec<u8, A>, Unread> {
+    let mut bytes = Vec::new(alloc);
+    let mut chunk = [0; READ_SIZE];
+    for _turn in 0..MOST_READS {
+        let Ok(count) = input.read(&mut chunk) else {
+            return Err(Unread::NotText);
+        };
+        if count == 0 {
+            return Ok(bytes);
+        }
+        bytes.extend_from_slice(&chunk[..count])?;
+    }
+    Err(Unread::NotText)
+}
+
+/// The line that is written for a recipe.
+///
+/// # Proved
+///
+/// ```text
+/// ensures text { IfOk result (λ _. IsUtf8 recipe.now) }
+/// ensures good { IfOk result (λ _. All IsGood (lines_of recipe.now)) }
+/// ensures line { IfOk result (λ line. string_bytes line ≡ hex_line_of recipe.now) }
+/// ensures usage { IfErr result (λ trouble. trouble ≢ troubles.Usage) }
+/// ```
+fn hex_line<A: Allocator + Copy>(alloc: A, recipe: &[u8]) -> Result<String<A>, Trouble> {
+    let text = str::from_utf8(recipe).map_err(|_| Trouble::NotText)?;
+    let module = assemble(alloc, text).map_err(Trouble::Recipe)?;
+    let mut line = crate::hex::encode(alloc, &module)?;
+    line.reserve_exact(1)?;
+    line.push('\n')?;
+    Ok(line)
+}
+
+/// What is written for the recipe that a reader gives.
+///
+/// # Proved
+///
+/// ```text
+/// ensures text { IfOk result (λ _. IfSome (I.remaining input.old) IsUtf8) }
+/// ensures good { IfOk result (λ _. IfSome (I.remaining input.old) (λ text. All IsGood (lines_of text))) }
+/// ensures line { IfOk result (λ line. IfSome (I.remaining input.old) (λ text. string_bytes line ≡ hex_line_of text)) }
+/// ensures end { IfOk result (λ _. IsAtEnd (I.remaining input.new)) }
+/// ensures usage { IfErr result (λ trouble. trouble ≢ troubles.Usage) }
+/// ```
+fn answer_to_recipe<A: Allocator + Copy, I: Read>(
+    alloc: A,
+    input: &mut I,
+) -> Result<String<A>, Trouble> {
+    let recipe = read_to_end(alloc, input).map_err(|unread| match unread {
+        Unread::NotText => Trouble::NotText,
+        Unread::Memory => Trouble::from(AllocError),
+    })?;
+    hex_line(alloc, &recipe)
+}
+
+/// What is written for the module whose hexadecimal text a reader gives.
+///
+/// # Proved
+///
+/// ```text
+/// ensures listed { IfOk result (λ lines. IfSome (I.remaining input.old) (λ text. Lists text (string_bytes lines))) }
+/// ensures end { IfOk result (λ _. IsAtEnd (I.remaining input.new)) }
+/// ensures usage { IfErr result (λ trouble. trouble ≢ troubles.Usage) }
+/// ```
+fn answer_to_module<A: Allocator + Copy, I: Read>(
+    alloc: A,
+    input: &mut I,
+) -> Result<String<A>, Trouble> {
+    let text = read_to_end(alloc, input).map_err(|unread| match unread {
+        Unread::NotText => Trouble::NotText,
+        Unread::Memory => unlisted(),
+    })?;
+    listing(alloc, &text)
+}
+
+/// Whether the words after the program's name are `--read` alone.
+///
+/// # Proved
+///
+/// ```text
+/// ensures { IsTrue result ↔ AsksToRead args.now }
+/// ```
+fn asks_to_read<A: Allocator>(args: &[String<A>]) -> bool {
+    let [word] = args else {
+        return false;
+    };
+    word.as_str() == "--read"
+}
+
+/// What is written where nothing goes wrong.
+///
+/// # Proved
+///
+/// ```text
+/// ensures args { IfOk result (λ _. (length args.now ≡ 0) ⊎ AsksToRead args.now) }
+/// ensures text { length args.now ≡ 0 → IfOk result (λ _. IfSome (I.remaining input.old) IsUtf8) }
+/// ensures good { length args.now ≡ 0 → IfOk result (λ _. IfSome (I.remaining input.old) (λ text. All IsGood (lines_of text))) }
+/// ensures line { length args.now ≡ 0 → IfOk result (λ line. IfSome (I.remaining input.old) (λ text. string_bytes line ≡ hex_line_of text)) }
+/// ensures listed { AsksToRead args.now → IfOk result (λ lines. IfSome (I.remaining input.old) (λ text. Lists text (string_bytes lines))) }
+/// ensures end { IfOk result (λ _. IsAtEnd (I.remaining input.new)) }
+/// ensures usage { IfErr result (λ trouble. trouble ≡ troubles.Usage → ((length args.now ≡ 0) ⊎ AsksToRead args.now) → ⊥) }
+/// ```
+fn answer<A: Allocator + Copy, I: Read>(
+    alloc: A,
+    args: &[String<A>],
+    input: &mut I,
+) -> Result<String<A>, Trouble> {
+    if args.is_empty() {
+        return answer_to_recipe(alloc, input);
+    }
+    if asks_to_read(args) {
+        return answer_to_module(alloc, input);
+    }
+    Err(Trouble::Usage)
+}
+
+/// Writes the answer. The exit status is 0, or 1 where that fails.
+///
+/// # Proved
+///
+/// ```text
+/// ensures out { result ≡ 0 → Appends (O.contents out.old) (O.contents out.new) text.now }
+/// ensures status { result ≤ 1 }
+/// ```
+fn write_text<O: Write>(out: &mut O, text: &[u8]) -> u8 {
+    match out.write_all(text) {
+        Ok(()) => 0,
+        Err(_) => 1,
+    }
+}
+
+/// Says what is wrong. The exit status is 2 where that was said of the usage, and else 1.
+///
+/// # Proved
+///
+/// ```text
+/// ensures usage { result ≡ 2 → trouble.now ≡ troubles.Usage }
+/// ensures status { (1 ≤ result) × (result ≤ 2) }
+/// ```
+fn tell<E: Write>(err: &mut E, trouble: &Trouble) -> u8 {
+    match writeln!(err, "{trouble}") {
+        Ok(()) if matches!(trouble, Trouble::Usage) => 2,
+        _ => 1,
+    }
+}
+
+/// Does what the program does, and answers its exit status. `args` are the words after the program's name: with none the input is a recipe, whose
+/// module is written in hexadecimal; with `--read` it is that text of a module, whose sections are listed, a line each.
+///
+/// # Proved
+///
+/// ```text
+/// ensures args { result ≡ 0 → (length args.now ≡ 0) ⊎ AsksToRead args.now }
+/// ensures text { length args.now ≡ 0 → result ≡ 0 → IfSome (I.remaining input.old) IsUtf8 }
+/// ensures good { length args.now ≡ 0 → result ≡ 0 → IfSome (I.remaining input.old) (λ text. All IsGood (lines_of text)) }
+/// ensures out { length args.now ≡ 0 → result ≡ 0 → IfSome (I.remaining input.old) (λ text. Appends (O.contents out.old) (O.contents out.new) (hex_line_of text)) }
+/// ensures listed { AsksToRead args.now → result ≡ 0 → IfSome (I.remaining input.old) (λ text. (lines : List ℕ) × Lists text lines × Appends (O.contents out.old) (O.contents out.new) lines) }
+/// ensures end { result ≡ 0 → IsAtEnd (I.remaining input.new) }
+/// ensures err { result ≡ 0 → Keeps (E.contents err.old) (E.contents err.new) }
+/// ensures usage { result ≡ 2 → ((length args.now ≡ 0) ⊎ AsksToRead args.now) → ⊥ }
+/// ensures status { result ≤ 2 }
+/// ```
+pub fn run<A: Allocator + Copy, I: Read, O: Write, E: Write>(
+    alloc: A,
+    args: &[String<A>],
+    input: &mut I,
+    out: &mut O,
+    err: &mut E,
+) -> u8 {
+    match answer(alloc, args, input) {
+        Ok(text) => write_text(out, text.as_bytes()),
+        Err(trouble) => tell(err, &trouble),
+    }
+}
+
+impl ::std::fmt::Display for Trouble {
+    fn fmt(&self, f: &mut ::std::fmt::Formatter<'_>) -> ::std::fmt::Result {
+        match self {
+            Self::Usage => f.write_str("usage: wasmrow [--read]"),
+            Self::NotText => f.write_str("input: not text"),
+            Self::BadHex => f.write_str("input: bad hex"),
+            Self::Recipe(inner) => ::std::fmt::Display::fmt(inner, f),
+            Self::Section { number, fault } => write!(f, "section {number}: {fault}"),
+        }
+    }
+}
+
+impl ::std::error::Error for Trouble {}

@@ -1,0 +1,505 @@
+// Written by tools/to-rust from crates/wasm_tool/src/recipe.rt: change that.
+// Recipes: from lines of text to a module.
+
+use crate::vec::Vec;
+use crate::recipe::fault::{RecipeCause, RecipeFault};
+use crate::recipe::words::Words;
+use crate::hex::FromHexError;
+use crate::alloc::Allocator;
+use crate::base::{Encode, Module, Pieces, R, RawSection, SectionId, ValType};
+use crate::code::{CodeSection, ConstExpr, Function};
+use crate::custom::NameSection;
+use crate::sections::{CountedSection, DataSection, ExportKind, ExportSection, FunctionSection, GlobalSection, GlobalType, ItemKind, MemorySection, MemoryType, StartSection};
+
+/// The sections to which the lines read so far have added.
+pub(in crate::recipe) struct Recipe<A: Allocator> {
+    types: Pieces<A>,
+    functions: FunctionSection<A>,
+    memories: MemorySection<A>,
+    globals: GlobalSection<A>,
+    exports: ExportSection<A>,
+    start: Option<u32>,
+    code: CodeSection<A>,
+    segments: DataSection<A>,
+    names: NameSection<A>,
+}
+
+/// The bytes of a word of hexadecimal digits.
+///
+/// # Proved
+///
+/// ```text
+/// ensures ok { IfOk result (λ bytes. decode_of word.now ≡ Ok bytes.items) }
+/// ensures err { IfErr result (λ cause. (cause ≡ RecipeCause.Memory) ⊎ ((cause ≡ RecipeCause.BadHex) × IsErr (decode_of word.now))) }
+/// ```
+fn hex_bytes<A: Allocator>(alloc: A, word: &str) -> Result<Vec<u8, A>, RecipeCause> {
+    crate::hex::decode(alloc, word).map_err(|e| match e {
+        FromHexError::OutOfMemory => RecipeCause::Memory,
+        _ => RecipeCause::BadHex,
+    })
+}
+
+/// The word, unless it begins with a plus sign: `parse` takes one, and a number of a recipe has none.
+///
+/// # Proved
+///
+/// ```text
+/// ensures { MatchResult result (λ same. (same.now ≡ word.now) × (get_or word.now 0 0 ≢ 43)) (λ cause. (cause ≡ RecipeCause.BadNumber) × (get_or word.now 0 0 ≡ 43)) }
+/// ```
+fn numeral(word: &str) -> Result<&str, RecipeCause> {
+    if word.starts_with('+') {
+        return Err(RecipeCause::BadNumber);
+    }
+    Ok(word)
+}
+
+/// The number that a word of decimal digits spells.
+///
+/// # Proved
+///
+/// ```text
+/// ensures { MatchResult result (λ n. decimal_of 64 word.now ≡ Some n) (λ cause. (cause ≡ RecipeCause.BadNumber) × (decimal_of 64 word.now ≡ None)) }
+/// ```
+fn number(word: &str) -> Result<u64, RecipeCause> {
+    let Ok(n) = numeral(word)?.parse() else {
+        return Err(RecipeCause::BadNumber);
+    };
+    Ok(n)
+}
+
+/// The number of 32 bits that a word of decimal digits spells.
+///
+/// # Proved
+///
+/// ```text
+/// ensures { MatchResult result (λ n. decimal_of 32 word.now ≡ Some n) (λ cause. (cause ≡ RecipeCause.BadNumber) × (decimal_of 32 word.now ≡ None)) }
+/// ```
+fn index(word: &str) -> Result<u32, RecipeCause> {
+    let Ok(n) = u32::try_from(number(word)?) else {
+        return Err(RecipeCause::BadNumber);
+    };
+    Ok(n)
+}
+
+/// The number of 32 bits that a word of decimal digits spells, behind `-` a negative one.
+///
+/// # Proved
+///
+/// ```text
+/// ensures { MatchResult result (λ n. signed_of word.now ≡ Some n) (λ cause. (cause ≡ RecipeCause.BadNumber) × (signed_of word.now ≡ None)) }
+/// ```
+fn signed(word: &str) -> Result<i32, RecipeCause> {
+    let Ok(value) = numeral(word)?.parse() else {
+        return Err(RecipeCause::BadNumber);
+    };
+    Ok(value)
+}
+
+/// What a word names that can be exported.
+///
+/// # Proved
+///
+/// ```text
+/// ensures { result ≡ kind_of word.now }
+/// ```
+fn export_kind(word: &str) -> Option<ExportKind> {
+    match word {
+        "func" => Some(ExportKind::Func),
+        "table" => Some(ExportKind::Table),
+        "memory" => Some(ExportKind::Memory),
+        "global" => Some(ExportKind::Global),
+        "tag" => Some(ExportKind::Tag),
+        _ => None,
+    }
+}
+
+/// Puts a section into the module, if it has an item.
+///
+/// # Proved
+///
+/// ```text
+/// ensures { Puts (section_of K.section_id section.now) (SectionFits section.now) target.old target.new result }
+/// ```
+fn put_counted<K: ItemKind, A: Allocator, B: Allocator>(
+    section: &CountedSection<K, A>,
+    target: &mut Module<B>,
+) -> R<()> {
+    if section.is_empty() {
+        return Ok(());
+    }
+    target.section(section)
+}
+
+/// A function without locals, of these instructions.
+///
+/// # Proved
+///
+/// ```text
+/// ensures ok { IfOk result (λ function. function ≡ 0 ∷ instructions.items) }
+/// ensures memory { result ≢ Err refusals.TooLong }
+/// ```
+fn function_of<A: Allocator>(alloc: A, instructions: Vec<u8, A>) -> R<Function<A>> {
+    let mut function = Function::new(alloc, [])?;
+    function.raw(instructions)?;
+    Ok(function)
+}
+
+/// Adds bytes at this place of memory 0.
+///
+/// # Proved
+///
+/// ```text
+/// ensures { Adds (active_text 0 offset.now bytes.items) (FrameFits bytes.items) segments.old segments.new result }
+/// ```
+fn add_data<A: Allocator>(
+    segments: &mut DataSection<A>,
+    offset: &ConstExpr<A>,
+    bytes: Vec<u8, A>,
+) -> R<()> {
+    segments.active(0, offset, bytes)
+}
+
+impl<A: Allocator + Copy> Recipe<A> {
+    /// # Proved
+    ///
+    /// ```text
+    /// ensures { IsEmpty result }
+    /// ```
+    fn new(alloc: A) -> Self {
+        Recipe {
+            types: Pieces::new(alloc),
+            functions: FunctionSection::new(alloc),
+            memories: MemorySection::new(alloc),
+            globals: GlobalSection::new(alloc),
+            exports: ExportSection::new(alloc),
+            start: None,
+            code: CodeSection::new(alloc),
+            segments: DataSection::new(alloc),
+            names: NameSection::new(alloc),
+        }
+    }
+
+    /// Reads a line, and adds its item.
+    ///
+    /// # Proved
+    ///
+    /// ```text
+    /// ensures { Follows (entry_of line.now) self.old self.new result }
+    /// ```
+    fn read_line(&mut self, alloc: A, line: &str) -> Result<(), RecipeCause> {
+        let mut words = Words::new(line);
+        let Some(command) = words.next() else {
+            return Ok(());
+        };
+        match command {
+            "type" => self.read_type(alloc, words),
+            "func" => self.read_function(words),
+            "memory" => self.read_memory(words),
+            "global" => self.read_global(alloc, words),
+            "export" => self.read_export(words),
+            "start" => self.read_start(words),
+            "body" => self.read_body(alloc, words),
+            "data" => self.read_data(alloc, words),
+            "name" => self.read_name(words),
+            _ => Err(RecipeCause::UnknownCommand),
+        }
+    }
+
+    /// Reads the lines of a text into sections without items.
+    ///
+    /// # Proved
+    ///
+    /// ```text
+    /// ensures { IsEmpty self.old → MatchResult result (λ _. HoldsLines (lines_of lines.now) self.new) (λ fault. Explains lines.now fault.line fault.cause) }
+    /// ```
+    fn read_lines(&mut self, alloc: A, lines: &str) -> Result<(), RecipeFault> {
+        let mut number = 0;
+        for line in lines.split('\n') {
+            number += 1;
+            if let Err(cause) = self.read_line(alloc, without_return(line)) {
+                return Err(RecipeFault {
+                    line: number,
+                    cause,
+                });
+            }
+        }
+        Ok(())
+    }
+
+    /// # Proved
+    ///
+    /// ```text
+    /// ensures { Follows (type_entry (words_of words.entry.rest.now)) self.old self.new result }
+    /// ```
+    fn read_type(&mut self, alloc: A, mut words: Words<'_>) -> Result<(), RecipeCause> {
+        let word = words.next().ok_or(RecipeCause::MissingWord)?;
+        let item = hex_bytes(alloc, word)?;
+        self.types.add(&item)?;
+        Ok(())
+    }
+
+    /// # Proved
+    ///
+    /// ```text
+    /// ensures { Follows (function_entry (words_of words.entry.rest.now)) self.old self.new result }
+    /// ```
+    fn read_function(&mut self, mut words: Words<'_>) -> Result<(), RecipeCause> {
+        let word = words.next().ok_or(RecipeCause::MissingWord)?;
+        let type_index = index(word)?;
+        self.functions.function(type_index)?;
+        Ok(())
+    }
+
+    /// # Proved
+    ///
+    /// ```text
+    /// ensures { Follows (memory_entry (words_of words.entry.rest.now)) self.old self.new result }
+    /// ```
+    fn read_memory(&mut self, mut words: Words<'_>) -> Result<(), RecipeCause> {
+        let word = words.next().ok_or(RecipeCause::MissingWord)?;
+        let memory = MemoryType {
+            minimum: number(word)?,
+            maximum: None,
+            memory64: false,
+            shared: false,
+            page_size_log2: None,
+        };
+        self.memories.memory(memory)?;
+        Ok(())
+    }
+
+    /// # Proved
+    ///
+    /// ```text
+    /// ensures { Follows (global_entry (words_of words.entry.rest.now)) self.old self.new result }
+    /// ```
+    fn read_global(&mut self, alloc: A, mut words: Words<'_>) -> Result<(), RecipeCause> {
+        let word = words.next().ok_or(RecipeCause::MissingWord)?;
+        let init = ConstExpr::i32_const(alloc, signed(word)?)?;
+        let global_type = GlobalType {
+            val_type: ValType::I32,
+            mutable: false,
+            shared: false,
+        };
+        self.globals.global(global_type, &init)?;
+        Ok(())
+    }
+
+    /// # Proved
+    ///
+    /// ```text
+    /// ensures { Follows (export_entry (words_of words.entry.rest.now)) self.old self.new result }
+    /// ```
+    fn read_export(&mut self, mut words: Words<'_>) -> Result<(), RecipeCause> {
+        let name = words.next().ok_or(RecipeCause::MissingWord)?;
+        let kind = words.next().ok_or(RecipeCause::MissingWord)?;
+        let word = words.next().ok_or(RecipeCause::MissingWord)?;
+        let kind = export_kind(kind).ok_or(RecipeCause::UnknownCommand)?;
+        let exported = index(word)?;
+        self.exports.export(name, kind, exported)?;
+        Ok(())
+    }
+
+    /// Reads the start index, which replaces an earlier one.
+    ///
+    /// # Proved
+    ///
+    /// ```text
+    /// ensures { Follows (start_entry (words_of words.entry.rest.now)) self.old self.new result }
+    /// ```
+    fn read_start(&mut self, mut words: Words<'_>) -> Result<(), RecipeCause> {
+        let word = words.next().ok_or(RecipeCause::MissingWord)?;
+        self.start = Some(index(word)?);
+        Ok(())
+    }
+
+    /// # Proved
+    ///
+    /// ```text
+    /// ensures { Follows (body_entry (words_of words.entry.rest.now)) self.old self.new result }
+    /// ```
+    fn read_body(&mut self, alloc: A, mut words: Words<'_>) -> Result<(), RecipeCause> {
+        let word = words.next().ok_or(RecipeCause::MissingWord)?;
+        let instructions = hex_bytes(alloc, word)?;
+        let function = function_of(alloc, instructions)?;
+        self.code.function(&function)?;
+        Ok(())
+    }
+
+    /// # Proved
+    ///
+    /// ```text
+    /// ensures { Follows (data_entry (words_of words.entry.rest.now)) self.old self.new result }
+    /// ```
+    fn read_data(&mut self, alloc: A, mut words: Words<'_>) -> Result<(), RecipeCause> {
+        let place = words.next().ok_or(RecipeCause::MissingWord)?;
+        let word = words.next().ok_or(RecipeCause::MissingWord)?;
+        let offset = ConstExpr::i32_const(alloc, signed(place)?)?;
+        let bytes = hex_bytes(alloc, word)?;
+        add_data(&mut self.segments, &offset, bytes)?;
+        Ok(())
+    }
+
+    /// Reads the name of the module, which is the rest of the line.
+    ///
+    /// # Proved
+    ///
+    /// ```text
+    /// ensures { Follows (name_entry (without_spaces words.entry.rest.now)) self.old self.new result }
+    /// ```
+    fn read_name(&mut self, words: Words<'_>) -> Result<(), RecipeCause> {
+        let name = words.rest();
+        if name.is_empty() {
+            return Err(RecipeCause::MissingWord);
+        }
+        self.names.module(name)?;
+        Ok(())
+    }
+
+    /// Puts the type section into the module: the number of types, and these.
+    ///
+    /// # Proved
+    ///
+    /// ```text
+    /// ensures { Puts (section_of 1 self.now.types) (SectionFits self.now.types) target.old target.new result }
+    /// ```
+    fn put_types(&self, alloc: A, target: &mut Module<A>) -> R<()> {
+        if self.types.is_empty() {
+            return Ok(());
+        }
+        let mut content = Vec::new(alloc);
+        self.types.len().encode(&mut content)?;
+        content.extend_from_slice(self.types.bytes())?;
+        target.section(&RawSection {
+            id: SectionId::Types.into(),
+            bytes: &content,
+        })
+    }
+
+    /// # Proved
+    ///
+    /// ```text
+    /// ensures { Puts (start_of (start_items self.now.start)) (All FrameFits (start_items self.now.start)) target.old target.new result }
+    /// ```
+    fn put_start(&self, target: &mut Module<A>) -> R<()> {
+        match self.start {
+            Some(function_index) => target.section(&StartSection { function_index }),
+            None => Ok(()),
+        }
+    }
+
+    /// # Proved
+    ///
+    /// ```text
+    /// ensures { Puts (section_of 10 self.now.code) (SectionFits self.now.code) target.old target.new result }
+    /// ```
+    fn put_code(&self, target: &mut Module<A>) -> R<()> {
+        if self.code.is_empty() {
+            return Ok(());
+        }
+        target.section(&self.code)
+    }
+
+    /// # Proved
+    ///
+    /// ```text
+    /// ensures { Puts (names_of self.now.names) (NamesFit self.now.names) target.old target.new result }
+    /// ```
+    fn put_names(&self, target: &mut Module<A>) -> R<()> {
+        match self.names.len() {
+            0 => Ok(()),
+            _ => target.section(&self.names),
+        }
+    }
+
+    /// Puts the sections into the module, in the order of the standard.
+    ///
+    /// # Proved
+    ///
+    /// ```text
+    /// ensures { Puts (listed self.now) (FitsSections self.now) target.old target.new result }
+    /// ```
+    fn put_sections(&self, alloc: A, target: &mut Module<A>) -> R<()> {
+        self.put_types(alloc, target)?;
+        put_counted(&self.functions, target)?;
+        put_counted(&self.memories, target)?;
+        put_counted(&self.globals, target)?;
+        put_counted(&self.exports, target)?;
+        self.put_start(target)?;
+        self.put_code(target)?;
+        put_counted(&self.segments, target)?;
+        self.put_names(target)
+    }
+
+    /// The module of the sections.
+    ///
+    /// # Proved
+    ///
+    /// ```text
+    /// ensures ok { IfOk result (λ bytes. bytes.items ≡ module_text (listed self.now)) }
+    /// ensures fitted { OnOk result (FitsSections self.now) }
+    /// ensures too_long { FitsSections self.now → result ≢ Err refusals.TooLong }
+    /// ```
+    fn finish(&self, alloc: A) -> R<Vec<u8, A>> {
+        let mut module = Module::new(alloc)?;
+        self.put_sections(alloc, &mut module)?;
+        Ok(module.finish())
+    }
+
+    /// The module of the lines of a text, which are read into sections without items.
+    ///
+    /// # Proved
+    ///
+    /// ```text
+    /// ensures { IsEmpty self.old → MatchResult result (λ bytes. IsModule (lines_of lines.now) self.new bytes.items) (λ fault. Explains lines.now fault.line fault.cause) }
+    /// ```
+    fn module_of(&mut self, alloc: A, lines: &str) -> Result<Vec<u8, A>, RecipeFault> {
+        self.read_lines(alloc, lines)?;
+        Ok(self.finish(alloc)?)
+    }
+}
+
+/// A line without the carriage return at its end.
+///
+/// # Proved
+///
+/// ```text
+/// ensures { result.now ≡ strip_carriage_return line.now }
+/// ```
+fn without_return(line: &str) -> &str {
+    line.strip_suffix('\r').unwrap_or(line)
+}
+
+/// The module that a recipe makes, or its first faulty line.
+///
+/// Each line is a command and its words. `type HEX` adds a type to the type section, `func N` a function of the type N, `memory MIN`
+/// a memory of at least so many pages, `global I` a number of 32 bits that is never set, `export NAME KIND N` the export of a `func`,
+/// `table`, `memory`, `global` or `tag`, `body HEX` a function without locals and with these instructions to the code section, and
+/// `data I HEX` bytes at the place I of memory 0. `start N` names the function that is run first; a later line replaces it. `name TEXT`
+/// adds the rest of the line, without the spaces before it, to the name section as the name of the module. Sections that received an
+/// item are written in the order of the standard, and the name section after them. A line without words is skipped, and words past
+/// those needed are ignored.
+///
+/// ```
+/// # use dolzhytik::{alloc::Global, base::*, code::*, custom::*, immediates::*, insn::*, reader::*, recipe::*, sections::*};
+/// # use dolzhytik::vec::Vec;
+/// # fn example(alloc: Global) -> Result<(), Box<dyn std::error::Error>> {
+/// let module = assemble(alloc, "body 200020016a0b")?;
+/// # Ok(())
+/// # }
+/// # example(Global).unwrap();
+/// ```
+///
+/// # Proved
+///
+/// ```text
+/// ensures good { OnOk result (All IsGood (lines_of lines.now)) }
+/// ensures fitted { OnOk result (RecipeFits (entries_of (lines_of lines.now))) }
+/// ensures value { IfOk result (λ bytes. bytes.items ≡ recipe_module (entries_of (lines_of lines.now))) }
+/// ensures read { IfOk result (λ bytes. ReadsWhole wasm_module bytes.items (sections_of (entries_of (lines_of lines.now)))) }
+/// ensures fault { IfErr result (λ fault. Explains lines.now fault.line fault.cause) }
+/// ```
+pub fn assemble<A: Allocator + Copy>(alloc: A, lines: &str) -> Result<Vec<u8, A>, RecipeFault> {
+    let mut recipe = Recipe::new(alloc);
+    recipe.module_of(alloc, lines)
+}

@@ -1,0 +1,117 @@
+// Written by tools/to-rust from crates/wasm_sections/src/global.rt: change that.
+// Global types and the global section.
+
+use crate::vec::Sink;
+use crate::sections::counted_section::{CountedSection, ItemKind};
+use crate::sections::flags::where_set;
+use crate::alloc::{Allocator, Global};
+use crate::base::{Encode, Items, Lent, R, SectionId, ValType};
+use crate::code::ConstExpr;
+
+/// The globals that a module defines.
+///
+/// ```
+/// # use dolzhytik::{alloc::Global, base::*, code::*, custom::*, immediates::*, insn::*, reader::*, recipe::*, sections::*};
+/// # use dolzhytik::vec::Vec;
+/// # fn example(alloc: Global) -> Result<(), Box<dyn std::error::Error>> {
+/// # let mut module = Module::new(alloc)?;
+/// let mut globals = GlobalSection::new(alloc);
+/// let global_type = GlobalType { val_type: ValType::I32, mutable: false, shared: false };
+/// globals.global(global_type, &ConstExpr::i32_const(alloc, 42)?)?;
+/// module.section(&globals)?;
+/// # Ok(())
+/// # }
+/// # example(Global).unwrap();
+/// ```
+pub type GlobalSection<A = Global> = CountedSection<GlobalItems, A>;
+
+/// The items of a global section: types of globals, each with the expression of a first value.
+#[derive(Clone, Copy, Debug)]
+pub struct GlobalItems;
+
+/// The type of a global.
+#[derive(Clone, Copy, PartialEq, Eq, Hash, Debug)]
+pub struct GlobalType {
+    pub val_type: ValType,
+    /// Whether it can be set.
+    pub mutable: bool,
+    /// Whether threads share it.
+    pub shared: bool,
+}
+
+impl GlobalType {
+    /// A bit for each part that is set.
+    ///
+    /// # Proved
+    ///
+    /// ```text
+    /// ensures { result ≡ global_code (global_flags self.now) }
+    /// ```
+    #[inline]
+    fn flags(&self) -> u8 {
+        where_set(self.mutable, 0x01) + where_set(self.shared, 0x02)
+    }
+}
+
+/// The type of the value, and flags.
+///
+/// # Defined
+///
+/// ```text
+/// text = { global_text }
+/// fits = { λ _. ⊤ }
+/// ```
+impl Encode for GlobalType {
+    fn encode<A: Sink>(&self, sink: &mut A) -> R<()> {
+        (self.val_type, self.flags()).encode(sink)
+    }
+}
+
+/// # Defined
+///
+/// ```text
+/// Record = { GivenGlobal }
+/// Item = { GlobalItem }
+/// record_text = { global_item_text }
+/// is_plain = { IsGivenGlobal }
+/// normal_form = { global_item_of }
+/// item_format = { global_item }
+/// ```
+impl Items for GlobalItems {
+    fn laws() {}
+}
+
+/// # Defined
+///
+/// ```text
+/// section_id = { number_of ids.Global }
+/// ```
+impl ItemKind for GlobalItems {
+    fn id() -> u8 {
+        SectionId::Global.into()
+    }
+}
+
+impl<A: Allocator> GlobalSection<A> {
+    /// Adds a global of this type, whose first value the expression computes. A refused call leaves the section as it was.
+    ///
+    /// # Proved
+    ///
+    /// ```text
+    /// ensures { Adds (global_text global_type ++ expression_text init.now) ⊤ self.old self.new result }
+    /// ```
+    pub fn global<B: Allocator>(&mut self, global_type: GlobalType, init: &ConstExpr<B>) -> R<()> {
+        self.add_record(&(global_type, Lent(init)))
+    }
+
+    /// Adds a global that is spelled already. A refused call leaves the section as it was.
+    ///
+    /// # Proved
+    ///
+    /// ```text
+    /// ensures { Adds global.now ⊤ self.old self.new result }
+    /// ```
+    pub fn raw(&mut self, global: &[u8]) -> R<()> {
+        self.add_piece(global)
+    }
+}

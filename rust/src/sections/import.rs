@@ -1,0 +1,267 @@
+// Written by tools/to-rust from crates/wasm_sections/src/import.rt: change that.
+// Imports and the import section.
+
+use crate::vec::Sink;
+use crate::sections::counted_section::{CountedSection, ItemKind, RecordOf};
+use crate::sections::global::GlobalType;
+use crate::sections::memory::MemoryType;
+use crate::sections::table::TableType;
+use crate::sections::tag::TagType;
+use crate::alloc::{Allocator, Global};
+use crate::base::{CORE_FUNCTION_EXACT_SORT, CORE_FUNCTION_SORT, CORE_GLOBAL_SORT, CORE_MEMORY_SORT, CORE_TABLE_SORT, CORE_TAG_SORT, CowSlice, Encode, Items, R, SectionId};
+
+/// What a module imports.
+///
+/// ```
+/// # use dolzhytik::{alloc::Global, base::*, code::*, custom::*, immediates::*, insn::*, reader::*, recipe::*, sections::*};
+/// # use dolzhytik::vec::Vec;
+/// # fn example(alloc: Global) -> Result<(), Box<dyn std::error::Error>> {
+/// # let mut module = Module::new(alloc)?;
+/// let mut imports = ImportSection::new(alloc);
+/// imports.import("env", "f", EntityType::Function(0))?;
+/// module.section(&imports)?;
+/// # Ok(())
+/// # }
+/// # example(Global).unwrap();
+/// ```
+pub type ImportSection<A = Global> = CountedSection<ImportItems, A>;
+
+/// The items of an import section: imports, and groups of them, each of which is one entry.
+#[derive(Clone, Copy, Debug)]
+pub struct ImportItems;
+
+/// The type of what is imported.
+#[derive(Clone, Copy, PartialEq, Eq, Debug)]
+pub enum EntityType {
+    /// A function of the type of this index.
+    Function(u32),
+    Table(TableType),
+    Memory(MemoryType),
+    Global(GlobalType),
+    Tag(TagType),
+    /// A function of exactly the type of this index.
+    FunctionExact(u32),
+}
+
+/// # Defined
+///
+/// ```text
+/// from_gives = { λ ty entity. entity ≡ entities.Table ty }
+/// ```
+impl From<TableType> for EntityType {
+    fn from(ty: TableType) -> EntityType {
+        EntityType::Table(ty)
+    }
+}
+
+/// # Defined
+///
+/// ```text
+/// from_gives = { λ ty entity. entity ≡ entities.Memory ty }
+/// ```
+impl From<MemoryType> for EntityType {
+    fn from(ty: MemoryType) -> EntityType {
+        EntityType::Memory(ty)
+    }
+}
+
+/// # Defined
+///
+/// ```text
+/// from_gives = { λ ty entity. entity ≡ entities.Global ty }
+/// ```
+impl From<GlobalType> for EntityType {
+    fn from(ty: GlobalType) -> EntityType {
+        EntityType::Global(ty)
+    }
+}
+
+/// # Defined
+///
+/// ```text
+/// from_gives = { λ ty entity. entity ≡ entities.Tag ty }
+/// ```
+impl From<TagType> for EntityType {
+    fn from(ty: TagType) -> EntityType {
+        EntityType::Tag(ty)
+    }
+}
+
+/// A byte for the kind, and the type.
+///
+/// # Defined
+///
+/// ```text
+/// text = { entity_text }
+/// fits = { λ _. ⊤ }
+/// ```
+impl Encode for EntityType {
+    fn encode<A: Sink>(&self, sink: &mut A) -> R<()> {
+        match *self {
+            EntityType::Function(index) => (CORE_FUNCTION_SORT, index).encode(sink),
+            EntityType::Table(ty) => (CORE_TABLE_SORT, ty).encode(sink),
+            EntityType::Memory(ty) => (CORE_MEMORY_SORT, ty).encode(sink),
+            EntityType::Global(ty) => (CORE_GLOBAL_SORT, ty).encode(sink),
+            EntityType::Tag(ty) => (CORE_TAG_SORT, ty).encode(sink),
+            EntityType::FunctionExact(index) => (CORE_FUNCTION_EXACT_SORT, index).encode(sink),
+        }
+    }
+}
+
+/// An item of a module, and its type.
+#[derive(Clone, Copy, Debug)]
+pub struct Import<'a> {
+    pub module: &'a str,
+    pub name: &'a str,
+    pub ty: EntityType,
+}
+
+/// An item of a group, whose module is given once.
+#[derive(Clone, Copy, Debug)]
+pub struct ImportCompact<'a> {
+    pub name: &'a str,
+    pub ty: EntityType,
+}
+
+/// An import, or a group of imports from one module. A section takes lists that are borrowed, or owned in memory of its own allocator's kind.
+#[derive(Debug)]
+pub enum Imports<'a, A: Allocator = Global> {
+    Single(Import<'a>),
+    /// Items of types of their own.
+    Compact1 {
+        module: &'a str,
+        items: CowSlice<'a, ImportCompact<'a>, A>,
+    },
+    /// Items of one type.
+    Compact2 {
+        module: &'a str,
+        ty: EntityType,
+        names: CowSlice<'a, &'a str, A>,
+    },
+}
+
+impl<A: Allocator + Copy> Imports<'_, A> {
+    /// The same imports; a list that is owned is copied.
+    ///
+    /// # Proved
+    ///
+    /// ```text
+    /// ensures same { IfOk result (λ imports. imports_item imports ≡ imports_item self.now) }
+    /// ensures memory { result ≢ Err TooLong }
+    /// ```
+    pub fn clone(&self) -> R<Self> {
+        match self {
+            Imports::Single(import) => Ok(Imports::Single(*import)),
+            Imports::Compact1 { module, items } => Ok(Imports::Compact1 {
+                module,
+                items: items.clone()?,
+            }),
+            Imports::Compact2 { module, ty, names } => Ok(Imports::Compact2 {
+                module,
+                ty: *ty,
+                names: names.clone()?,
+            }),
+        }
+    }
+}
+
+/// The two names, and the type.
+///
+/// # Defined
+///
+/// ```text
+/// text = { λ import. import_text (import_item import) }
+/// fits = { λ import. ImportFits (import_item import) }
+/// ```
+impl Encode for Import<'_> {
+    fn encode<A: Sink>(&self, sink: &mut A) -> R<()> {
+        (self.module, self.name, self.ty).encode(sink)
+    }
+}
+
+/// The name, and the type.
+///
+/// # Defined
+///
+/// ```text
+/// text = { λ import. named_text (compact_item import) }
+/// fits = { λ import. FrameFits import.name.now }
+/// ```
+impl Encode for ImportCompact<'_> {
+    fn encode<A: Sink>(&self, sink: &mut A) -> R<()> {
+        (self.name, self.ty).encode(sink)
+    }
+}
+
+/// The import; or the name of the module, two bytes that no import has there, and the group.
+///
+/// # Defined
+///
+/// ```text
+/// text = { λ imports. import_text (imports_item imports) }
+/// fits = { λ imports. ImportFits (imports_item imports) }
+/// ```
+impl<A: Allocator> Encode for Imports<'_, A> {
+    fn encode<B: Sink>(&self, sink: &mut B) -> R<()> {
+        match self {
+            Imports::Single(import) => import.encode(sink),
+            Imports::Compact1 { module, items } => {
+                (*module, [0x00u8, 0x7F], items.as_slice()).encode(sink)
+            }
+            Imports::Compact2 { module, ty, names } => {
+                (*module, [0x00u8, 0x7E], (*ty, names.as_slice())).encode(sink)
+            }
+        }
+    }
+}
+
+/// # Defined
+///
+/// ```text
+/// Record = { ImportItem }
+/// Item = { ImportItem }
+/// record_text = { import_text }
+/// is_plain = { IsImport }
+/// normal_form = { λ import. import }
+/// item_format = { import_format }
+/// ```
+impl Items for ImportItems {
+    fn laws() {}
+}
+
+/// # Defined
+///
+/// ```text
+/// section_id = { number_of ids.Import }
+/// ```
+impl ItemKind for ImportItems {
+    fn id() -> u8 {
+        SectionId::Import.into()
+    }
+}
+
+impl RecordOf<ImportItems> for Import<'_> {}
+
+impl<A: Allocator> ImportSection<A> {
+    /// Adds an import. A refused call leaves the section as it was.
+    ///
+    /// # Proved
+    ///
+    /// ```text
+    /// ensures { Adds (frame_text «module».now ++ (frame_text name.now ++ entity_text ty)) (FrameFits «module».now × FrameFits name.now) self.old self.new result }
+    /// ```
+    pub fn import(&mut self, module: &str, name: &str, ty: EntityType) -> R<()> {
+        self.add_record(&Import { module, name, ty })
+    }
+
+    /// Adds an import or a group of imports, as one entry. A refused call leaves the section as it was.
+    ///
+    /// # Proved
+    ///
+    /// ```text
+    /// ensures { Adds (import_text (imports_item imports.entry)) (ImportFits (imports_item imports.entry)) self.old self.new result }
+    /// ```
+    pub fn imports(&mut self, imports: Imports<'_, A>) -> R<()> {
+        self.add_record(&imports)
+    }
+}

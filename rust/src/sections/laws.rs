@@ -1,0 +1,146 @@
+// Written by tools/to-rust from crates/wasm_sections/src/laws.rt: change that.
+//! What is promised of all lists of bytes, and not of a call: each function does nothing, and its clauses are the promise.
+//!
+//! `ItemLaws` says of a kind of items that they are read uniquely, and that the text of a plain record spells what it says.
+
+use crate::sections::export::Export;
+
+/// Sections are read uniquely, and so are their items; the text of a plain record spells what it says.
+///
+/// # Proved
+///
+/// ```text
+/// ensures functions { UniqueReading (counted_format u32_format) }
+/// ensures tables { UniqueReading (counted_format table_item) }
+/// ensures memories { UniqueReading (counted_format memory_type) }
+/// ensures globals { UniqueReading (counted_format global_item) }
+/// ensures exports { UniqueReading (counted_format export) }
+/// ensures elements { UniqueReading (counted_format element) }
+/// ensures segments { UniqueReading (counted_format data_item) }
+/// ensures tags { UniqueReading (counted_format tag_type) }
+/// ensures imports { UniqueReading (counted_format import_format) }
+/// ensures entities { UniqueReading entity }
+/// ensures table_types { UniqueReading table_type }
+/// ensures global_types { UniqueReading global_type }
+/// ensures numbers { UniqueReading (frame u32_format) }
+/// ensures function_items { ItemLaws unsigned_text (FitsUnsigned 32) (λ index. index) u32_format }
+/// ensures table_items { ItemLaws table_item_text IsGivenTable table_item_of table_item }
+/// ensures memory_items { ItemLaws memory_text IsMemory (λ memory. memory) memory_type }
+/// ensures global_items { ItemLaws global_item_text IsGivenGlobal global_item_of global_item }
+/// ensures export_items { ItemLaws export_text IsExport item_of export }
+/// ensures element_items { ItemLaws element_text IsSegment element_of element }
+/// ensures data_items { ItemLaws data_text IsGivenData data_of data_item }
+/// ensures import_items { ItemLaws import_text IsImport (λ import. import) import_format }
+/// ensures tag_items { ItemLaws tag_text IsTag (λ tag. tag) tag_type }
+/// ```
+pub fn sections() {}
+
+/// With padded numbers too, sections are read uniquely, and what shortest numbers spell is among it.
+///
+/// # Proved
+///
+/// ```text
+/// ensures functions { IsUniqueWide (counted_format u32_format) }
+/// ensures tables { IsUniqueWide (counted_format table_item) }
+/// ensures memories { IsUniqueWide (counted_format memory_type) }
+/// ensures globals { IsUniqueWide (counted_format global_item) }
+/// ensures exports { IsUniqueWide (counted_format export) }
+/// ensures elements { IsUniqueWide (counted_format element) }
+/// ensures segments { IsUniqueWide (counted_format data_item) }
+/// ensures tags { IsUniqueWide (counted_format tag_type) }
+/// ensures imports { IsUniqueWide (counted_format import_format) }
+/// ensures entities { IsUniqueWide entity }
+/// ensures table_types { IsUniqueWide table_type }
+/// ensures global_types { IsUniqueWide global_type }
+/// ensures numbers { IsUniqueWide (frame u32_format) }
+/// ```
+pub fn wide() {}
+
+/// What sections hold, call by call: at first no items, and after a call that adds a plain record what this says too.
+///
+/// # Proved
+///
+/// ```text
+/// ensures functions { HoldsMore unsigned_text (FitsUnsigned 32) (λ index. index) u32_format }
+/// ensures tables { HoldsMore table_item_text IsGivenTable table_item_of table_item }
+/// ensures memories { HoldsMore memory_text IsMemory (λ memory. memory) memory_type }
+/// ensures globals { HoldsMore global_item_text IsGivenGlobal global_item_of global_item }
+/// ensures exports { HoldsMore export_text IsExport item_of export }
+/// ensures elements { HoldsMore element_text IsSegment element_of element }
+/// ensures segments { HoldsMore data_text IsGivenData data_of data_item }
+/// ensures imports { HoldsMore import_text IsImport (λ import. import) import_format }
+/// ensures tags { HoldsMore tag_text IsTag (λ tag. tag) tag_type }
+/// ```
+pub fn calls() {}
+
+/// The same with padded numbers: a record may be plain but for padded numbers in its expressions, and a piece may spell its item with
+/// padded numbers.
+///
+/// # Proved
+///
+/// ```text
+/// ensures functions { HoldsMoreWide unsigned_text (FitsUnsigned 32) (FitsUnsigned 32) (λ index. index) u32_format }
+/// ensures tables { HoldsMoreWide table_item_text IsGivenTable IsGivenTableWide table_item_of table_item }
+/// ensures memories { HoldsMoreWide memory_text IsMemory IsMemory (λ memory. memory) memory_type }
+/// ensures globals { HoldsMoreWide global_item_text IsGivenGlobal IsGivenGlobalWide global_item_of global_item }
+/// ensures exports { HoldsMoreWide export_text IsExport IsExport item_of export }
+/// ensures elements { HoldsMoreWide element_text IsSegment IsSegmentWide element_of element }
+/// ensures segments { HoldsMoreWide data_text IsGivenData IsGivenDataWide data_of data_item }
+/// ensures imports { HoldsMoreWide import_text IsImport IsImport (λ import. import) import_format }
+/// ensures tags { HoldsMoreWide tag_text IsTag IsTag (λ tag. tag) tag_type }
+/// ```
+pub fn wide_calls() {}
+
+/// Where a module is read as ids and payloads, and a section as its items alone, its payload is read as these alone.
+///
+/// # Proved
+///
+/// ```text
+/// ensures functions { ReadsPayloads (vec u32_format) }
+/// ensures tables { ReadsPayloads (vec table_item) }
+/// ensures memories { ReadsPayloads (vec memory_type) }
+/// ensures globals { ReadsPayloads (vec global_item) }
+/// ensures exports { ReadsPayloads (vec export) }
+/// ensures elements { ReadsPayloads (vec element) }
+/// ensures segments { ReadsPayloads (vec data_item) }
+/// ensures imports { ReadsPayloads (vec import_format) }
+/// ensures tags { ReadsPayloads (vec tag_type) }
+/// ensures numbers { ReadsPayloads u32_format }
+/// ```
+pub fn payloads() {}
+
+/// No section stands in these three texts, with padded numbers neither: in that of globals bytes follow the first `End` of a constant
+/// expression, in that of data a segment that names its memory names memory 0, and in that of imports the byte 00 before a group is padded.
+///
+/// # Proved
+///
+/// ```text
+/// ensures inner_end { NothingStandsWide (counted_format global_item) (9 ∷ 1 ∷ 127 ∷ 0 ∷ 65 ∷ 1 ∷ 11 ∷ 65 ∷ 2 ∷ 11 ∷ []) }
+/// ensures named_first_memory { NothingStandsWide (counted_format data_item) (8 ∷ 1 ∷ 2 ∷ 0 ∷ 65 ∷ 0 ∷ 11 ∷ 1 ∷ 9 ∷ []) }
+/// ensures padded_group { NothingStandsWide (counted_format import_format) (6 ∷ 1 ∷ 0 ∷ 128 ∷ 0 ∷ 127 ∷ 0 ∷ []) }
+/// ```
+pub fn nothing_stands() {}
+
+/// An export is plain: its name is UTF-8, and its index in range.
+///
+/// # Proved
+///
+/// ```text
+/// ensures plain { IsExport export.now }
+/// ```
+pub fn plain_export(export: &Export<'_>) -> u32 {
+    export.index
+}
+
+/// Each export of a list is plain.
+///
+/// # Proved
+///
+/// ```text
+/// ensures { All IsExport exports.now }
+/// ```
+pub fn plain_exports(exports: &[Export<'_>]) {
+    for export in exports {
+        plain_export(export);
+    }
+}

@@ -1,0 +1,145 @@
+// Written by tools/to-rust from crates/wasm_sections/src/memory.rt: change that.
+// Memory types and the memory section.
+
+use crate::vec::Sink;
+use crate::sections::counted_section::{CountedSection, ItemKind, RecordOf};
+use crate::sections::flags::where_set;
+use crate::alloc::{Allocator, Global};
+use crate::base::{Encode, Items, Optional, R, SectionId};
+
+/// The memories that a module defines.
+///
+/// ```
+/// # use dolzhytik::{alloc::Global, base::*, code::*, custom::*, immediates::*, insn::*, reader::*, recipe::*, sections::*};
+/// # use dolzhytik::vec::Vec;
+/// # fn example(alloc: Global) -> Result<(), Box<dyn std::error::Error>> {
+/// # let mut module = Module::new(alloc)?;
+/// let mut memories = MemorySection::new(alloc);
+/// memories.memory(MemoryType { minimum: 1, maximum: None, memory64: false, shared: false, page_size_log2: None })?;
+/// module.section(&memories)?;
+/// # Ok(())
+/// # }
+/// # example(Global).unwrap();
+/// ```
+pub type MemorySection<A = Global> = CountedSection<MemoryItems, A>;
+
+/// The items of a memory section: memory types.
+#[derive(Clone, Copy, Debug)]
+pub struct MemoryItems;
+
+/// The type of a memory. Sizes are in pages.
+#[derive(Clone, Copy, PartialEq, Eq, Hash, Debug)]
+pub struct MemoryType {
+    pub minimum: u64,
+    pub maximum: Option<u64>,
+    /// Whether addresses have 64 bits.
+    pub memory64: bool,
+    /// Whether threads share the memory.
+    pub shared: bool,
+    /// The size of a page, as an exponent of 2. It is not checked.
+    pub page_size_log2: Option<u32>,
+}
+
+impl MemoryType {
+    /// The size of a page, as an exponent of 2: 16 where none is given.
+    ///
+    /// # Proved
+    ///
+    /// ```text
+    /// ensures { result ≡ page_exponent self.now.page_size_log2 }
+    /// ```
+    pub fn page_size_log2(&self) -> u32 {
+        match self.page_size_log2 {
+            Some(exponent) => exponent,
+            None => 16,
+        }
+    }
+
+    /// The size of a page in bytes.
+    ///
+    /// # Asks
+    ///
+    /// ```text
+    /// requires { page_exponent self.now.page_size_log2 < 32 }
+    /// ```
+    ///
+    /// # Proved
+    ///
+    /// ```text
+    /// ensures { result ≡ 2 ^ page_exponent self.now.page_size_log2 }
+    /// ```
+    pub fn page_size(&self) -> u32 {
+        1 << self.page_size_log2()
+    }
+
+    /// A bit for each part that is given or set.
+    ///
+    /// # Proved
+    ///
+    /// ```text
+    /// ensures { result ≡ flags_code (memory_flags self.now) }
+    /// ```
+    #[inline]
+    fn flags(&self) -> u8 {
+        where_set(self.maximum.is_some(), 0x01)
+            + where_set(self.shared, 0x02)
+            + where_set(self.memory64, 0x04)
+            + where_set(self.page_size_log2.is_some(), 0x08)
+    }
+}
+
+/// Flags, the minimum, and the parts that the flags tell of.
+///
+/// # Defined
+///
+/// ```text
+/// text = { memory_text }
+/// fits = { λ _. ⊤ }
+/// ```
+impl Encode for MemoryType {
+    fn encode<A: Sink>(&self, sink: &mut A) -> R<()> {
+        let maximum = Optional(self.maximum);
+        let page_size = Optional(self.page_size_log2);
+        (self.flags(), self.minimum, (maximum, page_size)).encode(sink)
+    }
+}
+
+/// # Defined
+///
+/// ```text
+/// Record = { Memory }
+/// Item = { Memory }
+/// record_text = { memory_text }
+/// is_plain = { IsMemory }
+/// normal_form = { λ memory. memory }
+/// item_format = { memory_type }
+/// ```
+impl Items for MemoryItems {
+    fn laws() {}
+}
+
+/// # Defined
+///
+/// ```text
+/// section_id = { number_of ids.Memory }
+/// ```
+impl ItemKind for MemoryItems {
+    fn id() -> u8 {
+        SectionId::Memory.into()
+    }
+}
+
+impl RecordOf<MemoryItems> for MemoryType {}
+
+impl<A: Allocator> MemorySection<A> {
+    /// Adds a memory of this type. A refused call leaves the section as it was.
+    ///
+    /// # Proved
+    ///
+    /// ```text
+    /// ensures { Adds (memory_text memory_type) ⊤ self.old self.new result }
+    /// ```
+    pub fn memory(&mut self, memory_type: MemoryType) -> R<()> {
+        self.add_record(&memory_type)
+    }
+}

@@ -1,0 +1,111 @@
+// Written by tools/to-rust from crates/wasm_sections/src/tag.rt: change that.
+// Tag types and the tag section.
+
+use crate::vec::Sink;
+use crate::sections::counted_section::{CountedSection, ItemKind, RecordOf};
+use crate::alloc::{Allocator, Global};
+use crate::base::{Encode, Items, R, SectionId};
+
+/// The tags that a module defines.
+///
+/// ```
+/// # use dolzhytik::{alloc::Global, base::*, code::*, custom::*, immediates::*, insn::*, reader::*, recipe::*, sections::*};
+/// # use dolzhytik::vec::Vec;
+/// # fn example(alloc: Global) -> Result<(), Box<dyn std::error::Error>> {
+/// # let mut module = Module::new(alloc)?;
+/// let mut tags = TagSection::new(alloc);
+/// tags.tag(TagType { kind: TagKind::Exception, func_type_idx: 0 })?;
+/// module.section(&tags)?;
+/// # Ok(())
+/// # }
+/// # example(Global).unwrap();
+/// ```
+pub type TagSection<A = Global> = CountedSection<TagItems, A>;
+
+/// The items of a tag section: tag types.
+#[derive(Clone, Copy, Debug)]
+pub struct TagItems;
+
+/// What a tag is for.
+#[derive(Clone, Copy, PartialEq, Eq, Debug)]
+pub enum TagKind {
+    Exception,
+}
+
+/// The type of a tag.
+#[derive(Clone, Copy, PartialEq, Eq, Debug)]
+pub struct TagType {
+    pub kind: TagKind,
+    /// The index of the type of a function, whose parameters the tag carries.
+    pub func_type_idx: u32,
+}
+
+impl TagKind {
+    /// Its byte.
+    ///
+    /// # Proved
+    ///
+    /// ```text
+    /// ensures { result ≡ tag_code self }
+    /// ```
+    #[inline]
+    fn byte(self) -> u8 {
+        match self {
+            TagKind::Exception => 0x00,
+        }
+    }
+}
+
+/// The kind, and the index.
+///
+/// # Defined
+///
+/// ```text
+/// text = { tag_text }
+/// fits = { λ _. ⊤ }
+/// ```
+impl Encode for TagType {
+    fn encode<A: Sink>(&self, sink: &mut A) -> R<()> {
+        (self.kind.byte(), self.func_type_idx).encode(sink)
+    }
+}
+
+/// # Defined
+///
+/// ```text
+/// Record = { Tag }
+/// Item = { Tag }
+/// record_text = { tag_text }
+/// is_plain = { IsTag }
+/// normal_form = { λ tag. tag }
+/// item_format = { tag_type }
+/// ```
+impl Items for TagItems {
+    fn laws() {}
+}
+
+/// # Defined
+///
+/// ```text
+/// section_id = { number_of ids.Tag }
+/// ```
+impl ItemKind for TagItems {
+    fn id() -> u8 {
+        SectionId::Tag.into()
+    }
+}
+
+impl RecordOf<TagItems> for TagType {}
+
+impl<A: Allocator> TagSection<A> {
+    /// Adds a tag of this type. A refused call leaves the section as it was.
+    ///
+    /// # Proved
+    ///
+    /// ```text
+    /// ensures { Adds (tag_text tag_type) ⊤ self.old self.new result }
+    /// ```
+    pub fn tag(&mut self, tag_type: TagType) -> R<()> {
+        self.add_record(&tag_type)
+    }
+}

@@ -1,0 +1,97 @@
+// Written by tools/to-rust from crates/examples/src/alone.rt: change that.
+// Sections without a module.
+
+use dolzhytik::vec::Vec;
+use crate::examples::bodies::local_function;
+use dolzhytik::alloc::Allocator;
+use dolzhytik::base::laws::plain_names;
+use dolzhytik::base::{CowSlice, Encode, R, RefType, add_all};
+use dolzhytik::code::{CodeSection, ConstExpr};
+use dolzhytik::sections::laws::plain_exports;
+use dolzhytik::sections::{ElementSection, Elements, EntityType, Export, ExportSection, ImportSection, Imports};
+
+/// A code section of one function, which gives the local of this index.
+///
+/// # Proved
+///
+/// ```text
+/// ensures { OnOk result (GainsReading code_section (local_body index ∷ []) sink.old.items sink.new.items) }
+/// ```
+pub fn encode_local<A: Allocator + Copy>(sink: &mut Vec<u8, A>, index: u32) -> R<()> {
+    let alloc = *sink.allocator();
+    let mut code = CodeSection::new(alloc);
+    code.function(&local_function(alloc, index)?)?;
+    code.encode(sink)
+}
+
+/// An import section of one function.
+///
+/// # Proved
+///
+/// ```text
+/// ensures { OnOk result (GainsReading (counted_format import_format) (import_of_function from.now name.now index ∷ []) sink.old.items sink.new.items) }
+/// ```
+pub fn encode_import<A: Allocator + Copy>(
+    sink: &mut Vec<u8, A>,
+    from: &str,
+    name: &str,
+    index: u32,
+) -> R<()> {
+    let mut section = ImportSection::new(*sink.allocator());
+    section.import(from, name, EntityType::Function(index))?;
+    section.encode(sink)
+}
+
+/// An export section of the exports of a list. The first call shows that they are plain.
+///
+/// # Proved
+///
+/// ```text
+/// ensures { OnOk result (GainsReading (counted_format export) (map item_of exports.now) sink.old.items sink.new.items) }
+/// ```
+pub fn encode_exports<A: Allocator + Copy>(sink: &mut Vec<u8, A>, exports: &[Export<'_>]) -> R<()> {
+    plain_exports(exports);
+    let mut section = ExportSection::new(*sink.allocator());
+    match add_all(&mut section, exports) {
+        Ok(()) => section.encode(sink),
+        Err((_, refused)) => Err(refused),
+    }
+}
+
+/// An import section of functions of one type, in one group. The first call shows that their names are UTF-8.
+///
+/// # Proved
+///
+/// ```text
+/// ensures { OnOk result (GainsReading (counted_format import_format) (import_of_functions from.now (map (λ name. name.now) names.now) index ∷ []) sink.old.items sink.new.items) }
+/// ```
+pub fn encode_group<A: Allocator + Copy>(
+    sink: &mut Vec<u8, A>,
+    from: &str,
+    names: &[&str],
+    index: u32,
+) -> R<()> {
+    plain_names(names);
+    let mut section = ImportSection::new(*sink.allocator());
+    section.imports(Imports::Compact2 {
+        module: from,
+        ty: EntityType::Function(index),
+        names: CowSlice::Borrowed(names),
+    })?;
+    section.encode(sink)
+}
+
+/// An element section of one reference, which code puts in a table.
+///
+/// # Proved
+///
+/// ```text
+/// ensures { OnOk result (GainsReading (counted_format element) (later index ∷ []) sink.old.items sink.new.items) }
+/// ```
+pub fn encode_reference(sink: &mut Vec<u8>, index: u32) -> R<()> {
+    let alloc = *sink.allocator();
+    let references = [ConstExpr::ref_func(alloc, index)?];
+    let mut section = ElementSection::new(alloc);
+    section.passive(Elements::Expressions(RefType::FUNCREF, CowSlice::Borrowed(&references)))?;
+    section.encode(sink)
+}

@@ -1,0 +1,92 @@
+// Written by tools/to-rust from crates/examples/src/filled.rt: change that.
+// A module whose table and memory are filled.
+
+use dolzhytik::vec::Vec;
+use crate::examples::whole::{imports, memories};
+use dolzhytik::alloc::Allocator;
+use dolzhytik::base::{CowSlice, Module, R, RawSection, RefType};
+use dolzhytik::code::ConstExpr;
+use dolzhytik::sections::{DataCountSection, DataSection, ElementSection, Elements, TableSection, TableType};
+
+/// A module that puts a function that it imports in a table, and bytes in a memory.
+///
+/// # Proved
+///
+/// ```text
+/// ensures { IfOk result (λ made. ReadsSections (filled_sections bytes.now) made.items) }
+/// ```
+pub fn filled_module<A: Allocator + Copy>(alloc: A, bytes: &[u8]) -> R<Vec<u8, A>> {
+    let mut module = Module::new(alloc)?;
+    add_empty(&mut module, alloc)?;
+    module.section(&elements(alloc)?)?;
+    module.section(&DataCountSection { count: 2 })?;
+    module.section(&segments(alloc, bytes)?)?;
+    Ok(module.finish())
+}
+
+/// Adds the function that is imported, the table and the memory.
+///
+/// # Proved
+///
+/// ```text
+/// ensures { ReadsSections [] built.old → OnOk result (ReadsSections empty_sections built.new) }
+/// ```
+fn add_empty<A: Allocator + Copy>(built: &mut Module<A>, alloc: A) -> R<()> {
+    built.section(&RawSection {
+        id: 1,
+        bytes: &[0x01, 0x60, 0x00, 0x00],
+    })?;
+    built.section(&imports(alloc)?)?;
+    built.section(&tables(alloc)?)?;
+    built.section(&memories(alloc)?)?;
+    Ok(())
+}
+
+/// A table of three functions.
+///
+/// # Proved
+///
+/// ```text
+/// ensures { IfOk result (λ section. HoldsTables section (three_places ∷ [])) }
+/// ```
+fn tables<A: Allocator + Copy>(alloc: A) -> R<TableSection<A>> {
+    let mut section = TableSection::new(alloc);
+    section.table(TableType {
+        element_type: RefType::FUNCREF,
+        table64: false,
+        minimum: 3,
+        maximum: None,
+        shared: false,
+    })?;
+    Ok(section)
+}
+
+/// The function 0, at the front of the table.
+///
+/// # Proved
+///
+/// ```text
+/// ensures { IfOk result (λ section. HoldsElements section (ready_at_0 ∷ [])) }
+/// ```
+fn elements<A: Allocator + Copy>(alloc: A) -> R<ElementSection<A>> {
+    let mut section = ElementSection::new(alloc);
+    let offset = ConstExpr::i32_const(alloc, 0)?;
+    let functions = Elements::Functions(CowSlice::Borrowed(&[0]));
+    section.active(None, &offset, functions)?;
+    Ok(section)
+}
+
+/// The bytes at the place 8, and others for a later call.
+///
+/// # Proved
+///
+/// ```text
+/// ensures { IfOk result (λ section. HoldsSegments section (bytes_at_8 bytes.now ∷ bytes_later ∷ [])) }
+/// ```
+fn segments<A: Allocator + Copy>(alloc: A, bytes: &[u8]) -> R<DataSection<A>> {
+    let mut section = DataSection::new(alloc);
+    let offset = ConstExpr::i32_const(alloc, 8)?;
+    section.active(0, &offset, bytes.iter().copied())?;
+    section.passive([1u8, 2, 3])?;
+    Ok(section)
+}

@@ -1,0 +1,26 @@
+// Written by tools/to-rust from crates/examples/src/first.rt: change that.
+// A module of one function.
+
+use dolzhytik::vec::Vec;
+use dolzhytik::alloc::Allocator;
+use dolzhytik::base::{Module, R, ValType};
+use dolzhytik::code::{CodeSection, Function};
+use dolzhytik::insn::Instruction;
+
+/// A module of a code section of one function, which has one local and does nothing.
+///
+/// # Proved
+///
+/// ```text
+/// ensures { IfOk result (λ bytes. ReadsSections (code_reading (first_body ∷ []) ∷ []) bytes.items) }
+/// ```
+pub fn first_module<A: Allocator + Copy>(alloc: A) -> R<Vec<u8, A>> {
+    let mut code = CodeSection::new(alloc);
+    let mut function = Function::new(alloc, [(1, ValType::I32)])?;
+    function.instruction(&Instruction::End)?;
+    code.function(&function)?;
+    let mut module = Module::new(alloc)?;
+    module.section(&code)?;
+    let bytes = module.finish();
+    Ok(bytes)
+}

@@ -1,0 +1,75 @@
+// Written by tools/to-rust from crates/examples/src/padded.rt: change that.
+// Sections of entries that are spelled already, with padded numbers.
+
+use dolzhytik::vec::Vec;
+use crate::examples::bodies::{first_function, local_function};
+use dolzhytik::alloc::Allocator;
+use dolzhytik::base::{Encode, Module, R, ValType};
+use dolzhytik::code::{CodeSection, ConstExpr};
+use dolzhytik::custom::NameSection;
+use dolzhytik::sections::{GlobalSection, GlobalType};
+
+/// A code section of a body whose number of runs is padded, and of a function, which gives the local of this index.
+///
+/// # Proved
+///
+/// ```text
+/// ensures { OnOk result (GainsReadingWide code_section (bare_body ∷ local_body index ∷ []) sink.old.items sink.new.items) }
+/// ```
+pub fn encode_padded_body<A: Allocator + Copy>(sink: &mut Vec<u8, A>, index: u32) -> R<()> {
+    let alloc = *sink.allocator();
+    let mut code = CodeSection::new(alloc);
+    code.raw(&[0x80, 0x00, 0x0B])?;
+    code.function(&local_function(alloc, index)?)?;
+    code.encode(sink)
+}
+
+/// A global section of an expression that stores a padded number, and of a global that has one.
+///
+/// # Proved
+///
+/// ```text
+/// ensures { OnOk result (GainsReadingWide (counted_format global_item) (number (neg_ℤ (pos 1)) ∷ number (pos 0) ∷ []) sink.old.items sink.new.items) }
+/// ```
+pub fn encode_padded_globals<A: Allocator + Copy>(sink: &mut Vec<u8, A>) -> R<()> {
+    let alloc = *sink.allocator();
+    let constant = GlobalType {
+        val_type: ValType::I32,
+        mutable: false,
+        shared: false,
+    };
+    let init = ConstExpr::raw(alloc, [0x41, 0xFF, 0xFF, 0xFF, 0xFF, 0x7F])?;
+    let mut section = GlobalSection::new(alloc);
+    section.global(constant, &init)?;
+    section.raw(&[0x7F, 0x00, 0x41, 0x80, 0x00, 0x0B])?;
+    section.encode(sink)
+}
+
+/// A name section of the name `a` of the function 0, whose index is padded.
+///
+/// # Proved
+///
+/// ```text
+/// ensures { OnOk result (GainsReadingWide (frame name_payload) (Map 1 ((0, 97 ∷ []) ∷ []) ∷ []) sink.old.items sink.new.items) }
+/// ```
+pub fn encode_padded_names<A: Allocator + Copy>(sink: &mut Vec<u8, A>) -> R<()> {
+    let mut names = NameSection::new(*sink.allocator());
+    names.raw(1, &[0x01, 0x80, 0x00, 0x01, 0x61])?;
+    names.encode(sink)
+}
+
+/// A module of a code section of a body whose number of runs is padded, and of a function of one local.
+///
+/// # Proved
+///
+/// ```text
+/// ensures { IfOk result (λ bytes. ReadsSections (wide_code_reading (bare_body ∷ first_body ∷ []) ∷ []) bytes.items) }
+/// ```
+pub fn padded_module<A: Allocator + Copy>(alloc: A) -> R<Vec<u8, A>> {
+    let mut code = CodeSection::new(alloc);
+    code.raw(&[0x80, 0x80, 0x00, 0x0B])?;
+    code.function(&first_function(alloc)?)?;
+    let mut module = Module::new(alloc)?;
+    module.section(&code)?;
+    Ok(module.finish())
+}

@@ -1,0 +1,56 @@
+// Written by tools/to-rust from crates/examples/src/sums.rt: change that.
+// Global sections of a first value that is a sum.
+
+use dolzhytik::vec::Vec;
+use dolzhytik::alloc::Allocator;
+use dolzhytik::base::{Encode, R, ValType};
+use dolzhytik::code::ConstExpr;
+use dolzhytik::sections::{GlobalSection, GlobalType};
+
+const CONSTANT: GlobalType = GlobalType {
+    val_type: ValType::I32,
+    mutable: false,
+    shared: false,
+};
+
+/// The global of this index and 5, added.
+///
+/// # Proved
+///
+/// ```text
+/// ensures { IfOk result (λ init. StoresInstructions init (sum_code index)) }
+/// ```
+fn sum_of<A: Allocator + Copy>(alloc: A, index: u32) -> R<ConstExpr<A>> {
+    let both = ConstExpr::global_get(alloc, index)?.with_i32_const(5)?;
+    let sum = both.with_i32_add()?;
+    Ok(sum)
+}
+
+/// A global section of one global, whose first value is the global of this index and 5, added.
+///
+/// # Proved
+///
+/// ```text
+/// ensures { OnOk result (GainsReading (counted_format global_item) (sum_global index ∷ []) sink.old.items sink.new.items) }
+/// ```
+pub fn encode_sum<A: Allocator + Copy>(sink: &mut Vec<u8, A>, index: u32) -> R<()> {
+    let alloc = *sink.allocator();
+    let mut section = GlobalSection::new(alloc);
+    section.global(CONSTANT, &sum_of(alloc, index)?)?;
+    section.encode(sink)
+}
+
+/// A global section of that global, and of one that is spelled already, whose number is padded.
+///
+/// # Proved
+///
+/// ```text
+/// ensures { OnOk result (GainsReadingWide (counted_format global_item) (sum_global index ∷ number (pos 0) ∷ []) sink.old.items sink.new.items) }
+/// ```
+pub fn encode_sum_and_padded<A: Allocator + Copy>(sink: &mut Vec<u8, A>, index: u32) -> R<()> {
+    let alloc = *sink.allocator();
+    let mut section = GlobalSection::new(alloc);
+    section.global(CONSTANT, &sum_of(alloc, index)?)?;
+    section.raw(&[0x7F, 0x00, 0x41, 0x80, 0x00, 0x0B])?;
+    section.encode(sink)
+}

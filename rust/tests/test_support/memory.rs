@@ -1,0 +1,61 @@
+//! An allocator that refuses the requests that a test names.
+use dolzhytik::alloc::{AllocError, Allocator};
+use std::cell::Cell;
+
+/// An allocator over another one, which refuses the requests that a test names and counts them all. A test lends it: a `&Refusing<B>` is an allocator too, and is `Copy`.
+pub struct Refusing<B: Allocator> {
+    inner: B,
+    requests: Cell<u64>,
+    first: Cell<u64>,
+    last: Cell<u64>,
+}
+
+impl<B: Allocator> Refusing<B> {
+    /// It passes each request on to `inner`, until it is told what to refuse.
+    pub fn new(inner: B) -> Refusing<B> {
+        Refusing {
+            inner,
+            requests: Cell::new(0),
+            first: Cell::new(0),
+            last: Cell::new(0),
+        }
+    }
+
+    /// From now on it refuses these requests, counted from 1.
+    fn restart(&self, first: u64, last: u64) {
+        self.requests.set(0);
+        self.first.set(first);
+        self.last.set(last);
+    }
+
+    /// Of the requests from now on, just the one numbered `nth` is refused, counted from 1. At 0 none is refused.
+    pub fn refuse(&self, nth: u64) {
+        self.restart(nth, nth);
+    }
+
+    /// Every request from now on is refused.
+    pub fn refuse_all(&self) {
+        self.restart(1, u64::MAX);
+    }
+
+    /// No request that is to be refused has come yet, and one is still to be refused.
+    pub fn is_waiting(&self) -> bool {
+        self.requests.get() < self.first.get()
+    }
+
+    /// How many requests there were since `new`, `refuse` or `refuse_all`, those that were refused included.
+    pub fn requests(&self) -> u64 {
+        self.requests.get()
+    }
+}
+
+impl<B: Allocator> Allocator for Refusing<B> {
+    fn grant(&self, bytes: usize) -> Result<(), AllocError> {
+        let number = self.requests.get().saturating_add(1);
+        self.requests.set(number);
+        if (self.first.get()..=self.last.get()).contains(&number) {
+            return Err(AllocError);
+        }
+        self.inner.grant(bytes)
+    }
+}

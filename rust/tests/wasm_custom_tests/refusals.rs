@@ -1,0 +1,492 @@
+// Written by tools/to-rust from crates/wasm_custom_tests/src/refusals.rt: change that.
+// Each request of an adding call for memory refused in turn: the answer is `Memory`, and what was given is as before.
+
+use dolzhytik::vec::Vec;
+use crate::checks::{Heap, MOST, check_answer, check_bytes, check_refused, check_that};
+use dolzhytik::alloc::Global;
+use crate::host::Abort;
+use crate::test_support::Refusing;
+use dolzhytik::base::{Encode, R, Section};
+use dolzhytik::custom::{BranchHint, CountedList, CustomEntries, CustomKind, DataSymbolDefinition, HintItems, IndirectMembers, IndirectNameMap, InstanceItems, LinkingItems, ListKind, ModuleItems, NameItems, NameMap, NameMembers, ProducerItems, ProducersField, SymbolMembers, SymbolTable, ValueMembers};
+
+/// A section that takes its memory from an allocator that refuses.
+type LentEntries<'h, K> = CustomEntries<K, &'h Refusing<Global>>;
+
+/// The item is written as these bytes, where no request is refused.
+pub(crate) fn check_written<T: Encode>(rt: &impl Abort, heap: Heap<'_>, item: &T, expected: &[u8]) {
+    heap.refuse(0);
+    let mut sink = Vec::new(heap);
+    item.encode(&mut sink).expect("accepted");
+    check_bytes(rt, &sink, expected);
+}
+
+/// `encode` takes memory once, and none where the sink has room.
+pub(crate) fn check_encode<T: Encode>(rt: &impl Abort, heap: Heap<'_>, item: &T) {
+    let mut sink = Vec::new(heap);
+    heap.refuse(1);
+    check_refused(rt, item.encode(&mut sink).err());
+    check_bytes(rt, &sink, &[]);
+    heap.refuse(2);
+    item.encode(&mut sink).expect("accepted");
+    check_that(rt, heap.is_waiting());
+    sink.clear();
+    heap.refuse(1);
+    item.encode(&mut sink).expect("accepted");
+    check_that(rt, heap.is_waiting());
+}
+
+/// The sink held the byte 7, and then the id of custom sections, or nothing.
+fn check_id(rt: &impl Abort, granted: bool, sink: &[u8]) {
+    let expected = if granted { Some(&0) } else { None };
+    assert_eq!(rt; sink.first(), Some(&7));
+    assert_eq!(rt; sink.get(1), expected);
+}
+
+/// `append_to`
+pub(crate) fn check_append_to<S: Section>(rt: &impl Abort, heap: Heap<'_>, section: &S) {
+    for nth in 1..MOST {
+        heap.refuse(0);
+        let mut sink = Vec::from_slice(heap, &[7]).expect("accepted");
+        heap.refuse(nth);
+        let answer = section.append_to(&mut sink);
+        let granted = check_answer(rt, heap, nth, answer);
+        check_id(rt, granted, &sink);
+        if granted {
+            return;
+        }
+    }
+    panic!(rt; "no call was granted")
+}
+
+/// The number of entries is 1, or 0.
+fn check_number(rt: &impl Abort, granted: bool, len: u32) {
+    assert_eq!(rt; len, u32::from(granted));
+}
+
+/// A kind of section, and calls that add to it.
+trait SectionCalls: CustomKind + Sized {
+    /// What the calls are handed.
+    type Given;
+
+    /// A section of no entries.
+    const EMPTY: &'static [u8];
+
+    /// What each call makes of an empty section.
+    const SECTIONS: &'static [&'static [u8]];
+
+    /// The call of this place in `SECTIONS`.
+    fn add(section: &mut LentEntries<'_, Self>, given: &Self::Given, place: usize) -> R<()>;
+}
+
+/// Each call of the kind.
+fn check_sections<K: SectionCalls>(rt: &impl Abort, heap: Heap<'_>, given: &K::Given) {
+    for (place, expected) in K::SECTIONS.iter().enumerate() {
+        check_section::<K>(rt, heap, given, place, expected);
+    }
+}
+
+/// The call of this place makes a section of these bytes of an empty one. Where a request is refused, the section is as it was.
+fn check_section<K: SectionCalls>(
+    rt: &impl Abort,
+    heap: Heap<'_>,
+    given: &K::Given,
+    place: usize,
+    expected: &[u8],
+) {
+    for nth in 1..MOST {
+        let mut section = CustomEntries::new(heap);
+        heap.refuse(nth);
+        let answer = K::add(&mut section, given, place);
+        let granted = check_answer(rt, heap, nth, answer);
+        check_number(rt, granted, section.len());
+        check_written(
+            rt,
+            heap,
+            &section,
+            if granted { expected } else { K::EMPTY },
+        );
+        if granted {
+            return check_whole(rt, heap, &section, expected);
+        }
+    }
+    panic!(rt; "no call was granted")
+}
+
+/// What is done with a section of these bytes.
+fn check_whole<'h, K: CustomKind>(
+    rt: &impl Abort,
+    heap: Heap<'h>,
+    section: &LentEntries<'h, K>,
+    expected: &[u8],
+) {
+    check_encode(rt, heap, section);
+    check_append_to(rt, heap, section);
+    for nth in 1..MOST {
+        heap.refuse(nth);
+        if check_copy(rt, heap, nth, section.clone(), expected) {
+            return;
+        }
+    }
+    panic!(rt; "no call was granted")
+}
+
+/// What a call answered of which one request was to be refused: an item of these bytes. Answers whether all were granted.
+pub(crate) fn check_copy<T: Encode>(
+    rt: &impl Abort,
+    heap: Heap<'_>,
+    nth: u64,
+    copy: R<T>,
+    expected: &[u8],
+) -> bool {
+    match copy {
+        Ok(item) => {
+            let granted = check_answer(rt, heap, nth, Ok(()));
+            check_written(rt, heap, &item, expected);
+            granted
+        }
+        Err(refused) => check_answer(rt, heap, nth, Err(refused)),
+    }
+}
+
+/// A list that takes its memory from an allocator that refuses.
+type LentList<'h, K> = CountedList<K, &'h Refusing<Global>>;
+
+/// A kind of list, and calls that add to it.
+trait ListCalls: ListKind + Sized {
+    /// What the calls are handed.
+    type Given;
+
+    /// What each call makes of an empty list.
+    const LISTS: &'static [&'static [u8]];
+
+    /// The call of this place in `LISTS`.
+    fn add(list: &mut LentList<'_, Self>, given: &Self::Given, place: usize) -> R<()>;
+}
+
+/// Each call of the kind.
+fn check_lists<K: ListCalls>(rt: &impl Abort, heap: Heap<'_>, given: &K::Given) {
+    for (place, expected) in K::LISTS.iter().enumerate() {
+        check_list::<K>(rt, heap, given, place, expected);
+    }
+}
+
+/// The call of this place makes a list of these bytes of an empty one. Where a request is refused, the list is as it was.
+fn check_list<K: ListCalls>(
+    rt: &impl Abort,
+    heap: Heap<'_>,
+    given: &K::Given,
+    place: usize,
+    expected: &[u8],
+) {
+    for nth in 1..MOST {
+        let mut list = CountedList::new(heap);
+        heap.refuse(nth);
+        let answer = K::add(&mut list, given, place);
+        let granted = check_answer(rt, heap, nth, answer);
+        check_written(rt, heap, &list, if granted { expected } else { &[0] });
+        if granted {
+            return check_whole_list(rt, heap, &list, expected);
+        }
+    }
+    panic!(rt; "no call was granted")
+}
+
+/// What is done with a list of these bytes.
+fn check_whole_list<'h, K: ListKind>(
+    rt: &impl Abort,
+    heap: Heap<'h>,
+    list: &LentList<'h, K>,
+    expected: &[u8],
+) {
+    check_encode(rt, heap, list);
+    for nth in 1..MOST {
+        heap.refuse(nth);
+        if check_copy(rt, heap, nth, list.clone(), expected) {
+            return;
+        }
+    }
+    panic!(rt; "no call was granted")
+}
+
+impl ListCalls for NameMembers {
+    type Given = ();
+
+    const LISTS: &'static [&'static [u8]] = &[b"\x01\x00\x01t"];
+
+    fn add(map: &mut LentList<'_, Self>, _: &(), _: usize) -> R<()> {
+        map.append(0, "t")
+    }
+}
+
+#[test]
+fn name_maps() {
+    let rt = crate::host::HostRuntime;
+    let heap = Refusing::new(rt.alloc());
+    check_lists::<NameMembers>(&rt, &heap, &())
+}
+
+impl ListCalls for IndirectMembers {
+    type Given = NameMap;
+
+    const LISTS: &'static [&'static [u8]] = &[b"\x01\x00\x01\x01\x01x"];
+
+    fn add(map: &mut LentList<'_, Self>, names: &NameMap, _: usize) -> R<()> {
+        map.append(0, names)
+    }
+}
+
+#[test]
+fn indirect_name_maps() {
+    let rt = crate::host::HostRuntime;
+    let heap = Refusing::new(rt.alloc());
+    let names = names_inside(rt.alloc()).expect("accepted");
+    check_lists::<IndirectMembers>(&rt, &heap, &names)
+}
+
+impl ListCalls for ValueMembers {
+    type Given = ();
+
+    const LISTS: &'static [&'static [u8]] = &[b"\x01\x01a\x011"];
+
+    fn add(field: &mut LentList<'_, Self>, _: &(), _: usize) -> R<()> {
+        field.value("a", "1")
+    }
+}
+
+#[test]
+fn producers_fields() {
+    let rt = crate::host::HostRuntime;
+    let heap = Refusing::new(rt.alloc());
+    check_lists::<ValueMembers>(&rt, &heap, &())
+}
+
+const DEFINITION: DataSymbolDefinition = DataSymbolDefinition {
+    index: 1,
+    offset: 2,
+    size: 3,
+};
+
+impl ListCalls for SymbolMembers {
+    type Given = ();
+
+    const LISTS: &'static [&'static [u8]] = &[
+        b"\x01\x00\x20\x01\x01f",
+        &[1, 2, 16, 1],
+        &[1, 5, 16, 1],
+        b"\x01\x01\x00\x01d\x01\x02\x03",
+    ];
+
+    fn add(symbols: &mut LentList<'_, Self>, _: &(), place: usize) -> R<()> {
+        match place {
+            0 => symbols.function(0x20, 1, Some("f")),
+            1 => symbols.global(16, 1, None),
+            2 => symbols.table(16, 1, None),
+            _ => symbols.data(0, "d", Some(DEFINITION)),
+        }
+    }
+}
+
+#[test]
+fn symbol_tables() {
+    let rt = crate::host::HostRuntime;
+    let heap = Refusing::new(rt.alloc());
+    check_lists::<SymbolMembers>(&rt, &heap, &())
+}
+
+/// The maps that calls on a name section take.
+struct Maps {
+    names: NameMap,
+    indirect: IndirectNameMap,
+}
+
+/// The map {0: "t"}.
+fn one_name(alloc: Global) -> R<NameMap> {
+    let mut map = NameMap::new(alloc);
+    map.append(0, "t")?;
+    Ok(map)
+}
+
+/// The map {1: "x"}.
+fn names_inside(alloc: Global) -> R<NameMap> {
+    let mut map = NameMap::new(alloc);
+    map.append(1, "x")?;
+    Ok(map)
+}
+
+/// The map {0: {1: "x"}}.
+fn one_name_inside(alloc: Global) -> R<IndirectNameMap> {
+    let mut map = IndirectNameMap::new(alloc);
+    map.append(0, &names_inside(alloc)?)?;
+    Ok(map)
+}
+
+impl SectionCalls for NameItems {
+    type Given = Maps;
+
+    const EMPTY: &'static [u8] = b"\x05\x04name";
+
+    const SECTIONS: &'static [&'static [u8]] = &[
+        b"\x09\x04name\x00\x02\x01m",
+        b"\x08\x04name\x14\x01\x09",
+        b"\x0B\x04name\x01\x04\x01\x00\x01t",
+        b"\x0B\x04name\x04\x04\x01\x00\x01t",
+        b"\x0B\x04name\x05\x04\x01\x00\x01t",
+        b"\x0B\x04name\x06\x04\x01\x00\x01t",
+        b"\x0B\x04name\x07\x04\x01\x00\x01t",
+        b"\x0B\x04name\x08\x04\x01\x00\x01t",
+        b"\x0B\x04name\x09\x04\x01\x00\x01t",
+        b"\x0B\x04name\x0B\x04\x01\x00\x01t",
+        b"\x0B\x04name\x0B\x04\x01\x00\x01t",
+        b"\x0D\x04name\x02\x06\x01\x00\x01\x01\x01x",
+        b"\x0D\x04name\x03\x06\x01\x00\x01\x01\x01x",
+        b"\x0D\x04name\x0A\x06\x01\x00\x01\x01\x01x",
+        b"\x0D\x04name\x0C\x06\x01\x00\x01\x01\x01x",
+        b"\x0D\x04name\x0D\x06\x01\x00\x01\x01\x01x",
+    ];
+
+    fn add(section: &mut LentEntries<'_, Self>, maps: &Maps, place: usize) -> R<()> {
+        match place {
+            0 => section.module("m"),
+            1 => section.raw(20, &[9]),
+            2 => section.functions(&maps.names),
+            3 => section.types(&maps.names),
+            4 => section.tables(&maps.names),
+            5 => section.memories(&maps.names),
+            6 => section.globals(&maps.names),
+            7 => section.elements(&maps.names),
+            8 => section.data(&maps.names),
+            9 => section.tag(&maps.names),
+            10 => section.tags(&maps.names),
+            11 => section.locals(&maps.indirect),
+            12 => section.labels(&maps.indirect),
+            13 => section.fields(&maps.indirect),
+            14 => section.parameters(&maps.indirect),
+            _ => section.tag_parameters(&maps.indirect),
+        }
+    }
+}
+
+#[test]
+fn names() {
+    let rt = crate::host::HostRuntime;
+    let heap = Refusing::new(rt.alloc());
+    let maps = Maps {
+        names: one_name(rt.alloc()).expect("accepted"),
+        indirect: one_name_inside(rt.alloc()).expect("accepted"),
+    };
+    check_sections::<NameItems>(&rt, &heap, &maps)
+}
+
+impl SectionCalls for LinkingItems {
+    type Given = SymbolTable;
+
+    const EMPTY: &'static [u8] = b"\x09\x07linking\x02";
+
+    const SECTIONS: &'static [&'static [u8]] = &[
+        b"\x12\x07linking\x02\x09\x07\x06wasm32",
+        b"\x0F\x07linking\x02\x08\x04\x01\x00\x10\x00",
+    ];
+
+    fn add(section: &mut LentEntries<'_, Self>, symbols: &SymbolTable, place: usize) -> R<()> {
+        match place {
+            0 => section.target_arch("wasm32"),
+            _ => section.symbol_table(symbols),
+        }
+    }
+}
+
+#[test]
+fn linking() {
+    let rt = crate::host::HostRuntime;
+    let heap = Refusing::new(rt.alloc());
+    let mut symbols: SymbolTable = SymbolTable::new(rt.alloc());
+    symbols.function(0x10, 0, None).expect("accepted");
+    check_sections::<LinkingItems>(&rt, &heap, &symbols)
+}
+
+impl SectionCalls for ProducerItems {
+    type Given = ProducersField;
+
+    const EMPTY: &'static [u8] = b"\x0B\x09producers\x00";
+
+    const SECTIONS: &'static [&'static [u8]] = &[b"\x13\x09producers\x01\x02by\x01\x01a\x011"];
+
+    fn add(section: &mut LentEntries<'_, Self>, field: &ProducersField, _: usize) -> R<()> {
+        section.field("by", field)
+    }
+}
+
+#[test]
+fn producers() {
+    let rt = crate::host::HostRuntime;
+    let heap = Refusing::new(rt.alloc());
+    let mut field: ProducersField = ProducersField::new(rt.alloc());
+    field.value("a", "1").expect("accepted");
+    check_sections::<ProducerItems>(&rt, &heap, &field)
+}
+
+const HINT: BranchHint = BranchHint {
+    branch_func_offset: 3,
+    branch_hint_value: 1,
+};
+
+impl SectionCalls for HintItems {
+    type Given = ();
+
+    const EMPTY: &'static [u8] = b"\x1B\x19metadata.code.branch_hint\x00";
+
+    const SECTIONS: &'static [&'static [u8]] = &[
+        b"\x20\x19metadata.code.branch_hint\x01\x00\x01\x03\x01\x01",
+    ];
+
+    fn add(section: &mut LentEntries<'_, Self>, _: &(), _: usize) -> R<()> {
+        section.function_hints(0, [HINT])
+    }
+}
+
+#[test]
+fn hints() {
+    let rt = crate::host::HostRuntime;
+    let heap = Refusing::new(rt.alloc());
+    check_sections::<HintItems>(&rt, &heap, &())
+}
+
+impl SectionCalls for ModuleItems {
+    type Given = ();
+
+    const EMPTY: &'static [u8] = b"\x0D\x0Bcoremodules\x00";
+
+    const SECTIONS: &'static [&'static [u8]] = &[b"\x13\x0Bcoremodules\x01\x00\x04mod1"];
+
+    fn add(section: &mut LentEntries<'_, Self>, _: &(), _: usize) -> R<()> {
+        section.module("mod1")
+    }
+}
+
+#[test]
+fn modules() {
+    let rt = crate::host::HostRuntime;
+    let heap = Refusing::new(rt.alloc());
+    check_sections::<ModuleItems>(&rt, &heap, &())
+}
+
+impl SectionCalls for InstanceItems {
+    type Given = ();
+
+    const EMPTY: &'static [u8] = b"\x0F\x0Dcoreinstances\x00";
+
+    const SECTIONS: &'static [&'static [u8]] = &[
+        b"\x15\x0Dcoreinstances\x01\x00\x00\x01\x2A\x01\x11",
+    ];
+
+    fn add(section: &mut LentEntries<'_, Self>, _: &(), _: usize) -> R<()> {
+        section.instance(0, [42], [17])
+    }
+}
+
+#[test]
+fn instances() {
+    let rt = crate::host::HostRuntime;
+    let heap = Refusing::new(rt.alloc());
+    check_sections::<InstanceItems>(&rt, &heap, &())
+}

@@ -1,0 +1,175 @@
+// Written by tools/to-rust from crates/wasm_insn_tests/src/base_refusals.rt: change that.
+// Each request of `wasm_base` for memory refused in turn: the answer is `Memory`, and what was given is as before.
+
+use dolzhytik::vec::Vec;
+use crate::checks::{MOST, check_bytes, check_call, check_refusals, check_refused};
+use dolzhytik::alloc::Global;
+use crate::host::Abort;
+use crate::test_support::Refusing;
+use dolzhytik::base::{Encode, Module, Pieces, R, RawSection, Refused, Section, encode_section, encode_vec};
+
+const TYPES: RawSection<'static> = RawSection {
+    id: 1,
+    bytes: &[96, 0, 0],
+};
+
+#[test]
+fn numbers_and_names() {
+    let rt = crate::host::HostRuntime;
+    let alloc = rt.alloc();
+    check_refusals(&rt, alloc, &8u8, &[8]);
+    check_refusals(&rt, alloc, &i32::MIN, &[0x80, 0x80, 0x80, 0x80, 0x78]);
+    check_refusals(&rt, alloc, &(0x11u8, 1u32, 300u32), &[0x11, 1, 0xAC, 0x02]);
+    check_refusals(&rt, alloc, &"processed-by", b"\x0Cprocessed-by");
+    check_refusals(
+        &rt,
+        alloc,
+        &["a", "bcdefghijk"].as_slice(),
+        b"\x02\x01a\x0Abcdefghijk",
+    )
+}
+
+#[test]
+fn sections() {
+    let rt = crate::host::HostRuntime;
+    check_refusals(&rt, rt.alloc(), &TYPES, &[3, 96, 0, 0])
+}
+
+/// A vector of 1 and two largest numbers.
+const VECTOR: [u8; 12] = [
+    3, 1, 0xFF, 0xFF, 0xFF, 0xFF, 0x0F, 0xFF, 0xFF, 0xFF, 0xFF, 0x0F,
+];
+
+#[test]
+fn calls() {
+    let rt = crate::host::HostRuntime;
+    let heap = Refusing::new(rt.alloc());
+    check_call(&rt, &heap, &[1, 3, 96, 0, 0], |sink: &mut Vec<u8, _>| {
+        TYPES.append_to(sink)
+    });
+    check_call(&rt, &heap, &[4, 2, 1, 0x80, 1], |sink: &mut Vec<u8, _>| {
+        encode_section(sink, 2, &[1, 0x80, 1])
+    });
+    check_call(&rt, &heap, &VECTOR, |sink: &mut Vec<u8, _>| {
+        encode_vec([1u32, 4294967295, 4294967295], sink)
+    })
+}
+
+/// Into a sink with room `encode` takes no memory.
+#[test]
+fn a_section_takes_no_request() {
+    let rt = crate::host::HostRuntime;
+    let heap = Refusing::new(rt.alloc());
+    let mut sink = Vec::with_capacity(&heap, 4).expect("accepted");
+    heap.refuse_all();
+    let answer = TYPES.encode(&mut sink);
+    check_taken(&rt, heap.requests(), 0);
+    answer.expect("accepted");
+    check_bytes(&rt, &sink, &[3, 96, 0, 0]);
+}
+
+/// So many requests were made.
+fn check_taken(rt: &impl Abort, requests: u64, expected: u64) {
+    assert_eq!(rt; requests, expected);
+}
+
+#[test]
+fn new_modules() {
+    let rt = crate::host::HostRuntime;
+    let heap = Refusing::new(rt.alloc());
+    heap.refuse(1);
+    check_refused(&rt, Module::new(&heap).err());
+}
+
+/// What adding a section did to the bytes of a module that had none, where one request was to be refused. Answers whether it was
+/// accepted.
+fn check_module(rt: &impl Abort, granted: bool, answer: R<()>, bytes: &[u8]) -> bool {
+    let (wanted, expected): (R<()>, &[u8]) = if granted {
+        (Ok(()), b"\0asm\x01\0\0\0\x01\x03\x60\0\0")
+    } else {
+        (Err(Refused::Memory), b"\0asm\x01\0\0\0")
+    };
+    assert_eq!(rt; answer, wanted);
+    assert_eq!(rt; bytes, expected);
+    granted
+}
+
+#[test]
+fn modules() {
+    let rt = crate::host::HostRuntime;
+    let heap = Refusing::new(rt.alloc());
+    for nth in 1..MOST {
+        let mut module = Module::new(&heap).expect("accepted");
+        heap.refuse(nth);
+        let answer = module.section(&TYPES);
+        let granted = heap.is_waiting();
+        heap.refuse(1);
+        check_refused(&rt, module.clone().err());
+        let bytes = module.finish();
+        if check_module(&rt, granted, answer, &bytes) {
+            return;
+        }
+    }
+    panic!(rt; "no call was granted")
+}
+
+/// What adding an entry did to pieces that held none, where one request was to be refused. Answers whether it was accepted.
+fn check_pieces(rt: &impl Abort, granted: bool, answer: R<()>, len: u32, bytes: &[u8]) -> bool {
+    let (wanted, entries, expected): (R<()>, u32, &[u8]) = if granted {
+        (Ok(()), 1, &[2, b'a', b'b'])
+    } else {
+        (Err(Refused::Memory), 0, &[])
+    };
+    assert_eq!(rt; answer, wanted);
+    assert_eq!(rt; len, entries);
+    assert_eq!(rt; bytes, expected);
+    granted
+}
+
+/// An adding call, with each request refused in turn.
+fn check_adding(rt: &impl Abort, alloc: Global, encoded: bool) {
+    let heap = Refusing::new(alloc);
+    for nth in 1..MOST {
+        let mut pieces = Pieces::new(&heap);
+        heap.refuse(nth);
+        let answer = if encoded {
+            pieces.add_encoded(&"ab")
+        } else {
+            pieces.add(&[2, b'a', b'b'])
+        };
+        let granted = heap.is_waiting();
+        if check_pieces(rt, granted, answer, pieces.len(), pieces.bytes()) {
+            return;
+        }
+    }
+    panic!(rt; "no call was granted")
+}
+
+#[test]
+fn pieces() {
+    let rt = crate::host::HostRuntime;
+    check_adding(&rt, rt.alloc(), false);
+    check_adding(&rt, rt.alloc(), true)
+}
+
+/// The copy has one entry where all requests were granted, and else there is none. Answers whether there is one.
+fn check_copy(rt: &impl Abort, granted: bool, answer: R<u32>) -> bool {
+    assert_eq!(rt; answer, if granted { Ok(1) } else { Err(Refused::Memory) });
+    granted
+}
+
+#[test]
+fn copies_of_pieces() {
+    let rt = crate::host::HostRuntime;
+    let heap = Refusing::new(rt.alloc());
+    let mut pieces = Pieces::new(&heap);
+    pieces.add(&[1]).expect("accepted");
+    for nth in 1..MOST {
+        heap.refuse(nth);
+        let answer = pieces.clone().map(|copy| copy.len());
+        if check_copy(&rt, heap.is_waiting(), answer) {
+            return;
+        }
+    }
+    panic!(rt; "no call was granted")
+}

@@ -1,0 +1,73 @@
+// Written by tools/to-rust from crates/wasm_insn_tests/src/callers.rt: change that.
+//! Callers of the sink: what they append is known to the byte.
+
+use dolzhytik::vec::{Sink, Vec};
+use dolzhytik::alloc::Allocator;
+use dolzhytik::base::R;
+use dolzhytik::insn::{BlockType, Buffer, InstructionSink};
+
+/// The sum of two locals, in any buffer.
+///
+/// # Proved
+///
+/// ```text
+/// ensures same_reference { sink.new.sink.ghost_name ≡ sink.old.sink.ghost_name }
+/// ensures bytes { OnOk result (B.written sink.new.sink.now ≡ B.written sink.old.sink.now ++ 0x20 ∷ 0 ∷ 0x20 ∷ 1 ∷ 0x6A ∷ []) }
+/// ```
+pub fn sum<B: Buffer>(sink: &mut InstructionSink<'_, B>) -> R<()> {
+    sink.local_get(0)?;
+    sink.local_get(1)?;
+    sink.i32_add()
+}
+
+/// The body of a function of two numbers.
+///
+/// # Proved
+///
+/// ```text
+/// ensures { OnOk result (bytes.new.items ≡ bytes.old.items ++ 0x20 ∷ 0 ∷ 0x20 ∷ 1 ∷ 0x6A ∷ 0x0B ∷ []) }
+/// ```
+pub fn append_sum<A: Sink>(bytes: &mut A) -> R<()> {
+    let mut sink = InstructionSink::new(bytes);
+    sum(&mut sink)?;
+    sink.end()
+}
+
+/// A block, in bytes of their own.
+///
+/// # Proved
+///
+/// ```text
+/// ensures { IfOk result (λ bytes. bytes.items ≡ 0x02 ∷ 0x40 ∷ 0x01 ∷ 0x0B ∷ []) }
+/// ```
+pub fn block<A: Allocator>(alloc: A) -> R<Vec<u8, A>> {
+    let mut bytes = Vec::new(alloc);
+    let mut sink = InstructionSink::new(&mut bytes);
+    sink.block(BlockType::Empty)?;
+    sink.nop()?;
+    sink.end()?;
+    Ok(bytes)
+}
+
+/// A call that is refused leaves the bytes as they were.
+///
+/// # Proved
+///
+/// ```text
+/// ensures ok { OnOk result (bytes.new.items ≡ bytes.old.items ++ 0x0B ∷ []) }
+/// ensures err { OnErr result (bytes.new.items ≡ bytes.old.items) }
+/// ```
+pub fn append_end<A: Sink>(bytes: &mut A) -> R<()> {
+    InstructionSink::new(bytes).end()
+}
+
+/// The call through a table takes the index of the type and then that of the table.
+///
+/// # Proved
+///
+/// ```text
+/// ensures { OnOk result (bytes.new.items ≡ bytes.old.items ++ 0x11 ∷ 1 ∷ 2 ∷ []) }
+/// ```
+pub fn append_call<A: Sink>(bytes: &mut A) -> R<()> {
+    InstructionSink::new(bytes).call_indirect(2, 1)
+}

@@ -1,0 +1,72 @@
+// Written by tools/to-rust from crates/wasm_insn_tests/src/lengths.rt: change that.
+// Lengths that are too long are answered before any item is asked for.
+
+use dolzhytik::vec::Vec;
+use std::cell::Cell;
+use crate::host::Abort;
+use dolzhytik::base::{R, Refused, encode_vec};
+use dolzhytik::insn::InstructionSink;
+
+/// Labels, which count how often one was asked for.
+struct CountedLabels<'a> {
+    left: usize,
+    asked: &'a Cell<u64>,
+}
+
+/// # Defined
+///
+/// ```text
+/// next_gives = { λ s r t. MatchOption r ((s.left ≡ 0) × (t.left ≡ 0)) (λ _. s.left ≡ t.left + 1) }
+/// remaining = { λ s. at_most s.left }
+/// ```
+impl Iterator for CountedLabels<'_> {
+    type Item = u32;
+
+    fn next(&mut self) -> Option<u32> {
+        self.asked.set(self.asked.get().saturating_add(1));
+        if self.left == 0 {
+            return None;
+        }
+        self.left -= 1;
+        Some(7)
+    }
+}
+
+impl ExactSizeIterator for CountedLabels<'_> {
+    fn len(&self) -> usize {
+        self.left
+    }
+}
+
+/// The length was too long, no label was asked for, and nothing was written.
+fn check_too_long(rt: &impl Abort, answer: R<()>, asked: u64, written: usize) {
+    assert_eq!(rt; answer, Err(Refused::TooLong));
+    assert_eq!(rt; asked, 0);
+    assert_eq!(rt; written, 0);
+}
+
+#[test]
+fn long_vector() {
+    let rt = crate::host::HostRuntime;
+    let asked = Cell::new(0);
+    let labels = CountedLabels {
+        left: 4294967296,
+        asked: &asked,
+    };
+    let mut sink = Vec::new(rt.alloc());
+    let answer = encode_vec(labels, &mut sink);
+    check_too_long(&rt, answer, asked.get(), sink.len());
+}
+
+#[test]
+fn long_br_table() {
+    let rt = crate::host::HostRuntime;
+    let asked = Cell::new(0);
+    let labels = CountedLabels {
+        left: 4294967296,
+        asked: &asked,
+    };
+    let mut bytes = Vec::new(rt.alloc());
+    let answer = InstructionSink::new(&mut bytes).br_table(labels, 2);
+    check_too_long(&rt, answer, asked.get(), bytes.len());
+}

@@ -1,0 +1,36 @@
+// Written by tools/to-rust from crates/wasm_insn_tests/src/lib.rt: change that.
+//! Tests of `wasm_base`, `wasm_immediates` and `wasm_insn`: bytes that the format's documents give or that were worked out by hand,
+//! requests for memory that are refused, and callers that prove what they append.
+
+#![allow(unused_variables, clippy::all)]
+
+#[macro_use]
+#[path = "../support/host.rs"]
+mod host;
+#[path = "../test_support/mod.rs"]
+mod test_support;
+#[cfg(test)]
+mod base;
+#[cfg(test)]
+mod base_refusals;
+pub mod callers;
+#[cfg(test)]
+mod cases;
+#[cfg(test)]
+mod checks;
+#[cfg(test)]
+mod clones;
+#[cfg(test)]
+mod cows;
+#[cfg(test)]
+mod examples;
+#[cfg(test)]
+mod immediates;
+#[cfg(test)]
+mod lengths;
+#[cfg(test)]
+mod rows;
+#[cfg(test)]
+mod sink;
+#[cfg(test)]
+mod table;

@@ -1,0 +1,155 @@
+// Written by tools/to-rust from crates/wasm_reader_sections_tests/src/callers.rt: change that.
+//! Callers of the reader, which prove what it answers.
+
+use dolzhytik::vec::Vec;
+use dolzhytik::alloc::Allocator;
+use dolzhytik::base::{Encode, R};
+use dolzhytik::custom::{NameMap, NameSection};
+use dolzhytik::reader::{Items, SectionKind, read_section, shorten};
+use dolzhytik::reader::base::ReadFault;
+use dolzhytik::sections::FunctionSection;
+
+/// A function section of one function.
+///
+/// # Proved
+///
+/// ```text
+/// ensures { OnOk result (GainsReading (counted_format u32_format) (index ∷ []) sink.old.items sink.new.items) }
+/// ```
+pub fn write_function<A: Allocator + Copy>(sink: &mut Vec<u8, A>, index: u32) -> R<()> {
+    let mut section = FunctionSection::new(*sink.allocator());
+    section.function(index)?;
+    section.encode(sink)
+}
+
+/// Reads a function section that was written: the answer is the index that was added, and no cause but `Memory` is given.
+///
+/// # Asks
+///
+/// ```text
+/// requires { text.old.items ≡ [] }
+/// ```
+///
+/// # Proved
+///
+/// ```text
+/// ensures read { IfOk result (λ items. contents_of items ≡ Functions (index ∷ [])) }
+/// ensures memory { IfErr result (λ e. e ≢ Memory → ⊥) }
+/// ```
+pub fn written_function<'a, A: Allocator + Copy>(
+    text: &'a mut Vec<u8, A>,
+    index: u32,
+) -> Result<Items<'a, A>, ReadFault> {
+    let alloc = *text.allocator();
+    match write_function(text, index) {
+        Ok(()) => {}
+        Err(_) => return Err(ReadFault::Memory),
+    }
+    let (items, _taken) = read_section(SectionKind::Functions, text.as_slice(), alloc)?;
+    Ok(items)
+}
+
+/// Shortens a function section that was written: what is appended is that section again.
+///
+/// # Asks
+///
+/// ```text
+/// requires { text.old.items ≡ [] }
+/// ```
+///
+/// # Proved
+///
+/// ```text
+/// ensures same { OnOk result (sink.new.items ≡ sink.old.items ++ text.new.items) }
+/// ensures err { OnErr result (sink.new.items ≡ sink.old.items) }
+/// ensures memory { IfErr result (λ e. e ≢ Memory → ⊥) }
+/// ```
+pub fn shortened_function<A: Allocator + Copy>(
+    text: &mut Vec<u8, A>,
+    index: u32,
+    sink: &mut Vec<u8, A>,
+) -> Result<usize, ReadFault> {
+    let alloc = *text.allocator();
+    match write_function(text, index) {
+        Ok(()) => {}
+        Err(_) => return Err(ReadFault::Memory),
+    }
+    let taken = shorten(SectionKind::Functions, text.as_slice(), alloc, sink)?;
+    Ok(taken)
+}
+
+/// Reads a section that is a function section which was written, some of its numbers padded, and shortens it: the items are those that were added, and what is appended is
+/// the section as it was written.
+///
+/// # Asks
+///
+/// ```text
+/// requires { text.old.items ≡ [] }
+/// ```
+///
+/// # Proved
+///
+/// ```text
+/// ensures read { IfOk result (λ items. (rest : List ℕ) → Reads (section kinds.Functions) wide padded.now (Functions (index ∷ [])) rest → contents_of items ≡ Functions (index ∷ [])) }
+/// ensures same { OnOk result ((rest : List ℕ) → Reads (section kinds.Functions) wide padded.now (Functions (index ∷ [])) rest → sink.new.items ≡ sink.old.items ++ text.new.items) }
+/// ensures memory { IfErr result (λ e. e ≢ Memory → (rest : List ℕ) → Reads (section kinds.Functions) wide padded.now (Functions (index ∷ [])) rest → ⊥) }
+/// ```
+pub fn padded_function<'a, A: Allocator + Copy>(
+    text: &mut Vec<u8, A>,
+    index: u32,
+    padded: &'a [u8],
+    sink: &mut Vec<u8, A>,
+) -> Result<Items<'a, A>, ReadFault> {
+    let alloc = *text.allocator();
+    match write_function(text, index) {
+        Ok(()) => {}
+        Err(_) => return Err(ReadFault::Memory),
+    }
+    let (items, _taken) = read_section(SectionKind::Functions, padded, alloc)?;
+    let _taken = shorten(SectionKind::Functions, padded, alloc, sink)?;
+    Ok(items)
+}
+
+/// A name section: the names of the module and of its first function.
+///
+/// # Proved
+///
+/// ```text
+/// ensures { OnOk result (GainsReading (frame name_payload) (Module name.now ∷ Map 1 ((0, function.now) ∷ []) ∷ []) sink.old.items sink.new.items) }
+/// ```
+pub fn write_names<A: Allocator + Copy>(sink: &mut Vec<u8, A>, name: &str, function: &str) -> R<()> {
+    let mut functions = NameMap::new(*sink.allocator());
+    functions.append(0, function)?;
+    let mut section = NameSection::new(*sink.allocator());
+    section.module(name)?;
+    section.functions(&functions)?;
+    section.encode(sink)
+}
+
+/// Reads a name section that was written: the answer is the names that were added, and no cause but `Memory` is given.
+///
+/// # Asks
+///
+/// ```text
+/// requires { text.old.items ≡ [] }
+/// ```
+///
+/// # Proved
+///
+/// ```text
+/// ensures read { IfOk result (λ items. contents_of items ≡ Names (Module name.now ∷ Map 1 ((0, function.now) ∷ []) ∷ [])) }
+/// ensures memory { IfErr result (λ e. e ≢ Memory → ⊥) }
+/// ```
+pub fn written_names<'a, A: Allocator + Copy>(
+    text: &'a mut Vec<u8, A>,
+    name: &str,
+    function: &str,
+) -> Result<Items<'a, A>, ReadFault> {
+    let alloc = *text.allocator();
+    match write_names(text, name, function) {
+        Ok(()) => {}
+        Err(_) => return Err(ReadFault::Memory),
+    }
+    let (items, _taken) = read_section(SectionKind::Names, text.as_slice(), alloc)?;
+    Ok(items)
+}

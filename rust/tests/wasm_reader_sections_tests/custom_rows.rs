@@ -1,0 +1,188 @@
+// Written by tools/to-rust from crates/wasm_reader_sections_tests/src/custom_rows.rt: change that.
+// Custom sections that are read back as their items, with ample memory.
+
+use crate::custom_seen::{Told, Value, read};
+use dolzhytik::alloc::Global;
+use crate::host::Abort;
+use dolzhytik::reader::SectionKind;
+
+/// A section of the kind, and what is read there.
+pub(crate) type Row = (SectionKind, &'static [u8], Told<'static>);
+
+/// Numbers are in their fewest bytes.
+pub(crate) static ROWS: [Row; 26] = [
+    (
+        SectionKind::Names,
+        b"\x09\x04name\x00\x02\x01m",
+        Told::Module("m"),
+    ),
+    (
+        SectionKind::Names,
+        b"\x0B\x04name\x0B\x04\x01\x00\x01t",
+        Told::Named(11, 0, "t"),
+    ),
+    (
+        SectionKind::Names,
+        b"\x0E\x04name\x01\x07\x02\x00\x01f\x02\x01g",
+        Told::NamedTwice((0, "f"), (2, "g")),
+    ),
+    (
+        SectionKind::Names,
+        b"\x0D\x04name\x02\x06\x01\x00\x01\x01\x01x",
+        Told::Inside(2, 0, 1, "x"),
+    ),
+    (
+        SectionKind::Names,
+        b"\x0D\x04name\x0D\x06\x01\x00\x01\x01\x01x",
+        Told::Inside(13, 0, 1, "x"),
+    ),
+    (
+        SectionKind::Names,
+        b"\x08\x04name\x14\x01\x09",
+        Told::Other(20, &[9]),
+    ),
+    (SectionKind::Names, b"\x05\x04name", Told::Nothing),
+    (SectionKind::Linking, b"\x09\x07linking\x02", Told::Nothing),
+    (
+        SectionKind::Linking,
+        b"\x20\x07linking\x02\x08\x15\x01\x00\x22\x2A\x10my_exported_func",
+        Told::Function(0x22, 42, Some("my_exported_func")),
+    ),
+    (
+        SectionKind::Linking,
+        b"\x0F\x07linking\x02\x08\x04\x01\x00\x10\x00",
+        Told::Function(0x10, 0, None),
+    ),
+    (
+        SectionKind::Linking,
+        b"\x11\x07linking\x02\x08\x06\x01\x02\x50\x03\x01g",
+        Told::Global(0x50, 3, Some("g")),
+    ),
+    (
+        SectionKind::Linking,
+        b"\x11\x07linking\x02\x08\x06\x01\x05\x00\x01\x01t",
+        Told::Table(0, 1, Some("t")),
+    ),
+    (
+        SectionKind::Linking,
+        b"\x12\x07linking\x02\x09\x07\x06wasm32",
+        Told::Arch("wasm32"),
+    ),
+    (
+        SectionKind::Linking,
+        b"\x13\x07linking\x02\x08\x08\x01\x01\x00\x01d\x01\x02\x03",
+        Told::Data(0, "d", Some((1, 2, 3))),
+    ),
+    (
+        SectionKind::Linking,
+        b"\x10\x07linking\x02\x08\x05\x01\x01\x10\x01d",
+        Told::Data(0x10, "d", None),
+    ),
+    (
+        SectionKind::Linking,
+        b"\x0C\x07linking\x02\x08\x01\x00",
+        Told::Symbols(0),
+    ),
+    (
+        SectionKind::Producers,
+        b"\x33\x09producers\x01\x0Cprocessed-by\x02\x05clang\x0614.0.4\x05rustc\x061.66.1",
+        Told::Field("processed-by", ("clang", "14.0.4"), ("rustc", "1.66.1")),
+    ),
+    (
+        SectionKind::Hints,
+        b"\x20\x19metadata.code.branch_hint\x01\x00\x01\x03\x01\x01",
+        Told::Hint(0, 3, 1),
+    ),
+    (
+        SectionKind::Core,
+        b"\x0B\x04core\x00\x04test",
+        Told::Process("test"),
+    ),
+    (
+        SectionKind::CoreModules,
+        b"\x19\x0Bcoremodules\x02\x00\x04mod1\x00\x04mod2",
+        Told::Modules("mod1", "mod2"),
+    ),
+    (
+        SectionKind::CoreInstances,
+        b"\x15\x0Dcoreinstances\x01\x00\x00\x01\x2A\x01\x11",
+        Told::Instance(0, 42, 17),
+    ),
+    (
+        SectionKind::CoreStack,
+        b"\x1B\x09corestack\x00\x04main\x01\x00\x00\x2A\x33\x01\x7F\x01\x01\x7F\x02",
+        Told::Frame("main", (0, 42, 51), Value::I32(1), Value::I32(2)),
+    ),
+    (
+        SectionKind::CoreStack,
+        b"\x1D\x09corestack\x00\x04main\x01\x00\x00\x2A\x33\x01\x01\x01\x7D\x01\x00\x00\x00",
+        Told::Frame("main", (0, 42, 51), Value::Missing, Value::F32(1)),
+    ),
+    (
+        SectionKind::CoreStack,
+        b"\x22\x09corestack\x00\x04main\x01\x00\x00\x2A\x33\x01\x7E\x7F\x01\x7C\x01\x00\x00\x00\x00\x00\x00\x00",
+        Told::Frame("main", (0, 42, 51), Value::I64(-1), Value::F64(1)),
+    ),
+    (
+        SectionKind::CoreStack,
+        b"\x11\x09corestack\x00\x04main\x00",
+        Told::Process("main"),
+    ),
+    (
+        SectionKind::Hints,
+        b"\x20\x19metadata.code.branch_hint\x01\x00\x01\x03\x01\x7F",
+        Told::Hint(0, 3, 127),
+    ),
+];
+
+/// Numbers are padded.
+static PADDED: [Row; 2] = [
+    (
+        SectionKind::Names,
+        b"\x8B\x80\x00\x04name\x00\x83\x00\x81\x00m",
+        Told::Module("m"),
+    ),
+    (
+        SectionKind::Linking,
+        b"\x0A\x07linking\x82\x00",
+        Told::Nothing,
+    ),
+];
+
+/// This is read, and so many bytes are taken.
+fn check(
+    rt: &impl Abort,
+    alloc: Global,
+    kind: SectionKind,
+    bytes: &[u8],
+    expected: Told<'_>,
+    taken: usize,
+) {
+    assert_eq!(rt; read(alloc, kind, bytes), Some((expected, taken)));
+}
+
+#[test]
+fn custom_rows() {
+    let rt = crate::host::HostRuntime;
+    for (kind, bytes, told) in ROWS.iter() {
+        check(&rt, rt.alloc(), *kind, bytes, *told, bytes.len());
+    }
+    for (kind, bytes, told) in PADDED.iter() {
+        check(&rt, rt.alloc(), *kind, bytes, *told, bytes.len());
+    }
+}
+
+/// What follows a section is left, also where it is a subsection of its own.
+#[test]
+fn subsection_behind() {
+    let rt = crate::host::HostRuntime;
+    let bytes: &[u8] = b"\x09\x04name\x00\x02\x01m\x01\x03\x01\x00\x00";
+    check(
+        &rt,
+        rt.alloc(),
+        SectionKind::Names,
+        bytes,
+        Told::Module("m"),
+        10,
+    );
+}

@@ -1,0 +1,192 @@
+// Written by tools/to-rust from crates/wasm_reader_sections_tests/src/custom_seen.rt: change that.
+// Items of custom sections as plain data.
+
+use dolzhytik::alloc::Global;
+use dolzhytik::custom::{CoreDumpValue, DataSymbolDefinition};
+use dolzhytik::reader::{Items, SectionKind, read_section};
+use dolzhytik::reader::custom::{CoreFrame, LinkItem, NameItem, Symbol};
+
+/// A value of a core dump.
+#[derive(Clone, Copy, PartialEq, Debug)]
+pub(crate) enum Value {
+    Missing,
+    I32(i32),
+    I64(i64),
+    F32(u32),
+    F64(u64),
+}
+
+/// A section of no item, or of those that the rows have: all that they say.
+#[derive(Clone, Copy, PartialEq, Debug)]
+pub(crate) enum Told<'a> {
+    Nothing,
+    Module(&'a str),
+    /// A subsection's id, an index and its name.
+    Named(u8, u32, &'a str),
+    /// Two indices and their names.
+    NamedTwice((u32, &'a str), (u32, &'a str)),
+    /// A subsection's id, an index, and an index inside and its name.
+    Inside(u8, u32, u32, &'a str),
+    Other(u8, &'a [u8]),
+    Arch(&'a str),
+    /// The number of symbols of a subsection of another number than one.
+    Symbols(usize),
+    /// Flags, index and name.
+    Function(u32, u32, Option<&'a str>),
+    Global(u32, u32, Option<&'a str>),
+    Table(u32, u32, Option<&'a str>),
+    Data(u32, &'a str, Option<(u32, u32, u32)>),
+    /// A field of two values.
+    Field(&'a str, (&'a str, &'a str), (&'a str, &'a str)),
+    /// Function, offset and value.
+    Hint(u32, u32, u32),
+    Process(&'a str),
+    Modules(&'a str, &'a str),
+    /// Module, memory and global.
+    Instance(u32, u32, u32),
+    /// The thread, where its frame is, and a local and a value of the stack.
+    Frame(&'a str, (u32, u32, u32), Value, Value),
+    Others,
+}
+
+fn value_told(value: CoreDumpValue) -> Value {
+    match value {
+        CoreDumpValue::Missing => Value::Missing,
+        CoreDumpValue::I32(number) => Value::I32(number),
+        CoreDumpValue::I64(number) => Value::I64(number),
+        CoreDumpValue::F32(float) => Value::F32(float.bits()),
+        CoreDumpValue::F64(float) => Value::F64(float.bits()),
+    }
+}
+
+fn name_told<'a>(item: &NameItem<'a>) -> Told<'a> {
+    match item {
+        NameItem::Module(name) => Told::Module(name),
+        NameItem::Map { id, names } => match names.as_slice() {
+            [(index, name)] => Told::Named(*id, *index, name),
+            [(index, name), (next, other)] => Told::NamedTwice((*index, name), (*next, other)),
+            _ => Told::Others,
+        },
+        NameItem::Indirect { id, maps } => match maps.as_slice() {
+            [(index, names)] => match names.as_slice() {
+                [(inside, name)] => Told::Inside(*id, *index, *inside, name),
+                _ => Told::Others,
+            },
+            _ => Told::Others,
+        },
+        NameItem::Other { id, bytes } => Told::Other(*id, bytes),
+    }
+}
+
+fn definition_told(definition: Option<DataSymbolDefinition>) -> Option<(u32, u32, u32)> {
+    match definition {
+        Some(given) => Some((given.index, given.offset, given.size)),
+        None => None,
+    }
+}
+
+fn symbol_told<'a>(symbol: Symbol<'a>) -> Told<'a> {
+    match symbol {
+        Symbol::Function { flags, index, name } => Told::Function(flags, index, name),
+        Symbol::Global { flags, index, name } => Told::Global(flags, index, name),
+        Symbol::Table { flags, index, name } => Told::Table(flags, index, name),
+        Symbol::DataSymbol {
+            flags,
+            name,
+            definition,
+        } => Told::Data(flags, name, definition_told(definition)),
+    }
+}
+
+fn link_told<'a>(item: &LinkItem<'a>) -> Told<'a> {
+    match item {
+        LinkItem::Arch(name) => Told::Arch(name),
+        LinkItem::Symbols(symbols) => match symbols.as_slice() {
+            [symbol] => symbol_told(*symbol),
+            symbols => Told::Symbols(symbols.len()),
+        },
+    }
+}
+
+fn frame_told<'a>(thread: &'a str, frame: &CoreFrame) -> Told<'a> {
+    match (frame.locals.as_slice(), frame.stack.as_slice()) {
+        ([local], [top]) => Told::Frame(
+            thread,
+            (frame.instanceidx, frame.funcidx, frame.codeoffset),
+            value_told(*local),
+            value_told(*top),
+        ),
+        _ => Told::Others,
+    }
+}
+
+/// What sections of names, links and producers are read as.
+fn items_told<'a>(items: &Items<'a>) -> Told<'a> {
+    match items {
+        Items::Names(names) => match names.as_slice() {
+            [] => Told::Nothing,
+            [name] => name_told(name),
+            _ => Told::Others,
+        },
+        Items::Linking(links) => match links.as_slice() {
+            [] => Told::Nothing,
+            [link] => link_told(link),
+            _ => Told::Others,
+        },
+        Items::Producers(fields) => match fields.as_slice() {
+            [] => Told::Nothing,
+            [(name, values)] => match values.as_slice() {
+                [first, second] => Told::Field(name, *first, *second),
+                _ => Told::Others,
+            },
+            _ => Told::Others,
+        },
+        _ => dump_told(items),
+    }
+}
+
+/// What hints and core dumps are read as.
+fn dump_told<'a>(items: &Items<'a>) -> Told<'a> {
+    match items {
+        Items::Hints(functions) => match functions.as_slice() {
+            [] => Told::Nothing,
+            [(function, hints)] => match hints.as_slice() {
+                [hint] => Told::Hint(*function, hint.branch_func_offset, hint.branch_hint_value),
+                _ => Told::Others,
+            },
+            _ => Told::Others,
+        },
+        Items::Core(name) => Told::Process(name),
+        Items::CoreModules(names) => match names.as_slice() {
+            [] => Told::Nothing,
+            [first, second] => Told::Modules(first, second),
+            _ => Told::Others,
+        },
+        Items::CoreInstances(instances) => match instances.as_slice() {
+            [] => Told::Nothing,
+            [(ty, memories, globals)] => match (memories.as_slice(), globals.as_slice()) {
+                ([memory], [global]) => Told::Instance(*ty, *memory, *global),
+                _ => Told::Others,
+            },
+            _ => Told::Others,
+        },
+        Items::CoreStack { thread, frames } => match frames.as_slice() {
+            [] => Told::Process(thread),
+            [frame] => frame_told(thread, frame),
+            _ => Told::Others,
+        },
+        _ => Told::Others,
+    }
+}
+
+/// What a section is read as, and how many bytes it takes.
+pub(crate) fn read<'a>(
+    alloc: Global,
+    kind: SectionKind,
+    bytes: &'a [u8],
+) -> Option<(Told<'a>, usize)> {
+    match read_section(kind, bytes, alloc) {
+        Ok((items, taken)) => Some((items_told(&items), taken)),
+        Err(_) => None,
+    }
+}

@@ -1,0 +1,33 @@
+// Written by tools/to-rust from crates/wasm_reader_sections_tests/src/lib.rt: change that.
+//! Tests of `wasm_reader` and `examples`: bytes that were worked out from the format's documents, and requests for memory that are refused.
+
+#![allow(unused_variables, clippy::all)]
+
+#[macro_use]
+#[path = "../support/host.rs"]
+mod host;
+#[path = "../test_support/mod.rs"]
+mod test_support;
+#[path = "../examples/mod.rs"]
+mod examples;
+pub mod callers;
+#[cfg(test)]
+mod checks;
+#[cfg(test)]
+mod custom_rows;
+#[cfg(test)]
+mod custom_seen;
+#[cfg(test)]
+mod example_bytes;
+#[cfg(test)]
+mod faults;
+#[cfg(test)]
+mod modules;
+#[cfg(test)]
+mod refusals;
+#[cfg(test)]
+mod rows;
+#[cfg(test)]
+mod seen;
+#[cfg(test)]
+mod shortest;

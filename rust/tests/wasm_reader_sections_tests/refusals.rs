@@ -1,0 +1,171 @@
+// Written by tools/to-rust from crates/wasm_reader_sections_tests/src/refusals.rt: change that.
+// Each request for memory refused in turn: the cause is `Memory`.
+
+use crate::checks::MOST;
+use dolzhytik::alloc::Global;
+use crate::host::Abort;
+use crate::test_support::Refusing;
+use dolzhytik::reader::{SectionKind, list_module, read_section};
+use dolzhytik::reader::base::ReadFault;
+
+/// What is asked of the reader.
+#[derive(Clone, Copy)]
+enum Question {
+    Section(SectionKind),
+    Module,
+}
+
+fn answer(heap: &Refusing<Global>, question: Question, bytes: &[u8]) -> Option<ReadFault> {
+    match question {
+        Question::Section(kind) => match read_section(kind, bytes, heap) {
+            Ok(_) => None,
+            Err(fault) => Some(fault),
+        },
+        Question::Module => match list_module(bytes, heap) {
+            Ok(_) => None,
+            Err((_, fault)) => Some(fault),
+        },
+    }
+}
+
+fn check_answer(rt: &impl Abort, given: Option<ReadFault>, expected: Option<ReadFault>) {
+    assert_eq!(rt; given, expected);
+}
+
+/// The cause is `Memory` where a request is refused. So many requests are made.
+fn check(
+    rt: &impl Abort,
+    heap: &Refusing<Global>,
+    question: Question,
+    bytes: &[u8],
+    requests: u64,
+) {
+    for nth in 1..MOST {
+        heap.refuse(nth);
+        let given = answer(heap, question, bytes);
+        if heap.is_waiting() {
+            check_answer(rt, given, None);
+            assert_eq!(rt; nth, requests.saturating_add(1));
+            return;
+        }
+        check_answer(rt, given, Some(ReadFault::Memory));
+    }
+    panic!(rt; "no call was granted")
+}
+
+/// A question, the bytes, and how many requests are made.
+type Row = (Question, &'static [u8], u64);
+
+static ROWS: [Row; 26] = [
+    (Question::Section(SectionKind::Functions), &[2, 1, 5], 1),
+    (
+        Question::Section(SectionKind::Bodies),
+        &[8, 1, 6, 1, 1, 0x7F, 0x20, 0, 0x0B],
+        4,
+    ),
+    (
+        Question::Section(SectionKind::Segments),
+        &[7, 1, 2, 3, 65, 1, 11, 0],
+        3,
+    ),
+    (
+        Question::Section(SectionKind::Elements),
+        &[7, 1, 0, 65, 0, 11, 1, 9],
+        4,
+    ),
+    (
+        Question::Section(SectionKind::Exports),
+        b"\x07\x01\x03foo\x00\x00",
+        1,
+    ),
+    (
+        Question::Section(SectionKind::Globals),
+        &[6, 1, 127, 0, 65, 42, 11],
+        3,
+    ),
+    (
+        Question::Section(SectionKind::Imports),
+        &[10, 1, 1, 109, 0, 127, 1, 1, 97, 0, 0],
+        2,
+    ),
+    (
+        Question::Section(SectionKind::Imports),
+        &[12, 1, 1, 109, 0, 126, 0, 0, 2, 1, 97, 1, 98],
+        2,
+    ),
+    (
+        Question::Section(SectionKind::Memories),
+        &[5, 1, 15, 1, 2, 0],
+        1,
+    ),
+    (
+        Question::Section(SectionKind::Tables),
+        &[9, 1, 64, 0, 112, 0, 0, 208, 112, 11],
+        3,
+    ),
+    (Question::Section(SectionKind::Tags), &[3, 1, 0, 3], 1),
+    (Question::Section(SectionKind::Start), &[1, 7], 0),
+    (Question::Section(SectionKind::DataCount), &[1, 7], 0),
+    (
+        Question::Section(SectionKind::Names),
+        b"\x09\x04name\x00\x02\x01m",
+        1,
+    ),
+    (
+        Question::Section(SectionKind::Names),
+        b"\x0B\x04name\x0B\x04\x01\x00\x01t",
+        2,
+    ),
+    (
+        Question::Section(SectionKind::Names),
+        b"\x0D\x04name\x02\x06\x01\x00\x01\x01\x01x",
+        3,
+    ),
+    (
+        Question::Section(SectionKind::Linking),
+        b"\x0F\x07linking\x02\x08\x04\x01\x00\x10\x00",
+        2,
+    ),
+    (
+        Question::Section(SectionKind::Producers),
+        b"\x15\x09producers\x01\x03sdk\x01\x02em\x013",
+        2,
+    ),
+    (
+        Question::Section(SectionKind::Hints),
+        b"\x20\x19metadata.code.branch_hint\x01\x00\x01\x03\x01\x01",
+        2,
+    ),
+    (
+        Question::Section(SectionKind::Core),
+        b"\x0B\x04core\x00\x04test",
+        0,
+    ),
+    (
+        Question::Section(SectionKind::CoreModules),
+        b"\x19\x0Bcoremodules\x02\x00\x04mod1\x00\x04mod2",
+        1,
+    ),
+    (
+        Question::Section(SectionKind::CoreInstances),
+        b"\x15\x0Dcoreinstances\x01\x00\x00\x01\x2A\x01\x11",
+        3,
+    ),
+    (
+        Question::Section(SectionKind::CoreStack),
+        b"\x1B\x09corestack\x00\x04main\x01\x00\x00\x2A\x33\x01\x7F\x01\x01\x7F\x02",
+        3,
+    ),
+    (Question::Section(SectionKind::Custom), &[1, 0], 0),
+    (Question::Section(SectionKind::Raw), &[1, 0], 0),
+    (Question::Module, b"\0asm\x01\0\0\0\x03\x02\x01\x05", 2),
+];
+
+#[test]
+fn requests() {
+    let rt = crate::host::HostRuntime;
+    let heap = Refusing::new(rt.alloc());
+    for (question, bytes, requests) in ROWS.iter() {
+        check(&rt, &heap, *question, bytes, *requests);
+    }
+}

@@ -1,0 +1,74 @@
+// Written by tools/to-rust from crates/wasm_reader_tests/src/checks.rt: change that.
+// What tests compare, over plain data: an assertion beside values that own memory takes far longer to prove.
+
+use dolzhytik::vec::Vec;
+use dolzhytik::alloc::Global;
+use crate::host::Abort;
+use dolzhytik::base::Encode;
+use dolzhytik::reader::base::{ReadFault, Readable};
+
+/// The cause is this.
+pub(crate) fn check_cause(rt: &impl Abort, given: Option<ReadFault>, expected: ReadFault) {
+    assert_eq!(rt; given, Some(expected));
+}
+
+/// The numbers are these.
+pub(crate) fn check_numbers(rt: &impl Abort, given: &[u32], expected: &[u32]) {
+    assert_eq!(rt; given, expected);
+}
+
+/// So many bytes were left.
+pub(crate) fn check_left(rt: &impl Abort, given: &[u8], expected: usize) {
+    assert_eq!(rt; given.len(), expected);
+}
+
+/// Why nothing of the type `T` is read.
+fn fault_of<'a, T: Readable<'a, Global>>(alloc: Global, bytes: &'a [u8]) -> Option<ReadFault> {
+    match T::read(bytes, alloc) {
+        Ok(_) => None,
+        Err(fault) => Some(fault),
+    }
+}
+
+/// Nothing of the type `T` is read, for this cause.
+pub(crate) fn check_fault<'a, T: Readable<'a, Global>>(
+    rt: &impl Abort,
+    alloc: Global,
+    bytes: &'a [u8],
+    expected: ReadFault,
+) {
+    check_cause(rt, fault_of::<T>(alloc, bytes), expected);
+}
+
+/// This value of the type `T` is read, and so many bytes follow it.
+pub(crate) fn check_read<'a, T: Readable<'a, Global> + Copy + PartialEq>(
+    rt: &impl Abort,
+    alloc: Global,
+    bytes: &'a [u8],
+    expected: T,
+    left: usize,
+) {
+    let (value, rest) = T::read(bytes, alloc).expect("accepted");
+    assert!(rt; value == expected);
+    check_left(rt, rest, left);
+}
+
+/// The bytes are these.
+pub(crate) fn check_bytes(rt: &impl Abort, given: &[u8], expected: &[u8]) {
+    assert_eq!(rt; given, expected);
+}
+
+/// The value of the type `T` that is read has this text, of fewest bytes, and so many bytes follow it.
+pub(crate) fn check_text<'a, T: Readable<'a, Global> + Encode>(
+    rt: &impl Abort,
+    alloc: Global,
+    bytes: &'a [u8],
+    text: &[u8],
+    left: usize,
+) {
+    let (value, rest) = T::read(bytes, alloc).expect("accepted");
+    let mut sink = Vec::new(alloc);
+    value.encode(&mut sink).expect("accepted");
+    check_bytes(rt, &sink, text);
+    check_left(rt, rest, left);
+}

@@ -1,0 +1,111 @@
+// Written by tools/to-rust from crates/wasm_reader_tests/src/frames.rt: change that.
+// Pairs, vectors, frames and flags, with ample memory; the texts of faults.
+
+use dolzhytik::vec::Vec;
+use crate::checks::{check_fault, check_left, check_numbers};
+use dolzhytik::alloc::Global;
+use crate::host::Abort;
+use dolzhytik::reader::base::{Framed, ReadFault, Readable, read_optional};
+
+/// A section of indices.
+type Numbers = Framed<Vec<u32>>;
+
+/// These numbers are read as a section of indices, and so many bytes follow it.
+fn check_section(rt: &impl Abort, alloc: Global, bytes: &[u8], expected: &[u32], left: usize) {
+    let (Framed(numbers), rest) = Numbers::read(bytes, alloc).expect("accepted");
+    check_numbers(rt, &numbers, expected);
+    check_left(rt, rest, left);
+}
+
+#[test]
+fn sections_of_numbers() {
+    let rt = crate::host::HostRuntime;
+    let alloc = rt.alloc();
+    check_section(&rt, alloc, &[2, 1, 5, 0x99], &[5], 1);
+    check_section(
+        &rt,
+        alloc,
+        &[0x86, 0, 1, 0x85, 0x80, 0x80, 0x80, 0],
+        &[5],
+        0,
+    );
+    check_section(&rt, alloc, &[3, 1, 0x80, 0], &[0], 0);
+    check_section(&rt, alloc, &[1, 0, 7], &[], 1);
+    check_section(&rt, alloc, &[4, 3, 1, 2, 3], &[1, 2, 3], 0)
+}
+
+#[test]
+fn sections_that_are_none() {
+    let rt = crate::host::HostRuntime;
+    let alloc = rt.alloc();
+    check_fault::<Numbers>(
+        &rt,
+        alloc,
+        &[5, 0xFF, 0xFF, 0xFF, 0xFF, 15],
+        ReadFault::Ended,
+    );
+    check_fault::<Numbers>(
+        &rt,
+        alloc,
+        &[6, 1, 0xFF, 0xFF, 0xFF, 0xFF, 0x1F],
+        ReadFault::TooLarge,
+    );
+    check_fault::<Numbers>(&rt, alloc, &[3, 1, 0, 0], ReadFault::SizeMismatch);
+    check_fault::<Numbers>(
+        &rt,
+        alloc,
+        &[7, 1, 0x80, 0x80, 0x80, 0x80, 0x80, 0],
+        ReadFault::TooLarge,
+    );
+    check_fault::<Framed<Vec<(&str, (u8, u32))>>>(
+        &rt,
+        alloc,
+        &[5, 1, 1, 0xFF, 0, 0],
+        ReadFault::NotUtf8,
+    );
+}
+
+/// What a flag tells, and how many bytes are left.
+fn check_optional(rt: &impl Abort, given: Option<u64>, expected: Option<u64>) {
+    assert_eq!(rt; given, expected);
+}
+
+#[test]
+fn optional_values() {
+    let rt = crate::host::HostRuntime;
+    let (some, rest) = read_optional::<u64, Global>(true, &[0x85, 0, 9], rt.alloc()).expect(
+        "accepted",
+    );
+    check_optional(&rt, some, Some(5));
+    check_left(&rt, rest, 1);
+    let (none, rest) = read_optional::<u64, Global>(false, &[0x85, 0, 9], rt.alloc()).expect(
+        "accepted",
+    );
+    check_optional(&rt, none, None);
+    check_left(&rt, rest, 3);
+}
+
+/// The text of the fault is this.
+fn check_said(rt: &impl Abort, alloc: Global, fault: ReadFault, expected: &str) {
+    let said = format!(in alloc; "{fault}").expect("accepted");
+    check_same(rt, said.as_str(), expected);
+}
+
+/// The texts are one.
+fn check_same(rt: &impl Abort, given: &str, expected: &str) {
+    assert_eq!(rt; given, expected);
+}
+
+#[test]
+fn texts_of_faults() {
+    let rt = crate::host::HostRuntime;
+    let alloc = rt.alloc();
+    check_said(&rt, alloc, ReadFault::Ended, "Ended");
+    check_said(&rt, alloc, ReadFault::NotShortest, "NotShortest");
+    check_said(&rt, alloc, ReadFault::TooLarge, "TooLarge");
+    check_said(&rt, alloc, ReadFault::UnknownTag, "UnknownTag");
+    check_said(&rt, alloc, ReadFault::UnknownOpcode, "UnknownOpcode");
+    check_said(&rt, alloc, ReadFault::NotUtf8, "NotUtf8");
+    check_said(&rt, alloc, ReadFault::SizeMismatch, "SizeMismatch");
+    check_said(&rt, alloc, ReadFault::Memory, "Memory")
+}

@@ -1,0 +1,26 @@
+// Written by tools/to-rust from crates/wasm_reader_tests/src/lib.rt: change that.
+//! Tests of `wasm_reader_base` and `wasm_reader_insn`: bytes that were worked out from the format's documents, and requests for memory
+//! that are refused.
+
+#![allow(unused_variables, clippy::all)]
+
+#[macro_use]
+#[path = "../support/host.rs"]
+mod host;
+#[path = "../test_support/mod.rs"]
+mod test_support;
+#[cfg(test)]
+mod base;
+pub mod callers;
+#[cfg(test)]
+mod checks;
+#[cfg(test)]
+mod frames;
+#[cfg(test)]
+mod instructions;
+#[cfg(test)]
+mod refusals;
+#[cfg(test)]
+mod shorten;
+#[cfg(test)]
+mod walks;

@@ -1,0 +1,118 @@
+// Written by tools/to-rust from crates/wasm_reader_tests/src/refusals.rt: change that.
+// Each request for memory refused in turn: the cause is `Memory`, and a walk stays where it was.
+
+use dolzhytik::vec::Vec;
+use crate::checks::check_cause;
+use dolzhytik::alloc::Global;
+use crate::host::Abort;
+use crate::test_support::Refusing;
+use dolzhytik::insn::Op;
+use dolzhytik::reader::base::{Framed, ReadFault, Readable};
+use dolzhytik::reader::insn::{Body, Expression, Instructions, Plain, Step};
+
+/// More requests than any call here makes.
+const MOST: u64 = 100;
+
+/// Nothing was refused.
+fn check_read(rt: &impl Abort, given: Option<ReadFault>) {
+    assert_eq!(rt; given, None);
+}
+
+/// The value of the type `T` is read, unless a request is refused, and then the cause is `Memory`. So many requests are made.
+fn check_refusals<'a, T: Readable<'a, &'a Refusing<Global>>>(
+    rt: &impl Abort,
+    heap: &'a Refusing<Global>,
+    bytes: &'a [u8],
+    requests: u64,
+) {
+    for nth in 1..MOST {
+        heap.refuse(nth);
+        let fault = match T::read(bytes, heap) {
+            Ok(_) => None,
+            Err(fault) => Some(fault),
+        };
+        if heap.is_waiting() {
+            check_read(rt, fault);
+            check_requests(rt, nth, requests);
+            return;
+        }
+        check_cause(rt, fault, ReadFault::Memory);
+    }
+    panic!(rt; "no call was granted")
+}
+
+/// The first call that was granted is the one after these requests.
+fn check_requests(rt: &impl Abort, nth: u64, requests: u64) {
+    assert_eq!(rt; nth, requests.saturating_add(1));
+}
+
+#[test]
+fn vectors() {
+    let rt = crate::host::HostRuntime;
+    let heap = Refusing::new(rt.alloc());
+    check_refusals::<Vec<u32, &Refusing<Global>>>(&rt, &heap, &[0], 0);
+    check_refusals::<Vec<u32, &Refusing<Global>>>(&rt, &heap, &[5, 1, 2, 3, 4, 5], 2);
+    check_refusals::<Framed<Vec<u32, &Refusing<Global>>>>(&rt, &heap, &[2, 1, 5], 1);
+}
+
+#[test]
+fn instructions() {
+    let rt = crate::host::HostRuntime;
+    let heap = Refusing::new(rt.alloc());
+    check_refusals::<Plain<&Refusing<Global>>>(&rt, &heap, &[0x0B], 0);
+    check_refusals::<Plain<&Refusing<Global>>>(&rt, &heap, &[0x20, 1], 1);
+    check_refusals::<Plain<&Refusing<Global>>>(&rt, &heap, &[0x0E, 1, 0, 0], 2);
+    check_refusals::<Expression<&Refusing<Global>>>(&rt, &heap, &[0x41, 1, 0x0B], 2);
+    check_refusals::<Body<&Refusing<Global>>>(&rt, &heap, &[6, 1, 1, 0x7F, 0x20, 0, 0x0B], 3);
+}
+
+#[test]
+fn walks_of_bodies() {
+    let rt = crate::host::HostRuntime;
+    let heap = Refusing::new(rt.alloc());
+    heap.refuse(1);
+    let refused = match Instructions::of_body(&[1, 1, 0x7F, 0x0B], &heap) {
+        Ok(_) => None,
+        Err(fault) => Some(fault),
+    };
+    check_cause(&rt, refused, ReadFault::Memory);
+}
+
+/// What a walk answered, and where it is then.
+fn check_walk(
+    rt: &impl Abort,
+    given: Result<Option<Step>, ReadFault>,
+    expected: Result<Option<Step>, ReadFault>,
+    place: usize,
+    expected_place: usize,
+) {
+    assert_eq!(rt; given, expected);
+    assert_eq!(rt; place, expected_place);
+}
+
+#[test]
+fn walks() {
+    let rt = crate::host::HostRuntime;
+    let heap = Refusing::new(rt.alloc());
+    let mut walk = Instructions::new(&[0x20, 1, 0x41, 2, 0x0B], &heap);
+    let first = Step {
+        place: 0,
+        op: Op::Byte(0x20),
+    };
+    heap.refuse(1);
+    let answer = walk.next();
+    check_walk(&rt, answer, Err(ReadFault::Memory), walk.place(), 0);
+    heap.refuse(1);
+    let answer = walk.next_before_end();
+    check_walk(&rt, answer, Err(ReadFault::Memory), walk.place(), 0);
+    let answer = walk.next();
+    check_walk(&rt, answer, Ok(Some(first)), walk.place(), 2);
+    // the memory of its arguments is there
+    heap.refuse_all();
+    let second = Step {
+        place: 2,
+        op: Op::Byte(0x41),
+    };
+    let answer = walk.next_before_end();
+    check_walk(&rt, answer, Ok(Some(second)), walk.place(), 4);
+}

@@ -1,0 +1,90 @@
+// Written by tools/to-rust from crates/wasm_reader_tests/src/shorten.rt: change that.
+// What was read is written in its fewest bytes.
+
+use dolzhytik::vec::Vec;
+use crate::checks::check_bytes;
+use dolzhytik::alloc::Global;
+use crate::host::Abort;
+use crate::test_support::Refusing;
+use dolzhytik::base::{Refused, ValType};
+use dolzhytik::reader::base::{Filled, Framed, Readable, Shorten};
+use dolzhytik::reader::insn::{Body, Expression, Plain};
+
+/// More requests than any call here makes.
+const MOST: u64 = 100;
+
+/// This was refused.
+fn check_refused(rt: &impl Abort, given: Option<Refused>, expected: Option<Refused>) {
+    assert_eq!(rt; given, expected);
+}
+
+/// The value has this text, unless a request for memory is refused.
+fn check_value<T: Shorten>(rt: &impl Abort, alloc: Global, value: &T, text: &[u8]) {
+    let heap = Refusing::new(alloc);
+    for nth in 1..MOST {
+        heap.refuse(nth);
+        let mut out = Vec::new(&heap);
+        let refused = value.append_shortest(&mut out).err();
+        if heap.is_waiting() {
+            check_refused(rt, refused, None);
+            check_bytes(rt, &out, text);
+            return;
+        }
+        check_refused(rt, refused, Some(Refused::Memory));
+    }
+    panic!(rt; "no call was granted")
+}
+
+/// The value of the type `T` that is read has this text.
+fn check<'a, T: Readable<'a, Global> + Shorten>(
+    rt: &impl Abort,
+    alloc: Global,
+    bytes: &'a [u8],
+    text: &[u8],
+) {
+    let (value, _rest) = T::read(bytes, alloc).expect("accepted");
+    check_value(rt, alloc, &value, text);
+}
+
+#[test]
+fn numbers_and_names() {
+    let rt = crate::host::HostRuntime;
+    let alloc = rt.alloc();
+    check::<u32>(&rt, alloc, &[0x85, 0x80, 0], &[5]);
+    check::<&[u8]>(&rt, alloc, &[0x82, 0, 1, 2], &[2, 1, 2]);
+    check::<&str>(&rt, alloc, b"\x81\x00a", b"\x01a");
+    check::<ValType>(&rt, alloc, &[0x63, 0x85, 0], &[0x63, 5])
+}
+
+#[test]
+fn parts() {
+    let rt = crate::host::HostRuntime;
+    let alloc = rt.alloc();
+    check::<(u32, u32)>(&rt, alloc, &[0x81, 0, 0x82, 0], &[1, 2]);
+    check::<Vec<u32>>(&rt, alloc, &[0x82, 0, 0x85, 0, 6], &[2, 5, 6]);
+    check::<Framed<Vec<u32>>>(&rt, alloc, &[0x84, 0, 1, 0x85, 0x80, 0], &[2, 1, 5]);
+    check_value(&rt, alloc, &Filled(7u32), &[1, 7]);
+}
+
+/// Frames whose sizes have two bytes.
+#[test]
+fn long_frames() {
+    let rt = crate::host::HostRuntime;
+    let alloc = rt.alloc();
+    let mut bytes = Vec::new(alloc);
+    bytes
+        .extend_from_slice(&[0x82, 0x01, 0x80, 0x01])
+        .expect("accepted");
+    bytes.extend_from_slice(&[7; 128]).expect("accepted");
+    check::<Framed<&[u8]>>(&rt, alloc, &bytes, &bytes)
+}
+
+#[test]
+fn code() {
+    let rt = crate::host::HostRuntime;
+    let alloc = rt.alloc();
+    check::<Plain>(&rt, alloc, &[0x0E, 0x81, 0, 0, 1], &[0x0E, 1, 0, 1]);
+    check::<Plain>(&rt, alloc, &[0x28, 2, 0x90, 0], &[0x28, 2, 0x10]);
+    check::<Expression>(&rt, alloc, &[0x41, 0x80, 0, 0x0B], &[0x41, 0, 0x0B]);
+    check::<Body>(&rt, alloc, &[3, 0x80, 0, 0x0B], &[2, 0, 0x0B])
+}

@@ -1,0 +1,25 @@
+// Written by tools/to-rust from crates/wasm_sections_tests/src/body_callers.rt: change that.
+//! A caller of a function's sinks: the body is known to the byte, and so is the length between.
+
+use dolzhytik::alloc::Allocator;
+use dolzhytik::base::R;
+use dolzhytik::code::Function;
+use dolzhytik::insn::BlockType;
+
+/// A constant, and then an empty block that is entered where it is not 0. The result is the place of the branch.
+///
+/// # Proved
+///
+/// ```text
+/// ensures body { IfOk result (λ at. function.new ≡ function.old ++ 0x41 ∷ 0x01 ∷ 0x04 ∷ 0x40 ∷ 0x0B ∷ 0x0B ∷ []) }
+/// ensures place { IfOk result (λ at. at ≡ length function.old + 2) }
+/// ```
+pub fn branch_on_one<A: Allocator>(function: &mut Function<A>) -> R<usize> {
+    function.instructions().i32_const(1)?;
+    let at = function.byte_len();
+    let mut instructions = function.instructions();
+    instructions.if_(BlockType::Empty)?;
+    instructions.end()?;
+    instructions.end()?;
+    Ok(at)
+}

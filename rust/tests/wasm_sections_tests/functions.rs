@@ -1,0 +1,11 @@
+// Written by tools/to-rust from crates/wasm_sections_tests/src/functions.rt: change that.
+// Functions that several tests begin with.
+
+use dolzhytik::alloc::Allocator;
+use dolzhytik::base::R;
+use dolzhytik::code::Function;
+
+/// A function without locals, and no instructions yet.
+pub(crate) fn without_locals<A: Allocator>(alloc: A) -> R<Function<A>> {
+    Function::new(alloc, [])
+}

@@ -1,0 +1,34 @@
+// Written by tools/to-rust from crates/wasm_sections_tests/src/lib.rt: change that.
+//! Tests of `wasm_code` and `wasm_sections`: bytes that the format's documents give or that were worked out by hand, requests for memory
+//! that are refused, and callers that prove what they append and what a reader finds.
+
+#![allow(unused_variables, clippy::all)]
+
+#[macro_use]
+#[path = "../support/host.rs"]
+mod host;
+#[path = "../test_support/mod.rs"]
+mod test_support;
+pub mod body_callers;
+pub mod callers;
+#[cfg(test)]
+mod checks;
+#[cfg(test)]
+mod code;
+#[cfg(test)]
+mod code_refusals;
+#[cfg(test)]
+mod functions;
+#[cfg(test)]
+mod lengths;
+pub mod readings;
+#[cfg(test)]
+mod samples;
+#[cfg(test)]
+mod section_refusals;
+#[cfg(test)]
+mod sections;
+#[cfg(test)]
+mod segment_refusals;
+#[cfg(test)]
+mod segments;

@@ -1,0 +1,177 @@
+// Written by tools/to-rust from crates/wasm_tool_tests/src/failures.rt: change that.
+// Requests for memory that are refused, and reads and writes that fail in mid-stream.
+
+use crate::checks::{Heap, MOST, check_that};
+use dolzhytik::alloc::Global;
+use std::io::{Read, Write};
+use crate::host::Abort;
+use crate::test_support::{EndlessReader, FailingReader, FailingWriter, Refusing};
+use dolzhytik::recipe::{RecipeCause, RecipeFault, assemble, run};
+
+/// A recipe, and what the program writes of it.
+const TEXT: &str = "body 0b";
+
+const MODULE: &[u8] = b"0061736d010000000a040102000b\n";
+
+/// The line of the fault that `assemble` answered, of which one request was refused: 1, then 3, and then none.
+fn check_fault(rt: &impl Abort, last: usize, fault: Option<RecipeFault>) -> usize {
+    let Some(RecipeFault { line, cause }) = fault else {
+        panic!(rt; "a refused request was not told")
+    };
+    assert_eq!(rt; cause, RecipeCause::Memory);
+    assert!(rt; matches!((last, line), (1, 1) | (1, 3) | (3, 3) | (3, 0) | (0, 0)));
+    line
+}
+
+/// Each request that a recipe of two lines, with an empty one between, makes is refused in turn.
+fn check_recipe(rt: &impl Abort, alloc: Global, text: &str) {
+    let heap = Refusing::new(alloc);
+    let mut last = 1;
+    for nth in 1..MOST {
+        heap.refuse(nth);
+        let fault = assemble(&heap, text).err();
+        if heap.is_waiting() {
+            check_that(rt, fault.is_none());
+            // The sections are written after the last line.
+            check_that(rt, last == 0);
+            return;
+        }
+        last = check_fault(rt, last, fault);
+    }
+    panic!(rt; "no call was granted")
+}
+
+#[test]
+fn each_request_refused() {
+    let rt = crate::host::HostRuntime;
+    check_recipe(&rt, rt.alloc(), "type 600000\n\nbody 0b");
+    check_recipe(&rt, rt.alloc(), "global -1\n\ndata 8 6869");
+    check_recipe(&rt, rt.alloc(), "name a\n\nname b c");
+}
+
+/// What the program answered and wrote: the module, where it answered 0.
+fn check_module(rt: &impl Abort, status: u8, out: &[u8]) -> bool {
+    let expected = if status == 0 { MODULE } else { &[] };
+    assert_eq!(rt; out, expected);
+    assert!(rt; status < 2);
+    status == 0
+}
+
+/// `run` without arguments.
+fn run_on<I: Read, O: Write, E: Write>(
+    heap: Heap<'_>,
+    input: &mut I,
+    out: &mut O,
+    err: &mut E,
+) -> u8 {
+    run(heap, &[], input, out, err)
+}
+
+/// The program says that memory was refused, and where.
+fn check_memory(rt: &impl Abort, message: &[u8]) {
+    assert!(rt;
+        message == b"line 0: out of memory\n".as_slice()
+            || message == b"line 1: out of memory\n".as_slice()
+    );
+}
+
+#[test]
+fn each_request_of_the_program_refused() {
+    let rt = crate::host::HostRuntime;
+    let heap = Refusing::new(rt.alloc());
+    for nth in 1..MOST {
+        let mut out = FailingWriter::new(rt.alloc(), 0);
+        let mut err = FailingWriter::new(rt.alloc(), 0);
+        heap.refuse(nth);
+        let status = run_on(&heap, &mut TEXT.as_bytes(), &mut out, &mut err);
+        let written = check_module(&rt, status, out.bytes());
+        check_that(&rt, written == heap.is_waiting());
+        if written {
+            return;
+        }
+        check_memory(&rt, err.bytes());
+    }
+    panic!(rt; "no call was granted")
+}
+
+/// The program says nothing where it could read all, and else that the input is no text.
+fn check_input(rt: &impl Abort, whole: bool, message: &[u8]) {
+    let expected: &[u8] = if whole { &[] } else { b"input: not text\n" };
+    assert_eq!(rt; message, expected);
+}
+
+#[test]
+fn each_read_fails() {
+    let rt = crate::host::HostRuntime;
+    for failing in 1..MOST {
+        let mut input = FailingReader::new(TEXT.as_bytes(), 2, failing);
+        let mut out = FailingWriter::new(rt.alloc(), 0);
+        let mut err = FailingWriter::new(rt.alloc(), 0);
+        let status = run(rt.alloc(), &[], &mut input, &mut out, &mut err);
+        let whole = check_module(&rt, status, out.bytes());
+        check_input(&rt, whole, err.bytes());
+        if whole {
+            // Seven bytes, two at a time, and the end.
+            check_that(&rt, failing == 6);
+            return;
+        }
+    }
+    panic!(rt; "no run read all")
+}
+
+#[test]
+fn an_endless_input() {
+    let rt = crate::host::HostRuntime;
+    let mut input = EndlessReader::new();
+    let mut out = FailingWriter::new(rt.alloc(), 0);
+    let mut err = FailingWriter::new(rt.alloc(), 0);
+    let status = run(rt.alloc(), &[], &mut input, &mut out, &mut err);
+    check_that(&rt, !check_module(&rt, status, out.bytes()));
+    check_input(&rt, false, err.bytes());
+    check_that(&rt, input.reads() == 1048576);
+}
+
+/// A run where one write fails: what it writes goes no further. Answers whether no write failed.
+fn check_write(
+    rt: &impl Abort,
+    alloc: Global,
+    failing: u64,
+    text: &str,
+    expected: &[u8],
+    message: &[u8],
+) -> bool {
+    let mut out = FailingWriter::new(alloc, failing);
+    let mut err = FailingWriter::new(alloc, failing);
+    let mut input = text.as_bytes();
+    let status = run(alloc, &[], &mut input, &mut out, &mut err);
+    check_that(rt, status == 0 || status == 1);
+    check_that(rt, expected.starts_with(out.bytes()));
+    check_that(rt, message.starts_with(err.bytes()));
+    let ended = out.bytes() == expected && err.bytes() == message;
+    check_that(rt, status == 1 || (ended && message.is_empty()));
+    ended
+}
+
+/// Each write of the run fails in turn, until none does.
+fn check_writes(rt: &impl Abort, alloc: Global, text: &str, expected: &[u8], message: &[u8]) {
+    for failing in 1..MOST {
+        if check_write(rt, alloc, failing, text, expected, message) {
+            check_that(rt, failing > 1);
+            return;
+        }
+    }
+    panic!(rt; "no run wrote all")
+}
+
+#[test]
+fn each_write_fails() {
+    let rt = crate::host::HostRuntime;
+    check_writes(&rt, rt.alloc(), TEXT, MODULE, b"");
+    check_writes(
+        &rt,
+        rt.alloc(),
+        "nothing",
+        b"",
+        b"line 1: unknown command\n",
+    );
+}

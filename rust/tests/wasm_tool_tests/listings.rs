@@ -1,0 +1,143 @@
+// Written by tools/to-rust from crates/wasm_tool_tests/src/listings.rt: change that.
+// What `--read` gives.
+
+use dolzhytik::vec::Vec;
+use dolzhytik::string::String;
+use crate::checks::{MOST, check_run, check_that};
+use dolzhytik::alloc::Global;
+use crate::host::Abort;
+use crate::test_support::{FailingReader, FailingWriter, Refusing};
+use dolzhytik::recipe::run;
+
+/// A module of two sections, and its lines.
+const TEXT: &str = "0061736d01000000030201000705010166000000020161";
+
+const LINES: &[u8] = b"3 2 1\n7 5 1\n0 2 -\n";
+
+/// What the program answers and writes for a text.
+fn check_text(
+    rt: &impl Abort,
+    args: &[String],
+    alloc: Global,
+    text: &[u8],
+    expected: (u8, &str, &str),
+) {
+    let mut out = Vec::new(alloc);
+    let mut err = Vec::new(alloc);
+    let mut input = text;
+    let answer = run(alloc, args, &mut input, &mut out, &mut err);
+    let (status, lines, message) = expected;
+    check_run(
+        rt,
+        "--read",
+        (answer, &out, &err),
+        (status, lines.as_bytes(), message.as_bytes()),
+    );
+}
+
+/// The word `--read`.
+fn word(rt: &impl Abort, alloc: Global) -> [String; 1] {
+    [String::from_str(alloc, "--read").expect("accepted")]
+}
+
+#[test]
+fn lines_of_modules() {
+    let rt = crate::host::HostRuntime;
+    let args = word(&rt, rt.alloc());
+    let cases = [
+        ("0061736d01000000", ""),
+        ("0061736D01000000 \r\n \n", ""),
+        (
+            "0061736d0100000001070160027f7f017f03020100070501016600000a09010700200020016a0b",
+            "1 7 -\n3 2 1\n7 5 1\n10 9 1\n",
+        ),
+        ("0061736d01000000038300018000\r\n", "3 3 1\n"),
+        (
+            "0061736d0100000000020161020100040100050100060100080107090100",
+            "0 2 -\n2 1 0\n4 1 0\n5 1 0\n6 1 0\n8 1 1\n9 1 0\n",
+        ),
+        (
+            "0061736d010000000b01000c01020d01000e00ff0101",
+            "11 1 0\n12 1 1\n13 1 0\n14 0 -\n255 1 -\n",
+        ),
+    ];
+    for (text, lines) in cases {
+        check_text(&rt, &args, rt.alloc(), text.as_bytes(), (0, lines, ""));
+    }
+}
+
+#[test]
+fn faults() {
+    let rt = crate::host::HostRuntime;
+    let args = word(&rt, rt.alloc());
+    let cases = [
+        ("0061736d010000000a06010400281000", "section 1: Ended\n"),
+        ("", "section 0: Ended\n"),
+        ("0061736d0100", "section 0: Ended\n"),
+        ("0061736d02000000", "section 0: UnknownTag\n"),
+        ("0061736d010000000302010007", "section 2: Ended\n"),
+        ("0061736d01000000030301000d030101000", "input: bad hex\n"),
+        ("0061736d010000000d03010100", "section 1: UnknownTag\n"),
+        ("0061736d010000000703010100", "section 1: Ended\n"),
+        (" 0061736d01000000", "input: bad hex\n"),
+        ("0061736d 01000000", "input: bad hex\n"),
+        ("0061736d0100000g", "input: bad hex\n"),
+        ("0061736d0100000", "input: bad hex\n"),
+        ("\u{e9}", "input: bad hex\n"),
+    ];
+    for (text, message) in cases {
+        check_text(&rt, &args, rt.alloc(), text.as_bytes(), (1, "", message));
+    }
+    check_text(
+        &rt,
+        &args,
+        rt.alloc(),
+        &[0xFF],
+        (1, "", "input: not text\n"),
+    );
+}
+
+/// What the program answered and wrote where a request was to be refused: the lines where none was, and else that memory was refused.
+fn check_answer(rt: &impl Abort, granted: bool, status: u8, out: &[u8], message: &[u8]) {
+    if granted {
+        check_run(rt, TEXT, (status, out, message), (0, LINES, b""));
+    } else {
+        check_that(rt, status == 1 && out.is_empty());
+        check_that(rt, message.starts_with(b"section "));
+        check_that(rt, message.ends_with(b": Memory\n"));
+    }
+}
+
+#[test]
+fn each_request_refused() {
+    let rt = crate::host::HostRuntime;
+    let heap = Refusing::new(rt.alloc());
+    let args = [String::from_str(&heap, "--read").expect("accepted")];
+    for nth in 1..MOST {
+        let mut out = FailingWriter::new(rt.alloc(), 0);
+        let mut err = FailingWriter::new(rt.alloc(), 0);
+        heap.refuse(nth);
+        let status = run(&heap, &args, &mut TEXT.as_bytes(), &mut out, &mut err);
+        check_answer(&rt, heap.is_waiting(), status, out.bytes(), err.bytes());
+        if heap.is_waiting() {
+            return;
+        }
+    }
+    panic!(rt; "no call was granted")
+}
+
+#[test]
+fn a_read_fails() {
+    let rt = crate::host::HostRuntime;
+    let args = word(&rt, rt.alloc());
+    let mut input = FailingReader::new(TEXT.as_bytes(), 2, 3);
+    let mut out = FailingWriter::new(rt.alloc(), 0);
+    let mut err = FailingWriter::new(rt.alloc(), 0);
+    let status = run(rt.alloc(), &args, &mut input, &mut out, &mut err);
+    check_run(
+        &rt,
+        TEXT,
+        (status, out.bytes(), err.bytes()),
+        (1, b"", b"input: not text\n"),
+    );
+}

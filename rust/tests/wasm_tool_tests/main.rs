@@ -1,0 +1,18 @@
+// Written by tools/to-rust from crates/wasm_tool_tests/src/lib.rt: change that.
+//! Tests of `wasm_tool`: what the program writes of recipes and of modules, requests for memory that are refused, and reads and writes that fail.
+
+#![allow(unused_variables, clippy::all)]
+
+#[macro_use]
+#[path = "../support/host.rs"]
+mod host;
+#[path = "../test_support/mod.rs"]
+mod test_support;
+#[cfg(test)]
+mod checks;
+#[cfg(test)]
+mod failures;
+#[cfg(test)]
+mod listings;
+#[cfg(test)]
+mod recipes;
