@@ -746,7 +746,9 @@ fn measure(name: &str, items: usize) {
 
 fn measure_all(names: &[impl AsRef<str>]) {
     check_wrong_inputs();
-    println!("| workload | items | bytes | build | append | module | MB/s | to a copy | straight |");
+    println!(
+        "| workload | items | bytes | build | append | module | MB/s | to a copy | straight |"
+    );
     println!("|---|---|---|---|---|---|---|---|---|");
     for name in names {
         for items in SIZES {

@@ -199,7 +199,10 @@ fn measure(items: usize) {
     let runs = [
         ("read", best(|| read(&section))),
         ("walk", best(|| all(&bodies, walk))),
-        ("straight", best(|| all(&bodies, |body| straight(body).unwrap_or(0)))),
+        (
+            "straight",
+            best(|| all(&bodies, |body| straight(body).unwrap_or(0))),
+        ),
     ];
     for (name, seconds) in runs {
         let megabytes = section.len() as f64 / seconds / 1e6;

@@ -27,10 +27,7 @@ fn digit(byte: u8) -> Result<u8, FromHexError> {
 }
 
 /// The bytes that a text of hexadecimal digits tells.
-pub fn decode<T: AsRef<[u8]>, A: Allocator>(
-    alloc: A,
-    text: T,
-) -> Result<Vec<u8, A>, FromHexError> {
+pub fn decode<T: AsRef<[u8]>, A: Allocator>(alloc: A, text: T) -> Result<Vec<u8, A>, FromHexError> {
     let (pairs, []) = text.as_ref().as_chunks::<2>() else {
         return Err(FromHexError::NoHex);
     };
@@ -42,10 +39,7 @@ pub fn decode<T: AsRef<[u8]>, A: Allocator>(
 }
 
 /// The digits of the bytes, of lower case.
-pub fn encode<T: AsRef<[u8]>, A: Allocator>(
-    alloc: A,
-    bytes: T,
-) -> Result<String<A>, AllocError> {
+pub fn encode<T: AsRef<[u8]>, A: Allocator>(alloc: A, bytes: T) -> Result<String<A>, AllocError> {
     let bytes = bytes.as_ref();
     let mut text = String::new(alloc);
     text.reserve_exact(bytes.len().saturating_mul(2))?;

@@ -11,9 +11,31 @@ struct Section {
 }
 
 unsafe extern "C" {
-    fn dz_assemble(recipe: *const u8, recipe_len: usize, out: *mut u8, out_len: usize, line: *mut u64, cause: *mut u32) -> u64;
-    fn dz_list(module: *const u8, module_len: usize, out: *mut Section, out_len: usize, place: *mut u64, cause: *mut u32) -> u64;
-    fn dz_shorten(kind: u32, bytes: *const u8, bytes_len: usize, out: *mut u8, out_len: usize, taken: *mut u64, cause: *mut u32) -> u64;
+    fn dz_assemble(
+        recipe: *const u8,
+        recipe_len: usize,
+        out: *mut u8,
+        out_len: usize,
+        line: *mut u64,
+        cause: *mut u32,
+    ) -> u64;
+    fn dz_list(
+        module: *const u8,
+        module_len: usize,
+        out: *mut Section,
+        out_len: usize,
+        place: *mut u64,
+        cause: *mut u32,
+    ) -> u64;
+    fn dz_shorten(
+        kind: u32,
+        bytes: *const u8,
+        bytes_len: usize,
+        out: *mut u8,
+        out_len: usize,
+        taken: *mut u64,
+        cause: *mut u32,
+    ) -> u64;
 }
 
 // Kinds of sections; the header names them all.
@@ -32,7 +54,16 @@ enum Answer {
 fn assembled(recipe: &[u8], room: usize) -> Answer {
     let (mut out, mut line, mut cause) = (vec![0; room], 0, 0);
     // SAFETY: slices are valid for their lengths, and none overlaps another.
-    let size = unsafe { dz_assemble(recipe.as_ptr(), recipe.len(), out.as_mut_ptr(), out.len(), &mut line, &mut cause) };
+    let size = unsafe {
+        dz_assemble(
+            recipe.as_ptr(),
+            recipe.len(),
+            out.as_mut_ptr(),
+            out.len(),
+            &mut line,
+            &mut cause,
+        )
+    };
     match usize::try_from(size) {
         _ if size == NO_ANSWER => Answer::Fault(line, cause),
         Ok(size) if size <= room => {
@@ -48,7 +79,16 @@ fn listed(module: &[u8]) -> Result<Vec<Section>, (u64, u32)> {
     let (mut out, mut place, mut cause) = (Vec::new(), 0, 0);
     loop {
         // SAFETY: as above.
-        let count = unsafe { dz_list(module.as_ptr(), module.len(), out.as_mut_ptr(), out.len(), &mut place, &mut cause) };
+        let count = unsafe {
+            dz_list(
+                module.as_ptr(),
+                module.len(),
+                out.as_mut_ptr(),
+                out.len(),
+                &mut place,
+                &mut cause,
+            )
+        };
         if count == NO_ANSWER {
             return Err((place, cause));
         }
@@ -90,7 +130,17 @@ fn assemble(recipe: &[u8], room: usize) {
 fn shortened(kind: u32, bytes: &[u8]) -> Result<(Vec<u8>, u64), u32> {
     let (mut out, mut taken, mut cause) = (vec![0; bytes.len()], 0, 0);
     // SAFETY: as above.
-    let size = unsafe { dz_shorten(kind, bytes.as_ptr(), bytes.len(), out.as_mut_ptr(), out.len(), &mut taken, &mut cause) };
+    let size = unsafe {
+        dz_shorten(
+            kind,
+            bytes.as_ptr(),
+            bytes.len(),
+            out.as_mut_ptr(),
+            out.len(),
+            &mut taken,
+            &mut cause,
+        )
+    };
     if size == NO_ANSWER {
         return Err(cause);
     }

@@ -2,9 +2,9 @@
 use dolzhytik::alloc::{AllocError, Global};
 use dolzhytik::recipe::run;
 use dolzhytik::string::String;
+use std::env;
 use std::io::{self, IsTerminal};
 use std::process::ExitCode;
-use std::env;
 
 /// What a build by rustc says where somebody looks on.
 const UNPROVED: &str = "wasmrow: compiled by rustc from the proved source, and not proved on this machine: ./check does that";
