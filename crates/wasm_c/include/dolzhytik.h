@@ -24,7 +24,7 @@ enum dz_recipe_cause {
     DZ_NOT_TEXT = 7
 };
 
-/* What is wrong with the bytes of a section. */
+/* What is wrong with the bytes of a section. DZ_NOT_SHORTEST is never given, since padded numbers are read. */
 enum dz_fault {
     DZ_ENDED = 1,
     DZ_NOT_SHORTEST = 2,
@@ -87,7 +87,9 @@ uint64_t dz_list(const uint8_t *module, size_t module_len, dz_section *out, size
 /* Writes the one shortest text of the section of this kind (one of dz_kind) that the bytes begin with, from its size on, without its id. Answers how many
    bytes the text has, which are at most as many as the section takes, and copies them to the front of `out` where it has room for all of them; `*taken` is how
    many bytes the section takes, and `*cause` 0. Where no such section stands there, no kind has the number (DZ_NO_KIND) or memory was refused (DZ_OUT_OF_MEMORY),
-   the answer is DZ_NO_ANSWER, `out` is as it was, `*taken` is 0, and `*cause` is one of dz_fault. */
+   the answer is DZ_NO_ANSWER, `out` is as it was, `*taken` is 0, and `*cause` is one of dz_fault. What follows a padded number moves: offsets into the section that
+   stand elsewhere (relocations, branch hints, DWARF, source maps) don't fit the text. Not read, so that the whole section is refused, are one-byte reference
+   types other than 70 and 6F (hexadecimal), and linking sections with comdats or section symbols, as most of LLVM's object files have. */
 uint64_t dz_shorten(uint32_t kind, const uint8_t *bytes, size_t bytes_len, uint8_t *out, size_t out_len, uint64_t *taken, uint32_t *cause);
 
 #ifdef __cplusplus
