@@ -14,11 +14,11 @@ pub mod hex;
 pub mod string;
 pub mod vec;
 
-/// Names the modules that `tools/to-rust` writes: they keep the names of their source, and arguments of which clauses alone speak.
+/// Names the modules that `tools/to-rust` writes: they keep the names of their source, arguments of which clauses alone speak, and what is called in the proved build alone.
 macro_rules! written {
     ($($name:ident)*) => {
         $(
-            #[allow(non_upper_case_globals, unused_variables, clippy::all)]
+            #[allow(dead_code, non_upper_case_globals, unused_mut, unused_variables, clippy::all)]
             pub mod $name;
         )*
     };

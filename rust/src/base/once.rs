@@ -202,7 +202,6 @@ impl<I: Iterator<Item = u8>> EncodeOnce for BytesOf<I> {
         let len = count as usize;
         sink.reserve(len.saturating_add(COUNT_BYTES))?;
         count.encode(sink)?;
-        append_blocks(sink, &mut items, len);
         let Ok(()) = sink.extend(items) else {
             sink.truncate(start);
             return Err(Refused::Memory);
