@@ -1,0 +1,74 @@
+-- What calls leave, step by step: lemmas that a caller cites.
+use Rattle.std.proofs.Common.{◌≡◌, ◌≤◌, length, ℕ, List, [], ◌∷◌, ◌++◌, Result, Ok, Err, refl, sym, subst, ◌∙◌, arith}
+use Rattle.std.proofs.lemmas.List.Elements.{All-nil, All-cons}
+use Rattle.std.specs.Array.Iter.{array_into_iter_items, array_steps}
+use Rattle.std.specs.Iterator.{Count}
+use Rattle.std.specs.List.{All, AllByRecursion}
+use Rattle.std.specs.Prelude.{OnOk}
+use Rattle.std.specs.declared.array.IntoIter.{IntoIter}
+use Rattle.std.specs.declared.vec.Vec.{Vec}
+use Rattle.wasm_base.specs.Calls.{Appends, ReadsOneMore, ReadsBackBoth}
+use Rattle.wasm_base.specs.Entries.{HoldsWide, counted_format}
+use Rattle.wasm_base.specs.Modules.{SectionReading, reading_of, ReadsSections, GainsReading}
+use Rattle.wasm_base.specs.Formats.{vec}
+use Rattle.wasm_base.specs.Pieces.{SectionPayload, SectionFits, section_text, section_framed}
+use Rattle.wasm_base.specs.Texts.{longest, VecFits}
+use Rattle.wasm_base.specs.declared.refused.Refused.{Refused}
+use Rattle.wasm_base.proofs.Calls.{gains_section}
+use Rattle.wasm_base.proofs.KnownLengths.{array_items}
+use Rattle.wasm_types.specs.Calls.{AddsListed, AddsTwoListed}
+use Rattle.wasm_types.specs.Readings.{HoldsTypes, plain_type}
+use Rattle.wasm_types.specs.RecTypes.{Shape, TypeItem, type_text, shape_text, IsShape, IsType, type_item}
+use Rattle.wasm_types.proofs.SectionLaws.{types-held, types-payload}
+
+pub new_types : {entries : List (List ℕ)} → entries ≡ [] → HoldsTypes entries []
+new_types e = record { entries = []; held = e; meant = tt }
+
+-- the same entries
+pub same_types : {old new : List (List ℕ)} {items : List TypeItem} → HoldsTypes old items → new ≡ old → HoldsTypes new items
+same_types {items = items} before e = subst (λ entries. HoldsTypes entries items) (sym e) before
+
+-- parameters, results or fields, each of which is plain
+pub counted : {X : Type 0} (P : X → Type 0) (xs : List X) → AllByRecursion P xs → length xs ≤ longest → VecFits P xs
+counted P xs are few = record { count = few; members = all P xs are }
+  where
+    all : {X : Type 0} (P : X → Type 0) (xs : List X) → AllByRecursion P xs → All P xs
+    all P [] h = All-nil P
+    all P (x ∷ xs) h = All-cons P x xs h.0 (all P xs h.1)
+
+-- a type or a group of types: `subtype`, `rec`
+pub adds_type : {old new : List (List ℕ)} {items : List TypeItem} → HoldsTypes old items → (item : TypeItem) → new ≡ old ++ type_text item ∷ [] → IsType item → HoldsTypes new (items ++ item ∷ [])
+adds_type {old = old} {items = items} before item e plain = subst (λ entries. HoldsTypes entries (items ++ item ∷ [])) (sym e) (types-held.given old items item before plain)
+
+-- a type of this shape alone: `function`, `func_type`, `array`, `struct_`, `cont`
+pub adds_shape : {old new : List (List ℕ)} {items : List TypeItem} → HoldsTypes old items → (shape : Shape) → new ≡ old ++ shape_text shape ∷ [] → IsShape shape → HoldsTypes new (items ++ plain_type shape ∷ [])
+adds_shape before shape e plain =
+    adds_type before (plain_type shape) e (record { supertypes = record { count = omega arith; members = All-nil _ }; composite = record { describes = tt; descriptor = tt; shape = plain } })
+
+-- what a call has added whose items are those of arrays
+pub listed_array : {U T : Type 0} {n : ℕ} {becomes : U → IntoIter T n → Type 0} {remaining : IntoIter T n → Count} {Fits : T → Type 0} {elements : U} {text : List T → List ℕ} {old new : List (List ℕ)}
+    → AddsListed becomes array_steps remaining Fits elements text old new (Ok (tt {0})) → (items : List T) → ((it : IntoIter T n) → becomes elements it → array_into_iter_items it ≡ items) → new ≡ old ++ text items ∷ []
+listed_array {text = text} {old = old} {new = new} added items are =
+    let given = added.ok in
+    subst (λ xs. new ≡ old ++ text xs ∷ []) (array_items given.0 given.1 given.3 ∙ are given.0 given.2) given.5
+
+pub listed_arrays : {U V T : Type 0} {n m : ℕ} {becomes : U → IntoIter T n → Type 0} {remaining : IntoIter T n → Count} {becomes₂ : V → IntoIter T m → Type 0} {remaining₂ : IntoIter T m → Count} {first : U} {second : V} {text : List T → List T → List ℕ} {old new : List (List ℕ)}
+    → AddsTwoListed becomes array_steps remaining becomes₂ array_steps remaining₂ first second text old new (Ok (tt {0})) → (xs ys : List T) → ((it : IntoIter T n) → becomes first it → array_into_iter_items it ≡ xs) → ((it : IntoIter T m) → becomes₂ second it → array_into_iter_items it ≡ ys)
+    → new ≡ old ++ text xs ys ∷ []
+listed_arrays {text = text} {old = old} {new = new} added xs ys are are₂ =
+    let given = added.ok in
+    subst (λ zs. new ≡ old ++ text zs ys ∷ []) (array_items given.0 given.2 given.6 ∙ are given.0 given.4)
+    (subst (λ zs. new ≡ old ++ text given.2 zs ∷ []) (array_items given.1 given.3 given.7 ∙ are₂ given.1 given.5) given.10)
+
+-- a module and one more section
+pub gains_types : {readings : List SectionReading} {id : ℕ} {old new : List ℕ} {entries : List (List ℕ)} {items : List TypeItem} → ReadsSections readings old → ReadsOneMore (SectionPayload entries) id old new → SectionFits entries
+    → ReadsBackBoth (counted_format type_item) (HoldsTypes entries) (HoldsWide type_item entries) (section_text entries) → HoldsTypes entries items → ReadsSections (readings ++ reading_of id (vec type_item) items ∷ []) new
+gains_types {entries = entries} {items = items} before more fits reads holds =
+    gains_section {F = vec type_item} before more types-payload (section_text entries) _ refl (section_framed entries _ fits refl) items (reads.plain.for_each items holds)
+
+-- a section that a buffer has gained
+pub encodes_types : {A : Type 0} {fits : Type 0} {entries : List (List ℕ)} {old new : Vec ℕ A} {result : Result (Unit {0}) Refused} {items : List TypeItem}
+    → Appends (section_text entries) fits old new result → OnOk result (ReadsBackBoth (counted_format type_item) (HoldsTypes entries) (HoldsWide type_item entries) (section_text entries)) → HoldsTypes entries items
+    → OnOk result (GainsReading (counted_format type_item) items old.items new.items)
+encodes_types {entries = entries} {result = Ok u} {items = items} appends reads holds = record { text = section_text entries; added = appends.ok; alone = reads.plain.for_each items holds }
+encodes_types {result = Err e} appends reads holds = tt

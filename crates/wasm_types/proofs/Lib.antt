@@ -1,0 +1,4 @@
+pub mod TypeLaws
+pub mod SectionLaws
+pub mod NothingLaws
+pub mod Calls

@@ -1,0 +1,29 @@
+-- The laws of type sections.
+use Rattle.wasm_base.specs.Entries.{counted_format}
+use Rattle.wasm_base.specs.Formats.{vec}
+use Rattle.wasm_base.specs.Laws.{HoldsMore, HoldsMoreWide}
+use Rattle.wasm_base.specs.Modules.{ReadsPayloads}
+use Rattle.wasm_base.specs.Reading.{UniqueReading, IsUniqueWide}
+use Rattle.wasm_base.proofs.BaseLaws.{unique_wide}
+use Rattle.wasm_base.proofs.EntryLaws.{counted-alone}
+use Rattle.wasm_base.proofs.HeldLaws.{holds_more, plain_more_wide}
+use Rattle.wasm_base.proofs.Payloads.{counted-payload}
+use Rattle.wasm_types.specs.RecTypes.{type_text, IsType, type_item}
+use Rattle.wasm_types.proofs.TypeLaws.{storage-alone, field-alone, composite-alone, sub-alone, type-alone, type_laws}
+
+pub types-alone : UniqueReading (counted_format type_item)
+types-alone = counted-alone type-alone
+
+pub wide-types : IsUniqueWide (counted_format type_item)
+wide-types = unique_wide types-alone
+
+pub types-held : HoldsMore type_text IsType (λ ty. ty) type_item
+types-held = holds_more type_text IsType (λ ty. ty) type_item
+
+pub types-wide : HoldsMoreWide type_text IsType IsType (λ ty. ty) type_item
+types-wide = plain_more_wide type_laws
+
+pub types-payload : ReadsPayloads (vec type_item)
+types-payload = counted-payload type-alone
+
+pub ruleset type_sections = (types-alone, wide-types, types-held, types-wide, types-payload, type_laws, type-alone, sub-alone, composite-alone, field-alone, storage-alone)

@@ -1,0 +1,33 @@
+//! What is promised of all lists of bytes, and not of a call: each function does nothing, and its clauses are the promise.
+ghost use Rattle.std.specs.Prelude.{[], ◌∷◌};
+ghost use Rattle.wasm_base.specs.Entries.{ItemLaws, counted_format};
+ghost use Rattle.wasm_base.specs.Formats.{vec};
+ghost use Rattle.wasm_base.specs.Laws.{HoldsMore, HoldsMoreWide, NothingStandsWide};
+ghost use Rattle.wasm_base.specs.Modules.{ReadsPayloads};
+ghost use Rattle.wasm_base.specs.Reading.{UniqueReading, IsUniqueWide};
+ghost use Rattle.wasm_types.specs.RecTypes.{type_text, IsType, storage_type, field_type, composite_type, sub_type, type_item};
+
+/// Type sections are read uniquely, and so are types and their parts; the text of a plain record spells what it says.
+#[tactic(auto, using(crate::proofs::SectionLaws::type_sections))]
+pub fn types()
+    ensures section { UniqueReading (counted_format type_item) }
+    ensures item { UniqueReading type_item }
+    ensures sub { UniqueReading sub_type }
+    ensures composite { UniqueReading composite_type }
+    ensures field { UniqueReading field_type }
+    ensures storage { UniqueReading storage_type }
+    ensures items { ItemLaws type_text IsType (λ ty. ty) type_item }
+    ensures wide { IsUniqueWide (counted_format type_item) }
+    ensures calls { HoldsMore type_text IsType (λ ty. ty) type_item }
+    ensures wide_calls { HoldsMoreWide type_text IsType IsType (λ ty. ty) type_item }
+    ensures payloads { ReadsPayloads (vec type_item) }
+{}
+
+/// No section stands in these three texts, with padded numbers neither: in the first a structure has a field of mutability 2, in the second
+/// the byte of a group is padded, and in the third a final type has an empty list of supertypes.
+#[tactic(auto, using(crate::proofs::NothingLaws::nothing))]
+pub fn nothing_stands()
+    ensures mutability_of_2 { NothingStandsWide (counted_format type_item) (5 ∷ 1 ∷ 95 ∷ 1 ∷ 127 ∷ 2 ∷ []) }
+    ensures padded_group { NothingStandsWide (counted_format type_item) (4 ∷ 1 ∷ 206 ∷ 0 ∷ 0 ∷ []) }
+    ensures no_supertypes { NothingStandsWide (counted_format type_item) (5 ∷ 1 ∷ 79 ∷ 0 ∷ 95 ∷ 0 ∷ []) }
+{}
