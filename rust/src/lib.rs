@@ -18,10 +18,10 @@ pub mod vec;
 macro_rules! written {
     ($($name:ident)*) => {
         $(
-            #[allow(dead_code, non_upper_case_globals, unused_mut, unused_variables, clippy::all)]
+            #[allow(dead_code, non_upper_case_globals, unused_imports, unused_mut, unused_variables, clippy::all)]
             pub mod $name;
         )*
     };
 }
 
-written! { base code custom immediates insn reader recipe sections }
+written! { base code custom immediates insn reader recipe sections types }

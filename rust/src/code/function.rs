@@ -10,7 +10,7 @@ use crate::insn::{Buffer, Instruction, InstructionSink};
 /// A function, seen as its raw body: the runs of its locals, and its instructions.
 ///
 /// ```
-/// # use dolzhytik::{alloc::Global, base::*, code::*, custom::*, immediates::*, insn::*, reader::*, recipe::*, sections::*};
+/// # use dolzhytik::{alloc::Global, base::*, code::*, custom::*, immediates::*, insn::*, reader::*, recipe::*, sections::*, types::*};
 /// # use dolzhytik::vec::Vec;
 /// # fn example(alloc: Global) -> Result<(), Box<dyn std::error::Error>> {
 /// # let mut code = CodeSection::new(alloc);

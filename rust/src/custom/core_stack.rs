@@ -12,7 +12,7 @@ use crate::base::{CowSlice, CowStr, Encode, Pieces, R, Section, SectionId, vec_o
 /// each frame.
 ///
 /// ```
-/// # use dolzhytik::{alloc::Global, base::*, code::*, custom::*, immediates::*, insn::*, reader::*, recipe::*, sections::*};
+/// # use dolzhytik::{alloc::Global, base::*, code::*, custom::*, immediates::*, insn::*, reader::*, recipe::*, sections::*, types::*};
 /// # use dolzhytik::vec::Vec;
 /// # fn example(alloc: Global) -> Result<(), Box<dyn std::error::Error>> {
 /// let mut stack = CoreDumpStackSection::new(alloc, "main")?;

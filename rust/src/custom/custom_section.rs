@@ -35,7 +35,7 @@ pub(in crate::custom) fn begin_custom<A: Sink>(sink: &mut A, name: &str, size: u
 /// A custom section of any name and data.
 ///
 /// ```
-/// # use dolzhytik::{alloc::Global, base::*, code::*, custom::*, immediates::*, insn::*, reader::*, recipe::*, sections::*};
+/// # use dolzhytik::{alloc::Global, base::*, code::*, custom::*, immediates::*, insn::*, reader::*, recipe::*, sections::*, types::*};
 /// # use dolzhytik::vec::Vec;
 /// # fn example(alloc: Global) -> Result<(), Box<dyn std::error::Error>> {
 /// # let mut module = Module::new(alloc)?;

@@ -9,7 +9,7 @@ use crate::base::{Encode, Items, R, vec_of};
 /// Which branches are likely to be taken: a list of hints for each function. It stands before the code section.
 ///
 /// ```
-/// # use dolzhytik::{alloc::Global, base::*, code::*, custom::*, immediates::*, insn::*, reader::*, recipe::*, sections::*};
+/// # use dolzhytik::{alloc::Global, base::*, code::*, custom::*, immediates::*, insn::*, reader::*, recipe::*, sections::*, types::*};
 /// # use dolzhytik::vec::Vec;
 /// # fn example(alloc: Global) -> Result<(), Box<dyn std::error::Error>> {
 /// let mut function = Function::new(alloc, [])?;

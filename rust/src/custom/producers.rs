@@ -38,7 +38,7 @@ impl<A: Allocator> ProducersField<A> {
 /// What has produced the module.
 ///
 /// ```
-/// # use dolzhytik::{alloc::Global, base::*, code::*, custom::*, immediates::*, insn::*, reader::*, recipe::*, sections::*};
+/// # use dolzhytik::{alloc::Global, base::*, code::*, custom::*, immediates::*, insn::*, reader::*, recipe::*, sections::*, types::*};
 /// # use dolzhytik::vec::Vec;
 /// # fn example(alloc: Global) -> Result<(), Box<dyn std::error::Error>> {
 /// # let mut module = Module::new(alloc)?;

@@ -10,7 +10,7 @@ use crate::base::{Encode, Optional, R};
 /// Symbols, in the order in which they are added.
 ///
 /// ```
-/// # use dolzhytik::{alloc::Global, base::*, code::*, custom::*, immediates::*, insn::*, reader::*, recipe::*, sections::*};
+/// # use dolzhytik::{alloc::Global, base::*, code::*, custom::*, immediates::*, insn::*, reader::*, recipe::*, sections::*, types::*};
 /// # use dolzhytik::vec::Vec;
 /// # fn example(alloc: Global) -> Result<(), Box<dyn std::error::Error>> {
 /// let mut symbols = SymbolTable::new(alloc);

@@ -2,7 +2,7 @@
 //! Tests of `wasm_custom`: bytes that the conventions' documents give or that were worked out by hand, requests for memory that are refused, and
 //! lengths that are too long.
 
-#![allow(unused_variables, clippy::all)]
+#![allow(unused_imports, unused_variables, clippy::all)]
 
 #[macro_use]
 #[path = "../support/host.rs"]

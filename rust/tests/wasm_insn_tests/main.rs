@@ -2,7 +2,7 @@
 //! Tests of `wasm_base`, `wasm_immediates` and `wasm_insn`: bytes that the format's documents give or that were worked out by hand,
 //! requests for memory that are refused, and callers that prove what they append.
 
-#![allow(unused_variables, clippy::all)]
+#![allow(unused_imports, unused_variables, clippy::all)]
 
 #[macro_use]
 #[path = "../support/host.rs"]

@@ -1,7 +1,7 @@
 // Written by tools/to-rust from crates/wasm_reader_sections_tests/src/lib.rt: change that.
 //! Tests of `wasm_reader` and `examples`: bytes that were worked out from the format's documents, and requests for memory that are refused.
 
-#![allow(unused_variables, clippy::all)]
+#![allow(unused_imports, unused_variables, clippy::all)]
 
 #[macro_use]
 #[path = "../support/host.rs"]

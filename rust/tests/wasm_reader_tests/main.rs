@@ -2,7 +2,7 @@
 //! Tests of `wasm_reader_base` and `wasm_reader_insn`: bytes that were worked out from the format's documents, and requests for memory
 //! that are refused.
 
-#![allow(unused_variables, clippy::all)]
+#![allow(unused_imports, unused_variables, clippy::all)]
 
 #[macro_use]
 #[path = "../support/host.rs"]

@@ -1,7 +1,7 @@
 // Written by tools/to-rust from crates/wasm_tool_tests/src/lib.rt: change that.
 //! Tests of `wasm_tool`: what the program writes of recipes and of modules, requests for memory that are refused, and reads and writes that fail.
 
-#![allow(unused_variables, clippy::all)]
+#![allow(unused_imports, unused_variables, clippy::all)]
 
 #[macro_use]
 #[path = "../support/host.rs"]

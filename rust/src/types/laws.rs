@@ -1,0 +1,33 @@
+// Written by tools/to-rust from crates/wasm_types/src/laws.rt: change that.
+//! What is promised of all lists of bytes, and not of a call: each function does nothing, and its clauses are the promise.
+
+/// Type sections are read uniquely, and so are types and their parts; the text of a plain record spells what it says.
+///
+/// # Proved
+///
+/// ```text
+/// ensures section { UniqueReading (counted_format type_item) }
+/// ensures item { UniqueReading type_item }
+/// ensures sub { UniqueReading sub_type }
+/// ensures composite { UniqueReading composite_type }
+/// ensures field { UniqueReading field_type }
+/// ensures storage { UniqueReading storage_type }
+/// ensures items { ItemLaws type_text IsType (λ ty. ty) type_item }
+/// ensures wide { IsUniqueWide (counted_format type_item) }
+/// ensures calls { HoldsMore type_text IsType (λ ty. ty) type_item }
+/// ensures wide_calls { HoldsMoreWide type_text IsType IsType (λ ty. ty) type_item }
+/// ensures payloads { ReadsPayloads (vec type_item) }
+/// ```
+pub fn types() {}
+
+/// No section stands in these three texts, with padded numbers neither: in the first a structure has a field of mutability 2, in the second
+/// the byte of a group is padded, and in the third a final type has an empty list of supertypes.
+///
+/// # Proved
+///
+/// ```text
+/// ensures mutability_of_2 { NothingStandsWide (counted_format type_item) (5 ∷ 1 ∷ 95 ∷ 1 ∷ 127 ∷ 2 ∷ []) }
+/// ensures padded_group { NothingStandsWide (counted_format type_item) (4 ∷ 1 ∷ 206 ∷ 0 ∷ 0 ∷ []) }
+/// ensures no_supertypes { NothingStandsWide (counted_format type_item) (5 ∷ 1 ∷ 79 ∷ 0 ∷ 95 ∷ 0 ∷ []) }
+/// ```
+pub fn nothing_stands() {}

@@ -1,0 +1,505 @@
+// Written by tools/to-rust from crates/wasm_types/src/types.rt: change that.
+// Types that a module defines.
+
+use crate::vec::{Sink, Vec};
+use crate::alloc::{Allocator, Global};
+use std::slice;
+use crate::base::{Encode, Lent, R, ValType};
+
+/// What a field or an element holds: a value, or a packed number.
+#[derive(Clone, Copy, PartialEq, Eq, Hash, Debug)]
+pub enum StorageType {
+    I8,
+    I16,
+    Val(ValType),
+}
+
+/// The type of a field, or of the elements of an array.
+#[derive(Clone, Copy, PartialEq, Eq, Hash, Debug)]
+pub struct FieldType {
+    pub element_type: StorageType,
+    pub mutable: bool,
+}
+
+/// The type of an array.
+#[derive(Clone, Copy, PartialEq, Eq, Hash, Debug)]
+pub struct ArrayType(pub FieldType);
+
+/// The type of a continuation: of the function type of this index.
+#[derive(Clone, Copy, PartialEq, Eq, Hash, Debug)]
+pub struct ContType(pub u32);
+
+/// The type of a function.
+#[derive(Debug)]
+pub struct FuncType<A: Allocator = Global> {
+    params: Vec<ValType, A>,
+    results: Vec<ValType, A>,
+}
+
+/// The type of a structure.
+#[derive(Debug)]
+pub struct StructType<A: Allocator = Global> {
+    pub fields: Vec<FieldType, A>,
+}
+
+/// A composite type, without what stands before it.
+#[derive(Debug)]
+pub enum CompositeInnerType<A: Allocator = Global> {
+    Func(FuncType<A>),
+    Array(ArrayType),
+    Struct(StructType<A>),
+    Cont(ContType),
+}
+
+/// A composite type.
+#[derive(Debug)]
+pub struct CompositeType<A: Allocator = Global> {
+    pub inner: CompositeInnerType<A>,
+    /// Whether threads share its values.
+    pub shared: bool,
+    /// The index of the type that describes it.
+    pub descriptor: Option<u32>,
+    /// The index of the type that it describes.
+    pub describes: Option<u32>,
+}
+
+/// A type that may have a supertype, and subtypes where it isn't final.
+#[derive(Debug)]
+pub struct SubType<A: Allocator = Global> {
+    pub is_final: bool,
+    /// The index of its supertype.
+    pub supertype_idx: Option<u32>,
+    pub composite_type: CompositeType<A>,
+}
+
+impl<A: Allocator + Copy> FuncType<A> {
+    /// A function type of these parameters and results.
+    ///
+    /// # Asks
+    ///
+    /// ```text
+    /// requires params { (it : P.IntoIter) → P.into_iter_gives params it → P.IntoIter.can_next it × IsFinite (P.IntoIter.remaining it) }
+    /// requires results { (it : Q.IntoIter) → Q.into_iter_gives results it → Q.IntoIter.can_next it × IsFinite (Q.IntoIter.remaining it) }
+    /// ```
+    ///
+    /// # Proved
+    ///
+    /// ```text
+    /// ensures params { IfOk result (λ f. (it : P.IntoIter) × P.into_iter_gives params it × Drains P.IntoIter.next_gives it f.params.items) }
+    /// ensures results { IfOk result (λ f. (it : Q.IntoIter) × Q.into_iter_gives results it × Drains Q.IntoIter.next_gives it f.results.items) }
+    /// ensures memory { result ≢ Err TooLong }
+    /// ```
+    pub fn new<P: IntoIterator<Item = ValType>, Q: IntoIterator<Item = ValType>>(
+        alloc: A,
+        params: P,
+        results: Q,
+    ) -> R<Self>
+    where
+    {
+        let params = collected(alloc, params)?;
+        let results = collected(alloc, results)?;
+        Ok(FuncType { params, results })
+    }
+}
+
+/// The types that an iterator gives.
+///
+/// # Asks
+///
+/// ```text
+/// requires { (it : P.IntoIter) → P.into_iter_gives types it → P.IntoIter.can_next it × IsFinite (P.IntoIter.remaining it) }
+/// ```
+///
+/// # Proved
+///
+/// ```text
+/// ensures all { IfOk result (λ v. (it : P.IntoIter) × P.into_iter_gives types it × Drains P.IntoIter.next_gives it v.items) }
+/// ensures memory { result ≢ Err TooLong }
+/// ```
+fn collected<A: Allocator, P: IntoIterator<Item = ValType>>(
+    alloc: A,
+    types: P,
+) -> R<Vec<ValType, A>> {
+    let mut collected = Vec::new(alloc);
+    for ty in types {
+        collected.push(ty)?;
+    }
+    Ok(collected)
+}
+
+impl<A: Allocator> FuncType<A> {
+    /// A function type of these parameters and results.
+    ///
+    /// # Proved
+    ///
+    /// ```text
+    /// ensures params { result.params.items ≡ params.items }
+    /// ensures results { result.results.items ≡ results.items }
+    /// ```
+    pub fn of(params: Vec<ValType, A>, results: Vec<ValType, A>) -> Self {
+        FuncType { params, results }
+    }
+
+    /// The types of the parameters.
+    ///
+    /// # Proved
+    ///
+    /// ```text
+    /// ensures { result.now ≡ self.now.params.items }
+    /// ```
+    pub fn params(&self) -> &[ValType] {
+        self.params.as_slice()
+    }
+
+    /// The types of the results.
+    ///
+    /// # Proved
+    ///
+    /// ```text
+    /// ensures { result.now ≡ self.now.results.items }
+    /// ```
+    pub fn results(&self) -> &[ValType] {
+        self.results.as_slice()
+    }
+}
+
+/// The same items, in memory of their own.
+///
+/// # Proved
+///
+/// ```text
+/// ensures same { IfOk result (λ copies. copies.items ≡ items.now.items) }
+/// ensures memory { result ≢ Err TooLong }
+/// ```
+fn copied<T: Copy, A: Allocator + Copy>(items: &Vec<T, A>) -> R<Vec<T, A>> {
+    Ok(Vec::from_slice(*items.allocator(), items.as_slice())?)
+}
+
+impl<A: Allocator + Copy> FuncType<A> {
+    /// The same type, in memory of its own.
+    ///
+    /// # Proved
+    ///
+    /// ```text
+    /// ensures same { IfOk result (λ f. func_in f ≡ func_in self.now) }
+    /// ensures memory { result ≢ Err TooLong }
+    /// ```
+    pub fn clone(&self) -> R<Self> {
+        Ok(FuncType {
+            params: copied(&self.params)?,
+            results: copied(&self.results)?,
+        })
+    }
+}
+
+impl<A: Allocator + Copy> StructType<A> {
+    /// The same type, in memory of its own.
+    ///
+    /// # Proved
+    ///
+    /// ```text
+    /// ensures same { IfOk result (λ s. s.fields.items ≡ self.now.fields.items) }
+    /// ensures memory { result ≢ Err TooLong }
+    /// ```
+    pub fn clone(&self) -> R<Self> {
+        Ok(StructType {
+            fields: copied(&self.fields)?,
+        })
+    }
+}
+
+impl<A: Allocator + Copy> CompositeInnerType<A> {
+    /// The same type, in memory of its own.
+    ///
+    /// # Proved
+    ///
+    /// ```text
+    /// ensures same { IfOk result (λ inner. shape_in inner ≡ shape_in self.now) }
+    /// ensures memory { result ≢ Err TooLong }
+    /// ```
+    pub fn clone(&self) -> R<Self> {
+        Ok(match self {
+            CompositeInnerType::Func(func) => CompositeInnerType::Func(func.clone()?),
+            CompositeInnerType::Array(array) => CompositeInnerType::Array(*array),
+            CompositeInnerType::Struct(fields) => CompositeInnerType::Struct(fields.clone()?),
+            CompositeInnerType::Cont(cont) => CompositeInnerType::Cont(*cont),
+        })
+    }
+}
+
+impl<A: Allocator + Copy> CompositeType<A> {
+    /// The same type, in memory of its own.
+    ///
+    /// # Proved
+    ///
+    /// ```text
+    /// ensures same { IfOk result (λ c. composite_in c ≡ composite_in self.now) }
+    /// ensures memory { result ≢ Err TooLong }
+    /// ```
+    pub fn clone(&self) -> R<Self> {
+        Ok(CompositeType {
+            inner: self.inner.clone()?,
+            shared: self.shared,
+            descriptor: self.descriptor,
+            describes: self.describes,
+        })
+    }
+}
+
+impl<A: Allocator + Copy> SubType<A> {
+    /// The same type, in memory of its own.
+    ///
+    /// # Proved
+    ///
+    /// ```text
+    /// ensures same { IfOk result (λ s. sub_in s ≡ sub_in self.now) }
+    /// ensures memory { result ≢ Err TooLong }
+    /// ```
+    pub fn clone(&self) -> R<Self> {
+        Ok(SubType {
+            is_final: self.is_final,
+            supertype_idx: self.supertype_idx,
+            composite_type: self.composite_type.clone()?,
+        })
+    }
+}
+
+/// The byte of a packed type, or the value type.
+///
+/// # Defined
+///
+/// ```text
+/// text = { storage_text }
+/// fits = { λ _. ⊤ }
+/// ```
+impl Encode for StorageType {
+    fn encode<A: Sink>(&self, sink: &mut A) -> R<()> {
+        match *self {
+            StorageType::I8 => 0x78u8.encode(sink),
+            StorageType::I16 => 0x77u8.encode(sink),
+            StorageType::Val(ty) => ty.encode(sink),
+        }
+    }
+}
+
+/// The byte that says whether a field can be set.
+///
+/// # Proved
+///
+/// ```text
+/// ensures { result ≡ mutable_code mutable }
+/// ```
+#[inline]
+fn mutability(mutable: bool) -> u8 {
+    if mutable { 0x01 } else { 0x00 }
+}
+
+/// The storage type, and whether the field can be set.
+///
+/// # Defined
+///
+/// ```text
+/// text = { field_text }
+/// fits = { λ _. ⊤ }
+/// ```
+impl Encode for FieldType {
+    fn encode<A: Sink>(&self, sink: &mut A) -> R<()> {
+        (self.element_type, mutability(self.mutable)).encode(sink)
+    }
+}
+
+// The bytes that tell what a composite type is.
+pub(in crate::types) const CONT: u8 = 0x5D;
+
+pub(in crate::types) const ARRAY: u8 = 0x5E;
+
+pub(in crate::types) const STRUCT: u8 = 0x5F;
+
+pub(in crate::types) const FUNC: u8 = 0x60;
+
+/// A byte, the element type.
+///
+/// # Defined
+///
+/// ```text
+/// text = { λ a. 0x5E ∷ field_text a.0 }
+/// fits = { λ _. ⊤ }
+/// ```
+impl Encode for ArrayType {
+    fn encode<A: Sink>(&self, sink: &mut A) -> R<()> {
+        (ARRAY, self.0).encode(sink)
+    }
+}
+
+/// A byte, and the index as a signed number.
+///
+/// # Defined
+///
+/// ```text
+/// text = { λ c. 0x5D ∷ signed_text (pos c.0) }
+/// fits = { λ _. ⊤ }
+/// ```
+impl Encode for ContType {
+    fn encode<A: Sink>(&self, sink: &mut A) -> R<()> {
+        (CONT, i64::from(self.0)).encode(sink)
+    }
+}
+
+/// A byte, the vector of the parameters and that of the results.
+///
+/// # Defined
+///
+/// ```text
+/// text = { λ f. func_text f.params.items f.results.items }
+/// fits = { λ f. VecFits (λ _. ⊤) f.params.items × VecFits (λ _. ⊤) f.results.items }
+/// ```
+impl<A: Allocator> Encode for FuncType<A> {
+    fn encode<B: Sink>(&self, sink: &mut B) -> R<()> {
+        (FUNC, self.params.as_slice(), self.results.as_slice()).encode(sink)
+    }
+}
+
+/// A byte, and the vector of the fields.
+///
+/// # Defined
+///
+/// ```text
+/// text = { λ s. 0x5F ∷ vec_text field_text s.fields.items }
+/// fits = { λ s. VecFits (λ _. ⊤) s.fields.items }
+/// ```
+impl<A: Allocator> Encode for StructType<A> {
+    fn encode<B: Sink>(&self, sink: &mut B) -> R<()> {
+        (STRUCT, self.fields.as_slice()).encode(sink)
+    }
+}
+
+/// A byte that tells which it is, and what follows.
+///
+/// # Defined
+///
+/// ```text
+/// text = { λ c. shape_text (shape_in c) }
+/// fits = { λ c. ShapeFits (shape_in c) }
+/// ```
+impl<A: Allocator> Encode for CompositeInnerType<A> {
+    fn encode<B: Sink>(&self, sink: &mut B) -> R<()> {
+        match self {
+            CompositeInnerType::Func(func) => func.encode(sink),
+            CompositeInnerType::Array(array) => array.encode(sink),
+            CompositeInnerType::Struct(fields) => fields.encode(sink),
+            CompositeInnerType::Cont(cont) => cont.encode(sink),
+        }
+    }
+}
+
+/// The byte of a shared type, where it is one.
+#[derive(Clone, Copy)]
+struct Shared(bool);
+
+/// # Defined
+///
+/// ```text
+/// text = { λ s. shared_text s.0 }
+/// fits = { λ _. ⊤ }
+/// ```
+impl Encode for Shared {
+    fn encode<A: Sink>(&self, sink: &mut A) -> R<()> {
+        if self.0 { 0x65u8.encode(sink) } else { Ok(()) }
+    }
+}
+
+/// An index behind a byte, where it is given.
+#[derive(Clone, Copy)]
+struct Marked {
+    byte: u8,
+    index: Option<u32>,
+}
+
+/// # Defined
+///
+/// ```text
+/// text = { λ m. index_text m.byte m.index }
+/// fits = { λ _. ⊤ }
+/// ```
+impl Encode for Marked {
+    fn encode<A: Sink>(&self, sink: &mut A) -> R<()> {
+        match self.index {
+            Some(index) => (self.byte, index).encode(sink),
+            None => Ok(()),
+        }
+    }
+}
+
+/// What stands before the inner type, and this.
+///
+/// # Defined
+///
+/// ```text
+/// text = { λ c. composite_text (composite_in c) }
+/// fits = { λ c. ShapeFits (shape_in c.inner) }
+/// ```
+impl<A: Allocator> Encode for CompositeType<A> {
+    fn encode<B: Sink>(&self, sink: &mut B) -> R<()> {
+        let describes = Marked {
+            byte: 0x4C,
+            index: self.describes,
+        };
+        let descriptor = Marked {
+            byte: 0x4D,
+            index: self.descriptor,
+        };
+        (
+            Shared(self.shared),
+            describes,
+            (descriptor, Lent(&self.inner)),
+        )
+            .encode(sink)
+    }
+}
+
+/// What stands before the composite type of a subtype.
+#[derive(Clone, Copy)]
+struct Before {
+    is_final: bool,
+    supertype_idx: Option<u32>,
+}
+
+/// Nothing where it is final and has no supertype, and else a byte and the vector of its supertypes.
+///
+/// # Defined
+///
+/// ```text
+/// text = { λ b. before_text b.is_final (listed b.supertype_idx) }
+/// fits = { λ _. ⊤ }
+/// ```
+impl Encode for Before {
+    fn encode<A: Sink>(&self, sink: &mut A) -> R<()> {
+        let byte: u8 = if self.is_final { 0x4F } else { 0x50 };
+        match &self.supertype_idx {
+            Some(index) => (byte, slice::from_ref(index)).encode(sink),
+            None if self.is_final => Ok(()),
+            None => {
+                let none: &[u32] = &[];
+                (byte, none).encode(sink)
+            }
+        }
+    }
+}
+
+/// What stands before the composite type, and this.
+///
+/// # Defined
+///
+/// ```text
+/// text = { λ s. sub_text (sub_in s) }
+/// fits = { λ s. ShapeFits (shape_in s.composite_type.inner) }
+/// ```
+impl<A: Allocator> Encode for SubType<A> {
+    fn encode<B: Sink>(&self, sink: &mut B) -> R<()> {
+        let before = Before {
+            is_final: self.is_final,
+            supertype_idx: self.supertype_idx,
+        };
+        (before, Lent(&self.composite_type)).encode(sink)
+    }
+}

@@ -1,0 +1,22 @@
+// Written by tools/to-rust from crates/wasm_types_tests/src/lib.rt: change that.
+//! Tests of `wasm_types`: bytes that were worked out by hand from the standard, requests for memory that are refused, and lengths that are too long.
+
+#![allow(unused_imports, unused_variables, clippy::all)]
+
+#[macro_use]
+#[path = "../support/host.rs"]
+mod host;
+#[path = "../test_support/mod.rs"]
+mod test_support;
+#[cfg(test)]
+mod calls;
+#[cfg(test)]
+mod checks;
+#[cfg(test)]
+mod lengths;
+#[cfg(test)]
+mod refusals;
+#[cfg(test)]
+mod samples;
+#[cfg(test)]
+mod texts;

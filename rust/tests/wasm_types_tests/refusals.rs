@@ -1,0 +1,234 @@
+// Written by tools/to-rust from crates/wasm_types_tests/src/refusals.rt: change that.
+// Each request for memory refused in turn: the answer is `Memory`, and what was given is as before.
+
+use dolzhytik::vec::Vec;
+use crate::checks::{Heap, MOST, check_answer, check_bytes, check_refused, check_that};
+use crate::samples::{BYTE, FLOAT, continuation, described, final_function, function, sub};
+use dolzhytik::alloc::Global;
+use crate::host::Abort;
+use crate::test_support::Refusing;
+use dolzhytik::base::{Encode, R, Section, ValType};
+use dolzhytik::types::{ContType, FuncType, StorageType, SubType, TypeSection};
+
+/// A type section that takes its memory from an allocator that refuses.
+type Lent<'h> = TypeSection<&'h Refusing<Global>>;
+
+/// A type that takes its memory from there.
+type LentSub<'h> = SubType<&'h Refusing<Global>>;
+
+/// The item is written as these bytes, where no request is refused.
+fn check_written<T: Encode>(rt: &impl Abort, heap: Heap<'_>, item: &T, expected: &[u8]) {
+    heap.refuse(0);
+    let mut sink = Vec::new(heap);
+    item.encode(&mut sink).expect("accepted");
+    check_bytes(rt, &sink, expected);
+}
+
+/// What a call answered of which one request was to be refused: an item of these bytes. Answers whether all were granted.
+fn check_copy<T: Encode>(
+    rt: &impl Abort,
+    heap: Heap<'_>,
+    nth: u64,
+    copy: R<T>,
+    expected: &[u8],
+) -> bool {
+    match copy {
+        Ok(item) => {
+            let granted = check_answer(rt, heap, nth, Ok(()));
+            check_written(rt, heap, &item, expected);
+            granted
+        }
+        Err(refused) => check_answer(rt, heap, nth, Err(refused)),
+    }
+}
+
+/// The section has this entry alone, or none.
+fn check_entry(rt: &impl Abort, granted: bool, len: u32, piece: Option<&[u8]>, entry: &[u8]) {
+    let expected = if granted { (1, Some(entry)) } else { (0, None) };
+    assert_eq!(rt; (len, piece), expected);
+}
+
+/// The entry that each call of `add` makes.
+const ENTRIES: &[&[u8]] = &[
+    &[0x60, 2, 0x7F, 0x7E, 1, 0x7D],
+    &[0x60, 1, 0x7B, 1, 0x7F],
+    &[0x5E, 0x77, 0],
+    &[0x5F, 2, 0x78, 1, 0x7C, 0],
+    &[0x5D, 7],
+    &[
+        0x50, 1, 1, 0x65, 0x4C, 2, 0x4D, 0xAC, 2, 0x5F, 2, 0x78, 1, 0x7C, 0,
+    ],
+    &[0x4E, 1, 0x4F, 1, 0, 0x5D, 0x3F],
+];
+
+/// The call of this place in `ENTRIES`.
+fn add(section: &mut Lent<'_>, func: &FuncType, ty: &SubType, place: usize) -> R<()> {
+    match place {
+        0 => section.ty().func_type(func),
+        1 => section.ty().function([ValType::V128], [ValType::I32]),
+        2 => section.ty().array(&StorageType::I16, false),
+        3 => section.ty().struct_([BYTE, FLOAT]),
+        4 => section.ty().cont(&ContType(7)),
+        5 => section.ty().subtype(ty),
+        _ => add_group(section),
+    }
+}
+
+/// Adds a group of one type.
+fn add_group(section: &mut Lent<'_>) -> R<()> {
+    let ty: SubType = sub(true, Some(0), continuation());
+    section.ty().rec([ty])
+}
+
+#[test]
+fn calls() {
+    let rt = crate::host::HostRuntime;
+    let heap = Refusing::new(rt.alloc());
+    let func = function(rt.alloc()).expect("accepted");
+    let ty = described(rt.alloc()).expect("accepted");
+    for (place, entry) in ENTRIES.iter().enumerate() {
+        check_call(&rt, &heap, &func, &ty, place, entry);
+    }
+}
+
+/// The call of this place makes an entry of these bytes. Where a request is refused, the section is as it was.
+fn check_call(
+    rt: &impl Abort,
+    heap: Heap<'_>,
+    func: &FuncType,
+    ty: &SubType,
+    place: usize,
+    entry: &[u8],
+) {
+    for nth in 1..MOST {
+        let mut section = TypeSection::new(heap);
+        heap.refuse(nth);
+        let answer = add(&mut section, func, ty, place);
+        let granted = check_answer(rt, heap, nth, answer);
+        check_entry(rt, granted, section.len(), section.piece(0), entry);
+        if granted {
+            return check_whole(rt, heap, &section, entry);
+        }
+    }
+    panic!(rt; "no call was granted")
+}
+
+/// What is done with a section of this entry.
+fn check_whole(rt: &impl Abort, heap: Heap<'_>, section: &Lent<'_>, entry: &[u8]) {
+    check_clone(rt, heap, section, entry);
+    check_encode(rt, heap, section);
+    check_append_to(rt, heap, section)
+}
+
+/// `clone`
+fn check_clone(rt: &impl Abort, heap: Heap<'_>, section: &Lent<'_>, entry: &[u8]) {
+    for nth in 1..MOST {
+        heap.refuse(nth);
+        if check_section_copy(rt, heap, nth, section.clone(), entry) {
+            return;
+        }
+    }
+    panic!(rt; "no call was granted")
+}
+
+/// What a copy answered of which one request was to be refused. Answers whether all were granted.
+fn check_section_copy(
+    rt: &impl Abort,
+    heap: Heap<'_>,
+    nth: u64,
+    copy: R<Lent<'_>>,
+    entry: &[u8],
+) -> bool {
+    match copy {
+        Ok(section) => {
+            check_entry(rt, true, section.len(), section.piece(0), entry);
+            check_answer(rt, heap, nth, Ok(()))
+        }
+        Err(refused) => check_answer(rt, heap, nth, Err(refused)),
+    }
+}
+
+/// `encode` takes memory once, and none where the sink has room.
+fn check_encode<T: Encode>(rt: &impl Abort, heap: Heap<'_>, item: &T) {
+    let mut sink = Vec::new(heap);
+    heap.refuse(1);
+    check_refused(rt, item.encode(&mut sink).err());
+    check_bytes(rt, &sink, &[]);
+    heap.refuse(2);
+    item.encode(&mut sink).expect("accepted");
+    check_that(rt, heap.is_waiting());
+    sink.clear();
+    heap.refuse(1);
+    item.encode(&mut sink).expect("accepted");
+    check_that(rt, heap.is_waiting());
+}
+
+/// The sink held the byte 7, and then the id of type sections, or nothing.
+fn check_id(rt: &impl Abort, granted: bool, sink: &[u8]) {
+    let expected = if granted { Some(&1) } else { None };
+    assert_eq!(rt; sink.first(), Some(&7));
+    assert_eq!(rt; sink.get(1), expected);
+}
+
+/// `append_to`
+fn check_append_to(rt: &impl Abort, heap: Heap<'_>, section: &Lent<'_>) {
+    for nth in 1..MOST {
+        heap.refuse(0);
+        let mut sink = Vec::from_slice(heap, &[7]).expect("accepted");
+        heap.refuse(nth);
+        let answer = section.append_to(&mut sink);
+        let granted = check_answer(rt, heap, nth, answer);
+        check_id(rt, granted, &sink);
+        if granted {
+            return;
+        }
+    }
+    panic!(rt; "no call was granted")
+}
+
+#[test]
+fn function_types() {
+    let rt = crate::host::HostRuntime;
+    let heap = Refusing::new(rt.alloc());
+    for nth in 1..MOST {
+        heap.refuse(nth);
+        if check_copy(
+            &rt,
+            &heap,
+            nth,
+            function(&heap),
+            &[0x60, 2, 0x7F, 0x7E, 1, 0x7D],
+        ) {
+            return;
+        }
+    }
+    panic!(rt; "no call was granted")
+}
+
+/// A copy of the type is written as these bytes, and each of its requests can be refused.
+fn check_sub(rt: &impl Abort, heap: Heap<'_>, ty: &LentSub<'_>, expected: &[u8]) {
+    for nth in 1..MOST {
+        heap.refuse(nth);
+        if check_copy(rt, heap, nth, ty.clone(), expected) {
+            return;
+        }
+    }
+    panic!(rt; "no call was granted")
+}
+
+#[test]
+fn copied_subtypes() {
+    let rt = crate::host::HostRuntime;
+    let heap = Refusing::new(rt.alloc());
+    let ty = described(&heap).expect("accepted");
+    check_sub(
+        &rt,
+        &heap,
+        &ty,
+        &[
+            0x50, 1, 1, 0x65, 0x4C, 2, 0x4D, 0xAC, 2, 0x5F, 2, 0x78, 1, 0x7C, 0,
+        ],
+    );
+    let ty = final_function(&heap).expect("accepted");
+    check_sub(&rt, &heap, &ty, &[0x60, 2, 0x7F, 0x7E, 1, 0x7D]);
+}

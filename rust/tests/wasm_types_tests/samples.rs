@@ -1,0 +1,84 @@
+// Written by tools/to-rust from crates/wasm_types_tests/src/samples.rt: change that.
+// Types that the tests add.
+
+use dolzhytik::vec::Vec;
+use dolzhytik::alloc::Allocator;
+use dolzhytik::base::{R, ValType};
+use dolzhytik::types::{ArrayType, CompositeInnerType, CompositeType, ContType, FieldType, FuncType, StorageType, StructType, SubType};
+
+/// A byte that can be set.
+pub(crate) const BYTE: FieldType = FieldType {
+    element_type: StorageType::I8,
+    mutable: true,
+};
+
+/// A float that is never set.
+pub(crate) const FLOAT: FieldType = FieldType {
+    element_type: StorageType::Val(ValType::F64),
+    mutable: false,
+};
+
+/// This alone: not shared, and without indices.
+pub(crate) fn plain<A: Allocator>(inner: CompositeInnerType<A>) -> CompositeType<A> {
+    CompositeType {
+        inner,
+        shared: false,
+        descriptor: None,
+        describes: None,
+    }
+}
+
+/// An array of bytes.
+pub(crate) fn bytes<A: Allocator>() -> CompositeType<A> {
+    plain(CompositeInnerType::Array(ArrayType(BYTE)))
+}
+
+/// The continuation of the function type 63.
+pub(crate) fn continuation<A: Allocator>() -> CompositeType<A> {
+    plain(CompositeInnerType::Cont(ContType(63)))
+}
+
+/// A structure of a byte and a float.
+pub(crate) fn structure<A: Allocator + Copy>(alloc: A) -> R<StructType<A>> {
+    Ok(StructType {
+        fields: Vec::from_slice(alloc, &[BYTE, FLOAT])?,
+    })
+}
+
+/// A function of two numbers that gives one.
+pub(crate) fn function<A: Allocator + Copy>(alloc: A) -> R<FuncType<A>> {
+    FuncType::new(alloc, [ValType::I32, ValType::I64], [ValType::F32])
+}
+
+/// A subtype that is final or not, and has a supertype or none.
+pub(crate) fn sub<A: Allocator>(
+    is_final: bool,
+    supertype_idx: Option<u32>,
+    composite_type: CompositeType<A>,
+) -> SubType<A> {
+    SubType {
+        is_final,
+        supertype_idx,
+        composite_type,
+    }
+}
+
+/// A shared structure that describes the type 2 and is described by the type 300, with subtypes and the supertype 1.
+pub(crate) fn described<A: Allocator + Copy>(alloc: A) -> R<SubType<A>> {
+    let composite = CompositeType {
+        inner: CompositeInnerType::Struct(structure(alloc)?),
+        shared: true,
+        descriptor: Some(300),
+        describes: Some(2),
+    };
+    Ok(sub(false, Some(1), composite))
+}
+
+/// A final function type.
+pub(crate) fn final_function<A: Allocator + Copy>(alloc: A) -> R<SubType<A>> {
+    Ok(sub(
+        true,
+        None,
+        plain(CompositeInnerType::Func(function(alloc)?)),
+    ))
+}
