@@ -31,8 +31,9 @@ pub record Gives {T : Type 0} (items old new : List T) (n : ℕ) : Type 0 where
 abbrev pub module_of : List ℕ → List ℕ
 module_of recipe = recipe_module (entries_of (lines_of recipe))
 
--- No line has a fault, and this is the module, which is read as the recipe's sections alone.
+-- The recipe is text of which no line has a fault, and this is the module, which is read as the recipe's sections alone.
 pub record Assembled (recipe old new : List ℕ) (line cause n : ℕ) : Type 0 where
+  pub utf8 : IsUtf8 recipe
   pub good : All IsGood (lines_of recipe)
   pub gives : Gives (module_of recipe) old new n
   pub read : ReadsWhole wasm_module (module_of recipe) (sections_of (entries_of (lines_of recipe)))

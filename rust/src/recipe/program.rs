@@ -242,6 +242,7 @@ fn tell<E: Write>(err: &mut E, trouble: &Trouble) -> u8 {
 /// ensures end { result ≡ 0 → IsAtEnd (I.remaining input.new) }
 /// ensures err { result ≡ 0 → Keeps (E.contents err.old) (E.contents err.new) }
 /// ensures usage { result ≡ 2 → ((length args.now ≡ 0) ⊎ AsksToRead args.now) → ⊥ }
+/// ensures kept { result ≡ 2 → Keeps (O.contents out.old) (O.contents out.new) }
 /// ensures status { result ≤ 2 }
 /// ```
 pub fn run<A: Allocator + Copy, I: Read, O: Write, E: Write>(
