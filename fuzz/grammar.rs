@@ -36,6 +36,9 @@ pub trait Along: Sized {
 
     fn vector(&mut self, member: fn(&mut Self) -> Option<()>) -> Option<()>;
 
+    /// A vector of at least one member.
+    fn vector_of_some(&mut self, member: fn(&mut Self) -> Option<()>) -> Option<()>;
+
     fn bytes(&mut self) -> Option<()>;
 
     fn frame(&mut self, content: &dyn Fn(&mut Self) -> Option<()>) -> Option<()>;
@@ -340,6 +343,47 @@ fn import<G: Along>(g: &mut G) -> Option<()> {
     named_entity(g)
 }
 
+// ---- types that a module defines
+
+fn field_type<G: Along>(g: &mut G) -> Option<()> {
+    if g.tag_or_else(&[0x78, 0x77], 3)?.is_none() {
+        value(g)?;
+    }
+    g.tag(&[0, 1]).map(|_| ())
+}
+
+/// A composite type: the byte of a shared one, and the indices of what it describes and of what describes it, where they are given, and a shape.
+fn composite<G: Along>(g: &mut G) -> Option<()> {
+    g.fixed_or_else(&[0x65])?;
+    for tag in [0x4C, 0x4D] {
+        if g.fixed_or_else(&[tag])? {
+            u32_any(g)?;
+        }
+    }
+    match g.tag(&[0x60, 0x5E, 0x5F, 0x5D])? {
+        0x60 => {
+            g.vector(value)?;
+            g.vector(value)
+        }
+        0x5E => field_type(g),
+        0x5F => g.vector(field_type),
+        _ => g.index(),
+    }
+}
+
+fn subtype<G: Along>(g: &mut G) -> Option<()> {
+    match g.tag_or_else(&[0x50, 0x4F], 3)? {
+        Some(0x50) => g.vector(u32_any)?,
+        Some(_) => g.vector_of_some(u32_any)?,
+        None => {}
+    }
+    composite(g)
+}
+
+fn type_item<G: Along>(g: &mut G) -> Option<()> {
+    if g.fixed_or_else(&[0x4E])? { g.vector(subtype) } else { subtype(g) }
+}
+
 // ---- custom sections
 
 fn naming<G: Along>(g: &mut G) -> Option<()> {
@@ -445,9 +489,9 @@ fn until_end<G: Along>(g: &mut G, item: fn(&mut G) -> Option<()>) -> Option<()> 
 // ---- sections
 
 /// The kinds of sections, in the order of their numbers.
-pub const KINDS: [&str; 22] = [
+pub const KINDS: [&str; 23] = [
     "Bodies", "Segments", "DataCount", "Elements", "Exports", "Functions", "Globals", "Imports", "Memories", "Start", "Tables", "Tags", "Names", "Linking",
-    "Producers", "Hints", "Core", "CoreModules", "CoreInstances", "CoreStack", "Custom", "Raw",
+    "Producers", "Hints", "Core", "CoreModules", "CoreInstances", "CoreStack", "Custom", "Raw", "Types",
 ];
 
 fn content<G: Along>(g: &mut G, kind: &str) -> Option<()> {
@@ -481,6 +525,7 @@ fn content<G: Along>(g: &mut G, kind: &str) -> Option<()> {
         }
         "Custom" => g.name().and_then(|()| g.all()),
         "Raw" => g.all(),
+        "Types" => g.vector(type_item),
         _ => panic!("no such kind: {kind}"),
     }
 }

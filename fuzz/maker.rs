@@ -180,6 +180,16 @@ impl Along for Maker<'_> {
         Some(())
     }
 
+    fn vector_of_some(&mut self, member: fn(&mut Self) -> Option<()>) -> Option<()> {
+        let count = 1 + self.random.below(2);
+        self.unsigned(count as u64, 32);
+        for _ in 0..count {
+            self.left = self.left.saturating_sub(1);
+            member(self)?;
+        }
+        Some(())
+    }
+
     fn bytes(&mut self) -> Option<()> {
         let count = self.counted(4);
         self.raw(count)

@@ -158,6 +158,17 @@ impl Along for Plain<'_> {
         Some(())
     }
 
+    fn vector_of_some(&mut self, member: fn(&mut Self) -> Option<()>) -> Option<()> {
+        let count = self.counted()?;
+        if count == 0 {
+            return None;
+        }
+        for _ in 0..count {
+            member(self)?;
+        }
+        Some(())
+    }
+
     fn bytes(&mut self) -> Option<()> {
         let count = self.counted()?;
         self.raw(count)

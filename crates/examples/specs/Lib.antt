@@ -4,3 +4,4 @@ pub mod Filled
 pub mod Named
 pub mod Padded
 pub mod Sums
+pub mod Adding

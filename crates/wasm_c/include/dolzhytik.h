@@ -60,7 +60,8 @@ enum dz_kind {
     DZ_CORE_INSTANCES,
     DZ_CORE_STACK,
     DZ_CUSTOM,
-    DZ_RAW
+    DZ_RAW,
+    DZ_TYPES
 };
 
 /* A section of a module: how many items it has, how many bytes stand behind its size, and its id. */

@@ -7,7 +7,7 @@ use Rattle.wasm_reader_base.specs.declared.fault.ReadFault.{ReadFault}
 use Rattle.wasm_reader_base.specs.declared.fault.ReadFault.TheVariants.{Memory}
 use Rattle.wasm_reader.specs.Sections.{section, Shortens}
 use Rattle.wasm_reader.specs.declared.section.SectionKind.{SectionKind}
-use Rattle.wasm_reader.specs.declared.section.SectionKind.TheVariants.{Bodies, Segments, DataCount, Elements, Exports, Functions, Globals, Imports, Memories, Start, Tables, Tags, Names, Linking, Producers, Hints, Core, CoreModules, CoreInstances, CoreStack, Custom, Raw}
+use Rattle.wasm_reader.specs.declared.section.SectionKind.TheVariants.{Bodies, Segments, DataCount, Elements, Exports, Functions, Globals, Imports, Memories, Start, Tables, Tags, Names, Linking, Producers, Hints, Core, CoreModules, CoreInstances, CoreStack, Custom, Raw, Types}
 use Rattle.wasm_c.specs.Assembled.{Gives}
 use Rattle.wasm_c.specs.Listing.{fault_number}
 use Rattle.wasm_c.specs.declared.TheConstants.{NO_ANSWER}
@@ -16,7 +16,7 @@ use Rattle.wasm_c.specs.declared.TheConstants.{NO_ANSWER}
 abbrev pub kinds_in_order : List SectionKind
 kinds_in_order =
     Bodies ∷ Segments ∷ DataCount ∷ Elements ∷ Exports ∷ Functions ∷ Globals ∷ Imports ∷ Memories ∷ Start ∷ Tables ∷ Tags
-    ∷ Names ∷ Linking ∷ Producers ∷ Hints ∷ Core ∷ CoreModules ∷ CoreInstances ∷ CoreStack ∷ Custom ∷ Raw ∷ []
+    ∷ Names ∷ Linking ∷ Producers ∷ Hints ∷ Core ∷ CoreModules ∷ CoreInstances ∷ CoreStack ∷ Custom ∷ Raw ∷ Types ∷ []
 
 -- the kind of a number, counted from 0
 abbrev pub kind_numbered : ℕ → Option SectionKind

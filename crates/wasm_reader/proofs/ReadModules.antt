@@ -83,6 +83,7 @@ number_is kind bytes rest x n place e f h g = counted kind (sym e ∙ f) h
     counted kinds.CoreStack i h = absurd (cc i)
     counted kinds.Custom i h = absurd (cc i)
     counted kinds.Raw i h = absurd (cc i)
+    counted kinds.Types i h = absurd (cc i)
 
 no_first : {X : Type 0} {F : Format X} {bytes : List ℕ} {xs : List X} → ReadsNothing u32 wide bytes → vec F wide bytes xs → ⊥
 no_first {xs = xs} n h = n.none (length xs) h.back (record { front = h.front; split = h.joined; spelled = h.first })
@@ -113,6 +114,7 @@ number_none kind bytes place e f n = counted kind (sym e ∙ f)
     counted kinds.CoreStack i = absurd (cc i)
     counted kinds.Custom i = absurd (cc i)
     counted kinds.Raw i = absurd (cc i)
+    counted kinds.Types i = absurd (cc i)
 
 pub number_is_one : (kind : SectionKind) (bytes : List ℕ) (x : Contents) (place : Numbering) → place ≡ numbering_of kind → place ≡ One → content kind wide bytes x → Some 1 ≡ number_in x
 number_is_one kind bytes x place e f h = one kind (sym e ∙ f) h
@@ -140,6 +142,7 @@ number_is_one kind bytes x place e f h = one kind (sym e ∙ f) h
     one kinds.CoreStack i h = absurd (cc i)
     one kinds.Custom i h = absurd (cc i)
     one kinds.Raw i h = absurd (cc i)
+    one kinds.Types i h = absurd (cc i)
 
 pub number_untold : (kind : SectionKind) (bytes : List ℕ) (x : Contents) (place : Numbering) → place ≡ numbering_of kind → place ≡ Untold → content kind wide bytes x → None ≡ number_in x
 number_untold kind bytes x place e f h = untold kind (sym e ∙ f) h
@@ -167,6 +170,7 @@ number_untold kind bytes x place e f h = untold kind (sym e ∙ f) h
     untold kinds.CoreStack i h = ap number_in h.1
     untold kinds.Custom i h = ap number_in h.1
     untold kinds.Raw i h = ap number_in h.1
+    untold kinds.Types i h = ap number_in h.1
 
 pub ruleset number_steps = (number_is_one)
 

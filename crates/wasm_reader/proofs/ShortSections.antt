@@ -32,6 +32,8 @@ use Rattle.wasm_sections.proofs.ImportLaws.{import-alone}
 use Rattle.wasm_sections.proofs.MemoryLaws.{memory-alone, memory_spelled}
 use Rattle.wasm_sections.proofs.TableLaws.{table_item-alone}
 use Rattle.wasm_sections.proofs.TagLaws.{tag-alone, tag_spelled}
+use Rattle.wasm_types.specs.RecTypes.{TypeItem, type_item}
+use Rattle.wasm_types.proofs.TypeLaws.{type-alone}
 use Rattle.wasm_custom.specs.CoreDumps.{Instance}
 use Rattle.wasm_custom.specs.CoreStacks.{Frame}
 use Rattle.wasm_custom.specs.Hints.{Hints as FunctionHints}
@@ -42,7 +44,7 @@ use Rattle.wasm_custom.specs.Readings.{name_payload, linking_payload, producers_
 use Rattle.wasm_custom.proofs.SectionLaws.{name-whole, linking-whole, producers-whole, hints-whole, modules-whole, instances-whole, core-whole, stack-whole}
 use Rattle.wasm_reader_base.specs.Shortest.{AppendsShortest}
 use Rattle.wasm_reader_base.proofs.ShortTexts.{text_appended, pair_appended, mapped_appended, records_appended}
-use Rattle.wasm_reader.specs.Sections.{Contents, Bodies, Segments, DataCount, Elements, Exports, Functions, Globals, Imports, Memories, Start, Tables, Tags, Names, Linking, Producers, Hints, Core, CoreModules, CoreInstances, CoreStack, Custom, Raw, content, kind_in, section, Takes, Shortens, HaveOneText}
+use Rattle.wasm_reader.specs.Sections.{Contents, Bodies, Segments, DataCount, Elements, Exports, Functions, Globals, Imports, Memories, Start, Tables, Tags, Types, Names, Linking, Producers, Hints, Core, CoreModules, CoreInstances, CoreStack, Custom, Raw, content, kind_in, section, Takes, Shortens, HaveOneText}
 use Rattle.wasm_reader.specs.declared.section.SectionKind.{SectionKind}
 use Rattle.wasm_reader.specs.declared.section.SectionKind.TheVariants as kinds
 use Rattle.wasm_reader.proofs.ReadPlain.{memory_is, tag_is, export_short}
@@ -119,6 +121,9 @@ custom n bytes old middle new a e = mapped_appended Custom (pair name any_bytes)
 pub raw : (bytes old new : List ℕ) → new ≡ old ++ bytes → AppendsShortest (content kinds.Raw) (Raw bytes) old new
 raw bytes old new e = mapped_appended Raw any_bytes bytes old new (λ z k. cc k) (text_appended any_bytes bytes bytes old new (λ s h. refl) e)
 
+pub types : (xs : List TypeItem) (old new : List ℕ) → AppendsShortest (vec type_item) xs old new → AppendsShortest (content kinds.Types) (Types xs) old new
+types xs old new a = mapped_appended Types (vec type_item) xs old new (λ z e. cc e) a
+
 -- As what the items are is told by a case of a match.
 pub of_items : (x y : Contents) (old new : List ℕ) → x ≡ y → AppendsShortest (content (kind_in y)) y old new → AppendsShortest (content (kind_in x)) x old new
 of_items x y old new e a = subst (λ z. AppendsShortest (content (kind_in z)) z old new) (sym e) a
@@ -150,6 +155,7 @@ content-whole kinds.CoreInstances = mapped-whole CoreInstances (λ x y e. cc) in
 content-whole kinds.CoreStack = mapped-whole CoreStack (λ x y e. cc) stack-whole
 content-whole kinds.Custom = mapped-whole Custom (λ x y e. cc) (pair-whole name-alone any_bytes-whole)
 content-whole kinds.Raw = mapped-whole Raw (λ x y e. cc) any_bytes-whole
+content-whole kinds.Types = mapped-whole Types (λ x y e. cc) (whole_from_alone (vec-alone type-alone))
 
 section-alone : (kind : SectionKind) → UniqueReading (section kind)
 section-alone kind = frame-alone (content-whole kind)
@@ -178,6 +184,7 @@ kind_is kinds.CoreInstances s x h = sym (ap kind_in h.1)
 kind_is kinds.CoreStack s x h = sym (ap kind_in h.1)
 kind_is kinds.Custom s x h = sym (ap kind_in h.1)
 kind_is kinds.Raw s x h = sym (ap kind_in h.1)
+kind_is kinds.Types s x h = sym (ap kind_in h.1)
 
 -- The content was appended to an empty buffer, and its frame to the sink.
 pub shortened : (kind : SectionKind) (bytes start text old new : List ℕ) (x : Contents) (n : ℕ) → Takes kind bytes x n → start ≡ [] → AppendsShortest (content (kind_in x)) x start text → FrameFits text → new ≡ old ++ frame_text text → Shortens kind bytes n old new

@@ -5,7 +5,7 @@ use Rattle.wasm_base.specs.Formats.{Format, byte, any_bytes, fixed, frame, heade
 use Rattle.wasm_base.specs.Reading.{Reads, ReadsNothing}
 use Rattle.wasm_base.specs.SectionId.{number_of}
 use Rattle.wasm_base.specs.declared.section_id.SectionId.TheVariants as ids
-use Rattle.wasm_reader.specs.Sections.{Contents, Bodies, Segments, DataCount, Elements, Exports, Functions, Globals, Imports, Memories, Start, Tables, Tags, Names, Linking, Producers, Hints, Core, CoreModules, CoreInstances, CoreStack, Custom, Raw, content}
+use Rattle.wasm_reader.specs.Sections.{Contents, Bodies, Segments, DataCount, Elements, Exports, Functions, Globals, Imports, Memories, Start, Tables, Tags, Names, Linking, Producers, Hints, Core, CoreModules, CoreInstances, CoreStack, Custom, Raw, Types, content}
 use Rattle.wasm_reader.specs.declared.modules.Listed.{Listed}
 use Rattle.wasm_reader.specs.declared.modules.Numbering.{Numbering}
 use Rattle.wasm_reader.specs.declared.modules.Numbering.TheVariants.{InFront, One, Untold}
@@ -62,6 +62,7 @@ number_in (CoreInstances x) = None
 number_in (CoreStack x) = None
 number_in (Custom x) = None
 number_in (Raw x) = None
+number_in (Types xs) = None
 
 -- where the number of the items of a section of the kind stands
 abbrev pub numbering_of : SectionKind → Numbering
@@ -87,6 +88,7 @@ numbering_of kinds.CoreInstances = Untold
 numbering_of kinds.CoreStack = Untold
 numbering_of kinds.Custom = Untold
 numbering_of kinds.Raw = Untold
+numbering_of kinds.Types = Untold
 
 -- a frame of so many bytes, which spell what a section of the kind holds
 pub record Sized (kind : SectionKind) (mode : Mode) (s : List ℕ) (p : ℕ × Contents) : Type 0 where

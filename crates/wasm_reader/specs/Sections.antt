@@ -14,6 +14,8 @@ use Rattle.wasm_sections.specs.Imports.{ImportItem, imports_item, import_format}
 use Rattle.wasm_sections.specs.Memories.{memory_type}
 use Rattle.wasm_sections.specs.Tables.{TableItem, table_item}
 use Rattle.wasm_sections.specs.Tags.{tag_type}
+use Rattle.wasm_types.specs.RecTypes.{TypeItem, type_item}
+use Rattle.wasm_reader_types.specs.Items.{entry_of}
 use Rattle.wasm_sections.specs.declared.memory.MemoryType.{MemoryType}
 use Rattle.wasm_sections.specs.declared.tag.TagType.{TagType}
 use Rattle.wasm_custom.specs.CoreDumps.{Instance}
@@ -56,6 +58,7 @@ pub data Contents : Type 0 where
   CoreStack : List ℕ × List Frame → Contents
   Custom : List ℕ × List ℕ → Contents
   Raw : List ℕ → Contents
+  Types : List TypeItem → Contents
 
 -- what the frame of a section of the kind holds
 abbrev pub content : SectionKind → Format Contents
@@ -81,6 +84,7 @@ content kinds.CoreInstances = mapped CoreInstances instances_payload
 content kinds.CoreStack = mapped CoreStack stack_payload
 content kinds.Custom = mapped Custom (pair name any_bytes)
 content kinds.Raw = mapped Raw any_bytes
+content kinds.Types = mapped Types (vec type_item)
 
 -- the kind of a section that holds this
 abbrev pub kind_in : Contents → SectionKind
@@ -106,6 +110,7 @@ kind_in (CoreInstances x) = kinds.CoreInstances
 kind_in (CoreStack x) = kinds.CoreStack
 kind_in (Custom x) = kinds.Custom
 kind_in (Raw x) = kinds.Raw
+kind_in (Types xs) = kinds.Types
 
 -- section of the kind: a frame
 abbrev pub section : SectionKind → Format Contents
@@ -135,6 +140,7 @@ contents_of (items.CoreInstances v) = CoreInstances (map instance_of v.items)
 contents_of (items.CoreStack n v) = CoreStack (n.now, map frame_of v.items)
 contents_of (items.Custom n b) = Custom (n.now, b.now)
 contents_of (items.Raw b) = Raw b.now
+contents_of (items.Types v) = Types (map entry_of v.items)
 
 -- A section of the kind stands at the front of the bytes, and takes so many of them.
 pub record Takes (kind : SectionKind) (bytes : List ℕ) (x : Contents) (n : ℕ) : Type 0 where

@@ -20,6 +20,7 @@ use wasm_reader_custom::{
     read_names, read_process, read_producers, read_stack,
 };
 use wasm_reader_insn::Body;
+use wasm_reader_types::{TypeEntry, read_types};
 use wasm_sections::{Export, Imports, MemoryType, TagType};
 
 /// What a section is read as.
@@ -59,6 +60,7 @@ pub enum SectionKind {
     Custom,
     /// A section of any bytes.
     Raw,
+    Types,
 }
 
 /// The items of a section. Names, data and raw parts are slices of the input; lists are in memory of the allocator.
@@ -101,6 +103,8 @@ pub enum Items<'a, A: Allocator = Global> {
         bytes: &'a [u8],
     },
     Raw(&'a [u8]),
+    /// Types, and groups of types that may refer to one another.
+    Types(Vec<TypeEntry<A>, A>),
 }
 
 /// What the frame of a section of the kind holds.
@@ -199,6 +203,10 @@ pub(crate) fn read_content<'a, A: Allocator + Copy>(
             Ok(Items::Custom { name, bytes })
         }
         SectionKind::Raw => Ok(Items::Raw(bytes)),
+        SectionKind::Types => {
+            let items = read_types(bytes, alloc)?;
+            Ok(Items::Types(items))
+        }
     }
 }
 

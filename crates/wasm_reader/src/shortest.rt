@@ -16,6 +16,7 @@ use wasm_reader_custom::{
     append_hints, append_instances, append_links, append_modules, append_names, append_process,
     append_producers, append_stack,
 };
+use wasm_reader_types::append_types;
 
 /// Appends the shortest text of what the frame of a section holds.
 #[tactic(auto, using(crate::proofs::ShortSections::contents))]
@@ -52,6 +53,7 @@ fn append_content<A: Allocator, B: Allocator>(items: Items<'_, A>, out: &mut Vec
             out.extend_from_slice(bytes)?;
             Ok(())
         }
+        Items::Types(items) => append_types(&items, out),
     }
 }
 

@@ -1,6 +1,6 @@
 use Rattle.std.proofs.Common.{refl}
 use Rattle.wasm_reader_base.proofs.Faults.{fault_stays}
-use Rattle.wasm_reader.specs.Sections.{Bodies, Segments, DataCount, Elements, Exports, Functions, Globals, Imports, Memories, Start, Tables, Tags, Names, Linking, Producers, Hints, Core, CoreModules, CoreInstances, CoreStack}
+use Rattle.wasm_reader.specs.Sections.{Bodies, Segments, DataCount, Elements, Exports, Functions, Globals, Imports, Memories, Start, Tables, Tags, Types, Names, Linking, Producers, Hints, Core, CoreModules, CoreInstances, CoreStack}
 use Rattle.wasm_reader.proofs.ReadSections.{of_kind, none_of_kind, says_nothing, functions_fill, memories_fill, tags_fill, custom_fills, no_custom}
 use Rattle.wasm_reader.proofs.section.read_content.Goals as goal
 
@@ -42,6 +42,9 @@ returns-in_err-items-in-Tags-clause-none g c = fault_stays c.from_residual-in_er
 
 pub returns-in_err-items-in-Names-clause-none : goal.returns-in_err-items-in-Names-clause-none
 returns-in_err-items-in-Names-clause-none g c = fault_stays c.from_residual-in_err-items-in-Names.result _ c.from_residual-in_err-items-in-Names.ensures.1 λ n. none_of_kind c.args.bytes.now c.in-Names.is (says_nothing Names (c.in_err-items-in-Names.ensures.none n))
+
+pub returns-in_err-items-in-Types-clause-none : goal.returns-in_err-items-in-Types-clause-none
+returns-in_err-items-in-Types-clause-none g c = fault_stays c.from_residual-in_err-items-in-Types.result _ c.from_residual-in_err-items-in-Types.ensures.1 λ n. none_of_kind c.args.bytes.now c.in-Types.is (says_nothing Types (c.in_err-items-in-Types.ensures.none n))
 
 pub returns-in_err-items-in-Linking-clause-none : goal.returns-in_err-items-in-Linking-clause-none
 returns-in_err-items-in-Linking-clause-none g c = fault_stays c.from_residual-in_err-items-in-Linking.result _ c.from_residual-in_err-items-in-Linking.ensures.1 λ n. none_of_kind c.args.bytes.now c.in-Linking.is (says_nothing Linking (c.in_err-items-in-Linking.ensures.none n))
@@ -99,6 +102,9 @@ returns-in_ok-items-in-Tables-clause-found g c = of_kind c.args.bytes.now _ c.in
 
 pub returns-in_ok-items-in-Tags-clause-found : goal.returns-in_ok-items-in-Tags-clause-found
 returns-in_ok-items-in-Tags-clause-found g c = of_kind c.args.bytes.now _ c.in-Tags.is (tags_fill c.args.bytes.now _ c.in_ok-items-in-Tags.ensures.found)
+
+pub returns-in_ok-items-in-Types-clause-found : goal.returns-in_ok-items-in-Types-clause-found
+returns-in_ok-items-in-Types-clause-found g c = of_kind c.args.bytes.now _ c.in-Types.is (_, refl, c.in_ok-items-in-Types.ensures.found)
 
 pub returns-in_ok-items-in-Linking-clause-found : goal.returns-in_ok-items-in-Linking-clause-found
 returns-in_ok-items-in-Linking-clause-found g c = of_kind c.args.bytes.now _ c.in-Linking.is (_, refl, c.in_ok-items-in-Linking.ensures.found)

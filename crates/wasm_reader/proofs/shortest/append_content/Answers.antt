@@ -5,8 +5,9 @@ use Rattle.wasm_reader_custom.specs.Items.{instance_of, field_of, hints_of}
 use Rattle.wasm_reader_custom.specs.Names.{name_item_of}
 use Rattle.wasm_reader_custom.specs.Symbols.{link_of}
 use Rattle.wasm_reader.specs.Items.{segment_of}
-use Rattle.wasm_reader.specs.Sections.{Segments, Imports, Names, Linking, Producers, Hints, CoreModules, CoreInstances, contents_of}
-use Rattle.wasm_reader.proofs.ShortSections.{of_items, bodies, segments, data_count, elements, globals, imports, start, tables, names, links, producers, hints, process, modules, instances, stack}
+use Rattle.wasm_reader_types.specs.Items.{entry_of}
+use Rattle.wasm_reader.specs.Sections.{Segments, Imports, Types, Names, Linking, Producers, Hints, CoreModules, CoreInstances, contents_of}
+use Rattle.wasm_reader.proofs.ShortSections.{of_items, bodies, segments, data_count, elements, globals, imports, start, tables, types, names, links, producers, hints, process, modules, instances, stack}
 use Rattle.wasm_reader.proofs.shortest.append_content.Goals as goal
 
 pub returns-in-Bodies : goal.returns-in-Bodies
@@ -32,6 +33,9 @@ returns-in-Start g c = on_ok c.append_shortest-in-Start.result _ _ c.append_shor
 
 pub returns-in-Tables : goal.returns-in-Tables
 returns-in-Tables g c = on_ok c.append_shortest-in-Tables.result _ _ c.append_shortest-in-Tables.ensures λ a. of_items _ _ _ _ (ap contents_of c.in-Tables.is) (tables _ _ _ a)
+
+pub returns-in-Types : goal.returns-in-Types
+returns-in-Types g c = on_ok c.append_types.result _ _ c.append_types.ensures λ a. of_items _ _ _ _ (ap contents_of c.in-Types.is ∙ ap (λ v. Types (map entry_of v)) (sym c.deref-in-Types.ensures.value)) (types _ _ _ a)
 
 pub returns-in-Names : goal.returns-in-Names
 returns-in-Names g c = on_ok c.append_names.result _ _ c.append_names.ensures λ a. of_items _ _ _ _ (ap contents_of c.in-Names.is ∙ ap (λ v. Names (map name_item_of v)) (sym c.deref-in-Names.ensures.value)) (names _ _ _ a)

@@ -1,0 +1,31 @@
+-- The module of a function that adds two numbers.
+use Rattle.std.specs.Prelude.{List, [], ◌∷◌}
+use Rattle.std.specs.declared.alloc.Global.{Global}
+use Rattle.wasm_base.specs.Modules.{SectionReading}
+use Rattle.wasm_base.specs.declared.types.ValType.TheVariants.{I32}
+use Rattle.wasm_code.specs.Bodies.{Body}
+use Rattle.wasm_code.specs.Code.{code_reading}
+use Rattle.wasm_code.specs.Expressions.{normal_row}
+use Rattle.wasm_insn.specs.declared.instruction.Instruction.TheVariants.{LocalGet, Numeric, End}
+use Rattle.wasm_insn.specs.declared.numeric.Numeric.TheVariants.{I32Add}
+use Rattle.wasm_sections.specs.Exports.{ExportItem}
+use Rattle.wasm_sections.specs.Readings.{function_reading, export_reading}
+use Rattle.wasm_sections.specs.declared.export.ExportKind.TheVariants.{Func}
+use Rattle.wasm_types.specs.Readings.{type_reading, plain_type}
+use Rattle.wasm_types.specs.RecTypes.{TypeItem, func}
+
+-- a function of two numbers that gives one
+abbrev pub adding_type : TypeItem
+adding_type = plain_type (func (I32 ∷ I32 ∷ []) (I32 ∷ []))
+
+-- the function 0 as `add`
+abbrev pub add_export : ExportItem
+add_export = record { name = 97 ∷ 100 ∷ 100 ∷ []; kind = Func; index = 0 }
+
+-- the sum of the two parameters
+abbrev pub adding_body : Body
+adding_body = record { runs = []; code = normal_row {A = Global} (LocalGet 0) ∷ normal_row {A = Global} (LocalGet 1) ∷ normal_row {A = Global} (Numeric I32Add) ∷ normal_row {A = Global} End ∷ [] }
+
+-- the sections in order
+abbrev pub adding_sections : List SectionReading
+adding_sections = type_reading (adding_type ∷ []) ∷ function_reading (0 ∷ []) ∷ export_reading (add_export ∷ []) ∷ code_reading (adding_body ∷ []) ∷ []

@@ -1,0 +1,77 @@
+// A whole module by builders alone: a function that adds two numbers.
+ghost use Rattle.std.specs.Prelude.{IfOk, [], ◌∷◌};
+ghost use Rattle.wasm_base.specs.Modules.{ReadsSections};
+ghost use Rattle.wasm_code.specs.Bodies.{IsPlainBody};
+ghost use Rattle.wasm_code.specs.Code.{SpellsBodies};
+ghost use Rattle.wasm_sections.specs.Readings.{HoldsFunctions, HoldsExports};
+ghost use Rattle.wasm_types.specs.Readings.{HoldsTypes};
+ghost use Rattle.examples.specs.Adding.{adding_sections, adding_type, add_export, adding_body};
+
+use std::alloc::Allocator;
+use wasm_base::{Module, R, ValType};
+use wasm_code::{CodeSection, Function};
+use wasm_sections::{ExportKind, ExportSection, FunctionSection};
+use wasm_types::TypeSection;
+
+/// A module that exports a function of two numbers as `add`, which gives their sum.
+pub fn adding_module<A: Allocator + Copy>(alloc: A) -> R<Vec<u8, A>>
+    ensures { IfOk result (λ bytes. ReadsSections adding_sections bytes.items) }
+{
+    let mut module = Module::new(alloc)?;
+    module.section(&types(alloc)?)?;
+    module.section(&functions(alloc)?)?;
+    module.section(&exports(alloc)?)?;
+    module.section(&code(alloc)?)?;
+    Ok(module.finish())
+}
+
+/// The type of the function.
+fn types<A: Allocator + Copy>(alloc: A) -> R<TypeSection<A>>
+    ensures { IfOk result (λ section. HoldsTypes section (adding_type ∷ [])) }
+{
+    let mut section = TypeSection::new(alloc);
+    section
+        .ty()
+        .function([ValType::I32, ValType::I32], [ValType::I32])?;
+    Ok(section)
+}
+
+/// The function is of the type 0.
+fn functions<A: Allocator + Copy>(alloc: A) -> R<FunctionSection<A>>
+    ensures { IfOk result (λ section. HoldsFunctions section (0 ∷ [])) }
+{
+    let mut section = FunctionSection::new(alloc);
+    section.function(0)?;
+    Ok(section)
+}
+
+/// The function 0, as `add`.
+fn exports<A: Allocator + Copy>(alloc: A) -> R<ExportSection<A>>
+    ensures { IfOk result (λ section. HoldsExports section (add_export ∷ [])) }
+{
+    let mut section = ExportSection::new(alloc);
+    section.export("add", ExportKind::Func, 0)?;
+    Ok(section)
+}
+
+/// The body of the function.
+fn code<A: Allocator + Copy>(alloc: A) -> R<CodeSection<A>>
+    ensures { IfOk result (λ section. SpellsBodies section (adding_body ∷ [])) }
+{
+    let mut section = CodeSection::new(alloc);
+    section.function(&sum(alloc)?)?;
+    Ok(section)
+}
+
+/// The sum of the two parameters.
+fn sum<A: Allocator>(alloc: A) -> R<Function<A>>
+    ensures { IfOk result (λ function. IsPlainBody function adding_body) }
+{
+    let mut function = Function::new(alloc, [])?;
+    let mut sink = function.instructions();
+    sink.local_get(0)?;
+    sink.local_get(1)?;
+    sink.i32_add()?;
+    sink.end()?;
+    Ok(function)
+}

@@ -1,0 +1,4 @@
+pub mod ReadFields
+pub mod ReadShapes
+pub mod ReadItems
+pub mod ShortTypes
