@@ -10,6 +10,7 @@
 pub mod base;
 pub mod custom;
 pub mod insn;
+pub mod types;
 mod data;
 mod elements;
 mod exports;

@@ -107,7 +107,8 @@ fn how_numbered(kind: SectionKind) -> Numbering {
         | SectionKind::CoreInstances
         | SectionKind::CoreStack
         | SectionKind::Custom
-        | SectionKind::Raw => Numbering::Untold,
+        | SectionKind::Raw
+        | SectionKind::Types => Numbering::Untold,
     }
 }
 

@@ -13,6 +13,7 @@ use crate::custom::BranchHint;
 use crate::reader::base::{ReadFault, Readable, read_list, read_whole};
 use crate::reader::custom::{CoreFrame, LinkItem, NameItem, read_hints, read_instances, read_links, read_modules, read_names, read_process, read_producers, read_stack};
 use crate::reader::insn::Body;
+use crate::reader::types::{TypeEntry, read_types};
 use crate::sections::{Export, Imports, MemoryType, TagType};
 
 /// What a section is read as.
@@ -52,6 +53,7 @@ pub enum SectionKind {
     Custom,
     /// A section of any bytes.
     Raw,
+    Types,
 }
 
 /// The items of a section. Names, data and raw parts are slices of the input; lists are in memory of the allocator.
@@ -94,6 +96,8 @@ pub enum Items<'a, A: Allocator = Global> {
         bytes: &'a [u8],
     },
     Raw(&'a [u8]),
+    /// Types, and groups of types that may refer to one another.
+    Types(Vec<TypeEntry<A>, A>),
 }
 
 /// What the frame of a section of the kind holds.
@@ -195,6 +199,10 @@ pub(in crate::reader) fn read_content<'a, A: Allocator + Copy>(
             Ok(Items::Custom { name, bytes })
         }
         SectionKind::Raw => Ok(Items::Raw(bytes)),
+        SectionKind::Types => {
+            let items = read_types(bytes, alloc)?;
+            Ok(Items::Types(items))
+        }
     }
 }
 

@@ -9,6 +9,7 @@ use crate::alloc::Allocator;
 use crate::base::{Encode, R, encode_frame};
 use crate::reader::base::{ReadFault, Shorten};
 use crate::reader::custom::{append_hints, append_instances, append_links, append_modules, append_names, append_process, append_producers, append_stack};
+use crate::reader::types::append_types;
 
 /// Appends the shortest text of what the frame of a section holds.
 ///
@@ -48,6 +49,7 @@ fn append_content<A: Allocator, B: Sink>(items: Items<'_, A>, out: &mut B) -> R<
             out.extend_from_slice(bytes)?;
             Ok(())
         }
+        Items::Types(items) => append_types(&items, out),
     }
 }
 

@@ -1,6 +1,7 @@
 // Written by tools/to-rust from crates/examples/src/lib.rt: change that.
 //! Callers that prove what their modules are read as. `docs/CALLING.md` walks through them.
 
+mod adding;
 mod alone;
 mod bodies;
 mod filled;
@@ -11,6 +12,7 @@ mod recursion;
 mod sums;
 mod whole;
 
+pub use adding::adding_module;
 pub use alone::{encode_exports, encode_group, encode_import, encode_local, encode_reference};
 pub use filled::filled_module;
 pub use first::first_module;

@@ -18,7 +18,13 @@ fn check(rt: &impl Abort, alloc: Global, kind: SectionKind, bytes: &[u8], expect
 /// Bytes where no section of the kind stands, and the cause.
 pub(crate) type Row = (SectionKind, &'static [u8], ReadFault);
 
-pub(crate) static ROWS: [Row; 40] = [
+pub(crate) static ROWS: [Row; 42] = [
+    (
+        SectionKind::Types,
+        &[5, 1, 0x4F, 0, 0x5F, 0],
+        ReadFault::UnknownTag,
+    ),
+    (SectionKind::Types, &[3, 1, 0x60, 1, 0x7F], ReadFault::Ended),
     (
         SectionKind::Functions,
         &[5, 255, 255, 255, 255, 15],

@@ -56,7 +56,7 @@ fn check(
 /// A question, the bytes, and how many requests are made.
 type Row = (Question, &'static [u8], u64);
 
-static ROWS: [Row; 26] = [
+static ROWS: [Row; 28] = [
     (Question::Section(SectionKind::Functions), &[2, 1, 5], 1),
     (
         Question::Section(SectionKind::Bodies),
@@ -158,6 +158,16 @@ static ROWS: [Row; 26] = [
     ),
     (Question::Section(SectionKind::Custom), &[1, 0], 0),
     (Question::Section(SectionKind::Raw), &[1, 0], 0),
+    (
+        Question::Section(SectionKind::Types),
+        &[7, 1, 0x60, 2, 0x7F, 0x7E, 1, 0x7D],
+        3,
+    ),
+    (
+        Question::Section(SectionKind::Types),
+        &[8, 1, 0x4E, 1, 0x50, 1, 3, 0x5D, 1],
+        3,
+    ),
     (Question::Module, b"\0asm\x01\0\0\0\x03\x02\x01\x05", 2),
 ];
 

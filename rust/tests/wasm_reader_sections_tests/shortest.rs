@@ -18,7 +18,7 @@ const BEFORE: u8 = 0xAA;
 /// A section with padded numbers, and its shortest text.
 type Row = (SectionKind, &'static [u8], &'static [u8]);
 
-static PADDED: [Row; 34] = [
+static PADDED: [Row; 37] = [
     (
         SectionKind::Producers,
         &[
@@ -205,6 +205,23 @@ static PADDED: [Row; 34] = [
         b"\x1B\x09corestack\x00\x04main\x01\x00\x00\x2A\x33\x01\x7F\x01\x01\x7F\x02",
     ),
     (SectionKind::Raw, &[0x82, 0, 1, 2], &[2, 1, 2]),
+    (
+        SectionKind::Types,
+        &[0x8A, 0, 0x81, 0, 0x60, 0x82, 0, 0x7F, 0x7E, 0x81, 0, 0x7D],
+        &[7, 1, 0x60, 2, 0x7F, 0x7E, 1, 0x7D],
+    ),
+    (
+        SectionKind::Types,
+        &[
+            0xE, 1, 0x50, 0x81, 0, 0x85, 0, 0x5F, 2, 0x78, 1, 0x63, 0x83, 0, 0,
+        ],
+        &[0xB, 1, 0x50, 1, 5, 0x5F, 2, 0x78, 1, 0x63, 3, 0],
+    ),
+    (
+        SectionKind::Types,
+        &[7, 1, 0x4E, 0x81, 0, 0x5E, 0x77, 0],
+        &[6, 1, 0x4E, 1, 0x5E, 0x77, 0],
+    ),
 ];
 
 /// How many bytes a call took, or the cause; and whether the sink has gained the text and nothing else.

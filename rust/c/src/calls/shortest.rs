@@ -42,6 +42,7 @@ fn kind_of(number: u32) -> Option<SectionKind> {
         19 => Some(SectionKind::CoreStack),
         20 => Some(SectionKind::Custom),
         21 => Some(SectionKind::Raw),
+        22 => Some(SectionKind::Types),
         _ => None,
     }
 }

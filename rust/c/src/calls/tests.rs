@@ -135,6 +135,15 @@ fn shortest_texts() {
         &rt,
         alloc,
         22,
+        &[5, 1, 0x60, 0, 0x80, 0],
+        &mut [9; 6],
+        (5, 6, 0),
+        &[4, 1, 0x60, 0, 0, 9],
+    );
+    check_text(
+        &rt,
+        alloc,
+        23,
         padded,
         &mut [9; 3],
         (NO_ANSWER, 0, 9),

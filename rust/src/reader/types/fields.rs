@@ -1,0 +1,95 @@
+// Written by tools/to-rust from crates/wasm_reader_types/src/fields.rt: change that.
+// Storage and field types.
+
+use crate::reader::types::Here;
+use crate::alloc::Allocator;
+use crate::base::{ValType, read_groups};
+use crate::reader::base::{Item, One, ReadFault, Readable};
+use crate::types::{FieldType, StorageType};
+
+/// An index, spelled as a signed number of 33 bits.
+///
+/// # Proved
+///
+/// ```text
+/// ensures found { IfOk result (λ x. Reads s33 wide bytes.now x.0 x.1.now) }
+/// ensures none { IfErr result (λ e. e ≢ Memory → ReadsNothing s33 wide bytes.now) }
+/// ```
+pub(in crate::reader::types) fn read_index(bytes: &[u8]) -> Result<(u32, &[u8]), ReadFault> {
+    let (groups, rest) = read_groups(bytes, 5)?;
+    if groups.last >= 0x40 {
+        return Err(ReadFault::UnknownTag);
+    }
+    if groups.sum < 1 << 32 {
+        Ok((groups.sum as u32, rest))
+    } else {
+        Err(ReadFault::TooLarge)
+    }
+}
+
+/// Whether a field can be set.
+#[derive(Clone, Copy)]
+struct Mutable(bool);
+
+/// # Defined
+///
+/// ```text
+/// Value = { Bool }
+/// format = { coded mutable_code }
+/// view = { λ m. m.0 }
+/// alone = { mutable-alone }
+/// ```
+impl<'a, A: Allocator + Copy> Readable<'a, A> for Mutable {
+    fn read(bytes: &'a [u8], alloc: A) -> Result<(Mutable, &'a [u8]), ReadFault> {
+        let (code, rest) = <u8 as Readable<'a, A>>::read(bytes, alloc)?;
+        match code {
+            0x00 => Ok((Mutable(false), rest)),
+            0x01 => Ok((Mutable(true), rest)),
+            _ => Err(ReadFault::UnknownTag),
+        }
+    }
+}
+
+/// # Defined
+///
+/// ```text
+/// Value = { Storage }
+/// format = { storage_type }
+/// view = { λ ty. ty }
+/// alone = { storage-alone }
+/// ```
+impl<'a, A: Allocator + Copy> Item<'a, Here, A> for StorageType {
+    fn read_item(bytes: &'a [u8], alloc: A) -> Result<(StorageType, &'a [u8]), ReadFault> {
+        let (tag, rest) = <u8 as Readable<'a, A>>::read(bytes, alloc)?;
+        match tag {
+            0x78 => Ok((StorageType::I8, rest)),
+            0x77 => Ok((StorageType::I16, rest)),
+            _ => {
+                let (ty, rest) = <ValType as Readable<'a, A>>::read(bytes, alloc)?;
+                Ok((StorageType::Val(ty), rest))
+            }
+        }
+    }
+}
+
+/// # Defined
+///
+/// ```text
+/// Value = { Field }
+/// format = { field_type }
+/// view = { λ field. field }
+/// alone = { field-alone }
+/// ```
+impl<'a, A: Allocator + Copy> Item<'a, Here, A> for FieldType {
+    fn read_item(bytes: &'a [u8], alloc: A) -> Result<(FieldType, &'a [u8]), ReadFault> {
+        let ((One(element_type, _), Mutable(mutable)), rest) = <(
+            One<StorageType, Here>,
+            Mutable,
+        ) as Readable<'a, A>>::read(bytes, alloc)?;
+        let field = FieldType {
+            element_type,
+            mutable,
+        };
+        Ok((field, rest))
+    }
+}

@@ -1,0 +1,125 @@
+// Written by tools/to-rust from crates/wasm_reader_types/src/items.rt: change that.
+// Subtypes and groups of them.
+
+use crate::vec::Vec;
+use crate::reader::types::shapes::read_composite_after;
+use crate::alloc::{Allocator, Global};
+use crate::reader::base::{ReadFault, Readable};
+use crate::types::CompositeType;
+
+/// A type that may have supertypes, and subtypes where it isn't final.
+#[derive(Debug)]
+pub struct SubItem<A: Allocator = Global> {
+    pub is_final: bool,
+    /// The indices of its supertypes.
+    pub supertypes: Vec<u32, A>,
+    pub composite_type: CompositeType<A>,
+}
+
+/// An entry of a type section.
+#[derive(Debug)]
+pub enum TypeEntry<A: Allocator = Global> {
+    Single(SubItem<A>),
+    /// Types that may refer to one another.
+    Group(Vec<SubItem<A>, A>),
+}
+
+/// Supertypes, and a composite type.
+///
+/// # Proved
+///
+/// ```text
+/// ensures found { IfOk result (λ x. Reads supertypes_and wide bytes.now (x.0.items, composite_in x.1) x.2.now) }
+/// ensures none { IfErr result (λ e. e ≢ Memory → ReadsNothing supertypes_and wide bytes.now) }
+/// ```
+fn read_supertypes_and<'a, A: Allocator + Copy>(
+    bytes: &'a [u8],
+    alloc: A,
+) -> Result<(Vec<u32, A>, CompositeType<A>, &'a [u8]), ReadFault> {
+    let ((supertypes, tag), rest) = <(Vec<u32, A>, u8) as Readable<'a, A>>::read(bytes, alloc)?;
+    let (composite_type, rest) = read_composite_after(tag, rest, alloc)?;
+    Ok((supertypes, composite_type, rest))
+}
+
+/// What follows the first byte of a subtype.
+///
+/// # Proved
+///
+/// ```text
+/// ensures found { IfOk result (λ x. Reads (after_sub tag) wide bytes.now (sub_of x.0) x.1.now) }
+/// ensures none { IfErr result (λ e. e ≢ Memory → ReadsNothing (after_sub tag) wide bytes.now) }
+/// ```
+fn read_sub_after<'a, A: Allocator + Copy>(
+    tag: u8,
+    bytes: &'a [u8],
+    alloc: A,
+) -> Result<(SubItem<A>, &'a [u8]), ReadFault> {
+    match tag {
+        0x50 => {
+            let (supertypes, composite_type, rest) = read_supertypes_and(bytes, alloc)?;
+            let sub = SubItem {
+                is_final: false,
+                supertypes,
+                composite_type,
+            };
+            Ok((sub, rest))
+        }
+        0x4F => {
+            let (supertypes, composite_type, rest) = read_supertypes_and(bytes, alloc)?;
+            if supertypes.is_empty() {
+                return Err(ReadFault::UnknownTag);
+            }
+            let sub = SubItem {
+                is_final: true,
+                supertypes,
+                composite_type,
+            };
+            Ok((sub, rest))
+        }
+        _ => {
+            let (composite_type, rest) = read_composite_after(tag, bytes, alloc)?;
+            let sub = SubItem {
+                is_final: true,
+                supertypes: Vec::new(alloc),
+                composite_type,
+            };
+            Ok((sub, rest))
+        }
+    }
+}
+
+/// # Defined
+///
+/// ```text
+/// Value = { Sub }
+/// format = { sub_type }
+/// view = { sub_of }
+/// alone = { sub-alone }
+/// ```
+impl<'a, A: Allocator + Copy> Readable<'a, A> for SubItem<A> {
+    fn read(bytes: &'a [u8], alloc: A) -> Result<(SubItem<A>, &'a [u8]), ReadFault> {
+        let (tag, rest) = <u8 as Readable<'a, A>>::read(bytes, alloc)?;
+        read_sub_after(tag, rest, alloc)
+    }
+}
+
+/// # Defined
+///
+/// ```text
+/// Value = { Entry }
+/// format = { type_item }
+/// view = { entry_of }
+/// alone = { type-alone }
+/// ```
+impl<'a, A: Allocator + Copy> Readable<'a, A> for TypeEntry<A> {
+    fn read(bytes: &'a [u8], alloc: A) -> Result<(TypeEntry<A>, &'a [u8]), ReadFault> {
+        let (tag, rest) = <u8 as Readable<'a, A>>::read(bytes, alloc)?;
+        if tag == 0x4E {
+            let (types, rest) = <Vec<SubItem<A>, A> as Readable<'a, A>>::read(rest, alloc)?;
+            Ok((TypeEntry::Group(types), rest))
+        } else {
+            let (sub, rest) = read_sub_after(tag, rest, alloc)?;
+            Ok((TypeEntry::Single(sub), rest))
+        }
+    }
+}

@@ -1,0 +1,18 @@
+// Written by tools/to-rust from crates/wasm_reader_types_tests/src/lib.rt: change that.
+//! Tests of `wasm_reader_types`: type sections whose bytes were worked out by hand from the standard, and requests for memory that are refused.
+
+#![allow(unused_imports, unused_variables, clippy::all)]
+
+#[macro_use]
+#[path = "../support/host.rs"]
+mod host;
+#[path = "../test_support/mod.rs"]
+mod test_support;
+#[cfg(test)]
+mod faults;
+#[cfg(test)]
+mod rows;
+#[cfg(test)]
+mod seen;
+#[cfg(test)]
+mod shortest;

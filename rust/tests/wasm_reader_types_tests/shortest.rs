@@ -1,0 +1,116 @@
+// Written by tools/to-rust from crates/wasm_reader_types_tests/src/shortest.rt: change that.
+// Types that are read and written again, each request for memory refused in turn.
+
+use dolzhytik::vec::Vec;
+use dolzhytik::alloc::Global;
+use crate::host::Abort;
+use crate::test_support::Refusing;
+use dolzhytik::base::Refused;
+use dolzhytik::reader::base::ReadFault;
+use dolzhytik::reader::types::{TypeEntry, append_types, read_types};
+
+/// More requests than any call here makes.
+const MOST: u64 = 100;
+
+/// Bytes, and the shortest text of the types that stand there.
+type Row = (&'static [u8], &'static [u8]);
+
+static ROWS: [Row; 7] = [
+    (
+        &[
+            0x82, 0, 0x60, 0x81, 0, 0x7F, 0x80, 0, 0x60, 0, 0x81, 0, 0x7E,
+        ],
+        &[2, 0x60, 1, 0x7F, 0, 0x60, 0, 1, 0x7E],
+    ),
+    (&[1, 0x5E, 0x63, 0x85, 0, 1], &[1, 0x5E, 0x63, 5, 1]),
+    (
+        &[1, 0x5F, 0x82, 0, 0x78, 1, 0x7E, 0],
+        &[1, 0x5F, 2, 0x78, 1, 0x7E, 0],
+    ),
+    (
+        &[1, 0x50, 0x82, 0, 1, 0x87, 0, 0x5D, 0xBF, 0],
+        &[1, 0x50, 2, 1, 7, 0x5D, 0x3F],
+    ),
+    (
+        &[1, 0x4F, 0x81, 0, 9, 0x5D, 0x83, 0],
+        &[1, 0x4F, 1, 9, 0x5D, 3],
+    ),
+    (
+        &[1, 0x65, 0x4C, 0x82, 0, 0x4D, 0xAC, 0x82, 0, 0x5F, 0x80, 0],
+        &[1, 0x65, 0x4C, 2, 0x4D, 0xAC, 2, 0x5F, 0],
+    ),
+    (
+        &[1, 0x4E, 0x82, 0, 0x60, 1, 0x7F, 0, 0x50, 0x80, 0, 0x5F, 0],
+        &[1, 0x4E, 2, 0x60, 1, 0x7F, 0, 0x50, 0, 0x5F, 0],
+    ),
+];
+
+/// An allocator that refuses, lent.
+type Heap<'a> = &'a Refusing<Global>;
+
+/// The call was granted, or refused for want of memory.
+fn check_read(rt: &impl Abort, fault: Option<ReadFault>, granted: bool) {
+    let expected = if granted {
+        None
+    } else {
+        Some(ReadFault::Memory)
+    };
+    assert_eq!(rt; fault, expected);
+}
+
+/// The sink has the byte 7, and this text where the call was granted.
+fn check_written(
+    rt: &impl Abort,
+    refused: Option<Refused>,
+    granted: bool,
+    sink: &[u8],
+    text: &[u8],
+) {
+    let (expected, after) = if granted {
+        (None, text)
+    } else {
+        (Some(Refused::Memory), &[] as &[u8])
+    };
+    assert_eq!(rt; refused, expected);
+    assert_eq!(rt; sink.split_first(), Some((&7, after)));
+}
+
+/// The types are written as this text.
+fn check_types(rt: &impl Abort, heap: Heap<'_>, types: &[TypeEntry<Heap<'_>>], text: &[u8]) {
+    for nth in 1..MOST {
+        heap.refuse(0);
+        let mut sink = Vec::from_slice(heap, &[7]).expect("accepted");
+        heap.refuse(nth);
+        let refused = append_types(types, &mut sink).err();
+        let granted = heap.is_waiting();
+        check_written(rt, refused, granted, &sink, text);
+        if granted {
+            return;
+        }
+    }
+    panic!(rt; "no call was granted")
+}
+
+/// The types are read, and written as this text.
+fn check_row(rt: &impl Abort, heap: Heap<'_>, bytes: &[u8], text: &[u8]) {
+    for nth in 1..MOST {
+        heap.refuse(nth);
+        match read_types(bytes, heap) {
+            Ok(types) => {
+                check_read(rt, None, heap.is_waiting());
+                return check_types(rt, heap, &types, text);
+            }
+            Err(fault) => check_read(rt, Some(fault), heap.is_waiting()),
+        }
+    }
+    panic!(rt; "no call was granted")
+}
+
+#[test]
+fn rows() {
+    let rt = crate::host::HostRuntime;
+    let heap = Refusing::new(rt.alloc());
+    for (bytes, text) in ROWS.iter() {
+        check_row(&rt, &heap, bytes, text);
+    }
+}
