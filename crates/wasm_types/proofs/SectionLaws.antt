@@ -17,6 +17,9 @@ types-alone = counted-alone type-alone
 pub wide-types : IsUniqueWide (counted_format type_item)
 wide-types = unique_wide types-alone
 
+pub wide-type : IsUniqueWide type_item
+wide-type = unique_wide type-alone
+
 pub types-held : HoldsMore type_text IsType (λ ty. ty) type_item
 types-held = holds_more type_text IsType (λ ty. ty) type_item
 
@@ -26,4 +29,4 @@ types-wide = plain_more_wide type_laws
 pub types-payload : ReadsPayloads (vec type_item)
 types-payload = counted-payload type-alone
 
-pub ruleset type_sections = (types-alone, wide-types, types-held, types-wide, types-payload, type_laws, type-alone, sub-alone, composite-alone, field-alone, storage-alone)
+pub ruleset type_sections = (types-alone, wide-types, wide-type, types-held, types-wide, types-payload, type_laws, type-alone, sub-alone, composite-alone, field-alone, storage-alone)

@@ -17,10 +17,31 @@ pub fn types()
     ensures field { UniqueReading field_type }
     ensures storage { UniqueReading storage_type }
     ensures items { ItemLaws type_text IsType (λ ty. ty) type_item }
-    ensures wide { IsUniqueWide (counted_format type_item) }
-    ensures calls { HoldsMore type_text IsType (λ ty. ty) type_item }
-    ensures wide_calls { HoldsMoreWide type_text IsType IsType (λ ty. ty) type_item }
-    ensures payloads { ReadsPayloads (vec type_item) }
+{}
+
+/// With padded numbers too, type sections and types are read uniquely, and what shortest numbers spell is among it.
+#[tactic(auto, using(crate::proofs::SectionLaws::type_sections))]
+pub fn wide()
+    ensures section { IsUniqueWide (counted_format type_item) }
+    ensures item { IsUniqueWide type_item }
+{}
+
+/// What a type section holds, call by call: at first no types, and after a call that adds a plain record what this says too.
+#[tactic(auto, using(crate::proofs::SectionLaws::type_sections))]
+pub fn calls()
+    ensures { HoldsMore type_text IsType (λ ty. ty) type_item }
+{}
+
+/// What the pieces of a type section spell with padded numbers, call by call.
+#[tactic(auto, using(crate::proofs::SectionLaws::type_sections))]
+pub fn wide_calls()
+    ensures { HoldsMoreWide type_text IsType IsType (λ ty. ty) type_item }
+{}
+
+/// Where a module is read as ids and payloads, and a type section as its items alone, its payload is read as these alone.
+#[tactic(auto, using(crate::proofs::SectionLaws::type_sections))]
+pub fn payloads()
+    ensures { ReadsPayloads (vec type_item) }
 {}
 
 /// No section stands in these three texts, with padded numbers neither: in the first a structure has a field of mutability 2, in the second

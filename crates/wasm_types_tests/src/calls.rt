@@ -50,6 +50,10 @@ fn references(rt: HostRuntime) {
 #[test]
 fn function_type(rt: HostRuntime) {
     laws::types();
+    laws::wide();
+    laws::calls();
+    laws::wide_calls();
+    laws::payloads();
     laws::nothing_stands();
     let ty: FuncType = function(rt.alloc()).expect(&rt, "accepted");
     let mut section = TypeSection::new(rt.alloc());
