@@ -13,12 +13,45 @@
 /// ensures field { UniqueReading field_type }
 /// ensures storage { UniqueReading storage_type }
 /// ensures items { ItemLaws type_text IsType (λ ty. ty) type_item }
-/// ensures wide { IsUniqueWide (counted_format type_item) }
-/// ensures calls { HoldsMore type_text IsType (λ ty. ty) type_item }
-/// ensures wide_calls { HoldsMoreWide type_text IsType IsType (λ ty. ty) type_item }
-/// ensures payloads { ReadsPayloads (vec type_item) }
 /// ```
 pub fn types() {}
+
+/// With padded numbers too, type sections and types are read uniquely, and what shortest numbers spell is among it.
+///
+/// # Proved
+///
+/// ```text
+/// ensures section { IsUniqueWide (counted_format type_item) }
+/// ensures item { IsUniqueWide type_item }
+/// ```
+pub fn wide() {}
+
+/// What a type section holds, call by call: at first no types, and after a call that adds a plain record what this says too.
+///
+/// # Proved
+///
+/// ```text
+/// ensures { HoldsMore type_text IsType (λ ty. ty) type_item }
+/// ```
+pub fn calls() {}
+
+/// What the pieces of a type section spell with padded numbers, call by call.
+///
+/// # Proved
+///
+/// ```text
+/// ensures { HoldsMoreWide type_text IsType IsType (λ ty. ty) type_item }
+/// ```
+pub fn wide_calls() {}
+
+/// Where a module is read as ids and payloads, and a type section as its items alone, its payload is read as these alone.
+///
+/// # Proved
+///
+/// ```text
+/// ensures { ReadsPayloads (vec type_item) }
+/// ```
+pub fn payloads() {}
 
 /// No section stands in these three texts, with padded numbers neither: in the first a structure has a field of mutability 2, in the second
 /// the byte of a group is padded, and in the third a final type has an empty list of supertypes.

@@ -3,7 +3,7 @@
 
 use dolzhytik::vec::Vec;
 use crate::checks::{MOST, check_bytes};
-use crate::examples::{choice, encode_exports, encode_group, encode_import, encode_local, encode_padded_body, encode_padded_globals, encode_padded_names, encode_reference, encode_sum, encode_sum_and_padded, factorial, filled_module, first_module, named_module, padded_module, whole_module};
+use crate::examples::{adding_module, choice, encode_exports, encode_group, encode_import, encode_local, encode_padded_body, encode_padded_globals, encode_padded_names, encode_reference, encode_sum, encode_sum_and_padded, factorial, filled_module, first_module, named_module, padded_module, whole_module};
 use dolzhytik::alloc::Global;
 use crate::host::Abort;
 use crate::test_support::Refusing;
@@ -24,6 +24,17 @@ fn module_of_one_section() {
         &rt,
         &padded,
         b"\0asm\x01\0\0\0\x0A\x0B\x02\x04\x80\x80\0\x0B\x04\x01\x01\x7F\x0B",
+    );
+}
+
+#[test]
+fn module_of_four_sections() {
+    let rt = crate::host::HostRuntime;
+    let adding = adding_module(rt.alloc()).expect("accepted");
+    check_bytes(
+        &rt,
+        &adding,
+        b"\0asm\x01\0\0\0\x01\x07\x01\x60\x02\x7F\x7F\x01\x7F\x03\x02\x01\0\x07\x07\x01\x03add\0\0\x0A\x09\x01\x07\0\x20\0\x20\x01\x6A\x0B",
     );
 }
 

@@ -55,6 +55,10 @@ fn references() {
 fn function_type() {
     let rt = crate::host::HostRuntime;
     laws::types();
+    laws::wide();
+    laws::calls();
+    laws::wide_calls();
+    laws::payloads();
     laws::nothing_stands();
     let ty: FuncType = function(rt.alloc()).expect("accepted");
     let mut section = TypeSection::new(rt.alloc());
