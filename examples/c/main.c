@@ -73,6 +73,6 @@ int main(void) {
     shorten(DZ_NAMES, "\x0C\x84\x00name\x00\x83\x00\x82\x00m", 13);
     shorten(DZ_NAMES, "\x0C\x84\x00name\x00\x83\x00\x81\x00m", 13);
     shorten(DZ_TAGS, "\x03\x01\x01\x00", 4);
-    shorten(22, "", 0);
+    shorten(23, "", 0);
     return 0;
 }

@@ -173,5 +173,5 @@ fn main() {
     shorten(NAMES, b"\x0C\x84\x00name\x00\x83\x00\x82\x00m");
     shorten(NAMES, b"\x0C\x84\x00name\x00\x83\x00\x81\x00m");
     shorten(TAGS, b"\x03\x01\x01\x00");
-    shorten(22, b"");
+    shorten(23, b"");
 }
