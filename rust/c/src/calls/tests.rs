@@ -116,6 +116,23 @@ fn shortest_texts() {
     check_text(
         &rt,
         alloc,
+        22,
+        &[5, 1, 0x60, 0, 0x80, 0],
+        &mut [9; 6],
+        (5, 6, 0),
+        &[4, 1, 0x60, 0, 0, 9],
+    );
+}
+
+/// Bytes that end too early, bytes of another kind, a number that no kind has, and no bytes.
+#[test]
+fn no_section_stands() {
+    let rt = crate::host::HostRuntime;
+    let alloc = rt.alloc();
+    let padded: &[u8] = &[0x86, 0x00, 0x01, 0x85, 0x80, 0x80, 0x80, 0x00, 0x99];
+    check_text(
+        &rt,
+        alloc,
         5,
         &padded[..7],
         &mut [9; 3],
@@ -130,15 +147,6 @@ fn shortest_texts() {
         &mut [9; 3],
         (NO_ANSWER, 0, 4),
         &[9; 3],
-    );
-    check_text(
-        &rt,
-        alloc,
-        22,
-        &[5, 1, 0x60, 0, 0x80, 0],
-        &mut [9; 6],
-        (5, 6, 0),
-        &[4, 1, 0x60, 0, 0, 9],
     );
     check_text(
         &rt,
