@@ -28,6 +28,13 @@ unsafe extern "C" {
         out: *mut u8,
         out_len: usize,
     ) -> u64;
+    fn wb_types(
+        words: *const u32,
+        words_len: usize,
+        phase: u32,
+        out: *mut u8,
+        out_len: usize,
+    ) -> u64;
     fn wb_functions(
         types: *const u32,
         types_len: usize,
@@ -85,10 +92,11 @@ unsafe extern "C" {
 const NO_ANSWER: u64 = u64::MAX;
 const HEADER: [u8; 8] = *b"\0asm\x01\0\0\0";
 const SIZES: [usize; 3] = [10_000, 100_000, 1_000_000];
-const NAMES: [&str; 10] = [
+const NAMES: [&str; 11] = [
     "calls",
     "values",
     "line",
+    "types",
     "functions",
     "exports",
     "imports",
@@ -115,6 +123,7 @@ struct Entries {
 enum Input {
     Code { words: Vec<u32>, mode: u32 },
     Line(Vec<u32>),
+    Types(Vec<u32>),
     Functions(Vec<u32>),
     Exports(Entries),
     Imports(Entries),
@@ -132,6 +141,7 @@ impl Input {
                     wb_code(words.as_ptr(), words.len(), *mode, phase, o, n)
                 }
                 Input::Line(operands) => wb_line(operands.as_ptr(), operands.len(), phase, o, n),
+                Input::Types(words) => wb_types(words.as_ptr(), words.len(), phase, o, n),
                 Input::Functions(types) => wb_functions(types.as_ptr(), types.len(), phase, o, n),
                 Input::Exports(e) => wb_exports(
                     e.names.as_ptr(),
@@ -182,6 +192,7 @@ impl Input {
         match self {
             Input::Code { words, .. } => (number(words[0] as usize), straight_code(words)),
             Input::Line(operands) => (number(1), straight_line(operands)),
+            Input::Types(words) => (number(words.len()), straight_types(words)),
             Input::Functions(types) => (number(types.len()), straight_functions(types)),
             Input::Exports(e) => (number(e.kinds.len()), straight_exports(e)),
             Input::Imports(e) => (number(e.kinds.len()), straight_imports(e)),
@@ -200,6 +211,7 @@ impl Input {
     fn id(&self) -> u8 {
         match self {
             Input::Code { .. } | Input::Line(_) => 10,
+            Input::Types(_) => 1,
             Input::Functions(_) => 3,
             Input::Exports(_) => 7,
             Input::Imports(_) => 2,
@@ -368,6 +380,16 @@ fn straight_line(operands: &[u32]) -> Vec<u8> {
     let mut entries = Vec::new();
     unsigned(&mut entries, body.len() as u64);
     entries.extend_from_slice(&body);
+    entries
+}
+
+/// Types of functions of three parameters and a result, each a byte of a word.
+fn straight_types(words: &[u32]) -> Vec<u8> {
+    let mut entries = Vec::new();
+    for word in words {
+        let [a, b, c, result] = word.to_le_bytes().map(|code| 0x7F - code);
+        entries.extend_from_slice(&[0x60, 3, a, b, c, 1, result]);
+    }
     entries
 }
 
@@ -577,6 +599,11 @@ fn input(name: &str, items: usize) -> Input {
             mode: 1,
         },
         "line" => Input::Line(line_operands(items)),
+        "types" => Input::Types(
+            (0..items)
+                .map(|_| numbers.index() & 0x0303_0303)
+                .collect(),
+        ),
         "functions" => Input::Functions((0..items).map(|_| numbers.index()).collect()),
         "exports" => Input::Exports(entries(items, false)),
         "imports" => Input::Imports(entries(items, true)),

@@ -9,6 +9,7 @@ use wasm_base::{Module, Refused, Section};
 use wasm_code::CodeSection;
 use wasm_custom::NameSection;
 use wasm_sections::{CountedSection, ItemKind};
+use wasm_types::TypeSection;
 
 /// The answer of a workload whose input is wrong, or of which the library has refused a call.
 pub const NO_ANSWER: u64 = 18446744073709551615;
@@ -70,6 +71,21 @@ impl Entries for NameSection {
 
 /// The entries are asked for one by one, since the section does not tell how many bytes they have.
 impl<K: ItemKind> Entries for CountedSection<K> {
+    ghost content = { λ section. joined section };
+
+    #[tactic(auto, using(crate::proofs::PieceLengths::joined_take_more, crate::proofs::PieceLengths::joined_take_le))]
+    fn entries_len(&self) -> Option<u64> {
+        let mut bytes: u64 = 0;
+        for index in 0..self.len() {
+            let piece = self.piece(index)?;
+            bytes = bytes.checked_add(piece.len() as u64)?;
+        }
+        Some(bytes)
+    }
+}
+
+/// As of a counted section.
+impl Entries for TypeSection {
     ghost content = { λ section. joined section };
 
     #[tactic(auto, using(crate::proofs::PieceLengths::joined_take_more, crate::proofs::PieceLengths::joined_take_le))]

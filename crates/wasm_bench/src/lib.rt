@@ -1,5 +1,5 @@
 //! Workloads that a program in C or Rust calls to measure the encoder. What each function reads and answers is told in `bench/README.md`.
-#![tactic(auto)]
+#![tactic(auto, using(wasm_base::proofs::KnownLengths::drained_array))]
 
 mod answers;
 mod bodies;
@@ -15,6 +15,7 @@ mod line;
 mod name_section;
 mod names;
 mod reading;
+mod types;
 mod values;
 mod words;
 

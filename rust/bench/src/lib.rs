@@ -1,5 +1,5 @@
 //! The workloads of `bench/` in the build by rustc: the border by which the drivers call them as they call those of the proved build.
-use calls::{code, data, exports, functions, imports, line, name_section, reading};
+use calls::{code, data, exports, functions, imports, line, name_section, reading, types};
 use dolzhytik::alloc::Global;
 use std::slice;
 
@@ -27,6 +27,7 @@ macro_rules! workload {
 
 workload!(wb_code of code: [words words_len: u32] [mode, phase] [out out_len]);
 workload!(wb_line of line: [operands operands_len: u32] [phase] [out out_len]);
+workload!(wb_types of types: [words words_len: u32] [phase] [out out_len]);
 workload!(wb_functions of functions: [types types_len: u32] [phase] [out out_len]);
 workload!(wb_exports of exports: [names names_len: u8, lens lens_len: u32, kinds kinds_len: u8, indices indices_len: u32] [phase] [out out_len]);
 workload!(wb_imports of imports: [names names_len: u8, lens lens_len: u32, kinds kinds_len: u8, indices indices_len: u32] [phase] [out out_len]);

@@ -7,6 +7,7 @@ use dolzhytik::base::{Module, Refused, Section};
 use dolzhytik::code::CodeSection;
 use dolzhytik::custom::NameSection;
 use dolzhytik::sections::{CountedSection, ItemKind};
+use dolzhytik::types::TypeSection;
 
 /// The answer of a workload whose input is wrong, or of which the library has refused a call.
 pub const NO_ANSWER: u64 = 18446744073709551615;
@@ -96,6 +97,24 @@ impl Entries for NameSection {
 /// content = { λ section. joined section }
 /// ```
 impl<K: ItemKind> Entries for CountedSection<K> {
+    fn entries_len(&self) -> Option<u64> {
+        let mut bytes: u64 = 0;
+        for index in 0..self.len() {
+            let piece = self.piece(index)?;
+            bytes = bytes.checked_add(piece.len() as u64)?;
+        }
+        Some(bytes)
+    }
+}
+
+/// As of a counted section.
+///
+/// # Defined
+///
+/// ```text
+/// content = { λ section. joined section }
+/// ```
+impl Entries for TypeSection {
     fn entries_len(&self) -> Option<u64> {
         let mut bytes: u64 = 0;
         for index in 0..self.len() {

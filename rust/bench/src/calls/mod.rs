@@ -15,6 +15,7 @@ pub(crate) mod line;
 pub(crate) mod name_section;
 pub(crate) mod names;
 pub(crate) mod reading;
+pub(crate) mod types;
 pub(crate) mod values;
 pub(crate) mod words;
 

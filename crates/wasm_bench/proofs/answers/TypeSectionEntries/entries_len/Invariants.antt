@@ -1,0 +1,6 @@
+use Rattle.std.proofs.Common.{◌≡◌, length, take}
+use Rattle.wasm_base.specs.Pieces.{joined}
+use Rattle.wasm_bench.proofs.answers.TypeSectionEntries.entries_len.Given as goal
+
+abbrev pub invariant-loop-index : goal.invariant-loop-index
+invariant-loop-index l = l.bytes ≡ length (joined (take l.index l.self))
