@@ -599,11 +599,7 @@ fn input(name: &str, items: usize) -> Input {
             mode: 1,
         },
         "line" => Input::Line(line_operands(items)),
-        "types" => Input::Types(
-            (0..items)
-                .map(|_| numbers.index() & 0x0303_0303)
-                .collect(),
-        ),
+        "types" => Input::Types((0..items).map(|_| numbers.index() & 0x0303_0303).collect()),
         "functions" => Input::Functions((0..items).map(|_| numbers.index()).collect()),
         "exports" => Input::Exports(entries(items, false)),
         "imports" => Input::Imports(entries(items, true)),
