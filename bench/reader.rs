@@ -1,10 +1,11 @@
 //! Measures the reader of the library `wasm_bench`: a code section read whole, and its bodies gone over instruction by instruction, beside a
-//! straight decoder that keeps nothing. See README.md.
+//! straight decoder that keeps nothing. The section is made here, or that of a module in a file. See README.md.
 
 mod leb128;
 
 use leb128::{signed, unsigned};
 use std::env;
+use std::fs;
 use std::hint::black_box;
 use std::time::{Duration, Instant};
 
@@ -107,6 +108,40 @@ fn section(bodies: &[Vec<u8>]) -> Vec<u8> {
     unsigned(&mut section, content.len() as u64);
     section.extend(content);
     section
+}
+
+/// The bodies of the code section of a module, without their sizes.
+fn bodies_of(module: &[u8]) -> Option<Vec<Vec<u8>>> {
+    let mut rest = module.strip_prefix(b"\0asm\x01\0\0\0")?;
+    while let Some((&id, after)) = rest.split_first() {
+        rest = after;
+        let mut content = framed(&mut rest)?;
+        if id == 10 {
+            let count = number(&mut content, 32)?;
+            return (0..count)
+                .map(|_| Some(framed(&mut content)?.to_vec()))
+                .collect();
+        }
+    }
+    None
+}
+
+/// The bytes of a frame.
+fn framed<'a>(bytes: &mut &'a [u8]) -> Option<&'a [u8]> {
+    let size = number(bytes, 32)?;
+    let (content, rest) = bytes.split_at_checked(usize::try_from(size).ok()?)?;
+    *bytes = rest;
+    Some(content)
+}
+
+/// The bodies of a number of instructions, or of a file.
+fn input(words: &str) -> Vec<Vec<u8>> {
+    match words.parse() {
+        Ok(items) => bodies(items),
+        Err(_) => {
+            bodies_of(&fs::read(words).expect("a file")).expect("a module with a code section")
+        }
+    }
 }
 
 // ---- the straight decoder
@@ -212,8 +247,8 @@ fn measure(items: usize) {
 }
 
 /// One run of a workload alone, for a profiler.
-fn once(name: &str, items: usize) -> u64 {
-    let bodies = bodies(items);
+fn once(name: &str, words: &str) -> u64 {
+    let bodies = input(words);
     match name {
         "read" => read(&section(&bodies)),
         "walk" => all(&bodies, walk),
@@ -224,9 +259,9 @@ fn once(name: &str, items: usize) -> u64 {
 
 fn main() {
     let args: Vec<String> = env::args().collect();
-    if let [_, once_word, name, items] = &args[..] {
+    if let [_, once_word, name, words] = &args[..] {
         assert_eq!(once_word, "once");
-        println!("{}", once(name, items.parse().expect("a number")));
+        println!("{}", once(name, words));
         return;
     }
     println!("| workload | instructions | ns each | MB/s |");

@@ -30,7 +30,7 @@ impl Random {
         self.below(count) == 0
     }
 
-    fn one_of<T: Copy>(&mut self, items: &[T]) -> T {
+    pub fn one_of<T: Copy>(&mut self, items: &[T]) -> T {
         items[self.below(items.len())]
     }
 }
@@ -62,7 +62,7 @@ impl Maker<'_> {
         }
     }
 
-    fn unsigned(&mut self, n: u64, bits: u32) {
+    pub fn unsigned(&mut self, n: u64, bits: u32) {
         let begun = self.text.len();
         put_unsigned(&mut self.text, n);
         self.pad(begun, bits.div_ceil(7) as usize, 0x00);

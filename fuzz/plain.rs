@@ -5,7 +5,7 @@ use std::collections::HashMap;
 use std::sync::OnceLock;
 
 pub struct Plain<'a> {
-    rest: &'a [u8],
+    pub rest: &'a [u8],
     pub text: Vec<u8>,
 }
 
@@ -32,13 +32,13 @@ fn shapes() -> &'static HashMap<(u8, u32), &'static str> {
 }
 
 impl<'a> Plain<'a> {
-    fn byte(&mut self) -> Option<u8> {
+    pub fn byte(&mut self) -> Option<u8> {
         let (&byte, rest) = self.rest.split_first()?;
         self.rest = rest;
         Some(byte)
     }
 
-    fn take(&mut self, count: usize) -> Option<&'a [u8]> {
+    pub fn take(&mut self, count: usize) -> Option<&'a [u8]> {
         let (front, rest) = self.rest.split_at_checked(count)?;
         self.rest = rest;
         Some(front)
@@ -57,7 +57,7 @@ impl<'a> Plain<'a> {
         None
     }
 
-    fn unsigned(&mut self, bits: u32) -> Option<u64> {
+    pub fn unsigned(&mut self, bits: u32) -> Option<u64> {
         let (sum, _, _) = self.groups(bits)?;
         (sum >> bits == 0).then_some(sum as u64)
     }

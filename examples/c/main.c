@@ -1,4 +1,4 @@
-/* Assembles recipes, lists what the modules hold, and shortens padded sections. */
+/* Assembles recipes, lists and outlines what modules hold, and shortens padded sections and modules. */
 #include "dolzhytik.h"
 #include <inttypes.h>
 #include <stdio.h>
@@ -6,13 +6,24 @@
 
 #define ROOM 256
 
+/* Says what is wrong, by its text. */
+static void say(uint64_t (*text_of)(uint32_t, uint8_t *, size_t), uint32_t cause) {
+    uint8_t text[32];
+    uint64_t size = text_of(cause, text, sizeof text);
+    if (size <= sizeof text)
+        printf("%.*s\n", (int)size, (const char *)text);
+    else
+        printf("cause %" PRIu32 "\n", cause);
+}
+
 static void list(const uint8_t *module, size_t len) {
     dz_section sections[16];
     uint64_t place;
     uint32_t cause;
     uint64_t count = dz_list(module, len, sections, 16, &place, &cause);
     if (count == DZ_NO_ANSWER) {
-        printf("section %" PRIu64 ": cause %" PRIu32 "\n", place, cause);
+        printf("section %" PRIu64 ": ", place);
+        say(dz_cause, cause);
         return;
     }
     for (uint64_t i = 0; i < count && i < 16; i++) {
@@ -30,7 +41,8 @@ static void assemble(const void *recipe, size_t len, size_t room) {
     uint32_t cause;
     uint64_t size = dz_assemble(recipe, len, out, room, &line, &cause);
     if (size == DZ_NO_ANSWER) {
-        printf("line %" PRIu64 ": cause %" PRIu32 "\n", line, cause);
+        printf("line %" PRIu64 ": ", line);
+        say(dz_recipe_cause, cause);
         return;
     }
     if (size > room) {
@@ -49,7 +61,7 @@ static void shorten(uint32_t kind, const void *bytes, size_t len) {
     uint32_t cause;
     uint64_t size = dz_shorten(kind, bytes, len, out, ROOM, &taken, &cause);
     if (size == DZ_NO_ANSWER) {
-        printf("cause %" PRIu32 "\n", cause);
+        say(dz_cause, cause);
         return;
     }
     printf("%" PRIu64 ":", taken);
@@ -57,6 +69,49 @@ static void shorten(uint32_t kind, const void *bytes, size_t len) {
         printf(" %02x", out[i]);
     printf("\n");
 }
+
+static void outline(const uint8_t *module, size_t len) {
+    dz_outlined sections[16];
+    uint64_t place;
+    uint32_t cause;
+    uint64_t count = dz_outline(module, len, sections, 16, &place, &cause);
+    if (count == DZ_NO_ANSWER) {
+        printf("section %" PRIu64 ": ", place);
+        say(dz_cause, cause);
+        return;
+    }
+    for (uint64_t i = 0; i < count && i < 16; i++) {
+        const dz_outlined *s = &sections[i];
+        printf("%" PRIu32 " at %" PRIu64 ", %" PRIu32 " bytes", s->id, s->offset, s->size);
+        if (s->items != DZ_NO_ANSWER)
+            printf(", %" PRIu64 " items", s->items);
+        if (s->name_size != DZ_NO_ANSWER)
+            printf(", %.*s", (int)s->name_size, (const char *)module + s->name_offset);
+        printf("\n");
+    }
+}
+
+static void shorten_module(const void *module, size_t len, uint32_t drop_offsets) {
+    uint8_t out[ROOM] = {0};
+    uint64_t kept, place;
+    uint32_t cause;
+    uint64_t size = dz_shorten_module(module, len, drop_offsets, out, ROOM, &kept, &place, &cause);
+    if (size == DZ_NO_ANSWER) {
+        printf("section %" PRIu64 ": ", place);
+        say(dz_cause, cause);
+        return;
+    }
+    printf("%" PRIu64 " kept:", kept);
+    for (uint64_t i = 0; i < size && i < ROOM; i++)
+        printf(" %02x", out[i]);
+    printf("\n");
+}
+
+/* A type, a custom section of padded numbers called `name`, one without a name, and seven functions that don't stand there. */
+static const char outlined[] = "\0asm\x01\0\0\0" "\x01\x04\x01\x60\0\0" "\0\x87\0\x84\0name\xFF" "\0\x01\x05" "\x03\x01\x07";
+
+/* A padded code section, and symbols, which hold offsets into it. */
+static const char symbols[] = "\0asm\x01\0\0\0" "\x0A\x84\0\x01\x02\0\x0B" "\0\x08\x07linking";
 
 int main(void) {
     const char *module = "type 60027f7f017f\nfunc 0\nexport f func 0\nbody 200020016a0b";
@@ -74,5 +129,11 @@ int main(void) {
     shorten(DZ_NAMES, "\x0C\x84\x00name\x00\x83\x00\x81\x00m", 13);
     shorten(DZ_TAGS, "\x03\x01\x01\x00", 4);
     shorten(23, "", 0);
+    outline((const uint8_t *)outlined, sizeof outlined - 1);
+    outline((const uint8_t *)outlined, 9);
+    shorten_module(outlined, sizeof outlined - 1, 0);
+    shorten_module(symbols, sizeof symbols - 1, 0);
+    shorten_module(symbols, sizeof symbols - 1, 1);
+    shorten_module(outlined, 9, 1);
     return 0;
 }

@@ -10,6 +10,7 @@
 compile_error!("the proofs take a pointer to have 64 bits, and this target's have not");
 
 pub mod alloc;
+mod drop_in;
 pub mod hex;
 pub mod string;
 pub mod vec;
@@ -23,5 +24,7 @@ macro_rules! written {
         )*
     };
 }
+
+pub use drop_in::*;
 
 written! { base code custom immediates insn reader recipe sections types }

@@ -324,6 +324,13 @@ impl<A: Allocator> Sink for Vec<u8, A> {
     }
 }
 
+/// Makes room for so many bytes more in a vector of your own.
+#[cold]
+#[inline(never)]
+fn grow(bytes: &mut vec::Vec<u8>, more: usize) -> Result<(), AllocError> {
+    Ok(bytes.try_reserve(more)?)
+}
+
 /// A vector of your own. It takes its memory from the program's allocator.
 impl Sink for vec::Vec<u8> {
     #[inline]
@@ -334,14 +341,16 @@ impl Sink for vec::Vec<u8> {
     #[inline]
     fn reserve(&mut self, more: usize) -> Result<(), AllocError> {
         if self.capacity() - self.len() < more {
-            self.try_reserve(more)?;
+            grow(self, more)?;
         }
         Ok(())
     }
 
     #[inline]
     fn push(&mut self, byte: u8) -> Result<(), AllocError> {
-        Sink::reserve(self, 1)?;
+        if self.len() == self.capacity() {
+            grow(self, 1)?;
+        }
         self.push(byte);
         Ok(())
     }

@@ -95,7 +95,7 @@ pub gains_section_wide : {readings : List SectionReading} {Payload : List ℕ �
 gains_section_wide {readings = readings} {id = id} {F = F} before more text payload pays framed x alone = record {
   sections = before.sections ++ (id, payload) ∷ [];
   read = more.for_each before.sections payload before.read pays;
-  payloads = are_read-more readings before.sections (wide_reading_of id F x) (id, payload) before.payloads refl (payload-reads-wide F text payload x framed alone);
+  payloads = are_read-more readings before.sections (wide_reading_of id F x) (id, payload) before.payloads refl ((payload-reads-wide F).alone text payload x framed alone);
 }
 
 -- a section that a buffer has gained

@@ -2,8 +2,8 @@
 use Rattle.std.proofs.Common.{List, [], ℕ, refl, sym, subst}
 use Rattle.wasm_base.specs.Numbers.{Mode, shortest, wide}
 use Rattle.wasm_base.specs.Formats.{Format, u32, any_bytes, vec, frame, name, pair}
-use Rattle.wasm_base.specs.Modules.{ReadsPayloads}
-use Rattle.wasm_base.specs.Reading.{ReadsAloneWide, ReadsWholeWide, UniqueReading, UniqueWholeReading}
+use Rattle.wasm_base.specs.Modules.{ReadsPayloads, ReadsPayloadsWide}
+use Rattle.wasm_base.specs.Reading.{UniqueReading, UniqueWholeReading}
 use Rattle.wasm_base.specs.Texts.{IsFrameOf}
 use Rattle.wasm_base.proofs.BaseLaws.{frame-bytes-alone, name-alone}
 use Rattle.wasm_base.proofs.FormatLaws.{any_bytes-whole, pair-whole, vec-alone, whole_from_alone}
@@ -22,12 +22,14 @@ pub payload-reads : {X : Type 0} {F : Format X} → UniqueWholeReading F → Rea
 payload-reads {F = F} whole = record { alone = λ text payload x framed reads. reads_whole {F = F} whole (content_spelled {F = F} shortest framed reads.spelled) }
 
 -- With padded numbers this holds of every format.
-pub payload-reads-wide : {X : Type 0} (F : Format X) (text payload : List ℕ) (x : X) → IsFrameOf text payload → ReadsAloneWide (frame F) text x → ReadsWholeWide F payload x
-payload-reads-wide F text payload x framed reads = record {
-  spelled = content_spelled {F = F} wide framed reads.spelled;
-  alone = λ y h.
-      let whole = subst (λ s. frame F wide s y) (sym framed.is) (frame_in wide F payload y framed.fits h) in
-      (reads.alone [] y [] (record { front = text; split = refl; spelled = whole })).0;
+pub payload-reads-wide : {X : Type 0} (F : Format X) → ReadsPayloadsWide F
+payload-reads-wide F = record {
+  alone = λ text payload x framed reads. record {
+    spelled = content_spelled {F = F} wide framed reads.spelled;
+    alone = λ y h.
+        let whole = subst (λ s. frame F wide s y) (sym framed.is) (frame_in wide F payload y framed.fits h) in
+        (reads.alone [] y [] (record { front = text; split = refl; spelled = whole })).0;
+  };
 }
 
 -- the payload of a section of counted items
@@ -44,3 +46,5 @@ pub custom-payload : ReadsPayloads (pair name any_bytes)
 custom-payload = payload-reads (pair-whole name-alone any_bytes-whole)
 
 pub ruleset payloads = (bytes-payload, u32-payload, custom-payload)
+
+pub ruleset wide_payloads = (payload-reads-wide)

@@ -48,3 +48,7 @@ pub record GainsReadingWide {X : Type 0} (F : Format X) (x : X) (old new : List 
 -- Where a text frames these bytes and is read as x alone, the bytes are read as x alone.
 pub record ReadsPayloads {X : Type 0} (F : Format X) : Type 0 where
   pub alone : (text payload : List ℕ) (x : X) → IsFrameOf text payload → ReadsAlone (frame F) text x → ReadsWhole F payload x
+
+-- The same with padded numbers.
+pub record ReadsPayloadsWide {X : Type 0} (F : Format X) : Type 0 where
+  pub alone : (text payload : List ℕ) (x : X) → IsFrameOf text payload → ReadsAloneWide (frame F) text x → ReadsWholeWide F payload x

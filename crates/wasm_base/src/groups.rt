@@ -1,8 +1,9 @@
 // Groups of seven bits, as numbers are read.
-ghost use Rattle.std.specs.Prelude.{◌≤◌, ◌<◌, ◌^◌, IfOk, IfErr};
+ghost use Rattle.std.specs.Prelude.{◌≡◌, ◌≤◌, ◌<◌, ◌^◌, length, IfOk, IfErr};
 ghost use Rattle.wasm_base.specs.Groups.{groups, HasGroups};
 ghost use Rattle.wasm_base.specs.Numbers.{wide};
 ghost use Rattle.wasm_base.specs.Reading.{ReadsNothing};
+ghost use Rattle.wasm_base.specs.declared.groups.NoGroups.TheVariants.{Ended, TooMany};
 
 /// Groups of seven bits that stand at the front of bytes, the least group first.
 #[derive(Clone, Copy, Debug)]
@@ -32,6 +33,8 @@ pub fn read_groups(bytes: &[u8], limit: u8) -> Result<(Groups, &[u8]), NoGroups>
     ensures power { IfOk result (λ x. x.0.power ≤ 128 ^ limit) }
     ensures below { IfOk result (λ x. x.0.sum < x.0.power) }
     ensures none { IfErr result (λ _. ReadsNothing (groups limit) wide bytes.now) }
+    ensures ended { IfErr result (λ e. e ≡ Ended → length bytes.now < limit) }
+    ensures too_many { IfErr result (λ e. e ≡ TooMany → limit ≤ length bytes.now) }
 {
     if limit == 0 {
         return Err(NoGroups::TooMany);

@@ -20,7 +20,7 @@ ghost use Rattle.wasm_base.specs.Formats.{
   pair,
   wasm_module,
 };
-ghost use Rattle.wasm_base.specs.Modules.{ReadsPayloads};
+ghost use Rattle.wasm_base.specs.Modules.{ReadsPayloads, ReadsPayloadsWide};
 ghost use Rattle.wasm_base.specs.Laws.{FitsUnsigned, FitsBytes, FitsSigned32, FitsSigned64, NameFits, custom_text, CustomFits};
 ghost use Rattle.wasm_base.specs.Numbers.{unsigned_text, signed_text};
 ghost use Rattle.wasm_base.specs.Reading.{UniqueReading, UniqueWholeReading, HasTexts, BeginsWith, IsUniqueWide, IsUniqueWholeWide};
@@ -76,6 +76,14 @@ pub fn payloads()
     ensures bytes { ReadsPayloads any_bytes }
     ensures u32 { ReadsPayloads u32_format }
     ensures custom { ReadsPayloads (pair name any_bytes) }
+{}
+
+/// The same with padded numbers.
+#[tactic(auto, using(crate::proofs::Payloads::wide_payloads))]
+pub fn wide_payloads()
+    ensures bytes { ReadsPayloadsWide any_bytes }
+    ensures u32 { ReadsPayloadsWide u32_format }
+    ensures custom { ReadsPayloadsWide (pair name any_bytes) }
 {}
 
 /// Types are read uniquely: no index begins with a byte of theirs, nor with the 40 of an empty block type (hexadecimal).

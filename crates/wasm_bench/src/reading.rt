@@ -26,7 +26,7 @@ fn instructions(bodies: &[Body]) -> Option<u64>
 pub extern "C" fn wb_read(alloc: Global, section: &[u8]) -> u64
     ensures { (result ≡ no_answer) ⊎ HasRead section.now result }
 {
-    match read_section(SectionKind::Bodies, section, alloc) {
+    match read_section(alloc, SectionKind::Bodies, section) {
         Ok((Items::Bodies(bodies), _)) => instructions(&bodies).unwrap_or(NO_ANSWER),
         _ => NO_ANSWER,
     }

@@ -1,5 +1,5 @@
-/* WebAssembly modules for programs in C: recipes are assembled, the sections of modules are listed, and sections are written as shortly as can be. The
-   numbers of causes and of kinds stand here alone. */
+/* WebAssembly modules for programs in C: recipes are assembled, the sections of modules are listed and outlined, and sections and modules are written as shortly
+   as can be. The numbers of causes and of kinds stand here alone. */
 #ifndef DOLZHYTIK_H
 #define DOLZHYTIK_H
 
@@ -10,10 +10,10 @@
 extern "C" {
 #endif
 
-/* The answer of a call that has none, and the number of items of a section whose items are not counted. */
+/* The answer of a call that has none, the number of items of a section whose items are not counted, and the place and the length of a name that is not there. */
 #define DZ_NO_ANSWER UINT64_MAX
 
-/* What is wrong with a line of a recipe. */
+/* What is wrong with a line of a recipe. dz_recipe_cause gives the text. */
 enum dz_recipe_cause {
     DZ_UNKNOWN_COMMAND = 1,
     DZ_BAD_NUMBER = 2,
@@ -24,7 +24,8 @@ enum dz_recipe_cause {
     DZ_NOT_TEXT = 7
 };
 
-/* What is wrong with the bytes of a section. DZ_NOT_SHORTEST is never given, since padded numbers are read. */
+/* What is wrong with the bytes of a section or a module. dz_cause gives the text. DZ_NOT_SHORTEST is never given, since padded numbers are read; DZ_NO_KIND by
+   dz_shorten alone, and DZ_OFFSETS by dz_shorten_module alone. */
 enum dz_fault {
     DZ_ENDED = 1,
     DZ_NOT_SHORTEST = 2,
@@ -34,7 +35,8 @@ enum dz_fault {
     DZ_NOT_UTF8 = 6,
     DZ_SIZE_MISMATCH = 7,
     DZ_OUT_OF_MEMORY = 8,
-    DZ_NO_KIND = 9
+    DZ_NO_KIND = 9,
+    DZ_OFFSETS = 10
 };
 
 /* What a section is read as: a code section as functions' bodies, .., a custom section as its name and data, and any section as its bytes. */
@@ -71,6 +73,18 @@ typedef struct {
     uint32_t id;
 } dz_section;
 
+/* A section of a module, as an outline has it: how many items it has, if it is read as a section of its kind and these are counted; how many bytes of the module stand
+   before what its frame holds; how many stand before the name of a custom section, and how many bytes the name has (DZ_NO_ANSWER, both, where no name stands there); how many bytes
+   its frame holds; and its id. The name is no string of C: no 0 ends it. */
+typedef struct {
+    uint64_t items;
+    uint64_t offset;
+    uint64_t name_offset;
+    uint64_t name_size;
+    uint32_t size;
+    uint32_t id;
+} dz_outlined;
+
 /* In all calls the caller owes: each pointer is valid for as many elements as its length says, and not null (for a length of 0 any pointer
    that is not null will do); nobody else reads or writes what the call writes; and nothing that it writes overlaps anything else that is
    handed in. */
@@ -82,7 +96,7 @@ uint64_t dz_assemble(const uint8_t *recipe, size_t recipe_len, uint8_t *out, siz
 
 /* Lists the sections of a module. Answers how many there are, and copies them to the front of `out` where it has room for all of them. Where the bytes
    are no module the answer is DZ_NO_ANSWER, `out` is as it was, `*place` is the number of the section at which they are none, counted from 1, or 0 for
-   the header, and `*cause` is one of dz_fault. So it is where memory was refused (DZ_OUT_OF_MEMORY). Else both are 0. */
+   the header, and `*cause` is one of dz_fault (for the header DZ_ENDED or DZ_UNKNOWN_TAG). So it is where memory was refused (DZ_OUT_OF_MEMORY). Else both are 0. */
 uint64_t dz_list(const uint8_t *module, size_t module_len, dz_section *out, size_t out_len, uint64_t *place, uint32_t *cause);
 
 /* Writes the one shortest text of the section of this kind (one of dz_kind) that the bytes begin with, from its size on, without its id. Answers how many
@@ -92,6 +106,27 @@ uint64_t dz_list(const uint8_t *module, size_t module_len, dz_section *out, size
    stand elsewhere (relocations, branch hints, DWARF, source maps) don't fit the text. Not read, so that the whole section is refused, are one-byte reference
    types other than 70 and 6F (hexadecimal), and linking sections with comdats or section symbols, as most of LLVM's object files have. */
 uint64_t dz_shorten(uint32_t kind, const uint8_t *bytes, size_t bytes_len, uint8_t *out, size_t out_len, uint64_t *taken, uint32_t *cause);
+
+/* Outlines a module: a line for each section, whether it is read as its kind or not. Answers how many there are, and copies them to the front of `out` where it has room for all
+   of them. Types are counted here, and a custom section is read as what its name stands for. Where the bytes are no header and frames of ids the answer is DZ_NO_ANSWER, `out` is as it
+   was, `*place` is the number of the first section that is none, counted from 1, or 0 for the header, and `*cause` is one of dz_fault. So it is where memory was refused
+   (DZ_OUT_OF_MEMORY). Else both are 0. */
+uint64_t dz_outline(const uint8_t *module, size_t module_len, dz_outlined *out, size_t out_len, uint64_t *place, uint32_t *cause);
+
+/* Writes a module with each section in its one shortest text. Answers how many bytes that has, which are at most as many as the module has, and copies them to the front of `out` where it
+   has room for all of them; `*kept` is how many sections are kept as they stand, since they are not read as sections of their kinds. What follows a padded number moves. So custom
+   sections that hold offsets into code or data (`linking`, `sourceMappingURL`, and names that begin with `reloc.`, `.debug_` or `metadata.code.`) are left out where `drop_offsets` is not 0. Where it is 0, a
+   module that has one is refused if its code or data section would be written in another way: `*place` is the number of one that holds offsets, counted from 1, and `*cause`
+   DZ_OFFSETS. Where the bytes are no module, or memory was refused, `*place` and `*cause` are as dz_outline has them. Where there is no text the answer is DZ_NO_ANSWER, `out` is as it was, and
+   `*kept` is 0; else `*place` and `*cause` are 0. */
+uint64_t dz_shorten_module(const uint8_t *module, size_t module_len, uint32_t drop_offsets, uint8_t *out, size_t out_len, uint64_t *kept, uint64_t *place, uint32_t *cause);
+
+/* The text of a number of dz_fault, in ASCII: the name of the cause, as `Ended`. Answers how many bytes it has, and copies them to the front of `out` where it has room for all of them; no
+   0 ends them. DZ_NO_ANSWER where no fault has the number, with `out` as it was. */
+uint64_t dz_cause(uint32_t cause, uint8_t *out, size_t out_len);
+
+/* The same of a number of dz_recipe_cause, which begins at 1 too: `bad hex`. */
+uint64_t dz_recipe_cause(uint32_t cause, uint8_t *out, size_t out_len);
 
 #ifdef __cplusplus
 }

@@ -1,3 +1,6 @@
 pub mod Assembled
+pub mod Causes
 pub mod Listing
+pub mod Outlining
 pub mod Shortened
+pub mod Whole

@@ -36,13 +36,14 @@ pub record Lists (module_bytes : List ℕ) (old new : List DzSection) (place cau
   pub no_place : place ≡ 0
   pub no_cause : cause ≡ 0
 
--- There is no list, and nothing was written; the bytes are no module from this place on, for a fault of this number, or memory was refused.
+-- There is no list, and nothing was written; the bytes are no module from this place on, for a fault of this number, or memory was refused. At the header it is that they end, or are others.
 pub record Refuses (module_bytes : List ℕ) (old new : List DzSection) (place cause n : ℕ) : Type 0 where
   pub answer : n ≡ NO_ANSWER
   pub kept : new ≡ old
   pub fault : ReadFault
   pub numbered : cause ≡ fault_number fault
   pub stops : fault ≢ Memory → StopsAt module_bytes place
+  pub header : place ≡ 0 → fault ≢ Memory → (fault ≡ Ended) ⊎ (fault ≡ UnknownTag)
 
 -- what is answered of the bytes
 abbrev pub Outcome : List ℕ → List DzSection → List DzSection → ℕ → ℕ → ℕ → Type 0

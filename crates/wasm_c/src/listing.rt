@@ -75,7 +75,7 @@ pub extern "C" fn dz_list(
 {
     *place = 0;
     *cause = 0;
-    match list_module(bytes, alloc) {
+    match list_module(alloc, bytes) {
         Ok(lines) => put(&lines, out),
         Err((number, fault)) => {
             *place = number as u64;

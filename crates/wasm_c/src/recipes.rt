@@ -10,7 +10,7 @@ use wasm_tool::{RecipeCause, assemble};
 const NOT_TEXT: u32 = 7;
 
 /// The number of a cause.
-fn number_of(cause: RecipeCause) -> u32
+pub(crate) fn number_of(cause: RecipeCause) -> u32
     ensures { result ≡ cause_number cause }
 {
     match cause {

@@ -5,7 +5,7 @@
 //! spellings reach to the last byte. `HasTexts F fits text` says that the text of each value that fits is its shortest spelling.
 ghost use Rattle.std.specs.Prelude.{◌∷◌, [], List};
 ghost use Rattle.wasm_base.specs.Formats.{any_bytes, frame, vec};
-ghost use Rattle.wasm_base.specs.Modules.{ReadsPayloads};
+ghost use Rattle.wasm_base.specs.Modules.{ReadsPayloads, ReadsPayloadsWide};
 ghost use Rattle.wasm_base.specs.Reading.{UniqueReading, UniqueWholeReading, HasTexts, IsUniqueWide, IsUniqueWholeWide};
 ghost use Rattle.wasm_code.specs.Bodies.{Run, body};
 ghost use Rattle.wasm_code.specs.Code.{raw_code, code_section};
@@ -71,6 +71,13 @@ pub fn offset<A: Allocator>()
 pub fn payloads()
     ensures raw_code { ReadsPayloads (vec (frame any_bytes)) }
     ensures code_section { ReadsPayloads (vec (frame body)) }
+{}
+
+/// The same with padded numbers.
+#[tactic(auto, using(wasm_base::proofs::Payloads::wide_payloads))]
+pub fn wide_payloads()
+    ensures raw_code { ReadsPayloadsWide (vec (frame any_bytes)) }
+    ensures code_section { ReadsPayloadsWide (vec (frame body)) }
 {}
 
 /// What a code section holds, call by call, and what a body gains where a named call of a sink writes into it.

@@ -19,6 +19,10 @@ use std::marker::Model;
 use wasm_base::{Encode, Items, R, Section, SectionId, vec_of};
 
 /// The process that was dumped, seen as the data of its section: the byte 00, and its name.
+///
+/// ```rust
+/// module.section(&CoreDumpSection::new(alloc, "a.wasm")?)?;
+/// ```
 #[derive(Drop, Debug)]
 pub struct CoreDumpSection<A: Allocator = Global> {
     data: Vec<u8, A>,
@@ -34,6 +38,7 @@ impl<A: Allocator> CoreDumpSection<A> {
     /// The process of this name.
     pub fn new(alloc: A, name: &str) -> R<Self>
         ensures is { IfOk result (λ s. s ≡ marked_text name.now) }
+        ensures fitted { IfOk result (λ _. FrameFits name.now) }
         ensures too_long { FrameFits name.now → result ≢ Err TooLong }
     {
         let mut data = Vec::new(alloc);
@@ -97,6 +102,12 @@ impl<A: Allocator> Section for CoreDumpSection<A> {
 }
 
 /// The modules of the process, by their names.
+///
+/// ```rust
+/// let mut modules = CoreDumpModulesSection::new(alloc);
+/// modules.module("a.wasm")?;
+/// module.section(&modules)?;
+/// ```
 pub type CoreDumpModulesSection<A = Global> = CustomEntries<ModuleItems, A>;
 
 /// The items of a section of modules: their names.
@@ -163,6 +174,12 @@ impl<A: Allocator> CoreDumpModulesSection<A> {
 }
 
 /// The instances of the process. `len` is their number.
+///
+/// ```rust
+/// let mut instances = CoreDumpInstancesSection::new(alloc);
+/// instances.instance(0, [0], [0, 1])?;
+/// module.section(&instances)?;
+/// ```
 pub type CoreDumpInstancesSection<A = Global> = CustomEntries<InstanceItems, A>;
 
 /// The items of a section of instances.

@@ -43,6 +43,7 @@ impl<A: Allocator + Copy> CoreDumpStackSection<A> {
     /// The stack of the thread of this name, without frames.
     pub fn new(alloc: A, thread_name: &str) -> R<Self>
         ensures is { IfOk result (λ s. s ≡ (marked_text thread_name.now, [])) }
+        ensures fitted { IfOk result (λ _. FrameFits thread_name.now) }
         ensures too_long { FrameFits thread_name.now → result ≢ Err TooLong }
     {
         let mut front = Vec::new(alloc);

@@ -5,7 +5,7 @@ ghost use Rattle.std.specs.Prelude.{◌++◌, ◌∷◌, []};
 ghost use Rattle.wasm_base.specs.Entries.{ItemLaws};
 ghost use Rattle.wasm_base.specs.Formats.{custom, frame, pair, name, any_bytes};
 ghost use Rattle.wasm_base.specs.Laws.{HoldsMore, HoldsMoreWide, NothingStandsWide};
-ghost use Rattle.wasm_base.specs.Modules.{ReadsPayloads};
+ghost use Rattle.wasm_base.specs.Modules.{ReadsPayloads, ReadsPayloadsWide};
 ghost use Rattle.wasm_base.specs.Reading.{UniqueReading, IsUniqueWide};
 ghost use Rattle.wasm_custom.specs.CoreDumps.{marked_text, marked_name, IsModule, instance_text, IsInstance, instance};
 ghost use Rattle.wasm_custom.specs.CoreStacks.{frame_entry, IsFrame, stack_frame};
@@ -107,6 +107,20 @@ pub fn payloads()
     ensures core { ReadsPayloads core_payload }
     ensures stack { ReadsPayloads stack_payload }
     ensures customs { ReadsPayloads (pair name any_bytes) }
+{}
+
+/// The same with padded numbers.
+#[tactic(auto, using(wasm_base::proofs::Payloads::wide_payloads))]
+pub fn wide_payloads()
+    ensures names { ReadsPayloadsWide name_payload }
+    ensures linking { ReadsPayloadsWide linking_payload }
+    ensures producers { ReadsPayloadsWide producers_payload }
+    ensures hints { ReadsPayloadsWide hints_payload }
+    ensures modules { ReadsPayloadsWide modules_payload }
+    ensures instances { ReadsPayloadsWide instances_payload }
+    ensures core { ReadsPayloadsWide core_payload }
+    ensures stack { ReadsPayloadsWide stack_payload }
+    ensures customs { ReadsPayloadsWide (pair name any_bytes) }
 {}
 
 /// No section stands in these two texts, with padded numbers neither: in that of branch hints a value is spelled by two bytes, in that of

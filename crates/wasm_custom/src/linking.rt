@@ -14,6 +14,14 @@ use std::alloc::{Allocator, Global};
 use wasm_base::{Items, R};
 
 /// What a linker needs to know of a module: the version 2 of the format, and a subsection for each call. `new` takes no memory.
+///
+/// ```rust
+/// let mut symbols = SymbolTable::new(alloc);
+/// symbols.function(SymbolTable::WASM_SYM_EXPORTED, 0, Some("f"))?;
+/// let mut linking = LinkingSection::new(alloc);
+/// linking.symbol_table(&symbols)?;
+/// module.section(&linking)?;
+/// ```
 pub type LinkingSection<A = Global> = CustomEntries<LinkingItems, A>;
 
 /// The items of a linking section: subsections.

@@ -9,6 +9,10 @@ use wasm_base::{Encode, R, Section, SectionId};
 
 /// A custom section whose bytes are given as they are, its size among them. Where they are no frame of a name and data, a reader of
 /// the module finds something else there, or nothing.
+///
+/// ```rust
+/// module.section(&RawCustomSection(&[2, 1, b'a']))?;
+/// ```
 #[derive(Clone, Copy, Debug)]
 pub struct RawCustomSection<'a>(pub &'a [u8]);
 

@@ -7,6 +7,8 @@ mod checks;
 #[cfg(test)]
 mod core_dumps;
 #[cfg(test)]
+mod further_entries;
+#[cfg(test)]
 mod lengths;
 #[cfg(test)]
 mod names;

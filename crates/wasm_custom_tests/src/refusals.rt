@@ -1,5 +1,6 @@
 // Each request of an adding call for memory refused in turn: the answer is `Memory`, and what was given is as before.
 use crate::checks::{Heap, MOST, check_answer, check_bytes, check_refused, check_that};
+use crate::further_entries::check_further;
 use std::alloc::Global;
 use std::process::Abort;
 use test_support::Refusing;
@@ -12,7 +13,7 @@ use wasm_custom::{
 };
 
 /// A section that takes its memory from an allocator that refuses.
-type LentEntries<'h, K> = CustomEntries<K, &'h Refusing<Global>>;
+pub(crate) type LentEntries<'h, K> = CustomEntries<K, &'h Refusing<Global>>;
 
 /// The item is written as these bytes, where no request is refused.
 pub(crate) fn check_written<T: Encode>(rt: &impl Abort, heap: Heap<'_>, item: &T, expected: &[u8]) {
@@ -66,7 +67,7 @@ fn check_number(rt: &impl Abort, granted: bool, len: u32) {
 }
 
 /// A kind of section, and calls that add to it.
-trait SectionCalls: CustomKind {
+pub(crate) trait SectionCalls: CustomKind {
     /// What the calls are handed.
     type Given;
 
@@ -108,7 +109,8 @@ fn check_section<K: SectionCalls>(
             if granted { expected } else { K::EMPTY },
         );
         if granted {
-            return check_whole(rt, heap, &section, expected);
+            check_whole(rt, heap, &section, expected);
+            return check_further(rt, heap, &mut section, given, place);
         }
     }
     panic!(rt; "no call was granted")
@@ -151,10 +153,10 @@ pub(crate) fn check_copy<T: Encode + Drop>(
 }
 
 /// A list that takes its memory from an allocator that refuses.
-type LentList<'h, K> = CountedList<K, &'h Refusing<Global>>;
+pub(crate) type LentList<'h, K> = CountedList<K, &'h Refusing<Global>>;
 
 /// A kind of list, and calls that add to it.
-trait ListCalls: ListKind {
+pub(crate) trait ListCalls: ListKind {
     /// What the calls are handed.
     type Given;
 
@@ -187,7 +189,8 @@ fn check_list<K: ListCalls>(
         let granted = check_answer(rt, heap, nth, answer);
         check_written(rt, heap, &list, if granted { expected } else { &[0] });
         if granted {
-            return check_whole_list(rt, heap, &list, expected);
+            check_whole_list(rt, heap, &list, expected);
+            return check_further(rt, heap, &mut list, given, place);
         }
     }
     panic!(rt; "no call was granted")
@@ -293,7 +296,7 @@ fn symbol_tables(rt: HostRuntime) {
 
 /// The maps that calls on a name section take.
 #[derive(Drop)]
-struct Maps {
+pub(crate) struct Maps {
     names: NameMap,
     indirect: IndirectNameMap,
 }

@@ -222,6 +222,7 @@ fn single_hint(rt: HostRuntime) {
     laws::calls();
     laws::wide_calls();
     laws::payloads();
+    laws::wide_payloads();
     let hint = BranchHint {
         branch_func_offset: 300,
         branch_hint_value: 0,

@@ -1,5 +1,6 @@
 // Each request of constructors, copies, `as_custom` and sections without entries for memory refused in turn.
 use crate::checks::{Heap, MOST, check_answer};
+use crate::further_entries::{Growing, check_further};
 use crate::refusals::{check_append_to, check_copy, check_encode, check_written};
 use std::alloc::Global;
 use std::process::Abort;
@@ -82,6 +83,18 @@ fn add_frame(section: &mut CoreDumpStackSection<Heap<'_>>) -> R<()> {
     section.frame(0, 42, 51, [CoreDumpValue::I32(1)], [CoreDumpValue::I32(2)])
 }
 
+impl Growing for CoreDumpStackSection<Heap<'_>> {
+    type Given = ();
+
+    fn grow(&mut self, _: &(), _: usize) -> R<()> {
+        add_frame(self)
+    }
+
+    fn number(&self) -> Option<u32> {
+        None
+    }
+}
+
 #[test]
 fn frames(rt: HostRuntime) {
     let heap = Refusing::new(rt.alloc());
@@ -98,7 +111,8 @@ fn frames(rt: HostRuntime) {
             if granted { STACK } else { EMPTY_STACK },
         );
         if granted {
-            return check_stack(&rt, &heap, &section);
+            check_stack(&rt, &heap, &section);
+            return check_further(&rt, &heap, &mut section, &(), 0);
         }
     }
     panic!(rt; "no call was granted")

@@ -1,8 +1,170 @@
--- The cases are the rows of the table.
-use Rattle.std.proofs.Common.{refl}
-use Rattle.wasm_insn.specs.Cases.{Given, all_cases, AreRows}
+-- The cases are the rows of the table, and each instruction is one of the cases.
+use Rattle.std.proofs.Common.{◌≡◌, ℕ, zero, suc, pos, List, [], ◌∷◌, false, cond, Some, None, slice_get, refl, arith}
+use Rattle.std.specs.List.{Contains}
+use Rattle.wasm_base.specs.declared.cow.CowSlice.{CowSlice}
+use Rattle.wasm_base.specs.declared.cow.CowSlice.TheVariants as slices
+use Rattle.wasm_base.specs.declared.types.HeapType.{HeapType}
+use Rattle.wasm_base.specs.declared.types.HeapType.TheVariants as heaps
+use Rattle.wasm_base.specs.declared.types.RefType.{RefType}
+use Rattle.wasm_base.specs.declared.types.ValType.TheVariants as values
+use Rattle.wasm_immediates.specs.declared.block_type.BlockType.TheVariants as blocks
+use Rattle.wasm_immediates.specs.declared.memory.MemArgTarget.TheVariants as targets
+use Rattle.wasm_immediates.specs.declared.memory.Ordering.TheVariants as orderings
+use Rattle.wasm_insn.specs.declared.op.Op.{Op}
+use Rattle.wasm_insn.specs.declared.op.Op.TheVariants.{Byte}
+use Rattle.wasm_insn.specs.declared.instruction.Instruction.{Instruction}
+use Rattle.wasm_insn.specs.declared.instruction.Instruction.TheVariants as cases
+use Rattle.wasm_insn.specs.declared.numeric.Numeric.{Numeric}
+use Rattle.wasm_insn.specs.declared.numeric.Numeric.TheVariants as numeric
+use Rattle.wasm_insn.specs.declared.aggregate.Aggregate.{Aggregate}
+use Rattle.wasm_insn.specs.declared.aggregate.Aggregate.TheVariants as aggregate
+use Rattle.wasm_insn.specs.declared.prefixed_numeric.PrefixedNumeric.{PrefixedNumeric}
+use Rattle.wasm_insn.specs.declared.prefixed_numeric.PrefixedNumeric.TheVariants as prefixed_numeric
+use Rattle.wasm_insn.specs.declared.vector.Vector.{Vector}
+use Rattle.wasm_insn.specs.declared.vector.Vector.TheVariants as vectors
+use Rattle.wasm_insn.specs.declared.vector_immediate.VectorImmediate.{VectorImmediate}
+use Rattle.wasm_insn.specs.declared.vector_immediate.VectorImmediate.TheVariants as vector_immediate
+use Rattle.wasm_insn.specs.declared.atomic.Atomic.{Atomic}
+use Rattle.wasm_insn.specs.declared.atomic.Atomic.TheVariants as atomic
+use Rattle.wasm_insn.specs.Arguments.{Argument, unsigned, signed32, signed64, float32, float64, vector, memory, lane, lanes, block, heap, ordering}
+use Rattle.wasm_insn.specs.Cases.{Given, all_cases, AreRows, IsCase}
+use Rattle.wasm_insn.specs.Instructions.{row_of}
+use Rattle.wasm_insn.specs.Plain.{Table, same_op}
 use Rattle.wasm_insn.specs.Table.{table}
 
 pub all_rows : {A : Type 0} (given : Given A) → AreRows (all_cases given) table
 unfolding table
 all_rows given = record { ops = refl; parts = refl }
+
+-- ---- the fields of an instruction
+
+abbrev no_items : {T A : Type 0} → CowSlice T A
+no_items = slices.Borrowed (record { ref_ptr = (0, 0); now = [] })
+
+abbrev any_heap : HeapType
+any_heap = heaps.Concrete 0
+
+abbrev any_reference : RefType
+any_reference = record { nullable = false; heap_type = any_heap }
+
+-- fields for an instruction without any
+abbrev no_fields : {A : Type 0} → Given A
+no_fields = record {
+  index = 0;
+  second_index = 0;
+  lane = 0;
+  lanes = [];
+  signed = pos 0;
+  float32 = record { bits = 0 };
+  float64 = record { bits = 0 };
+  memory = record { offset = 0; align = 0; target = targets.Memory 0; ordering = None };
+  ordering = orderings.SeqCst;
+  block = blocks.Empty;
+  heap = any_heap;
+  from = any_reference;
+  to = any_reference;
+  value = values.I32;
+  labels = no_items;
+  catches = no_items;
+  types = no_items;
+  handles = no_items;
+}
+
+-- An index becomes the first, and the first the second.
+abbrev with_argument : {A : Type 0} → Argument → Given A → Given A
+with_argument (unsigned n) given = record given { index = n; second_index = given.index }
+with_argument (signed32 v) given = record given { signed = v }
+with_argument (signed64 v) given = record given { signed = v }
+with_argument (float32 float) given = record given { float32 = float }
+with_argument (float64 float) given = record given { float64 = float }
+with_argument (vector v) given = record given { signed = v }
+with_argument (memory m) given = record given { memory = m }
+with_argument (lane n) given = record given { lane = n }
+with_argument (lanes ns) given = record given { lanes = ns }
+with_argument (block type) given = record given { block = type }
+with_argument (heap type) given = record given { heap = type }
+with_argument (ordering o) given = record given { ordering = o }
+with_argument _ given = given
+
+abbrev with_arguments : {A : Type 0} → List Argument → Given A
+with_arguments [] = no_fields
+with_arguments (x ∷ xs) = with_argument x (with_arguments xs)
+
+-- A row does not say whether a list is borrowed, nor which of two types a bit of a flag is of.
+abbrev fields_of : {A : Type 0} → Instruction A → Given A
+fields_of (cases.BrTable a b) = record no_fields { labels = a; index = b }
+fields_of (cases.TypedSelect a) = record no_fields { value = a }
+fields_of (cases.TypedSelectMulti a) = record no_fields { types = a }
+fields_of (cases.TryTable a b) = record no_fields { block = a; catches = b }
+fields_of (cases.Resume a b) = record no_fields { index = a; handles = b }
+fields_of (cases.ResumeThrow a b c) = record no_fields { index = a; second_index = b; handles = c }
+fields_of (cases.ResumeThrowRef a b) = record no_fields { index = a; handles = b }
+fields_of (cases.BrOnCast a b c) = record no_fields { index = a; from = b; to = c }
+fields_of (cases.BrOnCastFail a b c) = record no_fields { index = a; from = b; to = c }
+fields_of (cases.BrOnCastDescEq a b c) = record no_fields { index = a; from = b; to = c }
+fields_of (cases.BrOnCastDescEqFail a b c) = record no_fields { index = a; from = b; to = c }
+fields_of i = with_arguments (row_of i).arguments
+
+-- ---- its place
+
+-- how many rows stand before the first one of the op
+abbrev place_in : Table → Op → ℕ
+place_in [] op = 0
+place_in (row ∷ rows) op = cond (same_op row.0 op) 0 (suc (place_in rows op))
+
+-- Two rows have the op 1C.
+abbrev place_of : {A : Type 0} → Instruction A → ℕ
+place_of (cases.TypedSelectMulti a) = suc (place_in table (Byte 0x1C))
+place_of i = place_in table (row_of i).op
+
+abbrev Stands : {A : Type 0} → Instruction A → Type 0
+Stands i = slice_get (all_cases (fields_of i)) (place_of i) ≡ Some i
+
+numeric_stands : {A : Type 0} (i : Numeric) → Stands {A = A} (cases.Numeric i)
+unfolding table
+numeric_stands numeric.I32Eqz = refl
+numeric_stands _ = refl
+
+aggregate_stands : {A : Type 0} (i : Aggregate) → Stands {A = A} (cases.Aggregate i)
+unfolding table
+aggregate_stands aggregate.ArrayLen = refl
+aggregate_stands _ = refl
+
+prefixed_numeric_stands : {A : Type 0} (i : PrefixedNumeric) → Stands {A = A} (cases.PrefixedNumeric i)
+unfolding table
+prefixed_numeric_stands prefixed_numeric.I32TruncSatF32S = refl
+prefixed_numeric_stands _ = refl
+
+vector_stands : {A : Type 0} (i : Vector) → Stands {A = A} (cases.Vector i)
+unfolding table
+vector_stands vectors.I8x16Swizzle = refl
+vector_stands _ = refl
+
+vector_immediate_stands : {A : Type 0} (i : VectorImmediate) → Stands {A = A} (cases.VectorImmediate i)
+unfolding table
+vector_immediate_stands (vector_immediate.V128Load _) = refl
+vector_immediate_stands _ = refl
+
+atomic_stands : {A : Type 0} (i : Atomic) → Stands {A = A} (cases.Atomic i)
+unfolding table
+atomic_stands (atomic.MemoryAtomicNotify _) = refl
+atomic_stands _ = refl
+
+stands : {A : Type 0} (i : Instruction A) → Stands i
+unfolding table
+stands (cases.Numeric i) = numeric_stands i
+stands (cases.Aggregate i) = aggregate_stands i
+stands (cases.PrefixedNumeric i) = prefixed_numeric_stands i
+stands (cases.Vector i) = vector_stands i
+stands (cases.VectorImmediate i) = vector_immediate_stands i
+stands (cases.Atomic i) = atomic_stands i
+stands cases.Unreachable = refl
+stands _ = refl
+
+found : {X : Type 0} (xs : List X) (k : ℕ) (x : X) → slice_get xs k ≡ Some x → Contains xs x
+found [] k x e = absurd (cc e)
+found (y ∷ xs) zero x e = (0, omega arith, cc e)
+found (y ∷ xs) (suc k) x e = let h = found xs k x e in (suc h.0, omega (arith, h.1), h.2)
+
+pub is_case : {A : Type 0} (i : Instruction A) → IsCase i
+is_case i = record { fields = fields_of i; stands = found (all_cases (fields_of i)) (place_of i) i (stands i) }

@@ -1,5 +1,6 @@
 -- A value of each case of an instruction, in the order of the table.
 use Rattle.std.specs.Prelude.{◌≡◌, ℕ, ℤ, List, [], ◌∷◌, map}
+use Rattle.std.specs.List.{Contains}
 use Rattle.wasm_base.specs.declared.cow.CowSlice.{CowSlice}
 use Rattle.wasm_base.specs.declared.types.HeapType.{HeapType}
 use Rattle.wasm_base.specs.declared.types.RefType.{RefType}
@@ -24,9 +25,10 @@ use Rattle.wasm_insn.specs.Instructions.{row_of}
 use Rattle.wasm_insn.specs.Parts.{parts_of}
 use Rattle.wasm_insn.specs.Plain.{Table}
 
--- fields for the cases, any one of each kind
+-- fields for the cases
 pub record Given (A : Type 0) : Type 0 where
   pub index : ℕ
+  pub second_index : ℕ
   pub lane : ℕ
   pub lanes : List ℕ
   pub signed : ℤ
@@ -36,7 +38,8 @@ pub record Given (A : Type 0) : Type 0 where
   pub ordering : Ordering
   pub block : BlockType
   pub heap : HeapType
-  pub reference : RefType
+  pub from : RefType
+  pub to : RefType
   pub value : ValType
   pub labels : CowSlice ℕ A
   pub catches : CowSlice Catch A
@@ -63,9 +66,9 @@ all_cases given =
     cases.BrTable given.labels given.index ∷
     cases.Return ∷
     cases.Call given.index ∷
-    cases.CallIndirect given.index given.index ∷
+    cases.CallIndirect given.index given.second_index ∷
     cases.ReturnCall given.index ∷
-    cases.ReturnCallIndirect given.index given.index ∷
+    cases.ReturnCallIndirect given.index given.second_index ∷
     cases.CallRef given.index ∷
     cases.ReturnCallRef given.index ∷
     cases.Delegate given.index ∷
@@ -247,38 +250,38 @@ all_cases given =
     cases.BrOnNull given.index ∷
     cases.BrOnNonNull given.index ∷
     cases.ContNew given.index ∷
-    cases.ContBind given.index given.index ∷
+    cases.ContBind given.index given.second_index ∷
     cases.Suspend given.index ∷
     cases.Resume given.index given.handles ∷
-    cases.ResumeThrow given.index given.index given.handles ∷
+    cases.ResumeThrow given.index given.second_index given.handles ∷
     cases.ResumeThrowRef given.index given.handles ∷
-    cases.Switch given.index given.index ∷
+    cases.Switch given.index given.second_index ∷
     cases.StructNew given.index ∷
     cases.StructNewDefault given.index ∷
-    cases.StructGet given.index given.index ∷
-    cases.StructGetS given.index given.index ∷
-    cases.StructGetU given.index given.index ∷
-    cases.StructSet given.index given.index ∷
+    cases.StructGet given.index given.second_index ∷
+    cases.StructGetS given.index given.second_index ∷
+    cases.StructGetU given.index given.second_index ∷
+    cases.StructSet given.index given.second_index ∷
     cases.ArrayNew given.index ∷
     cases.ArrayNewDefault given.index ∷
-    cases.ArrayNewFixed given.index given.index ∷
-    cases.ArrayNewData given.index given.index ∷
-    cases.ArrayNewElem given.index given.index ∷
+    cases.ArrayNewFixed given.index given.second_index ∷
+    cases.ArrayNewData given.index given.second_index ∷
+    cases.ArrayNewElem given.index given.second_index ∷
     cases.ArrayGet given.index ∷
     cases.ArrayGetS given.index ∷
     cases.ArrayGetU given.index ∷
     cases.ArraySet given.index ∷
     cases.Aggregate aggregate.ArrayLen ∷
     cases.ArrayFill given.index ∷
-    cases.ArrayCopy given.index given.index ∷
-    cases.ArrayInitData given.index given.index ∷
-    cases.ArrayInitElem given.index given.index ∷
+    cases.ArrayCopy given.index given.second_index ∷
+    cases.ArrayInitData given.index given.second_index ∷
+    cases.ArrayInitElem given.index given.second_index ∷
     cases.RefTestNonNull given.heap ∷
     cases.RefTestNullable given.heap ∷
     cases.RefCastNonNull given.heap ∷
     cases.RefCastNullable given.heap ∷
-    cases.BrOnCast given.index given.reference given.reference ∷
-    cases.BrOnCastFail given.index given.reference given.reference ∷
+    cases.BrOnCast given.index given.from given.to ∷
+    cases.BrOnCastFail given.index given.from given.to ∷
     cases.Aggregate aggregate.AnyConvertExtern ∷
     cases.Aggregate aggregate.ExternConvertAny ∷
     cases.Aggregate aggregate.RefI31 ∷
@@ -289,8 +292,8 @@ all_cases given =
     cases.RefGetDesc given.index ∷
     cases.RefCastDescEqNonNull given.heap ∷
     cases.RefCastDescEqNullable given.heap ∷
-    cases.BrOnCastDescEq given.index given.reference given.reference ∷
-    cases.BrOnCastDescEqFail given.index given.reference given.reference ∷
+    cases.BrOnCastDescEq given.index given.from given.to ∷
+    cases.BrOnCastDescEqFail given.index given.from given.to ∷
     cases.PrefixedNumeric prefixed_numeric.I32TruncSatF32S ∷
     cases.PrefixedNumeric prefixed_numeric.I32TruncSatF32U ∷
     cases.PrefixedNumeric prefixed_numeric.I32TruncSatF64S ∷
@@ -299,13 +302,13 @@ all_cases given =
     cases.PrefixedNumeric prefixed_numeric.I64TruncSatF32U ∷
     cases.PrefixedNumeric prefixed_numeric.I64TruncSatF64S ∷
     cases.PrefixedNumeric prefixed_numeric.I64TruncSatF64U ∷
-    cases.MemoryInit given.index given.index ∷
+    cases.MemoryInit given.index given.second_index ∷
     cases.DataDrop given.index ∷
-    cases.MemoryCopy given.index given.index ∷
+    cases.MemoryCopy given.index given.second_index ∷
     cases.MemoryFill given.index ∷
-    cases.TableInit given.index given.index ∷
+    cases.TableInit given.index given.second_index ∷
     cases.ElemDrop given.index ∷
-    cases.TableCopy given.index given.index ∷
+    cases.TableCopy given.index given.second_index ∷
     cases.TableGrow given.index ∷
     cases.TableSize given.index ∷
     cases.TableFill given.index ∷
@@ -651,17 +654,17 @@ all_cases given =
     cases.Atomic (atomic.TableAtomicSet given.ordering given.index) ∷
     cases.Atomic (atomic.TableAtomicRmwXchg given.ordering given.index) ∷
     cases.Atomic (atomic.TableAtomicRmwCmpxchg given.ordering given.index) ∷
-    cases.Atomic (atomic.StructAtomicGet given.ordering given.index given.index) ∷
-    cases.Atomic (atomic.StructAtomicGetS given.ordering given.index given.index) ∷
-    cases.Atomic (atomic.StructAtomicGetU given.ordering given.index given.index) ∷
-    cases.Atomic (atomic.StructAtomicSet given.ordering given.index given.index) ∷
-    cases.Atomic (atomic.StructAtomicRmwAdd given.ordering given.index given.index) ∷
-    cases.Atomic (atomic.StructAtomicRmwSub given.ordering given.index given.index) ∷
-    cases.Atomic (atomic.StructAtomicRmwAnd given.ordering given.index given.index) ∷
-    cases.Atomic (atomic.StructAtomicRmwOr given.ordering given.index given.index) ∷
-    cases.Atomic (atomic.StructAtomicRmwXor given.ordering given.index given.index) ∷
-    cases.Atomic (atomic.StructAtomicRmwXchg given.ordering given.index given.index) ∷
-    cases.Atomic (atomic.StructAtomicRmwCmpxchg given.ordering given.index given.index) ∷
+    cases.Atomic (atomic.StructAtomicGet given.ordering given.index given.second_index) ∷
+    cases.Atomic (atomic.StructAtomicGetS given.ordering given.index given.second_index) ∷
+    cases.Atomic (atomic.StructAtomicGetU given.ordering given.index given.second_index) ∷
+    cases.Atomic (atomic.StructAtomicSet given.ordering given.index given.second_index) ∷
+    cases.Atomic (atomic.StructAtomicRmwAdd given.ordering given.index given.second_index) ∷
+    cases.Atomic (atomic.StructAtomicRmwSub given.ordering given.index given.second_index) ∷
+    cases.Atomic (atomic.StructAtomicRmwAnd given.ordering given.index given.second_index) ∷
+    cases.Atomic (atomic.StructAtomicRmwOr given.ordering given.index given.second_index) ∷
+    cases.Atomic (atomic.StructAtomicRmwXor given.ordering given.index given.second_index) ∷
+    cases.Atomic (atomic.StructAtomicRmwXchg given.ordering given.index given.second_index) ∷
+    cases.Atomic (atomic.StructAtomicRmwCmpxchg given.ordering given.index given.second_index) ∷
     cases.Atomic (atomic.ArrayAtomicGet given.ordering given.index) ∷
     cases.Atomic (atomic.ArrayAtomicGetS given.ordering given.index) ∷
     cases.Atomic (atomic.ArrayAtomicGetU given.ordering given.index) ∷
@@ -681,3 +684,8 @@ all_cases given =
 pub record AreRows {A : Type 0} (is : List (Instruction A)) (rows : Table) : Type 0 where
   pub ops : map (λ i. (row_of i).op) is ≡ map (λ row. row.0) rows
   pub parts : map (λ i. map part_of (row_of i).arguments) is ≡ map (λ row. parts_of row.1) rows
+
+-- The instruction is one of the cases, with its own fields.
+pub record IsCase {A : Type 0} (i : Instruction A) : Type 0 where
+  pub fields : Given A
+  pub stands : Contains (all_cases fields) i

@@ -5,7 +5,7 @@
 //! spellings reach to the last byte. `HasTexts F fits text` says that the text of each value that fits is its shortest spelling.
 ghost use Rattle.wasm_base.specs.Formats.{members};
 ghost use Rattle.wasm_base.specs.Reading.{UniqueReading, UniqueWholeReading, HasTexts, IsUniqueWide, IsUniqueWholeWide};
-ghost use Rattle.wasm_insn.specs.Cases.{Given, all_cases, AreRows};
+ghost use Rattle.wasm_insn.specs.Cases.{Given, all_cases, AreRows, IsCase};
 ghost use Rattle.wasm_insn.specs.Opcodes.{op_text};
 ghost use Rattle.wasm_insn.specs.Plain.{opcode, instruction, IsOpcode};
 ghost use Rattle.wasm_insn.specs.Table.{table, IsOpcodeTable, BeginsNoOther, IsRow};
@@ -29,9 +29,10 @@ pub fn rows<A: Allocator>()
 {}
 
 /// The cases of the enums and the rows of the table are one to one: in the table's order, they have its ops and the parts of its
-/// shapes.
+/// shapes. Each instruction is one of the cases, with its own fields.
 pub fn cases<A: Allocator>()
-    ensures { (given : Given A) → AreRows (all_cases given) table }
+    ensures rows { (given : Given A) → AreRows (all_cases given) table }
+    ensures each { (i : Instruction A) → IsCase i }
 {}
 
 /// Instructions are read uniquely over the table. The text of one that is plain is read as its normal form alone, and two that

@@ -117,6 +117,7 @@ static AFTER_FE: [Run; 8] = [
 ];
 
 /// The shape of the op of this number among the runs.
+#[inline(never)]
 fn find_shape(runs: &[Run], number: u32) -> Option<Shape>
     ensures { result ≡ shape_in runs.now number }
 {
@@ -135,6 +136,7 @@ fn byte_shape(byte: u8) -> Option<Shape>
 
 impl Op {
     /// The shape of the op's row, where the table has one.
+    #[inline]
     #[tactic(auto, using(crate::proofs::TableRuns::shapes))]
     pub fn shape(self) -> Option<Shape>
         ensures { result ≡ shape_of table self }

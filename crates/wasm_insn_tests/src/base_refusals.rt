@@ -51,16 +51,22 @@ fn calls(rt: HostRuntime) {
     })
 }
 
-/// Into a sink with room `encode` takes no memory.
+/// Into a sink whose room is as large as its text, the section is written without memory.
+fn check_room(rt: &impl Abort, alloc: Global, section: RawSection<'_>, text: &[u8]) {
+    let heap = Refusing::new(alloc);
+    let mut sink = Vec::with_capacity(&heap, text.len()).expect(rt, "accepted");
+    heap.refuse_all();
+    let answer = section.encode(&mut sink);
+    check_taken(rt, heap.requests(), 0);
+    answer.expect(rt, "accepted");
+    check_bytes(rt, &sink, text);
+}
+
 #[test]
 fn a_section_takes_no_request(rt: HostRuntime) {
-    let heap = Refusing::new(rt.alloc());
-    let mut sink = Vec::with_capacity(&heap, 4).expect(&rt, "accepted");
-    heap.refuse_all();
-    let answer = TYPES.encode(&mut sink);
-    check_taken(&rt, heap.requests(), 0);
-    answer.expect(&rt, "accepted");
-    check_bytes(&rt, &sink, &[3, 96, 0, 0]);
+    check_room(&rt, rt.alloc(), TYPES, &[3, 96, 0, 0]);
+    let one_byte = RawSection { id: 1, bytes: &[0] };
+    check_room(&rt, rt.alloc(), one_byte, &[1, 0]);
 }
 
 /// So many requests were made.

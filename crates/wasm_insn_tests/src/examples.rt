@@ -31,7 +31,7 @@ const FIRST: MemArg = MemArg {
 };
 
 /// The bytes of the instructions below.
-static ROWS: [&[u8]; 39] = [
+static ROWS: [&[u8]; 42] = [
     &[0x0E, 2, 0, 1, 2],
     &[0x11, 1, 2],
     &[0x1F, 0x40, 2, 0, 0, 1, 3, 2],
@@ -74,6 +74,9 @@ static ROWS: [&[u8]; 39] = [
         0xFD, 0x0C, 0xFF, 0xFF, 0xFF, 0xFF, 0xFF, 0xFF, 0xFF, 0xFF, 0xFF, 0xFF, 0xFF, 0xFF, 0xFF,
         0xFF, 0xFF, 0xFF,
     ],
+    &[0x02, 0xFF, 0xFF, 0xFF, 0xFF, 0x0F],
+    &[0x28, 0x2F, 0, 0],
+    &[0x28, 0x80, 0x01, 0],
 ];
 
 /// The instruction of this place in `ROWS`.
@@ -84,7 +87,8 @@ fn instruction(place: usize) -> Instruction<'static> {
         16..=22 => memories(place),
         23..=28 => atomics(place),
         29..=32 => vectors(place),
-        _ => constants(place),
+        33..=38 => constants(place),
+        _ => limits(place),
     }
 }
 
@@ -230,6 +234,24 @@ fn constants(place: usize) -> Instruction<'static> {
         36 => Instruction::<Global>::I16x8Abs,
         37 => Instruction::F32Const(Ieee32::new(1065353216)),
         _ => Instruction::VectorImmediate(VectorImmediate::V128Const(-1)),
+    }
+}
+
+/// The largest index, the largest alignment that the flags hold beside other bits, and one that takes two bytes.
+fn limits(place: usize) -> Instruction<'static> {
+    match place {
+        39 => Instruction::Block(BlockType::FunctionType(4294967295)),
+        40 => Instruction::I32Load(MemArg {
+            align: 15,
+            offset: 0,
+            target: MemArgTarget::Array(0),
+            ..FIRST
+        }),
+        _ => Instruction::I32Load(MemArg {
+            align: 128,
+            offset: 0,
+            ..FIRST
+        }),
     }
 }
 

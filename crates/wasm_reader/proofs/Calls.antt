@@ -1,6 +1,6 @@
 -- What callers cite: what the reader answers where a section's text stands.
-use Rattle.std.proofs.Common.{◌≡◌, ℕ, List, [], ◌++◌, refl, sym, ap, subst, ◌∙◌, append-nil}
-use Rattle.wasm_base.specs.Formats.{Format, u32, frame, mapped, vec}
+use Rattle.std.proofs.Common.{◌≡◌, ℕ, ◌≤◌, List, [], ◌++◌, length, refl, sym, ap, subst, ◌∙◌, append-nil}
+use Rattle.wasm_base.specs.Formats.{Format, u32, frame, mapped, vec, wasm_module}
 use Rattle.wasm_base.specs.Modules.{GainsReading}
 use Rattle.wasm_base.specs.Numbers.{shortest, wide}
 use Rattle.wasm_base.specs.Reading.{UniqueReading, Reads, ReadsAlone, ReadsNothing}
@@ -10,7 +10,9 @@ use Rattle.wasm_custom.specs.Names.{NameItem}
 use Rattle.wasm_custom.specs.Readings.{name_payload}
 use Rattle.wasm_custom.proofs.SectionLaws.{name_section-alone}
 use Rattle.wasm_reader.specs.Sections.{Contents, Functions, Exports, Names, section, Takes, Shortens}
+use Rattle.wasm_reader.specs.Shortening.{ShortensModule, AreSettled}
 use Rattle.wasm_reader.specs.declared.section.SectionKind.TheVariants as kinds
+use Rattle.wasm_reader.specs.declared.whole.Offsets.{Offsets}
 
 module _ {X : Type 0} (F : Format X) (say : X → Contents) {text bytes : List ℕ} {x : X} (alone : ReadsAlone (frame F) text x) (gained : bytes ≡ [] ++ text) where
   said : {y : Contents} {rest : List ℕ} → Reads (frame (mapped say F)) wide bytes y rest → (y ≡ say x) × (rest ≡ [])
@@ -80,3 +82,17 @@ module _ {padded : List ℕ} {types : List ℕ} {rest : List ℕ} (given : Reads
   shortens_padded {old = old} g h =
       let is = reads_padded h.takes in
       h.appended ∙ ap (λ t. old ++ t) (shortens (vec u32) Functions g.alone g.added (λ y e. cc e) (subst (λ z. frame (mapped Functions (vec u32)) shortest h.text z) is h.spelled) ∙ sym g.added)
+
+-- ---- modules
+
+-- What is shortened into an empty buffer is the module that comes out, and no longer.
+pub module_comes : {offsets : Offsets} {bytes old new : List ℕ} {kept : ℕ} → old ≡ [] → (h : ShortensModule offsets bytes kept old new) → (sections : List (ℕ × List ℕ)) × wasm_module wide new sections
+module_comes e h = (h.sections, subst (λ z. wasm_module wide z h.sections) (sym (h.appended ∙ ap (λ z. z ++ h.text) e)) h.read)
+
+pub module_no_longer : {offsets : Offsets} {bytes old new : List ℕ} {kept : ℕ} → old ≡ [] → ShortensModule offsets bytes kept old new → length new ≤ length bytes
+module_no_longer {bytes = bytes} e h = subst (λ z. length z ≤ length bytes) (sym (h.appended ∙ ap (λ z. z ++ h.text) e)) h.shorter
+
+-- What came out is shortened again, by the law of shortened modules.
+pub module_stays : {offsets : Offsets} {bytes old new other next : List ℕ} {kept more : ℕ} → AreSettled → old ≡ [] → other ≡ [] → ShortensModule offsets bytes kept old new → ShortensModule offsets new more other next → next ≡ new
+module_stays {offsets = offsets} {bytes = bytes} {new = new} {next = next} {kept = kept} {more = more} law e f h g =
+    law.again offsets bytes [] [] new next kept more (subst (λ z. ShortensModule offsets bytes kept z new) e h) (subst (λ z. ShortensModule offsets new more z next) f g)

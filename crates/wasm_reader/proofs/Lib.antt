@@ -1,4 +1,6 @@
 pub mod Calls
+pub mod Counting
+pub mod ModuleLaws
 pub mod Prefixes
 pub mod ReadData
 pub mod ReadElements
@@ -7,8 +9,12 @@ pub mod ReadImports
 pub mod ReadItems
 pub mod ReadLimits
 pub mod ReadModules
+pub mod ReadOutlines
 pub mod ReadPlain
 pub mod ReadSections
 pub mod ReadTables
+pub mod ShortAgain
+pub mod ShortBodies
 pub mod ShortItems
+pub mod ShortModules
 pub mod ShortSections

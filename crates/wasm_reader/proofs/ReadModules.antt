@@ -1,21 +1,18 @@
 -- How a list of a module's sections is made.
-use Rattle.std.proofs.Common.{◌≡◌, ◌≢◌, ℕ, ◌<◌, ◌^◌, List, [], ◌∷◌, ◌++◌, length, map, take, drop, Some, None, cond, refl, sym, ap, subst, ◌∙◌, arith}
+use Rattle.std.proofs.Common.{◌≡◌, ◌≢◌, ℕ, ◌<◌, ◌^◌, List, [], ◌∷◌, ◌++◌, length, map, take, drop, cond, refl, sym, ap, subst, ◌∙◌, arith}
 use Rattle.std.proofs.lemmas.Bool.{ne_eqb}
 use Rattle.std.proofs.lemmas.List.{map-append, take-append-drop, take_at, length-append, length-map}
 use Rattle.wasm_base.specs.Going.{FillsNothing}
 use Rattle.wasm_base.specs.Numbers.{wide}
-use Rattle.wasm_base.specs.Formats.{Format, u32, byte, any_bytes, fixed, frame, header, members, vec}
+use Rattle.wasm_base.specs.Formats.{Format, byte, any_bytes, fixed, frame, header, members}
 use Rattle.wasm_base.specs.Reading.{BeginsWith, Reads, ReadsNothing}
 use Rattle.wasm_base.proofs.BaseLaws.{frame-bytes-alone}
 use Rattle.wasm_base.proofs.FormatLaws.{byte-alone, begins_then}
-use Rattle.wasm_base.proofs.NumberLaws.{u32-alone}
 use Rattle.wasm_base.proofs.ReadingSteps.{reads_same, then_reads, then_nothing_first, then_nothing_second, members_start, members_step}
 use Rattle.wasm_reader_base.proofs.ReadWhole.{member_shorter}
-use Rattle.wasm_reader.specs.Modules.{kind_among, known_kinds, kind_of, numbering_of, number_in, Sized, sized_section, sized_module, line_of, HasLines, StopsBehind}
+use Rattle.wasm_reader.specs.Modules.{kind_among, known_kinds, kind_of, Sized, sized_section, sized_module, line_of, HasLines, StopsBehind}
 use Rattle.wasm_reader.specs.Sections.{Contents, content}
 use Rattle.wasm_reader.specs.declared.modules.Listed.{Listed}
-use Rattle.wasm_reader.specs.declared.modules.Numbering.{Numbering}
-use Rattle.wasm_reader.specs.declared.modules.Numbering.TheVariants.{InFront, One, Untold}
 use Rattle.wasm_reader.specs.declared.section.SectionKind.{SectionKind}
 use Rattle.wasm_reader.specs.declared.section.SectionKind.TheVariants as kinds
 use Rattle.wasm_reader.proofs.Prefixes.{prefixed_reads}
@@ -51,128 +48,6 @@ pub raw_kind : (id : ℕ) → id ≢ 0 → id ≢ 2 → id ≢ 3 → id ≢ 4 �
 raw_kind id a b c d e f g h i j k l m = unknown_kind known_kinds id (a, (b, (c, (d, (e, (f, (g, (h, (i, (j, (k, (l, (m, tt)))))))))))))
 
 pub ruleset kind_steps = (raw_kind)
-
--- ---- the number of items
-
-first_number : {X : Type 0} {F : Format X} {bytes rest : List ℕ} {xs : List X} {n : ℕ} → vec F wide bytes xs → Reads u32 wide bytes n rest → n ≡ length xs
-first_number h g = (reads_same u32-alone g (record { front = h.front; split = h.joined; spelled = h.first })).0
-
-pub number_is : (kind : SectionKind) (bytes rest : List ℕ) (x : Contents) (n : ℕ) (place : Numbering) → place ≡ numbering_of kind → place ≡ InFront → content kind wide bytes x → Reads u32 wide bytes n rest → Some n ≡ number_in x
-number_is kind bytes rest x n place e f h g = counted kind (sym e ∙ f) h
-  where
-    counted : (kind : SectionKind) → numbering_of kind ≡ InFront → content kind wide bytes x → Some n ≡ number_in x
-    counted kinds.Bodies i h = ap Some (first_number h.2 g) ∙ ap number_in h.1
-    counted kinds.Segments i h = ap Some (first_number h.2 g) ∙ ap number_in h.1
-    counted kinds.DataCount i h = absurd (cc i)
-    counted kinds.Elements i h = ap Some (first_number h.2 g) ∙ ap number_in h.1
-    counted kinds.Exports i h = ap Some (first_number h.2 g) ∙ ap number_in h.1
-    counted kinds.Functions i h = ap Some (first_number h.2 g) ∙ ap number_in h.1
-    counted kinds.Globals i h = ap Some (first_number h.2 g) ∙ ap number_in h.1
-    counted kinds.Imports i h = ap Some (first_number h.2 g) ∙ ap number_in h.1
-    counted kinds.Memories i h = ap Some (first_number h.2 g) ∙ ap number_in h.1
-    counted kinds.Start i h = absurd (cc i)
-    counted kinds.Tables i h = ap Some (first_number h.2 g) ∙ ap number_in h.1
-    counted kinds.Tags i h = ap Some (first_number h.2 g) ∙ ap number_in h.1
-    counted kinds.Names i h = absurd (cc i)
-    counted kinds.Linking i h = absurd (cc i)
-    counted kinds.Producers i h = absurd (cc i)
-    counted kinds.Hints i h = absurd (cc i)
-    counted kinds.Core i h = absurd (cc i)
-    counted kinds.CoreModules i h = absurd (cc i)
-    counted kinds.CoreInstances i h = absurd (cc i)
-    counted kinds.CoreStack i h = absurd (cc i)
-    counted kinds.Custom i h = absurd (cc i)
-    counted kinds.Raw i h = absurd (cc i)
-    counted kinds.Types i h = absurd (cc i)
-
-no_first : {X : Type 0} {F : Format X} {bytes : List ℕ} {xs : List X} → ReadsNothing u32 wide bytes → vec F wide bytes xs → ⊥
-no_first {xs = xs} n h = n.none (length xs) h.back (record { front = h.front; split = h.joined; spelled = h.first })
-
-pub number_none : (kind : SectionKind) (bytes : List ℕ) (place : Numbering) → place ≡ numbering_of kind → place ≡ InFront → ReadsNothing u32 wide bytes → FillsNothing (content kind) bytes
-number_none kind bytes place e f n = counted kind (sym e ∙ f)
-  where
-    counted : (kind : SectionKind) → numbering_of kind ≡ InFront → FillsNothing (content kind) bytes
-    counted kinds.Bodies i = record { none = λ x h. no_first n h.2 }
-    counted kinds.Segments i = record { none = λ x h. no_first n h.2 }
-    counted kinds.DataCount i = absurd (cc i)
-    counted kinds.Elements i = record { none = λ x h. no_first n h.2 }
-    counted kinds.Exports i = record { none = λ x h. no_first n h.2 }
-    counted kinds.Functions i = record { none = λ x h. no_first n h.2 }
-    counted kinds.Globals i = record { none = λ x h. no_first n h.2 }
-    counted kinds.Imports i = record { none = λ x h. no_first n h.2 }
-    counted kinds.Memories i = record { none = λ x h. no_first n h.2 }
-    counted kinds.Start i = absurd (cc i)
-    counted kinds.Tables i = record { none = λ x h. no_first n h.2 }
-    counted kinds.Tags i = record { none = λ x h. no_first n h.2 }
-    counted kinds.Names i = absurd (cc i)
-    counted kinds.Linking i = absurd (cc i)
-    counted kinds.Producers i = absurd (cc i)
-    counted kinds.Hints i = absurd (cc i)
-    counted kinds.Core i = absurd (cc i)
-    counted kinds.CoreModules i = absurd (cc i)
-    counted kinds.CoreInstances i = absurd (cc i)
-    counted kinds.CoreStack i = absurd (cc i)
-    counted kinds.Custom i = absurd (cc i)
-    counted kinds.Raw i = absurd (cc i)
-    counted kinds.Types i = absurd (cc i)
-
-pub number_is_one : (kind : SectionKind) (bytes : List ℕ) (x : Contents) (place : Numbering) → place ≡ numbering_of kind → place ≡ One → content kind wide bytes x → Some 1 ≡ number_in x
-number_is_one kind bytes x place e f h = one kind (sym e ∙ f) h
-  where
-    one : (kind : SectionKind) → numbering_of kind ≡ One → content kind wide bytes x → Some 1 ≡ number_in x
-    one kinds.Bodies i h = absurd (cc i)
-    one kinds.Segments i h = absurd (cc i)
-    one kinds.DataCount i h = ap number_in h.1
-    one kinds.Elements i h = absurd (cc i)
-    one kinds.Exports i h = absurd (cc i)
-    one kinds.Functions i h = absurd (cc i)
-    one kinds.Globals i h = absurd (cc i)
-    one kinds.Imports i h = absurd (cc i)
-    one kinds.Memories i h = absurd (cc i)
-    one kinds.Start i h = ap number_in h.1
-    one kinds.Tables i h = absurd (cc i)
-    one kinds.Tags i h = absurd (cc i)
-    one kinds.Names i h = absurd (cc i)
-    one kinds.Linking i h = absurd (cc i)
-    one kinds.Producers i h = absurd (cc i)
-    one kinds.Hints i h = absurd (cc i)
-    one kinds.Core i h = absurd (cc i)
-    one kinds.CoreModules i h = absurd (cc i)
-    one kinds.CoreInstances i h = absurd (cc i)
-    one kinds.CoreStack i h = absurd (cc i)
-    one kinds.Custom i h = absurd (cc i)
-    one kinds.Raw i h = absurd (cc i)
-    one kinds.Types i h = absurd (cc i)
-
-pub number_untold : (kind : SectionKind) (bytes : List ℕ) (x : Contents) (place : Numbering) → place ≡ numbering_of kind → place ≡ Untold → content kind wide bytes x → None ≡ number_in x
-number_untold kind bytes x place e f h = untold kind (sym e ∙ f) h
-  where
-    untold : (kind : SectionKind) → numbering_of kind ≡ Untold → content kind wide bytes x → None ≡ number_in x
-    untold kinds.Bodies i h = absurd (cc i)
-    untold kinds.Segments i h = absurd (cc i)
-    untold kinds.DataCount i h = absurd (cc i)
-    untold kinds.Elements i h = absurd (cc i)
-    untold kinds.Exports i h = absurd (cc i)
-    untold kinds.Functions i h = absurd (cc i)
-    untold kinds.Globals i h = absurd (cc i)
-    untold kinds.Imports i h = absurd (cc i)
-    untold kinds.Memories i h = absurd (cc i)
-    untold kinds.Start i h = absurd (cc i)
-    untold kinds.Tables i h = absurd (cc i)
-    untold kinds.Tags i h = absurd (cc i)
-    untold kinds.Names i h = ap number_in h.1
-    untold kinds.Linking i h = ap number_in h.1
-    untold kinds.Producers i h = ap number_in h.1
-    untold kinds.Hints i h = ap number_in h.1
-    untold kinds.Core i h = ap number_in h.1
-    untold kinds.CoreModules i h = ap number_in h.1
-    untold kinds.CoreInstances i h = ap number_in h.1
-    untold kinds.CoreStack i h = ap number_in h.1
-    untold kinds.Custom i h = ap number_in h.1
-    untold kinds.Raw i h = ap number_in h.1
-    untold kinds.Types i h = ap number_in h.1
-
-pub ruleset number_steps = (number_is_one)
 
 -- ---- lines
 

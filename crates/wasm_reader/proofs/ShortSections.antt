@@ -1,9 +1,9 @@
 -- The one shortest text of sections that were read.
-use Rattle.std.proofs.Common.{◌≡◌, ℕ, List, [], ◌++◌, length, drop, map, refl, sym, ap, subst, ◌∙◌, arith}
+use Rattle.std.proofs.Common.{◌≡◌, ℕ, ◌+◌, List, [], ◌++◌, length, drop, map, refl, sym, ap, subst, ◌∙◌, arith}
 use Rattle.std.proofs.lemmas.List.{length-append, length-drop, append_cancel_left, map-id}
 use Rattle.wasm_base.specs.Numbers.{shortest, wide}
 use Rattle.wasm_base.specs.Formats.{u32, name, any_bytes, frame, pair, vec}
-use Rattle.wasm_base.specs.Reading.{UniqueReading, UniqueWholeReading}
+use Rattle.wasm_base.specs.Reading.{UniqueReading, UniqueWholeReading, Reads}
 use Rattle.wasm_base.specs.Texts.{frame_text, FrameFits, vec_text, VecFits}
 use Rattle.wasm_base.proofs.BaseLaws.{name-alone}
 use Rattle.wasm_base.proofs.FormatLaws.{vec-alone, frame-alone, whole_from_alone, mapped-whole, pair-whole, any_bytes-whole}
@@ -48,6 +48,7 @@ use Rattle.wasm_reader.specs.Sections.{Contents, Bodies, Segments, DataCount, El
 use Rattle.wasm_reader.specs.declared.section.SectionKind.{SectionKind}
 use Rattle.wasm_reader.specs.declared.section.SectionKind.TheVariants as kinds
 use Rattle.wasm_reader.proofs.ReadPlain.{memory_is, tag_is, export_short}
+use Rattle.wasm_reader.proofs.ReadSections.{takes}
 
 -- ---- contents
 
@@ -132,7 +133,7 @@ pub ruleset contents = (exports, functions, memories, tags, custom, raw)
 
 -- ---- sections
 
-content-whole : (kind : SectionKind) → UniqueWholeReading (content kind)
+pub content-whole : (kind : SectionKind) → UniqueWholeReading (content kind)
 content-whole kinds.Bodies = mapped-whole Bodies (λ x y e. cc) (whole_from_alone (vec-alone frame-body-alone))
 content-whole kinds.Segments = mapped-whole Segments (λ x y e. cc) (whole_from_alone (vec-alone data-alone))
 content-whole kinds.DataCount = mapped-whole DataCount (λ x y e. cc) (whole_from_alone u32-alone)
@@ -157,7 +158,7 @@ content-whole kinds.Custom = mapped-whole Custom (λ x y e. cc) (pair-whole name
 content-whole kinds.Raw = mapped-whole Raw (λ x y e. cc) any_bytes-whole
 content-whole kinds.Types = mapped-whole Types (λ x y e. cc) (whole_from_alone (vec-alone type-alone))
 
-section-alone : (kind : SectionKind) → UniqueReading (section kind)
+pub section-alone : (kind : SectionKind) → UniqueReading (section kind)
 section-alone kind = frame-alone (content-whole kind)
 
 -- What is read as a section of a kind is what sections of that kind hold.
@@ -186,11 +187,23 @@ kind_is kinds.Custom s x h = sym (ap kind_in h.1)
 kind_is kinds.Raw s x h = sym (ap kind_in h.1)
 kind_is kinds.Types s x h = sym (ap kind_in h.1)
 
+-- What a frame holds spells items of the kind, whose shortest text is appended.
+abbrev pub IsShortened : SectionKind → List ℕ → List ℕ → List ℕ → Type 0
+IsShortened kind framed old new = (x : Contents) × content kind wide framed x × AppendsShortest (content kind) x old new
+
+pub bodies_shortened : (kind : SectionKind) (framed old new : List ℕ) → kind ≡ kinds.Bodies → (xs : List Body) × vec (frame body) wide framed xs × AppendsShortest (vec (frame body)) xs old new → IsShortened kind framed old new
+bodies_shortened kind framed old new e h = subst (λ k. IsShortened k framed old new) (sym e) (Bodies h.0, (h.0, refl, h.1), bodies h.0 old new h.2)
+
+pub items_shortened : (kind : SectionKind) (framed old new : List ℕ) (x : Contents) → content kind wide framed x → AppendsShortest (content (kind_in x)) x old new → IsShortened kind framed old new
+items_shortened kind framed old new x h a = (x, h, subst (λ k. AppendsShortest (content k) x old new) (kind_is kind framed x h) a)
+
 -- The content was appended to an empty buffer, and its frame to the sink.
-pub shortened : (kind : SectionKind) (bytes start text old new : List ℕ) (x : Contents) (n : ℕ) → Takes kind bytes x n → start ≡ [] → AppendsShortest (content (kind_in x)) x start text → FrameFits text → new ≡ old ++ frame_text text → Shortens kind bytes n old new
-shortened kind bytes start text old new x n t empty a fits e =
+pub shortened : (kind : SectionKind) (bytes framed rest start text old new : List ℕ) (n : ℕ) → Reads (frame any_bytes) wide bytes framed rest → n + length rest ≡ length bytes → start ≡ [] → IsShortened kind framed start text → FrameFits text → new ≡ old ++ frame_text text → Shortens kind bytes n old new
+shortened kind bytes framed rest start text old new n h l empty s fits e =
+    let x = s.0 in
+    let given = s.2 in
+    let t = takes kind bytes framed rest x n h s.1 l in
     let read = t.reads in
-    let given = subst (λ k. AppendsShortest (content k) x start text) (kind_is kind read.spelled.content x read.spelled.spelled) a in
     let is : text ≡ given.text = given.appended ∙ ap (λ z. z ++ given.text) empty in
     let spelled = frame_spelled (content kind) text x fits (subst (λ z. content kind shortest z x) (sym is) (given.spelled read.spelled.content read.spelled.spelled)) in
     let alone = section-alone kind in

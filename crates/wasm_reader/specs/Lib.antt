@@ -1,3 +1,5 @@
 pub mod Items
 pub mod Sections
 pub mod Modules
+pub mod Outlines
+pub mod Shortening

@@ -7,8 +7,6 @@ use Rattle.wasm_base.specs.SectionId.{number_of}
 use Rattle.wasm_base.specs.declared.section_id.SectionId.TheVariants as ids
 use Rattle.wasm_reader.specs.Sections.{Contents, Bodies, Segments, DataCount, Elements, Exports, Functions, Globals, Imports, Memories, Start, Tables, Tags, Names, Linking, Producers, Hints, Core, CoreModules, CoreInstances, CoreStack, Custom, Raw, Types, content}
 use Rattle.wasm_reader.specs.declared.modules.Listed.{Listed}
-use Rattle.wasm_reader.specs.declared.modules.Numbering.{Numbering}
-use Rattle.wasm_reader.specs.declared.modules.Numbering.TheVariants.{InFront, One, Untold}
 use Rattle.wasm_reader.specs.declared.section.SectionKind.{SectionKind}
 use Rattle.wasm_reader.specs.declared.section.SectionKind.TheVariants as kinds
 
@@ -64,32 +62,6 @@ number_in (Custom x) = None
 number_in (Raw x) = None
 number_in (Types xs) = None
 
--- where the number of the items of a section of the kind stands
-abbrev pub numbering_of : SectionKind → Numbering
-numbering_of kinds.Bodies = InFront
-numbering_of kinds.Segments = InFront
-numbering_of kinds.DataCount = One
-numbering_of kinds.Elements = InFront
-numbering_of kinds.Exports = InFront
-numbering_of kinds.Functions = InFront
-numbering_of kinds.Globals = InFront
-numbering_of kinds.Imports = InFront
-numbering_of kinds.Memories = InFront
-numbering_of kinds.Start = One
-numbering_of kinds.Tables = InFront
-numbering_of kinds.Tags = InFront
-numbering_of kinds.Names = Untold
-numbering_of kinds.Linking = Untold
-numbering_of kinds.Producers = Untold
-numbering_of kinds.Hints = Untold
-numbering_of kinds.Core = Untold
-numbering_of kinds.CoreModules = Untold
-numbering_of kinds.CoreInstances = Untold
-numbering_of kinds.CoreStack = Untold
-numbering_of kinds.Custom = Untold
-numbering_of kinds.Raw = Untold
-numbering_of kinds.Types = Untold
-
 -- a frame of so many bytes, which spell what a section of the kind holds
 pub record Sized (kind : SectionKind) (mode : Mode) (s : List ℕ) (p : ℕ × Contents) : Type 0 where
   pub payload : List ℕ
@@ -130,3 +102,9 @@ pub record StopsBehind (bytes : List ℕ) (number : ℕ) : Type 0 where
 abbrev pub StopsAt : List ℕ → ℕ → Type 0
 StopsAt bytes zero = ReadsNothing (fixed header (tt {0})) wide bytes
 StopsAt bytes (suc number) = StopsBehind bytes number
+
+-- Bytes have one list of lines, or stop at one place, and not both.
+pub record HaveOneListing : Type 0 where
+  pub lines : (bytes : List ℕ) (a b : List Listed) → HasLines bytes a → HasLines bytes b → a ≡ b
+  pub either : (bytes : List ℕ) (a : List Listed) (place : ℕ) → HasLines bytes a → StopsAt bytes place → ⊥
+  pub place : (bytes : List ℕ) (p q : ℕ) → StopsAt bytes p → StopsAt bytes q → p ≡ q

@@ -5,15 +5,22 @@ ghost use Rattle.wasm_base.specs.Going.{FillsNothing};
 ghost use Rattle.wasm_base.specs.Numbers.{wide};
 ghost use Rattle.wasm_base.specs.Reading.{Reads, ReadsNothing};
 ghost use Rattle.wasm_reader_base.specs.declared.fault.ReadFault.TheVariants.{Ended, UnknownTag, Memory};
-ghost use Rattle.wasm_reader.specs.Modules.{kind_of as kind_of_id, numbering_of, number_in, sized_section, line_of, HasLines, StopsAt};
+ghost use Rattle.wasm_reader.specs.Modules.{kind_of as kind_of_id, number_in, sized_section, line_of, HasLines, StopsAt};
 ghost use Rattle.wasm_reader.specs.Sections.{Contents, content};
 
+use crate::Here;
+use crate::counts::{Dropped, Walked, count_passed};
+use crate::data::Segment;
+use crate::elements::ElementItem;
+use crate::globals::GlobalItem;
 use crate::section::{SectionKind, read_content};
+use crate::tables::TableItem;
 use std::alloc::Allocator;
-use wasm_reader_base::{ReadFault, Readable};
+use wasm_reader_base::{One, ReadFault, Readable};
+use wasm_sections::{Export, Imports, MemoryType, TagType};
 
 /// The magic and the version of a module.
-const HEADER: [u8; 8] = [0x00, 0x61, 0x73, 0x6D, 0x01, 0x00, 0x00, 0x00];
+pub(crate) const HEADER: [u8; 8] = [0x00, 0x61, 0x73, 0x6D, 0x01, 0x00, 0x00, 0x00];
 
 /// A section of a module.
 #[derive(Clone, Copy, PartialEq, Eq, Debug)]
@@ -27,7 +34,7 @@ pub struct Listed {
 
 /// What follows the header.
 #[tactic(auto, using(crate::proofs::ReadModules::header_steps))]
-fn read_header(bytes: &[u8]) -> Result<&[u8], ReadFault>
+pub(crate) fn read_header(bytes: &[u8]) -> Result<&[u8], ReadFault>
     ensures found { IfOk result (λ rest. bytes.now ≡ header ++ rest.now) }
     ensures none { IfErr result (λ _. ReadsNothing (fixed header (tt {0})) wide bytes.now) }
     ensures cause { IfErr result (λ e. (e ≡ Ended) ⊎ (e ≡ UnknownTag)) }
@@ -46,7 +53,7 @@ fn read_header(bytes: &[u8]) -> Result<&[u8], ReadFault>
 
 /// The kind of a section of the id.
 #[tactic(auto, using(crate::proofs::ReadModules::kind_steps))]
-fn kind_of(id: u8) -> SectionKind
+pub(crate) fn kind_of(id: u8) -> SectionKind
     ensures { result ≡ kind_of_id id }
 {
     match id {
@@ -67,33 +74,36 @@ fn kind_of(id: u8) -> SectionKind
     }
 }
 
-/// Where the number of a section's items stands.
-#[derive(Clone, Copy, Debug)]
-enum Numbering {
-    /// Before the items.
-    InFront,
-    /// Nowhere: there is one item.
-    One,
-    /// It is not told.
-    Untold,
-}
-
-/// Where the number of the items of a section of the kind stands.
-fn how_numbered(kind: SectionKind) -> Numbering
-    ensures { result ≡ numbering_of kind }
+/// The number of items of a section of the kind, from what its frame holds. None that is counted is kept, and of the instructions of a body one at a time.
+pub(crate) fn read_number<'a, A: Allocator + Copy>(
+    kind: SectionKind,
+    bytes: &'a [u8],
+    alloc: A,
+) -> Result<Option<u32>, ReadFault>
+    ensures found { IfOk result (λ number. (x : Contents) × content kind wide bytes.now x × (number ≡ number_in x)) }
+    ensures none { IfErr result (λ e. e ≢ Memory → FillsNothing (content kind) bytes.now) }
 {
     match kind {
-        SectionKind::Bodies
-        | SectionKind::Segments
-        | SectionKind::Elements
-        | SectionKind::Exports
-        | SectionKind::Functions
-        | SectionKind::Globals
-        | SectionKind::Imports
-        | SectionKind::Memories
-        | SectionKind::Tables
-        | SectionKind::Tags => Numbering::InFront,
-        SectionKind::DataCount | SectionKind::Start => Numbering::One,
+        SectionKind::Bodies => count_passed::<'a, Walked, A>(bytes, alloc),
+        SectionKind::Segments => count_passed::<'a, Dropped<Segment<'a, A>>, A>(bytes, alloc),
+        SectionKind::Elements => count_passed::<'a, Dropped<ElementItem<A>>, A>(bytes, alloc),
+        SectionKind::Exports => {
+            count_passed::<'a, Dropped<One<Export<'a>, Here>>, A>(bytes, alloc)
+        }
+        SectionKind::Functions => count_passed::<'a, Dropped<u32>, A>(bytes, alloc),
+        SectionKind::Globals => count_passed::<'a, Dropped<GlobalItem<A>>, A>(bytes, alloc),
+        SectionKind::Imports => {
+            count_passed::<'a, Dropped<One<Imports<'a, A>, Here>>, A>(bytes, alloc)
+        }
+        SectionKind::Memories => {
+            count_passed::<'a, Dropped<One<MemoryType, Here>>, A>(bytes, alloc)
+        }
+        SectionKind::Tables => count_passed::<'a, Dropped<TableItem<A>>, A>(bytes, alloc),
+        SectionKind::Tags => count_passed::<'a, Dropped<One<TagType, Here>>, A>(bytes, alloc),
+        SectionKind::DataCount | SectionKind::Start => {
+            drop(read_content(kind, bytes, alloc)?);
+            Ok(Some(1))
+        }
         SectionKind::Names
         | SectionKind::Linking
         | SectionKind::Producers
@@ -104,28 +114,10 @@ fn how_numbered(kind: SectionKind) -> Numbering
         | SectionKind::CoreStack
         | SectionKind::Custom
         | SectionKind::Raw
-        | SectionKind::Types => Numbering::Untold,
-    }
-}
-
-/// The number of items of a section of the kind, from what its frame holds.
-#[tactic(auto, using(crate::proofs::ReadModules::number_steps))]
-fn read_number<'a, A: Allocator + Copy>(
-    kind: SectionKind,
-    bytes: &'a [u8],
-    alloc: A,
-) -> Result<Option<u32>, ReadFault>
-    ensures found { IfOk result (λ number. (x : Contents) × content kind wide bytes.now x × (number ≡ number_in x)) }
-    ensures none { IfErr result (λ e. e ≢ Memory → FillsNothing (content kind) bytes.now) }
-{
-    drop(read_content(kind, bytes, alloc)?);
-    match how_numbered(kind) {
-        Numbering::InFront => {
-            let (number, _) = <u32 as Readable<'a, A>>::read(bytes, alloc)?;
-            Ok(Some(number))
+        | SectionKind::Types => {
+            drop(read_content(kind, bytes, alloc)?);
+            Ok(None)
         }
-        Numbering::One => Ok(Some(1)),
-        Numbering::Untold => Ok(None),
     }
 }
 
@@ -150,8 +142,8 @@ fn read_line<'a, A: Allocator + Copy>(
 /// The number beside a fault other than `Memory` is that of the section at which the bytes are no module, counted from 1, or 0 where they
 /// don't begin with the header. Beside `Memory` it is that of the section that was being read; no contract says so.
 pub fn list_module<'a, A: Allocator + Copy>(
-    bytes: &'a [u8],
     alloc: A,
+    bytes: &'a [u8],
 ) -> Result<Vec<Listed, A>, (usize, ReadFault)>
     ensures found { IfOk result (λ lines. HasLines bytes.now lines.items) }
     ensures none { IfErr result (λ e. e.1 ≢ Memory → StopsAt bytes.now e.0) }

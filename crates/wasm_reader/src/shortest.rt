@@ -1,21 +1,25 @@
 // Sections, written as shortly as can be.
-ghost use Rattle.std.specs.Prelude.{◌≡◌, ◌≢◌, IfOk, IfErr, OnOk, OnErr};
+ghost use Rattle.std.specs.Prelude.{◌≡◌, ◌≢◌, List, IfOk, IfErr, OnOk, OnErr};
+ghost use Rattle.wasm_base.specs.Formats.{frame, vec};
+ghost use Rattle.wasm_base.specs.Going.{FillsNothing};
 ghost use Rattle.wasm_base.specs.Numbers.{wide};
 ghost use Rattle.wasm_base.specs.Reading.{ReadsNothing};
+ghost use Rattle.wasm_code.specs.Bodies.{Body, body};
 ghost use Rattle.wasm_reader_base.specs.Shortest.{AppendsShortest};
 ghost use Rattle.wasm_reader_base.specs.declared.fault.ReadFault.TheVariants.{Memory};
-ghost use Rattle.wasm_reader.specs.Sections.{content, section, contents_of, kind_in, Shortens};
+ghost use Rattle.wasm_reader.specs.Sections.{Contents, content, section, contents_of, kind_in, Shortens};
 
 use crate::data::append_segments;
 use crate::imports::append_imports;
-use crate::section::{Items, SectionKind, read_section};
+use crate::section::{Items, SectionKind, read_content};
 use std::alloc::Allocator;
 use wasm_base::{Encode, R, encode_frame};
-use wasm_reader_base::{ReadFault, Shorten};
+use wasm_reader_base::{ReadFault, Readable, Shorten};
 use wasm_reader_custom::{
     append_hints, append_instances, append_links, append_modules, append_names, append_process,
     append_producers, append_stack,
 };
+use wasm_reader_insn::shorten_body;
 use wasm_reader_types::append_types;
 
 /// Appends the shortest text of what the frame of a section holds.
@@ -57,27 +61,73 @@ fn append_content<A: Allocator, B: Allocator>(items: Items<'_, A>, out: &mut Vec
     }
 }
 
-/// Appends the one shortest text of the section that the bytes begin with, and tells how many bytes it takes there. Both are without the
-/// section's id. A refused call leaves the bytes of the sink as they were.
-///
-/// ```text
-/// let taken = shorten(SectionKind::Functions, &[0x86, 0x00, 0x01, 0x85, 0x80, 0x80, 0x80, 0x00], alloc, &mut sink)?;
-/// // 02 01 05 was appended, and 8 bytes were taken
-/// ```
-#[tactic(auto, using(crate::proofs::ShortSections::shortened))]
-pub fn shorten<A: Allocator + Copy, B: Allocator>(
+/// Appends the shortest texts of the bodies behind their number, which all of the bytes spell. It keeps none of them.
+fn shorten_bodies<A: Allocator + Copy>(
+    bytes: &[u8],
+    alloc: A,
+    out: &mut Vec<u8, A>,
+) -> Result<(), ReadFault>
+    ensures found { OnOk result ((xs : List Body) × vec (frame body) wide bytes.now xs × AppendsShortest (vec (frame body)) xs out.old.items out.new.items) }
+    ensures none { IfErr result (λ e. e ≢ Memory → FillsNothing (vec (frame body)) bytes.now) }
+{
+    let (count, mut rest) = <u32 as Readable<'_, A>>::read(bytes, alloc)?;
+    count.append_shortest(out)?;
+    for _taken in 0..count {
+        let (framed, after) = <&[u8] as Readable<'_, A>>::read(rest, alloc)?;
+        shorten_body(framed, alloc, out)?;
+        rest = after;
+    }
+    if rest.is_empty() {
+        Ok(())
+    } else {
+        Err(ReadFault::SizeMismatch)
+    }
+}
+
+/// Appends the shortest text of what the frame of a section of the kind holds.
+fn shorten_content<A: Allocator + Copy>(
     kind: SectionKind,
     bytes: &[u8],
     alloc: A,
-    sink: &mut Vec<u8, B>,
+    out: &mut Vec<u8, A>,
+) -> Result<(), ReadFault>
+    ensures found { OnOk result ((x : Contents) × content kind wide bytes.now x × AppendsShortest (content kind) x out.old.items out.new.items) }
+    ensures none { IfErr result (λ e. e ≢ Memory → FillsNothing (content kind) bytes.now) }
+{
+    match kind {
+        SectionKind::Bodies => shorten_bodies(bytes, alloc, out),
+        _ => {
+            let items = read_content(kind, bytes, alloc)?;
+            append_content(items, out)?;
+            Ok(())
+        }
+    }
+}
+
+/// Appends the one shortest text of the section that the bytes begin with, and tells how many bytes it takes there. Both are without the
+/// section's id. A refused call leaves the bytes of the sink as they were. What is read is in memory of the sink's allocator, and is dropped: of code,
+/// one instruction at a time.
+///
+/// A code section that gets shorter has its instructions in other places: offsets into it that are kept elsewhere (relocations, debugging information, branch hints,
+/// source maps) no longer fit.
+///
+/// ```text
+/// let taken = shorten(SectionKind::Functions, &[0x86, 0x00, 0x01, 0x85, 0x80, 0x80, 0x80, 0x00], &mut sink)?;
+/// // 02 01 05 was appended, and 8 bytes were taken
+/// ```
+pub fn shorten<A: Allocator + Copy>(
+    kind: SectionKind,
+    bytes: &[u8],
+    sink: &mut Vec<u8, A>,
 ) -> Result<usize, ReadFault>
     ensures ok { IfOk result (λ n. Shortens kind bytes.now n sink.old.items sink.new.items) }
     ensures err { OnErr result (sink.new.items ≡ sink.old.items) }
     ensures none { IfErr result (λ e. e ≢ Memory → ReadsNothing (section kind) wide bytes.now) }
 {
-    let (items, taken) = read_section(kind, bytes, alloc)?;
-    let mut content = Vec::new(alloc);
-    append_content(items, &mut content)?;
+    let alloc = *sink.allocator();
+    let (framed, rest) = <&[u8] as Readable<'_, A>>::read(bytes, alloc)?;
+    let mut content = Vec::with_capacity(alloc, framed.len())?;
+    shorten_content(kind, framed, alloc, &mut content)?;
     encode_frame(sink, &content)?;
-    Ok(taken)
+    Ok(bytes.len() - rest.len())
 }

@@ -1,5 +1,5 @@
 -- How immediates are read.
-use Rattle.std.proofs.Common.{◌≡◌, ◌≢◌, ◌⊎◌, inl, inr, ℕ, ◌<◌, ◌≤◌, ◌%◌, List, Bool, true, false, Option, Some, None, option_map, refl, sym, subst, arith}
+use Rattle.std.proofs.Common.{◌≡◌, ◌≢◌, ◌⊎◌, inl, inr, ℕ, ◌<◌, ◌≤◌, ◌/◌, ◌%◌, ◌^◌, ◌==◌, List, ◌∷◌, Bool, true, false, Option, Some, None, option_map, refl, sym, ap, subst, ◌∙◌, arith}
 use Rattle.std.proofs.lemmas.Bool.{lt-ltb, le-ltb}
 use Rattle.wasm_base.specs.Numbers.{wide}
 use Rattle.wasm_base.specs.Formats.{Format, u32, u64, byte, s33, choice, impossible, mapped, tagged, pair, optional, when}
@@ -25,9 +25,10 @@ use Rattle.wasm_immediates.specs.declared.control.Handle.TheVariants.{OnLabel, O
 use Rattle.wasm_immediates.specs.Immediates.{ordering_code}
 use Rattle.wasm_immediates.specs.PlainImmediates.{block_type, ordering_format, mem_orderings, mem_ordering, bit, target_of, mem_arg_of, mem_arg_with, after_flags, mem_arg, one_of_pair, one_ref_of_pair, catch_tags, catch, on_label_of_pair, handle_tags, handle}
 use Rattle.wasm_immediates.proofs.ImmediateLaws.{target-alone, mem_ordering-alone, block_tags, block_result}
+use Rattle.wasm_reader_base.proofs.ReadNumbers.{u32_byte}
 use Rattle.wasm_reader_base.proofs.ReadTypes.{no_index_byte}
 use Rattle.wasm_base.proofs.ReadingSteps.{then_reads, then_nothing_first, then_nothing_second, mapped_reads, mapped_nothing, such_reads, such_none, such_nothing}
-use Rattle.wasm_base.proofs.Tags.{tagged_reads, tagged_none, tagged_nothing, no_choice, choice_other, fixed_reads, impossible_nothing, one_of_nothing, one_of_left, one_of_right, not_begun, no_bytes, code_reads, code_none, code_unknown}
+use Rattle.wasm_base.proofs.Tags.{tagged_reads, tagged_none, tagged_nothing, no_choice, choice_other, fixed_reads, impossible_nothing, optional_none, one_of_nothing, one_of_left, one_of_right, not_begun, no_bytes, code_reads, code_none, code_unknown}
 
 -- ---- orderings
 
@@ -134,6 +135,29 @@ pub memory_no_offset : (bytes start next last : List ℕ) (flags : ℕ) (t : Mem
     → Reads (optional (bit 4 flags) mem_ordering) wide next (option_map (λ n. n) o) last → ReadsNothing u64 wide last → ReadsNothing mem_arg wide bytes
 memory_no_offset bytes start next last flags t o h l g k n =
     memory_nothing bytes start flags h l (then_nothing_second (target-alone (bit 5 flags) (bit 6 flags)) g (then_nothing_second (optional-alone (bit 4 flags) mem_ordering-alone) k n))
+
+-- Flags below 16 are those of memory 0, without an ordering.
+unset : (place flags : ℕ) → flags / 2 ^ place % 2 ≡ 0 → bit place flags ≡ false
+unset place flags e = ap (λ z. z == 1) e
+
+module _ (bytes start : List ℕ) (flags : ℕ) (e : bytes ≡ flags ∷ start) (low : flags < 0x10) where
+  few_flags : Reads u32 wide bytes flags start
+  few_flags = u32_byte bytes start flags flags e (omega (arith, low)) refl
+
+  memory_0 : Reads (target_of (bit 5 flags) (bit 6 flags)) wide start (Memory 0) start
+  memory_0 = target_memory_0 (bit 5 flags) (bit 6 flags) start (unset 5 flags (omega (arith, low))) (unset 6 flags (omega (arith, low)))
+
+  no_order : Reads (optional (bit 4 flags) mem_ordering) wide start None start
+  no_order = optional_none mem_ordering (bit 4 flags) start (unset 4 flags (omega (arith, low)))
+
+  pub memory_plain : (last : List ℕ) (align offset : ℕ) → align ≡ flags → Reads u64 wide start offset last → Reads mem_arg wide bytes (record { offset = offset; align = align; target = Memory 0; ordering = None }) last
+  memory_plain last align offset is h =
+      let same : flags % 16 ≡ align = omega (arith, low, is) in
+      subst (λ n. Reads mem_arg wide bytes (record { offset = offset; align = n; target = Memory 0; ordering = None }) last) same
+      (memory_reads bytes start start start last flags offset (Memory 0) None few_flags (omega (arith, low)) memory_0 no_order h)
+
+  pub memory_plain_none : ReadsNothing u64 wide start → ReadsNothing mem_arg wide bytes
+  memory_plain_none n = memory_no_offset bytes start start start flags (Memory 0) None few_flags (omega (arith, low)) memory_0 no_order n
 
 pub ruleset memory_steps = (memory_reads, memory_none, memory_unknown, memory_no_target, memory_no_ordering, memory_no_offset)
 

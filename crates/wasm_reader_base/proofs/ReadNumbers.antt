@@ -1,5 +1,6 @@
 -- How groups make numbers.
-use Rattle.std.proofs.Common.{◌≡◌, inl, inr, ℕ, ◌<◌, ◌^◌, List, ◌∷◌, length, ◌-◌, ◌≤◌, ◌≢◌, ℤ, pos, neg_ℤ, ◌-ℤ◌, ◌≤ℤ◌, ◌<ℤ◌, nat_lt, cond, refl, sym, ap, ap₂, subst, ◌∙◌, arith}
+use Rattle.std.proofs.Common.{◌≡◌, inl, inr, ℕ, ◌<◌, ◌^◌, List, [], ◌∷◌, length, ◌+◌, ◌-◌, ◌*◌, ◌%◌, ◌≤◌, ◌≢◌, ℤ, pos, neg_ℤ, ◌-ℤ◌, ◌≤ℤ◌, ◌<ℤ◌, nat_lt, cond, refl, sym, ap, ap₂, subst, ◌∙◌, add-one, arith}
+use Rattle.std.proofs.Math.Nat.{mul-add, mul_assoc, mul-le-mul_left, pow-suc, pow-le-pow_right}
 use Rattle.std.proofs.lemmas.Bool.{lt-ltb, le-ltb, cases_lt}
 use Rattle.std.proofs.lemmas.Int.{ints}
 use Rattle.wasm_base.specs.Numbers.{wide, Unsigned, Signed, signed_sum, groups_sum, byte_limit}
@@ -7,8 +8,72 @@ use Rattle.wasm_base.specs.Formats.{u32, u64, s32, s64, s33}
 use Rattle.wasm_base.specs.Reading.{Reads, ReadsNothing}
 use Rattle.wasm_base.proofs.NumberLaws.{groups_apart}
 use Rattle.wasm_base.specs.Groups.{groups, HasGroups, signed_of}
-use Rattle.wasm_base.proofs.GroupLaws.{groups_last}
+use Rattle.wasm_base.proofs.GroupLaws.{groups_none, groups_ended, groups_last, groups_more, groups_less}
 use Rattle.wasm_base.proofs.ReadingSteps.{front_and_rest}
+
+-- ---- at most five groups, one after another
+
+-- After k of them: what the groups that follow make of the number, and that there is none without them.
+pub record HasBegun (k : ℕ) (bytes rest : List ℕ) (sum power : ℕ) : Type 0 where
+  pub found : (s p l : ℕ) (last : List ℕ) → HasGroups (5 - k) rest s p l last → HasGroups 5 bytes (sum + power * s) (power * p) l last
+  pub none : ReadsNothing (groups (5 - k)) wide rest → ReadsNothing (groups 5) wide bytes
+  pub below : sum < power
+  pub is : power ≡ 128 ^ k
+
+pub begun_start : (bytes : List ℕ) → HasBegun 0 bytes bytes 0 1
+begun_start bytes = record {
+  found = λ s p l last h.
+      let total : s ≡ 0 + 1 * s = omega arith in
+      let count : p ≡ 1 * p = omega arith in
+      subst (λ x. HasGroups 5 bytes x (1 * p) l last) total (subst (λ y. HasGroups 5 bytes s y l last) count h);
+  none = λ n. n;
+  below = omega arith;
+  is = refl;
+}
+
+-- the next group adds less than the power of those before
+group_below : (b n sum power : ℕ) → n ≡ b % 128 → sum < power → sum + power * n < power * 128
+group_below b n sum power is l =
+    let m : n ≤ 127 = omega (arith, is) in
+    omega (arith, l, mul-le-mul_left power m)
+
+power_small : (k power : ℕ) → k < 5 → power ≡ 128 ^ k → power * 128 ≤ 2 ^ 35
+power_small k power l e =
+    let p : 128 ^ k ≤ 128 ^ 4 = pow-le-pow_right (omega arith) {i = k} {j = 4} (omega (arith, l)) in
+    omega (arith, e, p)
+
+-- the next group is b, of which n are the seven bits
+module _ (k b n sum power : ℕ) (bytes rest : List ℕ) where
+  pub begun_more : (after : List ℕ) → k < 5 → rest ≡ b ∷ after → 128 ≤ b → b < 256 → n ≡ b % 128 → HasBegun k bytes rest sum power → HasBegun (k + 1) bytes after (sum + power * n) (power * 128)
+  begun_more after m e low high bits go = record {
+    found = λ s p l last h.
+        let inner : HasGroups (5 - k) rest (n + 128 * s) (128 * p) l last = groups_more (5 - (k + 1)) (5 - k) b s p l (n + 128 * s) (128 * p) rest after last e low high (omega (arith, m)) h (ap (λ z. z + 128 * s) bits) refl in
+        let total : sum + power * (n + 128 * s) ≡ sum + power * n + power * 128 * s = omega (arith, mul-add power n (128 * s), mul_assoc power 128 s) in
+        subst (λ x. HasGroups 5 bytes x (power * 128 * p) l last) total (subst (λ y. HasGroups 5 bytes (sum + power * (n + 128 * s)) y l last) (sym (mul_assoc power 128 p)) (go.found (n + 128 * s) (128 * p) l last inner));
+    none = λ none. go.none (groups_less (5 - (k + 1)) (5 - k) b rest after e low (omega (arith, m)) none);
+    below = group_below b n sum power bits go.below;
+    is = ap (λ z. z * 128) go.is ∙ sym (subst (λ z. 128 ^ z ≡ 128 ^ k * 128) (sym (add-one k)) (pow-suc 128 k));
+  }
+
+  pub begun_last : (after : List ℕ) → k < 5 → rest ≡ b ∷ after → b < 128 → n ≡ b % 128 → HasBegun k bytes rest sum power → HasGroups 5 bytes (sum + power * n) (power * 128) b after
+  begun_last after m e l bits go = go.found n 128 b after (groups_last (5 - k) b n rest after e l (omega (arith, m)) (omega (arith, l, bits)))
+
+  pub begun_small : k < 5 → n ≡ b % 128 → HasBegun k bytes rest sum power → (sum + power * n < power * 128) × (power * 128 ≤ 2 ^ 35)
+  begun_small m bits go = (group_below b n sum power bits go.below, power_small k power m go.is)
+
+pub begun_ended : (k sum power : ℕ) (bytes rest : List ℕ) → rest ≡ [] → HasBegun k bytes rest sum power → ReadsNothing (groups 5) wide bytes
+begun_ended k sum power bytes rest e go = go.none (groups_ended (5 - k) rest e)
+
+pub begun_all : (k sum power : ℕ) (bytes rest : List ℕ) → k ≡ 5 → HasBegun k bytes rest sum power → ReadsNothing (groups 5) wide bytes
+begun_all k sum power bytes rest e go =
+    let none_left : 5 - k ≡ 0 = omega (arith, e) in
+    go.none (subst (λ z. ReadsNothing (groups z) wide rest) (sym none_left) (groups_none rest))
+
+-- five groups are at most ten
+within_ten : {bytes rest : List ℕ} {sum power last : ℕ} → HasGroups 5 bytes sum power last rest → HasGroups 10 bytes sum power last rest
+within_ten g =
+    let h = g.read in
+    record { front = g.front; read = record { front = h.front; split = h.split; spelled = (h.spelled.0, h.spelled.1, omega (arith, h.spelled.2)) }; total = g.total; count = g.count; end = g.end }
 
 -- ---- numbers without a sign
 
@@ -59,7 +124,10 @@ u64_none = unsigned_none 64
 pub u64_large : (bytes rest : List ℕ) (sum power last : ℕ) → HasGroups 10 bytes sum power last rest → 2 ^ 64 ≤ sum → ReadsNothing u64 wide bytes
 u64_large = unsigned_large 64
 
-pub ruleset u64_steps = (u64_reads, u64_byte, u64_none, u64_large, front_and_rest)
+pub u64_few : (bytes rest : List ℕ) (sum power last : ℕ) → HasGroups 5 bytes sum power last rest → sum < power → power ≤ 2 ^ 35 → Reads u64 wide bytes sum rest
+u64_few bytes rest sum power last g l u = u64_reads bytes rest sum power last (within_ten g) (omega (arith, l, u))
+
+pub ruleset u64_steps = (u64_reads, u64_byte, u64_few, u64_none, u64_large, front_and_rest)
 
 -- ---- signed numbers
 
@@ -143,7 +211,15 @@ s64_byte bytes rest b v e l is =
     let small = signed_small b l in
     s64_reads bytes rest b 128 b v (groups_last 10 b b bytes rest e l (omega arith) refl) is (omega (arith, ints, is, small.0)) (omega (arith, ints, is, small.1))
 
-pub ruleset s64_steps = (s64_reads, s64_byte, s64_none, s64_low, s64_high, front_and_rest)
+-- a few groups are in the range
+pub s64_few : (bytes rest : List ℕ) (sum power last : ℕ) (v : ℤ) → HasGroups 5 bytes sum power last rest → sum < power → power ≤ 2 ^ 35 → v ≡ signed_of sum power last → Reads s64 wide bytes v rest
+s64_few bytes rest sum power last v g l u is =
+    elim (cases_lt last 64) [
+      | inl low ↦ let e = is ∙ not_negative sum power last low in s64_reads bytes rest sum power last v (within_ten g) is (omega (arith, ints, e)) (omega (arith, ints, e, l, u))
+      | inr high ↦ let e = is ∙ negative sum power last high in s64_reads bytes rest sum power last v (within_ten g) is (omega (arith, ints, e, u)) (omega (arith, ints, e, l))
+    ]
+
+pub ruleset s64_steps = (s64_reads, s64_byte, s64_few, s64_none, s64_low, s64_high, front_and_rest)
 
 -- ---- indices, spelled as signed numbers
 

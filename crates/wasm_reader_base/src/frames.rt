@@ -1,7 +1,8 @@
 // Frames: a size, and exactly that many bytes.
-ghost use Rattle.std.specs.Prelude.{◌≡◌, ◌≤◌, ◌++◌, take, drop, vec_len, OnOk};
+ghost use Rattle.std.specs.Prelude.{◌≡◌, ◌≢◌, ◌≤◌, ◌++◌, take, drop, vec_len, Err, OnOk, OnErr};
 ghost use Rattle.wasm_base.specs.Formats.{frame};
 ghost use Rattle.wasm_base.specs.Texts.{frame_text, FrameFits};
+ghost use Rattle.wasm_base.specs.declared.refused.Refused.TheVariants.{TooLong};
 ghost use Rattle.wasm_reader_base.specs.Shortest.{AppendsShortest};
 ghost use Rattle.wasm_base.proofs.FormatLaws.{frame-alone, whole_from_alone};
 
@@ -62,6 +63,8 @@ pub fn frame_since<B: Allocator>(out: &mut Vec<u8, B>, start: usize) -> R<()>
     requires { start ≤ vec_len out.old }
     ensures framed { OnOk result (out.new.items ≡ take start out.old.items ++ frame_text (drop start out.old.items)) }
     ensures fitted { OnOk result (FrameFits (drop start out.old.items)) }
+    ensures err { OnErr result (out.new.items ≡ out.old.items) }
+    ensures too_long { FrameFits (drop start out.old.items) → result ≢ Err TooLong }
 {
     let size = out.len() - start;
     size.encode(out)?;

@@ -90,6 +90,38 @@ fn read_target<'a, A: Allocator + Copy>(
     }
 }
 
+/// A memory argument. Out of line, for flags of any bits.
+#[inline(never)]
+#[tactic(auto, using(crate::proofs::ReadImmediates::memory_steps))]
+fn read_any_memory<'a, A: Allocator + Copy>(
+    bytes: &'a [u8],
+    alloc: A,
+) -> Result<(MemArg, &'a [u8]), ReadFault>
+    ensures found { IfOk result (λ x. Reads mem_arg wide bytes.now x.0 x.1.now) }
+    ensures none { IfErr result (λ e. e ≢ Memory → ReadsNothing mem_arg wide bytes.now) }
+{
+    let (flags, rest) = <u32 as Readable<'a, A>>::read(bytes, alloc)?;
+    if flags >= 0x80 {
+        return Err(ReadFault::UnknownTag);
+    }
+    let (target, rest) = read_target(flags / 32 % 2 == 1, flags / 64 % 2 == 1, rest, alloc)?;
+    let (ordering, rest) = read_optional::<'a, MemArgOrdering, A>(
+        flags / 16 % 2 == 1,
+        rest,
+        alloc,
+    )?;
+    let (offset, rest) = <u64 as Readable<'a, A>>::read(rest, alloc)?;
+    Ok((
+        MemArg {
+            offset,
+            align: flags % 16,
+            target,
+            ordering,
+        },
+        rest,
+    ))
+}
+
 impl<'a, A: Allocator + Copy> Readable<'a, A> for MemArg {
     ghost Value = { MemArgModel };
 
@@ -100,27 +132,45 @@ impl<'a, A: Allocator + Copy> Readable<'a, A> for MemArg {
     ghost alone = { mem_arg-alone };
 
     #[tactic(auto, using(crate::proofs::ReadImmediates::memory_steps))]
+    #[inline]
     fn read(bytes: &'a [u8], alloc: A) -> Result<(MemArg, &'a [u8]), ReadFault> {
-        let (flags, rest) = <u32 as Readable<'a, A>>::read(bytes, alloc)?;
-        if flags >= 0x80 {
-            return Err(ReadFault::UnknownTag);
+        if let [flags, rest @ ..] = bytes {
+            if *flags < 0x10 {
+                let (offset, rest) = <u64 as Readable<'a, A>>::read(rest, alloc)?;
+                let memory = MemArg {
+                    offset,
+                    align: u32::from(*flags),
+                    target: MemArgTarget::Memory(0),
+                    ordering: None,
+                };
+                return Ok((memory, rest));
+            }
         }
-        let (target, rest) = read_target(flags / 32 % 2 == 1, flags / 64 % 2 == 1, rest, alloc)?;
-        let (ordering, rest) = read_optional::<'a, MemArgOrdering, A>(
-            flags / 16 % 2 == 1,
-            rest,
-            alloc,
-        )?;
-        let (offset, rest) = <u64 as Readable<'a, A>>::read(rest, alloc)?;
-        Ok((
-            MemArg {
-                offset,
-                align: flags % 16,
-                target,
-                ordering,
-            },
-            rest,
-        ))
+        read_any_memory(bytes, alloc)
+    }
+}
+
+/// A block type. Out of line, for those with a type.
+#[inline(never)]
+#[tactic(auto, using(crate::proofs::ReadImmediates::block_steps))]
+fn read_any_block<'a, A: Allocator + Copy>(
+    bytes: &'a [u8],
+    alloc: A,
+) -> Result<(BlockType, &'a [u8]), ReadFault>
+    ensures found { IfOk result (λ x. Reads block_type wide bytes.now x.0 x.1.now) }
+    ensures none { IfErr result (λ e. e ≢ Memory → ReadsNothing block_type wide bytes.now) }
+{
+    let (tag, rest) = <u8 as Readable<'a, A>>::read(bytes, alloc)?;
+    match tag {
+        0x40 => Ok((BlockType::Empty, rest)),
+        0x41..=0x7F => {
+            let (ty, rest) = read_val_after(tag, rest, alloc)?;
+            Ok((BlockType::Result(ty), rest))
+        }
+        _ => {
+            let (index, rest) = read_index(bytes)?;
+            Ok((BlockType::FunctionType(index), rest))
+        }
     }
 }
 
@@ -134,19 +184,13 @@ impl<'a, A: Allocator + Copy> Readable<'a, A> for BlockType {
     ghost alone = { block-alone };
 
     #[tactic(auto, using(crate::proofs::ReadImmediates::block_steps))]
+    #[inline]
     fn read(bytes: &'a [u8], alloc: A) -> Result<(BlockType, &'a [u8]), ReadFault> {
         let (tag, rest) = <u8 as Readable<'a, A>>::read(bytes, alloc)?;
-        match tag {
-            0x40 => Ok((BlockType::Empty, rest)),
-            0x41..=0x7F => {
-                let (ty, rest) = read_val_after(tag, rest, alloc)?;
-                Ok((BlockType::Result(ty), rest))
-            }
-            _ => {
-                let (index, rest) = read_index(bytes)?;
-                Ok((BlockType::FunctionType(index), rest))
-            }
+        if tag == 0x40 {
+            return Ok((BlockType::Empty, rest));
         }
+        read_any_block(bytes, alloc)
     }
 }
 

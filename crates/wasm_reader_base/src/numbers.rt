@@ -1,7 +1,7 @@
-// Numbers in LEB128, padded or not. One byte is read in place.
+// Numbers in LEB128, padded or not. One byte is read in place, up to five in 64 bits.
 ghost use Rattle.std.specs.Prelude.{◌≡◌, ◌≢◌, ℕ, ◌<◌, ◌≤◌, ◌^◌, ℤ, IfOk, IfErr};
 ghost use Rattle.wasm_base.specs.Formats.{u32 as u32_format, u64 as u64_format, s32, s64, s33};
-ghost use Rattle.wasm_base.specs.Groups.{signed_of};
+ghost use Rattle.wasm_base.specs.Groups.{groups, HasGroups, signed_of};
 ghost use Rattle.wasm_base.specs.Numbers.{wide};
 ghost use Rattle.wasm_base.specs.Reading.{Reads, ReadsNothing};
 ghost use Rattle.wasm_base.proofs.NumberLaws.{u32-alone};
@@ -12,7 +12,7 @@ use crate::fault::ReadFault;
 use crate::readable::Readable;
 use crate::shorten::Shorten;
 use std::alloc::Allocator;
-use wasm_base::{Encode, Groups, R, read_groups};
+use wasm_base::{Encode, Groups, NoGroups, R, read_groups};
 
 /// The number that the groups spell in two's complement.
 fn signed(groups: Groups) -> i128
@@ -39,6 +39,131 @@ fn signed_byte(group: u8) -> i16
     }
 }
 
+/// At most five groups, as [`Groups`] has them, in 64 bits.
+#[derive(Clone, Copy)]
+struct FewGroups {
+    sum: u64,
+    power: u64,
+    last: u8,
+}
+
+/// The groups at the front, of which there may be five, and the bytes after them.
+#[inline]
+fn read_few_groups(bytes: &[u8]) -> Result<(FewGroups, &[u8]), NoGroups>
+    ensures found { IfOk result (λ x. HasGroups 5 bytes.now x.0.sum x.0.power x.0.last x.1.now) }
+    ensures power { IfOk result (λ x. x.0.power ≤ 2 ^ 35) }
+    ensures below { IfOk result (λ x. x.0.sum < x.0.power) }
+    ensures none { IfErr result (λ _. ReadsNothing (groups 5) wide bytes.now) }
+{
+    let mut rest = bytes;
+    let mut sum: u64 = 0;
+    let mut power: u64 = 1;
+    for _group in 0..5u8 {
+        let [b, after @ ..] = rest else {
+            return Err(NoGroups::Ended);
+        };
+        sum += power * u64::from(*b % 0x80);
+        power *= 0x80;
+        if *b < 0x80 {
+            let few = FewGroups {
+                sum,
+                power,
+                last: *b,
+            };
+            return Ok((few, after));
+        }
+        rest = after;
+    }
+    Err(NoGroups::TooMany)
+}
+
+/// The number that a few groups spell in two's complement.
+#[inline]
+fn signed_few(groups: FewGroups) -> i64
+    requires { groups.sum < 2 ^ 35 × groups.power ≤ 2 ^ 35 }
+    ensures { result ≡ signed_of groups.sum groups.power groups.last }
+{
+    if groups.last < 0x40 {
+        groups.sum as i64
+    } else {
+        groups.sum as i64 - groups.power as i64
+    }
+}
+
+/// A number of 32 bits. Out of line, for those of several bytes.
+#[inline(never)]
+#[tactic(auto, using(crate::proofs::ReadNumbers::u32_steps))]
+fn read_long_u32(bytes: &[u8]) -> Result<(u32, &[u8]), ReadFault>
+    ensures found { IfOk result (λ x. Reads u32_format wide bytes.now x.0 x.1.now) }
+    ensures none { IfErr result (λ e. e ≢ Memory → ReadsNothing u32_format wide bytes.now) }
+{
+    let (groups, rest) = read_few_groups(bytes)?;
+    if groups.sum < 1 << 32 {
+        Ok((groups.sum as u32, rest))
+    } else {
+        Err(ReadFault::TooLarge)
+    }
+}
+
+/// A number of 64 bits. Out of line, for those of several bytes.
+#[inline(never)]
+#[tactic(auto, using(crate::proofs::ReadNumbers::u64_steps))]
+fn read_long_u64(bytes: &[u8]) -> Result<(u64, &[u8]), ReadFault>
+    ensures found { IfOk result (λ x. Reads u64_format wide bytes.now x.0 x.1.now) }
+    ensures none { IfErr result (λ e. e ≢ Memory → ReadsNothing u64_format wide bytes.now) }
+{
+    if let Ok((groups, rest)) = read_few_groups(bytes) {
+        return Ok((groups.sum, rest));
+    }
+    let (groups, rest) = read_groups(bytes, 10)?;
+    if groups.sum < 1 << 64 {
+        Ok((groups.sum as u64, rest))
+    } else {
+        Err(ReadFault::TooLarge)
+    }
+}
+
+/// A signed number of 32 bits. Out of line, for those of several bytes.
+#[inline(never)]
+#[tactic(auto, using(crate::proofs::ReadNumbers::s32_steps))]
+fn read_long_i32(bytes: &[u8]) -> Result<(i32, &[u8]), ReadFault>
+    ensures found { IfOk result (λ x. Reads s32 wide bytes.now x.0 x.1.now) }
+    ensures none { IfErr result (λ e. e ≢ Memory → ReadsNothing s32 wide bytes.now) }
+{
+    let (groups, rest) = read_few_groups(bytes)?;
+    let value = signed_few(groups);
+    if value < -0x8000_0000 {
+        return Err(ReadFault::TooLarge);
+    }
+    if value < 0x8000_0000 {
+        Ok((value as i32, rest))
+    } else {
+        Err(ReadFault::TooLarge)
+    }
+}
+
+/// A signed number of 64 bits. Out of line, for those of several bytes.
+#[inline(never)]
+#[tactic(auto, using(crate::proofs::ReadNumbers::s64_steps))]
+fn read_long_i64(bytes: &[u8]) -> Result<(i64, &[u8]), ReadFault>
+    ensures found { IfOk result (λ x. Reads s64 wide bytes.now x.0 x.1.now) }
+    ensures none { IfErr result (λ e. e ≢ Memory → ReadsNothing s64 wide bytes.now) }
+{
+    if let Ok((groups, rest)) = read_few_groups(bytes) {
+        return Ok((signed_few(groups), rest));
+    }
+    let (groups, rest) = read_groups(bytes, 10)?;
+    let value = signed(groups);
+    if value < -0x8000_0000_0000_0000 {
+        return Err(ReadFault::TooLarge);
+    }
+    if value < 0x8000_0000_0000_0000 {
+        Ok((value as i64, rest))
+    } else {
+        Err(ReadFault::TooLarge)
+    }
+}
+
 impl<'a, A: Allocator + Copy> Readable<'a, A> for u32 {
     ghost Value = { ℕ };
 
@@ -56,12 +181,7 @@ impl<'a, A: Allocator + Copy> Readable<'a, A> for u32 {
                 return Ok((u32::from(*b), rest));
             }
         }
-        let (groups, rest) = read_groups(bytes, 5)?;
-        if groups.sum < 1 << 32 {
-            Ok((groups.sum as u32, rest))
-        } else {
-            Err(ReadFault::TooLarge)
-        }
+        read_long_u32(bytes)
     }
 }
 
@@ -82,12 +202,7 @@ impl<'a, A: Allocator + Copy> Readable<'a, A> for u64 {
                 return Ok((u64::from(*b), rest));
             }
         }
-        let (groups, rest) = read_groups(bytes, 10)?;
-        if groups.sum < 1 << 64 {
-            Ok((groups.sum as u64, rest))
-        } else {
-            Err(ReadFault::TooLarge)
-        }
+        read_long_u64(bytes)
     }
 }
 
@@ -108,16 +223,7 @@ impl<'a, A: Allocator + Copy> Readable<'a, A> for i32 {
                 return Ok((i32::from(signed_byte(*b)), rest));
             }
         }
-        let (groups, rest) = read_groups(bytes, 5)?;
-        let value = signed(groups);
-        if value < -0x8000_0000 {
-            return Err(ReadFault::TooLarge);
-        }
-        if value < 0x8000_0000 {
-            Ok((value as i32, rest))
-        } else {
-            Err(ReadFault::TooLarge)
-        }
+        read_long_i32(bytes)
     }
 }
 
@@ -138,16 +244,7 @@ impl<'a, A: Allocator + Copy> Readable<'a, A> for i64 {
                 return Ok((i64::from(signed_byte(*b)), rest));
             }
         }
-        let (groups, rest) = read_groups(bytes, 10)?;
-        let value = signed(groups);
-        if value < -0x8000_0000_0000_0000 {
-            return Err(ReadFault::TooLarge);
-        }
-        if value < 0x8000_0000_0000_0000 {
-            Ok((value as i64, rest))
-        } else {
-            Err(ReadFault::TooLarge)
-        }
+        read_long_i64(bytes)
     }
 }
 
@@ -158,7 +255,7 @@ pub(crate) fn read_index(bytes: &[u8]) -> Result<(u32, &[u8]), ReadFault>
     ensures found { IfOk result (λ x. Reads s33 wide bytes.now x.0 x.1.now) }
     ensures none { IfErr result (λ e. e ≢ Memory → ReadsNothing s33 wide bytes.now) }
 {
-    let (groups, rest) = read_groups(bytes, 5)?;
+    let (groups, rest) = read_few_groups(bytes)?;
     if groups.last >= 0x40 {
         return Err(ReadFault::UnknownTag);
     }

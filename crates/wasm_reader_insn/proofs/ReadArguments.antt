@@ -76,6 +76,19 @@ shape_nothing shape ps bytes e n = subst (λ qs. ReadsNothing (arguments qs) wid
 
 pub ruleset shape_steps = (shape_reads, shape_nothing)
 
+-- ---- a shape of one part
+
+module _ (shape : Shape) (p : Part) (e : parts_of shape ≡ p ∷ []) (bytes : List ℕ) where
+  pub one_read : {A : Type 0} (rest last : List ℕ) (x : Arg A) (items : List (Arg A)) → Reads (part p) wide bytes (argument_of x) rest → items ≡ x ∷ [] → last ≡ rest → Reads (arguments (parts_of shape)) wide bytes (map argument_of items) last
+  one_read rest last x items h i l =
+      let none : List Argument = [] in
+      let one : Reads (arguments (p ∷ [])) wide bytes (argument_of x ∷ none) rest = mapped_reads cons (then_reads h (fixed_reads rest none)) in
+      let listed : Reads (arguments (p ∷ [])) wide bytes (map argument_of items) rest = subst (λ z. Reads (arguments (p ∷ [])) wide bytes (map argument_of z) rest) (sym i) one in
+      subst (λ ps. Reads (arguments ps) wide bytes (map argument_of items) last) (sym e) (subst (λ z. Reads (arguments (p ∷ [])) wide bytes (map argument_of items) z) (sym l) listed)
+
+  pub one_nothing : ReadsNothing (part p) wide bytes → ReadsNothing (arguments (parts_of shape)) wide bytes
+  one_nothing n = subst (λ ps. ReadsNothing (arguments ps) wide bytes) (sym e) (mapped_nothing cons (then_nothing_first n))
+
 -- ---- each part
 
 pub unsigned_reads : (bytes rest : List ℕ) (v : ℕ) → Reads u32 wide bytes v rest → Reads (part parts.Unsigned) wide bytes (unsigned v) rest

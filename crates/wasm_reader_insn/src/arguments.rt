@@ -1,5 +1,5 @@
 // The arguments of instructions.
-ghost use Rattle.std.specs.Prelude.{◌≡◌, ◌≢◌, ◌++◌, [], IfOk, IfErr, OnOk, map};
+ghost use Rattle.std.specs.Prelude.{◌≡◌, ◌≢◌, ◌++◌, [], ◌∷◌, IfOk, IfErr, OnOk, map};
 ghost use Rattle.std.specs.List.{flat_map};
 ghost use Rattle.wasm_base.specs.Numbers.{wide};
 ghost use Rattle.wasm_base.specs.Reading.{Reads, ReadsNothing};
@@ -45,6 +45,7 @@ pub enum Arg<A: Allocator = Global> {
 }
 
 /// A number.
+#[inline(always)]
 #[tactic(auto, using(crate::proofs::ReadArguments::unsigned_part))]
 fn read_unsigned<'a, A: Allocator + Copy>(
     bytes: &'a [u8],
@@ -58,6 +59,7 @@ fn read_unsigned<'a, A: Allocator + Copy>(
 }
 
 /// A signed number of 32 bits.
+#[inline(always)]
 #[tactic(auto, using(crate::proofs::ReadArguments::signed32_part))]
 fn read_signed32<'a, A: Allocator + Copy>(
     bytes: &'a [u8],
@@ -71,6 +73,7 @@ fn read_signed32<'a, A: Allocator + Copy>(
 }
 
 /// A signed number of 64 bits.
+#[inline(always)]
 #[tactic(auto, using(crate::proofs::ReadArguments::signed64_part))]
 fn read_signed64<'a, A: Allocator + Copy>(
     bytes: &'a [u8],
@@ -126,7 +129,7 @@ fn read_vector<'a, A: Allocator + Copy>(
 }
 
 /// A memory argument.
-#[inline(never)]
+#[inline(always)]
 #[tactic(auto, using(crate::proofs::ReadArguments::memory_part))]
 fn read_memory<'a, A: Allocator + Copy>(
     bytes: &'a [u8],
@@ -167,7 +170,7 @@ fn read_lanes<'a, A: Allocator + Copy>(
 }
 
 /// A block type.
-#[inline(never)]
+#[inline(always)]
 #[tactic(auto, using(crate::proofs::ReadArguments::block_part))]
 fn read_block<'a, A: Allocator + Copy>(
     bytes: &'a [u8],
@@ -331,9 +334,10 @@ fn read_parts<'a, A: Allocator + Copy>(
     Ok(rest)
 }
 
-/// The arguments that follow an op of the shape, in memory of just their number.
+/// The arguments of any shape, in memory of just their number. Out of line, for those that are rare.
+#[inline(never)]
 #[tactic(auto, using(crate::proofs::ReadArguments::shape_steps))]
-pub(crate) fn read_arguments<'a, A: Allocator + Copy>(
+fn read_any<'a, A: Allocator + Copy>(
     shape: Shape,
     bytes: &'a [u8],
     alloc: A,
@@ -347,9 +351,46 @@ pub(crate) fn read_arguments<'a, A: Allocator + Copy>(
     Ok((args, rest))
 }
 
-/// The arguments that follow an op of the shape, in the memory of the list, which loses what it had.
+/// The list of the one argument that was read, and the bytes after it.
+#[inline(always)]
+fn list_one<'a, A: Allocator + Copy>(
+    alloc: A,
+    read: (Arg<A>, &'a [u8]),
+) -> Result<(Vec<Arg<A>, A>, &'a [u8]), ReadFault>
+    ensures listed { IfOk result (λ x. (x.0.items ≡ read.entry.0 ∷ []) × (x.1.now ≡ read.entry.1.now)) }
+    ensures refused { IfErr result (λ e. e ≡ Memory) }
+{
+    let (arg, rest) = read;
+    let mut args = Vec::with_capacity(alloc, 1)?;
+    args.push_reserved(arg);
+    Ok((args, rest))
+}
+
+/// The arguments that follow an op of the shape, in memory of just their number. Those of common shapes are read in place.
+#[inline]
+pub(crate) fn read_arguments<'a, A: Allocator + Copy>(
+    shape: Shape,
+    bytes: &'a [u8],
+    alloc: A,
+) -> Result<(Vec<Arg<A>, A>, &'a [u8]), ReadFault>
+    ensures found { IfOk result (λ x. Reads (arguments (parts_of shape)) wide bytes.now (map argument_of x.0.items) x.1.now) }
+    ensures none { IfErr result (λ e. e ≢ Memory → ReadsNothing (arguments (parts_of shape)) wide bytes.now) }
+{
+    match shape {
+        Shape::Nothing => Ok((Vec::new(alloc), bytes)),
+        Shape::U => list_one(alloc, read_unsigned(bytes, alloc)?),
+        Shape::M => list_one(alloc, read_memory(bytes, alloc)?),
+        Shape::C32 => list_one(alloc, read_signed32(bytes, alloc)?),
+        Shape::C64 => list_one(alloc, read_signed64(bytes, alloc)?),
+        Shape::B => list_one(alloc, read_block(bytes, alloc)?),
+        _ => read_any(shape, bytes, alloc),
+    }
+}
+
+/// The arguments of any shape, in the memory of the list. Out of line, for those that are rare.
+#[inline(never)]
 #[tactic(auto, using(crate::proofs::ReadArguments::shape_steps))]
-pub(crate) fn read_arguments_into<'a, A: Allocator + Copy>(
+fn read_any_into<'a, A: Allocator + Copy>(
     shape: Shape,
     bytes: &'a [u8],
     alloc: A,
@@ -360,6 +401,50 @@ pub(crate) fn read_arguments_into<'a, A: Allocator + Copy>(
 {
     args.clear();
     read_parts(shape.parts(), bytes, alloc, args)
+}
+
+/// Makes the argument that was read the only one of the list, and answers the bytes after it.
+#[inline(always)]
+fn keep_one<'a, A: Allocator + Copy>(
+    args: &mut Vec<Arg<A>, A>,
+    read: (Arg<A>, &'a [u8]),
+) -> Result<&'a [u8], ReadFault>
+    ensures kept { IfOk result (λ rest. (args.new.items ≡ read.entry.0 ∷ []) × (rest.now ≡ read.entry.1.now)) }
+    ensures refused { IfErr result (λ e. e ≡ Memory) }
+{
+    let (arg, rest) = read;
+    if let [one] = &mut args[..] {
+        *one = arg;
+        return Ok(rest);
+    }
+    args.clear();
+    args.push(arg)?;
+    Ok(rest)
+}
+
+/// The arguments that follow an op of the shape, in the memory of the list, which loses what it had. Those of common shapes are read in place.
+#[inline]
+pub(crate) fn read_arguments_into<'a, A: Allocator + Copy>(
+    shape: Shape,
+    bytes: &'a [u8],
+    alloc: A,
+    args: &mut Vec<Arg<A>, A>,
+) -> Result<&'a [u8], ReadFault>
+    ensures found { IfOk result (λ rest. Reads (arguments (parts_of shape)) wide bytes.now (map argument_of args.new.items) rest.now) }
+    ensures none { IfErr result (λ e. e ≢ Memory → ReadsNothing (arguments (parts_of shape)) wide bytes.now) }
+{
+    match shape {
+        Shape::Nothing => {
+            args.clear();
+            Ok(bytes)
+        }
+        Shape::U => keep_one(args, read_unsigned(bytes, alloc)?),
+        Shape::M => keep_one(args, read_memory(bytes, alloc)?),
+        Shape::C32 => keep_one(args, read_signed32(bytes, alloc)?),
+        Shape::C64 => keep_one(args, read_signed64(bytes, alloc)?),
+        Shape::B => keep_one(args, read_block(bytes, alloc)?),
+        _ => read_any_into(shape, bytes, alloc, args),
+    }
 }
 
 /// Appends the text of the argument.

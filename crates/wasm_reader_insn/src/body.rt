@@ -1,18 +1,25 @@
 // Lists of instructions up to the last byte, and functions' bodies.
-ghost use Rattle.std.specs.Prelude.{List, OnOk, map};
+ghost use Rattle.std.specs.Prelude.{◌≢◌, List, IfErr, OnOk, map};
 ghost use Rattle.wasm_base.specs.Formats.{members, frame};
+ghost use Rattle.wasm_base.specs.Going.{FillsNothing};
+ghost use Rattle.wasm_base.specs.Numbers.{wide};
 ghost use Rattle.wasm_insn.specs.Plain.{Plain as PlainInstruction, instruction};
 ghost use Rattle.wasm_insn.specs.Table.{table};
 ghost use Rattle.wasm_insn.proofs.InstructionLaws.{lists-whole};
 ghost use Rattle.wasm_code.specs.Bodies.{Body as BodyModel, body};
 ghost use Rattle.wasm_code.proofs.BodyLaws.{body-whole, frame-body-alone};
 ghost use Rattle.wasm_reader_base.specs.Shortest.{AppendsShortest};
+ghost use Rattle.wasm_reader_base.specs.declared.fault.ReadFault.TheVariants.{Memory};
 ghost use Rattle.wasm_reader_insn.specs.Arguments.{plain_of, body_of};
 
-use crate::instruction::Plain;
+use crate::instruction::{Plain, append_instruction};
+use crate::walk::Instructions;
 use std::alloc::{Allocator, Global};
 use wasm_base::{R, ValType};
 use wasm_reader_base::{Filled, Filling, ReadFault, Readable, Shorten, frame_since};
+
+/// A list is made with room for an instruction of so many bytes each, and grows where they are shorter.
+const BYTES_OF_ONE: usize = 4;
 
 /// Instructions up to the last byte.
 #[derive(Debug, Drop)]
@@ -28,7 +35,7 @@ impl<'a, A: Allocator + Copy> Filling<'a, A> for Code<A> {
     ghost whole = { lists-whole };
 
     fn fill(bytes: &'a [u8], alloc: A) -> Result<Code<A>, ReadFault> {
-        let mut items = Vec::new(alloc);
+        let mut items = Vec::with_capacity(alloc, bytes.len() / BYTES_OF_ONE)?;
         let mut rest = bytes;
         loop {
             if rest.is_empty() {
@@ -110,4 +117,29 @@ impl<A: Allocator> Shorten for Body<A> {
         append_code(&self.code, out)?;
         frame_since(out, start)
     }
+}
+
+/// Appends the shortest text of a body in its frame, as it stands in a code section. The bytes are those of the body without its size. It
+/// goes over the instructions and keeps one of them. After an error a part of the text may stand there.
+///
+/// ```text
+/// shorten_body(&[0x80, 0x00, 0x20, 0x81, 0x00, 0x0B], alloc, &mut out)?;
+/// // 04 00 20 01 0B was appended: a body of no locals, `LocalGet(1)` and `End`
+/// ```
+pub fn shorten_body<A: Allocator + Copy, B: Allocator>(
+    bytes: &[u8],
+    alloc: A,
+    out: &mut Vec<u8, B>,
+) -> Result<(), ReadFault>
+    ensures found { OnOk result ((x : BodyModel) × body wide bytes.now x × AppendsShortest (frame body) x out.old.items out.new.items) }
+    ensures none { IfErr result (λ e. e ≢ Memory → FillsNothing body bytes.now) }
+{
+    let start = out.len();
+    let (runs, mut instructions) = Instructions::of_body(bytes, alloc)?;
+    runs.append_shortest(out)?;
+    while let Some(step) = instructions.next()? {
+        append_instruction(step.op, instructions.args(), out)?;
+    }
+    frame_since(out, start)?;
+    Ok(())
 }

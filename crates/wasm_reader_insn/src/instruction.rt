@@ -1,11 +1,12 @@
 // Instructions: an opcode, and an argument for each part of its shape.
-ghost use Rattle.std.specs.Prelude.{◌≡◌, ◌≢◌, IfOk, IfErr, map};
+ghost use Rattle.std.specs.Prelude.{◌≡◌, ◌≢◌, IfOk, IfErr, OnOk, map};
 ghost use Rattle.wasm_base.specs.Numbers.{wide};
 ghost use Rattle.wasm_base.specs.Reading.{Reads, ReadsNothing};
 ghost use Rattle.wasm_insn.specs.Plain.{Plain as PlainInstruction, opcode, instruction};
 ghost use Rattle.wasm_insn.specs.Table.{table};
 ghost use Rattle.wasm_insn.proofs.InstructionLaws.{alone};
 ghost use Rattle.wasm_insn.proofs.PlainLaws.{opcode-alone};
+ghost use Rattle.wasm_reader_base.specs.Shortest.{AppendsShortest};
 ghost use Rattle.wasm_reader_base.specs.declared.fault.ReadFault.TheVariants.{Memory};
 ghost use Rattle.wasm_reader_insn.specs.Arguments.{argument_of, plain_of};
 
@@ -79,6 +80,18 @@ pub(crate) fn read_instruction_into<'a, A: Allocator + Copy>(
     Ok((op, rest))
 }
 
+/// Appends the shortest text of the instruction.
+pub(crate) fn append_instruction<A: Allocator, B: Allocator>(
+    op: Op,
+    args: &[Arg<A>],
+    out: &mut Vec<u8, B>,
+) -> R<()>
+    ensures { OnOk result (AppendsShortest (instruction table) (record { op = op; arguments = map argument_of args.now }) out.old.items out.new.items) }
+{
+    op.encode(out)?;
+    append_arguments(args, out)
+}
+
 impl<A: Allocator> Shorten for Plain<A> {
     ghost Value = { PlainInstruction };
 
@@ -87,7 +100,6 @@ impl<A: Allocator> Shorten for Plain<A> {
     ghost view = { plain_of };
 
     fn append_shortest<B: Allocator>(&self, out: &mut Vec<u8, B>) -> R<()> {
-        self.op.encode(out)?;
-        append_arguments(&self.args, out)
+        append_instruction(self.op, &self.args, out)
     }
 }

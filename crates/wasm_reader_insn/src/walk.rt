@@ -105,6 +105,7 @@ impl<'a, A: Allocator + Copy> Instructions<'a, A> {
         ensures found { IfOk result (λ next. IfSome next (λ step. Reads (instruction table) wide (ahead self.old) (record { op = step.op; arguments = self.new.arguments }) (ahead self.new))) }
         ensures further { IfOk result (λ next. IfSome next (λ _. (self.old.place < self.new.place) × (self.new.place ≤ length self.new.bytes))) }
         ensures end { IfOk result (λ next. next ≡ None → ahead self.old ≡ []) }
+        ensures ended { IfOk result (λ next. next ≡ None → self.new ≡ self.old) }
         ensures same { self.new.bytes ≡ self.old.bytes }
         ensures stays { IfErr result (λ _. self.new.place ≡ self.old.place) }
         ensures none { IfErr result (λ e. e ≢ Memory → ReadsNothing (instruction table) wide (ahead self.old)) }
@@ -124,6 +125,7 @@ impl<'a, A: Allocator + Copy> Instructions<'a, A> {
         ensures found { IfOk result (λ next. IfSome next (λ step. Reads (such IsNoEnd (instruction table)) wide (ahead self.old) (record { op = step.op; arguments = self.new.arguments }) (ahead self.new))) }
         ensures further { IfOk result (λ next. IfSome next (λ _. (self.old.place < self.new.place) × (self.new.place ≤ length self.new.bytes))) }
         ensures end { IfOk result (λ next. next ≡ None → ahead self.old ≡ 0x0B ∷ drop (self.old.place + 1) self.old.bytes) }
+        ensures ended { IfOk result (λ next. next ≡ None → self.new ≡ self.old) }
         ensures same { self.new.bytes ≡ self.old.bytes }
         ensures stays { IfErr result (λ _. self.new.place ≡ self.old.place) }
         ensures none { IfErr result (λ e. e ≢ Memory → ReadsNothing expression wide (ahead self.old)) }

@@ -1,7 +1,7 @@
 //! Callers of the reader, which prove what it answers.
-ghost use Rattle.std.specs.Prelude.{◌≡◌, ◌≢◌, ◌++◌, [], ◌∷◌, ℕ, List, IfOk, IfErr, OnOk, OnErr};
+ghost use Rattle.std.specs.Prelude.{◌≡◌, ◌≢◌, ◌≤◌, ◌++◌, [], ◌∷◌, ℕ, List, length, IfOk, IfErr, OnOk, OnErr};
 ghost use Rattle.wasm_base.specs.Entries.{counted_format};
-ghost use Rattle.wasm_base.specs.Formats.{u32 as u32_format, frame};
+ghost use Rattle.wasm_base.specs.Formats.{u32 as u32_format, frame, wasm_module};
 ghost use Rattle.wasm_base.specs.Modules.{GainsReading};
 ghost use Rattle.wasm_custom.specs.Names.{Module, Map};
 ghost use Rattle.wasm_custom.specs.Readings.{name_payload};
@@ -14,7 +14,9 @@ ghost use Rattle.wasm_reader.specs.declared.section.SectionKind.TheVariants as k
 use std::alloc::Allocator;
 use wasm_base::{Encode, R};
 use wasm_custom::{NameMap, NameSection};
-use wasm_reader::{Items, SectionKind, read_section, shorten};
+use wasm_reader::{
+    Items, ModuleFault, Offsets, SectionKind, laws, read_section, shorten, shorten_module,
+};
 use wasm_reader_base::ReadFault;
 use wasm_sections::FunctionSection;
 
@@ -41,7 +43,7 @@ pub fn written_function<'a, A: Allocator + Copy>(
         Ok(()) => {}
         Err(_) => return Err(ReadFault::Memory),
     }
-    let (items, _taken) = read_section(SectionKind::Functions, text.as_slice(), alloc)?;
+    let (items, _taken) = read_section(alloc, SectionKind::Functions, text.as_slice())?;
     Ok(items)
 }
 
@@ -56,12 +58,11 @@ pub fn shortened_function<A: Allocator + Copy>(
     ensures err { OnErr result (sink.new.items ≡ sink.old.items) }
     ensures memory { IfErr result (λ e. e ≢ Memory → ⊥) }
 {
-    let alloc = *text.allocator();
     match write_function(text, index) {
         Ok(()) => {}
         Err(_) => return Err(ReadFault::Memory),
     }
-    let taken = shorten(SectionKind::Functions, text.as_slice(), alloc, sink)?;
+    let taken = shorten(SectionKind::Functions, text.as_slice(), sink)?;
     Ok(taken)
 }
 
@@ -83,8 +84,8 @@ pub fn padded_function<'a, A: Allocator + Copy>(
         Ok(()) => {}
         Err(_) => return Err(ReadFault::Memory),
     }
-    let (items, _taken) = read_section(SectionKind::Functions, padded, alloc)?;
-    let _taken = shorten(SectionKind::Functions, padded, alloc, sink)?;
+    let (items, _taken) = read_section(alloc, SectionKind::Functions, padded)?;
+    let _taken = shorten(SectionKind::Functions, padded, sink)?;
     Ok(items)
 }
 
@@ -115,6 +116,34 @@ pub fn written_names<'a, A: Allocator + Copy>(
         Ok(()) => {}
         Err(_) => return Err(ReadFault::Memory),
     }
-    let (items, _taken) = read_section(SectionKind::Names, text.as_slice(), alloc)?;
+    let (items, _taken) = read_section(alloc, SectionKind::Names, text.as_slice())?;
     Ok(items)
+}
+
+/// Shortens a module into an empty buffer: what stands there is a module, and no longer.
+#[tactic(auto, using(wasm_reader::proofs::Calls::module_comes, wasm_reader::proofs::Calls::module_no_longer))]
+pub fn smaller_module<A: Allocator + Copy>(
+    bytes: &[u8],
+    sink: &mut Vec<u8, A>,
+) -> Result<usize, ModuleFault>
+    requires { sink.old.items ≡ [] }
+    ensures is_module { OnOk result ((sections : List (ℕ × List ℕ)) × wasm_module wide sink.new.items sections) }
+    ensures no_longer { OnOk result (length sink.new.items ≤ length bytes.now) }
+{
+    shorten_module(bytes, Offsets::Refuse, sink)
+}
+
+/// Shortens a module, and then what came of it: both are the same.
+#[tactic(auto, using(wasm_reader::proofs::Calls::module_stays))]
+pub fn shortened_twice<A: Allocator + Copy>(
+    bytes: &[u8],
+    once: &mut Vec<u8, A>,
+    twice: &mut Vec<u8, A>,
+) -> Result<usize, ModuleFault>
+    requires { once.old.items ≡ [] × twice.old.items ≡ [] }
+    ensures same { OnOk result (twice.new.items ≡ once.new.items) }
+{
+    laws::shortened();
+    shorten_module(bytes, Offsets::LeaveOut, once)?;
+    shorten_module(once, Offsets::LeaveOut, twice)
 }

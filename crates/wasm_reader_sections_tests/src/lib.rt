@@ -22,3 +22,5 @@ mod rows;
 mod seen;
 #[cfg(test)]
 mod shortest;
+#[cfg(test)]
+mod whole;

@@ -24,7 +24,7 @@ fn check_lines(rt: &impl Abort, given: &[Listed], expected: &[(u8, u32, Option<u
 /// The module of these sections has these lines.
 fn check(rt: &impl Abort, alloc: Global, sections: &[u8], expected: &[(u8, u32, Option<u32>)]) {
     let bytes = module(alloc, sections).expect(rt, "accepted");
-    match list_module(&bytes, alloc) {
+    match list_module(alloc, &bytes) {
         Ok(lines) => check_lines(rt, &lines, expected),
         Err(_) => panic!(rt; "no module"),
     }
@@ -32,7 +32,7 @@ fn check(rt: &impl Abort, alloc: Global, sections: &[u8], expected: &[(u8, u32, 
 
 /// Where the bytes are no module, and why.
 fn check_stop(rt: &impl Abort, alloc: Global, bytes: &[u8], expected: (usize, ReadFault)) {
-    let stop = match list_module(bytes, alloc) {
+    let stop = match list_module(alloc, bytes) {
         Ok(_) => None,
         Err(stop) => Some(stop),
     };

@@ -1,5 +1,6 @@
 // Each request for memory refused in turn: the cause is `Memory`.
 use crate::checks::MOST;
+use crate::faults;
 use std::alloc::Global;
 use std::process::Abort;
 use test_support::Refusing;
@@ -15,11 +16,11 @@ enum Question {
 
 fn answer(heap: &Refusing<Global>, question: Question, bytes: &[u8]) -> Option<ReadFault> {
     match question {
-        Question::Section(kind) => match read_section(kind, bytes, heap) {
+        Question::Section(kind) => match read_section(heap, kind, bytes) {
             Ok(_) => None,
             Err(fault) => Some(fault),
         },
-        Question::Module => match list_module(bytes, heap) {
+        Question::Module => match list_module(heap, bytes) {
             Ok(_) => None,
             Err((_, fault)) => Some(fault),
         },
@@ -30,21 +31,21 @@ fn check_answer(rt: &impl Abort, given: Option<ReadFault>, expected: Option<Read
     assert_eq!(rt; given, expected);
 }
 
-/// The cause is `Memory` where a request is refused. So many requests are made.
+/// The cause is `Memory` where a request is refused, and this one, if any, where none is. Answers which request was the first that
+/// was not made.
 fn check(
     rt: &impl Abort,
     heap: &Refusing<Global>,
     question: Question,
     bytes: &[u8],
-    requests: u64,
-) {
+    expected: Option<ReadFault>,
+) -> u64 {
     for nth in 1..MOST {
         heap.refuse(nth);
         let given = answer(heap, question, bytes);
         if heap.is_waiting() {
-            check_answer(rt, given, None);
-            assert_eq!(rt; nth, requests.saturating_add(1));
-            return;
+            check_answer(rt, given, expected);
+            return nth;
         }
         check_answer(rt, given, Some(ReadFault::Memory));
     }
@@ -54,7 +55,7 @@ fn check(
 /// A question, the bytes, and how many requests are made.
 type Row = (Question, &'static [u8], u64);
 
-static ROWS: [Row; 28] = [
+static ROWS: [Row; 29] = [
     (Question::Section(SectionKind::Functions), &[2, 1, 5], 1),
     (
         Question::Section(SectionKind::Bodies),
@@ -166,13 +167,28 @@ static ROWS: [Row; 28] = [
         &[8, 1, 0x4E, 1, 0x50, 1, 3, 0x5D, 1],
         3,
     ),
-    (Question::Module, b"\0asm\x01\0\0\0\x03\x02\x01\x05", 2),
+    (Question::Module, b"\0asm\x01\0\0\0\x03\x02\x01\x05", 1),
+    (
+        Question::Module,
+        b"\0asm\x01\0\0\0\x0A\x06\x01\x04\x00\x20\x00\x0B",
+        2,
+    ),
 ];
 
 #[test]
 fn requests(rt: HostRuntime) {
     let heap = Refusing::new(rt.alloc());
     for (question, bytes, requests) in ROWS.iter() {
-        check(&rt, &heap, *question, bytes, *requests);
+        let first = check(&rt, &heap, *question, bytes, None);
+        assert_eq!(rt; first, requests.saturating_add(1));
+    }
+}
+
+/// Where no section stands, too.
+#[test]
+fn faults_with_requests(rt: HostRuntime) {
+    let heap = Refusing::new(rt.alloc());
+    for (kind, bytes, fault) in faults::ROWS.iter() {
+        let _first = check(&rt, &heap, Question::Section(*kind), bytes, Some(*fault));
     }
 }

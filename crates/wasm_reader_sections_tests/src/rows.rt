@@ -2,7 +2,7 @@
 use crate::seen::{Seen, read};
 use std::alloc::Global;
 use std::process::Abort;
-use wasm_base::{RefType, ValType};
+use wasm_base::{R, RefType, ValType};
 use wasm_insn::Op;
 use wasm_reader::SectionKind;
 use wasm_sections::{EntityType, ExportKind, GlobalType, MemoryType, TableType, TagKind, TagType};
@@ -224,6 +224,28 @@ fn rows(rt: HostRuntime) {
     for (kind, bytes, seen) in PADDED.iter() {
         check(&rt, rt.alloc(), *kind, bytes, *seen, bytes.len());
     }
+}
+
+const DATA: [u8; 128] = [9; 128];
+
+/// These bytes, and the data behind them.
+pub(crate) fn before_data(alloc: Global, front: &[u8]) -> R<Vec<u8>> {
+    let mut bytes = Vec::from_slice(alloc, front)?;
+    bytes.extend_from_slice(&DATA)?;
+    Ok(bytes)
+}
+
+#[test]
+fn passive_data_of_128_bytes(rt: HostRuntime) {
+    let section = before_data(rt.alloc(), &[0x84, 1, 1, 1, 0x80, 1]).expect(&rt, "accepted");
+    check(
+        &rt,
+        rt.alloc(),
+        SectionKind::Segments,
+        &section,
+        Seen::Passive(&DATA),
+        134,
+    );
 }
 
 /// What follows a section is left.

@@ -146,7 +146,7 @@ pub(crate) fn read<'a>(
     kind: SectionKind,
     bytes: &'a [u8],
 ) -> Option<(Seen<'a>, usize)> {
-    match read_section(kind, bytes, alloc) {
+    match read_section(alloc, kind, bytes) {
         Ok((items, taken)) => Some((items_seen(&items), taken)),
         Err(_) => None,
     }

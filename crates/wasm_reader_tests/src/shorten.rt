@@ -1,11 +1,11 @@
 // What was read is written in its fewest bytes.
-use crate::checks::check_bytes;
+use crate::checks::{check_bytes, check_cause};
 use std::alloc::Global;
 use std::process::Abort;
 use test_support::Refusing;
 use wasm_base::{Refused, ValType};
-use wasm_reader_base::{Filled, Framed, Readable, Shorten};
-use wasm_reader_insn::{Body, Expression, Plain};
+use wasm_reader_base::{Filled, Framed, ReadFault, Readable, Shorten};
+use wasm_reader_insn::{Body, Expression, Plain, shorten_body};
 
 /// More requests than any call here makes.
 const MOST: u64 = 100;
@@ -80,4 +80,43 @@ fn code(rt: HostRuntime) {
     check::<Plain>(&rt, alloc, &[0x28, 2, 0x90, 0], &[0x28, 2, 0x10]);
     check::<Expression>(&rt, alloc, &[0x41, 0x80, 0, 0x0B], &[0x41, 0, 0x0B]);
     check::<Body>(&rt, alloc, &[3, 0x80, 0, 0x0B], &[2, 0, 0x0B])
+}
+
+/// The body was written.
+fn check_written(rt: &impl Abort, given: Option<ReadFault>) {
+    assert_eq!(rt; given, None);
+}
+
+/// The body that the bytes are has this text in its frame, unless a request for memory is refused.
+fn check_body(rt: &impl Abort, alloc: Global, bytes: &[u8], text: &[u8]) {
+    let heap = Refusing::new(alloc);
+    for nth in 1..MOST {
+        heap.refuse(nth);
+        let mut out = Vec::new(&heap);
+        let fault = shorten_body(bytes, &heap, &mut out).err();
+        if heap.is_waiting() {
+            check_written(rt, fault);
+            check_bytes(rt, &out, text);
+            return;
+        }
+        check_cause(rt, fault, ReadFault::Memory);
+    }
+    panic!(rt; "no call was granted")
+}
+
+#[test]
+fn bodies(rt: HostRuntime) {
+    let alloc = rt.alloc();
+    check_body(&rt, alloc, &[0x80, 0, 0x0B], &[2, 0, 0x0B]);
+    check_body(
+        &rt,
+        alloc,
+        &[
+            0x81, 0, 0x82, 0, 0x7F, 0x20, 0x81, 0, 0x0E, 0x81, 0, 0, 1, 0x0B,
+        ],
+        &[10, 1, 2, 0x7F, 0x20, 1, 0x0E, 1, 0, 1, 0x0B],
+    );
+    let mut out = Vec::new(alloc);
+    let fault = shorten_body(&[0, 0x20], alloc, &mut out).err();
+    check_cause(&rt, fault, ReadFault::Ended)
 }

@@ -32,7 +32,7 @@ use Rattle.wasm_code.proofs.Calls.{all_of}
 use Rattle.wasm_code.specs.Expressions.{expression_text, StoresInstructions, StoresWide}
 use Rattle.wasm_sections.specs.Constants.{Stored, IsStored}
 use Rattle.wasm_sections.specs.DataSegments.{AddsBytes, active_text, passive_text, DataItem, active, passive, given_active, given_passive, data_item}
-use Rattle.wasm_sections.specs.Elements.{Segment, Place, functions, expressions, ElementsFit, IsPlace, settled, settled_text, IsSegment, IsSegmentWide, element_of, element}
+use Rattle.wasm_sections.specs.Elements.{Segment, Place, functions, expressions, ElementsFit, IsPlace, settled, settled_text, elements_by, stored_by, IsSegment, IsSegmentWide, element_of, element}
 use Rattle.wasm_sections.specs.Exports.{kind_code, export_text, IsExport, ExportItem, item_of, export}
 use Rattle.wasm_sections.specs.Globals.{global_text, IsGlobal, GlobalItem, global_item}
 use Rattle.wasm_sections.specs.Imports.{ImportItem, alike, import_text, ImportFits, IsEntity, import_format}
@@ -46,7 +46,7 @@ use Rattle.wasm_sections.specs.declared.table.TableType.{TableType}
 use Rattle.wasm_sections.specs.declared.tag.TagType.{TagType}
 use Rattle.wasm_base.proofs.HeldLaws.{holds_more}
 use Rattle.wasm_base.proofs.PartLaws.{pair_spelled}
-use Rattle.wasm_sections.proofs.ElementLaws.{elements_by, stored_by, stored_same}
+use Rattle.wasm_sections.proofs.ElementLaws.{stored_same}
 use Rattle.wasm_sections.proofs.HeldLaws.{tables-wide, globals-wide, data-wide, elements-wide}
 use Rattle.wasm_sections.proofs.Payloads.{functions-payload, tables-payload, memories-payload, globals-payload, exports-payload, elements-payload, data-payload, imports-payload, tags-payload}
 

@@ -25,8 +25,10 @@ use Rattle.wasm_immediates.specs.Immediates.{where_set}
 use Rattle.wasm_immediates.specs.PlainImmediates.{bit}
 use Rattle.wasm_insn.specs.Plain.{Plain}
 use Rattle.wasm_sections.specs.Constants.{Stored, IsStoredIn}
-use Rattle.wasm_sections.specs.Elements.{is_nullable_func, is_funcref, Place, passive, declared, active, ElementList, functions, expressions, Segment, needs_table, settled_place, settled, ElementFlag, flag_code, tells_kind, is_inactive, is_second, are_expressions, flag_of, place_text, elements_text, settled_text, stored_text, element_text, IsPlaceIn, AreElementsIn, IsSegmentIn, IsSegment, place_of, elements_of, said_by, element_of, in_no_table, in_table, place, list_of, elements_as, segment_of, element}
+use Rattle.wasm_sections.specs.Elements.{is_nullable_func, is_funcref, Place, passive, declared, active, ElementList, functions, expressions, Segment, needs_table, settled_place, settled, ElementFlag, flag_code, tells_kind, is_inactive, is_second, are_expressions, flag_of, place_text, elements_text, settled_text, stored_text, element_text, IsPlaceIn, AreElementsIn, IsSegmentIn, IsSegment, stored_by, place_of, elements_of, said_by, element_of, in_no_table, in_table, place, list_of, elements_as, segment_of, element}
 use Rattle.wasm_base.proofs.PartLaws.{pair_in, flag_spelled, numbered-alone}
+use Rattle.wasm_sections.specs.GivenElements.{HaveOneText}
+use Rattle.wasm_sections.specs.declared.element.ElementSegment.{ElementSegment}
 use Rattle.wasm_sections.proofs.ViewedLists.{viewed_text}
 
 -- ---- flags
@@ -210,19 +212,6 @@ element_laws = record { alone = element-alone; spelled = λ s plain fits. elemen
 
 -- ---- the bytes of a segment's expressions
 
-abbrev pub place_by : Place Stored → Place (List ℕ)
-place_by passive = passive
-place_by declared = declared
-place_by (active table offset) = active table offset.bytes
-
-abbrev pub elements_by : ElementList Stored → ElementList (List ℕ)
-elements_by (functions fs) = functions fs
-elements_by (expressions r es) = expressions r (map (λ e. e.bytes) es)
-
--- the segment, by the bytes of its expressions
-abbrev pub stored_by : Segment Stored → Segment (List ℕ)
-stored_by s = record { place = place_by s.place; elements = elements_by s.elements }
-
 -- Both have one text.
 pub stored_same : (s : Segment Stored) → element_text s ≡ settled_text expression_text (settled (stored_by s))
 stored_same s = same s.place s.elements
@@ -239,3 +228,6 @@ stored_same s = same s.place s.elements
     same (active table offset) (expressions r es) =
         let s = settled (record { place = active table offset; elements = expressions r es }) in
         ap (λ v. flag_code (flag_of s) ∷ (place_text stored_text s.place ++ (cond (tells_kind (flag_of s)) (ref_text r) [] ++ v))) (all_same es)
+
+pub given_element : {A : Type 0} (s : ElementSegment A) (given : Segment Stored) → HaveOneText s given
+given_element s given = record { same = λ e. ap (λ x. settled_text expression_text (settled x)) e ∙ sym (stored_same given) }

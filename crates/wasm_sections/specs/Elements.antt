@@ -164,6 +164,21 @@ IsSegment s = IsSegmentIn shortest s
 abbrev pub IsSegmentWide : Segment Stored → Type 0
 IsSegmentWide s = IsSegmentIn wide s
 
+-- the same place, with the bytes of its expression
+abbrev pub place_by : Place Stored → Place (List ℕ)
+place_by passive = passive
+place_by declared = declared
+place_by (active table offset) = active table offset.bytes
+
+-- the same elements, with the bytes of their expressions
+abbrev pub elements_by : ElementList Stored → ElementList (List ℕ)
+elements_by (functions fs) = functions fs
+elements_by (expressions r es) = expressions r (map (λ e. e.bytes) es)
+
+-- the same segment, with the bytes of its expressions
+abbrev pub stored_by : Segment Stored → Segment (List ℕ)
+stored_by s = record { place = place_by s.place; elements = elements_by s.elements }
+
 -- the same place, with the instructions of its expression
 abbrev pub place_of : Place Stored → Place (List Plain)
 place_of passive = passive

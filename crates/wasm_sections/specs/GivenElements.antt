@@ -1,8 +1,9 @@
 -- What the types of element segments hand in, by the bytes of their expressions.
-use Rattle.std.specs.Prelude.{ℕ, List}
+use Rattle.std.specs.Prelude.{◌≡◌, ℕ, List}
 use Rattle.wasm_base.specs.Cow.{items_of}
 use Rattle.wasm_code.specs.Expressions.{expression_text}
-use Rattle.wasm_sections.specs.Elements.{Place, passive, declared, active, ElementList, functions, expressions, Segment, settled, settled_text}
+use Rattle.wasm_sections.specs.Constants.{Stored}
+use Rattle.wasm_sections.specs.Elements.{Place, passive, declared, active, ElementList, functions, expressions, Segment, settled, settled_text, element_text, stored_by}
 use Rattle.wasm_sections.specs.declared.element.ElementMode.{ElementMode}
 use Rattle.wasm_sections.specs.declared.element.ElementMode.TheVariants as modes
 use Rattle.wasm_sections.specs.declared.element.ElementSegment.{ElementSegment}
@@ -27,3 +28,7 @@ segment_in s = record { place = mode_of s.mode; elements = list_in s.elements }
 -- the text of the element segment that a call hands in, once it is settled
 abbrev pub given_text : {A : Type 0} → ElementSegment A → List ℕ
 given_text s = settled_text expression_text (settled (segment_in s))
+
+-- Where the record has the segment's place and elements, with the same bytes of expressions, both have one text.
+pub record HaveOneText {A : Type 0} (s : ElementSegment A) (given : Segment Stored) : Type 0 where
+  pub same : segment_in s ≡ stored_by given → given_text s ≡ element_text given

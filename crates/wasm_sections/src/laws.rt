@@ -5,20 +5,24 @@ ghost use Rattle.std.specs.Prelude.{All, ◌∷◌, []};
 ghost use Rattle.wasm_base.specs.Entries.{ItemLaws, counted_format};
 ghost use Rattle.wasm_base.specs.Formats.{u32 as u32_format, frame, vec};
 ghost use Rattle.wasm_base.specs.Laws.{FitsUnsigned};
-ghost use Rattle.wasm_base.specs.Modules.{ReadsPayloads};
+ghost use Rattle.wasm_base.specs.Modules.{ReadsPayloads, ReadsPayloadsWide};
 ghost use Rattle.wasm_base.specs.Numbers.{unsigned_text};
 ghost use Rattle.wasm_base.specs.Reading.{UniqueReading, IsUniqueWide};
+ghost use Rattle.wasm_sections.specs.Constants.{Stored};
 ghost use Rattle.wasm_sections.specs.DataSegments.{data_text, IsGivenData, IsGivenDataWide, data_of, data_item};
-ghost use Rattle.wasm_sections.specs.Elements.{element_text, IsSegment, IsSegmentWide, element_of, element};
+ghost use Rattle.wasm_sections.specs.Elements.{Segment, element_text, IsSegment, IsSegmentWide, element_of, element};
 ghost use Rattle.wasm_sections.specs.Exports.{export_text, IsExport, item_of, export};
+ghost use Rattle.wasm_sections.specs.GivenElements.{HaveOneText};
 ghost use Rattle.wasm_sections.specs.Globals.{global_type, global_item_text, IsGivenGlobal, IsGivenGlobalWide, global_item_of, global_item};
 ghost use Rattle.wasm_sections.specs.Imports.{import_text, IsImport, import_format, entity};
 ghost use Rattle.wasm_base.specs.Laws.{HoldsMore, HoldsMoreWide, NothingStandsWide};
 ghost use Rattle.wasm_sections.specs.Memories.{memory_text, IsMemory, memory_type};
 ghost use Rattle.wasm_sections.specs.Tables.{table_type, table_item_text, IsGivenTable, IsGivenTableWide, table_item_of, table_item};
 ghost use Rattle.wasm_sections.specs.Tags.{tag_text, IsTag, tag_type};
+ghost use Rattle.wasm_sections.specs.declared.element.ElementSegment.{ElementSegment};
 
 use crate::export::Export;
+use std::alloc::Allocator;
 
 /// Sections are read uniquely, and so are their items; the text of a plain record spells what it says.
 #[tactic(auto, using(crate::proofs::SectionLaws::sections))]
@@ -95,6 +99,13 @@ pub fn wide_calls()
     ensures tags { HoldsMoreWide tag_text IsTag IsTag (λ tag. tag) tag_type }
 {}
 
+/// What a call of an element section appends, `given_text`, is the `element_text` of each record that has the segment's place and elements,
+/// with the same bytes of expressions.
+#[tactic(auto, using(crate::proofs::ElementLaws::given_element))]
+pub fn given_elements<A: Allocator>()
+    ensures { (segment : ElementSegment A) (given : Segment Stored) → HaveOneText segment given }
+{}
+
 /// Where a module is read as ids and payloads, and a section as its items alone, its payload is read as these alone.
 #[tactic(auto, using(crate::proofs::Payloads::payloads))]
 pub fn payloads()
@@ -108,6 +119,21 @@ pub fn payloads()
     ensures imports { ReadsPayloads (vec import_format) }
     ensures tags { ReadsPayloads (vec tag_type) }
     ensures numbers { ReadsPayloads u32_format }
+{}
+
+/// The same with padded numbers.
+#[tactic(auto, using(wasm_base::proofs::Payloads::wide_payloads))]
+pub fn wide_payloads()
+    ensures functions { ReadsPayloadsWide (vec u32_format) }
+    ensures tables { ReadsPayloadsWide (vec table_item) }
+    ensures memories { ReadsPayloadsWide (vec memory_type) }
+    ensures globals { ReadsPayloadsWide (vec global_item) }
+    ensures exports { ReadsPayloadsWide (vec export) }
+    ensures elements { ReadsPayloadsWide (vec element) }
+    ensures segments { ReadsPayloadsWide (vec data_item) }
+    ensures imports { ReadsPayloadsWide (vec import_format) }
+    ensures tags { ReadsPayloadsWide (vec tag_type) }
+    ensures numbers { ReadsPayloadsWide u32_format }
 {}
 
 /// No section stands in these three texts, with padded numbers neither: in that of globals bytes follow the first `End` of a constant

@@ -9,12 +9,21 @@ use std::alloc::Allocator;
 use wasm_base::{Encode, R, Section, SectionId, begin_frame, encoding_size};
 
 /// The function that a module runs when it is instantiated.
+///
+/// ```rust
+/// module.section(&StartSection { function_index: 0 })?;
+/// ```
 #[derive(Clone, Copy, Debug)]
 pub struct StartSection {
     pub function_index: u32,
 }
 
 /// The number of data segments, which stands before the code that refers to them.
+///
+/// ```rust
+/// module.section(&DataCountSection { count: 1 })?;
+/// module.section(&code)?;
+/// ```
 #[derive(Clone, Copy, Debug)]
 pub struct DataCountSection {
     pub count: u32,

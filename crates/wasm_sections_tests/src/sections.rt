@@ -361,7 +361,9 @@ fn laws_do_nothing(_rt: HostRuntime) {
     laws::wide();
     laws::calls();
     laws::wide_calls();
+    laws::given_elements::<Global>();
     laws::payloads();
+    laws::wide_payloads();
     laws::nothing_stands();
 }
 
@@ -369,7 +371,9 @@ fn laws_do_nothing(_rt: HostRuntime) {
 #[test]
 fn laws_for_callers_do_nothing(_rt: HostRuntime) {
     wasm_base::laws::payloads();
+    wasm_base::laws::wide_payloads();
     wasm_code::laws::payloads();
+    wasm_code::laws::wide_payloads();
     wasm_code::laws::calls::<Global>();
     wasm_code::laws::wide_calls::<Global>();
     laws::plain_export(&Export {

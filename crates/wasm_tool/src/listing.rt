@@ -62,7 +62,7 @@ pub(crate) fn listing<A: Allocator + Copy>(alloc: A, text: &[u8]) -> Result<Stri
     ensures usage { IfErr result (λ trouble. trouble ≢ Usage) }
 {
     let bytes = hex_bytes(alloc, text)?;
-    let sections = list_module(&bytes, alloc).map_err(|(number, fault)| Trouble::Section {
+    let sections = list_module(alloc, &bytes).map_err(|(number, fault)| Trouble::Section {
         number,
         fault,
     })?;

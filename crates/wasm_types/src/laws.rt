@@ -3,7 +3,7 @@ ghost use Rattle.std.specs.Prelude.{[], ◌∷◌};
 ghost use Rattle.wasm_base.specs.Entries.{ItemLaws, counted_format};
 ghost use Rattle.wasm_base.specs.Formats.{vec};
 ghost use Rattle.wasm_base.specs.Laws.{HoldsMore, HoldsMoreWide, NothingStandsWide};
-ghost use Rattle.wasm_base.specs.Modules.{ReadsPayloads};
+ghost use Rattle.wasm_base.specs.Modules.{ReadsPayloads, ReadsPayloadsWide};
 ghost use Rattle.wasm_base.specs.Reading.{UniqueReading, IsUniqueWide};
 ghost use Rattle.wasm_types.specs.RecTypes.{type_text, IsType, storage_type, field_type, composite_type, sub_type, type_item};
 
@@ -42,6 +42,12 @@ pub fn wide_calls()
 #[tactic(auto, using(crate::proofs::SectionLaws::type_sections))]
 pub fn payloads()
     ensures { ReadsPayloads (vec type_item) }
+{}
+
+/// The same with padded numbers.
+#[tactic(auto, using(wasm_base::proofs::Payloads::wide_payloads))]
+pub fn wide_payloads()
+    ensures { ReadsPayloadsWide (vec type_item) }
 {}
 
 /// No section stands in these three texts, with padded numbers neither: in the first a structure has a field of mutability 2, in the second

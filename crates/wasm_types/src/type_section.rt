@@ -17,6 +17,12 @@ use std::marker::Model;
 use wasm_base::{Encode, Items, Pieces, R, Section, SectionId, ValType, vec_of};
 
 /// The types that a module defines, seen as the bytes of each entry.
+///
+/// ```rust
+/// let mut types = TypeSection::new(alloc);
+/// types.ty().function([ValType::I32, ValType::I32], [ValType::I32])?;
+/// module.section(&types)?;
+/// ```
 #[derive(Drop, Debug)]
 pub struct TypeSection<A: Allocator = Global> {
     pieces: Pieces<A>,

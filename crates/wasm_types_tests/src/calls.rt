@@ -54,6 +54,7 @@ fn function_type(rt: HostRuntime) {
     laws::calls();
     laws::wide_calls();
     laws::payloads();
+    laws::wide_payloads();
     laws::nothing_stands();
     let ty: FuncType = function(rt.alloc()).expect(&rt, "accepted");
     let mut section = TypeSection::new(rt.alloc());

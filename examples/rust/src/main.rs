@@ -1,4 +1,4 @@
-//! Assembles recipes, lists what the modules hold, and shortens padded sections.
+//! Assembles recipes, lists and outlines what modules hold, and shortens padded sections and modules.
 
 const NO_ANSWER: u64 = u64::MAX;
 
@@ -6,6 +6,17 @@ const NO_ANSWER: u64 = u64::MAX;
 #[repr(C)]
 struct Section {
     items: u64,
+    size: u32,
+    id: u32,
+}
+
+#[derive(Clone, Copy, Default)]
+#[repr(C)]
+struct Outlined {
+    items: u64,
+    offset: u64,
+    name_offset: u64,
+    name_size: u64,
     size: u32,
     id: u32,
 }
@@ -36,6 +47,26 @@ unsafe extern "C" {
         taken: *mut u64,
         cause: *mut u32,
     ) -> u64;
+    fn dz_outline(
+        module: *const u8,
+        module_len: usize,
+        out: *mut Outlined,
+        out_len: usize,
+        place: *mut u64,
+        cause: *mut u32,
+    ) -> u64;
+    fn dz_shorten_module(
+        module: *const u8,
+        module_len: usize,
+        drop_offsets: u32,
+        out: *mut u8,
+        out_len: usize,
+        kept: *mut u64,
+        place: *mut u64,
+        cause: *mut u32,
+    ) -> u64;
+    fn dz_cause(cause: u32, out: *mut u8, out_len: usize) -> u64;
+    fn dz_recipe_cause(cause: u32, out: *mut u8, out_len: usize) -> u64;
 }
 
 // Kinds of sections; the header names them all.
@@ -43,6 +74,20 @@ const FUNCTIONS: u32 = 5;
 const GLOBALS: u32 = 6;
 const TAGS: u32 = 11;
 const NAMES: u32 = 12;
+
+/// The text of a cause, by a call that gives it.
+fn text(text_of: unsafe extern "C" fn(u32, *mut u8, usize) -> u64, cause: u32) -> String {
+    let mut out = vec![0; 32];
+    // SAFETY: slices are valid for their lengths, and none overlaps another.
+    let size = unsafe { text_of(cause, out.as_mut_ptr(), out.len()) };
+    match usize::try_from(size) {
+        Ok(size) if size <= out.len() => {
+            out.truncate(size);
+            String::from_utf8_lossy(&out).into_owned()
+        }
+        _ => format!("cause {cause}"),
+    }
+}
 
 /// The module of a recipe in so much room, or how many bytes it has, or the line and the cause of its first fault.
 enum Answer {
@@ -53,7 +98,7 @@ enum Answer {
 
 fn assembled(recipe: &[u8], room: usize) -> Answer {
     let (mut out, mut line, mut cause) = (vec![0; room], 0, 0);
-    // SAFETY: slices are valid for their lengths, and none overlaps another.
+    // SAFETY: as above.
     let size = unsafe {
         dz_assemble(
             recipe.as_ptr(),
@@ -110,7 +155,7 @@ fn list(module: &[u8]) {
                 println!("{} {} {items}", section.id, section.size);
             }
         }
-        Err((place, cause)) => println!("section {place}: cause {cause}"),
+        Err((place, cause)) => println!("section {place}: {}", text(dz_cause, cause)),
     }
 }
 
@@ -122,7 +167,7 @@ fn assemble(recipe: &[u8], room: usize) {
             list(&module);
         }
         Answer::Size(size) => println!("{size} bytes, and room for {room}"),
-        Answer::Fault(line, cause) => println!("line {line}: cause {cause}"),
+        Answer::Fault(line, cause) => println!("line {line}: {}", text(dz_recipe_cause, cause)),
     }
 }
 
@@ -154,9 +199,88 @@ fn shorten(kind: u32, bytes: &[u8]) {
             let digits: String = text.iter().map(|byte| format!(" {byte:02x}")).collect();
             println!("{taken}:{digits}");
         }
-        Err(cause) => println!("cause {cause}"),
+        Err(cause) => println!("{}", text(dz_cause, cause)),
     }
 }
+
+/// The outline of a module, or the place and the cause. No module has more sections than bytes.
+fn outlined(module: &[u8]) -> Result<Vec<Outlined>, (u64, u32)> {
+    let (mut out, mut place, mut cause) = (vec![Outlined::default(); module.len()], 0, 0);
+    // SAFETY: as above.
+    let count = unsafe {
+        dz_outline(
+            module.as_ptr(),
+            module.len(),
+            out.as_mut_ptr(),
+            out.len(),
+            &mut place,
+            &mut cause,
+        )
+    };
+    if count == NO_ANSWER {
+        return Err((place, cause));
+    }
+    out.truncate(count as usize);
+    Ok(out)
+}
+
+fn outline(module: &[u8]) {
+    match outlined(module) {
+        Ok(sections) => {
+            for section in sections {
+                print!("{} at {}, {} bytes", section.id, section.offset, section.size);
+                if section.items != NO_ANSWER {
+                    print!(", {} items", section.items);
+                }
+                if section.name_size != NO_ANSWER {
+                    let name = &module[section.name_offset as usize..][..section.name_size as usize];
+                    print!(", {}", String::from_utf8_lossy(name));
+                }
+                println!();
+            }
+        }
+        Err((place, cause)) => println!("section {place}: {}", text(dz_cause, cause)),
+    }
+}
+
+/// The shortest text of a module, and how many sections are kept; or the place and the cause. The text is no longer than the module.
+fn shortened_module(module: &[u8], drop_offsets: u32) -> Result<(Vec<u8>, u64), (u64, u32)> {
+    let (mut out, mut kept, mut place, mut cause) = (vec![0; module.len()], 0, 0, 0);
+    // SAFETY: as above.
+    let size = unsafe {
+        dz_shorten_module(
+            module.as_ptr(),
+            module.len(),
+            drop_offsets,
+            out.as_mut_ptr(),
+            out.len(),
+            &mut kept,
+            &mut place,
+            &mut cause,
+        )
+    };
+    if size == NO_ANSWER {
+        return Err((place, cause));
+    }
+    out.truncate(size as usize);
+    Ok((out, kept))
+}
+
+fn shorten_module(module: &[u8], drop_offsets: u32) {
+    match shortened_module(module, drop_offsets) {
+        Ok((text, kept)) => {
+            let digits: String = text.iter().map(|byte| format!(" {byte:02x}")).collect();
+            println!("{kept} kept:{digits}");
+        }
+        Err((place, cause)) => println!("section {place}: {}", text(dz_cause, cause)),
+    }
+}
+
+/// A type, a custom section of padded numbers called `name`, one without a name, and seven functions that don't stand there.
+const OUTLINED: &[u8] = b"\0asm\x01\0\0\0\x01\x04\x01\x60\0\0\0\x87\0\x84\0name\xFF\0\x01\x05\x03\x01\x07";
+
+/// A padded code section, and symbols, which hold offsets into it.
+const SYMBOLS: &[u8] = b"\0asm\x01\0\0\0\x0A\x84\0\x01\x02\0\x0B\0\x08\x07linking";
 
 fn main() {
     let module = b"type 60027f7f017f\nfunc 0\nexport f func 0\nbody 200020016a0b";
@@ -174,4 +298,10 @@ fn main() {
     shorten(NAMES, b"\x0C\x84\x00name\x00\x83\x00\x81\x00m");
     shorten(TAGS, b"\x03\x01\x01\x00");
     shorten(23, b"");
+    outline(OUTLINED);
+    outline(&OUTLINED[..9]);
+    shorten_module(OUTLINED, 0);
+    shorten_module(SYMBOLS, 0);
+    shorten_module(SYMBOLS, 1);
+    shorten_module(&OUTLINED[..9], 1);
 }

@@ -1,6 +1,6 @@
 //! The functions of `dolzhytik.h` on any platform. What each does stands in [`calls`], which is written from the proved source; here is the border: pointers and
 //! lengths become slices.
-use calls::{DzSection, listing, recipes, shortest};
+use calls::{DzOutlined, DzSection, causes, listing, outlining, recipes, shortest, whole};
 use dolzhytik::alloc::Global;
 use std::slice;
 
@@ -92,4 +92,65 @@ pub unsafe extern "C" fn dz_shorten(
     let bytes = unsafe { list(bytes, bytes_len) };
     let out = unsafe { room(out, out_len) };
     shortest::dz_shorten(Global, kind, bytes, out, taken, cause)
+}
+
+/// Outlines a module.
+///
+/// # Safety
+///
+/// As the header says: pointers are valid for their lengths, and what is written overlaps nothing else.
+#[unsafe(no_mangle)]
+pub unsafe extern "C" fn dz_outline(
+    module: *const u8,
+    module_len: usize,
+    out: *mut DzOutlined,
+    out_len: usize,
+    place: &mut u64,
+    cause: &mut u32,
+) -> u64 {
+    let module = unsafe { list(module, module_len) };
+    let out = unsafe { room(out, out_len) };
+    outlining::dz_outline(Global, module, out, place, cause)
+}
+
+/// Writes the shortest text of a module.
+///
+/// # Safety
+///
+/// As the header says: pointers are valid for their lengths, and what is written overlaps nothing else.
+#[unsafe(no_mangle)]
+#[allow(clippy::too_many_arguments, reason = "a slice is two of them")]
+pub unsafe extern "C" fn dz_shorten_module(
+    module: *const u8,
+    module_len: usize,
+    drop_offsets: u32,
+    out: *mut u8,
+    out_len: usize,
+    kept: &mut u64,
+    place: &mut u64,
+    cause: &mut u32,
+) -> u64 {
+    let module = unsafe { list(module, module_len) };
+    let out = unsafe { room(out, out_len) };
+    whole::dz_shorten_module(Global, module, drop_offsets, out, kept, place, cause)
+}
+
+/// The text of a cause of the other calls.
+///
+/// # Safety
+///
+/// As the header says: the pointer is valid for its length, and nobody else reads or writes what is written.
+#[unsafe(no_mangle)]
+pub unsafe extern "C" fn dz_cause(cause: u32, out: *mut u8, out_len: usize) -> u64 {
+    causes::dz_cause(cause, unsafe { room(out, out_len) })
+}
+
+/// The text of a cause of `dz_assemble`.
+///
+/// # Safety
+///
+/// As the header says: the pointer is valid for its length, and nobody else reads or writes what is written.
+#[unsafe(no_mangle)]
+pub unsafe extern "C" fn dz_recipe_cause(cause: u32, out: *mut u8, out_len: usize) -> u64 {
+    causes::dz_recipe_cause(cause, unsafe { room(out, out_len) })
 }

@@ -36,6 +36,8 @@ pub enum NoGroups {
 /// ensures power { IfOk result (λ x. x.0.power ≤ 128 ^ limit) }
 /// ensures below { IfOk result (λ x. x.0.sum < x.0.power) }
 /// ensures none { IfErr result (λ _. ReadsNothing (groups limit) wide bytes.now) }
+/// ensures ended { IfErr result (λ e. e ≡ Ended → length bytes.now < limit) }
+/// ensures too_many { IfErr result (λ e. e ≡ TooMany → limit ≤ length bytes.now) }
 /// ```
 pub fn read_groups(bytes: &[u8], limit: u8) -> Result<(Groups, &[u8]), NoGroups> {
     if limit == 0 {

@@ -63,6 +63,17 @@ pub fn frames() {}
 /// ```
 pub fn payloads() {}
 
+/// The same with padded numbers.
+///
+/// # Proved
+///
+/// ```text
+/// ensures bytes { ReadsPayloadsWide any_bytes }
+/// ensures u32 { ReadsPayloadsWide u32_format }
+/// ensures custom { ReadsPayloadsWide (pair name any_bytes) }
+/// ```
+pub fn wide_payloads() {}
+
 /// Types are read uniquely: no index begins with a byte of theirs, nor with the 40 of an empty block type (hexadecimal).
 ///
 /// # Proved

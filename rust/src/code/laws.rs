@@ -54,6 +54,16 @@ pub fn offset<A: Allocator>() {}
 /// ```
 pub fn payloads() {}
 
+/// The same with padded numbers.
+///
+/// # Proved
+///
+/// ```text
+/// ensures raw_code { ReadsPayloadsWide (vec (frame any_bytes)) }
+/// ensures code_section { ReadsPayloadsWide (vec (frame body)) }
+/// ```
+pub fn wide_payloads() {}
+
 /// What a code section holds, call by call, and what a body gains where a named call of a sink writes into it.
 ///
 /// # Proved

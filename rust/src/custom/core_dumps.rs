@@ -8,6 +8,17 @@ use crate::alloc::{Allocator, Global};
 use crate::base::{Encode, Items, R, Section, SectionId, vec_of};
 
 /// The process that was dumped, seen as the data of its section: the byte 00, and its name.
+///
+/// ```
+/// # use dolzhytik::{alloc::Global, base::*, code::*, custom::*, immediates::*, insn::*, reader::*, recipe::*, sections::*, types::*};
+/// # use dolzhytik::vec::Vec;
+/// # fn example(alloc: Global) -> Result<(), Box<dyn std::error::Error>> {
+/// # let mut module = Module::new(alloc)?;
+/// module.section(&CoreDumpSection::new(alloc, "a.wasm")?)?;
+/// # Ok(())
+/// # }
+/// # example(Global).unwrap();
+/// ```
 #[derive(Debug)]
 pub struct CoreDumpSection<A: Allocator = Global> {
     data: Vec<u8, A>,
@@ -20,6 +31,7 @@ impl<A: Allocator> CoreDumpSection<A> {
     ///
     /// ```text
     /// ensures is { IfOk result (λ s. s ≡ marked_text name.now) }
+    /// ensures fitted { IfOk result (λ _. FrameFits name.now) }
     /// ensures too_long { FrameFits name.now → result ≢ Err TooLong }
     /// ```
     pub fn new(alloc: A, name: &str) -> R<Self> {
@@ -82,6 +94,19 @@ impl<A: Allocator> Section for CoreDumpSection<A> {
 }
 
 /// The modules of the process, by their names.
+///
+/// ```
+/// # use dolzhytik::{alloc::Global, base::*, code::*, custom::*, immediates::*, insn::*, reader::*, recipe::*, sections::*, types::*};
+/// # use dolzhytik::vec::Vec;
+/// # fn example(alloc: Global) -> Result<(), Box<dyn std::error::Error>> {
+/// # let mut module = Module::new(alloc)?;
+/// let mut modules = CoreDumpModulesSection::new(alloc);
+/// modules.module("a.wasm")?;
+/// module.section(&modules)?;
+/// # Ok(())
+/// # }
+/// # example(Global).unwrap();
+/// ```
 pub type CoreDumpModulesSection<A = Global> = CustomEntries<ModuleItems, A>;
 
 /// The items of a section of modules: their names.
@@ -152,6 +177,19 @@ impl<A: Allocator> CoreDumpModulesSection<A> {
 }
 
 /// The instances of the process. `len` is their number.
+///
+/// ```
+/// # use dolzhytik::{alloc::Global, base::*, code::*, custom::*, immediates::*, insn::*, reader::*, recipe::*, sections::*, types::*};
+/// # use dolzhytik::vec::Vec;
+/// # fn example(alloc: Global) -> Result<(), Box<dyn std::error::Error>> {
+/// # let mut module = Module::new(alloc)?;
+/// let mut instances = CoreDumpInstancesSection::new(alloc);
+/// instances.instance(0, [0], [0, 1])?;
+/// module.section(&instances)?;
+/// # Ok(())
+/// # }
+/// # example(Global).unwrap();
+/// ```
 pub type CoreDumpInstancesSection<A = Global> = CustomEntries<InstanceItems, A>;
 
 /// The items of a section of instances.

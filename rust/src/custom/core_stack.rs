@@ -34,6 +34,7 @@ impl<A: Allocator + Copy> CoreDumpStackSection<A> {
     ///
     /// ```text
     /// ensures is { IfOk result (λ s. s ≡ (marked_text thread_name.now, [])) }
+    /// ensures fitted { IfOk result (λ _. FrameFits thread_name.now) }
     /// ensures too_long { FrameFits thread_name.now → result ≢ Err TooLong }
     /// ```
     pub fn new(alloc: A, thread_name: &str) -> R<Self> {

@@ -108,6 +108,23 @@ pub fn wide_calls() {}
 /// ```
 pub fn payloads() {}
 
+/// The same with padded numbers.
+///
+/// # Proved
+///
+/// ```text
+/// ensures names { ReadsPayloadsWide name_payload }
+/// ensures linking { ReadsPayloadsWide linking_payload }
+/// ensures producers { ReadsPayloadsWide producers_payload }
+/// ensures hints { ReadsPayloadsWide hints_payload }
+/// ensures modules { ReadsPayloadsWide modules_payload }
+/// ensures instances { ReadsPayloadsWide instances_payload }
+/// ensures core { ReadsPayloadsWide core_payload }
+/// ensures stack { ReadsPayloadsWide stack_payload }
+/// ensures customs { ReadsPayloadsWide (pair name any_bytes) }
+/// ```
+pub fn wide_payloads() {}
+
 /// No section stands in these two texts, with padded numbers neither: in that of branch hints a value is spelled by two bytes, in that of
 /// links a function that is defined has no name.
 ///

@@ -8,6 +8,21 @@ use crate::alloc::{Allocator, Global};
 use crate::base::{Items, R};
 
 /// What a linker needs to know of a module: the version 2 of the format, and a subsection for each call. `new` takes no memory.
+///
+/// ```
+/// # use dolzhytik::{alloc::Global, base::*, code::*, custom::*, immediates::*, insn::*, reader::*, recipe::*, sections::*, types::*};
+/// # use dolzhytik::vec::Vec;
+/// # fn example(alloc: Global) -> Result<(), Box<dyn std::error::Error>> {
+/// # let mut module = Module::new(alloc)?;
+/// let mut symbols = SymbolTable::new(alloc);
+/// symbols.function(SymbolTable::WASM_SYM_EXPORTED, 0, Some("f"))?;
+/// let mut linking = LinkingSection::new(alloc);
+/// linking.symbol_table(&symbols)?;
+/// module.section(&linking)?;
+/// # Ok(())
+/// # }
+/// # example(Global).unwrap();
+/// ```
 pub type LinkingSection<A = Global> = CustomEntries<LinkingItems, A>;
 
 /// The items of a linking section: subsections.

@@ -6,6 +6,17 @@ use crate::base::{Encode, R, Section, SectionId};
 
 /// A custom section whose bytes are given as they are, its size among them. Where they are no frame of a name and data, a reader of
 /// the module finds something else there, or nothing.
+///
+/// ```
+/// # use dolzhytik::{alloc::Global, base::*, code::*, custom::*, immediates::*, insn::*, reader::*, recipe::*, sections::*, types::*};
+/// # use dolzhytik::vec::Vec;
+/// # fn example(alloc: Global) -> Result<(), Box<dyn std::error::Error>> {
+/// # let mut module = Module::new(alloc)?;
+/// module.section(&RawCustomSection(&[2, 1, b'a']))?;
+/// # Ok(())
+/// # }
+/// # example(Global).unwrap();
+/// ```
 #[derive(Clone, Copy, Debug)]
 pub struct RawCustomSection<'a>(pub &'a [u8]);
 

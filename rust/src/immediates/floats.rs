@@ -18,7 +18,7 @@ impl Ieee32 {
     /// ```text
     /// ensures { result.bits ≡ bits }
     /// ```
-    pub fn new(bits: u32) -> Self {
+    pub const fn new(bits: u32) -> Self {
         Ieee32 { bits }
     }
 
@@ -29,7 +29,7 @@ impl Ieee32 {
     /// ```text
     /// ensures { result ≡ self.bits }
     /// ```
-    pub fn bits(self) -> u32 {
+    pub const fn bits(self) -> u32 {
         self.bits
     }
 }
@@ -63,7 +63,7 @@ impl Ieee64 {
     /// ```text
     /// ensures { result.bits ≡ bits }
     /// ```
-    pub fn new(bits: u64) -> Self {
+    pub const fn new(bits: u64) -> Self {
         Ieee64 { bits }
     }
 
@@ -74,7 +74,7 @@ impl Ieee64 {
     /// ```text
     /// ensures { result ≡ self.bits }
     /// ```
-    pub fn bits(self) -> u64 {
+    pub const fn bits(self) -> u64 {
         self.bits
     }
 }

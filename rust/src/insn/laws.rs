@@ -29,12 +29,13 @@ pub fn opcodes() {}
 pub fn rows<A: Allocator>() {}
 
 /// The cases of the enums and the rows of the table are one to one: in the table's order, they have its ops and the parts of its
-/// shapes.
+/// shapes. Each instruction is one of the cases, with its own fields.
 ///
 /// # Proved
 ///
 /// ```text
-/// ensures { (given : Given A) → AreRows (all_cases given) table }
+/// ensures rows { (given : Given A) → AreRows (all_cases given) table }
+/// ensures each { (i : Instruction A) → IsCase i }
 /// ```
 pub fn cases<A: Allocator>() {}
 

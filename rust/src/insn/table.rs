@@ -119,6 +119,7 @@ static AFTER_FE: [Run; 8] = [
 /// ```text
 /// ensures { result ≡ shape_in runs.now number }
 /// ```
+#[inline(never)]
 fn find_shape(runs: &[Run], number: u32) -> Option<Shape> {
     runs.iter()
         .find(|run| run.0 <= number && number <= run.1)
@@ -145,6 +146,7 @@ impl Op {
     /// ```text
     /// ensures { result ≡ shape_of table self }
     /// ```
+    #[inline]
     pub fn shape(self) -> Option<Shape> {
         match self {
             Op::Byte(byte) => byte_shape(byte),

@@ -1,5 +1,5 @@
 // Written by tools/to-rust from crates/wasm_reader/src/laws.rt: change that.
-//! What is promised of all lists of bytes, and not of a call: the function does nothing, and its clause is the promise.
+//! What is promised of all lists of bytes, and not of a call: each function does nothing, and its clause is the promise.
 
 /// Two sections of a kind that are shortened gain one text exactly where they are read as the same items.
 ///
@@ -9,3 +9,21 @@
 /// ensures { HaveOneText }
 /// ```
 pub fn texts() {}
+
+/// Bytes are a module of one list of lines, or stop being one at one section.
+///
+/// # Proved
+///
+/// ```text
+/// ensures { HaveOneListing }
+/// ```
+pub fn modules() {}
+
+/// A module that was shortened is shortened to the same bytes again.
+///
+/// # Proved
+///
+/// ```text
+/// ensures { AreSettled }
+/// ```
+pub fn shortened() {}

@@ -4,13 +4,12 @@
 //!
 //! [`read_section`] reads a section of a [`SectionKind`], without its id, into [`Items`], and [`shorten`] writes it in its fewest bytes. A custom section is
 //! read as what its name stands for, or, as any is, as its name and data.
-//!
-//! [`ReadFault::Memory`]: crate::reader::base::ReadFault::Memory
 
 pub mod base;
 pub mod custom;
 pub mod insn;
 pub mod types;
+mod counts;
 mod data;
 mod elements;
 mod exports;
@@ -19,18 +18,27 @@ mod imports;
 pub mod laws;
 mod limits;
 mod modules;
+mod outlines;
 mod section;
 mod shortest;
+mod standing;
 mod tables;
 mod tags;
+mod whole;
 
 pub use data::Segment;
 pub use elements::{ElementItem, ElementItemMode, ElementList};
 pub use globals::GlobalItem;
 pub use modules::{Listed, list_module};
+pub use outlines::{Outlined, outline};
 pub use section::{Items, SectionKind, read_section};
 pub use shortest::shorten;
 pub use tables::TableItem;
+pub use crate::reader::base::ReadFault;
+pub use crate::reader::custom::{CoreFrame, LinkItem, NameItem, Symbol};
+pub use crate::reader::insn::{Arg, Body, Code, Expression, Plain};
+pub use crate::reader::types::TypeEntry;
+pub use whole::{ModuleFault, Offsets, shorten_module};
 
 /// This crate, which says how items of other crates are read.
 #[derive(Clone, Copy, Debug)]

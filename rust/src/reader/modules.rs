@@ -2,12 +2,19 @@
 // Modules: a line for each section.
 
 use crate::vec::Vec;
+use crate::reader::Here;
+use crate::reader::counts::{Dropped, Walked, count_passed};
+use crate::reader::data::Segment;
+use crate::reader::elements::ElementItem;
+use crate::reader::globals::GlobalItem;
 use crate::reader::section::{SectionKind, read_content};
+use crate::reader::tables::TableItem;
 use crate::alloc::Allocator;
-use crate::reader::base::{ReadFault, Readable};
+use crate::reader::base::{One, ReadFault, Readable};
+use crate::sections::{Export, Imports, MemoryType, TagType};
 
 /// The magic and the version of a module.
-const HEADER: [u8; 8] = [0x00, 0x61, 0x73, 0x6D, 0x01, 0x00, 0x00, 0x00];
+pub(in crate::reader) const HEADER: [u8; 8] = [0x00, 0x61, 0x73, 0x6D, 0x01, 0x00, 0x00, 0x00];
 
 /// A section of a module.
 #[derive(Clone, Copy, PartialEq, Eq, Debug)]
@@ -28,7 +35,7 @@ pub struct Listed {
 /// ensures none { IfErr result (λ _. ReadsNothing (fixed header (tt {0})) wide bytes.now) }
 /// ensures cause { IfErr result (λ e. (e ≡ Ended) ⊎ (e ≡ UnknownTag)) }
 /// ```
-fn read_header(bytes: &[u8]) -> Result<&[u8], ReadFault> {
+pub(in crate::reader) fn read_header(bytes: &[u8]) -> Result<&[u8], ReadFault> {
     match bytes.split_first_chunk::<8>() {
         None => Err(ReadFault::Ended),
         Some((front, rest)) => {
@@ -48,7 +55,7 @@ fn read_header(bytes: &[u8]) -> Result<&[u8], ReadFault> {
 /// ```text
 /// ensures { result ≡ kind_of_id id }
 /// ```
-fn kind_of(id: u8) -> SectionKind {
+pub(in crate::reader) fn kind_of(id: u8) -> SectionKind {
     match id {
         0 => SectionKind::Custom,
         2 => SectionKind::Imports,
@@ -67,37 +74,40 @@ fn kind_of(id: u8) -> SectionKind {
     }
 }
 
-/// Where the number of a section's items stands.
-#[derive(Clone, Copy, Debug)]
-enum Numbering {
-    /// Before the items.
-    InFront,
-    /// Nowhere: there is one item.
-    One,
-    /// It is not told.
-    Untold,
-}
-
-/// Where the number of the items of a section of the kind stands.
+/// The number of items of a section of the kind, from what its frame holds. None that is counted is kept, and of the instructions of a body one at a time.
 ///
 /// # Proved
 ///
 /// ```text
-/// ensures { result ≡ numbering_of kind }
+/// ensures found { IfOk result (λ number. (x : Contents) × content kind wide bytes.now x × (number ≡ number_in x)) }
+/// ensures none { IfErr result (λ e. e ≢ Memory → FillsNothing (content kind) bytes.now) }
 /// ```
-fn how_numbered(kind: SectionKind) -> Numbering {
+pub(in crate::reader) fn read_number<'a, A: Allocator + Copy>(
+    kind: SectionKind,
+    bytes: &'a [u8],
+    alloc: A,
+) -> Result<Option<u32>, ReadFault> {
     match kind {
-        SectionKind::Bodies
-        | SectionKind::Segments
-        | SectionKind::Elements
-        | SectionKind::Exports
-        | SectionKind::Functions
-        | SectionKind::Globals
-        | SectionKind::Imports
-        | SectionKind::Memories
-        | SectionKind::Tables
-        | SectionKind::Tags => Numbering::InFront,
-        SectionKind::DataCount | SectionKind::Start => Numbering::One,
+        SectionKind::Bodies => count_passed::<'a, Walked, A>(bytes, alloc),
+        SectionKind::Segments => count_passed::<'a, Dropped<Segment<'a, A>>, A>(bytes, alloc),
+        SectionKind::Elements => count_passed::<'a, Dropped<ElementItem<A>>, A>(bytes, alloc),
+        SectionKind::Exports => {
+            count_passed::<'a, Dropped<One<Export<'a>, Here>>, A>(bytes, alloc)
+        }
+        SectionKind::Functions => count_passed::<'a, Dropped<u32>, A>(bytes, alloc),
+        SectionKind::Globals => count_passed::<'a, Dropped<GlobalItem<A>>, A>(bytes, alloc),
+        SectionKind::Imports => {
+            count_passed::<'a, Dropped<One<Imports<'a, A>, Here>>, A>(bytes, alloc)
+        }
+        SectionKind::Memories => {
+            count_passed::<'a, Dropped<One<MemoryType, Here>>, A>(bytes, alloc)
+        }
+        SectionKind::Tables => count_passed::<'a, Dropped<TableItem<A>>, A>(bytes, alloc),
+        SectionKind::Tags => count_passed::<'a, Dropped<One<TagType, Here>>, A>(bytes, alloc),
+        SectionKind::DataCount | SectionKind::Start => {
+            drop(read_content(kind, bytes, alloc)?);
+            Ok(Some(1))
+        }
         SectionKind::Names
         | SectionKind::Linking
         | SectionKind::Producers
@@ -108,31 +118,10 @@ fn how_numbered(kind: SectionKind) -> Numbering {
         | SectionKind::CoreStack
         | SectionKind::Custom
         | SectionKind::Raw
-        | SectionKind::Types => Numbering::Untold,
-    }
-}
-
-/// The number of items of a section of the kind, from what its frame holds.
-///
-/// # Proved
-///
-/// ```text
-/// ensures found { IfOk result (λ number. (x : Contents) × content kind wide bytes.now x × (number ≡ number_in x)) }
-/// ensures none { IfErr result (λ e. e ≢ Memory → FillsNothing (content kind) bytes.now) }
-/// ```
-fn read_number<'a, A: Allocator + Copy>(
-    kind: SectionKind,
-    bytes: &'a [u8],
-    alloc: A,
-) -> Result<Option<u32>, ReadFault> {
-    drop(read_content(kind, bytes, alloc)?);
-    match how_numbered(kind) {
-        Numbering::InFront => {
-            let (number, _) = <u32 as Readable<'a, A>>::read(bytes, alloc)?;
-            Ok(Some(number))
+        | SectionKind::Types => {
+            drop(read_content(kind, bytes, alloc)?);
+            Ok(None)
         }
-        Numbering::One => Ok(Some(1)),
-        Numbering::Untold => Ok(None),
     }
 }
 
@@ -168,8 +157,8 @@ fn read_line<'a, A: Allocator + Copy>(
 /// ensures header { IfErr result (λ e. e.0 ≡ 0 → e.1 ≢ Memory → (e.1 ≡ Ended) ⊎ (e.1 ≡ UnknownTag)) }
 /// ```
 pub fn list_module<'a, A: Allocator + Copy>(
-    bytes: &'a [u8],
     alloc: A,
+    bytes: &'a [u8],
 ) -> Result<Vec<Listed, A>, (usize, ReadFault)> {
     let mut rest = match read_header(bytes) {
         Ok(rest) => rest,

@@ -209,7 +209,7 @@ pub(in crate::reader) fn read_content<'a, A: Allocator + Copy>(
 /// The items of the section that the bytes begin with, and how many bytes it takes. The bytes begin at the section's size, behind its id.
 ///
 /// ```text
-/// let (items, taken) = read_section(SectionKind::Functions, &[0x02, 0x01, 0x05, 0x99], alloc)?;
+/// let (items, taken) = read_section(alloc, SectionKind::Functions, &[0x02, 0x01, 0x05, 0x99])?;
 /// // items are the one index 5, and 3 bytes were taken
 /// ```
 ///
@@ -220,9 +220,9 @@ pub(in crate::reader) fn read_content<'a, A: Allocator + Copy>(
 /// ensures none { IfErr result (λ e. e ≢ Memory → ReadsNothing (section kind) wide bytes.now) }
 /// ```
 pub fn read_section<'a, A: Allocator + Copy>(
+    alloc: A,
     kind: SectionKind,
     bytes: &'a [u8],
-    alloc: A,
 ) -> Result<(Items<'a, A>, usize), ReadFault> {
     let (framed, rest) = <&'a [u8] as Readable<'a, A>>::read(bytes, alloc)?;
     let items = read_content(kind, framed, alloc)?;

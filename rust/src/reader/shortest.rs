@@ -4,11 +4,12 @@
 use crate::vec::{Sink, Vec};
 use crate::reader::data::append_segments;
 use crate::reader::imports::append_imports;
-use crate::reader::section::{Items, SectionKind, read_section};
+use crate::reader::section::{Items, SectionKind, read_content};
 use crate::alloc::Allocator;
 use crate::base::{Encode, R, encode_frame};
-use crate::reader::base::{ReadFault, Shorten};
+use crate::reader::base::{ReadFault, Readable, Shorten};
 use crate::reader::custom::{append_hints, append_instances, append_links, append_modules, append_names, append_process, append_producers, append_stack};
+use crate::reader::insn::shorten_body;
 use crate::reader::types::append_types;
 
 /// Appends the shortest text of what the frame of a section holds.
@@ -53,11 +54,66 @@ fn append_content<A: Allocator, B: Sink>(items: Items<'_, A>, out: &mut B) -> R<
     }
 }
 
-/// Appends the one shortest text of the section that the bytes begin with, and tells how many bytes it takes there. Both are without the
-/// section's id. A refused call leaves the bytes of the sink as they were.
+/// Appends the shortest texts of the bodies behind their number, which all of the bytes spell. It keeps none of them.
+///
+/// # Proved
 ///
 /// ```text
-/// let taken = shorten(SectionKind::Functions, &[0x86, 0x00, 0x01, 0x85, 0x80, 0x80, 0x80, 0x00], alloc, &mut sink)?;
+/// ensures found { OnOk result ((xs : List Body) × vec (frame body) wide bytes.now xs × AppendsShortest (vec (frame body)) xs out.old.items out.new.items) }
+/// ensures none { IfErr result (λ e. e ≢ Memory → FillsNothing (vec (frame body)) bytes.now) }
+/// ```
+fn shorten_bodies<A: Allocator + Copy>(
+    bytes: &[u8],
+    alloc: A,
+    out: &mut Vec<u8, A>,
+) -> Result<(), ReadFault> {
+    let (count, mut rest) = <u32 as Readable<'_, A>>::read(bytes, alloc)?;
+    count.append_shortest(out)?;
+    for _taken in 0..count {
+        let (framed, after) = <&[u8] as Readable<'_, A>>::read(rest, alloc)?;
+        shorten_body(framed, alloc, out)?;
+        rest = after;
+    }
+    if rest.is_empty() {
+        Ok(())
+    } else {
+        Err(ReadFault::SizeMismatch)
+    }
+}
+
+/// Appends the shortest text of what the frame of a section of the kind holds.
+///
+/// # Proved
+///
+/// ```text
+/// ensures found { OnOk result ((x : Contents) × content kind wide bytes.now x × AppendsShortest (content kind) x out.old.items out.new.items) }
+/// ensures none { IfErr result (λ e. e ≢ Memory → FillsNothing (content kind) bytes.now) }
+/// ```
+fn shorten_content<A: Allocator + Copy>(
+    kind: SectionKind,
+    bytes: &[u8],
+    alloc: A,
+    out: &mut Vec<u8, A>,
+) -> Result<(), ReadFault> {
+    match kind {
+        SectionKind::Bodies => shorten_bodies(bytes, alloc, out),
+        _ => {
+            let items = read_content(kind, bytes, alloc)?;
+            append_content(items, out)?;
+            Ok(())
+        }
+    }
+}
+
+/// Appends the one shortest text of the section that the bytes begin with, and tells how many bytes it takes there. Both are without the
+/// section's id. A refused call leaves the bytes of the sink as they were. What is read is in memory of the sink's allocator, and is dropped: of code,
+/// one instruction at a time.
+///
+/// A code section that gets shorter has its instructions in other places: offsets into it that are kept elsewhere (relocations, debugging information, branch hints,
+/// source maps) no longer fit.
+///
+/// ```text
+/// let taken = shorten(SectionKind::Functions, &[0x86, 0x00, 0x01, 0x85, 0x80, 0x80, 0x80, 0x00], &mut sink)?;
 /// // 02 01 05 was appended, and 8 bytes were taken
 /// ```
 ///
@@ -68,15 +124,15 @@ fn append_content<A: Allocator, B: Sink>(items: Items<'_, A>, out: &mut B) -> R<
 /// ensures err { OnErr result (sink.new.items ≡ sink.old.items) }
 /// ensures none { IfErr result (λ e. e ≢ Memory → ReadsNothing (section kind) wide bytes.now) }
 /// ```
-pub fn shorten<A: Allocator + Copy, B: Sink>(
+pub fn shorten<A: Allocator + Copy>(
     kind: SectionKind,
     bytes: &[u8],
-    alloc: A,
-    sink: &mut B,
+    sink: &mut Vec<u8, A>,
 ) -> Result<usize, ReadFault> {
-    let (items, taken) = read_section(kind, bytes, alloc)?;
-    let mut content = Vec::new(alloc);
-    append_content(items, &mut content)?;
+    let alloc = *sink.allocator();
+    let (framed, rest) = <&[u8] as Readable<'_, A>>::read(bytes, alloc)?;
+    let mut content = Vec::with_capacity(alloc, framed.len())?;
+    shorten_content(kind, framed, alloc, &mut content)?;
     encode_frame(sink, &content)?;
-    Ok(taken)
+    Ok(bytes.len() - rest.len())
 }

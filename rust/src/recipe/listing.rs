@@ -82,7 +82,7 @@ fn hex_bytes<A: Allocator>(alloc: A, text: &[u8]) -> Result<Vec<u8, A>, Trouble>
 /// ```
 pub(in crate::recipe) fn listing<A: Allocator + Copy>(alloc: A, text: &[u8]) -> Result<String<A>, Trouble> {
     let bytes = hex_bytes(alloc, text)?;
-    let sections = list_module(&bytes, alloc).map_err(|(number, fault)| Trouble::Section {
+    let sections = list_module(alloc, &bytes).map_err(|(number, fault)| Trouble::Section {
         number,
         fault,
     })?;

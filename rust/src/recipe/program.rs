@@ -243,6 +243,10 @@ fn tell<E: Write>(err: &mut E, trouble: &Trouble) -> u8 {
 /// ensures err { result ≡ 0 → Keeps (E.contents err.old) (E.contents err.new) }
 /// ensures usage { result ≡ 2 → ((length args.now ≡ 0) ⊎ AsksToRead args.now) → ⊥ }
 /// ensures kept { result ≡ 2 → Keeps (O.contents out.old) (O.contents out.new) }
+/// ensures unasked { (((length args.now ≡ 0) ⊎ AsksToRead args.now) → ⊥) → Keeps (O.contents out.old) (O.contents out.new) }
+/// ensures unread { (IsAtEnd (I.remaining input.new) → ⊥) → Keeps (O.contents out.old) (O.contents out.new) }
+/// ensures faulty { length args.now ≡ 0 → IfSome (I.remaining input.old) (λ text. (IsUtf8 text → All IsGood (lines_of text) → ⊥) → Keeps (O.contents out.old) (O.contents out.new)) }
+/// ensures unlisted { AsksToRead args.now → IfSome (I.remaining input.old) (λ text. ((lines : List ℕ) → Lists text lines → ⊥) → Keeps (O.contents out.old) (O.contents out.new)) }
 /// ensures status { result ≤ 2 }
 /// ```
 pub fn run<A: Allocator + Copy, I: Read, O: Write, E: Write>(

@@ -4,6 +4,7 @@
 //! `ItemLaws` says of a kind of items that they are read uniquely, and that the text of a plain record spells what it says.
 
 use crate::sections::export::Export;
+use crate::alloc::Allocator;
 
 /// Sections are read uniquely, and so are their items; the text of a plain record spells what it says.
 ///
@@ -91,6 +92,16 @@ pub fn calls() {}
 /// ```
 pub fn wide_calls() {}
 
+/// What a call of an element section appends, `given_text`, is the `element_text` of each record that has the segment's place and elements,
+/// with the same bytes of expressions.
+///
+/// # Proved
+///
+/// ```text
+/// ensures { (segment : ElementSegment A) (given : Segment Stored) → HaveOneText segment given }
+/// ```
+pub fn given_elements<A: Allocator>() {}
+
 /// Where a module is read as ids and payloads, and a section as its items alone, its payload is read as these alone.
 ///
 /// # Proved
@@ -108,6 +119,24 @@ pub fn wide_calls() {}
 /// ensures numbers { ReadsPayloads u32_format }
 /// ```
 pub fn payloads() {}
+
+/// The same with padded numbers.
+///
+/// # Proved
+///
+/// ```text
+/// ensures functions { ReadsPayloadsWide (vec u32_format) }
+/// ensures tables { ReadsPayloadsWide (vec table_item) }
+/// ensures memories { ReadsPayloadsWide (vec memory_type) }
+/// ensures globals { ReadsPayloadsWide (vec global_item) }
+/// ensures exports { ReadsPayloadsWide (vec export) }
+/// ensures elements { ReadsPayloadsWide (vec element) }
+/// ensures segments { ReadsPayloadsWide (vec data_item) }
+/// ensures imports { ReadsPayloadsWide (vec import_format) }
+/// ensures tags { ReadsPayloadsWide (vec tag_type) }
+/// ensures numbers { ReadsPayloadsWide u32_format }
+/// ```
+pub fn wide_payloads() {}
 
 /// No section stands in these three texts, with padded numbers neither: in that of globals bytes follow the first `End` of a constant
 /// expression, in that of data a segment that names its memory names memory 0, and in that of imports the byte 00 before a group is padded.

@@ -48,7 +48,7 @@ impl MemoryType {
     /// ```text
     /// ensures { result ≡ page_exponent self.now.page_size_log2 }
     /// ```
-    pub fn page_size_log2(&self) -> u32 {
+    pub const fn page_size_log2(&self) -> u32 {
         match self.page_size_log2 {
             Some(exponent) => exponent,
             None => 16,
@@ -68,7 +68,7 @@ impl MemoryType {
     /// ```text
     /// ensures { result ≡ 2 ^ page_exponent self.now.page_size_log2 }
     /// ```
-    pub fn page_size(&self) -> u32 {
+    pub const fn page_size(&self) -> u32 {
         1 << self.page_size_log2()
     }
 

@@ -5,12 +5,36 @@ use crate::vec::Sink;
 use crate::base::{Encode, R, Section, SectionId, begin_frame, encoding_size};
 
 /// The function that a module runs when it is instantiated.
+///
+/// ```
+/// # use dolzhytik::{alloc::Global, base::*, code::*, custom::*, immediates::*, insn::*, reader::*, recipe::*, sections::*, types::*};
+/// # use dolzhytik::vec::Vec;
+/// # fn example(alloc: Global) -> Result<(), Box<dyn std::error::Error>> {
+/// # let mut module = Module::new(alloc)?;
+/// module.section(&StartSection { function_index: 0 })?;
+/// # Ok(())
+/// # }
+/// # example(Global).unwrap();
+/// ```
 #[derive(Clone, Copy, Debug)]
 pub struct StartSection {
     pub function_index: u32,
 }
 
 /// The number of data segments, which stands before the code that refers to them.
+///
+/// ```
+/// # use dolzhytik::{alloc::Global, base::*, code::*, custom::*, immediates::*, insn::*, reader::*, recipe::*, sections::*, types::*};
+/// # use dolzhytik::vec::Vec;
+/// # fn example(alloc: Global) -> Result<(), Box<dyn std::error::Error>> {
+/// # let mut module = Module::new(alloc)?;
+/// # let mut code = CodeSection::new(alloc);
+/// module.section(&DataCountSection { count: 1 })?;
+/// module.section(&code)?;
+/// # Ok(())
+/// # }
+/// # example(Global).unwrap();
+/// ```
 #[derive(Clone, Copy, Debug)]
 pub struct DataCountSection {
     pub count: u32,

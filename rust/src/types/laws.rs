@@ -53,6 +53,15 @@ pub fn wide_calls() {}
 /// ```
 pub fn payloads() {}
 
+/// The same with padded numbers.
+///
+/// # Proved
+///
+/// ```text
+/// ensures { ReadsPayloadsWide (vec type_item) }
+/// ```
+pub fn wide_payloads() {}
+
 /// No section stands in these three texts, with padded numbers neither: in the first a structure has a field of mutability 2, in the second
 /// the byte of a group is padded, and in the third a final type has an empty list of supertypes.
 ///

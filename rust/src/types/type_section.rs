@@ -7,6 +7,19 @@ use crate::alloc::{Allocator, Global};
 use crate::base::{Encode, Items, Pieces, R, Section, SectionId, ValType, vec_of};
 
 /// The types that a module defines, seen as the bytes of each entry.
+///
+/// ```
+/// # use dolzhytik::{alloc::Global, base::*, code::*, custom::*, immediates::*, insn::*, reader::*, recipe::*, sections::*, types::*};
+/// # use dolzhytik::vec::Vec;
+/// # fn example(alloc: Global) -> Result<(), Box<dyn std::error::Error>> {
+/// # let mut module = Module::new(alloc)?;
+/// let mut types = TypeSection::new(alloc);
+/// types.ty().function([ValType::I32, ValType::I32], [ValType::I32])?;
+/// module.section(&types)?;
+/// # Ok(())
+/// # }
+/// # example(Global).unwrap();
+/// ```
 #[derive(Debug)]
 pub struct TypeSection<A: Allocator = Global> {
     pieces: Pieces<A>,

@@ -3,6 +3,7 @@
 
 use dolzhytik::vec::Vec;
 use crate::checks::{Heap, MOST, check_answer, check_bytes, check_refused, check_that};
+use crate::further_entries::check_further;
 use dolzhytik::alloc::Global;
 use crate::host::Abort;
 use crate::test_support::Refusing;
@@ -10,7 +11,7 @@ use dolzhytik::base::{Encode, R, Section};
 use dolzhytik::custom::{BranchHint, CountedList, CustomEntries, CustomKind, DataSymbolDefinition, HintItems, IndirectMembers, IndirectNameMap, InstanceItems, LinkingItems, ListKind, ModuleItems, NameItems, NameMap, NameMembers, ProducerItems, ProducersField, SymbolMembers, SymbolTable, ValueMembers};
 
 /// A section that takes its memory from an allocator that refuses.
-type LentEntries<'h, K> = CustomEntries<K, &'h Refusing<Global>>;
+pub(crate) type LentEntries<'h, K> = CustomEntries<K, &'h Refusing<Global>>;
 
 /// The item is written as these bytes, where no request is refused.
 pub(crate) fn check_written<T: Encode>(rt: &impl Abort, heap: Heap<'_>, item: &T, expected: &[u8]) {
@@ -64,7 +65,7 @@ fn check_number(rt: &impl Abort, granted: bool, len: u32) {
 }
 
 /// A kind of section, and calls that add to it.
-trait SectionCalls: CustomKind + Sized {
+pub(crate) trait SectionCalls: CustomKind + Sized {
     /// What the calls are handed.
     type Given;
 
@@ -106,7 +107,8 @@ fn check_section<K: SectionCalls>(
             if granted { expected } else { K::EMPTY },
         );
         if granted {
-            return check_whole(rt, heap, &section, expected);
+            check_whole(rt, heap, &section, expected);
+            return check_further(rt, heap, &mut section, given, place);
         }
     }
     panic!(rt; "no call was granted")
@@ -149,10 +151,10 @@ pub(crate) fn check_copy<T: Encode>(
 }
 
 /// A list that takes its memory from an allocator that refuses.
-type LentList<'h, K> = CountedList<K, &'h Refusing<Global>>;
+pub(crate) type LentList<'h, K> = CountedList<K, &'h Refusing<Global>>;
 
 /// A kind of list, and calls that add to it.
-trait ListCalls: ListKind + Sized {
+pub(crate) trait ListCalls: ListKind + Sized {
     /// What the calls are handed.
     type Given;
 
@@ -185,7 +187,8 @@ fn check_list<K: ListCalls>(
         let granted = check_answer(rt, heap, nth, answer);
         check_written(rt, heap, &list, if granted { expected } else { &[0] });
         if granted {
-            return check_whole_list(rt, heap, &list, expected);
+            check_whole_list(rt, heap, &list, expected);
+            return check_further(rt, heap, &mut list, given, place);
         }
     }
     panic!(rt; "no call was granted")
@@ -294,7 +297,7 @@ fn symbol_tables() {
 }
 
 /// The maps that calls on a name section take.
-struct Maps {
+pub(crate) struct Maps {
     names: NameMap,
     indirect: IndirectNameMap,
 }

@@ -235,6 +235,7 @@ fn single_hint() {
     laws::calls();
     laws::wide_calls();
     laws::payloads();
+    laws::wide_payloads();
     let hint = BranchHint {
         branch_func_offset: 300,
         branch_hint_value: 0,

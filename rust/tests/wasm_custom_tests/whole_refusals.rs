@@ -4,6 +4,7 @@
 use dolzhytik::vec::Vec;
 use dolzhytik::string::String;
 use crate::checks::{Heap, MOST, check_answer};
+use crate::further_entries::{Growing, check_further};
 use crate::refusals::{check_append_to, check_copy, check_encode, check_written};
 use crate::host::Abort;
 use crate::test_support::Refusing;
@@ -91,6 +92,18 @@ fn add_frame(section: &mut CoreDumpStackSection<Heap<'_>>) -> R<()> {
     section.frame(0, 42, 51, [CoreDumpValue::I32(1)], [CoreDumpValue::I32(2)])
 }
 
+impl Growing for CoreDumpStackSection<Heap<'_>> {
+    type Given = ();
+
+    fn grow(&mut self, _: &(), _: usize) -> R<()> {
+        add_frame(self)
+    }
+
+    fn number(&self) -> Option<u32> {
+        None
+    }
+}
+
 #[test]
 fn frames() {
     let rt = crate::host::HostRuntime;
@@ -108,7 +121,8 @@ fn frames() {
             if granted { STACK } else { EMPTY_STACK },
         );
         if granted {
-            return check_stack(&rt, &heap, &section);
+            check_stack(&rt, &heap, &section);
+            return check_further(&rt, &heap, &mut section, &(), 0);
         }
     }
     panic!(rt; "no call was granted")

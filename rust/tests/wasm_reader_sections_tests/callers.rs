@@ -5,7 +5,7 @@ use dolzhytik::vec::Vec;
 use dolzhytik::alloc::Allocator;
 use dolzhytik::base::{Encode, R};
 use dolzhytik::custom::{NameMap, NameSection};
-use dolzhytik::reader::{Items, SectionKind, read_section, shorten};
+use dolzhytik::reader::{Items, ModuleFault, Offsets, SectionKind, laws, read_section, shorten, shorten_module};
 use dolzhytik::reader::base::ReadFault;
 use dolzhytik::sections::FunctionSection;
 
@@ -45,7 +45,7 @@ pub fn written_function<'a, A: Allocator + Copy>(
         Ok(()) => {}
         Err(_) => return Err(ReadFault::Memory),
     }
-    let (items, _taken) = read_section(SectionKind::Functions, text.as_slice(), alloc)?;
+    let (items, _taken) = read_section(alloc, SectionKind::Functions, text.as_slice())?;
     Ok(items)
 }
 
@@ -69,12 +69,11 @@ pub fn shortened_function<A: Allocator + Copy>(
     index: u32,
     sink: &mut Vec<u8, A>,
 ) -> Result<usize, ReadFault> {
-    let alloc = *text.allocator();
     match write_function(text, index) {
         Ok(()) => {}
         Err(_) => return Err(ReadFault::Memory),
     }
-    let taken = shorten(SectionKind::Functions, text.as_slice(), alloc, sink)?;
+    let taken = shorten(SectionKind::Functions, text.as_slice(), sink)?;
     Ok(taken)
 }
 
@@ -105,8 +104,8 @@ pub fn padded_function<'a, A: Allocator + Copy>(
         Ok(()) => {}
         Err(_) => return Err(ReadFault::Memory),
     }
-    let (items, _taken) = read_section(SectionKind::Functions, padded, alloc)?;
-    let _taken = shorten(SectionKind::Functions, padded, alloc, sink)?;
+    let (items, _taken) = read_section(alloc, SectionKind::Functions, padded)?;
+    let _taken = shorten(SectionKind::Functions, padded, sink)?;
     Ok(items)
 }
 
@@ -150,6 +149,50 @@ pub fn written_names<'a, A: Allocator + Copy>(
         Ok(()) => {}
         Err(_) => return Err(ReadFault::Memory),
     }
-    let (items, _taken) = read_section(SectionKind::Names, text.as_slice(), alloc)?;
+    let (items, _taken) = read_section(alloc, SectionKind::Names, text.as_slice())?;
     Ok(items)
+}
+
+/// Shortens a module into an empty buffer: what stands there is a module, and no longer.
+///
+/// # Asks
+///
+/// ```text
+/// requires { sink.old.items ≡ [] }
+/// ```
+///
+/// # Proved
+///
+/// ```text
+/// ensures is_module { OnOk result ((sections : List (ℕ × List ℕ)) × wasm_module wide sink.new.items sections) }
+/// ensures no_longer { OnOk result (length sink.new.items ≤ length bytes.now) }
+/// ```
+pub fn smaller_module<A: Allocator + Copy>(
+    bytes: &[u8],
+    sink: &mut Vec<u8, A>,
+) -> Result<usize, ModuleFault> {
+    shorten_module(bytes, Offsets::Refuse, sink)
+}
+
+/// Shortens a module, and then what came of it: both are the same.
+///
+/// # Asks
+///
+/// ```text
+/// requires { once.old.items ≡ [] × twice.old.items ≡ [] }
+/// ```
+///
+/// # Proved
+///
+/// ```text
+/// ensures same { OnOk result (twice.new.items ≡ once.new.items) }
+/// ```
+pub fn shortened_twice<A: Allocator + Copy>(
+    bytes: &[u8],
+    once: &mut Vec<u8, A>,
+    twice: &mut Vec<u8, A>,
+) -> Result<usize, ModuleFault> {
+    laws::shortened();
+    shorten_module(bytes, Offsets::LeaveOut, once)?;
+    shorten_module(once, Offsets::LeaveOut, twice)
 }

@@ -185,7 +185,7 @@ pub(crate) fn read<'a>(
     kind: SectionKind,
     bytes: &'a [u8],
 ) -> Option<(Told<'a>, usize)> {
-    match read_section(kind, bytes, alloc) {
+    match read_section(alloc, kind, bytes) {
         Ok((items, taken)) => Some((items_told(&items), taken)),
         Err(_) => None,
     }

@@ -8,7 +8,7 @@ use dolzhytik::reader::base::ReadFault;
 
 /// Nothing is read, for this cause.
 fn check(rt: &impl Abort, alloc: Global, kind: SectionKind, bytes: &[u8], expected: ReadFault) {
-    let fault = match read_section(kind, bytes, alloc) {
+    let fault = match read_section(alloc, kind, bytes) {
         Ok(_) => None,
         Err(fault) => Some(fault),
     };

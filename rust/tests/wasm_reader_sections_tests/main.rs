@@ -31,3 +31,5 @@ mod rows;
 mod seen;
 #[cfg(test)]
 mod shortest;
+#[cfg(test)]
+mod whole;

@@ -1,10 +1,11 @@
 // Written by tools/to-rust from crates/wasm_reader_sections_tests/src/rows.rt: change that.
 // Sections that are read back as their items, with ample memory.
 
+use dolzhytik::vec::Vec;
 use crate::seen::{Seen, read};
 use dolzhytik::alloc::Global;
 use crate::host::Abort;
-use dolzhytik::base::{RefType, ValType};
+use dolzhytik::base::{R, RefType, ValType};
 use dolzhytik::insn::Op;
 use dolzhytik::reader::SectionKind;
 use dolzhytik::sections::{EntityType, ExportKind, GlobalType, MemoryType, TableType, TagKind, TagType};
@@ -227,6 +228,29 @@ fn rows() {
     for (kind, bytes, seen) in PADDED.iter() {
         check(&rt, rt.alloc(), *kind, bytes, *seen, bytes.len());
     }
+}
+
+const DATA: [u8; 128] = [9; 128];
+
+/// These bytes, and the data behind them.
+pub(crate) fn before_data(alloc: Global, front: &[u8]) -> R<Vec<u8>> {
+    let mut bytes = Vec::from_slice(alloc, front)?;
+    bytes.extend_from_slice(&DATA)?;
+    Ok(bytes)
+}
+
+#[test]
+fn passive_data_of_128_bytes() {
+    let rt = crate::host::HostRuntime;
+    let section = before_data(rt.alloc(), &[0x84, 1, 1, 1, 0x80, 1]).expect("accepted");
+    check(
+        &rt,
+        rt.alloc(),
+        SectionKind::Segments,
+        &section,
+        Seen::Passive(&DATA),
+        134,
+    );
 }
 
 /// What follows a section is left.

@@ -4,6 +4,7 @@
 use dolzhytik::vec::Vec;
 use crate::callers::padded_function;
 use crate::checks::{MOST, check_bytes};
+use crate::rows::before_data;
 use crate::{custom_rows, faults, rows};
 use dolzhytik::alloc::Global;
 use crate::host::Abort;
@@ -239,7 +240,7 @@ fn outcome(
     let mut sink = Vec::new(heap);
     sink.push(BEFORE)?;
     heap.refuse(nth);
-    let (taken, fault, gained) = match shorten(kind, bytes, heap, &mut sink) {
+    let (taken, fault, gained) = match shorten(kind, bytes, &mut sink) {
         Ok(taken) => (taken, None, text),
         Err(fault) => (0, Some(fault), &[] as &[u8]),
     };
@@ -294,6 +295,18 @@ fn plain() {
     for (kind, bytes, _told) in custom_rows::ROWS.iter() {
         check_row(&rt, &heap, *kind, bytes, bytes);
     }
+}
+
+#[test]
+fn passive_data_of_128_bytes() {
+    let rt = crate::host::HostRuntime;
+    let heap = Refusing::new(rt.alloc());
+    let shortest = before_data(rt.alloc(), &[0x84, 1, 1, 1, 0x80, 1]).expect("accepted");
+    check_row(&rt, &heap, SectionKind::Segments, &shortest, &shortest);
+    let padded = before_data(rt.alloc(), &[0x86, 1, 1, 0x81, 0, 0x80, 0x81, 0]).expect(
+        "accepted",
+    );
+    check_row(&rt, &heap, SectionKind::Segments, &padded, &shortest);
 }
 
 /// Where no section stands nothing is appended.

@@ -2,13 +2,13 @@
 // What was read is written in its fewest bytes.
 
 use dolzhytik::vec::Vec;
-use crate::checks::check_bytes;
+use crate::checks::{check_bytes, check_cause};
 use dolzhytik::alloc::Global;
 use crate::host::Abort;
 use crate::test_support::Refusing;
 use dolzhytik::base::{Refused, ValType};
-use dolzhytik::reader::base::{Filled, Framed, Readable, Shorten};
-use dolzhytik::reader::insn::{Body, Expression, Plain};
+use dolzhytik::reader::base::{Filled, Framed, ReadFault, Readable, Shorten};
+use dolzhytik::reader::insn::{Body, Expression, Plain, shorten_body};
 
 /// More requests than any call here makes.
 const MOST: u64 = 100;
@@ -87,4 +87,44 @@ fn code() {
     check::<Plain>(&rt, alloc, &[0x28, 2, 0x90, 0], &[0x28, 2, 0x10]);
     check::<Expression>(&rt, alloc, &[0x41, 0x80, 0, 0x0B], &[0x41, 0, 0x0B]);
     check::<Body>(&rt, alloc, &[3, 0x80, 0, 0x0B], &[2, 0, 0x0B])
+}
+
+/// The body was written.
+fn check_written(rt: &impl Abort, given: Option<ReadFault>) {
+    assert_eq!(rt; given, None);
+}
+
+/// The body that the bytes are has this text in its frame, unless a request for memory is refused.
+fn check_body(rt: &impl Abort, alloc: Global, bytes: &[u8], text: &[u8]) {
+    let heap = Refusing::new(alloc);
+    for nth in 1..MOST {
+        heap.refuse(nth);
+        let mut out = Vec::new(&heap);
+        let fault = shorten_body(bytes, &heap, &mut out).err();
+        if heap.is_waiting() {
+            check_written(rt, fault);
+            check_bytes(rt, &out, text);
+            return;
+        }
+        check_cause(rt, fault, ReadFault::Memory);
+    }
+    panic!(rt; "no call was granted")
+}
+
+#[test]
+fn bodies() {
+    let rt = crate::host::HostRuntime;
+    let alloc = rt.alloc();
+    check_body(&rt, alloc, &[0x80, 0, 0x0B], &[2, 0, 0x0B]);
+    check_body(
+        &rt,
+        alloc,
+        &[
+            0x81, 0, 0x82, 0, 0x7F, 0x20, 0x81, 0, 0x0E, 0x81, 0, 0, 1, 0x0B,
+        ],
+        &[10, 1, 2, 0x7F, 0x20, 1, 0x0E, 1, 0, 1, 0x0B],
+    );
+    let mut out = Vec::new(alloc);
+    let fault = shorten_body(&[0, 0x20], alloc, &mut out).err();
+    check_cause(&rt, fault, ReadFault::Ended)
 }

@@ -376,7 +376,9 @@ fn laws_do_nothing() {
     laws::wide();
     laws::calls();
     laws::wide_calls();
+    laws::given_elements::<Global>();
     laws::payloads();
+    laws::wide_payloads();
     laws::nothing_stands();
 }
 
@@ -384,7 +386,9 @@ fn laws_do_nothing() {
 #[test]
 fn laws_for_callers_do_nothing() {
     dolzhytik::base::laws::payloads();
+    dolzhytik::base::laws::wide_payloads();
     dolzhytik::code::laws::payloads();
+    dolzhytik::code::laws::wide_payloads();
     dolzhytik::code::laws::calls::<Global>();
     dolzhytik::code::laws::wide_calls::<Global>();
     laws::plain_export(&Export {

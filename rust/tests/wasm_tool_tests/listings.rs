@@ -12,7 +12,14 @@ use dolzhytik::recipe::run;
 /// A module of two sections, and its lines.
 const TEXT: &str = "0061736d01000000030201000705010166000000020161";
 
-const LINES: &[u8] = b"3 2 1\n7 5 1\n0 2 -\n";
+const LINES: &str = "3 2 1\n7 5 1\n0 2 -\n";
+
+/// The module of a recipe that has each command, and its lines.
+const WHOLE: &str = "0061736d0100000001070160027f7f017f030201000503010001\
+    0606017f00417f0b07050101660000080100\
+    0a09010700200020016a0b0b08010041080b0268690009046e616d650002016d";
+
+const WHOLE_LINES: &str = "1 7 -\n3 2 1\n5 3 1\n6 6 1\n7 5 1\n8 1 1\n10 9 1\n11 8 1\n0 9 -\n";
 
 /// What the program answers and writes for a text.
 fn check_text(
@@ -98,9 +105,16 @@ fn faults() {
 }
 
 /// What the program answered and wrote where a request was to be refused: the lines where none was, and else that memory was refused.
-fn check_answer(rt: &impl Abort, granted: bool, status: u8, out: &[u8], message: &[u8]) {
+fn check_answer(
+    rt: &impl Abort,
+    granted: bool,
+    (text, lines): (&str, &str),
+    status: u8,
+    out: &[u8],
+    message: &[u8],
+) {
     if granted {
-        check_run(rt, TEXT, (status, out, message), (0, LINES, b""));
+        check_run(rt, text, (status, out, message), (0, lines.as_bytes(), b""));
     } else {
         check_that(rt, status == 1 && out.is_empty());
         check_that(rt, message.starts_with(b"section "));
@@ -108,22 +122,29 @@ fn check_answer(rt: &impl Abort, granted: bool, status: u8, out: &[u8], message:
     }
 }
 
-#[test]
-fn each_request_refused() {
-    let rt = crate::host::HostRuntime;
-    let heap = Refusing::new(rt.alloc());
+/// The module has these lines, each request refused in turn.
+fn check_refusals(rt: &impl Abort, alloc: Global, text: &str, lines: &str) {
+    let heap = Refusing::new(alloc);
     let args = [String::from_str(&heap, "--read").expect("accepted")];
     for nth in 1..MOST {
-        let mut out = FailingWriter::new(rt.alloc(), 0);
-        let mut err = FailingWriter::new(rt.alloc(), 0);
+        let mut out = FailingWriter::new(alloc, 0);
+        let mut err = FailingWriter::new(alloc, 0);
         heap.refuse(nth);
-        let status = run(&heap, &args, &mut TEXT.as_bytes(), &mut out, &mut err);
-        check_answer(&rt, heap.is_waiting(), status, out.bytes(), err.bytes());
-        if heap.is_waiting() {
+        let status = run(&heap, &args, &mut text.as_bytes(), &mut out, &mut err);
+        let granted = heap.is_waiting();
+        check_answer(rt, granted, (text, lines), status, out.bytes(), err.bytes());
+        if granted {
             return;
         }
     }
     panic!(rt; "no call was granted")
+}
+
+#[test]
+fn each_request_refused() {
+    let rt = crate::host::HostRuntime;
+    check_refusals(&rt, rt.alloc(), TEXT, LINES);
+    check_refusals(&rt, rt.alloc(), WHOLE, WHOLE_LINES);
 }
 
 #[test]

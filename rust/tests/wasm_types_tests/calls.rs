@@ -59,6 +59,7 @@ fn function_type() {
     laws::calls();
     laws::wide_calls();
     laws::payloads();
+    laws::wide_payloads();
     laws::nothing_stands();
     let ty: FuncType = function(rt.alloc()).expect("accepted");
     let mut section = TypeSection::new(rt.alloc());

@@ -87,7 +87,7 @@ pub fn dz_list(
 ) -> u64 {
     *place = 0;
     *cause = 0;
-    match list_module(bytes, alloc) {
+    match list_module(alloc, bytes) {
         Ok(lines) => put(&lines, out),
         Err((number, fault)) => {
             *place = number as u64;

@@ -15,7 +15,7 @@ const NOT_TEXT: u32 = 7;
 /// ```text
 /// ensures { result ≡ cause_number cause }
 /// ```
-fn number_of(cause: RecipeCause) -> u32 {
+pub(in crate::calls) fn number_of(cause: RecipeCause) -> u32 {
     match cause {
         RecipeCause::UnknownCommand => 1,
         RecipeCause::BadNumber => 2,

@@ -70,7 +70,7 @@ pub fn dz_shorten(
         return NO_ANSWER;
     };
     let mut text = Vec::new(alloc);
-    match shorten(kind, bytes, alloc, &mut text) {
+    match shorten(kind, bytes, &mut text) {
         Ok(count) => {
             *taken = count as u64;
             copied(&text, out)

@@ -2,11 +2,16 @@
 // Each call, with ample room, too little and none.
 
 use crate::calls::NO_ANSWER;
-use crate::calls::listing::{DzSection, dz_list};
-use crate::calls::recipes::dz_assemble;
+use crate::calls::causes::{dz_cause, dz_recipe_cause};
+use crate::calls::listing::{DzSection, dz_list, number_of as fault_number};
+use crate::calls::outlining::{DzOutlined, dz_outline};
+use crate::calls::recipes::{dz_assemble, number_of as cause_number};
 use crate::calls::shortest::dz_shorten;
+use crate::calls::whole::dz_shorten_module;
 use dolzhytik::alloc::Global;
 use crate::host::Abort;
+use dolzhytik::reader::ReadFault;
+use dolzhytik::recipe::RecipeCause;
 
 /// The module of a recipe of one body.
 const MODULE: &[u8] = b"\0asm\x01\0\0\0\x0A\x04\x01\x02\0\x0B";
@@ -76,6 +81,7 @@ fn lists() {
     check_list(&rt, alloc, &MODULE[..8], &mut room, (0, 0, 0));
     check_list(&rt, alloc, &MODULE[..9], &mut room, (NO_ANSWER, 1, 1));
     check_list(&rt, alloc, &[], &mut room, (NO_ANSWER, 0, 1));
+    check_list(&rt, alloc, b"\0asm\x02\0\0\0", &mut room, (NO_ANSWER, 0, 4));
     check_section(&rt, room[0], (77, 7, 7));
     check_list(&rt, alloc, MODULE, &mut [], (1, 0, 0));
 }
@@ -158,4 +164,308 @@ fn no_section_stands() {
         &[9; 3],
     );
     check_text(&rt, alloc, 5, &[], &mut [], (NO_ANSWER, 0, 1), &[]);
+}
+
+/// What an outline is answered: how many sections, and the place and the cause.
+fn check_outline(
+    rt: &impl Abort,
+    alloc: Global,
+    bytes: &[u8],
+    room: &mut [DzOutlined],
+    expected: (u64, u64, u32),
+) {
+    let mut place = 7;
+    let mut cause = 7;
+    let answer = dz_outline(alloc, bytes, room, &mut place, &mut cause);
+    assert_eq!(rt; (answer, place, cause), expected);
+}
+
+/// The section is this: its id, offset, size and items, and the place and the length of its name.
+fn check_outlined(
+    rt: &impl Abort,
+    section: DzOutlined,
+    expected: (u32, u64, u32, u64),
+    name: (u64, u64),
+) {
+    assert_eq!(rt;
+        (section.id, section.offset, section.size, section.items),
+        expected
+    );
+    assert_eq!(rt; (section.name_offset, section.name_size), name);
+}
+
+/// A section that no outline has.
+const NOT_OUTLINED: DzOutlined = DzOutlined {
+    items: 7,
+    offset: 7,
+    name_offset: 7,
+    name_size: 7,
+    size: 7,
+    id: 77,
+};
+
+/// A type, a custom section called `name` of padded numbers, one without a name, seven functions that don't stand there, and one that does.
+const OUTLINED: &[u8] =
+    b"\0asm\x01\0\0\0\x01\x04\x01\x60\0\0\0\x87\0\x84\0name\xFF\0\x01\x05\x03\x01\x07\x03\x02\x01\0";
+
+#[test]
+fn outlines() {
+    let rt = crate::host::HostRuntime;
+    let alloc = rt.alloc();
+    let mut room = [NOT_OUTLINED; 6];
+    let none = (NO_ANSWER, NO_ANSWER);
+    check_outline(&rt, alloc, OUTLINED, &mut room, (5, 0, 0));
+    check_outlined(&rt, room[0], (1, 10, 4, 1), none);
+    check_outlined(&rt, room[1], (0, 17, 7, NO_ANSWER), (19, 4));
+    check_outlined(&rt, room[2], (0, 26, 1, NO_ANSWER), none);
+    check_outlined(&rt, room[3], (3, 29, 1, NO_ANSWER), none);
+    check_outlined(&rt, room[4], (3, 32, 2, 1), none);
+    check_outlined(&rt, room[5], (77, 7, 7, 7), (7, 7));
+}
+
+/// Too little room, none, and bytes that are no module.
+#[test]
+fn no_outlines() {
+    let rt = crate::host::HostRuntime;
+    let alloc = rt.alloc();
+    let mut room = [NOT_OUTLINED];
+    check_outline(&rt, alloc, OUTLINED, &mut room, (5, 0, 0));
+    check_outline(&rt, alloc, OUTLINED, &mut [], (5, 0, 0));
+    check_outline(&rt, alloc, &MODULE[..8], &mut room, (0, 0, 0));
+    check_outline(&rt, alloc, &MODULE[..9], &mut room, (NO_ANSWER, 1, 1));
+    check_outline(&rt, alloc, &[], &mut room, (NO_ANSWER, 0, 1));
+    check_outlined(&rt, room[0], (77, 7, 7, 7), (7, 7));
+}
+
+/// What a module is answered: how many bytes its shortest text has, how many sections are kept, the place and the cause, and what stands in the room then.
+fn check_whole(
+    rt: &impl Abort,
+    alloc: Global,
+    bytes: &[u8],
+    drop_offsets: u32,
+    room: &mut [u8],
+    expected: (u64, u64, u64, u32),
+    left: &[u8],
+) {
+    let mut kept = 7;
+    let mut place = 7;
+    let mut cause = 7;
+    let answer = dz_shorten_module(
+        alloc,
+        bytes,
+        drop_offsets,
+        room,
+        &mut kept,
+        &mut place,
+        &mut cause,
+    );
+    assert_eq!(rt; (answer, kept, place, cause), expected);
+    assert_eq!(rt; &*room, left);
+}
+
+/// A padded section of functions, and one of which seven functions don't stand there.
+const PADDED: &[u8] = b"\0asm\x01\0\0\0\x03\x86\0\x01\x85\x80\x80\x80\0\x03\x01\x07";
+
+/// A padded code section, and symbols, which hold offsets into it.
+const SYMBOLS: &[u8] = b"\0asm\x01\0\0\0\x0A\x84\0\x01\x02\0\x0B\0\x08\x07linking";
+
+#[test]
+fn shortest_modules() {
+    let rt = crate::host::HostRuntime;
+    let alloc = rt.alloc();
+    let short = b"\0asm\x01\0\0\0\x03\x02\x01\x05\x03\x01\x07\x09";
+    check_whole(&rt, alloc, PADDED, 0, &mut [9; 16], (15, 1, 0, 0), short);
+    check_whole(&rt, alloc, PADDED, 1, &mut [9; 3], (15, 1, 0, 0), &[9; 3]);
+    check_whole(&rt, alloc, PADDED, 0, &mut [], (15, 1, 0, 0), &[]);
+    check_whole(&rt, alloc, SYMBOLS, 1, &mut [9; 14], (14, 0, 0, 0), MODULE);
+}
+
+/// A section whose offsets would be lost, and bytes that are no module.
+#[test]
+fn modules_that_are_refused() {
+    let rt = crate::host::HostRuntime;
+    let alloc = rt.alloc();
+    check_whole(
+        &rt,
+        alloc,
+        SYMBOLS,
+        0,
+        &mut [9; 2],
+        (NO_ANSWER, 0, 2, 10),
+        &[9; 2],
+    );
+    check_whole(
+        &rt,
+        alloc,
+        &MODULE[..9],
+        0,
+        &mut [9; 2],
+        (NO_ANSWER, 0, 1, 1),
+        &[9; 2],
+    );
+    check_whole(&rt, alloc, &[], 1, &mut [], (NO_ANSWER, 0, 0, 1), &[]);
+}
+
+/// A text of a cause.
+struct TextRow {
+    cause: u32,
+    text: &'static [u8],
+}
+
+/// What is wrong with the bytes of sections and modules.
+const FAULT_TEXTS: [TextRow; 10] = [
+    TextRow {
+        cause: 1,
+        text: b"Ended",
+    },
+    TextRow {
+        cause: 2,
+        text: b"NotShortest",
+    },
+    TextRow {
+        cause: 3,
+        text: b"TooLarge",
+    },
+    TextRow {
+        cause: 4,
+        text: b"UnknownTag",
+    },
+    TextRow {
+        cause: 5,
+        text: b"UnknownOpcode",
+    },
+    TextRow {
+        cause: 6,
+        text: b"NotUtf8",
+    },
+    TextRow {
+        cause: 7,
+        text: b"SizeMismatch",
+    },
+    TextRow {
+        cause: 8,
+        text: b"Memory",
+    },
+    TextRow {
+        cause: 9,
+        text: b"NoKind",
+    },
+    TextRow {
+        cause: 10,
+        text: b"Offsets",
+    },
+];
+
+/// What is wrong with recipes.
+const RECIPE_TEXTS: [TextRow; 7] = [
+    TextRow {
+        cause: 1,
+        text: b"unknown command",
+    },
+    TextRow {
+        cause: 2,
+        text: b"bad number",
+    },
+    TextRow {
+        cause: 3,
+        text: b"bad hex",
+    },
+    TextRow {
+        cause: 4,
+        text: b"missing word",
+    },
+    TextRow {
+        cause: 5,
+        text: b"out of memory",
+    },
+    TextRow {
+        cause: 6,
+        text: b"too long",
+    },
+    TextRow {
+        cause: 7,
+        text: b"not text",
+    },
+];
+
+/// The text stands at the front of the room, and is all that was written.
+fn check_told(rt: &impl Abort, answer: u64, room: &[u8], text: &[u8]) {
+    assert_eq!(rt; answer, text.len() as u64);
+    assert!(rt; room.starts_with(text));
+    match room.get(text.len()) {
+        Some(next) => assert_eq!(rt; *next, 9),
+        None => panic!(rt; "the room is too little"),
+    }
+}
+
+#[test]
+fn texts_of_faults() {
+    let rt = crate::host::HostRuntime;
+    for row in &FAULT_TEXTS {
+        let mut room = [9; 20];
+        let answer = dz_cause(row.cause, &mut room);
+        check_told(&rt, answer, &room, row.text);
+    }
+    let mut little = [9; 4];
+    assert_eq!(rt; dz_cause(1, &mut little), 5);
+    assert_eq!(rt; dz_cause(0, &mut little), NO_ANSWER);
+    assert_eq!(rt; dz_cause(11, &mut little), NO_ANSWER);
+    assert_eq!(rt; little, [9; 4]);
+    assert_eq!(rt; dz_cause(1, &mut []), 5);
+}
+
+#[test]
+fn texts_of_recipe_causes() {
+    let rt = crate::host::HostRuntime;
+    for row in &RECIPE_TEXTS {
+        let mut room = [9; 20];
+        let answer = dz_recipe_cause(row.cause, &mut room);
+        check_told(&rt, answer, &room, row.text);
+    }
+    let mut little = [9; 4];
+    assert_eq!(rt; dz_recipe_cause(7, &mut little), 8);
+    assert_eq!(rt; dz_recipe_cause(0, &mut little), NO_ANSWER);
+    assert_eq!(rt; dz_recipe_cause(8, &mut little), NO_ANSWER);
+    assert_eq!(rt; little, [9; 4]);
+    assert_eq!(rt; dz_recipe_cause(7, &mut []), 8);
+}
+
+/// The faults of the reader.
+const FAULTS: [ReadFault; 8] = [
+    ReadFault::Ended,
+    ReadFault::NotShortest,
+    ReadFault::TooLarge,
+    ReadFault::UnknownTag,
+    ReadFault::UnknownOpcode,
+    ReadFault::NotUtf8,
+    ReadFault::SizeMismatch,
+    ReadFault::Memory,
+];
+
+/// The causes of a recipe's fault.
+const CAUSES: [RecipeCause; 6] = [
+    RecipeCause::UnknownCommand,
+    RecipeCause::BadNumber,
+    RecipeCause::BadHex,
+    RecipeCause::MissingWord,
+    RecipeCause::Memory,
+    RecipeCause::TooLong,
+];
+
+/// The texts are those that the faults and causes print themselves.
+#[test]
+fn texts_that_are_printed() {
+    let rt = crate::host::HostRuntime;
+    for fault in FAULTS {
+        let said = format!(in rt.alloc(); "{fault}").expect("accepted");
+        let mut room = [9; 20];
+        let answer = dz_cause(fault_number(fault), &mut room);
+        check_told(&rt, answer, &room, said.as_bytes());
+    }
+    for cause in CAUSES {
+        let said = format!(in rt.alloc(); "{cause}").expect("accepted");
+        let mut room = [9; 20];
+        let answer = dz_recipe_cause(cause_number(cause), &mut room);
+        check_told(&rt, answer, &room, said.as_bytes());
+    }
 }

@@ -65,6 +65,8 @@ impl<'a, A: Allocator + Copy, T: Filling<'a, A>> Readable<'a, A> for Filled<T> {
 /// ```text
 /// ensures framed { OnOk result (out.new.items ≡ take start out.old.items ++ frame_text (drop start out.old.items)) }
 /// ensures fitted { OnOk result (FrameFits (drop start out.old.items)) }
+/// ensures err { OnErr result (out.new.items ≡ out.old.items) }
+/// ensures too_long { FrameFits (drop start out.old.items) → result ≢ Err TooLong }
 /// ```
 pub fn frame_since<B: Sink>(out: &mut B, start: usize) -> R<()> {
     let size = out.len() - start;

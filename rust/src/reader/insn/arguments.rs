@@ -44,6 +44,7 @@ pub enum Arg<A: Allocator = Global> {
 /// ensures found { IfOk result (λ x. Reads (part parts.Unsigned) wide bytes.now (argument_of x.0) x.1.now) }
 /// ensures none { IfErr result (λ e. e ≢ Memory → ReadsNothing (part parts.Unsigned) wide bytes.now) }
 /// ```
+#[inline(always)]
 fn read_unsigned<'a, A: Allocator + Copy>(
     bytes: &'a [u8],
     alloc: A,
@@ -60,6 +61,7 @@ fn read_unsigned<'a, A: Allocator + Copy>(
 /// ensures found { IfOk result (λ x. Reads (part parts.Signed32) wide bytes.now (argument_of x.0) x.1.now) }
 /// ensures none { IfErr result (λ e. e ≢ Memory → ReadsNothing (part parts.Signed32) wide bytes.now) }
 /// ```
+#[inline(always)]
 fn read_signed32<'a, A: Allocator + Copy>(
     bytes: &'a [u8],
     alloc: A,
@@ -76,6 +78,7 @@ fn read_signed32<'a, A: Allocator + Copy>(
 /// ensures found { IfOk result (λ x. Reads (part parts.Signed64) wide bytes.now (argument_of x.0) x.1.now) }
 /// ensures none { IfErr result (λ e. e ≢ Memory → ReadsNothing (part parts.Signed64) wide bytes.now) }
 /// ```
+#[inline(always)]
 fn read_signed64<'a, A: Allocator + Copy>(
     bytes: &'a [u8],
     alloc: A,
@@ -143,7 +146,7 @@ fn read_vector<'a, A: Allocator + Copy>(
 /// ensures found { IfOk result (λ x. Reads (part parts.Memory) wide bytes.now (argument_of x.0) x.1.now) }
 /// ensures none { IfErr result (λ e. e ≢ Memory → ReadsNothing (part parts.Memory) wide bytes.now) }
 /// ```
-#[inline(never)]
+#[inline(always)]
 fn read_memory<'a, A: Allocator + Copy>(
     bytes: &'a [u8],
     alloc: A,
@@ -193,7 +196,7 @@ fn read_lanes<'a, A: Allocator + Copy>(
 /// ensures found { IfOk result (λ x. Reads (part parts.Block) wide bytes.now (argument_of x.0) x.1.now) }
 /// ensures none { IfErr result (λ e. e ≢ Memory → ReadsNothing (part parts.Block) wide bytes.now) }
 /// ```
-#[inline(never)]
+#[inline(always)]
 fn read_block<'a, A: Allocator + Copy>(
     bytes: &'a [u8],
     alloc: A,
@@ -387,7 +390,7 @@ fn read_parts<'a, A: Allocator + Copy>(
     Ok(rest)
 }
 
-/// The arguments that follow an op of the shape, in memory of just their number.
+/// The arguments of any shape, in memory of just their number. Out of line, for those that are rare.
 ///
 /// # Proved
 ///
@@ -395,7 +398,8 @@ fn read_parts<'a, A: Allocator + Copy>(
 /// ensures found { IfOk result (λ x. Reads (arguments (parts_of shape)) wide bytes.now (map argument_of x.0.items) x.1.now) }
 /// ensures none { IfErr result (λ e. e ≢ Memory → ReadsNothing (arguments (parts_of shape)) wide bytes.now) }
 /// ```
-pub(in crate::reader::insn) fn read_arguments<'a, A: Allocator + Copy>(
+#[inline(never)]
+fn read_any<'a, A: Allocator + Copy>(
     shape: Shape,
     bytes: &'a [u8],
     alloc: A,
@@ -406,7 +410,51 @@ pub(in crate::reader::insn) fn read_arguments<'a, A: Allocator + Copy>(
     Ok((args, rest))
 }
 
-/// The arguments that follow an op of the shape, in the memory of the list, which loses what it had.
+/// The list of the one argument that was read, and the bytes after it.
+///
+/// # Proved
+///
+/// ```text
+/// ensures listed { IfOk result (λ x. (x.0.items ≡ read.entry.0 ∷ []) × (x.1.now ≡ read.entry.1.now)) }
+/// ensures refused { IfErr result (λ e. e ≡ Memory) }
+/// ```
+#[inline(always)]
+fn list_one<'a, A: Allocator + Copy>(
+    alloc: A,
+    read: (Arg<A>, &'a [u8]),
+) -> Result<(Vec<Arg<A>, A>, &'a [u8]), ReadFault> {
+    let (arg, rest) = read;
+    let mut args = Vec::with_capacity(alloc, 1)?;
+    args.push_reserved(arg);
+    Ok((args, rest))
+}
+
+/// The arguments that follow an op of the shape, in memory of just their number. Those of common shapes are read in place.
+///
+/// # Proved
+///
+/// ```text
+/// ensures found { IfOk result (λ x. Reads (arguments (parts_of shape)) wide bytes.now (map argument_of x.0.items) x.1.now) }
+/// ensures none { IfErr result (λ e. e ≢ Memory → ReadsNothing (arguments (parts_of shape)) wide bytes.now) }
+/// ```
+#[inline]
+pub(in crate::reader::insn) fn read_arguments<'a, A: Allocator + Copy>(
+    shape: Shape,
+    bytes: &'a [u8],
+    alloc: A,
+) -> Result<(Vec<Arg<A>, A>, &'a [u8]), ReadFault> {
+    match shape {
+        Shape::Nothing => Ok((Vec::new(alloc), bytes)),
+        Shape::U => list_one(alloc, read_unsigned(bytes, alloc)?),
+        Shape::M => list_one(alloc, read_memory(bytes, alloc)?),
+        Shape::C32 => list_one(alloc, read_signed32(bytes, alloc)?),
+        Shape::C64 => list_one(alloc, read_signed64(bytes, alloc)?),
+        Shape::B => list_one(alloc, read_block(bytes, alloc)?),
+        _ => read_any(shape, bytes, alloc),
+    }
+}
+
+/// The arguments of any shape, in the memory of the list. Out of line, for those that are rare.
 ///
 /// # Proved
 ///
@@ -414,7 +462,8 @@ pub(in crate::reader::insn) fn read_arguments<'a, A: Allocator + Copy>(
 /// ensures found { IfOk result (λ rest. Reads (arguments (parts_of shape)) wide bytes.now (map argument_of args.new.items) rest.now) }
 /// ensures none { IfErr result (λ e. e ≢ Memory → ReadsNothing (arguments (parts_of shape)) wide bytes.now) }
 /// ```
-pub(in crate::reader::insn) fn read_arguments_into<'a, A: Allocator + Copy>(
+#[inline(never)]
+fn read_any_into<'a, A: Allocator + Copy>(
     shape: Shape,
     bytes: &'a [u8],
     alloc: A,
@@ -422,6 +471,58 @@ pub(in crate::reader::insn) fn read_arguments_into<'a, A: Allocator + Copy>(
 ) -> Result<&'a [u8], ReadFault> {
     args.clear();
     read_parts(shape.parts(), bytes, alloc, args)
+}
+
+/// Makes the argument that was read the only one of the list, and answers the bytes after it.
+///
+/// # Proved
+///
+/// ```text
+/// ensures kept { IfOk result (λ rest. (args.new.items ≡ read.entry.0 ∷ []) × (rest.now ≡ read.entry.1.now)) }
+/// ensures refused { IfErr result (λ e. e ≡ Memory) }
+/// ```
+#[inline(always)]
+fn keep_one<'a, A: Allocator + Copy>(
+    args: &mut Vec<Arg<A>, A>,
+    read: (Arg<A>, &'a [u8]),
+) -> Result<&'a [u8], ReadFault> {
+    let (arg, rest) = read;
+    if let [one] = &mut args[..] {
+        *one = arg;
+        return Ok(rest);
+    }
+    args.clear();
+    args.push(arg)?;
+    Ok(rest)
+}
+
+/// The arguments that follow an op of the shape, in the memory of the list, which loses what it had. Those of common shapes are read in place.
+///
+/// # Proved
+///
+/// ```text
+/// ensures found { IfOk result (λ rest. Reads (arguments (parts_of shape)) wide bytes.now (map argument_of args.new.items) rest.now) }
+/// ensures none { IfErr result (λ e. e ≢ Memory → ReadsNothing (arguments (parts_of shape)) wide bytes.now) }
+/// ```
+#[inline]
+pub(in crate::reader::insn) fn read_arguments_into<'a, A: Allocator + Copy>(
+    shape: Shape,
+    bytes: &'a [u8],
+    alloc: A,
+    args: &mut Vec<Arg<A>, A>,
+) -> Result<&'a [u8], ReadFault> {
+    match shape {
+        Shape::Nothing => {
+            args.clear();
+            Ok(bytes)
+        }
+        Shape::U => keep_one(args, read_unsigned(bytes, alloc)?),
+        Shape::M => keep_one(args, read_memory(bytes, alloc)?),
+        Shape::C32 => keep_one(args, read_signed32(bytes, alloc)?),
+        Shape::C64 => keep_one(args, read_signed64(bytes, alloc)?),
+        Shape::B => keep_one(args, read_block(bytes, alloc)?),
+        _ => read_any_into(shape, bytes, alloc, args),
+    }
 }
 
 /// Appends the text of the argument.

@@ -2,10 +2,14 @@
 // Lists of instructions up to the last byte, and functions' bodies.
 
 use crate::vec::{Sink, Vec};
-use crate::reader::insn::instruction::Plain;
+use crate::reader::insn::instruction::{Plain, append_instruction};
+use crate::reader::insn::walk::Instructions;
 use crate::alloc::{Allocator, Global};
 use crate::base::{R, ValType};
 use crate::reader::base::{Filled, Filling, ReadFault, Readable, Shorten, frame_since};
+
+/// A list is made with room for an instruction of so many bytes each, and grows where they are shorter.
+const BYTES_OF_ONE: usize = 4;
 
 /// Instructions up to the last byte.
 #[derive(Debug)]
@@ -21,7 +25,7 @@ pub struct Code<A: Allocator = Global>(pub Vec<Plain<A>, A>);
 /// ```
 impl<'a, A: Allocator + Copy> Filling<'a, A> for Code<A> {
     fn fill(bytes: &'a [u8], alloc: A) -> Result<Code<A>, ReadFault> {
-        let mut items = Vec::new(alloc);
+        let mut items = Vec::with_capacity(alloc, bytes.len() / BYTES_OF_ONE)?;
         let mut rest = bytes;
         loop {
             if rest.is_empty() {
@@ -109,4 +113,33 @@ impl<A: Allocator> Shorten for Body<A> {
         append_code(&self.code, out)?;
         frame_since(out, start)
     }
+}
+
+/// Appends the shortest text of a body in its frame, as it stands in a code section. The bytes are those of the body without its size. It
+/// goes over the instructions and keeps one of them. After an error a part of the text may stand there.
+///
+/// ```text
+/// shorten_body(&[0x80, 0x00, 0x20, 0x81, 0x00, 0x0B], alloc, &mut out)?;
+/// // 04 00 20 01 0B was appended: a body of no locals, `LocalGet(1)` and `End`
+/// ```
+///
+/// # Proved
+///
+/// ```text
+/// ensures found { OnOk result ((x : BodyModel) × body wide bytes.now x × AppendsShortest (frame body) x out.old.items out.new.items) }
+/// ensures none { IfErr result (λ e. e ≢ Memory → FillsNothing body bytes.now) }
+/// ```
+pub fn shorten_body<A: Allocator + Copy, B: Sink>(
+    bytes: &[u8],
+    alloc: A,
+    out: &mut B,
+) -> Result<(), ReadFault> {
+    let start = out.len();
+    let (runs, mut instructions) = Instructions::of_body(bytes, alloc)?;
+    runs.append_shortest(out)?;
+    while let Some(step) = instructions.next()? {
+        append_instruction(step.op, instructions.args(), out)?;
+    }
+    frame_since(out, start)?;
+    Ok(())
 }

@@ -77,6 +77,22 @@ pub(in crate::reader::insn) fn read_instruction_into<'a, A: Allocator + Copy>(
     Ok((op, rest))
 }
 
+/// Appends the shortest text of the instruction.
+///
+/// # Proved
+///
+/// ```text
+/// ensures { OnOk result (AppendsShortest (instruction table) (record { op = op; arguments = map argument_of args.now }) out.old.items out.new.items) }
+/// ```
+pub(in crate::reader::insn) fn append_instruction<A: Allocator, B: Sink>(
+    op: Op,
+    args: &[Arg<A>],
+    out: &mut B,
+) -> R<()> {
+    op.encode(out)?;
+    append_arguments(args, out)
+}
+
 /// # Defined
 ///
 /// ```text
@@ -86,7 +102,6 @@ pub(in crate::reader::insn) fn read_instruction_into<'a, A: Allocator + Copy>(
 /// ```
 impl<A: Allocator> Shorten for Plain<A> {
     fn append_shortest<B: Sink>(&self, out: &mut B) -> R<()> {
-        self.op.encode(out)?;
-        append_arguments(&self.args, out)
+        append_instruction(self.op, &self.args, out)
     }
 }

@@ -12,7 +12,7 @@ pub mod laws;
 mod walk;
 
 pub use arguments::Arg;
-pub use body::{Body, Code};
+pub use body::{Body, Code, shorten_body};
 pub use expression::Expression;
 pub use instruction::Plain;
 pub use walk::{Instructions, Step};

@@ -1,14 +1,6 @@
-use Rattle.std.proofs.Common.{arith}
 use Rattle.wasm_base.proofs.ReadingSteps.{front_and_rest}
-use Rattle.wasm_reader_base.proofs.ReadNumbers.{u64_byte, u64_none, u64_large}
-use Rattle.wasm_reader_base.proofs.Faults.{fault_stays}
+use Rattle.wasm_reader_base.proofs.ReadNumbers.{u64_byte}
 use Rattle.wasm_reader_base.proofs.numbers.U64Readable.read.Goals as goal
 
 pub returns-then-b-lt128-clause-found : goal.returns-then-b-lt128-clause-found
 returns-then-b-lt128-clause-found g c = u64_byte c.args.bytes.now _ _ _ (front_and_rest c.args.bytes.now c.in-len1-up.len_at_least) c.if-b-lt128.true c.from.ensures
-
-pub returns-in_err-groups-clause-none : goal.returns-in_err-groups-clause-none
-returns-in_err-groups-clause-none g c = fault_stays c.from_residual.result _ c.from_residual.ensures.1 λ n. u64_none c.args.bytes.now c.in_err-groups.ensures.none
-
-pub returns-else-groups-clause-none : goal.returns-else-groups-clause-none
-returns-else-groups-clause-none g c = λ e. u64_large c.args.bytes.now _ _ _ _ c.in_ok-groups.ensures.found (omega (arith, c.if-groups.false))

@@ -1,0 +1,78 @@
+-- Names of sections stand in the module, behind their lengths.
+use Rattle.std.proofs.Common.{◌≡◌, ℕ, ◌<◌, ◌≤◌, ◌+◌, suc, List, [], ◌∷◌, ◌++◌, length, get_or, drop, Option, Some, None, IfSome, if◌then◌else◌, nat_lt, option_map, refl, sym, ap, subst, ◌∙◌, append_assoc, arith}
+use Rattle.std.specs.Prelude.{All}
+use Rattle.std.specs.List.{AllByRecursion, flat_map}
+use Rattle.std.proofs.lemmas.List.{length-append, drop_at, drop_more}
+use Rattle.std.proofs.lemmas.Bool.{le-ltb, lt-ltb}
+use Rattle.std.proofs.lemmas.List.Elements.{All-from_recursion}
+use Rattle.wasm_base.specs.Numbers.{AreGroups, wide}
+use Rattle.wasm_base.specs.Formats.{header, name}
+use Rattle.wasm_base.specs.Reading.{Reads}
+use Rattle.wasm_reader.specs.Outlines.{Section, IsSection, IsNameOf, IsOutline, AreOutlines, HasOutline, bytes_of}
+use Rattle.wasm_reader.specs.declared.outlines.Outlined.{Outlined}
+use Rattle.wasm_c.specs.Outlining.{continued, behind_number, name_of, IsNamed}
+
+-- a byte with bit 7 is not the last
+pub continued_more : (b : ℕ) (bs : List ℕ) → 0x80 ≤ b → continued (b ∷ bs) ≡ suc (continued bs)
+continued_more b bs h = ap (λ t. if t then 0 else suc (continued bs)) (le-ltb b 0x80 h)
+
+continued_last : (b : ℕ) (bs : List ℕ) → b < 0x80 → continued (b ∷ bs) ≡ 0
+continued_last b bs h = ap (λ t. if t then 0 else suc (continued bs)) (lt-ltb b 0x80 h)
+
+-- the same of the byte at a place
+pub number_more : (bytes : List ℕ) (i b : ℕ) → i < length bytes → b ≡ get_or bytes i b → 0x80 ≤ b → behind_number bytes (i + 1) ≡ behind_number bytes i
+number_more bytes i b inside is h = omega (arith, ap continued (drop_more bytes i b inside) ∙ ap (λ z. continued (z ∷ drop (i + 1) bytes)) (sym is) ∙ continued_more b (drop (i + 1) bytes) h)
+
+pub number_ends : (bytes : List ℕ) (i b : ℕ) → i < length bytes → b ≡ get_or bytes i b → b < 0x80 → i + 1 ≡ behind_number bytes i
+number_ends bytes i b inside is h = omega (arith, ap continued (drop_more bytes i b inside) ∙ ap (λ z. continued (z ∷ drop (i + 1) bytes)) (sym is) ∙ continued_last b (drop (i + 1) bytes) h)
+
+pub ruleset number_steps = (number_more, number_ends)
+
+-- the bytes of a number are those with bit 7, and one more
+groups_length : (s rest : List ℕ) → AreGroups s → suc (continued (s ++ rest)) ≡ length s
+groups_length [] rest h = absurd h
+groups_length (b ∷ []) rest h = ap suc (continued_last b rest h)
+groups_length (b ∷ c ∷ bs) rest h = ap suc (continued_more b (c ∷ bs ++ rest) h.0 ∙ groups_length (c ∷ bs) rest h.2)
+
+-- A name that is read at the front of a payload is read at its place in the module.
+named : (bytes front payload after : List ℕ) (offset : ℕ) (n rest : List ℕ) → bytes ≡ front ++ (payload ++ after) → length front ≡ offset → Reads name wide payload n rest
+    → (rest : List ℕ) × Reads name wide (drop offset bytes) n rest × (behind_number bytes offset + length n + length rest ≡ length bytes)
+named bytes front payload after offset n rest e o h =
+    let f = h.spelled.0 in
+    let here : drop offset bytes ≡ payload ++ after = ap (λ z. drop offset z) e ∙ drop_at front (payload ++ after) offset o in
+    let split : payload ++ after ≡ h.front ++ (rest ++ after) = ap (λ z. z ++ after) h.split ∙ append_assoc h.front rest after in
+    let text : drop offset bytes ≡ f.front ++ (f.content ++ (rest ++ after)) = here ∙ split ∙ ap (λ z. z ++ (rest ++ after)) f.joined ∙ append_assoc f.front f.content (rest ++ after) in
+    let number : suc (continued (drop offset bytes)) ≡ length f.front = ap (λ z. suc (continued z)) text ∙ groups_length f.front (f.content ++ (rest ++ after)) f.size.groups in (
+      rest ++ after,
+      record { front = h.front; split = here ∙ split; spelled = h.spelled },
+      omega (arith, number, o, ap length e, length-append front (payload ++ after), ap length (sym here ∙ text), length-append f.front (f.content ++ (rest ++ after)), length-append f.content (rest ++ after), ap length f.spelled),
+    )
+
+-- the same where there may be none
+given : (bytes front payload after : List ℕ) (offset id : ℕ) (n : Option (List ℕ)) → bytes ≡ front ++ (payload ++ after) → length front ≡ offset → IsNameOf id payload n
+    → IfSome n (λ n. (rest : List ℕ) × Reads name wide (drop offset bytes) n rest × (behind_number bytes offset + length n + length rest ≡ length bytes))
+given bytes front payload after offset id None e o i = tt
+given bytes front payload after offset id (Some n) e o i = named bytes front payload after offset n i.1 e o i.2
+
+-- the same of a line
+line_named : (bytes front after : List ℕ) (s : Section) (l : Outlined) → bytes ≡ front ++ (bytes_of s ++ after) → IsSection s → IsOutline (length front) s l → IsNamed bytes l
+line_named bytes front after s l e h o =
+    let f = h.holds in
+    let joined : bytes ≡ (front ++ (s.id ∷ f.front)) ++ (s.payload ++ after) =
+    e ∙ ap (λ z. front ++ ((s.id ∷ z) ++ after)) (f.joined ∙ ap (λ z. f.front ++ z) f.spelled) ∙ ap (λ z. front ++ (s.id ∷ z)) (append_assoc f.front s.payload after)
+    ∙ sym (append_assoc front (s.id ∷ f.front) (s.payload ++ after)) in
+    let placed : length (front ++ (s.id ∷ f.front)) ≡ l.offset = omega (arith, o.offset, length-append front (s.id ∷ f.front), ap length f.joined, ap length f.spelled, length-append f.front f.content) in
+    given bytes (front ++ (s.id ∷ f.front)) s.payload after l.offset s.id (name_of l) joined placed (subst (λ z. IsNameOf s.id s.payload z) (sym o.name) h.named)
+
+lines_named : (front : List ℕ) (ss : List Section) (ls : List Outlined) → AllByRecursion IsSection ss → AreOutlines (length front) ss ls → AllByRecursion (IsNamed (front ++ flat_map bytes_of ss)) ls
+lines_named front [] [] h o = tt
+lines_named front (s ∷ ss) (l ∷ ls) h o = (
+  line_named (front ++ flat_map bytes_of (s ∷ ss)) front (flat_map bytes_of ss) s l refl h.0 o.0,
+  subst (λ z. AllByRecursion (IsNamed z) ls) (append_assoc front (bytes_of s) (flat_map bytes_of ss)) (lines_named (front ++ bytes_of s) ss ls h.1 (subst (λ z. AreOutlines z ss ls) (sym (length-append front (bytes_of s))) o.1)),
+)
+lines_named front [] (l ∷ ls) h o = absurd o
+lines_named front (s ∷ ss) [] h o = absurd o
+
+-- The names of an outline stand where it tells.
+pub all_named : (bytes : List ℕ) (lines : List Outlined) → HasOutline bytes lines → All (IsNamed bytes) lines
+all_named bytes lines h = All-from_recursion (IsNamed bytes) lines (subst (λ z. AllByRecursion (IsNamed z) lines) (sym h.has.joined) (lines_named header h.sections lines h.has.each h.told))

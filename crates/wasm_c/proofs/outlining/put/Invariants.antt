@@ -1,0 +1,11 @@
+use Rattle.std.proofs.Common.{◌≡◌, length, map, take, drop}
+use Rattle.wasm_c.specs.Outlining.{section_of}
+use Rattle.wasm_c.proofs.outlining.put.Given as goal
+
+-- so many sections are put, and what is behind them is as it was
+abbrev pub invariant-loop-i : goal.invariant-loop-i
+invariant-loop-i l = record {
+  places : length l.out ≡ length l.initial.out;
+  front : take l.i l.out ≡ map (section_of l.bytes) (take l.i l.lines);
+  back : drop l.i l.out ≡ drop l.i l.initial.out;
+}

@@ -1,0 +1,39 @@
+-- What is answered of the shortest text of a module.
+use Rattle.std.specs.Prelude.{◌≡◌, ℕ, List, [], ◌⊎◌, cond, ◌==◌}
+use Rattle.wasm_reader_base.specs.declared.fault.ReadFault.{ReadFault}
+use Rattle.wasm_reader.specs.Shortening.{ShortensModule, Explains}
+use Rattle.wasm_reader.specs.declared.whole.ModuleFault.TheVariants as faults
+use Rattle.wasm_reader.specs.declared.whole.Offsets.{Offsets}
+use Rattle.wasm_reader.specs.declared.whole.Offsets.TheVariants.{Refuse, LeaveOut}
+use Rattle.wasm_c.specs.Assembled.{Gives}
+use Rattle.wasm_c.specs.Listing.{fault_number}
+use Rattle.wasm_c.specs.declared.TheConstants.{NO_ANSWER}
+
+-- what is done with sections that hold offsets: 0 refuses them, any other number leaves them out
+abbrev pub offsets_numbered : ℕ → Offsets
+offsets_numbered n = cond (n == 0) Refuse LeaveOut
+
+-- This is the module with its sections in their shortest texts, of which so many are kept as they stand.
+pub record Shortened (module_bytes : List ℕ) (drop_offsets : ℕ) (old new : List ℕ) (kept place cause n : ℕ) : Type 0 where
+  pub text : List ℕ
+  pub shortens : ShortensModule (offsets_numbered drop_offsets) module_bytes kept [] text
+  pub gives : Gives text old new n
+  pub no_place : place ≡ 0
+  pub no_cause : cause ≡ 0
+
+-- The section of this number holds offsets, and would lose them; or it is none of any bytes, for a fault of this number, or memory was refused.
+abbrev pub IsWhy : List ℕ → ℕ → ℕ → ℕ → Type 0
+IsWhy module_bytes drop_offsets place cause =
+    ((cause ≡ 10) × Explains (offsets_numbered drop_offsets) module_bytes (faults.Offsets place))
+    ⊎ ((fault : ReadFault) × (cause ≡ fault_number fault) × Explains (offsets_numbered drop_offsets) module_bytes (faults.Section place fault))
+
+-- There is no text, and nothing was written.
+pub record Refuses (module_bytes : List ℕ) (drop_offsets : ℕ) (old new : List ℕ) (kept place cause n : ℕ) : Type 0 where
+  pub answer : n ≡ NO_ANSWER
+  pub as_was : new ≡ old
+  pub none_kept : kept ≡ 0
+  pub why : IsWhy module_bytes drop_offsets place cause
+
+-- what is answered of a module
+abbrev pub Outcome : List ℕ → ℕ → List ℕ → List ℕ → ℕ → ℕ → ℕ → ℕ → Type 0
+Outcome module_bytes drop_offsets old new kept place cause n = Refuses module_bytes drop_offsets old new kept place cause n ⊎ Shortened module_bytes drop_offsets old new kept place cause n

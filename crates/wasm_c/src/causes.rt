@@ -1,0 +1,64 @@
+// Texts of causes.
+ghost use Rattle.std.specs.Prelude.{◌≡◌, option_map, string_bytes};
+ghost use Rattle.wasm_c.specs.Causes.{fault_texts, recipe_texts, text_numbered, Tells};
+
+use crate::NO_ANSWER;
+use crate::recipes::copied;
+
+/// What is wrong with the bytes of a section or a module, where a fault has the number.
+fn fault_text(cause: u32) -> Option<&'static str>
+    ensures { option_map (λ t. t.now) result ≡ text_numbered fault_texts cause }
+{
+    match cause {
+        1 => Some("Ended"),
+        2 => Some("NotShortest"),
+        3 => Some("TooLarge"),
+        4 => Some("UnknownTag"),
+        5 => Some("UnknownOpcode"),
+        6 => Some("NotUtf8"),
+        7 => Some("SizeMismatch"),
+        8 => Some("Memory"),
+        9 => Some("NoKind"),
+        10 => Some("Offsets"),
+        _ => None,
+    }
+}
+
+/// What is wrong with a recipe, where a cause has the number.
+fn recipe_text(cause: u32) -> Option<&'static str>
+    ensures { option_map (λ t. t.now) result ≡ text_numbered recipe_texts cause }
+{
+    match cause {
+        1 => Some("unknown command"),
+        2 => Some("bad number"),
+        3 => Some("bad hex"),
+        4 => Some("missing word"),
+        5 => Some("out of memory"),
+        6 => Some("too long"),
+        7 => Some("not text"),
+        _ => None,
+    }
+}
+
+/// The text of a cause of [`dz_list`](crate::listing::dz_list), [`dz_outline`](crate::outlining::dz_outline), [`dz_shorten`](crate::shortest::dz_shorten) or
+/// [`dz_shorten_module`](crate::whole::dz_shorten_module), in ASCII and without an end.
+#[unsafe(no_mangle)]
+pub extern "C" fn dz_cause(cause: u32, out: &mut [u8]) -> u64
+    ensures { Tells (text_numbered fault_texts cause) out.old out.new result }
+{
+    match fault_text(cause) {
+        Some(text) => copied(text.as_bytes(), out),
+        None => NO_ANSWER,
+    }
+}
+
+/// The text of a cause of [`dz_assemble`](crate::recipes::dz_assemble), in ASCII and without an end.
+#[unsafe(no_mangle)]
+pub extern "C" fn dz_recipe_cause(cause: u32, out: &mut [u8]) -> u64
+    ensures { Tells (text_numbered recipe_texts cause) out.old out.new result }
+{
+    match recipe_text(cause) {
+        Some(text) => copied(text.as_bytes(), out),
+        None => NO_ANSWER,
+    }
+}

@@ -1,0 +1,237 @@
+-- What is as short as can be stays as it is.
+use Rattle.std.proofs.Common.{◌≡◌, ◌≢◌, ℕ, List, [], ◌∷◌, ◌++◌, length, drop, Bool, true, false, if◌then◌else◌, Option, Some, None, refl, sym, ap, subst, ◌∙◌, append-nil}
+use Rattle.std.specs.List.{AllByRecursion as All, flat_map}
+use Rattle.std.specs.Str.{bytes_eq}
+use Rattle.std.proofs.lemmas.List.{append_cancel_left}
+use Rattle.wasm_base.specs.Numbers.{shortest, wide}
+use Rattle.wasm_base.specs.Formats.{Format, any_bytes, frame, header, name}
+use Rattle.wasm_base.specs.Reading.{Reads, ReadsNothing}
+use Rattle.wasm_base.proofs.BaseLaws.{frame-bytes-alone, name-alone}
+use Rattle.wasm_base.proofs.NumberLaws.{u32-alone}
+use Rattle.wasm_base.proofs.ReadingSteps.{reads_same}
+use Rattle.wasm_custom.specs.Customs.{named_payload}
+use Rattle.wasm_custom.specs.CoreDumps.{core_name, modules_name, instances_name}
+use Rattle.wasm_custom.specs.CoreStacks.{stack_name}
+use Rattle.wasm_custom.specs.Hints.{hints_name}
+use Rattle.wasm_custom.specs.Linking.{linking_name}
+use Rattle.wasm_custom.specs.Names.{name_name}
+use Rattle.wasm_custom.specs.Producers.{producers_name}
+use Rattle.wasm_reader.specs.Outlines.{Section, IsSection, IsNameOf, bytes_of, kind_named, kind_at, kind_of}
+use Rattle.wasm_reader.specs.Sections.{Contents, content, section, Shortens}
+use Rattle.wasm_reader.specs.Shortening.{holds_offsets, IsWritten, Rewrite, IsRewrite, written, written_as, AreSettled}
+use Rattle.wasm_reader.specs.declared.section.SectionKind.{SectionKind}
+use Rattle.wasm_reader.specs.declared.section.SectionKind.TheVariants as kinds
+use Rattle.wasm_reader.specs.declared.whole.How.{How}
+use Rattle.wasm_reader.specs.declared.whole.How.TheVariants.{Shortest, Kept, LeftOut}
+use Rattle.wasm_reader.specs.declared.whole.Offsets.{Offsets}
+use Rattle.wasm_reader.specs.declared.whole.Offsets.TheVariants.{LeaveOut}
+use Rattle.wasm_reader.proofs.ShortModules.{sections_of, bytes_joined}
+use Rattle.wasm_reader.proofs.ShortSections.{section-alone}
+
+-- ---- names
+
+for_if : (P : SectionKind → Type 0) (b : Bool) {x y : SectionKind} → P x → P y → P (if b then x else y)
+for_if P true p q = p
+for_if P false p q = q
+
+-- What holds of each kind that a name may stand for holds of a name's.
+for_named : (P : SectionKind → Type 0) → P kinds.Names → P kinds.Linking → P kinds.Producers → P kinds.Hints → P kinds.Core → P kinds.CoreModules → P kinds.CoreInstances → P kinds.CoreStack → P kinds.Custom → (n : List ℕ) → P (kind_named n)
+for_named P a b c d e f g h i n =
+    for_if P (bytes_eq n name_name) a
+    (for_if P (bytes_eq n linking_name) b
+    (for_if P (bytes_eq n producers_name) c
+    (for_if P (bytes_eq n hints_name) d
+    (for_if P (bytes_eq n core_name) e
+    (for_if P (bytes_eq n modules_name) f
+    (for_if P (bytes_eq n instances_name) g
+    (for_if P (bytes_eq n stack_name) h i)))))))
+
+-- The name at the front of what is read as a kind is at the front of its shortest text.
+abbrev pub KeepsName : List ℕ → SectionKind → Type 0
+KeepsName n kind = (s t rest : List ℕ) (x : Contents) → content kind wide s x → content kind shortest t x → Reads name wide s n rest → (last : List ℕ) × Reads name wide t n last
+
+named_front : {X : Type 0} (m : List ℕ) (F : Format X) (s t rest n : List ℕ) (x y : X) → named_payload m F wide s x → named_payload m F shortest t y → Reads name wide s n rest → (last : List ℕ) × Reads name wide t n last
+named_front m F s t rest n x y h g r =
+    let a = h.2 in
+    let b = g.2 in
+    let same : n ≡ m = (reads_same name-alone r (record { front = a.front; split = a.joined; spelled = a.first })).0 in
+    (b.back, subst (λ z. Reads name wide t z b.back) (sym same) (record { front = b.front; split = b.joined; spelled = name-alone.spellings.wider b.front m b.first }))
+
+keeps_name : (n : List ℕ) → KeepsName n (kind_named n)
+keeps_name n = for_named (KeepsName n)
+    (λ s t rest x h g r. named_front name_name _ s t rest n h.0 g.0 h.2 g.2 r)
+    (λ s t rest x h g r. named_front linking_name _ s t rest n h.0 g.0 h.2 g.2 r)
+    (λ s t rest x h g r. named_front producers_name _ s t rest n h.0 g.0 h.2 g.2 r)
+    (λ s t rest x h g r. named_front hints_name _ s t rest n h.0 g.0 h.2 g.2 r)
+    (λ s t rest x h g r. named_front core_name _ s t rest n h.0 g.0 h.2 g.2 r)
+    (λ s t rest x h g r. named_front modules_name _ s t rest n h.0 g.0 h.2 g.2 r)
+    (λ s t rest x h g r. named_front instances_name _ s t rest n h.0 g.0 h.2 g.2 r)
+    (λ s t rest x h g r. named_front stack_name _ s t rest n h.0 g.0 h.2 g.2 r)
+    (λ s t rest x h g r.
+    let a = h.2 in
+    let b = g.2 in
+    let same : n ≡ h.0.0 = (reads_same name-alone r (record { front = a.front; split = a.joined; spelled = a.first })).0 in
+    let told : h.0 ≡ g.0 = cc (h.1 ∙ sym g.1) in
+    (b.back, subst (λ z. Reads name wide t z b.back) (sym (same ∙ ap (λ z. z.0) told)) (record { front = b.front; split = b.joined; spelled = name-alone.spellings.wider b.front g.0.0 b.first })))
+    n
+
+one_name : (id : ℕ) (payload : List ℕ) (a b : Option (List ℕ)) → IsNameOf id payload a → IsNameOf id payload b → a ≡ b
+one_name id payload None None h g = refl
+one_name id payload (Some n) (Some m) h g = ap Some (reads_same name-alone h.2 g.2).0
+one_name id payload (Some n) None h g = absurd ((g h.0).none n h.1 h.2)
+one_name id payload None (Some m) h g = absurd ((h g.0).none m g.1 g.2)
+
+-- ---- frames
+
+-- What a frame holds, where it stands alone.
+one_payload : (s p q : List ℕ) → frame any_bytes wide s p → frame any_bytes wide s q → p ≡ q
+one_payload s p q h g = (frame-bytes-alone.alone wide s s [] [] p q h g refl).0
+
+-- What is read of a section's frame, as a section of the kind.
+record ReadOf (kind : SectionKind) (s : Section) (x : Contents) : Type 0 where
+  holds : content kind wide s.payload x
+  whole : section kind wide s.framed x
+
+read_of : (kind : SectionKind) (s : Section) (text : List ℕ) → IsSection s → (h : Shortens kind s.framed (length s.framed) [] text) → ReadOf kind s h.value
+read_of kind s text i h =
+    let r = h.takes.reads in
+    let f = r.spelled in
+    let any : frame any_bytes wide r.front f.content = record { front = f.front; content = f.content; joined = f.joined; size = f.size; spelled = refl } in
+    let read : Reads (frame any_bytes) wide s.framed f.content (drop (length s.framed) s.framed) = record { front = r.front; split = r.split; spelled = any } in
+    let all : Reads (frame any_bytes) wide s.framed s.payload [] = record { front = s.framed; split = sym (append-nil s.framed); spelled = i.holds } in
+    let same = reads_same frame-bytes-alone all read in
+    let front : s.framed ≡ r.front = r.split ∙ ap (λ z. r.front ++ z) (sym same.1) ∙ append-nil r.front in
+    record { holds = subst (λ z. content kind wide z h.value) (sym same.0) f.spelled; whole = subst (λ z. section kind wide z h.value) (sym front) f }
+
+-- ---- one section
+
+-- what was written for w stands as v
+record Stands (w v : Rewrite) : Type 0 where
+  id : w.section.id ≡ v.section.id
+  text : w.text ≡ v.section.framed
+
+module _ (offsets : Offsets) (w v : Rewrite) (i : IsSection w.section) (j : IsSection v.section) (s : Stands w v) where
+  custom_has_name : (x : Contents) → w.section.id ≡ 0 → content (kind_at w.section.id None) wide w.section.payload x → (ReadsNothing name wide w.section.payload) → ⊥
+  custom_has_name x e h n = let g : content kinds.Custom wide w.section.payload x = subst (λ z. content (kind_at z None) wide w.section.payload x) e h in
+      let a = g.2 in
+      n.none g.0.0 a.back (record { front = a.front; split = a.joined; spelled = a.first })
+
+  name_after : (n : Option (List ℕ)) → w.section.name ≡ n → (h : Shortens (kind_at w.section.id n) w.section.framed (length w.section.framed) [] w.text) → IsNameOf w.section.id w.section.payload n → v.section.name ≡ n
+  name_after (Some n) e h g =
+      let read = read_of (kind_named n) w.section w.text i h in
+      let f = h.spelled in
+      let any : frame any_bytes wide h.text f.content = record { front = f.front; content = f.content; joined = f.joined; size = u32-alone.spellings.wider f.front (length f.content) f.size; spelled = refl } in
+      let same : f.content ≡ v.section.payload = one_payload v.section.framed f.content v.section.payload (subst (λ z. frame any_bytes wide z f.content) (sym h.appended ∙ s.text) any) j.holds in
+      let kept = keeps_name n w.section.payload f.content g.1 h.value read.holds f.spelled g.2 in
+      one_name v.section.id v.section.payload v.section.name (Some n) j.named (sym s.id ∙ g.0, kept.0, subst (λ z. Reads name wide z n kept.0) same kept.1)
+  name_after None e h g = none v.section.name j.named
+    where
+      none : (m : Option (List ℕ)) → IsNameOf v.section.id v.section.payload m → m ≡ None
+      none None k = refl
+      none (Some m) k = let custom = s.id ∙ k.0 in absurd (custom_has_name h.value custom (read_of (kind_at w.section.id None) w.section w.text i h).holds (g custom))
+
+  same_payload : w.text ≡ w.section.framed → v.section.payload ≡ w.section.payload
+  same_payload e = one_payload w.section.framed v.section.payload w.section.payload (subst (λ z. frame any_bytes wide z v.section.payload) (sym s.text ∙ e) j.holds) i.holds
+
+  -- The name stays.
+  same_name : (how : How) → IsWritten offsets how w.section w.text → how ≢ LeftOut → v.section.name ≡ w.section.name
+  same_name Shortest h n = name_after w.section.name refl h.0 i.named
+  same_name Kept h n = one_name w.section.id w.section.payload v.section.name w.section.name (subst (λ z. IsNameOf z w.section.payload v.section.name) (sym s.id) (subst (λ z. IsNameOf v.section.id z v.section.name) (same_payload h.0.0) j.named)) i.named
+  same_name LeftOut h n = absurd (n refl)
+
+  same_kind : (how : How) → IsWritten offsets how w.section w.text → how ≢ LeftOut → kind_of v.section ≡ kind_of w.section
+  same_kind how h n = ap (λ z. kind_at v.section.id z) (same_name how h n) ∙ ap (λ z. kind_at z w.section.name) (sym s.id)
+
+  shortest_again : (how : How) → IsWritten offsets how w.section w.text → how ≢ LeftOut → Shortens (kind_of v.section) v.section.framed (length v.section.framed) [] v.text → v.text ≡ v.section.framed
+  shortest_again Shortest h n g =
+      let kind = kind_of w.section in
+      let k : Shortens kind v.section.framed (length v.section.framed) [] v.text = subst (λ z. Shortens z v.section.framed (length v.section.framed) [] v.text) (same_kind Shortest h n) g in
+      let alone = section-alone kind in
+      let first : section kind shortest v.section.framed h.0.value = subst (λ z. section kind shortest z h.0.value) (sym h.0.appended ∙ s.text) h.0.spelled in
+      let read = read_of kind v.section v.text j k in
+      let same : h.0.value ≡ k.value = (alone.alone wide v.section.framed v.section.framed [] [] h.0.value k.value (alone.spellings.wider v.section.framed h.0.value first) read.whole refl).0 in
+      k.appended ∙ alone.spellings.one k.text v.section.framed k.value k.spelled (subst (λ z. section kind shortest v.section.framed z) same first)
+  shortest_again Kept h n g =
+      let kind = kind_of w.section in
+      let k : Shortens kind v.section.framed (length v.section.framed) [] v.text = subst (λ z. Shortens z v.section.framed (length v.section.framed) [] v.text) (same_kind Kept h n) g in
+      let none : ReadsNothing (section kind) wide v.section.framed = subst (λ z. ReadsNothing (section kind) wide z) (sym h.0.0 ∙ s.text) h.0.1 in
+      absurd (none.none k.value (drop (length v.section.framed) v.section.framed) k.takes.reads)
+  shortest_again LeftOut h n g = absurd (n refl)
+
+  not_held : (how : How) → IsWritten offsets how w.section w.text → how ≢ LeftOut → offsets ≡ LeaveOut → holds_offsets w.section.name ≡ false
+  not_held Shortest h n e = h.1 e
+  not_held Kept h n e = h.1 e
+  not_held LeftOut h n e = absurd (n refl)
+
+  stays : (how : How) → IsWritten offsets how w.section w.text → how ≢ LeftOut → (again : How) → IsWritten offsets again v.section v.text → written_as again v.section.id v.text ≡ bytes_of v.section
+  stays how h n Shortest g = ap (λ z. v.section.id ∷ z) (shortest_again how h n g.0)
+  stays how h n Kept g = ap (λ z. v.section.id ∷ z) g.0.0
+  stays how h n LeftOut g = let held = sym (not_held how h n g.1) ∙ ap holds_offsets (sym (same_name how h n)) ∙ g.2 in absurd (cc held)
+
+-- ---- all sections
+
+-- What is written behind an id is a frame.
+record IsFrame (text : List ℕ) : Type 0 where
+  payload : List ℕ
+  framed : frame any_bytes wide text payload
+
+text_framed : (offsets : Offsets) (w : Rewrite) (how : How) → IsSection w.section → IsWritten offsets how w.section w.text → how ≢ LeftOut → IsFrame w.text
+text_framed offsets w Shortest i h n =
+    let t = h.0 in
+    let f = t.spelled in
+    let any : frame any_bytes wide t.text f.content = record { front = f.front; content = f.content; joined = f.joined; size = u32-alone.spellings.wider f.front (length f.content) f.size; spelled = refl } in
+    record { payload = f.content; framed = subst (λ z. frame any_bytes wide z f.content) (sym t.appended) any }
+text_framed offsets w Kept i h n = record { payload = w.section.payload; framed = subst (λ z. frame any_bytes wide z w.section.payload) (sym h.0.0) i.holds }
+text_framed offsets w LeftOut i h n = absurd (n refl)
+
+module _ (offsets : Offsets) where
+  -- The next section that was written is the next that stands there.
+  next : (w : Rewrite) (rest : List ℕ) (how : How) → IsSection w.section → IsWritten offsets how w.section w.text → how ≢ LeftOut → (v : Rewrite) (behind : List ℕ) → IsSection v.section → (w.section.id ∷ w.text) ++ rest ≡ bytes_of v.section ++ behind → Stands w v × (rest ≡ behind)
+  next w rest how i h n v behind j e =
+      let f = text_framed offsets w how i h n in
+      let tails : w.text ++ rest ≡ v.section.framed ++ behind = cc e in
+      let same = frame-bytes-alone.alone wide w.text v.section.framed rest behind f.payload v.section.payload f.framed j.holds tails in
+      (record { id = cc e; text = same.1 }, same.2)
+
+  -- One section was written, and the others stand behind it.
+  one_again : (w : Rewrite) (rest : List ℕ) (how : How) → IsSection w.section → IsWritten offsets how w.section w.text → how ≢ LeftOut → (vs : List Rewrite) → All (λ v. IsSection v.section) vs → All (IsRewrite offsets) vs
+      → (w.section.id ∷ w.text) ++ rest ≡ flat_map (λ v. bytes_of v.section) vs
+      → ((us : List Rewrite) → All (λ v. IsSection v.section) us → All (IsRewrite offsets) us → rest ≡ flat_map (λ v. bytes_of v.section) us → flat_map written us ≡ flat_map (λ v. bytes_of v.section) us)
+      → flat_map written vs ≡ flat_map (λ v. bytes_of v.section) vs
+  one_again w rest how i h n [] j g e others = absurd (cc e)
+  one_again w rest how i h n (v ∷ vs) j g e others =
+      let a = next w rest how i h n v (flat_map (λ u. bytes_of u.section) vs) j.0 e in
+      let here : written v ≡ bytes_of v.section = stays offsets w v i j.0 a.0 how h n v.how g.0 in
+      ap (λ z. z ++ flat_map written vs) here ∙ ap (λ z. bytes_of v.section ++ z) (others vs j.1 g.1 a.1)
+
+  none_again : (vs : List Rewrite) → [] ≡ flat_map (λ v. bytes_of v.section) vs → flat_map written vs ≡ flat_map (λ v. bytes_of v.section) vs
+  none_again [] e = refl
+  none_again (v ∷ vs) e = absurd (cc e)
+
+  first_again : (w : Rewrite) (rest : List ℕ) (how : How) → IsSection w.section → IsWritten offsets how w.section w.text → (vs : List Rewrite) → All (λ v. IsSection v.section) vs → All (IsRewrite offsets) vs
+      → written_as how w.section.id w.text ++ rest ≡ flat_map (λ v. bytes_of v.section) vs
+      → ((us : List Rewrite) → All (λ v. IsSection v.section) us → All (IsRewrite offsets) us → rest ≡ flat_map (λ v. bytes_of v.section) us → flat_map written us ≡ flat_map (λ v. bytes_of v.section) us)
+      → flat_map written vs ≡ flat_map (λ v. bytes_of v.section) vs
+  first_again w rest Shortest i h vs j g e others = one_again w rest Shortest i h (λ z. cc z) vs j g e others
+  first_again w rest Kept i h vs j g e others = one_again w rest Kept i h (λ z. cc z) vs j g e others
+  first_again w rest LeftOut i h vs j g e others = others vs j g e
+
+  all_again : (ws vs : List Rewrite) → All (λ w. IsSection w.section) ws → All (IsRewrite offsets) ws → All (λ v. IsSection v.section) vs → All (IsRewrite offsets) vs → flat_map written ws ≡ flat_map (λ v. bytes_of v.section) vs → flat_map written vs ≡ flat_map (λ v. bytes_of v.section) vs
+  all_again [] vs i h j g e = none_again vs e
+  all_again (w ∷ ws) vs i h j g e = first_again w (flat_map written ws) w.how i.0 h.0 vs j g e (λ us k f d. all_again ws us i.1 h.1 k f d)
+
+-- ---- modules
+
+all_sections : (ws : List Rewrite) → All IsSection (sections_of ws) → All (λ w. IsSection w.section) ws
+all_sections [] h = tt
+all_sections (w ∷ ws) h = (h.0, all_sections ws h.1)
+
+pub settled : AreSettled
+settled = record {
+  again = λ offsets bytes old other text next kept more first second.
+      let is : text ≡ first.text = append_cancel_left old text first.text first.appended in
+      let comes : next ≡ second.text = append_cancel_left other next second.text second.appended in
+      let behind : flat_map written first.rewrites ≡ flat_map bytes_of (sections_of second.rewrites) = append_cancel_left header (flat_map written first.rewrites) (flat_map bytes_of (sections_of second.rewrites)) (sym first.is ∙ sym is ∙ second.has.joined) in
+      let same = all_again offsets first.rewrites second.rewrites (all_sections first.rewrites first.has.each) first.each (all_sections second.rewrites second.has.each) second.each (behind ∙ sym (bytes_joined second.rewrites)) in
+      comes ∙ second.is ∙ ap (λ z. header ++ z) (same ∙ bytes_joined second.rewrites) ∙ sym second.has.joined;
+}

@@ -1,0 +1,39 @@
+-- How members are shortened that are not kept.
+use Rattle.std.proofs.Common.{◌≡◌, ℕ, ◌+◌, List, [], ◌∷◌, ◌++◌, length, refl, sym, subst, arith}
+use Rattle.std.proofs.lemmas.List.{length-append}
+use Rattle.wasm_base.specs.Numbers.{wide}
+use Rattle.wasm_base.specs.Formats.{Format, u32, members, vec}
+use Rattle.wasm_base.specs.Reading.{Reads}
+use Rattle.wasm_base.proofs.ReadingSteps as steps
+use Rattle.wasm_reader_base.specs.Shortest.{AppendsShortest}
+use Rattle.wasm_reader_base.proofs.ReadWhole.{whole_reads}
+use Rattle.wasm_reader_base.proofs.ShortTexts.{members_start, members_more, then_appended}
+use Rattle.wasm_reader.proofs.Counting.{HasPassed}
+
+-- So many values were passed from `start` on, `rest` is behind them, and their shortest texts are appended.
+pub record HasShortened {X : Type 0} (F : Format X) (start : List ℕ) (count : ℕ) (rest old new : List ℕ) : Type 0 where
+  pub values : List X
+  pub read : Reads (members F) wide start values rest
+  pub counted : length values ≡ count
+  pub written : AppendsShortest (members F) values old new
+
+module _ {X : Type 0} (F : Format X) where
+  pub shortened_start : (start old : List ℕ) → HasShortened F start 0 start old old
+  shortened_start start old = record { values = []; read = steps.members_start F wide start; counted = refl; written = members_start F old }
+
+  pub shortened_step : (start rest after old middle new : List ℕ) (count : ℕ) (x : X) → HasShortened F start count rest old middle → Reads F wide rest x after → AppendsShortest F x middle new → HasShortened F start (count + 1) after old new
+  shortened_step start rest after old middle new count x h g a = record { values = h.values ++ x ∷ []; read = steps.members_step F h.read g; counted = omega (arith, length-append h.values (x ∷ []), h.counted); written = members_more F h.values x old middle new h.written a }
+
+  pub passed : {start rest old new : List ℕ} {count : ℕ} → HasShortened F start count rest old new → HasPassed F start count rest
+  passed h = record { values = h.values; read = h.read; counted = h.counted }
+
+  -- Their number is appended before them.
+  vec_appended : (xs : List X) (n : ℕ) (old middle new : List ℕ) → length xs ≡ n → AppendsShortest u32 n old middle → AppendsShortest (members F) xs middle new → AppendsShortest (vec F) xs old new
+  vec_appended xs n old middle new e a b =
+      let both = then_appended u32 (λ n. members F) (subst (λ z. AppendsShortest u32 z old middle) (sym e) a) b in
+      record { text = both.text; appended = both.appended; spelled = λ s h. both.spelled s h }
+
+  pub shortened_all : (bytes start rest old middle new : List ℕ) (n count : ℕ) → Reads u32 wide bytes n start → AppendsShortest u32 n old middle → HasShortened F start count rest middle new → count ≡ n → length rest ≡ 0 → (xs : List X) × vec F wide bytes xs × AppendsShortest (vec F) xs old new
+  shortened_all bytes start rest old middle new n count r a h all e =
+      let same : length h.values ≡ n = omega (arith, h.counted, all) in
+      (h.values, whole_reads (vec F) bytes rest h.values (steps.vec_reads F r h.read same) e, vec_appended h.values n old middle new same a h.written)

@@ -1,0 +1,25 @@
+use Rattle.std.proofs.Common.{sym, ◌∙◌, arith}
+use Rattle.std.proofs.lemmas.Bool.{eqb-false}
+use Rattle.wasm_reader_base.proofs.ReadWhole.{empty_not}
+use Rattle.wasm_reader.proofs.ShortModules.{rewrites_below, rewrites_stop, rewrites_step}
+use Rattle.wasm_reader.proofs.whole.append_sections.Goals as goal
+
+pub overflow_add-number : goal.overflow_add-number
+overflow_add-number g c =
+    let below = rewrites_below c.args.offsets c.args.bytes.now c.loop-rest.rest.now c.args.sink.now.items c.loop-rest.sink.items c.loop-rest.tally c.loop-rest.invariant.0 c.requires (eqb-false _ _ (sym c.is_empty.ensures ∙ c.if-is_empty.false)) in
+    omega (arith, below)
+
+pub returns-in-Err-clause-none : goal.returns-in-Err-clause-none
+returns-in-Err-clause-none g c = λ n. rewrites_stop _ _ _ _ _ _ c.loop-rest.invariant.0 (empty_not _ (eqb-false _ _ (sym c.is_empty.ensures ∙ c.if-is_empty.false))) (c.in-Err.ensures.none n)
+
+pub and-tally-requires : goal.and-tally-requires
+and-tally-requires g c = (
+  rewrites_below c.args.offsets c.args.bytes.now c.loop-rest.rest.now c.args.sink.now.items c.loop-rest.sink.items c.loop-rest.tally c.loop-rest.invariant.0 c.requires (eqb-false _ _ (sym c.is_empty.ensures ∙ c.if-is_empty.false)),
+  c.loop-rest.invariant.1,
+)
+
+pub loop-rest-preserved : goal.loop-rest-preserved
+loop-rest-preserved g c = (
+  rewrites_step _ _ _ _ _ _ _ _ _ _ _ _ c.loop-rest.invariant.0 c.in-Ok.ensures.found c.in-Ok.ensures.split c.in-Ok-append_section.ensures.ok c.and-tally.ensures.tallied,
+  c.and-tally.ensures.kept,
+)

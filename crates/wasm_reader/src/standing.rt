@@ -1,0 +1,98 @@
+// Sections of a module as they stand there, whatever they hold.
+ghost use Rattle.std.specs.Prelude.{◌≡◌, ◌≢◌, ◌++◌, IfOk, IfErr, option_map};
+ghost use Rattle.wasm_base.specs.Formats.{any_section};
+ghost use Rattle.wasm_base.specs.Numbers.{wide};
+ghost use Rattle.wasm_base.specs.Reading.{ReadsNothing};
+ghost use Rattle.wasm_reader_base.specs.declared.fault.ReadFault.TheVariants.{Memory};
+ghost use Rattle.wasm_reader.specs.Outlines.{section_of, IsSection, IsNameOf, bytes_of, kind_named, kind_of as kind_of_section};
+
+use crate::modules::kind_of;
+use crate::section::SectionKind;
+use std::alloc::Allocator;
+use wasm_reader_base::{ReadFault, Readable};
+
+/// A section of a module.
+#[derive(Clone, Copy, Debug)]
+pub(crate) struct Standing<'a> {
+    pub(crate) id: u8,
+    /// The size and what it counts.
+    pub(crate) framed: &'a [u8],
+    /// What stands behind the size.
+    pub(crate) payload: &'a [u8],
+    /// The name at the front of a custom section, where one stands there.
+    pub(crate) name: Option<&'a str>,
+}
+
+/// The kind of a custom section of the name.
+fn kind_of_name(name: &str) -> SectionKind
+    ensures { result ≡ kind_named name.now }
+{
+    match name {
+        "name" => SectionKind::Names,
+        "linking" => SectionKind::Linking,
+        "producers" => SectionKind::Producers,
+        "metadata.code.branch_hint" => SectionKind::Hints,
+        "core" => SectionKind::Core,
+        "coremodules" => SectionKind::CoreModules,
+        "coreinstances" => SectionKind::CoreInstances,
+        "corestack" => SectionKind::CoreStack,
+        _ => SectionKind::Custom,
+    }
+}
+
+impl Standing<'_> {
+    /// What it is read as.
+    pub(crate) fn kind(&self) -> SectionKind
+        ensures { result ≡ kind_of_section (section_of self.now) }
+    {
+        match self.name {
+            Some(name) => kind_of_name(name),
+            None if self.id == 1 => SectionKind::Types,
+            None => kind_of(self.id),
+        }
+    }
+}
+
+/// The name of a custom section, from what its frame holds.
+fn read_name<'a, A: Allocator + Copy>(
+    id: u8,
+    payload: &'a [u8],
+    alloc: A,
+) -> Result<Option<&'a str>, ReadFault>
+    ensures found { IfOk result (λ name. IsNameOf id payload.now (option_map (λ n. n.now) name)) }
+    ensures memory { IfErr result (λ e. e ≡ Memory) }
+{
+    if id != 0 {
+        return Ok(None);
+    }
+    match <&'a str as Readable<'a, A>>::read(payload, alloc) {
+        Ok((name, _)) => Ok(Some(name)),
+        Err(ReadFault::Memory) => Err(ReadFault::Memory),
+        Err(_) => Ok(None),
+    }
+}
+
+/// The section that the bytes begin with, at its id, and the bytes after it.
+#[tactic(auto, using(crate::proofs::ReadOutlines::standing_steps))]
+pub(crate) fn read_standing<'a, A: Allocator + Copy>(
+    bytes: &'a [u8],
+    alloc: A,
+) -> Result<(Standing<'a>, &'a [u8]), ReadFault>
+    ensures found { IfOk result (λ x. IsSection (section_of x.0)) }
+    ensures split { IfOk result (λ x. bytes.now ≡ bytes_of (section_of x.0) ++ x.1.now) }
+    ensures none { IfErr result (λ e. e ≢ Memory → ReadsNothing any_section wide bytes.now) }
+{
+    let (id, rest) = <u8 as Readable<'a, A>>::read(bytes, alloc)?;
+    let (payload, after) = <&'a [u8] as Readable<'a, A>>::read(rest, alloc)?;
+    let framed = &rest[..rest.len() - after.len()];
+    let name = read_name(id, payload, alloc)?;
+    Ok((
+        Standing {
+            id,
+            framed,
+            payload,
+            name,
+        },
+        after,
+    ))
+}

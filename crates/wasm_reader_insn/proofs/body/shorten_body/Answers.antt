@@ -1,0 +1,53 @@
+use Rattle.std.proofs.Common.{◌≡◌, ◌∷◌, ◌++◌, [], ◌<◌, ◌≤◌, length, rules, subst, ◌∙◌}
+use Rattle.wasm_base.specs.Numbers.{wide}
+use Rattle.wasm_base.specs.Reading.{Reads}
+use Rattle.wasm_code.specs.Bodies.{Body, body}
+use Rattle.wasm_insn.specs.Plain.{Plain, instruction}
+use Rattle.wasm_insn.specs.Table.{table}
+use Rattle.wasm_reader_base.specs.Shortest.{AppendsShortest}
+use Rattle.wasm_reader_base.proofs.Faults.{fault_stays, memory_stays}
+use Rattle.wasm_reader_base.proofs.ShortTexts.{frame_appended, members_start, members_more}
+use Rattle.wasm_reader_insn.specs.Walks.{ahead}
+use Rattle.wasm_reader_insn.proofs.Calls.{begun, goes_on, ended, of_some, stopped}
+use Rattle.wasm_reader_insn.proofs.ReadLists.{body_fills, body_no_code}
+use Rattle.wasm_reader_insn.proofs.ShortLists.{body_appended}
+use Rattle.wasm_reader_insn.proofs.body.shorten_body.Goals as goal
+
+pub returns-in_err-step-clause-none : goal.returns-in_err-step-clause-none
+returns-in_err-step-clause-none g c =
+    let w = c.loop-instructions.invariant in
+    fault_stays c.from_residual-in_err-step.result _ c.from_residual-in_err-step.ensures.1 λ n.
+    body_no_code c.args.bytes.now (ahead c.in_ok-runs.instructions) c.in_ok-runs.runs.items c.in_ok-runs.ensures.found (stopped w.0 w.1 c.in_err-step.ensures.left (c.in_err-step.ensures.none n))
+
+pub returns-in_err-append_instruction-clause-none : goal.returns-in_err-append_instruction-clause-none
+returns-in_err-append_instruction-clause-none g c = memory_stays _ c.from_residual-in_err-append_instruction.result c.from_residual-in_err-append_instruction.ensures.1
+
+pub returns-in_err-frame_since-clause-none : goal.returns-in_err-frame_since-clause-none
+returns-in_err-frame_since-clause-none g c = memory_stays _ c.from_residual-in_err-frame_since.result c.from_residual-in_err-frame_since.ensures.1
+
+pub loop-instructions-init : goal.loop-instructions-init
+loop-instructions-init g c = ([], begun (ahead c.in_ok-runs.instructions), c.in_ok-runs.ensures.within, c.in_ok-runs.ensures.same, members_start (instruction table) c.append_shortest.new.out.items)
+
+pub loop-instructions-preserved : goal.loop-instructions-preserved
+loop-instructions-preserved g c =
+    let w = c.loop-instructions.invariant in
+    let old = c.loop-instructions.instructions in
+    let new = c.next.new.self in
+    let i : Plain = record { op = c.in-Some.step.op; arguments = new.arguments } in
+    let read = of_some (λ step. Reads (instruction table) wide (ahead old) (record { op = step.op; arguments = new.arguments }) (ahead new)) c.in-Some.is c.in_ok-step.ensures.found in
+    let further = of_some (λ step. (old.place < new.place) × (new.place ≤ length new.bytes)) c.in-Some.is c.in_ok-step.ensures.further in
+    let same : new.bytes ≡ c.args.bytes.now = c.in_ok-step.ensures.same ∙ w.3 in
+    let written = subst (λ xs. AppendsShortest (instruction table) (record { op = c.in-Some.step.op; arguments = xs }) c.loop-instructions.out.items c.append_instruction.new.out.items) c.args-in-Some.ensures c.in_ok-append_instruction.ensures in
+    (w.0 ++ i ∷ [], goes_on w.0 w.1 read, subst (λ z. new.place ≤ length z) same further.1, same, members_more (instruction table) w.0 i _ _ _ w.4 written)
+
+pub returns-clause-found : goal.returns-clause-found
+returns-clause-found g c =
+    let w = c.loop-instructions.invariant in
+    let runs = c.in_ok-runs.runs.items in
+    let x : Body = record { runs = runs; code = w.0 } in
+    let code = ended w.0 w.1 (c.in_ok-step.ensures.end c.in_default.is) in
+    let inside = body_appended runs w.0 c.args.out.now.items c.append_shortest.new.out.items c.loop-instructions.out.items c.in_ok-append_shortest.ensures w.4 in (
+      x,
+      body_fills c.args.bytes.now (ahead c.in_ok-runs.instructions) runs w.0 c.in_ok-runs.ensures.found code,
+      frame_appended body x c.len-start.result c.args.out.now.items c.loop-instructions.out.items c.frame_since.new.out.items (search rules) inside c.in_ok-frame_since.ensures.fitted c.in_ok-frame_since.ensures.framed,
+    )

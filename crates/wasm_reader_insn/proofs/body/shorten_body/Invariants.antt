@@ -1,0 +1,17 @@
+use Rattle.std.proofs.Common.{◌≡◌, ◌≤◌, ◌-◌, List, length}
+use Rattle.wasm_base.specs.Formats.{members}
+use Rattle.wasm_insn.specs.Plain.{Plain, instruction}
+use Rattle.wasm_insn.specs.Table.{table}
+use Rattle.wasm_reader_base.specs.Shortest.{AppendsShortest}
+use Rattle.wasm_reader_insn.specs.Walks.{ahead}
+use Rattle.wasm_reader_insn.proofs.Calls.{HasWalked}
+use Rattle.wasm_reader_insn.proofs.body.shorten_body.Given as goal
+
+-- what the walk has gone over, and its text
+abbrev pub invariant-loop-instructions : goal.invariant-loop-instructions
+invariant-loop-instructions g l =
+    (seen : List Plain) × HasWalked (ahead l.initial.instructions) seen (ahead l.instructions) × (l.instructions.place ≤ length l.bytes) × (l.instructions.bytes ≡ l.bytes)
+    × AppendsShortest (members (instruction table)) seen l.initial.out.items l.out.items
+
+abbrev pub decreases-loop-instructions : goal.decreases-loop-instructions
+decreases-loop-instructions g l = length l.bytes - l.instructions.place

@@ -1,0 +1,222 @@
+//! Holds `shorten_module` and `outline` against a plain reader: random modules, of random and changed sections. See README.md.
+
+mod grammar;
+mod maker;
+mod plain;
+mod whole;
+
+use dolzhytik::alloc::Global;
+use dolzhytik::reader::{ModuleFault, Offsets, Outlined, ReadFault, outline, shorten_module};
+use grammar::KINDS;
+use maker::{Maker, Random, input};
+use plain::Plain;
+use std::env;
+use std::process::ExitCode;
+use std::time::Instant;
+use whole::{Answer, Section, sections, shortened_module};
+
+// ---- modules
+
+/// Names of custom sections of no kind, some of which hold offsets, and some nearly.
+const NAMES: [&str; 14] = [
+    "sourceMappingURL", "reloc.CODE", "reloc.", ".debug_info", ".debug_", "metadata.code.a", "metadata.code.", "sourceMappingURLs", "reloc", ".debug", "metadata.code",
+    "linkin", "dylink.0", "",
+];
+
+/// The id of the sections of a kind.
+fn id_of(random: &mut Random, kind: &str) -> u8 {
+    match kind {
+        "Types" => 1,
+        "Imports" => 2,
+        "Functions" => 3,
+        "Tables" => 4,
+        "Memories" => 5,
+        "Globals" => 6,
+        "Exports" => 7,
+        "Start" => 8,
+        "Elements" => 9,
+        "Bodies" => 10,
+        "Segments" => 11,
+        "DataCount" => 12,
+        "Tags" => 13,
+        "Raw" => 14 + random.below(242) as u8,
+        _ => 0,
+    }
+}
+
+/// What a frame at the front holds, or all bytes where there is none. Of a frame that is cut off it is what is left.
+fn unframed(bytes: &[u8]) -> &[u8] {
+    let mut along = Plain { rest: bytes, text: Vec::new() };
+    match along.unsigned(32) {
+        Some(size) => &along.rest[..along.rest.len().min(size as usize)],
+        None => bytes,
+    }
+}
+
+/// A custom section's name, which is padded at times, and bytes.
+fn custom(random: &mut Random) -> Vec<u8> {
+    let name = random.one_of(&NAMES);
+    let mut maker = Maker { random, text: Vec::new(), left: 0 };
+    maker.unsigned(name.len() as u64, 32);
+    let mut text = maker.text;
+    text.extend(name.bytes());
+    text.extend((0..random.below(4)).map(|place| 0x80 >> place));
+    text
+}
+
+/// Puts a frame around what it holds. Its size is padded at times.
+fn framed(random: &mut Random, payload: &[u8]) -> Vec<u8> {
+    let mut maker = Maker { random, text: Vec::new(), left: 0 };
+    maker.unsigned(payload.len() as u64, 32);
+    maker.text.extend(payload);
+    maker.text
+}
+
+/// Appends a section: a text of its kind, changed at times, mostly in a frame that fits; at times with another id.
+fn add_section(random: &mut Random, module: &mut Vec<u8>) {
+    if random.one_in(6) {
+        let payload = custom(random);
+        module.push(0);
+        module.extend(framed(random, &payload));
+        return;
+    }
+    let kind = if random.one_in(4) { ["Bodies", "Segments"][random.below(2)] } else { random.one_of(&KINDS) };
+    let id = if random.one_in(24) { random.below(15) as u8 } else { id_of(random, kind) };
+    let text = input(random, kind);
+    module.push(id);
+    if random.one_in(64) {
+        module.extend(text);
+    } else {
+        module.extend(framed(random, unframed(&text)));
+    }
+}
+
+/// A module, which is none at times.
+fn module(random: &mut Random) -> Vec<u8> {
+    let mut module = b"\0asm\x01\0\0\0".to_vec();
+    for _ in 0..random.below(6) {
+        add_section(random, &mut module);
+    }
+    if random.one_in(64) {
+        let place = random.below(module.len());
+        match random.below(3) {
+            0 => module.truncate(place),
+            1 => module[place] ^= 1 << random.below(8),
+            _ => module.push(random.next() as u8),
+        }
+    }
+    module
+}
+
+// ---- what the library answers
+
+/// What stands in the sink before.
+const BEFORE: [u8; 3] = [0x0A, 0x80, 0xA5];
+
+/// What the library answers, or `None` where the sink or the cause is not what it says.
+fn by_library(bytes: &[u8], offsets: Offsets) -> Option<Answer> {
+    let mut sink = dolzhytik::vec::Vec::from_slice(Global, &BEFORE).ok()?;
+    let answer = shorten_module(bytes, offsets, &mut sink);
+    let text = sink.strip_prefix(&BEFORE)?;
+    match answer {
+        Ok(kept) => Some(Answer::Shortened { text: text.to_vec(), kept }),
+        Err(_) if !text.is_empty() => None,
+        Err(ModuleFault::Section { fault: ReadFault::Memory | ReadFault::NotShortest, .. }) => None,
+        Err(ModuleFault::Section { number, .. }) => Some(Answer::NoSection(number)),
+        Err(ModuleFault::Offsets { number }) => Some(Answer::Offsets(number)),
+    }
+}
+
+/// Whether the text is a module of the same ids in the same order, but those that are left out, no longer, and shortened to itself.
+fn is_settled(bytes: &[u8], text: &[u8], kept: usize, offsets: Offsets) -> bool {
+    let (Ok(before), Ok(after)) = (sections(bytes), sections(text)) else { return false };
+    let is_in = |section: &&Section<'_>| offsets == Offsets::Refuse || !section.holds_offsets();
+    let ids = before.iter().filter(is_in).map(|section| section.id);
+    let again = by_library(text, offsets);
+    ids.eq(after.iter().map(|section| section.id)) && text.len() <= bytes.len() && again == Some(Answer::Shortened { text: text.to_vec(), kept })
+}
+
+/// Whether the outline is that of the plain reader.
+fn is_outlined(bytes: &[u8]) -> bool {
+    match (outline(Global, bytes), sections(bytes)) {
+        (Err((number, fault)), Err(expected)) => number == expected && ![ReadFault::Memory, ReadFault::NotShortest].contains(&fault),
+        (Ok(lines), Ok(expected)) => lines.iter().copied().eq(expected.iter().map(|section| Outlined {
+            id: section.id,
+            offset: section.offset,
+            size: section.payload.len() as u32,
+            items: section.items(),
+            name: section.name,
+        })),
+        _ => false,
+    }
+}
+
+/// How many answers were of each form.
+#[derive(Default)]
+struct Counts {
+    shortened: u64,
+    shorter: u64,
+    with_kept: u64,
+    no_section: u64,
+    offsets: u64,
+    left_out: u64,
+}
+
+impl Counts {
+    /// Counts the answer where offsets are refused.
+    fn count(&mut self, bytes: &[u8], answer: &Answer) {
+        match answer {
+            Answer::Shortened { text, kept } => {
+                self.shortened += 1;
+                self.shorter += u64::from(text.len() < bytes.len());
+                self.with_kept += u64::from(*kept > 0);
+            }
+            Answer::NoSection(_) => self.no_section += 1,
+            Answer::Offsets(_) => self.offsets += 1,
+        }
+    }
+}
+
+/// Whether the library and the plain reader answer the same.
+fn agree(bytes: &[u8], offsets: Offsets, counts: &mut Counts) -> bool {
+    let expected = shortened_module(bytes, offsets == Offsets::LeaveOut);
+    if offsets == Offsets::Refuse {
+        counts.count(bytes, &expected);
+    } else if sections(bytes).is_ok_and(|sections| sections.iter().any(Section::holds_offsets)) {
+        counts.left_out += 1;
+    }
+    match by_library(bytes, offsets) {
+        Some(Answer::Shortened { text, kept }) => is_settled(bytes, &text, kept, offsets) && expected == Answer::Shortened { text, kept },
+        Some(answer) => answer == expected,
+        None => false,
+    }
+}
+
+fn show(bytes: &[u8]) -> String {
+    bytes.iter().map(|byte| format!("{byte:02x}")).collect()
+}
+
+fn main() -> ExitCode {
+    let args: Vec<u64> = env::args().skip(1).map(|arg| arg.parse().expect("numbers: a seed, and how many inputs")).collect();
+    let [seed, count] = args[..] else {
+        eprintln!("usage: modules SEED INPUTS");
+        return ExitCode::from(2);
+    };
+    let begun = Instant::now();
+    let mut random = Random::new(seed);
+    let (mut counts, mut differences, mut bytes) = (Counts::default(), 0, 0);
+    for _ in 0..count {
+        let module = module(&mut random);
+        bytes += module.len();
+        let is_same = agree(&module, Offsets::Refuse, &mut counts) & agree(&module, Offsets::LeaveOut, &mut counts) & is_outlined(&module);
+        if !is_same {
+            differences += 1;
+            println!("module {}", show(&module));
+        }
+    }
+    let Counts { shortened, shorter, with_kept, no_section, offsets, left_out } = counts;
+    println!("{shortened} modules shortened, {shorter} of them by bytes, {with_kept} with a section that was kept; {offsets} refused for offsets, {no_section} for a section that is none");
+    println!("{left_out} modules with a section to leave out");
+    println!("seed {seed}: {count} modules of {bytes} bytes, {differences} differences, {} s", begun.elapsed().as_secs());
+    if differences == 0 { ExitCode::SUCCESS } else { ExitCode::FAILURE }
+}

@@ -1,0 +1,154 @@
+//! Where bytes come from, and where they go.
+use crate::failure::Failure;
+use std::ffi::OsString;
+use std::fmt;
+use std::fs::{self, File, OpenOptions, Permissions};
+use std::io::{self, ErrorKind, Read, Write};
+use std::path::{Path, PathBuf};
+use std::process;
+
+/// Where bytes come from.
+#[derive(Clone, PartialEq, Eq, Debug)]
+pub enum Input {
+    Standard,
+    File(PathBuf),
+}
+
+/// Where bytes go.
+#[derive(Clone, PartialEq, Eq, Debug)]
+pub enum Output {
+    Standard,
+    File(PathBuf),
+}
+
+impl From<OsString> for Input {
+    fn from(word: OsString) -> Self {
+        if word == "-" {
+            Input::Standard
+        } else {
+            Input::File(word.into())
+        }
+    }
+}
+
+impl From<OsString> for Output {
+    fn from(word: OsString) -> Self {
+        if word == "-" {
+            Output::Standard
+        } else {
+            Output::File(word.into())
+        }
+    }
+}
+
+impl fmt::Display for Input {
+    fn fmt(&self, f: &mut fmt::Formatter<'_>) -> fmt::Result {
+        match self {
+            Input::Standard => f.write_str("standard input"),
+            Input::File(path) => write!(f, "{}", path.display()),
+        }
+    }
+}
+
+impl fmt::Display for Output {
+    fn fmt(&self, f: &mut fmt::Formatter<'_>) -> fmt::Result {
+        match self {
+            Output::Standard => f.write_str("standard output"),
+            Output::File(path) => write!(f, "{}", path.display()),
+        }
+    }
+}
+
+impl Input {
+    /// All bytes.
+    pub fn read(&self) -> Result<Vec<u8>, Failure> {
+        let read = match self {
+            Input::Standard => read_standard(),
+            Input::File(path) => fs::read(path),
+        };
+        read.map_err(|error| Failure::Unread {
+            input: self.clone(),
+            error,
+        })
+    }
+}
+
+fn read_standard() -> io::Result<Vec<u8>> {
+    let mut bytes = Vec::new();
+    io::stdin().lock().read_to_end(&mut bytes)?;
+    Ok(bytes)
+}
+
+impl Output {
+    /// Writes all bytes. A file has all of them then, or is as it was.
+    pub fn write(&self, bytes: &[u8]) -> Result<(), Failure> {
+        let written = match self {
+            Output::Standard => write_standard(bytes),
+            Output::File(path) => write_file(path, bytes),
+        };
+        written.map_err(|error| Failure::Unwritten {
+            output: self.clone(),
+            error,
+        })
+    }
+}
+
+fn write_standard(bytes: &[u8]) -> io::Result<()> {
+    let mut out = io::stdout().lock();
+    out.write_all(bytes)?;
+    out.flush()
+}
+
+/// Replaces a file, or makes one; what is none, as a device or a pipe, is written to.
+fn write_file(path: &Path, bytes: &[u8]) -> io::Result<()> {
+    match fs::metadata(path) {
+        Ok(found) => {
+            // Nothing is written yet, but what may not be written is refused here.
+            let mut opened = OpenOptions::new().write(true).open(path)?;
+            if !found.is_file() {
+                return opened.write_all(bytes);
+            }
+            drop(opened);
+            replace(&fs::canonicalize(path)?, bytes, Some(found.permissions()))
+        }
+        Err(error) if error.kind() == ErrorKind::NotFound => replace(path, bytes, None),
+        Err(error) => Err(error),
+    }
+}
+
+/// Writes a file beside the path, and gives it that path when it has all bytes.
+fn replace(path: &Path, bytes: &[u8], permissions: Option<Permissions>) -> io::Result<()> {
+    let (beside, file) = create_beside(path)?;
+    let written = fill(file, bytes, permissions).and_then(|()| fs::rename(&beside, path));
+    if written.is_err() {
+        // What is told is why it was not written.
+        let _ = fs::remove_file(&beside);
+    }
+    written
+}
+
+fn fill(mut file: File, bytes: &[u8], permissions: Option<Permissions>) -> io::Result<()> {
+    file.write_all(bytes)?;
+    if let Some(permissions) = permissions {
+        file.set_permissions(permissions)?;
+    }
+    file.sync_all()
+}
+
+/// How many names are tried for a file beside another.
+const MOST_NAMES: u32 = 100;
+
+/// A new file in the folder of the path.
+fn create_beside(path: &Path) -> io::Result<(PathBuf, File)> {
+    let mut number = 0;
+    loop {
+        let name = format!(".dolzhytik-{}-{number}", process::id());
+        let beside = path.with_file_name(name);
+        match File::create_new(&beside) {
+            Err(error) if error.kind() == ErrorKind::AlreadyExists && number < MOST_NAMES => {
+                number += 1;
+            }
+            made => return made.map(|file| (beside, file)),
+        }
+    }
+}

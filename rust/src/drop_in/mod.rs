@@ -1,0 +1,172 @@
+//! The names of the Rust crate `wasm-encoder`, over the proved calls.
+//!
+//! Each call hands on to the one of its name in [`base`](crate::base), [`insn`](crate::insn), [`code`](crate::code), [`sections`](crate::sections),
+//! [`types`](crate::types) or [`custom`](crate::custom), whose page says what is proved of it. An instruction for which there is no proved call is written by the proved `encode` of
+//! its op and its parts. A body and a module are bytes here, since the crate lends them before their end, and so [`Function::raw`] and [`Module::section`] append by themselves, as do
+//! the calls on values of which nothing is known here: [`encode_vec`], and `encode` of a list and of an option. Nothing of this is proved; it is tested.
+//!
+//! What the proved calls answer as a refusal is what it is in the crate: a panic where a count, run or length would pass 4294967295, and [`handle_alloc_error`] where memory is
+//! refused.
+
+mod calls;
+mod code;
+mod custom;
+mod encode;
+mod instruction;
+mod module;
+mod sections;
+mod types;
+mod values;
+
+pub use crate::base::{
+    AbstractHeapType, CORE_FUNCTION_EXACT_SORT, CORE_FUNCTION_SORT, CORE_GLOBAL_SORT,
+    CORE_MEMORY_SORT, CORE_TABLE_SORT, CORE_TAG_SORT, HeapType, RefType, SectionId, ValType,
+    encoding_size,
+};
+pub use crate::custom::{BranchHint, CoreDumpValue, DataSymbolDefinition, RawCustomSection};
+pub use crate::immediates::{
+    BlockType, Catch, Handle, Ieee32, Ieee64, Lane, MemArg, MemArgOrdering, MemArgTarget, Ordering,
+};
+pub use crate::sections::{
+    DataCountSection, EntityType, ExportKind, GlobalType, Import, ImportCompact, MemoryType,
+    StartSection, TableType, TagKind, TagType,
+};
+pub use crate::types::{ArrayType, ContType, FieldType, StorageType};
+pub use code::{CodeSection, ConstExpr, Function, InstructionSink};
+pub use custom::{
+    BranchHints, CoreDumpInstancesSection, CoreDumpModulesSection, CoreDumpSection,
+    CoreDumpStackSection, CustomSection, IndirectNameMap, LinkingSection, NameMap, NameSection,
+    ProducersField, ProducersSection, SymbolTable,
+};
+pub use encode::{Encode, Section, encode_section, encode_vec};
+pub use instruction::Instruction;
+pub use module::{Module, RawSection};
+pub use sections::{
+    DataSection, DataSegment, DataSegmentMode, ElementMode, ElementSection, ElementSegment,
+    Elements, ExportSection, FunctionSection, GlobalSection, ImportSection, Imports, MemorySection,
+    TableSection, TagSection,
+};
+pub use types::{
+    CompositeInnerType, CompositeType, CoreTypeEncoder, FuncType, StructType, SubType, TypeSection,
+};
+
+use crate::base::{CowSlice, R, Refused};
+use std::alloc::{Layout, handle_alloc_error};
+use std::borrow::Cow;
+
+/// What a refusal is here. How much memory was asked for isn't known any more.
+#[cold]
+#[inline(never)]
+fn refuse(refused: Refused) -> ! {
+    match refused {
+        Refused::Memory => handle_alloc_error(Layout::new::<u8>()),
+        Refused::TooLong => panic!("too long: a count, run or length would pass 4294967295"),
+    }
+}
+
+/// What a proved call answers where it isn't refused.
+#[inline]
+fn done<T>(answer: R<T>) -> T {
+    match answer {
+        Ok(done) => done,
+        Err(refused) => refuse(refused),
+    }
+}
+
+/// The items for a proved call. None is copied.
+fn handed<T: Clone>(items: Cow<'_, [T]>) -> CowSlice<'_, T> {
+    match items {
+        Cow::Borrowed(items) => CowSlice::Borrowed(items),
+        Cow::Owned(items) => CowSlice::Owned(items.into()),
+    }
+}
+
+/// Writes `Default` by `new`.
+macro_rules! default {
+    ($($name:ident),*) => {
+        $(
+            impl Default for $name {
+                fn default() -> Self {
+                    $name::new()
+                }
+            }
+        )*
+    };
+}
+
+/// Writes that something may be built by the proved calls, which refuse, and then taken here.
+macro_rules! taken {
+    ($($name:ident of $module:ident),*) => {
+        $(
+            #[doc = concat!("What the calls of [`", stringify!($module), "::", stringify!($name), "`](crate::", stringify!($module), "::", stringify!($name), ") have built.")]
+            impl From<$crate::$module::$name> for $name {
+                fn from(built: $crate::$module::$name) -> Self {
+                    $name(built)
+                }
+            }
+        )*
+    };
+}
+
+/// Writes the copies of what stands over something proved.
+macro_rules! copied {
+    ($($name:ident),*) => {
+        $(
+            impl Clone for $name {
+                fn clone(&self) -> Self {
+                    $name($crate::drop_in::done(self.0.clone()))
+                }
+            }
+        )*
+    };
+}
+
+/// Writes the bytes of what stands over something proved.
+macro_rules! encoded {
+    ($($name:ident),*) => {
+        $(
+            impl $crate::drop_in::Encode for $name {
+                #[inline]
+                fn encode(&self, sink: &mut Vec<u8>) {
+                    $crate::drop_in::done($crate::base::Encode::encode(&self.0, sink))
+                }
+            }
+        )*
+    };
+}
+
+/// Writes the id of a section, and its bytes.
+macro_rules! section {
+    ($($name:ident of $id:ident),*) => {
+        $(
+            $crate::drop_in::encoded!($name);
+
+            impl $crate::drop_in::Section for $name {
+                fn id(&self) -> u8 {
+                    $crate::base::SectionId::$id.into()
+                }
+            }
+        )*
+    };
+}
+
+/// Writes the number of entries of what stands over something proved.
+macro_rules! counted {
+    ($($name:ident),*) => {
+        $(
+            impl $name {
+                /// How many entries there are.
+                pub fn len(&self) -> u32 {
+                    self.0.len()
+                }
+
+                /// There are no entries.
+                pub fn is_empty(&self) -> bool {
+                    self.0.is_empty()
+                }
+            }
+        )*
+    };
+}
+
+use {copied, counted, default, encoded, section, taken};

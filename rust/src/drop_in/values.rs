@@ -1,0 +1,132 @@
+//! What Rust programs do with values that the proved calls take: conversions, orders, constants and predicates.
+use crate::base::{AbstractHeapType, HeapType, RefType, SectionId, ValType};
+use crate::immediates::{Ieee32, Ieee64};
+use crate::types::StorageType;
+use std::cmp::Ordering;
+
+impl SectionId {
+    /// The type section. The case is `Types`; this constant is a value, a pattern, and can be cast as well.
+    #[allow(non_upper_case_globals)]
+    pub const Type: SectionId = SectionId::Types;
+}
+
+impl From<f32> for Ieee32 {
+    fn from(value: f32) -> Self {
+        Ieee32::new(value.to_bits())
+    }
+}
+
+impl From<Ieee32> for f32 {
+    fn from(value: Ieee32) -> Self {
+        f32::from_bits(value.bits())
+    }
+}
+
+impl From<f64> for Ieee64 {
+    fn from(value: f64) -> Self {
+        Ieee64::new(value.to_bits())
+    }
+}
+
+impl From<Ieee64> for f64 {
+    fn from(value: Ieee64) -> Self {
+        f64::from_bits(value.bits())
+    }
+}
+
+impl From<RefType> for ValType {
+    fn from(ty: RefType) -> Self {
+        ValType::Ref(ty)
+    }
+}
+
+impl From<ValType> for StorageType {
+    fn from(ty: ValType) -> Self {
+        StorageType::Val(ty)
+    }
+}
+
+impl RefType {
+    /// A reference to what has a name.
+    pub const fn new_abstract(ty: AbstractHeapType, nullable: bool, shared: bool) -> Self {
+        RefType {
+            nullable,
+            heap_type: HeapType::Abstract { shared, ty },
+        }
+    }
+}
+
+impl ValType {
+    /// A function or null.
+    pub const FUNCREF: ValType = ValType::Ref(RefType::FUNCREF);
+
+    /// A value of the host or null.
+    pub const EXTERNREF: ValType = ValType::Ref(RefType::EXTERNREF);
+
+    /// It is an integer or a float.
+    pub const fn is_numeric(&self) -> bool {
+        matches!(
+            self,
+            ValType::I32 | ValType::I64 | ValType::F32 | ValType::F64
+        )
+    }
+
+    /// It is a vector.
+    pub const fn is_vector(&self) -> bool {
+        matches!(self, ValType::V128)
+    }
+
+    /// It is a reference.
+    pub const fn is_reference(&self) -> bool {
+        matches!(self, ValType::Ref(_))
+    }
+}
+
+impl StorageType {
+    /// The type of what is read from such a place.
+    pub const fn unpack(&self) -> ValType {
+        match self {
+            StorageType::I8 | StorageType::I16 => ValType::I32,
+            StorageType::Val(ty) => *ty,
+        }
+    }
+}
+
+/// Writes a total order by a key.
+macro_rules! ordered {
+    ($($name:ident by |$value:ident| $key:expr;)*) => {
+        $(
+            impl Ord for $name {
+                fn cmp(&self, other: &Self) -> Ordering {
+                    let key = |$value: &$name| $key;
+                    key(self).cmp(&key(other))
+                }
+            }
+
+            impl PartialOrd for $name {
+                fn partial_cmp(&self, other: &Self) -> Option<Ordering> {
+                    Some(self.cmp(other))
+                }
+            }
+        )*
+    };
+}
+
+ordered! {
+    SectionId by |id| *id as u8;
+    AbstractHeapType by |ty| *ty as u8;
+    HeapType by |ty| match *ty {
+        HeapType::Abstract { shared, ty } => (0, u32::from(ty as u8), shared),
+        HeapType::Concrete(index) => (1, index, false),
+        HeapType::Exact(index) => (2, index, false),
+    };
+    RefType by |ty| (ty.nullable, ty.heap_type);
+    ValType by |ty| match *ty {
+        ValType::I32 => (0, None),
+        ValType::I64 => (1, None),
+        ValType::F32 => (2, None),
+        ValType::F64 => (3, None),
+        ValType::V128 => (4, None),
+        ValType::Ref(ty) => (5, Some(ty)),
+    };
+}

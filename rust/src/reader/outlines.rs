@@ -1,0 +1,127 @@
+// Written by tools/to-rust from crates/wasm_reader/src/outlines.rt: change that.
+// Modules: an outline of the sections, read as their kinds or not.
+
+use crate::vec::Vec;
+use crate::reader::modules::{read_header, read_number};
+use crate::reader::section::SectionKind;
+use crate::reader::standing::{Standing, read_standing};
+use crate::alloc::Allocator;
+use crate::reader::base::ReadFault;
+use crate::reader::types::read_types;
+
+/// A section of a module, as an outline has it.
+#[derive(Clone, Copy, PartialEq, Eq, Debug)]
+pub struct Outlined<'a> {
+    pub id: u8,
+    /// How many bytes of the module stand before what the section's frame holds.
+    pub offset: usize,
+    /// How many bytes its frame holds.
+    pub size: u32,
+    /// How many items it has, where it is read as a section of its id, and its items are counted: types, and what `list_module` counts.
+    pub items: Option<u32>,
+    /// The name of a custom section, where one stands there.
+    pub name: Option<&'a str>,
+}
+
+/// The number of types in what the frame of a type section holds.
+///
+/// # Proved
+///
+/// ```text
+/// ensures found { IfOk result (λ count. IsCount kinds.Types bytes.now count) }
+/// ensures none { IfErr result (λ e. e ≢ Memory → IsCount kinds.Types bytes.now None) }
+/// ```
+fn count_types<A: Allocator + Copy>(bytes: &[u8], alloc: A) -> Result<Option<u32>, ReadFault> {
+    let types = read_types(bytes, alloc)?;
+    Ok(Some(types.len() as u32))
+}
+
+/// The number of items of a section, where it is read as its kind and these are counted.
+///
+/// # Proved
+///
+/// ```text
+/// ensures found { IfOk result (λ count. IsCount (kind_of (section_of section.now)) section.now.payload.now count) }
+/// ensures memory { IfErr result (λ e. e ≡ Memory) }
+/// ```
+fn count<A: Allocator + Copy>(section: &Standing<'_>, alloc: A) -> Result<Option<u32>, ReadFault> {
+    let kind = section.kind();
+    let counted = match kind {
+        SectionKind::Types => count_types(section.payload, alloc),
+        _ => read_number(kind, section.payload, alloc),
+    };
+    match counted {
+        Err(ReadFault::Memory) => Err(ReadFault::Memory),
+        Err(_) => Ok(None),
+        Ok(count) => Ok(count),
+    }
+}
+
+/// The line of the section that the bytes begin with, which stand at this place, and the bytes after it.
+///
+/// # Asks
+///
+/// ```text
+/// requires { place + length bytes.now < 2 ^ 64 }
+/// ```
+///
+/// # Proved
+///
+/// ```text
+/// ensures found { IfOk result (λ x. (s : Section) × IsSection s × (bytes.now ≡ bytes_of s ++ x.1.now) × IsOutline place s x.0) }
+/// ensures none { IfErr result (λ e. e ≢ Memory → ReadsNothing any_section wide bytes.now) }
+/// ```
+fn read_line<'a, A: Allocator + Copy>(
+    place: usize,
+    bytes: &'a [u8],
+    alloc: A,
+) -> Result<(Outlined<'a>, &'a [u8]), ReadFault> {
+    let (section, after) = read_standing(bytes, alloc)?;
+    let items = count(&section, alloc)?;
+    let taken = bytes.len() - after.len();
+    let line = Outlined {
+        id: section.id,
+        offset: place + (taken - section.payload.len()),
+        size: section.payload.len() as u32,
+        items,
+        name: section.name,
+    };
+    Ok((line, after))
+}
+
+/// An outline of a module: a line for each section, whatever its frame holds. A section that is not read as its kind has no number of items.
+///
+/// A custom section is read as what its name stands for, and a type section as types. The number beside a fault other than `Memory` is that of the first section that is no frame of an id,
+/// counted from 1, or 0 where the bytes don't begin with the header.
+///
+/// # Proved
+///
+/// ```text
+/// ensures found { IfOk result (λ lines. HasOutline bytes.now lines.items) }
+/// ensures none { IfErr result (λ e. e.1 ≢ Memory → EndsAt bytes.now e.0) }
+/// ensures no_module { IfErr result (λ e. e.1 ≢ Memory → FillsNothing wasm_module bytes.now) }
+/// ```
+pub fn outline<'a, A: Allocator + Copy>(
+    alloc: A,
+    bytes: &'a [u8],
+) -> Result<Vec<Outlined<'a>, A>, (usize, ReadFault)> {
+    let mut rest = match read_header(bytes) {
+        Ok(rest) => rest,
+        Err(fault) => return Err((0, fault)),
+    };
+    let mut lines = Vec::new(alloc);
+    loop {
+        if rest.is_empty() {
+            return Ok(lines);
+        }
+        let number = lines.len() + 1;
+        let (line, after) = match read_line(bytes.len() - rest.len(), rest, alloc) {
+            Ok(read) => read,
+            Err(fault) => return Err((number, fault)),
+        };
+        match lines.push(line) {
+            Ok(()) => rest = after,
+            Err(_) => return Err((number, ReadFault::Memory)),
+        }
+    }
+}

@@ -1,0 +1,54 @@
+//! What the tests of this folder compare.
+use dolzhytik::{Encode, Function, Instruction, InstructionSink, Module, Section, base, hex, insn};
+
+/// The bytes of a value.
+pub fn encoded(value: &(impl Encode + ?Sized)) -> Vec<u8> {
+    let mut bytes = Vec::new();
+    value.encode(&mut bytes);
+    bytes
+}
+
+/// The bytes that a text of hexadecimal digits tells, with spaces between them or not.
+pub fn bytes_of(text: &str) -> Vec<u8> {
+    let digits: String = text.split_whitespace().collect();
+    hex::decode(dolzhytik::alloc::Global, digits)
+        .unwrap()
+        .into()
+}
+
+/// Checks the bytes of a section, after its id, and that it is appended to a module with it.
+pub fn section(section: &impl Section, id: u8, expected: &[u8]) {
+    assert_eq!(encoded(section), expected);
+    assert_eq!(section.id(), id);
+    let mut module = Module::new();
+    module.section(section);
+    assert_eq!(module.len(), 9 + expected.len());
+    assert_eq!(module.as_slice()[8], id);
+    assert_eq!(module.finish()[9..], *expected);
+}
+
+/// Checks that an instruction has these bytes: as a value, by its named call, and by the proved `encode` of its proved value, which is that of its conversion too.
+pub fn check(
+    text: &str,
+    value: Instruction<'_>,
+    call: impl FnOnce(&mut InstructionSink<'_>),
+    proved: insn::Instruction<'_>,
+) {
+    let expected = bytes_of(text);
+    assert_eq!(encoded(&value), expected, "{value:?}");
+
+    let mut called = Vec::new();
+    call(&mut InstructionSink::new(&mut called));
+    assert_eq!(called, expected, "{value:?}");
+
+    let mut body = Function::new([]);
+    body.instruction(&value);
+    assert_eq!(body.into_raw_body()[1..], expected, "{value:?}");
+
+    for proved in [proved, insn::Instruction::from(&value)] {
+        let mut bytes = Vec::new();
+        base::Encode::encode(&proved, &mut bytes).unwrap();
+        assert_eq!(bytes, expected, "{value:?}");
+    }
+    assert_eq!(encoded(&value.clone()), expected, "{value:?}");
+}

@@ -1,0 +1,12 @@
+//! Tests of the names at the root of the package: by hand, but for `cases`.
+mod cases;
+mod checks;
+mod every_call;
+mod moved;
+mod refusals;
+mod rows;
+
+#[test]
+fn each_instruction_has_the_bytes_of_the_table() {
+    cases::check_all();
+}

@@ -1,0 +1,103 @@
+//! The program of docs/MOVING.md, as that page shows it.
+use dolzhytik as wasm_encoder;
+
+use wasm_encoder::{
+    CodeSection, ExportKind, ExportSection, Function, FunctionSection, Instruction, Module,
+    TypeSection, ValType,
+};
+
+/// An expression over one variable.
+enum Expr {
+    X,
+    Number(i64),
+    Sum(Box<Expr>, Box<Expr>),
+    Product(Box<Expr>, Box<Expr>),
+}
+
+fn emit(expr: &Expr, body: &mut Function) {
+    let operation = match expr {
+        Expr::X => Instruction::LocalGet(0),
+        Expr::Number(number) => Instruction::I64Const(*number),
+        Expr::Sum(a, b) | Expr::Product(a, b) => {
+            emit(a, body);
+            emit(b, body);
+            match expr {
+                Expr::Sum(..) => Instruction::I64Add,
+                _ => Instruction::I64Mul,
+            }
+        }
+    };
+    body.instruction(&operation);
+}
+
+/// A module that exports the expression as a function of its variable.
+fn compile(expr: &Expr) -> Module {
+    let mut types = TypeSection::new();
+    types.ty().function([ValType::I64], [ValType::I64]);
+    let mut functions = FunctionSection::new();
+    functions.function(0);
+    let mut exports = ExportSection::new();
+    exports.export("f", ExportKind::Func, 0);
+    let mut body = Function::new([]);
+    emit(expr, &mut body);
+    body.instructions().end();
+    let mut code = CodeSection::new();
+    code.function(&body);
+
+    let mut module = Module::new();
+    module.section(&types).section(&functions);
+    module.section(&exports).section(&code);
+    module
+}
+
+use wasm_encoder::alloc::Global;
+use wasm_encoder::base::Refused;
+use wasm_encoder::custom::{self, CustomSection};
+use wasm_encoder::{NameSection, base};
+
+/// The name of a module, which somebody gives. A name that is too long, or too large for the memory, is refused.
+fn named(name: &str) -> Result<NameSection, Refused> {
+    let mut names = custom::NameSection::new(Global);
+    names.module(name)?;
+    Ok(names.into())
+}
+
+/// A whole module by calls that refuse: it keeps a text, or this says why not, and nothing ends the program.
+fn note(text: &[u8]) -> Result<Vec<u8>, Refused> {
+    let note: CustomSection = CustomSection {
+        name: base::CowStr::Borrowed("note"),
+        bytes: base::CowSlice::Borrowed(text),
+    };
+    let mut module = base::Module::new(Global)?;
+    module.section(&note)?;
+    Ok(module.finish().into())
+}
+
+#[test]
+fn the_program_makes_its_module() {
+    let x = || Box::new(Expr::X);
+    let square = Expr::Product(x(), x());
+    let expr = Expr::Sum(Box::new(square), Box::new(Expr::Number(-1)));
+    let mut module = compile(&expr);
+    let bytes = "0061736d01000000 01060160017e017e 03020100 070501016600 00 0a0c010a00 2000 2000 7e 427f 7c 0b";
+    assert_eq!(module.as_slice(), crate::checks::bytes_of(bytes));
+    module.section(&named("m").unwrap());
+    assert!(module.finish().ends_with(b"\x00\x09\x04name\x00\x02\x01m"));
+    assert!(note(b"text").unwrap().ends_with(b"\x00\x09\x04notetext"));
+}
+
+/// The page stands beside the package in the repository, and not in what is published.
+#[test]
+fn the_page_shows_this_program() {
+    let page = concat!(env!("CARGO_MANIFEST_DIR"), "/../docs/MOVING.md");
+    let Ok(page) = std::fs::read_to_string(page) else {
+        return;
+    };
+    let program = include_str!("moved.rs");
+    let blocks: Vec<&str> = page.split("```rust\n").skip(1).collect();
+    assert_eq!(blocks.len(), 2);
+    for block in blocks {
+        let block = block.split("```").next().unwrap();
+        assert!(program.contains(block), "{block}");
+    }
+}

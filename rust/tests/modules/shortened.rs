@@ -1,0 +1,250 @@
+//! Modules that are shortened.
+use crate::samples::{PADDED, PADDED_NAME, SHORT, SHORT_NAME, UNREAD, bytes_of, custom, module};
+use dolzhytik::alloc::Global;
+use dolzhytik::reader::{ModuleFault, Offsets, ReadFault, shorten_module};
+use dolzhytik::vec::Vec;
+
+/// What a sink has before, which is none of the module's.
+const BEFORE: [u8; 2] = [0xAA, 0x03];
+
+/// What is appended to a sink, and how many sections are kept. Where the call is refused, the sink is as it was.
+fn appended(bytes: &[u8], offsets: Offsets) -> Result<(std::vec::Vec<u8>, usize), ModuleFault> {
+    let mut sink = Vec::from_slice(Global, &BEFORE).unwrap();
+    let answer = shorten_module(bytes, offsets, &mut sink);
+    let (before, new) = sink.split_at(BEFORE.len());
+    assert_eq!(before, BEFORE);
+    match answer {
+        Ok(kept) => Ok((new.to_vec(), kept)),
+        Err(fault) => {
+            assert_eq!(new, []);
+            Err(fault)
+        }
+    }
+}
+
+/// Checks what the module of the sections becomes, and that this stays as it is.
+#[track_caller]
+fn check(offsets: Offsets, sections: &[&str], kept: usize, expected: &[&str]) {
+    let (bytes, expected) = (module(sections), module(expected));
+    assert_eq!(appended(&bytes, offsets), Ok((expected.clone(), kept)));
+    assert!(expected.len() <= bytes.len());
+    assert_eq!(appended(&expected, offsets), Ok((expected, kept)));
+}
+
+/// Checks the same for both ways with offsets.
+#[track_caller]
+fn check_both(sections: &[&str], kept: usize, expected: &[&str]) {
+    check(Offsets::Refuse, sections, kept, expected);
+    check(Offsets::LeaveOut, sections, kept, expected);
+}
+
+#[track_caller]
+fn check_refused(sections: &[&str], number: usize) {
+    let refused = appended(&module(sections), Offsets::Refuse);
+    assert_eq!(refused, Err(ModuleFault::Offsets { number }));
+}
+
+#[test]
+fn header_alone() {
+    check_both(&[], 0, &[]);
+}
+
+#[test]
+fn padded_sizes_counts_and_indices() {
+    check_both(&PADDED, 0, &SHORT);
+    check_both(&SHORT, 0, &SHORT);
+}
+
+#[test]
+fn order_and_ids_stay() {
+    let [types, functions, exports, code] = PADDED;
+    let [short_types, short_functions, short_exports, short_code] = SHORT;
+    check_both(
+        &[PADDED_NAME, code, types, code, exports, functions],
+        0,
+        &[
+            SHORT_NAME,
+            short_code,
+            short_types,
+            short_code,
+            short_exports,
+            short_functions,
+        ],
+    );
+}
+
+#[test]
+fn custom_sections_are_read_as_what_their_names_stand_for() {
+    check_both(&[PADDED_NAME], 0, &[SHORT_NAME]);
+    // Of another name, the size and the name's length alone are numbers.
+    check_both(
+        &["00 8880 00 8100 61 00 8300 8100"],
+        0,
+        &["00 07 01 61 00 8300 8100"],
+    );
+}
+
+#[test]
+fn ids_that_no_kind_has_are_frames_of_bytes() {
+    check_both(
+        &["0e 82808000 8100", "ff 8000"],
+        0,
+        &["0e 02 8100", "ff 00"],
+    );
+}
+
+#[test]
+fn what_is_not_read_as_its_kind_is_kept_as_it_stands() {
+    check_both(&[UNREAD], 1, &[UNREAD]);
+    // Names that are no UTF-8; a name section with a subsection that is cut off; a start section with a byte too many.
+    let kept = [
+        "00 8300 02 ff ff",
+        "00 8800 8400 6e616d65 00 02",
+        "08 8200 07 00",
+        UNREAD,
+    ];
+    check_both(&kept, 4, &kept);
+    let [types, _, _, code] = PADDED;
+    let [short_types, _, _, short_code] = SHORT;
+    check_both(
+        &[types, kept[1], code, kept[2]],
+        2,
+        &[short_types, kept[1], short_code, kept[2]],
+    );
+}
+
+/// Custom sections that hold offsets, the first two of which are read as what their names stand for.
+fn holders() -> [String; 7] {
+    [
+        custom("linking", "02"),
+        custom("metadata.code.branch_hint", "00"),
+        custom("linking", "63"),
+        custom("reloc.CODE", "03 00"),
+        custom(".debug_info", "ff"),
+        custom("sourceMappingURL", "01 61"),
+        custom("metadata.code.other", ""),
+    ]
+}
+
+#[test]
+fn offsets_into_code_that_gets_shorter() {
+    let [types, functions, exports, code] = PADDED;
+    let [short_types, short_functions, short_exports, short_code] = SHORT;
+    let short = [short_types, short_functions, short_exports, short_code];
+    for holder in &holders() {
+        let behind = [types, functions, exports, code, holder];
+        check_refused(&behind, 5);
+        check(Offsets::LeaveOut, &behind, 0, &short);
+        let before = [types, holder, functions, exports, code];
+        check_refused(&before, 2);
+        check(Offsets::LeaveOut, &before, 0, &short);
+    }
+}
+
+#[test]
+fn offsets_into_data_that_gets_shorter() {
+    // One passive segment of two bytes.
+    let (padded, short) = ("0b 868000 01 01 8200 aabb", "0b 05 01 01 02 aabb");
+    for holder in &holders() {
+        check_refused(&[holder, padded], 1);
+        check(Offsets::LeaveOut, &[holder, padded], 0, &[short]);
+        check(Offsets::LeaveOut, &[holder, short], 0, &[short]);
+    }
+}
+
+#[test]
+fn offsets_into_code_that_stays() {
+    let [types, functions, exports, _] = PADDED;
+    let [short_types, short_functions, short_exports, code] = SHORT;
+    for (place, holder) in holders().iter().enumerate() {
+        // The third is no linking section: its version is none.
+        let kept = usize::from(place == 2);
+        check(
+            Offsets::Refuse,
+            &[types, functions, exports, code, holder],
+            kept,
+            &[short_types, short_functions, short_exports, code, holder],
+        );
+        check(Offsets::LeaveOut, &[code, holder], 0, &[code]);
+        check(Offsets::Refuse, &[holder], kept, &[holder]);
+    }
+}
+
+#[test]
+fn offsets_beside_code_that_is_kept() {
+    // It tells one body and has none.
+    let code = "0a 8100 01";
+    let linking = custom("linking", "02");
+    check(Offsets::Refuse, &[code, &linking], 1, &[code, &linking]);
+    check(Offsets::LeaveOut, &[code, &linking], 1, &[code]);
+}
+
+#[test]
+fn a_section_that_holds_offsets_gets_shorter_itself() {
+    let padded = "00 8a00 07 6c696e6b696e67 8200";
+    check(
+        Offsets::Refuse,
+        &[padded, SHORT[3]],
+        0,
+        &[&custom("linking", "02"), SHORT[3]],
+    );
+}
+
+#[test]
+fn the_first_that_holds_offsets_is_named() {
+    let [linking, hints, ..] = holders();
+    let any = custom("any", "");
+    check_refused(&[&any, PADDED[0], &hints, PADDED[3], &linking], 3);
+    check(
+        Offsets::LeaveOut,
+        &[&any, PADDED[0], &hints, PADDED[3], &linking],
+        0,
+        &[&any, SHORT[0], SHORT[3]],
+    );
+}
+
+#[test]
+fn names_that_hold_no_offsets() {
+    for name in [
+        "linkings",
+        "link",
+        "Linking",
+        "reloc",
+        "relocCODE",
+        ".debug",
+        "debug_info",
+        "metadata.code",
+        "sourceMappingURL2",
+        "x.reloc.CODE",
+    ] {
+        let section = custom(name, "01");
+        check_both(&[&section, PADDED[3]], 0, &[&section, SHORT[3]]);
+    }
+}
+
+#[track_caller]
+fn check_fault(bytes: &[u8], number: usize, fault: ReadFault) {
+    for offsets in [Offsets::Refuse, Offsets::LeaveOut] {
+        let refused = appended(bytes, offsets);
+        assert_eq!(refused, Err(ModuleFault::Section { number, fault }));
+    }
+}
+
+#[test]
+fn no_module() {
+    check_fault(b"", 0, ReadFault::Ended);
+    check_fault(b"\0asm\x01\0\0", 0, ReadFault::Ended);
+    check_fault(b"\0asm\x0D\0\x01\0", 0, ReadFault::UnknownTag);
+    check_fault(&bytes_of(PADDED[0]), 0, ReadFault::UnknownTag);
+}
+
+#[test]
+fn sections_that_are_none() {
+    check_fault(&module(&["03"]), 1, ReadFault::Ended);
+    check_fault(&module(&[PADDED[0], "03 03 01 00"]), 2, ReadFault::Ended);
+    check_fault(&module(&["03 808080808000"]), 1, ReadFault::TooLarge);
+    check_fault(&module(&["03 ffffffff1f"]), 1, ReadFault::TooLarge);
+    // A section that is none comes before offsets that would be lost.
+    let linking = custom("linking", "02");
+    check_fault(&module(&[&linking, PADDED[3], "00"]), 3, ReadFault::Ended);
+}

@@ -1,0 +1,9 @@
+//! Tests of the program `dolzhytik`: each command, each error and each text.
+mod build;
+mod files;
+mod outline;
+mod program;
+#[path = "../modules/samples.rs"]
+mod samples;
+mod shorten;
+mod usage;
