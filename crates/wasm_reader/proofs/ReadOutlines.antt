@@ -1,6 +1,6 @@
 -- How an outline of a module is made.
 use Rattle.std.proofs.Common.{◌≡◌, ◌≢◌, ℕ, ◌<◌, ◌^◌, ◌+◌, ◌-◌, suc, List, [], ◌∷◌, ◌++◌, length, map, take, Option, Some, None, refl, sym, ap, subst, ◌∙◌, append_assoc, append-nil, arith}
-use Rattle.std.specs.List.{AllByRecursion as All, flat_map}
+use Rattle.std.specs.List.{AllByRecursion, flat_map}
 use Rattle.std.proofs.lemmas.Grind.{flat_map-append}
 use Rattle.std.proofs.lemmas.List.{length-append, length-map, take_at}
 use Rattle.wasm_base.specs.Going.{FillsNothing}
@@ -96,7 +96,7 @@ pub ruleset count_steps = (types_counted, types_few)
 
 -- ---- lists
 
-pub All-append : {X : Type 0} (P : X → Type 0) (xs ys : List X) → All P xs → All P ys → All P (xs ++ ys)
+pub All-append : {X : Type 0} (P : X → Type 0) (xs ys : List X) → AllByRecursion P xs → AllByRecursion P ys → AllByRecursion P (xs ++ ys)
 All-append P [] ys h g = g
 All-append P (x ∷ xs) ys h g = (h.0, All-append P xs ys h.1 g)
 
@@ -125,11 +125,11 @@ any_begins = begins_then (λ b. Unit {0}) byte_begins
 one_section : (s : Section) → IsSection s → any_section wide (bytes_of s) (any_of s)
 one_section s h = record { front = s.id ∷ []; back = s.framed; joined = refl; first = refl; second = h.holds }
 
-pub sections_spelled : (sections : List Section) → All IsSection sections → members any_section wide (flat_map bytes_of sections) (map any_of sections)
+pub sections_spelled : (sections : List Section) → AllByRecursion IsSection sections → members any_section wide (flat_map bytes_of sections) (map any_of sections)
 sections_spelled [] h = refl
 sections_spelled (s ∷ ss) h = (bytes_of s, flat_map bytes_of ss, refl, one_section s h.0, sections_spelled ss h.1)
 
-pub sections_read : (bytes rest : List ℕ) (sections : List Section) → All IsSection sections → bytes ≡ flat_map bytes_of sections ++ rest → Reads (members any_section) wide bytes (map any_of sections) rest
+pub sections_read : (bytes rest : List ℕ) (sections : List Section) → AllByRecursion IsSection sections → bytes ≡ flat_map bytes_of sections ++ rest → Reads (members any_section) wide bytes (map any_of sections) rest
 sections_read bytes rest sections h e = record { front = flat_map bytes_of sections; split = e; spelled = sections_spelled sections h }
 
 -- No module stands where a section doesn't.
@@ -158,7 +158,7 @@ ends_behind bytes start rest xs e h more n = record { sections = xs; rest = rest
 pub record HasOutlined (place : ℕ) (start : List ℕ) (lines : List Outlined) (rest : List ℕ) : Type 0 where
   pub sections : List Section
   pub joined : start ≡ flat_map bytes_of sections ++ rest
-  pub each : All IsSection sections
+  pub each : AllByRecursion IsSection sections
   pub told : AreOutlines place sections lines
 
 pub outlined_start : (place : ℕ) (start : List ℕ) → HasOutlined place start [] start

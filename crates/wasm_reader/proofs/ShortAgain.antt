@@ -1,6 +1,6 @@
 -- What is as short as can be stays as it is.
 use Rattle.std.proofs.Common.{◌≡◌, ◌≢◌, ℕ, List, [], ◌∷◌, ◌++◌, length, drop, Bool, true, false, if◌then◌else◌, Option, Some, None, refl, sym, ap, subst, ◌∙◌, append-nil}
-use Rattle.std.specs.List.{AllByRecursion as All, flat_map}
+use Rattle.std.specs.List.{AllByRecursion, flat_map}
 use Rattle.std.specs.Str.{bytes_eq}
 use Rattle.std.proofs.lemmas.List.{append_cancel_left}
 use Rattle.wasm_base.specs.Numbers.{shortest, wide}
@@ -194,9 +194,9 @@ module _ (offsets : Offsets) where
       (record { id = cc e; text = same.1 }, same.2)
 
   -- One section was written, and the others stand behind it.
-  one_again : (w : Rewrite) (rest : List ℕ) (how : How) → IsSection w.section → IsWritten offsets how w.section w.text → how ≢ LeftOut → (vs : List Rewrite) → All (λ v. IsSection v.section) vs → All (IsRewrite offsets) vs
+  one_again : (w : Rewrite) (rest : List ℕ) (how : How) → IsSection w.section → IsWritten offsets how w.section w.text → how ≢ LeftOut → (vs : List Rewrite) → AllByRecursion (λ v. IsSection v.section) vs → AllByRecursion (IsRewrite offsets) vs
       → (w.section.id ∷ w.text) ++ rest ≡ flat_map (λ v. bytes_of v.section) vs
-      → ((us : List Rewrite) → All (λ v. IsSection v.section) us → All (IsRewrite offsets) us → rest ≡ flat_map (λ v. bytes_of v.section) us → flat_map written us ≡ flat_map (λ v. bytes_of v.section) us)
+      → ((us : List Rewrite) → AllByRecursion (λ v. IsSection v.section) us → AllByRecursion (IsRewrite offsets) us → rest ≡ flat_map (λ v. bytes_of v.section) us → flat_map written us ≡ flat_map (λ v. bytes_of v.section) us)
       → flat_map written vs ≡ flat_map (λ v. bytes_of v.section) vs
   one_again w rest how i h n [] j g e others = absurd (cc e)
   one_again w rest how i h n (v ∷ vs) j g e others =
@@ -208,21 +208,21 @@ module _ (offsets : Offsets) where
   none_again [] e = refl
   none_again (v ∷ vs) e = absurd (cc e)
 
-  first_again : (w : Rewrite) (rest : List ℕ) (how : How) → IsSection w.section → IsWritten offsets how w.section w.text → (vs : List Rewrite) → All (λ v. IsSection v.section) vs → All (IsRewrite offsets) vs
+  first_again : (w : Rewrite) (rest : List ℕ) (how : How) → IsSection w.section → IsWritten offsets how w.section w.text → (vs : List Rewrite) → AllByRecursion (λ v. IsSection v.section) vs → AllByRecursion (IsRewrite offsets) vs
       → written_as how w.section.id w.text ++ rest ≡ flat_map (λ v. bytes_of v.section) vs
-      → ((us : List Rewrite) → All (λ v. IsSection v.section) us → All (IsRewrite offsets) us → rest ≡ flat_map (λ v. bytes_of v.section) us → flat_map written us ≡ flat_map (λ v. bytes_of v.section) us)
+      → ((us : List Rewrite) → AllByRecursion (λ v. IsSection v.section) us → AllByRecursion (IsRewrite offsets) us → rest ≡ flat_map (λ v. bytes_of v.section) us → flat_map written us ≡ flat_map (λ v. bytes_of v.section) us)
       → flat_map written vs ≡ flat_map (λ v. bytes_of v.section) vs
   first_again w rest Shortest i h vs j g e others = one_again w rest Shortest i h (λ z. cc z) vs j g e others
   first_again w rest Kept i h vs j g e others = one_again w rest Kept i h (λ z. cc z) vs j g e others
   first_again w rest LeftOut i h vs j g e others = others vs j g e
 
-  all_again : (ws vs : List Rewrite) → All (λ w. IsSection w.section) ws → All (IsRewrite offsets) ws → All (λ v. IsSection v.section) vs → All (IsRewrite offsets) vs → flat_map written ws ≡ flat_map (λ v. bytes_of v.section) vs → flat_map written vs ≡ flat_map (λ v. bytes_of v.section) vs
+  all_again : (ws vs : List Rewrite) → AllByRecursion (λ w. IsSection w.section) ws → AllByRecursion (IsRewrite offsets) ws → AllByRecursion (λ v. IsSection v.section) vs → AllByRecursion (IsRewrite offsets) vs → flat_map written ws ≡ flat_map (λ v. bytes_of v.section) vs → flat_map written vs ≡ flat_map (λ v. bytes_of v.section) vs
   all_again [] vs i h j g e = none_again vs e
   all_again (w ∷ ws) vs i h j g e = first_again w (flat_map written ws) w.how i.0 h.0 vs j g e (λ us k f d. all_again ws us i.1 h.1 k f d)
 
 -- ---- modules
 
-all_sections : (ws : List Rewrite) → All IsSection (sections_of ws) → All (λ w. IsSection w.section) ws
+all_sections : (ws : List Rewrite) → AllByRecursion IsSection (sections_of ws) → AllByRecursion (λ w. IsSection w.section) ws
 all_sections [] h = tt
 all_sections (w ∷ ws) h = (h.0, all_sections ws h.1)
 

@@ -1,6 +1,6 @@
 -- How a module is written as shortly as can be.
 use Rattle.std.proofs.Common.{◌≡◌, ◌≢◌, ◌⊎◌, inl, inr, ℕ, ◌≤◌, ◌<◌, ◌+◌, ◌-◌, ◌^◌, suc, List, [], ◌∷◌, ◌++◌, length, map, take, drop, Bool, true, false, ◌||◌, not, Option, Some, None, refl, sym, ap, subst, ◌∙◌, append_assoc, append-nil, arith}
-use Rattle.std.specs.List.{AllByRecursion as All, flat_map}
+use Rattle.std.specs.List.{AllByRecursion, flat_map}
 use Rattle.std.proofs.lemmas.Grind.{flat_map-append}
 use Rattle.std.proofs.lemmas.List.{length-append, length-drop, length-map, take_at, take_all, drop_at}
 use Rattle.std.proofs.lemmas.Slice.Eq.{bytes_eq-Decides}
@@ -133,7 +133,7 @@ holder_next ws w None number h e = here (holds_offsets w.section.name) refl
     here true k = (ws, [], w, refl, e, h, k)
     here false k = All-append HoldsNoOffsets ws (w ∷ []) h (k, tt)
 
-front_of_all : (P : Rewrite → Type 0) (ws : List Rewrite) (w : Rewrite) → All P (ws ++ w ∷ []) → All P ws × P w
+front_of_all : (P : Rewrite → Type 0) (ws : List Rewrite) (w : Rewrite) → AllByRecursion P (ws ++ w ∷ []) → AllByRecursion P ws × P w
 front_of_all P [] w h = (tt, h.0)
 front_of_all P (v ∷ ws) w h = let g = front_of_all P ws w h.1 in ((h.0, g.0), g.1)
 
@@ -172,7 +172,7 @@ tally_more ws w old new is_moved h d s k f m = record {
   moves = λ e all. let g = front_of_all IsUnmoved ws w all in either (or_true old.is_moved is_moved (sym m ∙ e)) g;
 }
   where
-    either : (old.is_moved ≡ true) ⊎ (is_moved ≡ true) → All IsUnmoved ws × IsUnmoved w → ⊥
+    either : (old.is_moved ≡ true) ⊎ (is_moved ≡ true) → AllByRecursion IsUnmoved ws × IsUnmoved w → ⊥
     either (inl e) g = h.moves e g.0
     either (inr e) g = moved is_moved w d e g.1
 
@@ -202,7 +202,7 @@ pub bytes_joined : (ws : List Rewrite) → flat_map (λ w. bytes_of w.section) w
 bytes_joined [] = refl
 bytes_joined (w ∷ ws) = ap (λ z. bytes_of w.section ++ z) (bytes_joined ws)
 
-all_sections : (ws : List Rewrite) → All (λ w. IsSection w.section) ws → All IsSection (sections_of ws)
+all_sections : (ws : List Rewrite) → AllByRecursion (λ w. IsSection w.section) ws → AllByRecursion IsSection (sections_of ws)
 all_sections [] h = tt
 all_sections (w ∷ ws) h = (h.0, all_sections ws h.1)
 
@@ -241,7 +241,7 @@ written_short offsets w h = go w.how h
     go Kept h = omega (arith, ap length h.0.0)
     go LeftOut h = omega arith
 
-no_longer : (offsets : Offsets) (ws : List Rewrite) → All (IsRewrite offsets) ws → length (flat_map written ws) ≤ length (flat_map (λ w. bytes_of w.section) ws)
+no_longer : (offsets : Offsets) (ws : List Rewrite) → AllByRecursion (IsRewrite offsets) ws → length (flat_map written ws) ≤ length (flat_map (λ w. bytes_of w.section) ws)
 no_longer offsets [] h = omega arith
 no_longer offsets (w ∷ ws) h = omega (arith, written_short offsets w h.0, no_longer offsets ws h.1, length-append (written w) (flat_map written ws), length-append (bytes_of w.section) (flat_map (λ v. bytes_of v.section) ws))
 
@@ -268,7 +268,7 @@ module _ (w : Rewrite) (bytes ids : List ℕ) (rest : SpelledWith bytes ids) whe
   one_written offsets Kept i g = one_more w.section.id w.text w.section.payload bytes ids (subst (λ z. frame any_bytes wide z w.section.payload) (sym g.0.0) i.holds) rest
   one_written offsets LeftOut i g = rest
 
-written_spelled : (offsets : Offsets) (ws : List Rewrite) → All (λ w. IsSection w.section) ws → All (IsRewrite offsets) ws → SpelledWith (flat_map written ws) (flat_map id_written ws)
+written_spelled : (offsets : Offsets) (ws : List Rewrite) → AllByRecursion (λ w. IsSection w.section) ws → AllByRecursion (IsRewrite offsets) ws → SpelledWith (flat_map written ws) (flat_map id_written ws)
 written_spelled offsets [] i h = record { sections = []; spelled = refl; same = refl }
 written_spelled offsets (w ∷ ws) i h = one_written w (flat_map written ws) (flat_map id_written ws) (written_spelled offsets ws i.1 h.1) offsets w.how i.0 h.0
 
@@ -279,7 +279,7 @@ module _ (offsets : Offsets) (bytes start old middle new : List ℕ) (tally : Ta
   has : HasSections bytes (sections_of r.rewrites)
   has = record { joined = e ∙ ap (λ z. header ++ z) behind; each = all_sections r.rewrites r.sections }
 
-  module_shortened : (offsets ≡ Refuse → All HoldsNoOffsets r.rewrites ⊎ All IsUnmoved r.rewrites) → ShortensModule offsets bytes tally.kept old new
+  module_shortened : (offsets ≡ Refuse → AllByRecursion HoldsNoOffsets r.rewrites ⊎ AllByRecursion IsUnmoved r.rewrites) → ShortensModule offsets bytes tally.kept old new
   module_shortened fits =
       let out = written_spelled offsets r.rewrites r.sections r.each in
       record {
@@ -315,11 +315,11 @@ module _ (offsets : Offsets) (bytes start old middle new : List ℕ) (tally : Ta
         holder = f.2;
         after = f.1;
         has = subst (λ z. HasSections bytes (sections_of z)) is has;
-        each = subst (λ z. All (IsRewrite Refuse) z) is (subst (λ z. All (IsRewrite z) r.rewrites) o r.each);
+        each = subst (λ z. AllByRecursion (IsRewrite Refuse) z) is (subst (λ z. AllByRecursion (IsRewrite z) r.rewrites) o r.each);
         counted = f.4;
         first = f.5;
         holds = f.6;
-        moved = λ all. r.tallied.moves k (subst (λ z. All IsUnmoved z) (sym is) all);
+        moved = λ all. r.tallied.moves k (subst (λ z. AllByRecursion IsUnmoved z) (sym is) all);
       }
 
   pub loses_at : (number : ℕ) → lost_at offsets tally.is_moved tally.holder ≡ Some number → (offsets ≡ Refuse) × LosesOffsets bytes number

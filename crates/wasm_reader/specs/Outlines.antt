@@ -1,6 +1,6 @@
 -- Modules, as an outline of their sections goes over them: each section as it stands, whether it is read as its kind or not.
 use Rattle.std.specs.Prelude.{◌≡◌, ◌≢◌, ℕ, zero, suc, ◌+◌, List, [], ◌∷◌, ◌++◌, length, Option, Some, None, option_map, if◌then◌else◌}
-use Rattle.std.specs.List.{AllByRecursion as All, flat_map}
+use Rattle.std.specs.List.{AllByRecursion, flat_map}
 use Rattle.std.specs.Str.{bytes_eq}
 use Rattle.wasm_base.specs.Numbers.{wide}
 use Rattle.wasm_base.specs.Formats.{any_bytes, any_section, fixed, frame, header, name, wasm_module}
@@ -50,7 +50,7 @@ pub record IsSection (s : Section) : Type 0 where
 -- The bytes are the header and these sections.
 pub record HasSections (bytes : List ℕ) (sections : List Section) : Type 0 where
   pub joined : bytes ≡ header ++ flat_map bytes_of sections
-  pub each : All IsSection sections
+  pub each : AllByRecursion IsSection sections
 
 -- ---- kinds
 

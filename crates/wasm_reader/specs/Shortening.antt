@@ -1,6 +1,6 @@
 -- Modules, written as shortly as can be.
 use Rattle.std.specs.Prelude.{◌≡◌, ◌≢◌, ◌⊎◌, ◌||◌, ℕ, ◌+◌, ◌≤◌, List, [], ◌∷◌, ◌++◌, length, map, codes, nat_eq, Bool, true, false, Option, Some, None}
-use Rattle.std.specs.List.{AllByRecursion as All, flat_map, starts_with}
+use Rattle.std.specs.List.{AllByRecursion, flat_map, starts_with}
 use Rattle.std.specs.Str.{bytes_eq}
 use Rattle.wasm_base.specs.Numbers.{wide}
 use Rattle.wasm_base.specs.Formats.{any_section, header, members, wasm_module}
@@ -109,9 +109,9 @@ HoldsNoOffsets w = holds_offsets w.section.name ≡ false
 pub record ShortensModule (offsets : Offsets) (bytes : List ℕ) (kept : ℕ) (old new : List ℕ) : Type 0 where
   pub rewrites : List Rewrite
   pub has : HasSections bytes (map (λ w. w.section) rewrites)
-  pub each : All (IsRewrite offsets) rewrites
+  pub each : AllByRecursion (IsRewrite offsets) rewrites
   pub counted : kept ≡ count_kept rewrites
-  pub fitting : offsets ≡ Refuse → All HoldsNoOffsets rewrites ⊎ All IsUnmoved rewrites
+  pub fitting : offsets ≡ Refuse → AllByRecursion HoldsNoOffsets rewrites ⊎ AllByRecursion IsUnmoved rewrites
   pub text : List ℕ
   pub is : text ≡ header ++ flat_map written rewrites
   pub appended : new ≡ old ++ text
@@ -126,11 +126,11 @@ pub record LosesOffsets (bytes : List ℕ) (number : ℕ) : Type 0 where
   pub holder : Rewrite
   pub after : List Rewrite
   pub has : HasSections bytes (map (λ w. w.section) (before ++ holder ∷ after))
-  pub each : All (IsRewrite Refuse) (before ++ holder ∷ after)
+  pub each : AllByRecursion (IsRewrite Refuse) (before ++ holder ∷ after)
   pub counted : length before + 1 ≡ number
-  pub first : All HoldsNoOffsets before
+  pub first : AllByRecursion HoldsNoOffsets before
   pub holds : holds_offsets holder.section.name ≡ true
-  pub moved : All IsUnmoved (before ++ holder ∷ after) → ⊥
+  pub moved : AllByRecursion IsUnmoved (before ++ holder ∷ after) → ⊥
 
 -- The section of this number is none of any bytes, in no module, or memory was refused; or it loses its offsets.
 abbrev pub Explains : Offsets → List ℕ → ModuleFault → Type 0
@@ -153,8 +153,8 @@ pub record GainsSection (offsets : Offsets) (s : Section) (how : How) (is_moved 
 
 -- No section holds offsets, or the one of this number is the first that does.
 abbrev pub IsFirstHolder : List Rewrite → Option ℕ → Type 0
-IsFirstHolder rewrites None = All HoldsNoOffsets rewrites
-IsFirstHolder rewrites (Some number) = (before after : List Rewrite) × (holder : Rewrite) × (rewrites ≡ before ++ holder ∷ after) × (length before + 1 ≡ number) × All HoldsNoOffsets before × (holds_offsets holder.section.name ≡ true)
+IsFirstHolder rewrites None = AllByRecursion HoldsNoOffsets rewrites
+IsFirstHolder rewrites (Some number) = (before after : List Rewrite) × (holder : Rewrite) × (rewrites ≡ before ++ holder ∷ after) × (length before + 1 ≡ number) × AllByRecursion HoldsNoOffsets before × (holds_offsets holder.section.name ≡ true)
 
 -- whether a section is left out
 abbrev pub leaves_out : Offsets → Bool → Bool
@@ -178,15 +178,15 @@ pub record HasTally (rewrites : List Rewrite) (tally : Tally) : Type 0 where
   pub sections : tally.sections ≡ length rewrites
   pub kept : tally.kept ≡ count_kept rewrites
   pub holder : IsFirstHolder rewrites tally.holder
-  pub stays : tally.is_moved ≡ false → All IsUnmoved rewrites
-  pub moves : tally.is_moved ≡ true → All IsUnmoved rewrites → ⊥
+  pub stays : tally.is_moved ≡ false → AllByRecursion IsUnmoved rewrites
+  pub moves : tally.is_moved ≡ true → AllByRecursion IsUnmoved rewrites → ⊥
 
 -- Sections stand at the front of the bytes, and rest behind them; what is written for these is appended.
 pub record Rewrites (offsets : Offsets) (bytes rest old new : List ℕ) (tally : Tally) : Type 0 where
   pub rewrites : List Rewrite
   pub joined : bytes ≡ flat_map (λ w. bytes_of w.section) rewrites ++ rest
-  pub sections : All (λ w. IsSection w.section) rewrites
-  pub each : All (IsRewrite offsets) rewrites
+  pub sections : AllByRecursion (λ w. IsSection w.section) rewrites
+  pub each : AllByRecursion (IsRewrite offsets) rewrites
   pub tallied : HasTally rewrites tally
   pub appended : new ≡ old ++ flat_map written rewrites
 
