@@ -1,0 +1,4 @@
+pub mod Branch
+pub mod Held
+pub mod OneByte
+pub mod ReadBodies

@@ -1,0 +1,50 @@
+-- How those bodies are read.
+use Rattle.std.proofs.Common.{◌≡◌, ◌++◌, [], ◌∷◌, Some, pos, false, arith, refl}
+use Rattle.std.proofs.lemmas.Int.{ints}
+use Rattle.std.specs.declared.alloc.Global.{Global}
+use Rattle.wasm_base.specs.Reading.{ReadsWhole}
+use Rattle.wasm_base.proofs.NumberTexts.{one_group}
+use Rattle.wasm_base.proofs.TextLaws.{reads_whole}
+use Rattle.wasm_insn.specs.declared.instruction.Instruction.{Instruction}
+use Rattle.wasm_insn.specs.declared.instruction.Instruction.TheVariants.{I32Load, I32Const, End}
+use Rattle.wasm_immediates.specs.declared.memory.MemArgOrdering.TheVariants.{Op}
+use Rattle.wasm_immediates.specs.declared.memory.MemArgTarget.TheVariants.{Memory}
+use Rattle.wasm_immediates.specs.declared.memory.Ordering.TheVariants.{SeqCst}
+use Rattle.wasm_insn.specs.Instructions.{instruction_text}
+use Rattle.wasm_code.specs.Bodies.{IsPlainBody, body, locals_text}
+use Rattle.wasm_code.proofs.BodyLaws.{body-whole, has_locals, grows}
+use Rattle.callers.specs.Readings.{without_locals, ordered_load, constant_and_end}
+
+abbrev load : Instruction Global
+load = I32Load (record { offset = 11; align = 0; target = Memory 0; ordering = Some (Op SeqCst) })
+
+abbrev one : Instruction Global
+one = I32Const (pos 1)
+
+abbrev end : Instruction Global
+end = End
+
+no_runs : 0x00 ∷ [] ≡ locals_text []
+no_runs = rw (one_group false 0x80 0 (omega arith)) refl
+
+load_is : 0x00 ∷ 0x28 ∷ 0x10 ∷ 0x00 ∷ 0x0B ∷ [] ≡ (0x00 ∷ []) ++ instruction_text load
+load_is = rw (one_group false 0x80 16 (omega arith), one_group false 0x80 11 (omega arith)) refl
+
+one_is : 0x00 ∷ 0x41 ∷ 0x01 ∷ [] ≡ (0x00 ∷ []) ++ instruction_text one
+one_is = rw (one_group false 0x40 1 (omega arith)) refl
+
+end_is : 0x00 ∷ 0x41 ∷ 0x01 ∷ 0x0B ∷ [] ≡ (0x00 ∷ 0x41 ∷ 0x01 ∷ []) ++ instruction_text end
+end_is = refl
+
+no_instructions : IsPlainBody (0x00 ∷ []) (without_locals [])
+no_instructions = (has_locals [] (0x00 ∷ []) no_runs).plain (omega arith) (λ k d l. absurd (omega (arith, l)))
+
+pub load-read : ReadsWhole body (0x00 ∷ 0x28 ∷ 0x10 ∷ 0x00 ∷ 0x0B ∷ []) (without_locals (ordered_load ∷ []))
+load-read = reads_whole {F = body} body-whole ((grows load (0x00 ∷ []) _ load_is).plain (record { align = omega arith; target = omega arith; offset = omega arith }, tt) (without_locals []) no_instructions)
+
+pub constant-read : ReadsWhole body (0x00 ∷ 0x41 ∷ 0x01 ∷ 0x0B ∷ []) (without_locals constant_and_end)
+constant-read =
+    let first = (grows one (0x00 ∷ []) _ one_is).plain ((omega (arith, ints), omega (arith, ints)), tt) (without_locals []) no_instructions in
+    reads_whole {F = body} body-whole ((grows end (0x00 ∷ 0x41 ∷ 0x01 ∷ []) _ end_is).plain tt _ first)
+
+pub ruleset readings = (load-read, constant-read)

@@ -1,0 +1,34 @@
+use Rattle.std.proofs.Common.{[], ◌∷◌, ◌++◌, ◌<◌, ◌≤◌, length, ◌∙◌, arith}
+use Rattle.std.proofs.lemmas.List.{length-append}
+use Rattle.wasm_reader_base.proofs.Faults.{fault_stays}
+use Rattle.wasm_reader_insn.specs.Walks.{ahead}
+use Rattle.wasm_reader_insn.proofs.Calls.{goes_on, ended, stopped, of_some}
+use Rattle.wasm_reader_insn.proofs.ReadLists.{body_fills, body_no_code}
+use Rattle.wasm_base.specs.Numbers.{wide}
+use Rattle.wasm_base.specs.Reading.{Reads}
+use Rattle.wasm_insn.specs.Plain.{Plain, instruction}
+use Rattle.wasm_insn.specs.Table.{table}
+use Rattle.callers.proofs.walks.count_instructions.Goals as goal
+
+pub returns-in_err-_step-clause-none : goal.returns-in_err-_step-clause-none
+returns-in_err-_step-clause-none g c = fault_stays c.from_residual-in_err-_step.result _ c.from_residual-in_err-_step.ensures.1 λ n.
+    let w = c.loop-instructions.invariant in
+    body_no_code c.args.bytes.now (ahead c.in_ok-_runs.instructions) c.in_ok-_runs._runs.items c.in_ok-_runs.ensures.found (stopped w.0 w.1 c.in_err-_step.ensures.left (c.in_err-_step.ensures.none n))
+
+pub loop-instructions-preserved : goal.loop-instructions-preserved
+loop-instructions-preserved g c =
+    let w = c.loop-instructions.invariant in
+    let old = c.loop-instructions.instructions in
+    let new = c.next.new.self in
+    let i : Plain = record { op = c.in-Some._step.op; arguments = new.arguments } in
+    let read = of_some (λ step. Reads (instruction table) wide (ahead old) (record { op = step.op; arguments = new.arguments }) (ahead new)) c.in-Some.is c.in_ok-_step.ensures.found in
+    let further = of_some (λ step. (old.place < new.place) × (new.place ≤ length new.bytes)) c.in-Some.is c.in_ok-_step.ensures.further in
+    (w.0 ++ i ∷ [], goes_on w.0 w.1 read, omega (arith, length-append w.0 (i ∷ []), w.2), omega (arith, w.3, further.0), c.in_ok-_step.ensures.same ∙ w.4)
+
+pub returns-clause-found : goal.returns-clause-found
+returns-clause-found g c =
+    let w = c.loop-instructions.invariant in (
+      record { runs = c.in_ok-_runs._runs.items; code = w.0 },
+      body_fills c.args.bytes.now (ahead c.in_ok-_runs.instructions) c.in_ok-_runs._runs.items w.0 c.in_ok-_runs.ensures.found (ended w.0 w.1 (c.in_ok-_step.ensures.end c.in_default.is)),
+      w.2,
+    )

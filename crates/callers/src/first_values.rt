@@ -1,0 +1,44 @@
+//! Callers that add items whose first values are expressions, and prove what a reader finds.
+ghost use Rattle.std.specs.Prelude.{[], ◌∷◌, OnOk};
+ghost use Rattle.wasm_base.specs.Entries.{counted_format};
+ghost use Rattle.wasm_sections.specs.Globals.{global_item};
+ghost use Rattle.wasm_sections.specs.Tables.{table_item};
+ghost use Rattle.callers.specs.FirstValues.{GainsReading, copied, null_table, nulled_table};
+
+use std::alloc::Allocator;
+use wasm_base::{Encode, HeapType, R, RefType, ValType};
+use wasm_code::ConstExpr;
+use wasm_sections::{GlobalSection, GlobalType, TableSection, TableType};
+
+/// A global section of one global, which can't be set and has the value of the global at the index.
+pub fn encode_copied<A: Allocator + Copy>(sink: &mut Vec<u8, A>, index: u32) -> R<()>
+    ensures { OnOk result (GainsReading (counted_format global_item) (copied index ∷ []) sink.old.items sink.new.items) }
+{
+    let alloc = *sink.allocator();
+    let constant = GlobalType {
+        val_type: ValType::I32,
+        mutable: false,
+        shared: false,
+    };
+    let mut section = GlobalSection::new(alloc);
+    section.global(constant, &ConstExpr::global_get(alloc, index)?)?;
+    section.encode(sink)
+}
+
+/// A table section of two tables of functions, all null at first.
+pub fn encode_null_tables<A: Allocator + Copy>(sink: &mut Vec<u8, A>, minimum: u64) -> R<()>
+    ensures { OnOk result (GainsReading (counted_format table_item) (null_table minimum ∷ nulled_table minimum ∷ []) sink.old.items sink.new.items) }
+{
+    let alloc = *sink.allocator();
+    let functions = TableType {
+        element_type: RefType::FUNCREF,
+        table64: false,
+        minimum,
+        maximum: None,
+        shared: false,
+    };
+    let mut section = TableSection::new(alloc);
+    section.table(functions)?;
+    section.table_with_init(functions, &ConstExpr::ref_null(alloc, HeapType::FUNC)?)?;
+    section.encode(sink)
+}

@@ -1,2 +1,0 @@
-pub mod OneByte
-pub mod LabelLengths

@@ -1,8 +1,0 @@
-use Rattle.std.proofs.Common.{rules}
-use Rattle.wasm_sections.proofs.Calls.{new_functions, adds_item, encodes_items}
-use Rattle.wasm_reader_sections_tests.proofs.callers.write_function.Goals as goal
-
-pub returns : goal.returns
-returns g c =
-    let section = adds_item (new_functions c.new-section.ensures) c.args.index c.in_ok-function.ensures.ok (search rules) in
-    encodes_items c.encode.ensures.appends c.encode.ensures.read section

@@ -1,0 +1,119 @@
+// Lengths that are too long are answered before any item is asked for.
+
+use crate::checks::check_text;
+use std::cell::Cell;
+use std::process::Abort;
+use wasm_base::{R, Refused};
+use wasm_custom::{
+    BranchHint, BranchHints, CoreDumpInstancesSection, CoreDumpStackSection, CoreDumpValue,
+};
+
+/// One more than a vector can count.
+const TOO_MANY: usize = 4294967296;
+
+/// So many copies of an item, which count how often one was asked for.
+#[derive(Drop)]
+struct Copies<'a, T> {
+    item: T,
+    left: usize,
+    asked: &'a Cell<u64>,
+}
+
+impl<T: Copy> Iterator for Copies<'_, T> {
+    type Item = T;
+
+    fn next(&mut self) -> Option<T> {
+        self.asked.set(self.asked.get().saturating_add(1));
+        if self.left == 0 {
+            return None;
+        }
+        self.left -= 1;
+        Some(self.item)
+    }
+}
+
+impl<T: Copy> ExactSizeIterator for Copies<'_, T> {
+    fn len(&self) -> usize {
+        self.left
+    }
+}
+
+/// So many copies of the item.
+fn copies_of<T: Copy>(item: T, left: usize, asked: &Cell<u64>) -> Copies<'_, T> {
+    Copies { item, left, asked }
+}
+
+/// The length was too long, and no item was asked for.
+fn check_too_long(rt: &impl Abort, answer: R<()>, asked: &Cell<u64>) {
+    assert_eq!(rt; answer, Err(Refused::TooLong));
+    assert_eq!(rt; asked.get(), 0);
+}
+
+const HINT: BranchHint = BranchHint {
+    branch_func_offset: 3,
+    branch_hint_value: 1,
+};
+
+#[test]
+fn hints(rt: HostRuntime) {
+    let asked = Cell::new(0);
+    let mut section = BranchHints::new(rt.alloc());
+    let answer = section.function_hints(0, copies_of(HINT, TOO_MANY, &asked));
+    check_too_long(&rt, answer, &asked);
+    check_text(
+        &rt,
+        rt.alloc(),
+        &section,
+        b"\x1B\x19metadata.code.branch_hint\x00",
+    )
+}
+
+#[test]
+fn memories(rt: HostRuntime) {
+    let asked = Cell::new(0);
+    let mut section = CoreDumpInstancesSection::new(rt.alloc());
+    let answer = section.instance(0, copies_of(1, TOO_MANY, &asked), copies_of(2, 1, &asked));
+    check_too_long(&rt, answer, &asked);
+    check_text(&rt, rt.alloc(), &section, b"\x0F\x0Dcoreinstances\x00")
+}
+
+#[test]
+fn globals(rt: HostRuntime) {
+    let asked = Cell::new(0);
+    let mut section = CoreDumpInstancesSection::new(rt.alloc());
+    let answer = section.instance(0, copies_of(1, 1, &asked), copies_of(2, TOO_MANY, &asked));
+    check_too_long(&rt, answer, &asked);
+    check_text(&rt, rt.alloc(), &section, b"\x0F\x0Dcoreinstances\x00")
+}
+
+#[test]
+fn locals(rt: HostRuntime) {
+    let asked = Cell::new(0);
+    let mut section = CoreDumpStackSection::new(rt.alloc(), "main").expect(&rt, "accepted");
+    let missing = CoreDumpValue::Missing;
+    let locals = copies_of(missing, TOO_MANY, &asked);
+    let answer = section.frame(0, 42, 51, locals, copies_of(missing, 1, &asked));
+    check_too_long(&rt, answer, &asked);
+    check_text(
+        &rt,
+        rt.alloc(),
+        &section,
+        b"\x11\x09corestack\x00\x04main\x00",
+    )
+}
+
+#[test]
+fn stack(rt: HostRuntime) {
+    let asked = Cell::new(0);
+    let mut section = CoreDumpStackSection::new(rt.alloc(), "main").expect(&rt, "accepted");
+    let missing = CoreDumpValue::Missing;
+    let locals = copies_of(missing, 1, &asked);
+    let answer = section.frame(0, 42, 51, locals, copies_of(missing, TOO_MANY, &asked));
+    check_too_long(&rt, answer, &asked);
+    check_text(
+        &rt,
+        rt.alloc(),
+        &section,
+        b"\x11\x09corestack\x00\x04main\x00",
+    )
+}

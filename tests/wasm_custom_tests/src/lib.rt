@@ -1,0 +1,18 @@
+//! Tests of `wasm_custom`: bytes that the conventions' documents give or that were worked out by hand, requests for memory that are refused, and
+//! lengths that are too long.
+#[cfg(test)]
+mod checks;
+#[cfg(test)]
+mod core_dumps;
+#[cfg(test)]
+mod further_entries;
+#[cfg(test)]
+mod lengths;
+#[cfg(test)]
+mod names;
+#[cfg(test)]
+mod refusals;
+#[cfg(test)]
+mod sections;
+#[cfg(test)]
+mod whole_refusals;

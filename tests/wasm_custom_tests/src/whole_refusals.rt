@@ -1,0 +1,187 @@
+// Each request of constructors, copies, `as_custom` and sections without entries for memory refused in turn.
+use crate::checks::{Heap, MOST, check_answer};
+use crate::further_entries::{Growing, check_further};
+use crate::refusals::{check_append_to, check_copy, check_encode, check_written};
+use std::alloc::Global;
+use std::process::Abort;
+use test_support::Refusing;
+use wasm_base::{CowSlice, CowStr, Encode, R};
+use wasm_custom::{
+    BranchHint, CoreDumpInstancesSection, CoreDumpModulesSection, CoreDumpSection,
+    CoreDumpStackSection, CoreDumpValue, CustomSection, DataSymbolDefinition, RawCustomSection,
+};
+
+/// The call gives an item of these bytes, or is refused.
+fn check_made<'h, T: Encode + Drop, F: Fn() -> R<T>>(
+    rt: &impl Abort,
+    heap: Heap<'h>,
+    expected: &[u8],
+    make: F,
+) {
+    for nth in 1..MOST {
+        heap.refuse(nth);
+        if check_copy(rt, heap, nth, make(), expected) {
+            return;
+        }
+    }
+    panic!(rt; "no call was granted")
+}
+
+const PROCESS: &[u8] = b"\x0B\x04core\x00\x04test";
+
+#[test]
+fn process(rt: HostRuntime) {
+    let heap = Refusing::new(rt.alloc());
+    check_made(&rt, &heap, PROCESS, || CoreDumpSection::new(&heap, "test"))
+}
+
+#[test]
+fn copied_process(rt: HostRuntime) {
+    let heap = Refusing::new(rt.alloc());
+    let section = CoreDumpSection::new(&heap, "test").expect(&rt, "accepted");
+    check_encode(&rt, &heap, &section);
+    check_append_to(&rt, &heap, &section);
+    check_made(&rt, &heap, PROCESS, || section.clone())
+}
+
+const MODULES: &[u8] = b"\x13\x0Bcoremodules\x01\x00\x04mod1";
+
+#[test]
+fn custom_modules(rt: HostRuntime) {
+    let heap = Refusing::new(rt.alloc());
+    let mut section: CoreDumpModulesSection = CoreDumpModulesSection::new(rt.alloc());
+    section.module("mod1").expect(&rt, "accepted");
+    check_made(&rt, &heap, MODULES, || section.as_custom(&heap))
+}
+
+const INSTANCES: &[u8] = b"\x15\x0Dcoreinstances\x01\x00\x00\x01\x2A\x01\x11";
+
+#[test]
+fn custom_instances(rt: HostRuntime) {
+    let heap = Refusing::new(rt.alloc());
+    let mut section: CoreDumpInstancesSection = CoreDumpInstancesSection::new(rt.alloc());
+    section.instance(0, [42], [17]).expect(&rt, "accepted");
+    check_made(&rt, &heap, INSTANCES, || section.as_custom(&heap))
+}
+
+const EMPTY_STACK: &[u8] = b"\x11\x09corestack\x00\x04main\x00";
+
+#[test]
+fn stack(rt: HostRuntime) {
+    let heap = Refusing::new(rt.alloc());
+    check_made(&rt, &heap, EMPTY_STACK, || {
+        CoreDumpStackSection::new(&heap, "main")
+    })
+}
+
+const STACK: &[u8] = b"\x1B\x09corestack\x00\x04main\x01\x00\x00\x2A\x33\x01\x7F\x01\x01\x7F\x02";
+
+/// Adds a frame.
+fn add_frame(section: &mut CoreDumpStackSection<Heap<'_>>) -> R<()> {
+    section.frame(0, 42, 51, [CoreDumpValue::I32(1)], [CoreDumpValue::I32(2)])
+}
+
+impl Growing for CoreDumpStackSection<Heap<'_>> {
+    type Given = ();
+
+    fn grow(&mut self, _: &(), _: usize) -> R<()> {
+        add_frame(self)
+    }
+
+    fn number(&self) -> Option<u32> {
+        None
+    }
+}
+
+#[test]
+fn frames(rt: HostRuntime) {
+    let heap = Refusing::new(rt.alloc());
+    for nth in 1..MOST {
+        heap.refuse(0);
+        let mut section = CoreDumpStackSection::new(&heap, "main").expect(&rt, "accepted");
+        heap.refuse(nth);
+        let answer = add_frame(&mut section);
+        let granted = check_answer(&rt, &heap, nth, answer);
+        check_written(
+            &rt,
+            &heap,
+            &section,
+            if granted { STACK } else { EMPTY_STACK },
+        );
+        if granted {
+            check_stack(&rt, &heap, &section);
+            return check_further(&rt, &heap, &mut section, &(), 0);
+        }
+    }
+    panic!(rt; "no call was granted")
+}
+
+/// What is done with a stack.
+fn check_stack<'h>(rt: &impl Abort, heap: Heap<'h>, section: &CoreDumpStackSection<Heap<'h>>) {
+    check_encode(rt, heap, section);
+    check_append_to(rt, heap, section);
+    check_made(rt, heap, STACK, || section.clone());
+    check_made(rt, heap, STACK, || section.as_custom(heap))
+}
+
+#[test]
+fn custom(rt: HostRuntime) {
+    let heap = Refusing::new(rt.alloc());
+    let section = CustomSection {
+        name: CowStr::Owned(String::from_str(&heap, "test").expect(&rt, "accepted")),
+        bytes: CowSlice::Owned(Vec::from_slice(&heap, &[11, 22, 33, 44]).expect(&rt, "accepted")),
+    };
+    check_encode(&rt, &heap, &section);
+    check_append_to(&rt, &heap, &section);
+    check_made(&rt, &heap, b"\x09\x04test\x0B\x16\x21\x2C", || {
+        section.clone()
+    })
+}
+
+#[test]
+fn raw_custom(rt: HostRuntime) {
+    let heap = Refusing::new(rt.alloc());
+    check_encode(&rt, &heap, &RawCustomSection(&[1, 0]));
+    check_append_to(&rt, &heap, &RawCustomSection(&[1, 0]))
+}
+
+/// The sink held the byte 7, and then these bytes, or nothing.
+fn check_sink(rt: &impl Abort, granted: bool, sink: &[u8], expected: &[u8]) {
+    let appended: &[u8] = if granted { expected } else { &[] };
+    assert_eq!(rt; sink.split_first(), Some((&7, appended)));
+}
+
+/// `encode` of a part appends these bytes. Where a request is refused, the sink is as it was.
+fn check_part<T: Encode>(rt: &impl Abort, heap: Heap<'_>, part: &T, expected: &[u8]) {
+    for nth in 1..MOST {
+        heap.refuse(0);
+        let mut sink = Vec::from_slice(heap, &[7]).expect(rt, "accepted");
+        heap.refuse(nth);
+        let answer = part.encode(&mut sink);
+        let granted = check_answer(rt, heap, nth, answer);
+        check_sink(rt, granted, &sink, expected);
+        if granted {
+            return;
+        }
+    }
+    panic!(rt; "no call was granted")
+}
+
+const DEFINITION: DataSymbolDefinition = DataSymbolDefinition {
+    index: 1,
+    offset: 2,
+    size: 3,
+};
+
+#[test]
+fn parts(rt: HostRuntime) {
+    let heap = Refusing::new(rt.alloc());
+    let hint = BranchHint {
+        branch_func_offset: 3,
+        branch_hint_value: 1,
+    };
+    check_part(&rt, &heap, &hint, &[3, 1, 1]);
+    check_part(&rt, &heap, &DEFINITION, &[1, 2, 3]);
+    check_part(&rt, &heap, &CoreDumpValue::Missing, &[0x01]);
+    check_part(&rt, &heap, &CoreDumpValue::I64(-1), &[0x7E, 0x7F])
+}

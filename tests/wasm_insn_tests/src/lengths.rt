@@ -1,0 +1,63 @@
+// Lengths that are too long are answered before any item is asked for.
+
+use std::cell::Cell;
+use std::process::Abort;
+use wasm_base::{R, Refused, encode_vec};
+use wasm_insn::InstructionSink;
+
+/// Labels, which count how often one was asked for.
+#[derive(Drop)]
+struct CountedLabels<'a> {
+    left: usize,
+    asked: &'a Cell<u64>,
+}
+
+impl Iterator for CountedLabels<'_> {
+    type Item = u32;
+
+    fn next(&mut self) -> Option<u32> {
+        self.asked.set(self.asked.get().saturating_add(1));
+        if self.left == 0 {
+            return None;
+        }
+        self.left -= 1;
+        Some(7)
+    }
+}
+
+impl ExactSizeIterator for CountedLabels<'_> {
+    fn len(&self) -> usize {
+        self.left
+    }
+}
+
+/// The length was too long, no label was asked for, and nothing was written.
+fn check_too_long(rt: &impl Abort, answer: R<()>, asked: u64, written: usize) {
+    assert_eq!(rt; answer, Err(Refused::TooLong));
+    assert_eq!(rt; asked, 0);
+    assert_eq!(rt; written, 0);
+}
+
+#[test]
+fn long_vector(rt: HostRuntime) {
+    let asked = Cell::new(0);
+    let labels = CountedLabels {
+        left: 4294967296,
+        asked: &asked,
+    };
+    let mut sink = Vec::new(rt.alloc());
+    let answer = encode_vec(labels, &mut sink);
+    check_too_long(&rt, answer, asked.get(), sink.len());
+}
+
+#[test]
+fn long_br_table(rt: HostRuntime) {
+    let asked = Cell::new(0);
+    let labels = CountedLabels {
+        left: 4294967296,
+        asked: &asked,
+    };
+    let mut bytes = Vec::new(rt.alloc());
+    let answer = InstructionSink::new(&mut bytes).br_table(labels, 2);
+    check_too_long(&rt, answer, asked.get(), bytes.len());
+}

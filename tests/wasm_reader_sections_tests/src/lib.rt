@@ -1,0 +1,23 @@
+//! Tests of `wasm_reader` and `examples`: bytes that were worked out from the format's documents, and requests for memory that are refused.
+#[cfg(test)]
+mod checks;
+#[cfg(test)]
+mod custom_rows;
+#[cfg(test)]
+mod custom_seen;
+#[cfg(test)]
+mod example_bytes;
+#[cfg(test)]
+mod faults;
+#[cfg(test)]
+mod modules;
+#[cfg(test)]
+mod refusals;
+#[cfg(test)]
+mod rows;
+#[cfg(test)]
+mod seen;
+#[cfg(test)]
+mod shortest;
+#[cfg(test)]
+mod whole;

@@ -1,0 +1,205 @@
+// Whole modules: outlines, and shortest texts.
+use crate::checks::{MOST, check_bytes};
+use callers::read_back::{shortened_twice, smaller_module};
+use std::alloc::Global;
+use std::process::Abort;
+use test_support::Refusing;
+use wasm_base::R;
+use wasm_reader::{ModuleFault, Offsets, Outlined, ReadFault, outline, shorten_module};
+
+/// A type section, a function section, a memory section that is none, a code section and a name section, with padded numbers.
+const PADDED: &[u8] = b"\0asm\x01\0\0\0\
+    \x01\x87\x00\x01\x60\x02\x7F\x7F\x01\x7F\
+    \x03\x83\x80\x00\x01\x80\x00\
+    \x05\x82\x00\x01\x10\
+    \x0A\x8B\x00\x01\x88\x00\x00\x20\x80\x00\x20\x01\x6A\x0B\
+    \x00\x0C\x84\x00name\x00\x83\x00\x81\x00m";
+
+/// The same with no number padded but the size of what is no memory section.
+const SHORTEST: &[u8] = b"\0asm\x01\0\0\0\
+    \x01\x07\x01\x60\x02\x7F\x7F\x01\x7F\
+    \x03\x02\x01\x00\
+    \x05\x82\x00\x01\x10\
+    \x0A\x09\x01\x07\x00\x20\x00\x20\x01\x6A\x0B\
+    \x00\x09\x04name\x00\x02\x01m";
+
+/// A code section behind the header: padded, and in its shortest text.
+const PADDED_CODE: &[u8] = b"\0asm\x01\0\0\0\x0A\x06\x01\x83\x00\x00\x01\x0B";
+
+const CODE: &[u8] = b"\0asm\x01\0\0\0\x0A\x05\x01\x03\x00\x01\x0B";
+
+/// Custom sections that hold offsets.
+static OFFSETS: [&[u8]; 5] = [
+    b"\x00\x09\x07linking\x02",
+    b"\x00\x11\x10sourceMappingURL",
+    b"\x00\x0B\x0Areloc.CODE",
+    b"\x00\x0C\x0B.debug_info",
+    b"\x00\x1A\x19metadata.code.branch_hint",
+];
+
+/// What stands before in a sink.
+const BEFORE: u8 = 0xAA;
+
+fn both(alloc: Global, front: &[u8], back: &[u8]) -> R<Vec<u8>> {
+    let mut bytes = Vec::new(alloc);
+    bytes.extend_from_slice(front)?;
+    bytes.extend_from_slice(back)?;
+    Ok(bytes)
+}
+
+/// What a call answers, and whether the sink has gained the text and nothing else.
+type Outcome = (Result<usize, ModuleFault>, bool);
+
+/// The call, where the request with this number is refused.
+fn outcome(
+    heap: &Refusing<Global>,
+    nth: u64,
+    bytes: &[u8],
+    offsets: Offsets,
+    text: &[u8],
+) -> R<Outcome> {
+    heap.refuse(0);
+    let mut sink = Vec::new(heap);
+    sink.push(BEFORE)?;
+    heap.refuse(nth);
+    let answer = shorten_module(bytes, offsets, &mut sink);
+    let (before, after) = sink.split_at(1);
+    let gained = match answer {
+        Ok(_) => text,
+        Err(_) => &[] as &[u8],
+    };
+    Ok((answer, before == [BEFORE].as_slice() && after == gained))
+}
+
+fn check(rt: &impl Abort, given: Outcome, expected: Result<usize, ModuleFault>) {
+    assert_eq!(rt; given, (expected, true));
+}
+
+/// The text is appended, so many sections are kept, and each request for memory that is refused leaves the sink as it was.
+fn check_shortened(
+    rt: &impl Abort,
+    heap: &Refusing<Global>,
+    bytes: &[u8],
+    offsets: Offsets,
+    text: &[u8],
+    kept: usize,
+) {
+    for nth in 1..MOST {
+        let (answer, is_right) = outcome(heap, nth, bytes, offsets, text).expect(rt, "accepted");
+        assert!(rt; is_right, "the sink");
+        if heap.is_waiting() {
+            assert_eq!(rt; answer, Ok(kept));
+            return;
+        }
+        assert!(rt;
+            is_want_of_memory(&answer),
+            "another answer than want of memory"
+        );
+    }
+    panic!(rt; "no call was granted")
+}
+
+fn is_want_of_memory(answer: &Result<usize, ModuleFault>) -> bool {
+    matches!(
+        answer,
+        Err(ModuleFault::Section {
+            fault: ReadFault::Memory,
+            ..
+        })
+    )
+}
+
+#[test]
+fn modules(rt: HostRuntime) {
+    let heap = Refusing::new(rt.alloc());
+    for offsets in [Offsets::Refuse, Offsets::LeaveOut] {
+        check_shortened(&rt, &heap, PADDED, offsets, SHORTEST, 1);
+        check_shortened(&rt, &heap, SHORTEST, offsets, SHORTEST, 1);
+        check_shortened(&rt, &heap, &CODE[..8], offsets, &CODE[..8], 0);
+    }
+}
+
+/// The callers that prove what comes of a module.
+#[test]
+fn smaller_modules(rt: HostRuntime) {
+    let mut once = Vec::new(rt.alloc());
+    assert_eq!(rt; smaller_module(PADDED, &mut once), Ok(1));
+    check_bytes(&rt, &once, SHORTEST);
+    let mut first = Vec::new(rt.alloc());
+    let mut second = Vec::new(rt.alloc());
+    assert_eq!(rt; shortened_twice(PADDED, &mut first, &mut second), Ok(1));
+    check_bytes(&rt, &second, SHORTEST);
+}
+
+#[test]
+fn offsets(rt: HostRuntime) {
+    let heap = Refusing::new(rt.alloc());
+    for section in OFFSETS {
+        let moved = both(rt.alloc(), PADDED_CODE, section).expect(&rt, "accepted");
+        let given = outcome(&heap, 0, &moved, Offsets::Refuse, &[]).expect(&rt, "accepted");
+        check(&rt, given, Err(ModuleFault::Offsets { number: 2 }));
+        check_shortened(&rt, &heap, &moved, Offsets::LeaveOut, CODE, 0);
+        let unmoved = both(rt.alloc(), CODE, section).expect(&rt, "accepted");
+        let given = outcome(&heap, 0, &unmoved, Offsets::Refuse, &unmoved).expect(&rt, "accepted");
+        assert!(rt; given.0.is_ok() && given.1, "offsets into code that stays");
+    }
+}
+
+/// What is no module is not shortened, and has no outline.
+#[test]
+fn none(rt: HostRuntime) {
+    let heap = Refusing::new(rt.alloc());
+    for (bytes, number, fault) in [
+        (&CODE[..7], 0, ReadFault::Ended),
+        (b"\0asm\x02\0\0\0" as &[u8], 0, ReadFault::UnknownTag),
+        (&CODE[..9], 1, ReadFault::Ended),
+        (
+            b"\0asm\x01\0\0\0\x01\x00\x02\x05" as &[u8],
+            2,
+            ReadFault::Ended,
+        ),
+    ] {
+        let given = outcome(&heap, 0, bytes, Offsets::Refuse, &[]).expect(&rt, "accepted");
+        check(&rt, given, Err(ModuleFault::Section { number, fault }));
+        heap.refuse(0);
+        assert_eq!(rt; outline(&heap, bytes).err(), Some((number, fault)));
+    }
+}
+
+/// The id, offset, size, number of items and name of a section.
+type Line = (u8, usize, u32, Option<u32>, Option<&'static str>);
+
+static LINES: [Line; 5] = [
+    (1, 11, 7, Some(1), None),
+    (3, 22, 3, Some(1), None),
+    (5, 28, 2, None, None),
+    (10, 33, 11, Some(1), None),
+    (0, 46, 12, None, Some("name")),
+];
+
+fn check_line(rt: &impl Abort, given: &Outlined<'_>, expected: &Line) {
+    let line = (given.id, given.offset, given.size, given.items, given.name);
+    assert_eq!(rt; line, *expected);
+}
+
+#[test]
+fn outlines(rt: HostRuntime) {
+    let heap = Refusing::new(rt.alloc());
+    for nth in 1..MOST {
+        heap.refuse(nth);
+        let given = outline(&heap, PADDED);
+        if heap.is_waiting() {
+            let lines = given.expect(&rt, "accepted");
+            assert_eq!(rt; lines.len(), LINES.len());
+            for (line, expected) in lines.iter().zip(LINES.iter()) {
+                check_line(&rt, line, expected);
+            }
+            return;
+        }
+        assert!(rt;
+            matches!(given, Err((_, ReadFault::Memory))),
+            "another answer than want of memory"
+        );
+    }
+    panic!(rt; "no call was granted")
+}

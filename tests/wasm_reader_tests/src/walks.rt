@@ -1,0 +1,130 @@
+// Walks over instructions, with ample memory.
+use callers::walks::{count_instructions, place_after};
+use std::alloc::Global;
+use std::process::Abort;
+use wasm_base::{R, ValType};
+use wasm_code::Function;
+use wasm_insn::Op;
+use wasm_reader_base::ReadFault;
+use wasm_reader_insn::{Instructions, Step, laws};
+
+/// The step is this.
+fn check_step(rt: &impl Abort, given: Option<Step>, place: usize, op: Op) {
+    assert_eq!(rt; given, Some(Step { place, op }));
+}
+
+/// No instruction is left, and so many bytes were before the end.
+fn check_end(rt: &impl Abort, given: Option<Step>, place: usize, expected: usize) {
+    assert_eq!(rt; given, None);
+    assert_eq!(rt; place, expected);
+}
+
+fn check_count(rt: &impl Abort, given: usize, expected: usize) {
+    assert_eq!(rt; given, expected);
+}
+
+/// Why the walk stopped.
+fn check_stop(rt: &impl Abort, given: Result<Option<Step>, ReadFault>, expected: ReadFault) {
+    assert_eq!(rt; given, Err(expected));
+}
+
+#[test]
+fn bodies(rt: HostRuntime) {
+    let bytes = [1, 2, 0x7F, 0x20, 0x81, 0x00, 0x0E, 1, 0, 0, 0x0B];
+    let (runs, mut walk) = Instructions::of_body(&bytes, rt.alloc()).expect(&rt, "accepted");
+    check_count(&rt, runs.len(), 1);
+    check_step(&rt, walk.next().expect(&rt, "accepted"), 3, Op::Byte(0x20));
+    check_count(&rt, walk.args().len(), 1);
+    check_step(&rt, walk.next().expect(&rt, "accepted"), 6, Op::Byte(0x0E));
+    check_count(&rt, walk.args().len(), 2);
+    check_step(&rt, walk.next().expect(&rt, "accepted"), 10, Op::Byte(0x0B));
+    check_count(&rt, walk.args().len(), 0);
+    check_end(&rt, walk.next().expect(&rt, "accepted"), walk.place(), 11);
+    check_count(&rt, walk.rest().len(), 0);
+}
+
+#[test]
+fn expressions(rt: HostRuntime) {
+    let bytes = [
+        0x41, 0xFF, 0x7F, 0xFD, 12, 0, 1, 2, 3, 4, 5, 6, 7, 8, 9, 10, 11, 12, 13, 14, 15, 0x0B, 9,
+    ];
+    let mut walk = Instructions::new(&bytes, rt.alloc());
+    check_step(
+        &rt,
+        walk.next_before_end().expect(&rt, "accepted"),
+        0,
+        Op::Byte(0x41),
+    );
+    check_step(
+        &rt,
+        walk.next_before_end().expect(&rt, "accepted"),
+        3,
+        Op::Prefixed(0xFD, 12),
+    );
+    check_end(
+        &rt,
+        walk.next_before_end().expect(&rt, "accepted"),
+        walk.place(),
+        21,
+    );
+    check_end(
+        &rt,
+        walk.next_before_end().expect(&rt, "accepted"),
+        walk.place(),
+        21,
+    );
+    check_count(&rt, walk.rest().len(), 2);
+}
+
+/// A function of a constant, a call and the end, and its length before the constant, before the call and before the end.
+fn function(alloc: Global) -> R<(Vec<u8>, [usize; 3])> {
+    let mut function = Function::new(alloc, [(300, ValType::I32)])?;
+    let begun = function.byte_len();
+    function.instructions().i32_const(-65)?;
+    let after_constant = function.byte_len();
+    function.instructions().call(128)?;
+    let after_call = function.byte_len();
+    function.instructions().end()?;
+    Ok((
+        function.into_raw_body(),
+        [begun, after_constant, after_call],
+    ))
+}
+
+#[test]
+fn places_that_were_told(rt: HostRuntime) {
+    let (body, places) = function(rt.alloc()).expect(&rt, "accepted");
+    check_count(
+        &rt,
+        count_instructions(&body, rt.alloc()).expect(&rt, "accepted"),
+        3,
+    );
+    for (count, place) in places.iter().enumerate() {
+        check_count(
+            &rt,
+            place_after(&body, count, rt.alloc()).expect(&rt, "accepted"),
+            *place,
+        );
+    }
+    check_count(
+        &rt,
+        place_after(&body, 3, rt.alloc()).expect(&rt, "accepted"),
+        body.len(),
+    );
+}
+
+#[test]
+fn laws_take_no_memory() {
+    laws::places();
+}
+
+#[test]
+fn walks_that_stop(rt: HostRuntime) {
+    let mut walk = Instructions::new(&[0x01, 0x16, 0x0B], rt.alloc());
+    check_step(&rt, walk.next().expect(&rt, "accepted"), 0, Op::Byte(0x01));
+    check_stop(&rt, walk.next(), ReadFault::UnknownOpcode);
+    check_stop(&rt, walk.next_before_end(), ReadFault::UnknownOpcode);
+    check_count(&rt, walk.place(), 1);
+    let mut walk = Instructions::new(&[], rt.alloc());
+    check_stop(&rt, walk.next_before_end(), ReadFault::Ended);
+}

@@ -1,0 +1,279 @@
+// Code: bytes that the format gives.
+use crate::checks::{check, check_bytes, check_number, check_piece, check_that};
+use crate::functions::without_locals;
+use callers::bodies::branch_on_one;
+use std::alloc::Global;
+use std::process::Abort;
+use wasm_base::{HeapType, R, Section, ValType, add_all};
+use wasm_code::{CodeSection, ConstExpr, Function};
+use wasm_insn::{Instruction, MemArg, MemArgTarget};
+
+/// A load of memory 0 at offset 0, of this alignment.
+const fn load(align: u32) -> Instruction<'static> {
+    Instruction::I32Load(MemArg {
+        offset: 0,
+        align,
+        target: MemArgTarget::Memory(0),
+        ordering: None,
+    })
+}
+
+/// A function without locals that ends at once.
+fn empty_function(alloc: Global) -> R<Function> {
+    let mut function = without_locals(alloc)?;
+    function.instructions().end()?;
+    Ok(function)
+}
+
+#[test]
+fn expressions(rt: HostRuntime) {
+    let sum = ConstExpr::i32_const(rt.alloc(), 42)
+        .expect(&rt, "accepted")
+        .with_i32_const(1)
+        .expect(&rt, "accepted")
+        .with_i32_add()
+        .expect(&rt, "accepted");
+    check(&rt, rt.alloc(), &sum, &[0x41, 0x2A, 0x41, 0x01, 0x6A, 0x0B]);
+    check(&rt, rt.alloc(), &ConstExpr::empty(rt.alloc()), &[0x0B]);
+    let null = ConstExpr::ref_null(rt.alloc(), HeapType::FUNC).expect(&rt, "accepted");
+    check(&rt, rt.alloc(), &null, &[0xD0, 0x70, 0x0B])
+}
+
+/// The index is this one.
+fn check_index(rt: &impl Abort, index: Option<u32>, expected: Option<u32>) {
+    assert_eq!(rt; index, expected);
+}
+
+/// What the bytes have as the index of a function.
+fn check_raw(rt: &impl Abort, alloc: Global, bytes: &[u8], expected: Option<u32>) {
+    let raw = ConstExpr::raw(alloc, bytes.iter().copied()).expect(rt, "accepted");
+    check_index(rt, raw.get_ref_func(), expected);
+}
+
+#[test]
+fn indices_of_functions(rt: HostRuntime) {
+    let plain = ConstExpr::ref_func(rt.alloc(), 3)
+        .expect(&rt, "accepted")
+        .with_i32_add()
+        .expect(&rt, "accepted");
+    check_index(&rt, plain.get_ref_func(), Some(3));
+    check_index(&rt, ConstExpr::empty(rt.alloc()).get_ref_func(), None);
+}
+
+#[test]
+fn indices_of_given_bytes(rt: HostRuntime) {
+    let rows: [(&[u8], Option<u32>); 5] = [
+        (&[0xD2], None),
+        (&[0xD2, 0x83, 0x00], Some(3)),
+        (&[0xD2, 0x80, 0x80, 0x80, 0x80, 0x10], None),
+        (&[0xD2, 0xFF, 0xFF, 0xFF, 0xFF, 0x0F], Some(4294967295)),
+        (&[0x41, 0xD2, 0x03], None),
+    ];
+    for (bytes, expected) in rows {
+        check_raw(&rt, rt.alloc(), bytes, expected);
+    }
+}
+
+/// A code section of one function or raw body.
+fn check_body(rt: &impl Abort, alloc: Global, body: &[u8], expected: &[u8]) {
+    let mut code = CodeSection::new(alloc);
+    code.raw(body).expect(rt, "accepted");
+    check(rt, alloc, &code, expected)
+}
+
+/// A code section of the function, and one of its raw body.
+fn check_function(rt: &impl Abort, alloc: Global, function: Function, expected: &[u8]) {
+    let mut code = CodeSection::new(alloc);
+    code.function(&function).expect(rt, "accepted");
+    check(rt, alloc, &code, expected);
+    check_body(rt, alloc, &function.into_raw_body(), expected)
+}
+
+#[test]
+fn locals(rt: HostRuntime) {
+    let mut function = Function::new(rt.alloc(), [(1, ValType::I32), (1, ValType::F32)]).expect(
+        &rt, "accepted",
+    );
+    function
+        .instruction(&Instruction::End)
+        .expect(&rt, "accepted");
+    check_function(&rt, rt.alloc(), function, &[8, 1, 6, 2, 1, 127, 1, 125, 11])
+}
+
+#[test]
+fn locals_by_their_types(rt: HostRuntime) {
+    let types = [
+        ValType::I32,
+        ValType::I32,
+        ValType::I64,
+        ValType::F32,
+        ValType::F32,
+        ValType::F32,
+        ValType::I32,
+        ValType::I64,
+        ValType::I64,
+    ];
+    let function = Function::new_with_locals_types(rt.alloc(), types).expect(&rt, "accepted");
+    let runs = [
+        (2, ValType::I32),
+        (1, ValType::I64),
+        (3, ValType::F32),
+        (1, ValType::I32),
+        (2, ValType::I64),
+    ];
+    check_that(
+        &rt,
+        function == Function::new(rt.alloc(), runs).expect(&rt, "accepted"),
+    );
+    check_bytes(
+        &rt,
+        &function.into_raw_body(),
+        &[5, 2, 0x7F, 1, 0x7E, 3, 0x7D, 1, 0x7F, 2, 0x7E],
+    );
+}
+
+#[test]
+fn no_locals(rt: HostRuntime) {
+    let without = Function::new_with_locals_types(rt.alloc(), []).expect(&rt, "accepted");
+    check_bytes(&rt, &without.into_raw_body(), &[0]);
+}
+
+/// A function that is given its instructions, and written alone.
+#[test]
+fn functions(rt: HostRuntime) {
+    let mut function = without_locals(rt.alloc()).expect(&rt, "accepted");
+    check_number(&rt, function.byte_len(), 1);
+    function.raw([0x0B]).expect(&rt, "accepted");
+    check_number(&rt, function.byte_len(), 2);
+    check(&rt, rt.alloc(), &function, &[2, 0, 11]);
+    check_bytes(&rt, &function.into_raw_body(), &[0, 11]);
+}
+
+#[test]
+fn places(rt: HostRuntime) {
+    let mut function = without_locals(rt.alloc()).expect(&rt, "accepted");
+    check_number(&rt, branch_on_one(&mut function).expect(&rt, "accepted"), 3);
+    let expected = [0x00, 0x41, 0x01, 0x04, 0x40, 0x0B, 0x0B];
+    check_bytes(&rt, &function.into_raw_body(), &expected);
+}
+
+/// What is added next stands after as many bytes as the body had.
+#[test]
+fn the_next_place(rt: HostRuntime) {
+    let mut function = without_locals(rt.alloc()).expect(&rt, "accepted");
+    function.instructions().i32_const(1).expect(&rt, "accepted");
+    let place = function.byte_len();
+    check_number(&rt, place, 3);
+    function
+        .instruction(&Instruction::Nop)
+        .expect(&rt, "accepted");
+    check_place(&rt, &function.into_raw_body(), place);
+}
+
+/// A constant, and after so many bytes a `Nop`.
+fn check_place(rt: &impl Abort, body: &[u8], place: usize) {
+    assert_eq!(rt; body.get(place), Some(&0x01));
+    assert_eq!(rt; body, [0x00, 0x41, 0x01, 0x01].as_slice());
+}
+
+#[test]
+fn empty_code_sections(rt: HostRuntime) {
+    let code: CodeSection = CodeSection::new(rt.alloc());
+    check_that(&rt, code.is_empty());
+    check_number(&rt, usize::from(code.id()), 10);
+    check(&rt, rt.alloc(), &code, &[1, 0])
+}
+
+/// So many entries, each an empty body.
+fn check_entries(rt: &impl Abort, code: &CodeSection, len: u32, byte_len: usize) {
+    assert_eq!(rt;
+        (code.len(), code.byte_len(), code.is_empty()),
+        (len, byte_len, false)
+    );
+    for place in 0..len {
+        assert_eq!(rt; code.piece(place), Some([2, 0, 11].as_slice()));
+    }
+    check_piece(rt, code.piece(len), None);
+}
+
+#[test]
+fn code_sections(rt: HostRuntime) {
+    let mut code = CodeSection::new(rt.alloc());
+    code.raw(&[0, 11]).expect(&rt, "accepted");
+    check_entries(&rt, &code, 1, 3);
+    code.function(&empty_function(rt.alloc()).expect(&rt, "accepted"))
+        .expect(&rt, "accepted");
+    check_entries(&rt, &code, 2, 6);
+    check(&rt, rt.alloc(), &code, &[7, 2, 2, 0, 11, 2, 0, 11])
+}
+
+#[test]
+fn all_functions(rt: HostRuntime) {
+    let mut functions = Vec::new(rt.alloc());
+    functions
+        .push(empty_function(rt.alloc()).expect(&rt, "accepted"))
+        .expect(&rt, "accepted");
+    functions
+        .push(Function::new_with_locals_types(rt.alloc(), [ValType::I32]).expect(&rt, "accepted"))
+        .expect(&rt, "accepted");
+    let mut code = CodeSection::new(rt.alloc());
+    check_that(&rt, add_all(&mut code, &functions).is_ok());
+    check(&rt, rt.alloc(), &code, &[8, 2, 2, 0, 11, 3, 1, 1, 127])
+}
+
+/// The sum of two arguments.
+#[test]
+fn a_sum(rt: HostRuntime) {
+    let mut function = without_locals(rt.alloc()).expect(&rt, "accepted");
+    let mut instructions = function.instructions();
+    instructions.local_get(0).expect(&rt, "accepted");
+    instructions.local_get(1).expect(&rt, "accepted");
+    instructions.i32_add().expect(&rt, "accepted");
+    instructions.end().expect(&rt, "accepted");
+    let mut code = CodeSection::new(rt.alloc());
+    code.function(&function).expect(&rt, "accepted");
+    let mut sink = Vec::new(rt.alloc());
+    code.append_to(&mut sink).expect(&rt, "accepted");
+    check_bytes(&rt, &sink, &[10, 9, 1, 7, 0, 0x20, 0, 0x20, 1, 0x6A, 0x0B]);
+}
+
+/// Bodies are written as they are given, whether they spell one or not.
+#[test]
+fn given_bodies(rt: HostRuntime) {
+    let rows: [(&[u8], &[u8]); 3] = [
+        (&[0, 11], &[4, 1, 2, 0, 11]),
+        (&[0, 65, 0, 11], &[6, 1, 4, 0, 65, 0, 11]),
+        (&[128, 0, 11], &[5, 1, 3, 128, 0, 11]),
+    ];
+    for (body, expected) in rows {
+        check_body(&rt, rt.alloc(), body, expected);
+    }
+}
+
+#[test]
+fn alignments_of_16(rt: HostRuntime) {
+    let mut function = without_locals(rt.alloc()).expect(&rt, "accepted");
+    function.instruction(&load(16)).expect(&rt, "accepted");
+    check_function(&rt, rt.alloc(), function, &[6, 1, 4, 0, 40, 16, 0])
+}
+
+#[test]
+fn alignments_of_16_before_the_end(rt: HostRuntime) {
+    let mut function = without_locals(rt.alloc()).expect(&rt, "accepted");
+    function.instruction(&load(16)).expect(&rt, "accepted");
+    function.instructions().end().expect(&rt, "accepted");
+    check_bytes(
+        &rt,
+        &function.into_raw_body(),
+        &[0x00, 0x28, 0x10, 0x00, 0x0B],
+    );
+}
+
+/// Neither piece spells instructions, and both together do.
+#[test]
+fn pieces_of_an_instruction(rt: HostRuntime) {
+    let mut function = without_locals(rt.alloc()).expect(&rt, "accepted");
+    function.raw([65]).expect(&rt, "accepted");
+    function.raw([1, 11]).expect(&rt, "accepted");
+    check_bytes(&rt, &function.into_raw_body(), &[0x00, 0x41, 0x01, 0x0B]);
+}

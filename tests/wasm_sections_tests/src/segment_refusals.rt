@@ -1,0 +1,210 @@
+// Requests for memory that are refused to calls that add segments, and lengths that are too long.
+
+use crate::checks::{MOST, check_answer, check_bytes, check_number, check_refused, check_that};
+use crate::section_refusals::{OnHeap, SectionCalls, check_calls, check_part};
+use std::alloc::Global;
+use std::cell::Cell;
+use std::process::Abort;
+use test_support::Refusing;
+use wasm_base::{CowSlice, Encode, R, RefType, Refused};
+use wasm_code::ConstExpr;
+use wasm_sections::{
+    DataItems, DataSection, DataSegment, DataSegmentMode, ElementItems, ElementMode,
+    ElementSegment, Elements,
+};
+
+const BYTES: [u8; 2] = [8, 9];
+
+/// Two bytes that are not active.
+fn passive_segment<'a>() -> DataSegment<'a, [u8; 2]> {
+    DataSegment {
+        mode: DataSegmentMode::Passive,
+        bytes: BYTES,
+    }
+}
+
+impl SectionCalls for DataItems {
+    type Given = ConstExpr;
+
+    const ENTRIES: &'static [&'static [u8]] = &[
+        &[0, 65, 0, 11, 2, 8, 9],
+        &[2, 1, 65, 0, 11, 2, 8, 9],
+        &[1, 2, 8, 9],
+        &[1, 2, 8, 9],
+        &[1, 0],
+    ];
+
+    fn add(section: &mut OnHeap<'_, Self>, offset: &ConstExpr, place: usize) -> R<()> {
+        match place {
+            0 => section.active(0, offset, BYTES),
+            1 => section.active(1, offset, BYTES),
+            2 => section.passive(BYTES),
+            3 => section.segment(passive_segment()),
+            _ => section.raw(&[1, 0]),
+        }
+    }
+}
+
+#[test]
+fn data(rt: HostRuntime) {
+    let heap = Refusing::new(rt.alloc());
+    let offset = ConstExpr::i32_const(rt.alloc(), 0).expect(&rt, "accepted");
+    check_calls::<DataItems>(&rt, &heap, &offset)
+}
+
+/// The function 7.
+fn seventh<'a>() -> Elements<'a> {
+    Elements::Functions(CowSlice::Borrowed(&[7]))
+}
+
+impl SectionCalls for ElementItems {
+    type Given = ConstExpr;
+
+    const ENTRIES: &'static [&'static [u8]] = &[
+        &[2, 7, 65, 0, 11, 0, 1, 7],
+        &[1, 0, 1, 7],
+        &[3, 0, 1, 7],
+        &[1, 0, 0],
+    ];
+
+    fn add(section: &mut OnHeap<'_, Self>, offset: &ConstExpr, place: usize) -> R<()> {
+        match place {
+            0 => section.active(Some(7), offset, seventh()),
+            1 => section.passive(seventh()),
+            2 => section.declared(seventh()),
+            _ => section.raw(&[1, 0, 0]),
+        }
+    }
+}
+
+#[test]
+fn elements(rt: HostRuntime) {
+    let heap = Refusing::new(rt.alloc());
+    let offset = ConstExpr::i32_const(rt.alloc(), 0).expect(&rt, "accepted");
+    check_calls::<ElementItems>(&rt, &heap, &offset)
+}
+
+/// Expressions whose list and members are in memory that is refused.
+type OwnedElements<'h> = Elements<'h, &'h Refusing<Global>>;
+
+/// One expression, owned.
+fn third<'h>(heap: &'h Refusing<Global>) -> R<OwnedElements<'h>> {
+    let mut listed = Vec::new(heap);
+    listed.push(ConstExpr::ref_func(heap, 3)?)?;
+    Ok(Elements::Expressions(RefType::FUNCREF, CowSlice::Owned(listed)))
+}
+
+/// A clone answers a segment of these bytes, or `Memory` where a request was refused.
+fn check_clone<'h>(
+    rt: &impl Abort,
+    heap: &'h Refusing<Global>,
+    nth: u64,
+    copy: R<ElementSegment<'h, &'h Refusing<Global>>>,
+    expected: &[u8],
+) -> bool {
+    let granted = heap.is_waiting();
+    match copy {
+        Ok(segment) => check_part(rt, heap, &segment, expected),
+        Err(refused) => check_refused(rt, Some(refused)),
+    }
+    check_that(rt, !granted || nth > 1);
+    granted
+}
+
+#[test]
+fn clones(rt: HostRuntime) {
+    let heap = Refusing::new(rt.alloc());
+    let segment = ElementSegment {
+        mode: ElementMode::Passive,
+        elements: third(&heap).expect(&rt, "accepted"),
+    };
+    for nth in 1..MOST {
+        heap.refuse(nth);
+        if check_clone(&rt, &heap, nth, segment.clone(), &[5, 112, 1, 210, 3, 11]) {
+            return check_part(&rt, &heap, &segment, &[5, 112, 1, 210, 3, 11]);
+        }
+    }
+    panic!(rt; "no call was granted")
+}
+
+/// 128 zero bytes go into a sink that has room for their section, where no memory is given; into one of a byte less they do not.
+#[test]
+fn exact_room(rt: HostRuntime) {
+    let mut section = DataSection::new(rt.alloc());
+    section.passive([0u8; 128]).expect(&rt, "accepted");
+    let heap = Refusing::new(rt.alloc());
+    let mut sink = Vec::with_capacity(&heap, 134).expect(&rt, "accepted");
+    heap.refuse(1);
+    section.encode(&mut sink).expect(&rt, "accepted");
+    check_bytes(&rt, &sink[..6.min(sink.len())], &[0x84, 1, 1, 1, 0x80, 1]);
+    check_number(&rt, sink.len(), 134);
+    heap.refuse(0);
+    let mut short = Vec::with_capacity(&heap, 133).expect(&rt, "accepted");
+    heap.refuse(1);
+    check_refused(&rt, section.encode(&mut short).err());
+    check_bytes(&rt, &short, &[]);
+}
+
+/// Zero bytes, which count how often one was asked for.
+#[derive(Drop)]
+struct CountedBytes<'a> {
+    left: usize,
+    asked: &'a Cell<u64>,
+}
+
+impl Iterator for CountedBytes<'_> {
+    type Item = u8;
+
+    fn next(&mut self) -> Option<u8> {
+        self.asked.set(self.asked.get().saturating_add(1));
+        if self.left == 0 {
+            return None;
+        }
+        self.left -= 1;
+        Some(0)
+    }
+}
+
+impl ExactSizeIterator for CountedBytes<'_> {
+    fn len(&self) -> usize {
+        self.left
+    }
+}
+
+/// The section has one entry of two zero bytes, and a byte was asked for so often.
+fn check_asked(rt: &impl Abort, section: &DataSection, asked: &Cell<u64>, expected: u64) {
+    assert_eq!(rt; section.piece(0), Some([1, 2, 0, 0].as_slice()));
+    assert_eq!(rt; (section.len(), asked.get()), (1, expected));
+}
+
+/// A length that is too long is answered before any byte is asked for, and the section stays as it was.
+#[test]
+fn too_many_bytes(rt: HostRuntime) {
+    let asked = Cell::new(0);
+    let mut section: DataSection = DataSection::new(rt.alloc());
+    section
+        .passive(CountedBytes {
+            left: 2,
+            asked: &asked,
+        })
+        .expect(&rt, "accepted");
+    check_that(&rt, asked.get() >= 2);
+    asked.set(0);
+    let refused = section.passive(CountedBytes {
+        left: 4294967296,
+        asked: &asked,
+    });
+    check_that(&rt, refused == Err(Refused::TooLong));
+    check_asked(&rt, &section, &asked, 0);
+}
+
+/// The first growth refused, to 128 bytes.
+#[test]
+fn first_growth(rt: HostRuntime) {
+    let heap = Refusing::new(rt.alloc());
+    let mut section = DataSection::new(&heap);
+    heap.refuse(1);
+    let answer = section.passive([0u8; 128]);
+    check_that(&rt, !check_answer(&rt, &heap, 1, answer));
+    check_that(&rt, section.is_empty());
+}

@@ -1,0 +1,233 @@
+// Each call that adds a segment once, with ample memory.
+use crate::checks::check_bytes;
+use crate::sections::check;
+use std::alloc::Global;
+use std::process::Abort;
+use wasm_base::{CowSlice, Encode, R, RefType};
+use wasm_code::ConstExpr;
+use wasm_sections::{
+    DataSection, DataSegment, DataSegmentMode, ElementMode, ElementSection, ElementSegment,
+    Elements, GlobalSection,
+};
+
+/// A data section of one active segment.
+fn active_data(alloc: Global, memory: u32, offset: i32, bytes: &[u8]) -> R<DataSection> {
+    let mut section = DataSection::new(alloc);
+    let offset = ConstExpr::i32_const(alloc, offset)?;
+    section.active(memory, &offset, bytes.iter().copied())?;
+    Ok(section)
+}
+
+#[test]
+fn active_segments(rt: HostRuntime) {
+    let alloc = rt.alloc();
+    let in_second = active_data(alloc, 1, 0, &[9]).expect(&rt, "accepted");
+    check(&rt, alloc, &in_second, 11, &[8, 1, 2, 1, 65, 0, 11, 1, 9]);
+    let hello = active_data(alloc, 0, 42, b"hello").expect(&rt, "accepted");
+    check(&rt, alloc, &hello, 11, b"\x0B\x01\x00\x41\x2A\x0B\x05hello")
+}
+
+#[test]
+fn passive_segments(rt: HostRuntime) {
+    let mut section = DataSection::new(rt.alloc());
+    section.passive([1u8, 2]).expect(&rt, "accepted");
+    section.raw(&[1, 0]).expect(&rt, "accepted");
+    check(&rt, rt.alloc(), &section, 11, &[7, 2, 1, 2, 1, 2, 1, 0])
+}
+
+/// A segment of the mode, and a clone of it, make one entry.
+fn check_segment(rt: &impl Abort, alloc: Global, mode: DataSegmentMode<'_>, expected: &[u8]) {
+    let segment = DataSegment { mode, bytes: [7u8] };
+    let mut section = DataSection::new(alloc);
+    section
+        .segment(segment.clone().expect(rt, "accepted"))
+        .expect(rt, "accepted");
+    check(rt, alloc, &section, 11, expected);
+    let mut section = DataSection::new(alloc);
+    section.segment(segment).expect(rt, "accepted");
+    check(rt, alloc, &section, 11, expected)
+}
+
+#[test]
+fn segments_by_mode(rt: HostRuntime) {
+    let alloc = rt.alloc();
+    let offset = ConstExpr::i32_const(alloc, 1).expect(&rt, "accepted");
+    let first = DataSegmentMode::Active {
+        memory_index: 0,
+        offset: &offset,
+    };
+    check_segment(&rt, alloc, first, &[7, 1, 0, 65, 1, 11, 1, 7]);
+    let other = DataSegmentMode::Active {
+        memory_index: 128,
+        offset: &offset,
+    };
+    let expected = [9, 1, 2, 128, 1, 65, 1, 11, 1, 7];
+    check_segment(&rt, alloc, other, &expected);
+    check_segment(&rt, alloc, DataSegmentMode::Passive, &[4, 1, 1, 1, 7])
+}
+
+/// A segment that names memory 0 is written as it is given.
+#[test]
+fn raw_data(rt: HostRuntime) {
+    let mut section = DataSection::new(rt.alloc());
+    section
+        .raw(&[2, 0, 65, 0, 11, 1, 9])
+        .expect(&rt, "accepted");
+    let expected = [8, 1, 2, 0, 65, 0, 11, 1, 9];
+    check(&rt, rt.alloc(), &section, 11, &expected)
+}
+
+#[test]
+fn raw_globals(rt: HostRuntime) {
+    let mut section = GlobalSection::new(rt.alloc());
+    section.raw(&[127, 0, 65, 42, 11]).expect(&rt, "accepted");
+    check(&rt, rt.alloc(), &section, 6, &[6, 1, 127, 0, 65, 42, 11])
+}
+
+/// An element section of one active segment at 0, for this table.
+fn check_active(
+    rt: &impl Abort,
+    alloc: Global,
+    table: Option<u32>,
+    elements: Elements<'_>,
+    expected: &[u8],
+) {
+    let mut section = ElementSection::new(alloc);
+    let offset = ConstExpr::i32_const(alloc, 0).expect(rt, "accepted");
+    section
+        .active(table, &offset, elements)
+        .expect(rt, "accepted");
+    check(rt, alloc, &section, 9, expected)
+}
+
+/// No functions.
+fn no_functions<'a>() -> Elements<'a> {
+    Elements::Functions(CowSlice::Borrowed(&[]))
+}
+
+/// No expressions of the type.
+fn no_expressions<'a>(ty: RefType) -> Elements<'a> {
+    Elements::Expressions(ty, CowSlice::Borrowed(&[]))
+}
+
+#[test]
+fn active_functions(rt: HostRuntime) {
+    let alloc = rt.alloc();
+    check_active(&rt, alloc, None, no_functions(), &[6, 1, 0, 65, 0, 11, 0]);
+    let named = [8, 1, 2, 0, 65, 0, 11, 0, 0];
+    check_active(&rt, alloc, Some(0), no_functions(), &named);
+    let seventh = [8, 1, 2, 7, 65, 0, 11, 0, 0];
+    check_active(&rt, alloc, Some(7), no_functions(), &seventh)
+}
+
+/// A table that is named and one that is not are one where the expressions have another type than `FUNCREF`.
+#[test]
+fn active_expressions(rt: HostRuntime) {
+    let alloc = rt.alloc();
+    let short = [6, 1, 4, 65, 0, 11, 0];
+    check_active(&rt, alloc, None, no_expressions(RefType::FUNCREF), &short);
+    let named = [8, 1, 6, 0, 65, 0, 11, 112, 0];
+    check_active(
+        &rt,
+        alloc,
+        Some(0),
+        no_expressions(RefType::FUNCREF),
+        &named,
+    );
+    let external = [8, 1, 6, 0, 65, 0, 11, 111, 0];
+    for table in [None, Some(0)] {
+        check_active(
+            &rt,
+            alloc,
+            table,
+            no_expressions(RefType::EXTERNREF),
+            &external,
+        );
+    }
+}
+
+/// References to functions that are never null have no short form.
+#[test]
+fn expressions_without_null(rt: HostRuntime) {
+    let ty = RefType {
+        nullable: false,
+        ..RefType::FUNCREF
+    };
+    let expected = [9, 1, 6, 0, 65, 0, 11, 0x64, 0x70, 0];
+    check_active(&rt, rt.alloc(), None, no_expressions(ty), &expected)
+}
+
+/// A passive or declared segment of the function 7.
+fn seventh(alloc: Global) -> R<Elements<'static>> {
+    Ok(Elements::Functions(CowSlice::Owned(Vec::from_slice(alloc, &[7])?)))
+}
+
+#[test]
+fn inactive_functions(rt: HostRuntime) {
+    let alloc = rt.alloc();
+    let mut section = ElementSection::new(alloc);
+    section
+        .declared(seventh(alloc).expect(&rt, "accepted"))
+        .expect(&rt, "accepted");
+    check(&rt, alloc, &section, 9, &[5, 1, 3, 0, 1, 7]);
+    section
+        .passive(seventh(alloc).expect(&rt, "accepted"))
+        .expect(&rt, "accepted");
+    section.raw(&[1, 0, 0]).expect(&rt, "accepted");
+    let expected = [12, 3, 3, 0, 1, 7, 1, 0, 1, 7, 1, 0, 0];
+    check(&rt, alloc, &section, 9, &expected)
+}
+
+#[test]
+fn raw_elements(rt: HostRuntime) {
+    let mut section = ElementSection::new(rt.alloc());
+    section.raw(&[1, 0, 0]).expect(&rt, "accepted");
+    check(&rt, rt.alloc(), &section, 9, &[4, 1, 1, 0, 0])
+}
+
+/// A segment of the mode, and a clone of it, make one entry.
+fn check_mode(
+    rt: &impl Abort,
+    alloc: Global,
+    mode: ElementMode<'_>,
+    elements: Elements<'_>,
+    expected: &[u8],
+) {
+    let segment = ElementSegment { mode, elements };
+    let copy = segment.clone().expect(rt, "accepted");
+    let mut sink = Vec::new(alloc);
+    copy.encode(&mut sink).expect(rt, "accepted");
+    check_bytes(rt, &sink, expected);
+    let mut section = ElementSection::new(alloc);
+    section.segment(segment).expect(rt, "accepted");
+    check_bytes(rt, section.piece(0).unwrap_or(&[]), expected);
+}
+
+#[test]
+fn expressions_by_mode(rt: HostRuntime) {
+    let alloc = rt.alloc();
+    let third = [ConstExpr::ref_func(alloc, 3).expect(&rt, "accepted")];
+    let borrowed = Elements::Expressions(RefType::FUNCREF, CowSlice::Borrowed(&third));
+    let expected = [5, 112, 1, 210, 3, 11];
+    check_mode(&rt, alloc, ElementMode::Passive, borrowed, &expected);
+    let mut listed = Vec::new(alloc);
+    listed
+        .push(ConstExpr::ref_func(alloc, 3).expect(&rt, "accepted"))
+        .expect(&rt, "accepted");
+    let owned = Elements::Expressions(RefType::FUNCREF, CowSlice::Owned(listed));
+    let expected = [7, 112, 1, 210, 3, 11];
+    check_mode(&rt, alloc, ElementMode::Declared, owned, &expected)
+}
+
+#[test]
+fn functions_by_mode(rt: HostRuntime) {
+    let alloc = rt.alloc();
+    let offset = ConstExpr::i32_const(alloc, 0).expect(&rt, "accepted");
+    let mode = ElementMode::Active {
+        table: None,
+        offset: &offset,
+    };
+    let functions = Elements::Functions(CowSlice::Borrowed(&[1, 128]));
+    let expected = [0, 65, 0, 11, 2, 1, 128, 1];
+    check_mode(&rt, alloc, mode, functions, &expected)
+}

@@ -1,0 +1,127 @@
+// Lengths that are too long are answered before any item is asked for.
+
+use crate::checks::check_text;
+use crate::samples::{BYTE, bytes, sub};
+use std::alloc::Global;
+use std::cell::Cell;
+use std::process::Abort;
+use wasm_base::{R, Refused, ValType};
+use wasm_types::{SubType, TypeSection};
+
+/// One more than a vector can count.
+const TOO_MANY: usize = 4294967296;
+
+/// So many copies of an item, which count how often one was asked for.
+#[derive(Drop)]
+struct Copies<'a, T> {
+    item: T,
+    left: usize,
+    asked: &'a Cell<u64>,
+}
+
+impl<T: Copy> Iterator for Copies<'_, T> {
+    type Item = T;
+
+    fn next(&mut self) -> Option<T> {
+        self.asked.set(self.asked.get().saturating_add(1));
+        if self.left == 0 {
+            return None;
+        }
+        self.left -= 1;
+        Some(self.item)
+    }
+}
+
+impl<T: Copy> ExactSizeIterator for Copies<'_, T> {
+    fn len(&self) -> usize {
+        self.left
+    }
+}
+
+/// So many copies of the item.
+fn copies_of<T: Copy>(item: T, left: usize, asked: &Cell<u64>) -> Copies<'_, T> {
+    Copies { item, left, asked }
+}
+
+/// So many arrays of bytes, which count how often one was asked for.
+#[derive(Drop)]
+struct Arrays<'a> {
+    left: usize,
+    asked: &'a Cell<u64>,
+}
+
+impl Iterator for Arrays<'_> {
+    type Item = SubType;
+
+    fn next(&mut self) -> Option<SubType> {
+        self.asked.set(self.asked.get().saturating_add(1));
+        if self.left == 0 {
+            return None;
+        }
+        self.left -= 1;
+        Some(sub(true, None, bytes()))
+    }
+}
+
+impl ExactSizeIterator for Arrays<'_> {
+    fn len(&self) -> usize {
+        self.left
+    }
+}
+
+/// The length was too long, and no item was asked for.
+fn check_too_long(rt: &impl Abort, answer: R<()>, asked: &Cell<u64>) {
+    assert_eq!(rt; answer, Err(Refused::TooLong));
+    assert_eq!(rt; asked.get(), 0);
+}
+
+/// Nothing was added.
+fn check_unchanged(rt: &impl Abort, alloc: Global, section: &TypeSection) {
+    check_text(rt, alloc, section, &[1, 0])
+}
+
+#[test]
+fn params(rt: HostRuntime) {
+    let asked = Cell::new(0);
+    let mut section = TypeSection::new(rt.alloc());
+    let many = copies_of(ValType::I32, TOO_MANY, &asked);
+    let answer = section
+        .ty()
+        .function(many, copies_of(ValType::I32, 1, &asked));
+    check_too_long(&rt, answer, &asked);
+    check_unchanged(&rt, rt.alloc(), &section)
+}
+
+#[test]
+fn results(rt: HostRuntime) {
+    let asked = Cell::new(0);
+    let mut section = TypeSection::new(rt.alloc());
+    let many = copies_of(ValType::I32, TOO_MANY, &asked);
+    let answer = section
+        .ty()
+        .function(copies_of(ValType::I32, 1, &asked), many);
+    check_too_long(&rt, answer, &asked);
+    check_unchanged(&rt, rt.alloc(), &section)
+}
+
+#[test]
+fn fields(rt: HostRuntime) {
+    let asked = Cell::new(0);
+    let mut section = TypeSection::new(rt.alloc());
+    let answer = section.ty().struct_(copies_of(BYTE, TOO_MANY, &asked));
+    check_too_long(&rt, answer, &asked);
+    check_unchanged(&rt, rt.alloc(), &section)
+}
+
+#[test]
+fn groups(rt: HostRuntime) {
+    let asked = Cell::new(0);
+    let mut section = TypeSection::new(rt.alloc());
+    let arrays = Arrays {
+        left: TOO_MANY,
+        asked: &asked,
+    };
+    let answer = section.ty().rec(arrays);
+    check_too_long(&rt, answer, &asked);
+    check_unchanged(&rt, rt.alloc(), &section)
+}
