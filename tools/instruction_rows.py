@@ -1,8 +1,8 @@
 #!/usr/bin/env python3
 """Writes a value of each instruction, and the bytes that it must have.
 
-usage, at the top of the repository, and then `rt fmt` in crates/wasm_insn_tests:
-  tools/instruction_rows.py tools/opcodes.tsv crates/wasm_insn_tests/src
+usage, at the top of the repository, and then `tools/run-tests --format`:
+  tools/instruction_rows.py tools/opcodes.tsv tests/wasm_insn_tests/src
 
 The table has a line for each instruction: op (a byte in hexadecimal, or a prefix in hexadecimal and a number), name, shape and the
 names of the fields, with tabs between them. In the folder, the `src` of the tests, `cases.rt` gets the values, and `rows.rt` their

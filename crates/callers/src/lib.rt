@@ -1,9 +1,11 @@
 //! Worked callers beside those of `examples`: of single calls, whose bytes are known one by one, and of the reader, which prove what it answers.
-#![tactic(auto)]
+#![tactic(auto, using(wasm_base::proofs::KnownLengths::drained_array))]
 
 pub mod bodies;
 pub mod first_values;
 pub mod instructions;
+#[cfg(test)]
+mod once;
 pub mod read_back;
 pub mod readings;
 pub mod walks;

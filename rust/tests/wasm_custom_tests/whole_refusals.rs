@@ -1,4 +1,4 @@
-// Written by tools/to-rust from crates/wasm_custom_tests/src/whole_refusals.rt: change that.
+// Written by tools/to-rust from tests/wasm_custom_tests/src/whole_refusals.rt: change that.
 // Each request of constructors, copies, `as_custom` and sections without entries for memory refused in turn.
 
 use dolzhytik::vec::Vec;
@@ -12,12 +12,6 @@ use dolzhytik::base::{CowSlice, CowStr, Encode, R};
 use dolzhytik::custom::{BranchHint, CoreDumpInstancesSection, CoreDumpModulesSection, CoreDumpSection, CoreDumpStackSection, CoreDumpValue, CustomSection, DataSymbolDefinition, RawCustomSection};
 
 /// The call gives an item of these bytes, or is refused.
-///
-/// # Asks
-///
-/// ```text
-/// requires { F.IsAlwaysCallable make }
-/// ```
 fn check_made<'h, T: Encode, F: Fn() -> R<T>>(
     rt: &impl Abort,
     heap: Heap<'h>,

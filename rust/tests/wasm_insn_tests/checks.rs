@@ -1,4 +1,4 @@
-// Written by tools/to-rust from crates/wasm_insn_tests/src/checks.rt: change that.
+// Written by tools/to-rust from tests/wasm_insn_tests/src/checks.rt: change that.
 // What tests compare, over plain data: an assertion beside values that own memory takes far longer to prove.
 
 use dolzhytik::vec::Vec;
@@ -78,12 +78,6 @@ pub(crate) fn check_row<T: Encode>(rt: &impl Abort, alloc: Global, item: &T, row
 }
 
 /// The call appends these bytes, each request for memory refused in turn. Where one is refused, the sink is as it was.
-///
-/// # Asks
-///
-/// ```text
-/// requires { F.IsAlwaysCallable call }
-/// ```
 pub(crate) fn check_call<'h, F: Fn(&mut Vec<u8, Heap<'h>>) -> R<()>>(
     rt: &impl Abort,
     heap: Heap<'h>,

@@ -1,19 +1,19 @@
-// Written by tools/to-rust from crates/wasm_insn_tests/src/lib.rt: change that.
+// Written by tools/to-rust from tests/wasm_insn_tests/src/lib.rt: change that.
 //! Tests of `wasm_base`, `wasm_immediates` and `wasm_insn`: bytes that the format's documents give or that were worked out by hand,
-//! requests for memory that are refused, and callers that prove what they append.
+//! and requests for memory that are refused.
 
 #![allow(unused_imports, unused_variables, clippy::all)]
 
 #[macro_use]
 #[path = "../support/host.rs"]
 mod host;
+#[allow(dead_code)]
 #[path = "../test_support/mod.rs"]
 mod test_support;
 #[cfg(test)]
 mod base;
 #[cfg(test)]
 mod base_refusals;
-pub mod callers;
 #[cfg(test)]
 mod cases;
 #[cfg(test)]

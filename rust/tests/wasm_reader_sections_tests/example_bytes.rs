@@ -1,4 +1,4 @@
-// Written by tools/to-rust from crates/wasm_reader_sections_tests/src/example_bytes.rt: change that.
+// Written by tools/to-rust from tests/wasm_reader_sections_tests/src/example_bytes.rt: change that.
 // Each example once, with ample memory.
 
 use dolzhytik::vec::Vec;
@@ -157,12 +157,6 @@ fn check_answer(
 }
 
 /// A function appends these bytes. Where a request is refused, the sink is as it was.
-///
-/// # Asks
-///
-/// ```text
-/// requires { F.IsAlwaysCallable append }
-/// ```
 fn check_appending<'h, F: Fn(&mut Vec<u8, &'h Refusing<Global>>) -> R<()>>(
     rt: &impl Abort,
     heap: &'h Refusing<Global>,

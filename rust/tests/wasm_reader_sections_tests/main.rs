@@ -1,4 +1,4 @@
-// Written by tools/to-rust from crates/wasm_reader_sections_tests/src/lib.rt: change that.
+// Written by tools/to-rust from tests/wasm_reader_sections_tests/src/lib.rt: change that.
 //! Tests of `wasm_reader` and `examples`: bytes that were worked out from the format's documents, and requests for memory that are refused.
 
 #![allow(unused_imports, unused_variables, clippy::all)]
@@ -6,11 +6,17 @@
 #[macro_use]
 #[path = "../support/host.rs"]
 mod host;
+#[allow(dead_code)]
 #[path = "../test_support/mod.rs"]
 mod test_support;
+#[allow(dead_code)]
 #[path = "../examples/mod.rs"]
 mod examples;
-pub mod callers;
+#[allow(dead_code)]
+#[path = "../callers/mod.rs"]
+mod callers;
+#[cfg(test)]
+mod called;
 #[cfg(test)]
 mod checks;
 #[cfg(test)]

@@ -1,11 +1,11 @@
-// Written by tools/to-rust from crates/wasm_reader_sections_tests/src/shortest.rt: change that.
+// Written by tools/to-rust from tests/wasm_reader_sections_tests/src/shortest.rt: change that.
 // Sections that are shortened.
 
 use dolzhytik::vec::Vec;
-use crate::callers::padded_function;
 use crate::checks::{MOST, check_bytes};
 use crate::rows::before_data;
 use crate::{custom_rows, faults, rows};
+use crate::callers::read_back::padded_function;
 use dolzhytik::alloc::Global;
 use crate::host::Abort;
 use crate::test_support::Refusing;

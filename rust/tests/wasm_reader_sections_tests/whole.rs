@@ -1,9 +1,9 @@
-// Written by tools/to-rust from crates/wasm_reader_sections_tests/src/whole.rt: change that.
+// Written by tools/to-rust from tests/wasm_reader_sections_tests/src/whole.rt: change that.
 // Whole modules: outlines, and shortest texts.
 
 use dolzhytik::vec::Vec;
-use crate::callers::{shortened_twice, smaller_module};
 use crate::checks::{MOST, check_bytes};
+use crate::callers::read_back::{shortened_twice, smaller_module};
 use dolzhytik::alloc::Global;
 use crate::host::Abort;
 use crate::test_support::Refusing;

@@ -1,4 +1,4 @@
-// Written by tools/to-rust from crates/wasm_reader_tests/src/lib.rt: change that.
+// Written by tools/to-rust from tests/wasm_reader_tests/src/lib.rt: change that.
 //! Tests of `wasm_reader_base` and `wasm_reader_insn`: bytes that were worked out from the format's documents, and requests for memory
 //! that are refused.
 
@@ -7,11 +7,14 @@
 #[macro_use]
 #[path = "../support/host.rs"]
 mod host;
+#[allow(dead_code)]
 #[path = "../test_support/mod.rs"]
 mod test_support;
+#[allow(dead_code)]
+#[path = "../callers/mod.rs"]
+mod callers;
 #[cfg(test)]
 mod base;
-pub mod callers;
 #[cfg(test)]
 mod checks;
 #[cfg(test)]

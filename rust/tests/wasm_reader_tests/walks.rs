@@ -1,8 +1,8 @@
-// Written by tools/to-rust from crates/wasm_reader_tests/src/walks.rt: change that.
+// Written by tools/to-rust from tests/wasm_reader_tests/src/walks.rt: change that.
 // Walks over instructions, with ample memory.
 
 use dolzhytik::vec::Vec;
-use crate::callers::{count_instructions, place_after};
+use crate::callers::walks::{count_instructions, place_after};
 use dolzhytik::alloc::Global;
 use crate::host::Abort;
 use dolzhytik::base::{R, ValType};

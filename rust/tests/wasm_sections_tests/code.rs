@@ -1,10 +1,10 @@
-// Written by tools/to-rust from crates/wasm_sections_tests/src/code.rt: change that.
+// Written by tools/to-rust from tests/wasm_sections_tests/src/code.rt: change that.
 // Code: bytes that the format gives.
 
 use dolzhytik::vec::Vec;
-use crate::body_callers::branch_on_one;
 use crate::checks::{check, check_bytes, check_number, check_piece, check_that};
 use crate::functions::without_locals;
+use crate::callers::bodies::branch_on_one;
 use dolzhytik::alloc::Global;
 use crate::host::Abort;
 use dolzhytik::base::{HeapType, R, Section, ValType, add_all};

@@ -1,4 +1,4 @@
-// Written by tools/to-rust from crates/wasm_sections_tests/src/lengths.rt: change that.
+// Written by tools/to-rust from tests/wasm_sections_tests/src/lengths.rt: change that.
 // Lengths that are too long are answered before any item is asked for.
 
 use crate::checks::check_bytes;
@@ -14,12 +14,6 @@ struct CountedRuns<'a> {
     asked: &'a Cell<u64>,
 }
 
-/// # Defined
-///
-/// ```text
-/// next_gives = { λ s r t. MatchOption r ((s.left ≡ 0) × (t.left ≡ 0)) (λ _. s.left ≡ t.left + 1) }
-/// remaining = { λ s. at_most s.left }
-/// ```
 impl Iterator for CountedRuns<'_> {
     type Item = (u32, ValType);
 

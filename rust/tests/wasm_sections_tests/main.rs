@@ -1,16 +1,18 @@
-// Written by tools/to-rust from crates/wasm_sections_tests/src/lib.rt: change that.
-//! Tests of `wasm_code` and `wasm_sections`: bytes that the format's documents give or that were worked out by hand, requests for memory
-//! that are refused, and callers that prove what they append and what a reader finds.
+// Written by tools/to-rust from tests/wasm_sections_tests/src/lib.rt: change that.
+//! Tests of `wasm_code` and `wasm_sections`: bytes that the format's documents give or that were worked out by hand, and requests for memory
+//! that are refused.
 
 #![allow(unused_imports, unused_variables, clippy::all)]
 
 #[macro_use]
 #[path = "../support/host.rs"]
 mod host;
+#[allow(dead_code)]
 #[path = "../test_support/mod.rs"]
 mod test_support;
-pub mod body_callers;
-pub mod callers;
+#[allow(dead_code)]
+#[path = "../callers/mod.rs"]
+mod callers;
 #[cfg(test)]
 mod checks;
 #[cfg(test)]
@@ -21,7 +23,6 @@ mod code_refusals;
 mod functions;
 #[cfg(test)]
 mod lengths;
-pub mod readings;
 #[cfg(test)]
 mod samples;
 #[cfg(test)]

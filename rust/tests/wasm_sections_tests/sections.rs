@@ -1,10 +1,10 @@
-// Written by tools/to-rust from crates/wasm_sections_tests/src/sections.rt: change that.
+// Written by tools/to-rust from tests/wasm_sections_tests/src/sections.rt: change that.
 // Each call of `wasm_sections` once, with ample memory.
 
 use dolzhytik::vec::Vec;
-use crate::callers::{encode_copied, encode_null_tables};
 use crate::checks::{check_bytes, check_piece, check_that};
 use crate::samples::{GLOBAL, LIMITED_MEMORY, LIMITED_TABLE, MEMORY, SET_GLOBAL, TABLE, TAG};
+use crate::callers::first_values::{encode_copied, encode_null_tables};
 use dolzhytik::alloc::Global;
 use crate::host::Abort;
 use dolzhytik::base::{Counted, CowSlice, Encode, HeapType, Section, ValType, add_all};

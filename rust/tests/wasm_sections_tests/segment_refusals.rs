@@ -1,4 +1,4 @@
-// Written by tools/to-rust from crates/wasm_sections_tests/src/segment_refusals.rt: change that.
+// Written by tools/to-rust from tests/wasm_sections_tests/src/segment_refusals.rt: change that.
 // Requests for memory that are refused to calls that add segments, and lengths that are too long.
 
 use dolzhytik::vec::Vec;
@@ -154,12 +154,6 @@ struct CountedBytes<'a> {
     asked: &'a Cell<u64>,
 }
 
-/// # Defined
-///
-/// ```text
-/// next_gives = { λ s r t. MatchOption r ((s.left ≡ 0) × (t.left ≡ 0)) (λ _. s.left ≡ t.left + 1) }
-/// remaining = { λ s. at_most s.left }
-/// ```
 impl Iterator for CountedBytes<'_> {
     type Item = u8;
 

@@ -1,4 +1,4 @@
-// Written by tools/to-rust from crates/wasm_types_tests/src/lengths.rt: change that.
+// Written by tools/to-rust from tests/wasm_types_tests/src/lengths.rt: change that.
 // Lengths that are too long are answered before any item is asked for.
 
 use crate::checks::check_text;
@@ -19,12 +19,6 @@ struct Copies<'a, T> {
     asked: &'a Cell<u64>,
 }
 
-/// # Defined
-///
-/// ```text
-/// next_gives = { counts_down (λ s. s.left) }
-/// remaining = { λ s. at_most s.left }
-/// ```
 impl<T: Copy> Iterator for Copies<'_, T> {
     type Item = T;
 
@@ -55,12 +49,6 @@ struct Arrays<'a> {
     asked: &'a Cell<u64>,
 }
 
-/// # Defined
-///
-/// ```text
-/// next_gives = { counts_down (λ s. s.left) }
-/// remaining = { λ s. at_most s.left }
-/// ```
 impl Iterator for Arrays<'_> {
     type Item = SubType;
 

@@ -1,5 +1,7 @@
 //! Tests of `wasm_reader` and `examples`: bytes that were worked out from the format's documents, and requests for memory that are refused.
 #[cfg(test)]
+mod called;
+#[cfg(test)]
 mod checks;
 #[cfg(test)]
 mod custom_rows;

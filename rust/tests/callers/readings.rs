@@ -1,4 +1,4 @@
-// Written by tools/to-rust from crates/wasm_sections_tests/src/readings.rt: change that.
+// Written by tools/to-rust from crates/callers/src/readings.rt: change that.
 //! Bodies that are read otherwise than they were written: each function does nothing, and its clause is what a reader finds.
 
 /// After a load of alignment 16 and offset 0 the byte of `End` is an offset: it is read as a load with an ordering, alone.

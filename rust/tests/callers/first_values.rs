@@ -1,4 +1,4 @@
-// Written by tools/to-rust from crates/wasm_sections_tests/src/callers.rt: change that.
+// Written by tools/to-rust from crates/callers/src/first_values.rt: change that.
 //! Callers that add items whose first values are expressions, and prove what a reader finds.
 
 use dolzhytik::vec::Vec;

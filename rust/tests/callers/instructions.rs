@@ -1,4 +1,4 @@
-// Written by tools/to-rust from crates/wasm_insn_tests/src/callers.rt: change that.
+// Written by tools/to-rust from crates/callers/src/instructions.rt: change that.
 //! Callers of the sink: what they append is known to the byte.
 
 use dolzhytik::vec::{Sink, Vec};

@@ -1,4 +1,4 @@
-// Written by tools/to-rust from crates/wasm_sections_tests/src/body_callers.rt: change that.
+// Written by tools/to-rust from crates/callers/src/bodies.rt: change that.
 //! A caller of a function's sinks: the body is known to the byte, and so is the length between.
 
 use dolzhytik::alloc::Allocator;

@@ -1,4 +1,4 @@
-// Written by tools/to-rust from crates/wasm_reader_sections_tests/src/callers.rt: change that.
+// Written by tools/to-rust from crates/callers/src/read_back.rt: change that.
 //! Callers of the reader, which prove what it answers.
 
 use dolzhytik::vec::Vec;

@@ -1,4 +1,4 @@
-// Written by tools/to-rust from crates/wasm_reader_tests/src/callers.rt: change that.
+// Written by tools/to-rust from crates/callers/src/walks.rt: change that.
 //! Callers of the reader, which prove what they answer.
 
 use dolzhytik::alloc::Allocator;

@@ -1,0 +1,59 @@
+// The worked callers, each called once.
+use crate::checks::check_bytes;
+use callers::instructions::{append_call, append_end, append_sum, block};
+use callers::read_back::{
+    shortened_function, write_function, write_names, written_function, written_names,
+};
+use callers::readings::{load_of_alignment_16, pieces_of_a_constant};
+use wasm_reader::Items;
+
+/// The name section of a module `m`, whose first function is `f`, without its id.
+const NAMES: &[u8] = &[
+    15, 4, b'n', b'a', b'm', b'e', 0, 2, 1, b'm', 1, 4, 1, 0, 1, b'f',
+];
+
+#[test]
+fn instructions(rt: HostRuntime) {
+    let mut bytes = Vec::new(rt.alloc());
+    append_sum(&mut bytes).expect(&rt, "accepted");
+    append_call(&mut bytes).expect(&rt, "accepted");
+    append_end(&mut bytes).expect(&rt, "accepted");
+    check_bytes(
+        &rt,
+        &bytes,
+        &[0x20, 0, 0x20, 1, 0x6A, 0x0B, 0x11, 1, 2, 0x0B],
+    );
+    let bytes = block(rt.alloc()).expect(&rt, "accepted");
+    check_bytes(&rt, &bytes, &[0x02, 0x40, 0x01, 0x0B]);
+    load_of_alignment_16();
+    pieces_of_a_constant()
+}
+
+#[test]
+fn functions(rt: HostRuntime) {
+    let mut text = Vec::new(rt.alloc());
+    write_function(&mut text, 7).expect(&rt, "accepted");
+    check_bytes(&rt, &text, &[2, 1, 7]);
+    let mut text = Vec::new(rt.alloc());
+    match written_function(&mut text, 7).expect(&rt, "read") {
+        Items::Functions(indices) => assert_eq!(rt; indices.as_slice(), [7].as_slice()),
+        _ => assert!(rt; false, "a function section"),
+    }
+    let mut text = Vec::new(rt.alloc());
+    let mut sink = Vec::new(rt.alloc());
+    let taken = shortened_function(&mut text, 7, &mut sink).expect(&rt, "read");
+    assert_eq!(rt; taken, 3);
+    check_bytes(&rt, &sink, &[2, 1, 7])
+}
+
+#[test]
+fn names(rt: HostRuntime) {
+    let mut text = Vec::new(rt.alloc());
+    write_names(&mut text, "m", "f").expect(&rt, "accepted");
+    check_bytes(&rt, &text, NAMES);
+    let mut text = Vec::new(rt.alloc());
+    match written_names(&mut text, "m", "f").expect(&rt, "read") {
+        Items::Names(items) => assert_eq!(rt; items.len(), 2),
+        _ => assert!(rt; false, "a name section"),
+    }
+}
