@@ -7,5 +7,6 @@ fn walk(rt: HostRuntime) {
         &rt, "read",
     );
     let _ = instructions.next_before_end().expect(&rt, "read");
+    let _ = instructions.args();
     let _ = instructions.place();
 }

@@ -1,8 +1,9 @@
 //! Items of core sections.
 use wasm_base::{CowSlice, RefType};
+use wasm_sections::laws::plain_export;
 use wasm_sections::{
     DataSection, DataSegment, DataSegmentMode, ElementMode, ElementSection, ElementSegment,
-    Elements, MemoryType, TableType, TagKind, TagSection, TagType,
+    Elements, Export, ExportKind, MemoryType, TableType, TagKind, TagSection, TagType,
 };
 
 /// A byte that is not active.
@@ -51,6 +52,16 @@ fn types(_rt: HostRuntime) {
         shared: false,
     };
     let _ = table.index_type();
+}
+
+#[test]
+fn exports(_rt: HostRuntime) {
+    let export = Export {
+        name: "f",
+        kind: ExportKind::Func,
+        index: 0,
+    };
+    let _ = plain_export(&export);
 }
 
 #[test]

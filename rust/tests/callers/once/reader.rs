@@ -10,5 +10,6 @@ fn walk() {
         "read",
     );
     let _ = instructions.next_before_end().expect("read");
+    let _ = instructions.args();
     let _ = instructions.place();
 }

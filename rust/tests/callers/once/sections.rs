@@ -2,7 +2,8 @@
 //! Items of core sections.
 
 use dolzhytik::base::{CowSlice, RefType};
-use dolzhytik::sections::{DataSection, DataSegment, DataSegmentMode, ElementMode, ElementSection, ElementSegment, Elements, MemoryType, TableType, TagKind, TagSection, TagType};
+use dolzhytik::sections::laws::plain_export;
+use dolzhytik::sections::{DataSection, DataSegment, DataSegmentMode, ElementMode, ElementSection, ElementSegment, Elements, Export, ExportKind, MemoryType, TableType, TagKind, TagSection, TagType};
 
 /// A byte that is not active.
 fn passive_byte<'a>() -> DataSegment<'a, [u8; 1]> {
@@ -51,6 +52,16 @@ fn types() {
         shared: false,
     };
     let _ = table.index_type();
+}
+
+#[test]
+fn exports() {
+    let export = Export {
+        name: "f",
+        kind: ExportKind::Func,
+        index: 0,
+    };
+    let _ = plain_export(&export);
 }
 
 #[test]
