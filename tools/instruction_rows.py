@@ -5,7 +5,7 @@ usage, at the top of the repository, and then `tools/run-tests --format`:
   tools/instruction_rows.py tools/opcodes.tsv tests/wasm_insn_tests/src
 
 The table has a line for each instruction: op (a byte in hexadecimal, or a prefix in hexadecimal and a number), name, shape and the
-names of the fields, with tabs between them. In the folder, the `src` of the tests, `cases.rt` gets the values, and `rows.rt` their
+names of the fields, with tabs between them. In the folder, the `src` of the tests, `cases.rtt` gets the values, and `rows.rtt` their
 bytes. The bytes are worked out here, from the layouts alone, and not by the encoder. A case of another enum than `Instruction` that has
 no fields is a constant of `Instruction` too, so it is there twice.
 """
@@ -192,7 +192,7 @@ def write(groups, folder):
             cases += places("name", "The instructions without fields, by their names on `Instruction`,", constant(enum), NAMES_STEP, of)
         else:
             cases += "\npub static %s: [%s; %d] = [\n%s];\n" % (constant(enum), enum, len(of), values)
-    for name, text in (("cases.rt", cases), ("rows.rt", rows)):
+    for name, text in (("cases.rtt", cases), ("rows.rtt", rows)):
         with open("%s/%s" % (folder, name), "w", encoding="utf-8") as out:
             out.write(text)
 

@@ -1,4 +1,4 @@
-// Written by tools/to-rust from tests/wasm_custom_tests/src/core_dumps.rt: change that.
+// Written by tools/to-rust from tests/wasm_custom_tests/src/core_dumps.rtt: change that.
 // Core dumps: each call once, with ample memory.
 
 use crate::checks::{check, check_bytes, check_len, check_text};

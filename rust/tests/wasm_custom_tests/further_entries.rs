@@ -1,4 +1,4 @@
-// Written by tools/to-rust from tests/wasm_custom_tests/src/further_entries.rt: change that.
+// Written by tools/to-rust from tests/wasm_custom_tests/src/further_entries.rtt: change that.
 // Adds to sections and lists that hold entries, each request for memory refused in turn.
 
 use dolzhytik::vec::Vec;

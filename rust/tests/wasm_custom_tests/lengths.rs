@@ -1,4 +1,4 @@
-// Written by tools/to-rust from tests/wasm_custom_tests/src/lengths.rt: change that.
+// Written by tools/to-rust from tests/wasm_custom_tests/src/lengths.rtt: change that.
 // Lengths that are too long are answered before any item is asked for.
 
 use crate::checks::check_text;

@@ -1,4 +1,4 @@
-// Written by tools/to-rust from tests/wasm_custom_tests/src/lib.rt: change that.
+// Written by tools/to-rust from tests/wasm_custom_tests/src/lib.rtt: change that.
 //! Tests of `wasm_custom`: bytes that the conventions' documents give or that were worked out by hand, requests for memory that are refused, and
 //! lengths that are too long.
 

@@ -1,4 +1,4 @@
-// Written by tools/to-rust from tests/wasm_custom_tests/src/refusals.rt: change that.
+// Written by tools/to-rust from tests/wasm_custom_tests/src/refusals.rtt: change that.
 // Each request of an adding call for memory refused in turn: the answer is `Memory`, and what was given is as before.
 
 use dolzhytik::vec::Vec;

@@ -1,4 +1,4 @@
-// Written by tools/to-rust from tests/wasm_custom_tests/src/sections.rt: change that.
+// Written by tools/to-rust from tests/wasm_custom_tests/src/sections.rtt: change that.
 // Custom sections, linking, producers and hints: each call once, with ample memory.
 
 use dolzhytik::vec::Vec;

@@ -1,4 +1,4 @@
-// Written by tools/to-rust from tests/wasm_custom_tests/src/whole_refusals.rt: change that.
+// Written by tools/to-rust from tests/wasm_custom_tests/src/whole_refusals.rtt: change that.
 // Each request of constructors, copies, `as_custom` and sections without entries for memory refused in turn.
 
 use dolzhytik::vec::Vec;

@@ -1,4 +1,4 @@
-// Written by tools/to-rust from tests/wasm_insn_tests/src/base.rt: change that.
+// Written by tools/to-rust from tests/wasm_insn_tests/src/base.rtt: change that.
 // Each call of `wasm_base` once, with ample memory.
 
 use dolzhytik::vec::Vec;

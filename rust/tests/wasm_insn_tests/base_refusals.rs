@@ -1,4 +1,4 @@
-// Written by tools/to-rust from tests/wasm_insn_tests/src/base_refusals.rt: change that.
+// Written by tools/to-rust from tests/wasm_insn_tests/src/base_refusals.rtt: change that.
 // Each request of `wasm_base` for memory refused in turn: the answer is `Memory`, and what was given is as before.
 
 use dolzhytik::vec::Vec;

@@ -1,4 +1,4 @@
-// Written by tools/to-rust from tests/wasm_insn_tests/src/cases.rt: change that.
+// Written by tools/to-rust from tests/wasm_insn_tests/src/cases.rtt: change that.
 // Written by tools/instruction_rows.py from the opcode table: do not edit.
 //! A value of each instruction, in the order of their opcodes within each enum.
 

@@ -1,4 +1,4 @@
-// Written by tools/to-rust from tests/wasm_insn_tests/src/clones.rt: change that.
+// Written by tools/to-rust from tests/wasm_insn_tests/src/clones.rtt: change that.
 //! A clone takes memory for the lists that an instruction owns, and answers `Memory` where it is refused.
 
 use dolzhytik::vec::Vec;

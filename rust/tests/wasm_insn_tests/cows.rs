@@ -1,4 +1,4 @@
-// Written by tools/to-rust from tests/wasm_insn_tests/src/cows.rt: change that.
+// Written by tools/to-rust from tests/wasm_insn_tests/src/cows.rtt: change that.
 // Slices and text that are borrowed or owned.
 
 use dolzhytik::vec::Vec;

@@ -1,4 +1,4 @@
-// Written by tools/to-rust from tests/wasm_insn_tests/src/examples.rt: change that.
+// Written by tools/to-rust from tests/wasm_insn_tests/src/examples.rtt: change that.
 //! Instructions whose bytes are known from the format's documents.
 
 use crate::checks::check;

@@ -1,4 +1,4 @@
-// Written by tools/to-rust from tests/wasm_insn_tests/src/immediates.rt: change that.
+// Written by tools/to-rust from tests/wasm_insn_tests/src/immediates.rtt: change that.
 //! Values whose bytes are known from the format's documents.
 
 use crate::checks::check;

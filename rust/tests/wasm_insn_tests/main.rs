@@ -1,4 +1,4 @@
-// Written by tools/to-rust from tests/wasm_insn_tests/src/lib.rt: change that.
+// Written by tools/to-rust from tests/wasm_insn_tests/src/lib.rtt: change that.
 //! Tests of `wasm_base`, `wasm_immediates` and `wasm_insn`: bytes that the format's documents give or that were worked out by hand,
 //! and requests for memory that are refused.
 

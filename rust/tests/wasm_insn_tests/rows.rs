@@ -1,4 +1,4 @@
-// Written by tools/to-rust from tests/wasm_insn_tests/src/rows.rt: change that.
+// Written by tools/to-rust from tests/wasm_insn_tests/src/rows.rtt: change that.
 // Written by tools/instruction_rows.py from the opcode table: do not edit.
 //! The bytes of each instruction, in hexadecimal, in the order of `cases.rt`.
 

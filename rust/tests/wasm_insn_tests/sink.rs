@@ -1,4 +1,4 @@
-// Written by tools/to-rust from tests/wasm_insn_tests/src/sink.rt: change that.
+// Written by tools/to-rust from tests/wasm_insn_tests/src/sink.rtt: change that.
 //! Each named call of the sink writes the bytes of its instruction, and leaves the buffer where memory is refused.
 
 use dolzhytik::vec::Vec;

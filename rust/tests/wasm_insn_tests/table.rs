@@ -1,4 +1,4 @@
-// Written by tools/to-rust from tests/wasm_insn_tests/src/table.rt: change that.
+// Written by tools/to-rust from tests/wasm_insn_tests/src/table.rtt: change that.
 //! Each instruction of the opcode table has the bytes of its row.
 
 use dolzhytik::vec::Vec;

@@ -1,4 +1,4 @@
-// Written by tools/to-rust from tests/wasm_reader_sections_tests/src/called.rt: change that.
+// Written by tools/to-rust from tests/wasm_reader_sections_tests/src/called.rtt: change that.
 // The worked callers, each called once.
 
 use dolzhytik::vec::Vec;

@@ -1,4 +1,4 @@
-// Written by tools/to-rust from tests/wasm_reader_sections_tests/src/checks.rt: change that.
+// Written by tools/to-rust from tests/wasm_reader_sections_tests/src/checks.rtt: change that.
 // What the tests share.
 
 use crate::host::Abort;

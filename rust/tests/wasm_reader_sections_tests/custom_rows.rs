@@ -1,4 +1,4 @@
-// Written by tools/to-rust from tests/wasm_reader_sections_tests/src/custom_rows.rt: change that.
+// Written by tools/to-rust from tests/wasm_reader_sections_tests/src/custom_rows.rtt: change that.
 // Custom sections that are read back as their items, with ample memory.
 
 use crate::custom_seen::{Told, Value, read};

@@ -1,4 +1,4 @@
-// Written by tools/to-rust from tests/wasm_reader_sections_tests/src/custom_seen.rt: change that.
+// Written by tools/to-rust from tests/wasm_reader_sections_tests/src/custom_seen.rtt: change that.
 // Items of custom sections as plain data.
 
 use dolzhytik::alloc::Global;

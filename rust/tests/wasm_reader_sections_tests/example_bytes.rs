@@ -1,4 +1,4 @@
-// Written by tools/to-rust from tests/wasm_reader_sections_tests/src/example_bytes.rt: change that.
+// Written by tools/to-rust from tests/wasm_reader_sections_tests/src/example_bytes.rtt: change that.
 // Each example once, with ample memory.
 
 use dolzhytik::vec::Vec;

@@ -1,4 +1,4 @@
-// Written by tools/to-rust from tests/wasm_reader_sections_tests/src/lib.rt: change that.
+// Written by tools/to-rust from tests/wasm_reader_sections_tests/src/lib.rtt: change that.
 //! Tests of `wasm_reader` and `examples`: bytes that were worked out from the format's documents, and requests for memory that are refused.
 
 #![allow(unused_imports, unused_variables, clippy::all)]

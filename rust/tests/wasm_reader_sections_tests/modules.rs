@@ -1,4 +1,4 @@
-// Written by tools/to-rust from tests/wasm_reader_sections_tests/src/modules.rt: change that.
+// Written by tools/to-rust from tests/wasm_reader_sections_tests/src/modules.rtt: change that.
 // Lists of modules' sections.
 
 use dolzhytik::vec::Vec;

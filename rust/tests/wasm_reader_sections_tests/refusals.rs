@@ -1,4 +1,4 @@
-// Written by tools/to-rust from tests/wasm_reader_sections_tests/src/refusals.rt: change that.
+// Written by tools/to-rust from tests/wasm_reader_sections_tests/src/refusals.rtt: change that.
 // Each request for memory refused in turn: the cause is `Memory`.
 
 use crate::checks::MOST;

@@ -1,4 +1,4 @@
-// Written by tools/to-rust from tests/wasm_reader_sections_tests/src/rows.rt: change that.
+// Written by tools/to-rust from tests/wasm_reader_sections_tests/src/rows.rtt: change that.
 // Sections that are read back as their items, with ample memory.
 
 use dolzhytik::vec::Vec;

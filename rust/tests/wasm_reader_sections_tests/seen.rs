@@ -1,4 +1,4 @@
-// Written by tools/to-rust from tests/wasm_reader_sections_tests/src/seen.rt: change that.
+// Written by tools/to-rust from tests/wasm_reader_sections_tests/src/seen.rtt: change that.
 // Items as plain data: an assertion beside values that own memory takes far longer to prove.
 
 use dolzhytik::alloc::Global;

@@ -1,4 +1,4 @@
-// Written by tools/to-rust from tests/wasm_reader_sections_tests/src/shortest.rt: change that.
+// Written by tools/to-rust from tests/wasm_reader_sections_tests/src/shortest.rtt: change that.
 // Sections that are shortened.
 
 use dolzhytik::vec::Vec;

@@ -1,4 +1,4 @@
-// Written by tools/to-rust from tests/wasm_reader_sections_tests/src/whole.rt: change that.
+// Written by tools/to-rust from tests/wasm_reader_sections_tests/src/whole.rtt: change that.
 // Whole modules: outlines, and shortest texts.
 
 use dolzhytik::vec::Vec;

@@ -1,4 +1,4 @@
-// Written by tools/to-rust from tests/wasm_reader_tests/src/base.rt: change that.
+// Written by tools/to-rust from tests/wasm_reader_tests/src/base.rtt: change that.
 // Numbers, fixed bytes, names, types and immediates, with ample memory.
 
 use crate::checks::{check_fault, check_read, check_text};

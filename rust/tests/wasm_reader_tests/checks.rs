@@ -1,4 +1,4 @@
-// Written by tools/to-rust from tests/wasm_reader_tests/src/checks.rt: change that.
+// Written by tools/to-rust from tests/wasm_reader_tests/src/checks.rtt: change that.
 // What tests compare, over plain data: an assertion beside values that own memory takes far longer to prove.
 
 use dolzhytik::vec::Vec;

@@ -1,4 +1,4 @@
-// Written by tools/to-rust from tests/wasm_reader_tests/src/frames.rt: change that.
+// Written by tools/to-rust from tests/wasm_reader_tests/src/frames.rtt: change that.
 // Pairs, vectors, frames and flags, with ample memory; the texts of faults.
 
 use dolzhytik::vec::Vec;

@@ -1,4 +1,4 @@
-// Written by tools/to-rust from tests/wasm_reader_tests/src/instructions.rt: change that.
+// Written by tools/to-rust from tests/wasm_reader_tests/src/instructions.rtt: change that.
 // Instructions, expressions and bodies, with ample memory.
 
 use dolzhytik::vec::Vec;

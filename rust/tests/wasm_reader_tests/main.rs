@@ -1,4 +1,4 @@
-// Written by tools/to-rust from tests/wasm_reader_tests/src/lib.rt: change that.
+// Written by tools/to-rust from tests/wasm_reader_tests/src/lib.rtt: change that.
 //! Tests of `wasm_reader_base` and `wasm_reader_insn`: bytes that were worked out from the format's documents, and requests for memory
 //! that are refused.
 

@@ -1,4 +1,4 @@
-// Written by tools/to-rust from tests/wasm_reader_tests/src/shorten.rt: change that.
+// Written by tools/to-rust from tests/wasm_reader_tests/src/shorten.rtt: change that.
 // What was read is written in its fewest bytes.
 
 use dolzhytik::vec::Vec;

@@ -1,4 +1,4 @@
-// Written by tools/to-rust from tests/wasm_reader_tests/src/walks.rt: change that.
+// Written by tools/to-rust from tests/wasm_reader_tests/src/walks.rtt: change that.
 // Walks over instructions, with ample memory.
 
 use dolzhytik::vec::Vec;

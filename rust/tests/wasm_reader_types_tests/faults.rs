@@ -1,4 +1,4 @@
-// Written by tools/to-rust from tests/wasm_reader_types_tests/src/faults.rt: change that.
+// Written by tools/to-rust from tests/wasm_reader_types_tests/src/faults.rtt: change that.
 // Bytes that are no types, and the causes.
 
 use dolzhytik::alloc::Global;

@@ -1,4 +1,4 @@
-// Written by tools/to-rust from tests/wasm_reader_types_tests/src/lib.rt: change that.
+// Written by tools/to-rust from tests/wasm_reader_types_tests/src/lib.rtt: change that.
 //! Tests of `wasm_reader_types`: type sections whose bytes were worked out by hand from the standard, and requests for memory that are refused.
 
 #![allow(unused_imports, unused_variables, clippy::all)]

@@ -1,4 +1,4 @@
-// Written by tools/to-rust from tests/wasm_reader_types_tests/src/shortest.rt: change that.
+// Written by tools/to-rust from tests/wasm_reader_types_tests/src/shortest.rtt: change that.
 // Types that are read and written again, each request for memory refused in turn.
 
 use dolzhytik::vec::Vec;

@@ -1,4 +1,4 @@
-// Written by tools/to-rust from tests/wasm_sections_tests/src/code.rt: change that.
+// Written by tools/to-rust from tests/wasm_sections_tests/src/code.rtt: change that.
 // Code: bytes that the format gives.
 
 use dolzhytik::vec::Vec;

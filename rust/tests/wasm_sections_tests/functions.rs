@@ -1,4 +1,4 @@
-// Written by tools/to-rust from tests/wasm_sections_tests/src/functions.rt: change that.
+// Written by tools/to-rust from tests/wasm_sections_tests/src/functions.rtt: change that.
 // Functions that several tests begin with.
 
 use dolzhytik::alloc::Allocator;

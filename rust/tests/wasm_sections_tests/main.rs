@@ -1,4 +1,4 @@
-// Written by tools/to-rust from tests/wasm_sections_tests/src/lib.rt: change that.
+// Written by tools/to-rust from tests/wasm_sections_tests/src/lib.rtt: change that.
 //! Tests of `wasm_code` and `wasm_sections`: bytes that the format's documents give or that were worked out by hand, and requests for memory
 //! that are refused.
 

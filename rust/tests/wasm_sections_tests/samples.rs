@@ -1,4 +1,4 @@
-// Written by tools/to-rust from tests/wasm_sections_tests/src/samples.rt: change that.
+// Written by tools/to-rust from tests/wasm_sections_tests/src/samples.rtt: change that.
 // Types that several tests use.
 
 use dolzhytik::base::{RefType, ValType};

@@ -1,4 +1,4 @@
-// Written by tools/to-rust from tests/wasm_sections_tests/src/section_refusals.rt: change that.
+// Written by tools/to-rust from tests/wasm_sections_tests/src/section_refusals.rtt: change that.
 // Each request of `wasm_sections` for memory refused in turn: the answer is `Memory`, and what was given is as before.
 
 use dolzhytik::vec::Vec;

@@ -1,4 +1,4 @@
-// Written by tools/to-rust from tests/wasm_sections_tests/src/sections.rt: change that.
+// Written by tools/to-rust from tests/wasm_sections_tests/src/sections.rtt: change that.
 // Each call of `wasm_sections` once, with ample memory.
 
 use dolzhytik::vec::Vec;

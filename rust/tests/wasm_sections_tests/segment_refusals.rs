@@ -1,4 +1,4 @@
-// Written by tools/to-rust from tests/wasm_sections_tests/src/segment_refusals.rt: change that.
+// Written by tools/to-rust from tests/wasm_sections_tests/src/segment_refusals.rtt: change that.
 // Requests for memory that are refused to calls that add segments, and lengths that are too long.
 
 use dolzhytik::vec::Vec;

@@ -1,4 +1,4 @@
-// Written by tools/to-rust from tests/wasm_sections_tests/src/segments.rt: change that.
+// Written by tools/to-rust from tests/wasm_sections_tests/src/segments.rtt: change that.
 // Each call that adds a segment once, with ample memory.
 
 use dolzhytik::vec::Vec;

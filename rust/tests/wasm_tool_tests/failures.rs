@@ -1,4 +1,4 @@
-// Written by tools/to-rust from tests/wasm_tool_tests/src/failures.rt: change that.
+// Written by tools/to-rust from tests/wasm_tool_tests/src/failures.rtt: change that.
 // Requests for memory that are refused, and reads and writes that fail in mid-stream.
 
 use crate::checks::{Heap, MOST, check_that};

@@ -1,4 +1,4 @@
-// Written by tools/to-rust from tests/wasm_tool_tests/src/listings.rt: change that.
+// Written by tools/to-rust from tests/wasm_tool_tests/src/listings.rtt: change that.
 // What `--read` gives.
 
 use dolzhytik::vec::Vec;

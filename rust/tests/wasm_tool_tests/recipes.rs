@@ -1,4 +1,4 @@
-// Written by tools/to-rust from tests/wasm_tool_tests/src/recipes.rt: change that.
+// Written by tools/to-rust from tests/wasm_tool_tests/src/recipes.rtt: change that.
 // What recipes give, with ample memory.
 
 use dolzhytik::vec::Vec;

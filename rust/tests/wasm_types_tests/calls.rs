@@ -1,4 +1,4 @@
-// Written by tools/to-rust from tests/wasm_types_tests/src/calls.rt: change that.
+// Written by tools/to-rust from tests/wasm_types_tests/src/calls.rtt: change that.
 // Each call of a type section once, with ample memory.
 
 use crate::checks::{check, check_bytes, check_len, check_piece};

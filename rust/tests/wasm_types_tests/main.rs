@@ -1,4 +1,4 @@
-// Written by tools/to-rust from tests/wasm_types_tests/src/lib.rt: change that.
+// Written by tools/to-rust from tests/wasm_types_tests/src/lib.rtt: change that.
 //! Tests of `wasm_types`: bytes that were worked out by hand from the standard, requests for memory that are refused, and lengths that are too long.
 
 #![allow(unused_imports, unused_variables, clippy::all)]

@@ -1,4 +1,4 @@
-// Written by tools/to-rust from tests/wasm_types_tests/src/refusals.rt: change that.
+// Written by tools/to-rust from tests/wasm_types_tests/src/refusals.rtt: change that.
 // Each request for memory refused in turn: the answer is `Memory`, and what was given is as before.
 
 use dolzhytik::vec::Vec;

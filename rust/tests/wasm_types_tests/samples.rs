@@ -1,4 +1,4 @@
-// Written by tools/to-rust from tests/wasm_types_tests/src/samples.rt: change that.
+// Written by tools/to-rust from tests/wasm_types_tests/src/samples.rtt: change that.
 // Types that the tests add.
 
 use dolzhytik::vec::Vec;

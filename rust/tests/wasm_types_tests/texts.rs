@@ -1,4 +1,4 @@
-// Written by tools/to-rust from tests/wasm_types_tests/src/texts.rt: change that.
+// Written by tools/to-rust from tests/wasm_types_tests/src/texts.rtt: change that.
 // The text of each type, with ample memory.
 
 use dolzhytik::vec::Vec;
