@@ -6,6 +6,7 @@ use std::alloc::Global;
 use std::process::Abort;
 use wasm_base::{Counted, CowSlice, Encode, HeapType, Section, ValType, add_all};
 use wasm_code::ConstExpr;
+use wasm_insn::Instruction;
 use wasm_sections::{
     DataCountSection, EntityType, Export, ExportKind, ExportSection, FunctionSection,
     GlobalSection, Import, ImportCompact, ImportSection, Imports, MemorySection, StartSection,
@@ -381,4 +382,9 @@ fn laws_for_callers_do_nothing(_rt: HostRuntime) {
         kind: ExportKind::Func,
         index: 1,
     });
+    laws::plain_table(TABLE);
+    laws::plain_memory(MEMORY);
+    laws::plain_global(GLOBAL);
+    laws::plain_entity(EntityType::Function(1));
+    wasm_insn::laws::plain_instructions::<Global>(&[Instruction::Nop]);
 }
