@@ -5,6 +5,8 @@
 //! shortest and with padded numbers, and that a value has at most one shortest spelling; `UniqueWholeReading F` the same of a format whose
 //! spellings reach to the last byte. `HasTexts F fits text` says that the text of each value that fits is its shortest spelling.
 
+use crate::insn::instruction::Instruction;
+use crate::insn::ranged::arguments_ranged;
 use crate::alloc::Allocator;
 
 /// Opcodes are read uniquely. The opcode table has 628 rows in ascending order, of which two neighbours alone share an op; no op's bytes begin another's.
@@ -70,3 +72,27 @@ pub fn wide() {}
 /// ensures { UniqueWholeReading (members (instruction table)) }
 /// ```
 pub fn lists() {}
+
+/// An instruction is plain where its alignments are below 16 and its lists can be counted, which a call that accepts it has promised.
+///
+/// # Proved
+///
+/// ```text
+/// ensures { IsPlainWhereAligned instruction.now }
+/// ```
+pub fn plain_instruction<A: Allocator>(instruction: &Instruction<'_, A>) {
+    arguments_ranged(instruction);
+}
+
+/// So is each instruction of a list.
+///
+/// # Proved
+///
+/// ```text
+/// ensures { All IsPlainWhereAligned instructions.now }
+/// ```
+pub fn plain_instructions<A: Allocator>(instructions: &[Instruction<'_, A>]) {
+    for instruction in instructions {
+        plain_instruction(instruction);
+    }
+}
