@@ -1,8 +1,17 @@
 -- What calls leave, step by step: lemmas that a caller cites.
-use Rattle.std.proofs.Common.{◌≡◌, ℕ, ◌^◌, ◌<◌, ◌≤◌, List, [], ◌∷◌, ◌++◌, length, true, false, IsUtf8, Result, Ok, Err, refl, sym, ap, ap₂, subst, ◌∙◌}
+use Rattle.std.proofs.Common.{◌≡◌, ℕ, ◌^◌, ◌<◌, ◌≤◌, List, [], ◌∷◌, ◌++◌, length, true, false, IsUtf8, Option, Result, Ok, Err, refl, sym, ap, ap₂, subst, ◌∙◌}
+use Rattle.std.proofs.lemmas.Iterator.{items_from_drains}
+use Rattle.std.proofs.lemmas.Iterator.Adapters.{YieldsList-from_vec}
+use Rattle.std.proofs.lemmas.List.{map-id}
 use Rattle.std.proofs.lemmas.List.Elements.{All-nil, All-cons}
 use Rattle.std.specs.Array.Iter.{array_into_iter_items, array_steps, array_steps_back}
-use Rattle.std.specs.Iterator.{Count}
+use Rattle.std.specs.Iterator.{Count, Drains}
+use Rattle.std.specs.Iterator.Adapters.{copied_source, copied_steps}
+use Rattle.std.specs.Slice.Iter.{iter_rest, iter_steps}
+use Rattle.std.specs.Vec.Iter.{into_iter_items, into_iter_len, into_iter_steps}
+use Rattle.std.specs.declared.iter.Copied.{Copied}
+use Rattle.std.specs.declared.slice.Iter.{Iter}
+use Rattle.std.specs.declared.vec.IntoIter.{IntoIter as VecIter}
 use Rattle.std.specs.Iterator.Runs.{EveryRun, ItemsAre, ItemsAreReversed}
 use Rattle.std.specs.List.{All, AllByRecursion}
 use Rattle.std.specs.Prelude.{OnOk}
@@ -18,7 +27,7 @@ use Rattle.wasm_base.specs.Texts.{IsFrameOf, longest, frame_text, FrameFits, vec
 use Rattle.wasm_base.specs.declared.refused.Refused.{Refused}
 use Rattle.wasm_base.proofs.Calls.{gains_section, gains_section_wide, adds_raw_wide}
 use Rattle.wasm_base.proofs.HeldLaws.{holds_more}
-use Rattle.wasm_base.proofs.KnownLengths.{array_items}
+use Rattle.wasm_base.proofs.KnownLengths.{array_items, copied_items}
 use Rattle.wasm_base.proofs.Payloads.{custom-payload}
 use Rattle.wasm_custom.specs.Adding.{AddsList, AddsTwoLists}
 use Rattle.wasm_custom.specs.CoreDumps.{modules_name, instances_name, marked_text, core_name, SaysProcess, marked_name, IsModule, Instance, instance_text, IsInstance, instance}
@@ -171,13 +180,31 @@ adds_field {old = old} {values = values} before n held e fits utf8 =
 pub adds_core_module : {old new : List (List ℕ)} {items : List (List ℕ)} → HoldsModules old items → (n : List ℕ) → new ≡ old ++ marked_text n ∷ [] → FrameFits n → IsUtf8 n → HoldsModules new (items ++ n ∷ [])
 adds_core_module before n e fits utf8 = adds_record marked_text IsModule (λ item. item) marked_name before n e (utf8, fits)
 
--- ---- what the elements of arrays give
+-- ---- what iterators give
+
+-- Whatever iterator is made of the elements, it gives these items.
+pub record GivesItems {U S T : Type 0} (becomes : U → S → Type 0) (gives : S → Option T → S → Type 0) (elements : U) (items : List T) : Type 0 where
+  pub given : (it : S) (xs : List T) → becomes elements it → Drains gives it xs → xs ≡ items
 
 -- what the iterator of an array has: its elements, each of which is given in order
 abbrev becomes : {X : Type 0} {n : ℕ} → List X → IntoIter X n → Type 0
 becomes {X = X} {n = n} items it =
     (array_into_iter_items it ≡ items) × (length (array_into_iter_items it) ≡ n) × EveryRun (array_steps {A = X} {n = n}) (λ p. ItemsAre p (array_into_iter_items p.from))
     × EveryRun (array_steps_back {A = X} {n = n}) (λ p. ItemsAreReversed p (array_into_iter_items p.from))
+
+-- an array
+pub array_gives : {X : Type 0} {n : ℕ} (items : List X) → GivesItems (becomes {n = n}) array_steps items items
+array_gives items = record { given = λ it xs made drained. array_items it xs drained ∙ made.0 }
+
+-- a slice, whose members are copied: why its iterator has these items
+pub copied_gives : {U X : Type 0} {becomes : U → Copied (Iter X) → Type 0} {elements : U} (items : List X) → ((it : Copied (Iter X)) → becomes elements it → iter_rest (copied_source it) ≡ items)
+    → GivesItems becomes (copied_steps iter_steps) elements items
+copied_gives items are = record { given = λ it xs made drained. copied_items it xs drained ∙ are it made }
+
+-- a vector, by value: why its iterator has these items, and as many of them as it tells
+pub vec_gives : {U X Z : Type 0} {becomes : U → VecIter X Z → Type 0} {elements : U} (items : List X) → ((it : VecIter X Z) → becomes elements it → (into_iter_items it ≡ items) × (into_iter_len it ≡ length items))
+    → GivesItems becomes (into_iter_steps {X = X} {Z = Z}) elements items
+vec_gives items are = record { given = λ it xs made drained. sym (map-id xs) ∙ items_from_drains xs (drained.1.0, drained.1.1, λ w. (drained.0, drained.1.2)) (YieldsList-from_vec items (are it made).0 (are it made).1) }
 
 list_fits : {X : Type 0} (P : X → Type 0) {given xs : List X} → given ≡ xs → VecFits (λ x. Unit {0}) given → AllByRecursion P xs → VecFits P xs
 list_fits {X} P {xs = xs} e fits are = record { count = subst (λ l. length l ≤ longest) e fits.count; members = all_of xs are }
@@ -186,46 +213,68 @@ list_fits {X} P {xs = xs} e fits are = record { count = subst (λ l. length l �
     all_of [] h = All-nil P
     all_of (x ∷ xs) h = All-cons P x xs h.0 (all_of xs h.1)
 
--- the hints of a function
+-- the hints of a function, that an iterator gives: of an array, `array_gives hs`
+pub adds_hints_of : {U S : Type 0} {becomes : U → S → Type 0} {gives : S → Option BranchHint → S → Type 0} {remaining : S → Count} {elements : U} {old new : List (List ℕ)} {items : List Hints} → HoldsHints old items → (index : ℕ)
+    → AddsList becomes gives remaining elements (λ h. Unit {0}) (λ xs. unsigned_text index ++ vec_text hint_text xs) old new (Ok (tt {0})) → (hs : List BranchHint) → GivesItems becomes gives elements hs → index < 2 ^ 32 → AllByRecursion IsHint hs
+    → HoldsHints new (items ++ (index, hs) ∷ [])
+adds_hints_of {old = old} before index added hs are range plain =
+    let given = added.ok in
+    let same = are.given given.0 given.1 given.2 given.3 in
+    adds_record hints_text AreHints (λ item. item) hints before (index, hs) (given.5 ∙ ap (λ xs. old ++ (unsigned_text index ++ vec_text hint_text xs) ∷ []) same) (range, list_fits IsHint same given.4 plain)
+
+-- those of an array
 pub adds_hints : {n : ℕ} {remaining : IntoIter BranchHint n → Count} {hs : List BranchHint} {old new : List (List ℕ)} {items : List Hints} → HoldsHints old items → (index : ℕ)
     → AddsList becomes array_steps remaining hs (λ h. Unit {0}) (λ xs. unsigned_text index ++ vec_text hint_text xs) old new (Ok (tt {0})) → index < 2 ^ 32 → AllByRecursion IsHint hs → HoldsHints new (items ++ (index, hs) ∷ [])
-adds_hints {hs = hs} {old = old} before index added range are =
-    let given = added.ok in
-    let same = array_items given.0 given.1 given.3 ∙ given.2.0 in
-    adds_record hints_text AreHints (λ item. item) hints before (index, hs) (given.5 ∙ ap (λ xs. old ++ (unsigned_text index ++ vec_text hint_text xs) ∷ []) same) (range, list_fits IsHint same given.4 are)
+adds_hints {hs = hs} before index added range plain = adds_hints_of before index added hs (array_gives hs) range plain
 
--- an instance of a core dump
+-- an instance of a core dump, whose memories and globals iterators give
+pub adds_instance_of : {U S V R : Type 0} {becomes : U → S → Type 0} {gives : S → Option ℕ → S → Type 0} {remaining : S → Count} {first : U} {turns : V → R → Type 0} {hands : R → Option ℕ → R → Type 0} {left : R → Count} {second : V}
+    {old new : List (List ℕ)} {items : List Instance} → HoldsInstances old items → (i : Instance)
+    → AddsTwoLists becomes gives remaining first turns hands left second (λ x. Unit {0}) (λ x. Unit {0}) (λ xs ys. (0x00 ∷ unsigned_text i.module_index) ++ (vec_text unsigned_text xs ++ vec_text unsigned_text ys)) old new (Ok (tt {0}))
+    → GivesItems becomes gives first i.memories → GivesItems turns hands second i.globals → i.module_index < 2 ^ 32 → AllByRecursion (FitsUnsigned 32) i.memories → AllByRecursion (FitsUnsigned 32) i.globals → HoldsInstances new (items ++ i ∷ [])
+adds_instance_of {old = old} before i added are others range memories globals =
+    let given = added.ok in
+    let same = are.given given.0 given.1 given.4 given.5 in
+    let alike = others.given given.2 given.3 given.7 given.8 in
+    adds_record instance_text IsInstance (λ item. item) instance before i
+    (given.10 ∙ ap₂ (λ xs ys. old ++ ((0x00 ∷ unsigned_text i.module_index) ++ (vec_text unsigned_text xs ++ vec_text unsigned_text ys)) ∷ []) same alike)
+    (record { module_index = range; memories = list_fits (FitsUnsigned 32) same given.6 memories; globals = list_fits (FitsUnsigned 32) alike given.9 globals })
+
+-- those of arrays
 pub adds_instance : {n m : ℕ} {remaining : IntoIter ℕ n → Count} {left : IntoIter ℕ m → Count} {old new : List (List ℕ)} {items : List Instance} → HoldsInstances old items → (i : Instance)
     → AddsTwoLists becomes array_steps remaining i.memories becomes array_steps left i.globals (λ x. Unit {0}) (λ x. Unit {0}) (λ xs ys. (0x00 ∷ unsigned_text i.module_index) ++ (vec_text unsigned_text xs ++ vec_text unsigned_text ys)) old new (Ok (tt {0}))
     → i.module_index < 2 ^ 32 → AllByRecursion (FitsUnsigned 32) i.memories → AllByRecursion (FitsUnsigned 32) i.globals → HoldsInstances new (items ++ i ∷ [])
-adds_instance {old = old} before i added range memories globals =
-    let given = added.ok in
-    let first = array_items given.0 given.1 given.5 ∙ given.4.0 in
-    let second = array_items given.2 given.3 given.8 ∙ given.7.0 in
-    adds_record instance_text IsInstance (λ item. item) instance before i
-    (given.10 ∙ ap₂ (λ xs ys. old ++ ((0x00 ∷ unsigned_text i.module_index) ++ (vec_text unsigned_text xs ++ vec_text unsigned_text ys)) ∷ []) first second)
-    (record { module_index = range; memories = list_fits (FitsUnsigned 32) first given.6 memories; globals = list_fits (FitsUnsigned 32) second given.9 globals })
+adds_instance before i added range memories globals = adds_instance_of before i added (array_gives i.memories) (array_gives i.globals) range memories globals
 
 -- ---- stacks
 
 pub new_stack : {n : List ℕ} {stack : List ℕ × List (List ℕ)} → stack ≡ (marked_text n, []) → IsUtf8 n → SaysStack stack.0 stack.1 (n, [])
 new_stack e utf8 = (utf8, ap (λ s. s.0) e, nothing_held frame_entry IsFrame (λ f. f) stack_frame (ap (λ s. s.1) e))
 
--- one more frame, whose numbers are in range
+-- one more frame, whose numbers are in range, and whose locals and part of the stack iterators give
+pub adds_frame_of : {U S V R : Type 0} {becomes : U → S → Type 0} {gives : S → Option CoreDumpValue → S → Type 0} {remaining : S → Count} {first : U} {turns : V → R → Type 0} {hands : R → Option CoreDumpValue → R → Type 0} {left : R → Count} {second : V}
+    {old new : List ℕ × List (List ℕ)} {thread : List ℕ} {frames : List Frame} → SaysStack old.0 old.1 (thread, frames) → (f : Frame)
+    → AddsTwoLists becomes gives remaining first turns hands left second (λ x. Unit {0}) (λ x. Unit {0})
+    (λ xs ys. (0x00 ∷ (unsigned_text f.instance ++ (unsigned_text f.function ++ unsigned_text f.offset))) ++ (vec_text value_text xs ++ vec_text value_text ys)) old.1 new.1 (Ok (tt {0}))
+    → new.0 ≡ old.0 → GivesItems becomes gives first f.locals → GivesItems turns hands second f.stack → f.instance < 2 ^ 32 → f.function < 2 ^ 32 → f.offset < 2 ^ 32 → AllByRecursion IsValue f.locals → AllByRecursion IsValue f.stack
+    → SaysStack new.0 new.1 (thread, frames ++ f ∷ [])
+adds_frame_of {old = old} before f added thread are others instance function offset locals stack =
+    let given = added.ok in
+    let same = are.given given.0 given.1 given.4 given.5 in
+    let alike = others.given given.2 given.3 given.7 given.8 in (
+      before.0,
+      thread ∙ before.1,
+      adds_record frame_entry IsFrame (λ f. f) stack_frame before.2 f
+          (given.10 ∙ ap₂ (λ xs ys. old.1 ++ ((0x00 ∷ (unsigned_text f.instance ++ (unsigned_text f.function ++ unsigned_text f.offset))) ++ (vec_text value_text xs ++ vec_text value_text ys)) ∷ []) same alike)
+          (record { instance = instance; function = function; offset = offset; locals = list_fits IsValue same given.6 locals; stack = list_fits IsValue alike given.9 stack }),
+    )
+
+-- those of arrays
 pub adds_frame : {n m : ℕ} {remaining : IntoIter CoreDumpValue n → Count} {left : IntoIter CoreDumpValue m → Count} {old new : List ℕ × List (List ℕ)} {thread : List ℕ} {frames : List Frame} → SaysStack old.0 old.1 (thread, frames) → (f : Frame)
     → AddsTwoLists becomes array_steps remaining f.locals becomes array_steps left f.stack (λ x. Unit {0}) (λ x. Unit {0})
     (λ xs ys. (0x00 ∷ (unsigned_text f.instance ++ (unsigned_text f.function ++ unsigned_text f.offset))) ++ (vec_text value_text xs ++ vec_text value_text ys)) old.1 new.1 (Ok (tt {0}))
     → new.0 ≡ old.0 → f.instance < 2 ^ 32 → f.function < 2 ^ 32 → f.offset < 2 ^ 32 → AllByRecursion IsValue f.locals → AllByRecursion IsValue f.stack → SaysStack new.0 new.1 (thread, frames ++ f ∷ [])
-adds_frame {old = old} before f added same instance function offset locals stack =
-    let given = added.ok in
-    let first = array_items given.0 given.1 given.5 ∙ given.4.0 in
-    let second = array_items given.2 given.3 given.8 ∙ given.7.0 in (
-      before.0,
-      same ∙ before.1,
-      adds_record frame_entry IsFrame (λ f. f) stack_frame before.2 f
-          (given.10 ∙ ap₂ (λ xs ys. old.1 ++ ((0x00 ∷ (unsigned_text f.instance ++ (unsigned_text f.function ++ unsigned_text f.offset))) ++ (vec_text value_text xs ++ vec_text value_text ys)) ∷ []) first second)
-          (record { instance = instance; function = function; offset = offset; locals = list_fits IsValue first given.6 locals; stack = list_fits IsValue second given.9 stack }),
-    )
+adds_frame before f added thread instance function offset locals stack = adds_frame_of before f added thread (array_gives f.locals) (array_gives f.stack) instance function offset locals stack
 
 -- ---- a module and one more section
 

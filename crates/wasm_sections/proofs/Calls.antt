@@ -33,7 +33,7 @@ use Rattle.wasm_code.specs.Expressions.{expression_text, StoresInstructions, Sto
 use Rattle.wasm_sections.specs.Constants.{Stored, IsStored}
 use Rattle.wasm_sections.specs.DataSegments.{AddsBytes, active_text, passive_text, DataItem, active, passive, given_active, given_passive, data_item}
 use Rattle.wasm_sections.specs.Elements.{Segment, Place, functions, expressions, ElementsFit, IsPlace, settled, settled_text, elements_by, stored_by, IsSegment, IsSegmentWide, element_of, element}
-use Rattle.wasm_sections.specs.Exports.{kind_code, export_text, IsExport, ExportItem, item_of, export}
+use Rattle.wasm_sections.specs.Exports.{kind_code, ExportItem, export}
 use Rattle.wasm_sections.specs.Globals.{global_text, IsGlobal, GlobalItem, global_item}
 use Rattle.wasm_sections.specs.Imports.{ImportItem, alike, import_text, ImportFits, IsEntity, import_format}
 use Rattle.wasm_sections.specs.declared.import.EntityType.{EntityType}
@@ -99,6 +99,13 @@ adds_items {text = text} {IsPlain = IsPlain} {normal_form = normal_form} {F = F}
     subst (λ entries. HoldsItems text IsPlain normal_form F entries (items ++ map normal_form given)) (sym added.is)
     ((holds_more text IsPlain normal_form F).all old items given before plain)
 
+-- an item that given bytes spell in shortest form: of elements, data and globals
+pub adds_raw : {Record Item : Type 0} {text : Record → List ℕ} {IsPlain : Record → Type 0} {normal_form : Record → Item} {F : Format Item} {old new : List (List ℕ)} {items : List Item} {piece : List ℕ}
+    → HoldsItems text IsPlain normal_form F old items → (item : Item) → new ≡ old ++ piece ∷ [] → F shortest piece item → HoldsItems text IsPlain normal_form F new (items ++ item ∷ [])
+adds_raw {text = text} {IsPlain = IsPlain} {normal_form = normal_form} {F = F} {old = old} {items = items} {piece = piece} before item e spelled =
+    subst (λ entries. HoldsItems text IsPlain normal_form F entries (items ++ item ∷ [])) (sym e)
+    ((holds_more text IsPlain normal_form F).raw old items piece item before spelled)
+
 -- a table without a first value, and one with it
 pub adds_table : {old new : List (List ℕ)} {items : List TableItem} → HoldsTables old items → (table : TableType) → new ≡ old ++ table_text table ∷ [] → IsTable table
     → HoldsTables new (items ++ record { table_type = table; init = None } ∷ [])
@@ -118,15 +125,14 @@ adds_global before global bytes e plain stored =
 -- an export, whose name the call has measured
 pub adds_export : {old new : List (List ℕ)} {items : List ExportItem} → HoldsExports old items → (item : ExportItem) → new ≡ old ++ (frame_text item.name ++ (kind_code item.kind ∷ [] ++ unsigned_text item.index)) ∷ []
     → FrameFits item.name → IsUtf8 item.name → item.index < 2 ^ 32 → HoldsExports new (items ++ item ∷ [])
-adds_export {old = old} {items = items} before item e fits utf8 range =
+adds_export before item e fits utf8 range =
     let spelled : export shortest (frame_text item.name ++ (kind_code item.kind ∷ [] ++ unsigned_text item.index)) item = (
       (item.name, (item.kind, item.index)),
       refl,
       pair_spelled _ _ (frame_text item.name) _ item.name (item.kind, item.index) (name_spelled item.name utf8 fits)
           (pair_spelled _ u32 (kind_code item.kind ∷ []) (unsigned_text item.index) item.kind item.index refl (u32_spelled item.index range)),
     ) in
-    subst (λ entries. HoldsExports entries (items ++ item ∷ [])) (sym e)
-    ((holds_more export_text IsExport item_of export).raw old items (frame_text item.name ++ (kind_code item.kind ∷ [] ++ unsigned_text item.index)) item before spelled)
+    adds_raw before item e spelled
 
 -- a segment of references, whose expressions are stored
 pub adds_element : {old new : List (List ℕ)} {items : List (Segment (List Plain))} → HoldsElements old items → (given : Segment Stored) → new ≡ old ++ settled_text expression_text (settled (stored_by given)) ∷ []

@@ -13,15 +13,19 @@ ghost use Rattle.wasm_sections.specs.DataSegments.{data_text, IsGivenData, IsGiv
 ghost use Rattle.wasm_sections.specs.Elements.{Segment, element_text, IsSegment, IsSegmentWide, element_of, element};
 ghost use Rattle.wasm_sections.specs.Exports.{export_text, IsExport, item_of, export};
 ghost use Rattle.wasm_sections.specs.GivenElements.{HaveOneText};
-ghost use Rattle.wasm_sections.specs.Globals.{global_type, global_item_text, IsGivenGlobal, IsGivenGlobalWide, global_item_of, global_item};
-ghost use Rattle.wasm_sections.specs.Imports.{import_text, IsImport, import_format, entity};
+ghost use Rattle.wasm_sections.specs.Globals.{global_type, global_item_text, IsGlobal, IsGivenGlobal, IsGivenGlobalWide, global_item_of, global_item};
+ghost use Rattle.wasm_sections.specs.Imports.{import_text, IsEntity, IsImport, import_format, entity};
 ghost use Rattle.wasm_base.specs.Laws.{HoldsMore, HoldsMoreWide, NothingStandsWide};
 ghost use Rattle.wasm_sections.specs.Memories.{memory_text, IsMemory, memory_type};
-ghost use Rattle.wasm_sections.specs.Tables.{table_type, table_item_text, IsGivenTable, IsGivenTableWide, table_item_of, table_item};
+ghost use Rattle.wasm_sections.specs.Tables.{table_type, table_item_text, IsTable, IsGivenTable, IsGivenTableWide, table_item_of, table_item};
 ghost use Rattle.wasm_sections.specs.Tags.{tag_text, IsTag, tag_type};
 ghost use Rattle.wasm_sections.specs.declared.element.ElementSegment.{ElementSegment};
 
 use crate::export::Export;
+use crate::global::GlobalType;
+use crate::import::EntityType;
+use crate::memory::MemoryType;
+use crate::table::TableType;
 use std::alloc::Allocator;
 
 /// Sections are read uniquely, and so are their items; the text of a plain record spells what it says.
@@ -160,3 +164,23 @@ pub fn plain_exports(exports: &[Export<'_>])
         plain_export(export);
     }
 }
+
+/// The numbers of a table type are in range. Of one that lies behind a reference, as in a list, no clause shows it: this call does.
+pub fn plain_table(table: TableType)
+    ensures { IsTable table }
+{}
+
+/// So are those of a memory type.
+pub fn plain_memory(memory: MemoryType)
+    ensures { IsMemory memory }
+{}
+
+/// So are those of a global type.
+pub fn plain_global(global: GlobalType)
+    ensures { IsGlobal global }
+{}
+
+/// So are those of what is imported, whatever its kind.
+pub fn plain_entity(entity: EntityType)
+    ensures { IsEntity entity }
+{}

@@ -4,6 +4,10 @@
 //! `ItemLaws` says of a kind of items that they are read uniquely, and that the text of a plain record spells what it says.
 
 use crate::sections::export::Export;
+use crate::sections::global::GlobalType;
+use crate::sections::import::EntityType;
+use crate::sections::memory::MemoryType;
+use crate::sections::table::TableType;
 use crate::alloc::Allocator;
 
 /// Sections are read uniquely, and so are their items; the text of a plain record spells what it says.
@@ -173,3 +177,39 @@ pub fn plain_exports(exports: &[Export<'_>]) {
         plain_export(export);
     }
 }
+
+/// The numbers of a table type are in range. Of one that lies behind a reference, as in a list, no clause shows it: this call does.
+///
+/// # Proved
+///
+/// ```text
+/// ensures { IsTable table }
+/// ```
+pub fn plain_table(table: TableType) {}
+
+/// So are those of a memory type.
+///
+/// # Proved
+///
+/// ```text
+/// ensures { IsMemory memory }
+/// ```
+pub fn plain_memory(memory: MemoryType) {}
+
+/// So are those of a global type.
+///
+/// # Proved
+///
+/// ```text
+/// ensures { IsGlobal global }
+/// ```
+pub fn plain_global(global: GlobalType) {}
+
+/// So are those of what is imported, whatever its kind.
+///
+/// # Proved
+///
+/// ```text
+/// ensures { IsEntity entity }
+/// ```
+pub fn plain_entity(entity: EntityType) {}

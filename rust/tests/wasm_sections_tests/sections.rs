@@ -9,6 +9,7 @@ use dolzhytik::alloc::Global;
 use crate::host::Abort;
 use dolzhytik::base::{Counted, CowSlice, Encode, HeapType, Section, ValType, add_all};
 use dolzhytik::code::ConstExpr;
+use dolzhytik::insn::Instruction;
 use dolzhytik::sections::{DataCountSection, EntityType, Export, ExportKind, ExportSection, FunctionSection, GlobalSection, Import, ImportCompact, ImportSection, Imports, MemorySection, StartSection, TableSection, TableType, TagSection, laws};
 
 /// The section has this id and these bytes.
@@ -396,4 +397,9 @@ fn laws_for_callers_do_nothing() {
         kind: ExportKind::Func,
         index: 1,
     });
+    laws::plain_table(TABLE);
+    laws::plain_memory(MEMORY);
+    laws::plain_global(GLOBAL);
+    laws::plain_entity(EntityType::Function(1));
+    dolzhytik::insn::laws::plain_instructions::<Global>(&[Instruction::Nop]);
 }

@@ -1,0 +1,8 @@
+use Rattle.wasm_sections.proofs.Calls.{new_imports, adds_item, encodes_items}
+use Rattle.wasm_sections.specs.Imports.{import_item}
+use Rattle.examples.proofs.grown.encode_given_import.Goals as goal
+
+pub returns : goal.returns
+returns g c =
+    let section = adds_item (new_imports c.new-section.ensures) (import_item c.args.import.now) c.in_ok-import.ensures.ok (c.plain_name.ensures, (c.plain_name-2.ensures, c.plain_entity.ensures)) in
+    encodes_items c.encode.ensures.appends c.encode.ensures.read section

@@ -1,0 +1,32 @@
+use Rattle.std.proofs.Common.{◌≡◌, ℕ, suc, ◌+◌, ◌<◌, List, [], ◌∷◌, ◌++◌, length, map, take, get_or, sym, ap, subst, ◌∙◌, append-nil, append_assoc, arith}
+use Rattle.std.proofs.Math.Seq.{take-suc}
+use Rattle.std.proofs.lemmas.List.{map-append, take_all}
+use Rattle.wasm_code.specs.Bodies.{IsPlainBody, and_then}
+use Rattle.wasm_code.specs.Expressions.{normal_row}
+use Rattle.wasm_code.proofs.Calls.{adds_instruction}
+use Rattle.wasm_insn.specs.Instructions.{HasSmallAlignments, IsPlainWhereAligned}
+use Rattle.examples.proofs.grown.grow_by_each.Goals as goal
+
+-- the next member behind those before it
+next_of : {X Y : Type 0} (f : X → Y) (front : List Y) (xs : List X) (i : ℕ) (x : X) → i < length xs → x ≡ get_or xs i x → (front ++ map f (take i xs)) ++ f x ∷ [] ≡ front ++ map f (take (i + 1) xs)
+next_of f front xs i x there e =
+    let step : suc i ≡ i + 1 = omega arith in
+    append_assoc front (map f (take i xs)) (f x ∷ [])
+    ∙ ap (λ ys. front ++ ys) (ap (λ y. map f (take i xs) ++ f y ∷ []) e ∙ sym (map-append f (take i xs) (get_or xs i x ∷ [])) ∙ ap (map f) (sym (take-suc xs i x there) ∙ ap (λ n. take n xs) step))
+
+pub loop-instruction-init : goal.loop-instruction-init
+loop-instruction-init g c small x body = subst (λ is. IsPlainBody c.args.function.now (record { runs = x.runs; code = is })) (sym (append-nil x.code)) body
+
+pub loop-instruction-preserved : goal.loop-instruction-preserved
+loop-instruction-preserved g c small x body =
+    let is = c.args.instructions.now in
+    let i = c.loop-instruction.instruction-index in
+    let item = c.instruction-item.result in
+    let range = subst IsPlainWhereAligned (sym c.instruction-item.is) (c.plain_instructions.ensures i item c.loop-instruction-test.true) in
+    let aligned = subst HasSmallAlignments (sym c.instruction-item.is) (small i item c.loop-instruction-test.true) in
+    let grown = adds_instruction (c.loop-instruction.invariant small x body) c.in_ok-instruction.ensures.ok (range.plain aligned c.in_ok-instruction.ensures.fitted) in
+    subst (λ code. IsPlainBody c.instruction.new.self (record { runs = x.runs; code = code })) (next_of normal_row x.code is i item c.loop-instruction-test.true c.instruction-item.is) grown
+
+pub returns : goal.returns
+returns g c small x body =
+    subst (λ is. IsPlainBody c.loop-instruction.function (and_then x (map normal_row is))) (take_all c.loop-instruction.instruction-index c.args.instructions.now c.loop-instruction-test.false) (c.loop-instruction.invariant small x body)

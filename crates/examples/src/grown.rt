@@ -1,0 +1,73 @@
+// Bodies and sections of what is handed in, whatever it is. The first calls of each function show that it is plain.
+ghost use Rattle.std.specs.Prelude.{All, [], ◌∷◌, map, OnOk};
+ghost use Rattle.wasm_base.specs.Entries.{counted_format};
+ghost use Rattle.wasm_base.specs.Modules.{GainsReading};
+ghost use Rattle.wasm_code.specs.Bodies.{Body, IsPlainBody, and_then};
+ghost use Rattle.wasm_code.specs.Expressions.{normal_row};
+ghost use Rattle.wasm_insn.specs.Instructions.{HasSmallAlignments};
+ghost use Rattle.wasm_sections.specs.Imports.{import_item, import_format};
+ghost use Rattle.wasm_sections.specs.Memories.{IsMemory, memory_type};
+
+use std::alloc::Allocator;
+use wasm_base::laws::plain_name;
+use wasm_base::{Encode, R, add_all};
+use wasm_code::Function;
+use wasm_insn::Instruction;
+use wasm_insn::laws::{plain_instruction, plain_instructions};
+use wasm_sections::laws::{plain_entity, plain_memory};
+use wasm_sections::{Import, ImportSection, MemorySection, MemoryType};
+
+/// The function gains an instruction that is handed in: its alignments alone have to be below 16.
+pub fn grow<A: Allocator>(function: &mut Function<A>, instruction: &Instruction<'_>) -> R<()>
+    ensures { OnOk result (HasSmallAlignments instruction.now → (x : Body) → IsPlainBody function.old x → IsPlainBody function.new (and_then x (normal_row instruction.now ∷ []))) }
+{
+    plain_instruction(instruction);
+    function.instruction(instruction)
+}
+
+/// The function gains the instructions of a list, in order. Where one is refused, it keeps those before it.
+pub fn grow_by_each<A: Allocator>(
+    function: &mut Function<A>,
+    instructions: &[Instruction<'_>],
+) -> R<()>
+    ensures { OnOk result (All HasSmallAlignments instructions.now → (x : Body) → IsPlainBody function.old x → IsPlainBody function.new (and_then x (map normal_row instructions.now))) }
+{
+    plain_instructions(instructions);
+    for instruction in instructions {
+        function.instruction(instruction)?;
+    }
+    Ok(())
+}
+
+/// An import section of one import that is handed in.
+pub fn encode_given_import<A: Allocator + Copy>(sink: &mut Vec<u8, A>, import: &Import<'_>) -> R<()>
+    ensures { OnOk result (GainsReading (counted_format import_format) (import_item import.now ∷ []) sink.old.items sink.new.items) }
+{
+    plain_name(import.module);
+    plain_name(import.name);
+    plain_entity(import.ty);
+    let mut section = ImportSection::new(*sink.allocator());
+    section.import(import.module, import.name, import.ty)?;
+    section.encode(sink)
+}
+
+/// A memory section of the memories of a list.
+pub fn encode_memories<A: Allocator + Copy>(sink: &mut Vec<u8, A>, memories: &[MemoryType]) -> R<()>
+    ensures { OnOk result (GainsReading (counted_format memory_type) memories.now sink.old.items sink.new.items) }
+{
+    plain_memories(memories);
+    let mut section = MemorySection::new(*sink.allocator());
+    match add_all(&mut section, memories) {
+        Ok(()) => section.encode(sink),
+        Err((_, refused)) => Err(refused),
+    }
+}
+
+/// Each memory of a list is plain.
+fn plain_memories(memories: &[MemoryType])
+    ensures { All IsMemory memories.now }
+{
+    for memory in memories {
+        plain_memory(*memory);
+    }
+}
