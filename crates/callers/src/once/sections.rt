@@ -1,9 +1,9 @@
 //! Items of core sections.
-use wasm_base::{CowSlice, RefType};
-use wasm_sections::laws::plain_export;
+use wasm_base::{CowSlice, RefType, ValType};
+use wasm_sections::laws::{plain_export, plain_global, plain_table};
 use wasm_sections::{
     DataSection, DataSegment, DataSegmentMode, ElementMode, ElementSection, ElementSegment,
-    Elements, Export, ExportKind, MemoryType, TableType, TagKind, TagSection, TagType,
+    Elements, Export, ExportKind, GlobalType, MemoryType, TableType, TagKind, TagSection, TagType,
 };
 
 /// A byte that is not active.
@@ -52,6 +52,12 @@ fn types(_rt: HostRuntime) {
         shared: false,
     };
     let _ = table.index_type();
+    plain_table(table);
+    plain_global(GlobalType {
+        val_type: ValType::I32,
+        mutable: false,
+        shared: false,
+    })
 }
 
 #[test]

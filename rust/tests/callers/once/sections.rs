@@ -1,9 +1,9 @@
 // Written by tools/to-rust from crates/callers/src/once/sections.rt: change that.
 //! Items of core sections.
 
-use dolzhytik::base::{CowSlice, RefType};
-use dolzhytik::sections::laws::plain_export;
-use dolzhytik::sections::{DataSection, DataSegment, DataSegmentMode, ElementMode, ElementSection, ElementSegment, Elements, Export, ExportKind, MemoryType, TableType, TagKind, TagSection, TagType};
+use dolzhytik::base::{CowSlice, RefType, ValType};
+use dolzhytik::sections::laws::{plain_export, plain_global, plain_table};
+use dolzhytik::sections::{DataSection, DataSegment, DataSegmentMode, ElementMode, ElementSection, ElementSegment, Elements, Export, ExportKind, GlobalType, MemoryType, TableType, TagKind, TagSection, TagType};
 
 /// A byte that is not active.
 fn passive_byte<'a>() -> DataSegment<'a, [u8; 1]> {
@@ -52,6 +52,12 @@ fn types() {
         shared: false,
     };
     let _ = table.index_type();
+    plain_table(table);
+    plain_global(GlobalType {
+        val_type: ValType::I32,
+        mutable: false,
+        shared: false,
+    })
 }
 
 #[test]
