@@ -1,4 +1,5 @@
-use Rattle.std.proofs.Common.{arith, refl}
+-- Written by tools/answers.
+use Rattle.std.proofs.Common.{refl, arith}
 use Rattle.wasm_base.proofs.Calls.{ascii}
 use Rattle.wasm_sections.proofs.Calls.{new_exports, adds_export}
 use Rattle.examples.specs.Adding.{add_export}

@@ -1,3 +1,4 @@
+-- Written by tools/answers.
 use Rattle.std.proofs.Common.{arith}
 use Rattle.wasm_sections.proofs.Calls.{new_imports, adds_alike, encodes_items}
 use Rattle.wasm_sections.specs.declared.import.EntityType.TheVariants.{Function}
@@ -5,5 +6,5 @@ use Rattle.examples.proofs.alone.encode_group.Goals as goal
 
 pub returns : goal.returns
 returns g c =
-    let section = adds_alike (new_imports c.new-section.ensures) c.args.from.now (Function c.args.index) c.args.names.now c.in_ok-imports.ensures.ok c.in_ok-imports.ensures.fitted c.utf8.from (omega (arith, c.ranges.index.fits)) c.plain_names.ensures in
-    encodes_items c.encode.ensures.appends c.encode.ensures.read section
+    let s1 = adds_alike (new_imports c.new-section.ensures) c.args.from.now (Function c.args.index) c.args.names.now c.in_ok-imports.ensures.ok c.in_ok-imports.ensures.fitted c.utf8.from (omega (arith, c.ranges.index.fits)) c.plain_names.ensures in
+    encodes_items c.encode.ensures.appends c.encode.ensures.read s1

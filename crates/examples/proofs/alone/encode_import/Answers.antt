@@ -1,3 +1,4 @@
+-- Written by tools/answers.
 use Rattle.std.proofs.Common.{arith}
 use Rattle.wasm_sections.proofs.Calls.{new_imports, adds_item, encodes_items}
 use Rattle.examples.specs.Whole.{import_of_function}
@@ -5,6 +6,5 @@ use Rattle.examples.proofs.alone.encode_import.Goals as goal
 
 pub returns : goal.returns
 returns g c =
-    let imported = import_of_function c.args.from.now c.args.name.now c.args.index in
-    let section = adds_item (new_imports c.new-section.ensures) imported c.in_ok-import.ensures.ok (c.utf8.from, (c.utf8.name, omega (arith, c.ranges.index.fits))) in
-    encodes_items c.encode.ensures.appends c.encode.ensures.read section
+    let s1 = adds_item (new_imports c.new-section.ensures) (import_of_function c.args.from.now c.args.name.now c.args.index) c.in_ok-import.ensures.ok (c.utf8.from, (c.utf8.name, omega (arith, c.ranges.index.fits))) in
+    encodes_items c.encode.ensures.appends c.encode.ensures.read s1

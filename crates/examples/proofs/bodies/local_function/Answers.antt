@@ -1,11 +1,16 @@
+-- Written by tools/answers.
 use Rattle.std.proofs.Common.{arith, rules}
+use Rattle.wasm_base.proofs.KnownLengths.{drained_array}
 use Rattle.wasm_code.proofs.Calls.{new_function, lent, writes_instruction}
 use Rattle.wasm_insn.specs.declared.instruction.Instruction.TheVariants.{LocalGet, End}
 use Rattle.examples.proofs.bodies.local_function.Goals as goal
 
 pub returns : goal.returns
 returns g c =
-    let begun = lent (new_function c.in_ok-function.ensures tt) c.instructions-sink.ensures.same in
-    let b1 = writes_instruction begun (LocalGet c.args.index) c.in_ok-local_get.ensures.writes.bytes (omega (arith, c.ranges.index.fits), tt) in
-    let b2 = writes_instruction b1 End c.in_ok-end.ensures.writes.bytes tt in
-    lent b2 (search rules)
+    let b1 = lent (new_function c.in_ok-function.ensures tt) c.instructions-sink.ensures.same in
+    let b2 = writes_instruction b1 (LocalGet c.args.index) c.in_ok-local_get.ensures.writes.bytes (omega (arith, c.ranges.index.fits), tt) in
+    let b3 = writes_instruction b2 End c.in_ok-end.ensures.writes.bytes tt in
+    lent b3 (search rules)
+
+pub new-requires : goal.new-requires
+new-requires g c = record { can = λ it b. tt; told = λ it xs b d. drained_array it xs d }

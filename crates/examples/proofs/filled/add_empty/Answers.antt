@@ -1,10 +1,11 @@
+-- Written by tools/answers.
 use Rattle.wasm_base.proofs.Calls.{gains_raw}
 use Rattle.wasm_sections.proofs.Calls.{gains_imports, gains_tables, gains_memories}
 use Rattle.examples.proofs.filled.add_empty.Goals as goal
 
 pub returns : goal.returns
 returns g c before =
-    let types = gains_raw before c.in_ok-section.ensures.read c.in_ok-section.ensures.fitted c.in_ok-section.ensures.section in
-    let imports = gains_imports types c.in_ok-section-2.ensures.read c.in_ok-section-2.ensures.fitted c.in_ok-section-2.ensures.section c.in_ok-imports.ensures in
-    let tables = gains_tables imports c.in_ok-section-3.ensures.read c.in_ok-section-3.ensures.fitted c.in_ok-section-3.ensures.section c.in_ok-tables.ensures in
-    gains_memories tables c.in_ok-section-4.ensures.read c.in_ok-section-4.ensures.fitted c.in_ok-section-4.ensures.section c.in_ok-memories.ensures
+    let m1 = gains_raw before c.in_ok-section.ensures.read c.in_ok-section.ensures.fitted c.in_ok-section.ensures.section in
+    let m2 = gains_imports m1 c.in_ok-section-2.ensures.read c.in_ok-section-2.ensures.fitted c.in_ok-section-2.ensures.section c.in_ok-imports.ensures in
+    let m3 = gains_tables m2 c.in_ok-section-3.ensures.read c.in_ok-section-3.ensures.fitted c.in_ok-section-3.ensures.section c.in_ok-tables.ensures in
+    gains_memories m3 c.in_ok-section-4.ensures.read c.in_ok-section-4.ensures.fitted c.in_ok-section-4.ensures.section c.in_ok-memories.ensures

@@ -1,15 +1,21 @@
-use Rattle.std.proofs.Common.{[], ◌∷◌, arith, pos, refl, ap, ◌∙◌}
+-- Written by tools/answers.
+use Rattle.std.proofs.Common.{arith, pos, ap, ◌∙◌, [], ◌∷◌}
 use Rattle.std.proofs.lemmas.Int.{ints}
 use Rattle.std.specs.Iterator.Adapters.{copied_source}
 use Rattle.std.specs.Slice.Iter.{iter_rest}
+use Rattle.std.specs.declared.alloc.Global.{Global}
+use Rattle.wasm_base.proofs.KnownLengths.{drained_array}
 use Rattle.wasm_code.proofs.Calls.{one_constant}
+use Rattle.wasm_code.specs.Expressions.{normal_row}
 use Rattle.wasm_insn.specs.declared.instruction.Instruction.TheVariants.{I32Const}
-use Rattle.wasm_sections.proofs.Calls.{new_segments, adds_active, adds_passive, array_added, copied_added}
-use Rattle.examples.specs.Bodies.{row}
+use Rattle.wasm_sections.proofs.Calls.{new_segments, copied_added, adds_active, adds_passive, array_added}
 use Rattle.examples.proofs.filled.segments.Goals as goal
 
 pub returns : goal.returns
 returns g c =
-    let offset = one_constant c.in_ok-offset.ensures.stores ((omega (arith, ints), omega (arith, ints)), tt) in
-    let first = adds_active (new_segments c.new-section.ensures) 0 (row (I32Const (pos 8)) ∷ []) _ c.args.bytes.now (copied_added c.in_ok-active.ensures c.args.bytes.now (λ it b. ap (λ s. iter_rest (copied_source s)) b ∙ ap iter_rest c.copied.ensures.source ∙ c.iter.ensures.rest)) (omega arith) offset in
-    adds_passive first (1 ∷ 2 ∷ 3 ∷ []) (array_added c.in_ok-passive.ensures (1 ∷ 2 ∷ 3 ∷ []) (λ it b. b.0))
+    let e1 = one_constant c.in_ok-offset.ensures.stores ((omega (arith, ints), omega (arith, ints)), tt) in
+    let s1 = adds_active (new_segments c.new-section.ensures) 0 (normal_row {A = Global} (I32Const (pos 8)) ∷ []) _ c.args.bytes.now (copied_added c.in_ok-active.ensures c.args.bytes.now (λ it b. ap (λ s. iter_rest (copied_source s)) b ∙ ap iter_rest c.copied.ensures.source ∙ c.iter.ensures.rest)) (omega arith) e1 in
+    adds_passive s1 (1 ∷ 2 ∷ 3 ∷ []) (array_added c.in_ok-passive.ensures (1 ∷ 2 ∷ 3 ∷ []) (λ it b. b.0))
+
+pub passive-requires : goal.passive-requires
+passive-requires g c = record { can = λ it b. tt; told = λ it xs b d. drained_array it xs d }

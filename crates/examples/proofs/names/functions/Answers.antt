@@ -1,3 +1,4 @@
+-- Written by tools/answers.
 use Rattle.std.proofs.Common.{arith}
 use Rattle.wasm_custom.proofs.Calls.{new_map, adds_name}
 use Rattle.examples.proofs.names.functions.Goals as goal

@@ -1,3 +1,4 @@
+-- Written by tools/answers.
 use Rattle.std.proofs.Common.{refl}
 use Rattle.std.specs.Prelude.{codes}
 use Rattle.wasm_base.proofs.Calls.{ascii}
@@ -6,6 +7,6 @@ use Rattle.examples.proofs.names.names.Goals as goal
 
 pub returns : goal.returns
 returns g c =
-    let first = adds_module_name (new_names c.new-section.ensures) (codes "m") c.in_ok-module.ensures.ok (ascii refl) in
-    let second = adds_names first 1 c.in_ok-functions.ensures c.in_ok-functions-2.ensures.ok refl in
-    adds_names_inside second 2 c.in_ok-locals.ensures c.in_ok-locals-2.ensures.ok refl
+    let s1 = adds_module_name (new_names c.new-section.ensures) (codes "m") c.in_ok-module.ensures.ok (ascii refl) in
+    let s2 = adds_names s1 1 c.in_ok-functions.ensures c.in_ok-functions-2.ensures.ok refl in
+    adds_names_inside s2 2 c.in_ok-locals.ensures c.in_ok-locals-2.ensures.ok refl

@@ -1,17 +1,18 @@
-use Rattle.std.proofs.Common.{[], ◌∷◌, refl, arith}
+-- Written by tools/answers.
+use Rattle.std.proofs.Common.{[], ◌∷◌, arith, refl}
 use Rattle.std.specs.declared.alloc.Global.{Global}
+use Rattle.wasm_base.proofs.Calls.{new_module, finished}
 use Rattle.wasm_base.specs.Formats.{u32}
 use Rattle.wasm_base.specs.Numbers.{wide}
-use Rattle.wasm_base.proofs.Calls.{new_module, finished}
-use Rattle.wasm_code.proofs.Calls.{new_code, wider_body, without_runs, adds_instruction_wide, spells_wide, adds_body_wide, gains_code_wide}
+use Rattle.wasm_code.proofs.Calls.{new_code, spells_wide, without_runs, adds_instruction_wide, adds_body_wide, wider_body, gains_code_wide}
 use Rattle.wasm_insn.specs.declared.instruction.Instruction.TheVariants.{End}
 use Rattle.examples.proofs.padded.padded_module.Goals as goal
 
 pub returns : goal.returns
 returns g c =
-    let none : u32 wide (0x80 ∷ 0x80 ∷ 0x00 ∷ []) 0 = record { groups = (omega arith, omega arith, (omega arith, omega arith, omega arith)); total = refl; range = omega arith; size = omega arith } in
-    let bare = adds_instruction_wide {A = Global} (without_runs none) End refl tt in
-    let s1 = adds_body_wide (spells_wide (new_code c.new-code.ensures)) c.in_ok-raw.ensures.ok bare in
+    let n1 : u32 wide (0x80 ∷ 0x80 ∷ 0x00 ∷ []) 0 = record { groups = (omega arith, omega arith, (omega arith, omega arith, omega arith)); total = refl; range = omega arith; size = omega arith } in
+    let b1 = adds_instruction_wide {A = Global} (without_runs n1) End refl tt in
+    let s1 = adds_body_wide (spells_wide (new_code c.new-code.ensures)) c.in_ok-raw.ensures.ok b1 in
     let s2 = adds_body_wide s1 c.in_ok-function.ensures.ok (wider_body c.in_ok-first_function.ensures) in
     let m1 = gains_code_wide (new_module c.in_ok-module.ensures.read) c.in_ok-section.ensures.read c.in_ok-section.ensures.fitted c.in_ok-section.ensures.section s2 in
     finished m1 c.finish.ensures

@@ -1,8 +1,9 @@
+-- Written by tools/answers.
 use Rattle.std.proofs.Common.{arith}
 use Rattle.wasm_sections.proofs.Calls.{new_functions, adds_item}
 use Rattle.examples.proofs.whole.functions.Goals as goal
 
 pub returns : goal.returns
 returns g c =
-    let first = adds_item (new_functions c.new-section.ensures) 1 c.in_ok-function.ensures.ok (omega arith) in
-    adds_item first 0 c.in_ok-function-2.ensures.ok (omega arith)
+    let s1 = adds_item (new_functions c.new-section.ensures) 1 c.in_ok-function.ensures.ok (omega arith) in
+    adds_item s1 0 c.in_ok-function-2.ensures.ok (omega arith)

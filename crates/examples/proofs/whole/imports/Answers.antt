@@ -1,9 +1,9 @@
-use Rattle.std.proofs.Common.{arith, refl}
+-- Written by tools/answers.
+use Rattle.std.proofs.Common.{refl, arith}
 use Rattle.wasm_base.proofs.Calls.{ascii}
 use Rattle.wasm_sections.proofs.Calls.{new_imports, adds_item}
 use Rattle.examples.specs.Whole.{ready}
 use Rattle.examples.proofs.whole.imports.Goals as goal
 
 pub returns : goal.returns
-returns g c =
-    adds_item (new_imports c.new-section.ensures) ready c.in_ok-import.ensures.ok (ascii refl, (ascii refl, omega arith))
+returns g c = adds_item (new_imports c.new-section.ensures) ready c.in_ok-import.ensures.ok (ascii refl, (ascii refl, omega arith))
