@@ -1,0 +1,14 @@
+use Rattle.std.proofs.Common.{[], ◌∷◌, ◌++◌, OnOk, sym, subst, ◌∙◌}
+use Rattle.std.specs.List.{flat_map}
+use Rattle.examples.proofs.Gains.{gains_more, gains_last}
+use Rattle.examples.proofs.Rows.{call_listed}
+use Rattle.examples.specs.Lowering.{GainsOperations}
+use Rattle.examples.proofs.trees.+expression.Goals as goal
+
+pub emit_expr-returns-in_ok-emit_expr-in-Binary-2 : goal.emit_expr-returns-in_ok-emit_expr-in-Binary-2
+emit_expr-returns-in_ok-emit_expr-in-Binary-2 g t c =
+    rw c.in-Binary.is (gains_last _ _ _ c.in_ok-emit_expr-in-Binary.ensures (gains_last _ _ _ c.in_ok-emit_expr-in-Binary-2.ensures c.emit-in-Binary.ensures))
+
+pub emit_expr-returns-in_ok-emit_arguments-in-Call : goal.emit_expr-returns-in_ok-emit_arguments-in-Call
+emit_expr-returns-in_ok-emit_arguments-in-Call g t c =
+    rw (c.in-Call.is, sym (call_listed c.in-Call.index c.in-Call.arguments)) (gains_last _ _ _ c.in_ok-emit_arguments-in-Call.ensures c.emit-in-Call.ensures)
