@@ -1,5 +1,5 @@
 -- Instructions are read uniquely, whatever the table, and plain ones are spelled by their text.
-use Rattle.std.proofs.Common.{◌≡◌, ℕ, ◌^◌, ◌<◌, List, [], ◌∷◌, ◌++◌, Bool, true, false, Option, Some, None, refl, sym, ap, subst, arith}
+use Rattle.std.proofs.Common.{◌≡◌, ℕ, ◌+◌, ◌*◌, ◌^◌, ◌<◌, List, [], ◌∷◌, ◌++◌, Bool, true, false, Option, Some, None, refl, sym, ap, subst, arith}
 use Rattle.std.specs.Prelude.{map, ◌↔◌}
 use Rattle.wasm_base.specs.Numbers.{shortest, unsigned_text}
 use Rattle.wasm_base.specs.Formats.{u32, mapped, when}
@@ -22,6 +22,8 @@ use Rattle.wasm_insn.specs.declared.part.Part.TheVariants as parts
 use Rattle.wasm_insn.specs.declared.part.Part.{Part}
 use Rattle.wasm_insn.specs.Parts.{parts_of}
 use Rattle.wasm_insn.specs.Arguments.{Argument, unsigned, signed32, signed64, float32, float64, vector, memory, lane, lanes, block, heap, ordering, labels, catches, types, handles, flag, part_of, argument_text, arguments_text}
+use Rattle.wasm_base.specs.declared.types.RefType.{RefType}
+use Rattle.wasm_insn.specs.Instructions.{bit_of, cast_flag_of}
 use Rattle.wasm_insn.specs.Plain.{Plain, IsPlain, plain_text, normal_argument, normal_arguments, normal, IsPlainArgument, ArePlain, float32_of, float64_of, part, cons, arguments, is_prefix, IsOpcode, op_after, opcode, Table, shape_of, arguments_after, plain_of, instruction}
 
 -- ---- opcodes
@@ -152,6 +154,16 @@ same_text table i j h g =
     )
 
 -- ---- for the laws
+
+-- The flags of a cast are below 4.
+pub cast_flag_below : (from to : RefType) → cast_flag_of from to < 4
+cast_flag_below from to = below from.nullable to.nullable
+  where
+    below : (a b : Bool) → bit_of a + 2 * bit_of b < 4
+    below false false = omega arith
+    below false true = omega arith
+    below true false = omega arith
+    below true true = omega arith
 
 pub wide-opcode : IsUniqueWide opcode
 wide-opcode = unique_wide opcode-alone

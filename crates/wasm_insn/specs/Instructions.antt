@@ -7,7 +7,7 @@ use Rattle.wasm_insn.specs.declared.op.Op.TheVariants.{Byte, Prefixed}
 use Rattle.wasm_base.specs.declared.types.RefType.{RefType}
 use Rattle.wasm_base.specs.Cow.{items_of}
 use Rattle.wasm_insn.specs.Arguments.{arguments_fit, unsigned, signed32, signed64, float32, float64, memory, block, heap, labels, catches, types, handles, flag}
-use Rattle.wasm_insn.specs.Plain.{Plain, plain_text, normal, instruction, ArePlain}
+use Rattle.wasm_insn.specs.Plain.{Plain, plain_text, normal, instruction, ArePlain, HaveSmallAlignments}
 use Rattle.wasm_insn.specs.Table.{table}
 use Rattle.wasm_insn.specs.Numeric.{numeric_number}
 use Rattle.wasm_insn.specs.Aggregate.{aggregate_number}
@@ -167,6 +167,14 @@ InstructionFits i = arguments_fit (row_of i).arguments
 -- Alignments are below 16, and numbers in the range of their types, which every instruction's are that code has made.
 abbrev pub IsPlainInstruction : {A : Type 0} → Instruction A → Type 0
 IsPlainInstruction i = ArePlain (row_of i).arguments
+
+-- The alignments of its memory arguments are below 16.
+abbrev pub HasSmallAlignments : {A : Type 0} → Instruction A → Type 0
+HasSmallAlignments i = HaveSmallAlignments (row_of i).arguments
+
+-- Where its alignments are below 16 and its lists can be counted, the instruction is plain.
+pub record IsPlainWhereAligned {A : Type 0} (i : Instruction A) : Type 0 where
+  pub plain : HasSmallAlignments i → InstructionFits i → IsPlainInstruction i
 
 -- Where the instruction is plain, its text is read as its normal form alone.
 pub record ReadsInstruction {A : Type 0} (i : Instruction A) : Type 0 where

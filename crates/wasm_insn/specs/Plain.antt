@@ -62,6 +62,15 @@ IsPlainArgument (flag n) = n < 4
 abbrev pub ArePlain : List Argument → Type 0
 ArePlain = AllByRecursion IsPlainArgument
 
+-- The alignment of a memory argument is below 16.
+abbrev pub HasSmallAlignment : Argument → Type 0
+HasSmallAlignment (memory m) = m.align < 16
+HasSmallAlignment _ = ⊤
+
+-- The alignment of each memory argument is below 16.
+abbrev pub HaveSmallAlignments : List Argument → Type 0
+HaveSmallAlignments = AllByRecursion HasSmallAlignment
+
 -- ---- formats of parts, opcodes and instructions
 
 -- the argument of a float of 32 bits, from its bits

@@ -3,15 +3,18 @@
 //! `UniqueReading F` says that bytes begin with a spelling in the format `F` of at most one value, whatever follows, both with
 //! shortest and with padded numbers, and that a value has at most one shortest spelling; `UniqueWholeReading F` the same of a format whose
 //! spellings reach to the last byte. `HasTexts F fits text` says that the text of each value that fits is its shortest spelling.
+ghost use Rattle.std.specs.Prelude.{All};
 ghost use Rattle.wasm_base.specs.Formats.{members};
 ghost use Rattle.wasm_base.specs.Reading.{UniqueReading, UniqueWholeReading, HasTexts, IsUniqueWide, IsUniqueWholeWide};
 ghost use Rattle.wasm_insn.specs.Cases.{Given, all_cases, AreRows, IsCase};
 ghost use Rattle.wasm_insn.specs.Opcodes.{op_text};
 ghost use Rattle.wasm_insn.specs.Plain.{opcode, instruction, IsOpcode};
 ghost use Rattle.wasm_insn.specs.Table.{table, IsOpcodeTable, BeginsNoOther, IsRow};
-ghost use Rattle.wasm_insn.specs.Instructions.{row_of, ReadsInstruction, HaveOneText};
+ghost use Rattle.wasm_insn.specs.Instructions.{row_of, ReadsInstruction, HaveOneText, IsPlainWhereAligned};
 ghost use Rattle.wasm_insn.specs.declared.instruction.Instruction.{Instruction};
 
+use crate::instruction::Instruction;
+use crate::ranged::arguments_ranged;
 use std::alloc::Allocator;
 
 /// Opcodes are read uniquely. The opcode table has 628 rows in ascending order, of which two neighbours alone share an op; no op's bytes begin another's.
@@ -56,3 +59,19 @@ pub fn wide()
 pub fn lists()
     ensures { UniqueWholeReading (members (instruction table)) }
 {}
+
+/// An instruction is plain where its alignments are below 16 and its lists can be counted, which a call that accepts it has promised.
+pub fn plain_instruction<A: Allocator>(instruction: &Instruction<'_, A>)
+    ensures { IsPlainWhereAligned instruction.now }
+{
+    arguments_ranged(instruction);
+}
+
+/// So is each instruction of a list.
+pub fn plain_instructions<A: Allocator>(instructions: &[Instruction<'_, A>])
+    ensures { All IsPlainWhereAligned instructions.now }
+{
+    for instruction in instructions {
+        plain_instruction(instruction);
+    }
+}

@@ -17,6 +17,7 @@ mod numeric;
 mod op;
 mod part;
 mod prefixed_numeric;
+mod ranged;
 mod sink;
 mod table;
 mod vector;

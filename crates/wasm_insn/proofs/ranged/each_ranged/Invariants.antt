@@ -1,0 +1,6 @@
+use Rattle.std.proofs.Common.{take}
+use Rattle.std.specs.List.{All}
+use Rattle.wasm_insn.proofs.ranged.each_ranged.Given as goal
+
+abbrev pub invariant-loop-item : goal.invariant-loop-item
+invariant-loop-item g l = All g.T.Ranged.in_range (take l.item-index l.items)
