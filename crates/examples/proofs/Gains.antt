@@ -5,7 +5,7 @@ use Rattle.std.specs.Prelude.{OnOk}
 use Rattle.std.proofs.lemmas.List.{map-append, take_all, take_more, flat_map_more}
 use Rattle.std.specs.declared.alloc.Global.{Global}
 use Rattle.wasm_base.specs.declared.refused.Refused.{Refused}
-use Rattle.wasm_code.specs.Bodies.{Body, Grows, IsPlainBody, and_then}
+use Rattle.wasm_code.specs.Bodies.{Body, AddsInstruction, IsPlainBody, and_then}
 use Rattle.wasm_insn.specs.Instructions.{IsPlainInstruction}
 use Rattle.wasm_insn.specs.declared.instruction.Instruction.{Instruction}
 use Rattle.examples.specs.Bodies.{row}
@@ -16,9 +16,11 @@ use Rattle.examples.specs.declared.lowering.Operation.{Operation}
 pub gains_none : {bytes : List ℕ} → GainsOperations [] bytes bytes
 gains_none {bytes = bytes} = record { plain = λ x spelled. subst (λ s. IsPlainBody bytes (record { runs = x.runs; code = s })) (sym (append-nil x.code)) spelled }
 
--- one
-pub gains_one : {operation : Operation} {i : Instruction Global} {old new : List ℕ} → Grows i old new → i ≡ instruction_of operation → IsPlainInstruction i → GainsOperations (operation ∷ []) old new
-gains_one {new = new} grown same plain = record { plain = λ x spelled. subst (λ j. IsPlainBody new (and_then x (row j ∷ []))) same (grown.plain plain x spelled) }
+-- one, which a call adds
+pub gains_one : {i : Instruction Global} {old new : List ℕ} {result : Result (Unit {0}) Refused} (operation : Operation) → AddsInstruction i old new result → i ≡ instruction_of operation → IsPlainInstruction i
+    → OnOk result (GainsOperations (operation ∷ []) old new)
+gains_one {new = new} {result = Ok u} operation added same plain = record { plain = λ x spelled. subst (λ j. IsPlainBody new (and_then x (row j ∷ []))) same (added.ok.plain plain x spelled) }
+gains_one {result = Err e} operation added same plain = tt
 
 -- some, and then others
 pub gains_more : {first second : List Operation} {old between new : List ℕ} → GainsOperations first old between → GainsOperations second between new → GainsOperations (first ++ second) old new

@@ -1,9 +1,16 @@
 use Rattle.std.proofs.Common.{[], ◌∷◌, arith, rules}
+use Rattle.wasm_base.proofs.KnownLengths.{drained_array}
 use Rattle.wasm_base.specs.declared.types.ValType.TheVariants.{I32}
 use Rattle.wasm_base.specs.Types.{IsVal}
 use Rattle.wasm_types.specs.RecTypes.{func}
 use Rattle.wasm_types.proofs.Calls.{new_types, same_types, adds_shape, listed_arrays, counted}
 use Rattle.examples.proofs.compiled.types.Goals as goal
+
+pub function-requires-2-clause-params : goal.function-requires-2-clause-params
+function-requires-2-clause-params g c = record { can = λ it b. tt; told = λ it xs b d. drained_array it xs d }
+
+pub function-requires-2-clause-results : goal.function-requires-2-clause-results
+function-requires-2-clause-results g c = record { can = λ it b. tt; told = λ it xs b d. drained_array it xs d }
 
 pub returns : goal.returns
 returns g c =

@@ -1,8 +1,9 @@
 use Rattle.std.proofs.Common.{[], ◌∷◌, ◌++◌, OnOk, sym, subst, ◌∙◌}
 use Rattle.std.specs.List.{flat_map}
-use Rattle.examples.proofs.Gains.{gains_more, gains_last}
+use Rattle.examples.proofs.Gains.{gains_more, gains_member, gains_last}
 use Rattle.examples.proofs.Rows.{call_listed}
 use Rattle.examples.specs.Lowering.{GainsOperations}
+use Rattle.examples.specs.Trees.{expr_operations}
 use Rattle.examples.proofs.trees.+expression.Goals as goal
 
 pub emit_expr-returns-in_ok-emit_expr-in-Binary-2 : goal.emit_expr-returns-in_ok-emit_expr-in-Binary-2
@@ -12,3 +13,7 @@ emit_expr-returns-in_ok-emit_expr-in-Binary-2 g t c =
 pub emit_expr-returns-in_ok-emit_arguments-in-Call : goal.emit_expr-returns-in_ok-emit_arguments-in-Call
 emit_expr-returns-in_ok-emit_arguments-in-Call g t c =
     rw (c.in-Call.is, sym (call_listed c.in-Call.index c.in-Call.arguments)) (gains_last _ _ _ c.in_ok-emit_arguments-in-Call.ensures c.emit-in-Call.ensures)
+
+pub emit_arguments-loop-argument-preserved : goal.emit_arguments-loop-argument-preserved
+emit_arguments-loop-argument-preserved g t c =
+    gains_member expr_operations c.args.arguments.now c.loop-argument.argument-index _ c.loop-argument-test.true c.loop-argument.invariant c.in_ok-emit_expr.ensures

@@ -1,6 +1,7 @@
 use Rattle.std.proofs.Common.{sym}
-use Rattle.examples.proofs.Gains.{gains_more, gains_last}
+use Rattle.examples.proofs.Gains.{gains_more, gains_member, gains_last}
 use Rattle.examples.proofs.Rows.{while_listed}
+use Rattle.examples.specs.Trees.{statement_operations}
 use Rattle.examples.proofs.trees.+statement.Goals as goal
 
 pub emit_statement-returns-in_ok-emit_expr-in-Set : goal.emit_statement-returns-in_ok-emit_expr-in-Set
@@ -16,3 +17,7 @@ emit_statement-returns-in_ok-emit-in-While-6 g t c =
 
 pub emit_statement-returns-in_ok-emit_expr-in-Return : goal.emit_statement-returns-in_ok-emit_expr-in-Return
 emit_statement-returns-in_ok-emit_expr-in-Return g t c = rw c.in-Return.is (gains_last _ _ _ c.in_ok-emit_expr-in-Return.ensures c.emit-in-Return.ensures)
+
+pub emit_statements-loop-statement-preserved : goal.emit_statements-loop-statement-preserved
+emit_statements-loop-statement-preserved g t c =
+    gains_member statement_operations c.args.statements.now c.loop-statement.statement-index _ c.loop-statement-test.true c.loop-statement.invariant c.in_ok-emit_statement.ensures
