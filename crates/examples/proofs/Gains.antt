@@ -1,8 +1,8 @@
 -- Operations whose instructions are added one after another.
-use Rattle.std.proofs.Common.{◌≡◌, ℕ, ◌+◌, ◌<◌, ◌≤◌, List, [], ◌∷◌, ◌++◌, length, take, get_or, map, Result, Ok, Err, sym, ap, subst, ◌∙◌, append_assoc, append-nil}
+use Rattle.std.proofs.Common.{◌≡◌, ℕ, ◌+◌, ◌<◌, List, [], ◌∷◌, ◌++◌, length, take, get_or, map, Result, Ok, Err, sym, ap, subst, ◌∙◌, append_assoc, append-nil}
 use Rattle.std.specs.List.{flat_map}
 use Rattle.std.specs.Prelude.{OnOk}
-use Rattle.std.proofs.lemmas.List.{map-append, take_all, take_more, flat_map_more}
+use Rattle.std.proofs.lemmas.List.{map-append, take_more, flat_map_more}
 use Rattle.std.specs.declared.alloc.Global.{Global}
 use Rattle.wasm_base.specs.declared.refused.Refused.{Refused}
 use Rattle.wasm_code.specs.Bodies.{Body, AddsInstruction, IsPlainBody, and_then}
@@ -32,14 +32,10 @@ gains_more {first = first} {second = second} {new = new} g h = record {
 }
 
 -- those of one more member of a list
-pub gains_member : {X : Type 0} (f : X → List Operation) (xs : List X) (i : ℕ) (d : X) {old between new : List ℕ} → i < length xs
-    → GainsOperations (flat_map f (take i xs)) old between → GainsOperations (f (get_or xs i d)) between new → GainsOperations (flat_map f (take (i + 1) xs)) old new
-gains_member f xs i d {old = old} {new = new} lt g h =
-    subst (λ s. GainsOperations s old new) (flat_map_more f [] (take i xs) (get_or xs i d) ∙ ap (flat_map f) (sym (take_more xs i d lt))) (gains_more g h)
-
--- those of all members
-pub gains_all : {X : Type 0} (f : X → List Operation) (xs : List X) (i : ℕ) {old new : List ℕ} → length xs ≤ i → GainsOperations (flat_map f (take i xs)) old new → GainsOperations (flat_map f xs) old new
-gains_all f xs i {old = old} {new = new} le g = subst (λ s. GainsOperations (flat_map f s) old new) (take_all i xs le) g
+pub gains_member : {X : Type 0} (f : X → List Operation) (xs : List X) (i : ℕ) (x : X) {old between new : List ℕ} → i < length xs → x ≡ get_or xs i x
+    → GainsOperations (flat_map f (take i xs)) old between → GainsOperations (f x) between new → GainsOperations (flat_map f (take (i + 1) xs)) old new
+gains_member f xs i x {old = old} {new = new} low is g h =
+    subst (λ s. GainsOperations s old new) (flat_map_more f [] (take i xs) x ∙ ap (λ y. flat_map f (take i xs ++ y ∷ [])) is ∙ ap (flat_map f) (sym (take_more xs i x low))) (gains_more g h)
 
 -- some, and then others, by a call that may be refused
 pub gains_last : {first : List Operation} {old between : List ℕ} (second : List Operation) (new : List ℕ) (result : Result (Unit {0}) Refused) → GainsOperations first old between → OnOk result (GainsOperations second between new)

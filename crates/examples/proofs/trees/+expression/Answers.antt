@@ -16,4 +16,4 @@ emit_expr-returns-in_ok-emit_arguments-in-Call g t c =
 
 pub emit_arguments-loop-argument-preserved : goal.emit_arguments-loop-argument-preserved
 emit_arguments-loop-argument-preserved g t c =
-    gains_member expr_operations c.args.arguments.now c.loop-argument.argument-index _ c.loop-argument-test.true c.loop-argument.invariant c.in_ok-emit_expr.ensures
+    gains_member expr_operations c.args.arguments.now c.loop-argument.argument-index c.argument-item.result c.loop-argument-test.true c.argument-item.is c.loop-argument.invariant c.in_ok-emit_expr.ensures

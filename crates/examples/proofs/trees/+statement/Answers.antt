@@ -20,4 +20,4 @@ emit_statement-returns-in_ok-emit_expr-in-Return g t c = rw c.in-Return.is (gain
 
 pub emit_statements-loop-statement-preserved : goal.emit_statements-loop-statement-preserved
 emit_statements-loop-statement-preserved g t c =
-    gains_member statement_operations c.args.statements.now c.loop-statement.statement-index _ c.loop-statement-test.true c.loop-statement.invariant c.in_ok-emit_statement.ensures
+    gains_member statement_operations c.args.statements.now c.loop-statement.statement-index c.statement-item.result c.loop-statement-test.true c.statement-item.is c.loop-statement.invariant c.in_ok-emit_statement.ensures
