@@ -5,3 +5,8 @@ pub mod Named
 pub mod Padded
 pub mod Sums
 pub mod Adding
+pub mod Lowering
+pub mod Trees
+pub mod Compiled
+pub mod Object
+pub mod Large

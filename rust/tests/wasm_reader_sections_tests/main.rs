@@ -26,6 +26,8 @@ mod custom_seen;
 #[cfg(test)]
 mod example_bytes;
 #[cfg(test)]
+mod example_refusals;
+#[cfg(test)]
 mod faults;
 #[cfg(test)]
 mod modules;

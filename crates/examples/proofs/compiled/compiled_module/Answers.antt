@@ -1,0 +1,13 @@
+use Rattle.wasm_base.proofs.Calls.{new_module, finished}
+use Rattle.wasm_code.proofs.Calls.{gains_code}
+use Rattle.wasm_sections.proofs.Calls.{gains_functions, gains_exports}
+use Rattle.wasm_types.proofs.Calls.{gains_types}
+use Rattle.examples.proofs.compiled.compiled_module.Goals as goal
+
+pub returns : goal.returns
+returns g c =
+    let types = gains_types (new_module c.in_ok-module.ensures.read) c.in_ok-section.ensures.read c.in_ok-section.ensures.fitted c.in_ok-section.ensures.section c.in_ok-types.ensures in
+    let functions = gains_functions types c.in_ok-section-2.ensures.read c.in_ok-section-2.ensures.fitted c.in_ok-section-2.ensures.section c.in_ok-functions.ensures in
+    let exports = gains_exports functions c.in_ok-section-3.ensures.read c.in_ok-section-3.ensures.fitted c.in_ok-section-3.ensures.section c.in_ok-exports.ensures in
+    let code = gains_code exports c.in_ok-section-4.ensures.read c.in_ok-section-4.ensures.fitted c.in_ok-section-4.ensures.section c.in_ok-code.ensures in
+    finished code c.finish.ensures

@@ -1,0 +1,5 @@
+use Rattle.wasm_code.proofs.Calls.{new_code, adds_body}
+use Rattle.examples.proofs.object.code.Goals as goal
+
+pub returns : goal.returns
+returns g c = adds_body (new_code c.new-section.ensures) c.in_ok-function.ensures.ok c.in_ok-count_down.ensures

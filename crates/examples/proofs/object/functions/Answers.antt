@@ -1,0 +1,6 @@
+use Rattle.std.proofs.Common.{arith}
+use Rattle.wasm_sections.proofs.Calls.{new_functions, adds_item}
+use Rattle.examples.proofs.object.functions.Goals as goal
+
+pub returns : goal.returns
+returns g c = adds_item (new_functions c.new-section.ensures) 0 c.in_ok-function.ensures.ok (omega arith)

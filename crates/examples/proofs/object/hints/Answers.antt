@@ -1,0 +1,6 @@
+use Rattle.std.proofs.Common.{arith}
+use Rattle.wasm_custom.proofs.Calls.{new_hints, adds_hints}
+use Rattle.examples.proofs.object.hints.Goals as goal
+
+pub returns : goal.returns
+returns g c = adds_hints (new_hints c.new-section.ensures) 0 c.in_ok-function_hints.ensures (omega arith) (record { offset = omega arith; value = omega arith }, tt)

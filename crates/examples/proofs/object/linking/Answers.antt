@@ -1,0 +1,6 @@
+use Rattle.std.proofs.Common.{refl}
+use Rattle.wasm_custom.proofs.Calls.{new_linking, adds_symbols}
+use Rattle.examples.proofs.object.linking.Goals as goal
+
+pub returns : goal.returns
+returns g c = adds_symbols (new_linking c.new-section.ensures) c.in_ok-symbols.ensures c.in_ok-symbol_table.ensures.ok (refl, tt)

@@ -1,0 +1,8 @@
+use Rattle.std.proofs.Common.{take}
+use Rattle.std.specs.List.{flat_map}
+use Rattle.examples.specs.Lowering.{GainsOperations}
+use Rattle.examples.specs.Trees.{statement_operations}
+use Rattle.examples.proofs.trees.+statement.Given as goal
+
+abbrev pub invariant-emit_statements-loop-statement : goal.invariant-emit_statements-loop-statement
+invariant-emit_statements-loop-statement g l = GainsOperations (flat_map statement_operations (take l.statement-index l.statements)) l.initial.function l.function

@@ -1,0 +1,94 @@
+-- The module of compiled functions.
+use Rattle.std.specs.Prelude.{List, [], ◌∷◌, pos, codes}
+use Rattle.wasm_base.specs.Modules.{SectionReading}
+use Rattle.wasm_base.specs.declared.types.ValType.TheVariants.{I32}
+use Rattle.wasm_code.specs.Bodies.{Body}
+use Rattle.wasm_code.specs.Code.{code_reading}
+use Rattle.wasm_sections.specs.Exports.{ExportItem}
+use Rattle.wasm_sections.specs.Readings.{function_reading, export_reading}
+use Rattle.wasm_sections.specs.declared.export.ExportKind.TheVariants.{Func}
+use Rattle.wasm_types.specs.Readings.{type_reading, plain_type}
+use Rattle.wasm_types.specs.RecTypes.{TypeItem, func}
+use Rattle.examples.specs.Adding.{adding_type}
+use Rattle.examples.specs.Lowering.{body_of}
+use Rattle.examples.specs.declared.lowering.Operator.TheVariants.{Add, Subtract, Multiply}
+use Rattle.examples.specs.declared.lowering.Operation.{Operation}
+use Rattle.examples.specs.declared.lowering.Operation.TheVariants.{Constant, Get, Set, Binary, IsZero, Block, Loop, Branch, BranchIf, Call, Return, End}
+
+-- a function of a number that gives one
+abbrev pub one_number : TypeItem
+one_number = plain_type (func (I32 ∷ []) (I32 ∷ []))
+
+-- the function 1 as `factorial`
+abbrev pub factorial_of : ExportItem
+factorial_of = record { name = codes "factorial"; kind = Func; index = 1 }
+
+-- the function 2 as `squares`
+abbrev pub squares_of : ExportItem
+squares_of = record { name = codes "squares"; kind = Func; index = 2 }
+
+-- the product of the two parameters
+abbrev pub product_operations : List Operation
+product_operations = Get 0 ∷ Get 1 ∷ Binary Multiply ∷ []
+
+-- the product of the numbers from the parameter down to 1
+abbrev pub factorial_operations : List Operation
+factorial_operations =
+    Constant (pos 1) ∷
+    Set 1 ∷
+    Block ∷
+    Loop ∷
+    Get 0 ∷
+    IsZero ∷
+    BranchIf 1 ∷
+    Get 1 ∷
+    Get 0 ∷
+    Call 0 ∷
+    Set 1 ∷
+    Get 0 ∷
+    Constant (pos 1) ∷
+    Binary Subtract ∷
+    Set 0 ∷
+    Branch 0 ∷
+    End ∷
+    End ∷
+    Get 1 ∷
+    Return ∷
+    []
+
+-- the sum of the squares from the parameter down to 1
+abbrev pub squares_operations : List Operation
+squares_operations =
+    Block ∷
+    Loop ∷
+    Get 0 ∷
+    IsZero ∷
+    BranchIf 1 ∷
+    Get 1 ∷
+    Get 0 ∷
+    Get 0 ∷
+    Call 0 ∷
+    Binary Add ∷
+    Set 1 ∷
+    Get 0 ∷
+    Constant (pos 1) ∷
+    Binary Subtract ∷
+    Set 0 ∷
+    Branch 0 ∷
+    End ∷
+    End ∷
+    Get 1 ∷
+    []
+
+-- the bodies in order
+abbrev pub compiled_bodies : List Body
+compiled_bodies = body_of 0 product_operations ∷ body_of 1 factorial_operations ∷ body_of 1 squares_operations ∷ []
+
+-- the sections in order
+abbrev pub compiled_sections : List SectionReading
+compiled_sections =
+    type_reading (adding_type ∷ one_number ∷ [])
+    ∷ function_reading (0 ∷ 1 ∷ 1 ∷ [])
+    ∷ export_reading (factorial_of ∷ squares_of ∷ [])
+    ∷ code_reading compiled_bodies
+    ∷ []

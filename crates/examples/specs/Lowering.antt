@@ -1,0 +1,51 @@
+-- Operations of a stack machine, and the instructions that they become.
+use Rattle.std.specs.Prelude.{ℕ, List, [], ◌∷◌, ◌++◌, map}
+use Rattle.std.specs.declared.alloc.Global.{Global}
+use Rattle.wasm_base.specs.declared.types.ValType.TheVariants.{I32}
+use Rattle.wasm_code.specs.Bodies.{Body, IsPlainBody, and_then}
+use Rattle.wasm_immediates.specs.declared.block_type.BlockType.TheVariants.{Empty}
+use Rattle.wasm_insn.specs.Plain.{Plain}
+use Rattle.wasm_insn.specs.declared.instruction.Instruction.{Instruction}
+use Rattle.wasm_insn.specs.declared.instruction.Instruction.TheVariants as instructions
+use Rattle.wasm_insn.specs.declared.numeric.Numeric.{Numeric}
+use Rattle.wasm_insn.specs.declared.numeric.Numeric.TheVariants.{I32Add, I32Sub, I32Mul, I32Eq, I32LtS, I32Eqz}
+use Rattle.examples.specs.Bodies.{row}
+use Rattle.examples.specs.declared.lowering.Operator.{Operator}
+use Rattle.examples.specs.declared.lowering.Operator.TheVariants.{Add, Subtract, Multiply, Equal, Less}
+use Rattle.examples.specs.declared.lowering.Operation.{Operation}
+use Rattle.examples.specs.declared.lowering.Operation.TheVariants.{Constant, Get, Set, Binary, IsZero, Block, Loop, Branch, BranchIf, Call, Return, End}
+
+-- the numeric instruction of an operator
+unfoldable pub numeric_of : Operator → Numeric
+numeric_of Add = I32Add
+numeric_of Subtract = I32Sub
+numeric_of Multiply = I32Mul
+numeric_of Equal = I32Eq
+numeric_of Less = I32LtS
+
+-- the instruction of an operation
+unfoldable pub instruction_of : Operation → Instruction Global
+instruction_of (Constant value) = instructions.I32Const value
+instruction_of (Get index) = instructions.LocalGet index
+instruction_of (Set index) = instructions.LocalSet index
+instruction_of (Binary operator) = instructions.Numeric (numeric_of operator)
+instruction_of IsZero = instructions.Numeric I32Eqz
+instruction_of Block = instructions.Block Empty
+instruction_of Loop = instructions.Loop Empty
+instruction_of (Branch label) = instructions.Br label
+instruction_of (BranchIf label) = instructions.BrIf label
+instruction_of (Call index) = instructions.Call index
+instruction_of Return = instructions.Return
+instruction_of End = instructions.End
+
+-- the instructions of operations, as a reader finds them
+abbrev pub rows_of : List Operation → List Plain
+rows_of operations = map (λ operation. row (instruction_of operation)) operations
+
+-- the body of operations: locals of 32 bits, the instructions, and `End`
+abbrev pub body_of : (locals : ℕ) → List Operation → Body
+body_of locals operations = record { runs = (locals, I32) ∷ []; code = rows_of operations ++ row (instruction_of End) ∷ [] }
+
+-- Where the old bytes spell a body, the new ones spell it with the instructions of these operations after its own.
+pub record GainsOperations (operations : List Operation) (old new : List ℕ) : Type 0 where
+  pub plain : (x : Body) → IsPlainBody old x → IsPlainBody new (and_then x (rows_of operations))

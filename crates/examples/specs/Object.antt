@@ -1,0 +1,83 @@
+-- The module for a linker.
+use Rattle.std.specs.Prelude.{List, [], ◌∷◌, Some, None, pos, codes}
+use Rattle.wasm_base.specs.Modules.{SectionReading}
+use Rattle.wasm_base.specs.declared.types.ValType.TheVariants.{I32}
+use Rattle.wasm_code.specs.Bodies.{Body}
+use Rattle.wasm_code.specs.Code.{code_reading}
+use Rattle.wasm_custom.specs.Hints.{Hints}
+use Rattle.wasm_custom.specs.Linking.{LinkItem, Symbols}
+use Rattle.wasm_custom.specs.Producers.{Field}
+use Rattle.wasm_custom.specs.Readings.{hints_reading, linking_reading, producers_reading}
+use Rattle.wasm_custom.specs.Symbols.{Symbol, indexed}
+use Rattle.wasm_custom.specs.declared.symbols.SymbolKind.TheVariants as kinds
+use Rattle.wasm_immediates.specs.declared.block_type.BlockType.TheVariants.{Empty}
+use Rattle.wasm_immediates.specs.declared.memory.MemArg.{MemArg}
+use Rattle.wasm_immediates.specs.declared.memory.MemArgTarget.TheVariants.{Memory}
+use Rattle.wasm_insn.specs.declared.instruction.Instruction.TheVariants.{Block, LocalGet, I32Load, I32Store, Numeric, BrIf, I32Const, End}
+use Rattle.wasm_insn.specs.declared.numeric.Numeric.TheVariants.{I32Eqz, I32Sub}
+use Rattle.wasm_sections.specs.Readings.{function_reading, memory_reading}
+use Rattle.wasm_types.specs.Readings.{type_reading, plain_type}
+use Rattle.wasm_types.specs.RecTypes.{TypeItem, func}
+use Rattle.examples.specs.Bodies.{row}
+use Rattle.examples.specs.Whole.{one_page}
+
+-- a function of an address that gives nothing
+abbrev pub address_type : TypeItem
+address_type = plain_type (func (I32 ∷ []) [])
+
+-- the number of 32 bits that stands 8 bytes behind an address
+abbrev pub number_at : MemArg
+number_at = record { offset = 8; align = 2; target = Memory 0; ordering = None }
+
+-- the number becomes one less, where it is not 0
+abbrev pub count_down_body : Body
+count_down_body = record {
+  runs = [];
+  code =
+      row (Block Empty) ∷
+      row (LocalGet 0) ∷
+      row (I32Load number_at) ∷
+      row (Numeric I32Eqz) ∷
+      row (BrIf 0) ∷
+      row (LocalGet 0) ∷
+      row (LocalGet 0) ∷
+      row (I32Load number_at) ∷
+      row (I32Const (pos 1)) ∷
+      row (Numeric I32Sub) ∷
+      row (I32Store number_at) ∷
+      row End ∷
+      row End ∷
+      [];
+}
+
+-- the branch at 9 of the function 0 is not likely to be taken
+abbrev pub unlikely_hints : List Hints
+unlikely_hints = (0, record { branch_func_offset = 9; branch_hint_value = 0 } ∷ []) ∷ []
+
+-- the function 0 as `count_down`, exported from the linked module
+abbrev pub count_down_symbol : Symbol
+count_down_symbol = indexed kinds.Function 0x20 0 (Some (codes "count_down"))
+
+-- the table of this symbol
+abbrev pub links : List LinkItem
+links = Symbols (count_down_symbol ∷ []) ∷ []
+
+-- processed by version 0.1.0 of this
+abbrev pub producers_fields : List Field
+producers_fields = (codes "processed-by", (codes "dolzhytik", codes "0.1.0") ∷ []) ∷ []
+
+-- the sections of types, functions and memories
+abbrev pub object_types : List SectionReading
+object_types = type_reading (address_type ∷ []) ∷ function_reading (0 ∷ []) ∷ memory_reading (one_page ∷ []) ∷ []
+
+-- the sections in order
+abbrev pub object_sections : List SectionReading
+object_sections =
+    type_reading (address_type ∷ [])
+    ∷ function_reading (0 ∷ [])
+    ∷ memory_reading (one_page ∷ [])
+    ∷ hints_reading unlikely_hints
+    ∷ code_reading (count_down_body ∷ [])
+    ∷ linking_reading links
+    ∷ producers_reading producers_fields
+    ∷ []

@@ -1,0 +1,107 @@
+// A compiler from the operations of a stack machine.
+ghost use Rattle.std.specs.Prelude.{◌≡◌, [], ◌∷◌, IfOk, OnOk};
+ghost use Rattle.wasm_code.specs.Bodies.{IsPlainBody};
+ghost use Rattle.wasm_insn.specs.Instructions.{IsPlainInstruction};
+ghost use Rattle.examples.specs.Lowering.{numeric_of, instruction_of, GainsOperations, body_of};
+
+use std::alloc::Allocator;
+use wasm_base::{R, ValType};
+use wasm_code::Function;
+use wasm_immediates::BlockType;
+use wasm_insn::{Instruction, Numeric};
+
+/// What is done with two numbers of 32 bits.
+#[derive(Clone, Copy, Debug)]
+pub enum Operator {
+    Add,
+    Subtract,
+    Multiply,
+    /// 1 where both are the same, and else 0.
+    Equal,
+    /// 1 where the first is less, both with a sign, and else 0.
+    Less,
+}
+
+/// An operation of a stack machine, whose numbers have 32 bits.
+#[derive(Clone, Copy, Debug)]
+pub enum Operation {
+    Constant(i32),
+    Get(u32),
+    Set(u32),
+    Binary(Operator),
+    /// 1 where the number is 0, and else 0.
+    IsZero,
+    Block,
+    Loop,
+    /// To the end of a block or the start of a loop, 0 for the innermost.
+    Branch(u32),
+    /// The same where the number is not 0.
+    BranchIf(u32),
+    Call(u32),
+    Return,
+    /// The end of a block or a loop.
+    End,
+}
+
+/// The numeric instruction of an operator.
+#[tactic(auto, unfolding(crate::specs::Lowering::numeric_of))]
+fn numeric(operator: Operator) -> Numeric
+    ensures { result ≡ numeric_of operator }
+{
+    match operator {
+        Operator::Add => Numeric::I32Add,
+        Operator::Subtract => Numeric::I32Sub,
+        Operator::Multiply => Numeric::I32Mul,
+        Operator::Equal => Numeric::I32Eq,
+        Operator::Less => Numeric::I32LtS,
+    }
+}
+
+/// The instruction of an operation.
+#[tactic(auto, unfolding(crate::specs::Lowering::instruction_of))]
+pub fn lower(operation: Operation) -> Instruction<'static>
+    ensures same { result ≡ instruction_of operation }
+    ensures plain { IsPlainInstruction result }
+{
+    match operation {
+        Operation::Constant(value) => Instruction::I32Const(value),
+        Operation::Get(index) => Instruction::LocalGet(index),
+        Operation::Set(index) => Instruction::LocalSet(index),
+        Operation::Binary(operator) => Instruction::Numeric(numeric(operator)),
+        Operation::IsZero => Instruction::I32Eqz,
+        Operation::Block => Instruction::Block(BlockType::Empty),
+        Operation::Loop => Instruction::Loop(BlockType::Empty),
+        Operation::Branch(label) => Instruction::Br(label),
+        Operation::BranchIf(label) => Instruction::BrIf(label),
+        Operation::Call(index) => Instruction::Call(index),
+        Operation::Return => Instruction::Return,
+        Operation::End => Instruction::End,
+    }
+}
+
+/// Adds the instruction of an operation.
+pub(crate) fn emit<A: Allocator>(function: &mut Function<A>, operation: Operation) -> R<()>
+    ensures { OnOk result (GainsOperations (operation ∷ []) function.old function.new) }
+{
+    function.instruction(&lower(operation))
+}
+
+/// Adds the instructions of operations.
+fn emit_all<A: Allocator>(function: &mut Function<A>, operations: &[Operation]) -> R<()>
+    ensures { OnOk result (GainsOperations operations.now function.old function.new) }
+{
+    for operation in operations {
+        emit(function, *operation)?;
+    }
+    Ok(())
+}
+
+/// A function with so many locals of 32 bits behind its parameters, which does these operations.
+pub fn compile<A: Allocator>(alloc: A, locals: u32, operations: &[Operation]) -> R<Function<A>>
+    ensures { IfOk result (λ function. IsPlainBody function (body_of locals operations.now)) }
+{
+    let mut function = Function::new(alloc, [(locals, ValType::I32)])?;
+    emit_all(&mut function, operations)?;
+    emit(&mut function, Operation::End)?;
+    Ok(function)
+}

@@ -1,0 +1,142 @@
+// A module for a linker: hints, symbols and producers beside the code.
+ghost use Rattle.std.specs.Prelude.{[], ◌∷◌, IfOk, OnOk};
+ghost use Rattle.wasm_base.specs.Modules.{ReadsSections};
+ghost use Rattle.wasm_code.specs.Bodies.{IsPlainBody};
+ghost use Rattle.wasm_code.specs.Code.{SpellsBodies};
+ghost use Rattle.wasm_custom.specs.Readings.{AreSymbols, HoldsLinks, HoldsFields, HoldsHints};
+ghost use Rattle.wasm_sections.specs.Readings.{HoldsFunctions};
+ghost use Rattle.wasm_types.specs.Readings.{HoldsTypes};
+ghost use Rattle.examples.specs.Object.{address_type, count_down_body, unlikely_hints, count_down_symbol, links, producers_fields, object_types, object_sections};
+
+use crate::whole::memories;
+use std::alloc::Allocator;
+use wasm_base::{Module, R, ValType};
+use wasm_code::{CodeSection, Function};
+use wasm_custom::{
+    BranchHint, BranchHints, LinkingSection, ProducersField, ProducersSection, SymbolTable,
+};
+use wasm_immediates::{BlockType, MemArg, MemArgTarget};
+use wasm_sections::FunctionSection;
+use wasm_types::TypeSection;
+
+/// The number of 32 bits that stands 8 bytes behind an address.
+const NUMBER: MemArg = MemArg {
+    offset: 8,
+    align: 2,
+    target: MemArgTarget::Memory(0),
+    ordering: None,
+};
+
+/// A module for a linker: a function that counts down a number in memory, a hint of its branch, its symbol, and what has produced it.
+pub fn object_module<A: Allocator + Copy>(alloc: A) -> R<Vec<u8, A>>
+    ensures { IfOk result (λ bytes. ReadsSections object_sections bytes.items) }
+{
+    let mut module = Module::new(alloc)?;
+    add_types(&mut module, alloc)?;
+    module.section(&hints(alloc)?)?;
+    module.section(&code(alloc)?)?;
+    module.section(&linking(alloc)?)?;
+    module.section(&producers(alloc)?)?;
+    Ok(module.finish())
+}
+
+/// Adds the types, the functions and the memory.
+fn add_types<A: Allocator + Copy>(module: &mut Module<A>, alloc: A) -> R<()>
+    ensures { ReadsSections [] module.old → OnOk result (ReadsSections object_types module.new) }
+{
+    module.section(&types(alloc)?)?;
+    module.section(&functions(alloc)?)?;
+    module.section(&memories(alloc)?)?;
+    Ok(())
+}
+
+/// The type of the function.
+fn types<A: Allocator + Copy>(alloc: A) -> R<TypeSection<A>>
+    ensures { IfOk result (λ section. HoldsTypes section (address_type ∷ [])) }
+{
+    let mut section = TypeSection::new(alloc);
+    section.ty().function([ValType::I32], [])?;
+    Ok(section)
+}
+
+/// The function is of the type 0.
+fn functions<A: Allocator + Copy>(alloc: A) -> R<FunctionSection<A>>
+    ensures { IfOk result (λ section. HoldsFunctions section (0 ∷ [])) }
+{
+    let mut section = FunctionSection::new(alloc);
+    section.function(0)?;
+    Ok(section)
+}
+
+/// The branch of the function 0, which begins 9 bytes after its raw body, is not likely to be taken.
+fn hints<A: Allocator + Copy>(alloc: A) -> R<BranchHints<A>>
+    ensures { IfOk result (λ section. HoldsHints section unlikely_hints) }
+{
+    let hint = BranchHint {
+        branch_func_offset: 9,
+        branch_hint_value: 0,
+    };
+    let mut section = BranchHints::new(alloc);
+    section.function_hints(0, [hint])?;
+    Ok(section)
+}
+
+/// The body of the function.
+fn code<A: Allocator + Copy>(alloc: A) -> R<CodeSection<A>>
+    ensures { IfOk result (λ section. SpellsBodies section (count_down_body ∷ [])) }
+{
+    let mut section = CodeSection::new(alloc);
+    section.function(&count_down(alloc)?)?;
+    Ok(section)
+}
+
+/// The number becomes one less, where it is not 0.
+fn count_down<A: Allocator>(alloc: A) -> R<Function<A>>
+    ensures { IfOk result (λ function. IsPlainBody function count_down_body) }
+{
+    let mut function = Function::new(alloc, [])?;
+    let mut sink = function.instructions();
+    sink.block(BlockType::Empty)?;
+    sink.local_get(0)?;
+    sink.i32_load(NUMBER)?;
+    sink.i32_eqz()?;
+    sink.br_if(0)?;
+    sink.local_get(0)?;
+    sink.local_get(0)?;
+    sink.i32_load(NUMBER)?;
+    sink.i32_const(1)?;
+    sink.i32_sub()?;
+    sink.i32_store(NUMBER)?;
+    sink.end()?;
+    sink.end()?;
+    Ok(function)
+}
+
+/// The symbol of the function 0, which is exported from the linked module.
+fn symbols<A: Allocator + Copy>(alloc: A) -> R<SymbolTable<A>>
+    ensures { IfOk result (λ table. AreSymbols table (count_down_symbol ∷ [])) }
+{
+    let mut table = SymbolTable::new(alloc);
+    table.function(SymbolTable::WASM_SYM_EXPORTED, 0, Some("count_down"))?;
+    Ok(table)
+}
+
+/// What a linker needs to know.
+fn linking<A: Allocator + Copy>(alloc: A) -> R<LinkingSection<A>>
+    ensures { IfOk result (λ section. HoldsLinks section links) }
+{
+    let mut section = LinkingSection::new(alloc);
+    section.symbol_table(&symbols(alloc)?)?;
+    Ok(section)
+}
+
+/// What has produced the module.
+fn producers<A: Allocator + Copy>(alloc: A) -> R<ProducersSection<A>>
+    ensures { IfOk result (λ section. HoldsFields section producers_fields) }
+{
+    let mut values = ProducersField::new(alloc);
+    values.value("dolzhytik", "0.1.0")?;
+    let mut section = ProducersSection::new(alloc);
+    section.field("processed-by", &values)?;
+    Ok(section)
+}
