@@ -6,7 +6,11 @@ use crate::checks::check_bytes;
 use crate::callers::instructions::{append_call, append_end, append_sum, block};
 use crate::callers::read_back::{shortened_function, write_function, write_names, written_function, written_names};
 use crate::callers::readings::{load_of_alignment_16, pieces_of_a_constant};
+use crate::examples::{encode_given_import, encode_memories, grow, grow_by_each};
+use dolzhytik::code::Function;
+use dolzhytik::insn::Instruction;
 use dolzhytik::reader::Items;
+use dolzhytik::sections::{EntityType, Import, MemoryType};
 
 /// The name section of a module `m`, whose first function is `f`, without its id.
 const NAMES: &[u8] = &[
@@ -60,4 +64,37 @@ fn names() {
         Items::Names(items) => assert_eq!(rt; items.len(), 2),
         _ => assert!(rt; false, "a name section"),
     }
+}
+
+#[test]
+fn grown() {
+    let rt = crate::host::HostRuntime;
+    let mut function = Function::new(rt.alloc(), []).expect("accepted");
+    grow(&mut function, &Instruction::I32Const(1)).expect("accepted");
+    let more = [Instruction::Drop, Instruction::End];
+    grow_by_each(&mut function, &more).expect("accepted");
+    check_bytes(&rt, &function.into_raw_body(), &[0, 0x41, 0x01, 0x1A, 0x0B])
+}
+
+#[test]
+fn handed_in() {
+    let rt = crate::host::HostRuntime;
+    let import = Import {
+        module: "m",
+        name: "n",
+        ty: EntityType::Function(1),
+    };
+    let mut sink = Vec::new(rt.alloc());
+    encode_given_import(&mut sink, &import).expect("accepted");
+    check_bytes(&rt, &sink, &[7, 1, 1, b'm', 1, b'n', 0, 1]);
+    let memory = MemoryType {
+        minimum: 1,
+        maximum: None,
+        memory64: false,
+        shared: false,
+        page_size_log2: None,
+    };
+    let mut sink = Vec::new(rt.alloc());
+    encode_memories(&mut sink, &[memory]).expect("accepted");
+    check_bytes(&rt, &sink, &[3, 1, 0, 1])
 }
