@@ -1,4 +1,5 @@
-use Rattle.std.proofs.Common.{arith, refl}
+-- Written by tools/answers.
+use Rattle.std.proofs.Common.{refl, arith}
 use Rattle.wasm_base.proofs.Calls.{ascii}
 use Rattle.wasm_sections.proofs.Calls.{new_exports, adds_export}
 use Rattle.examples.specs.Compiled.{factorial_of, squares_of}
@@ -6,5 +7,5 @@ use Rattle.examples.proofs.compiled.exports.Goals as goal
 
 pub returns : goal.returns
 returns g c =
-    let first = adds_export (new_exports c.new-section.ensures) factorial_of c.in_ok-export.ensures.ok c.in_ok-export.ensures.fitted (ascii refl) (omega arith) in
-    adds_export first squares_of c.in_ok-export-2.ensures.ok c.in_ok-export-2.ensures.fitted (ascii refl) (omega arith)
+    let s1 = adds_export (new_exports c.new-section.ensures) factorial_of c.in_ok-export.ensures.ok c.in_ok-export.ensures.fitted (ascii refl) (omega arith) in
+    adds_export s1 squares_of c.in_ok-export-2.ensures.ok c.in_ok-export-2.ensures.fitted (ascii refl) (omega arith)

@@ -1,9 +1,10 @@
+-- Written by tools/answers.
 use Rattle.std.proofs.Common.{arith}
 use Rattle.wasm_sections.proofs.Calls.{new_functions, adds_item}
 use Rattle.examples.proofs.compiled.functions.Goals as goal
 
 pub returns : goal.returns
 returns g c =
-    let first = adds_item (new_functions c.new-section.ensures) 0 c.in_ok-function.ensures.ok (omega arith) in
-    let second = adds_item first 1 c.in_ok-function-2.ensures.ok (omega arith) in
-    adds_item second 1 c.in_ok-function-3.ensures.ok (omega arith)
+    let s1 = adds_item (new_functions c.new-section.ensures) 0 c.in_ok-function.ensures.ok (omega arith) in
+    let s2 = adds_item s1 1 c.in_ok-function-2.ensures.ok (omega arith) in
+    adds_item s2 1 c.in_ok-function-3.ensures.ok (omega arith)

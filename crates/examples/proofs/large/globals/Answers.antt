@@ -1,3 +1,4 @@
+-- Written by tools/answers.
 use Rattle.std.proofs.Common.{arith}
 use Rattle.std.proofs.lemmas.Int.{ints}
 use Rattle.wasm_code.proofs.Calls.{one_constant}
@@ -7,5 +8,5 @@ use Rattle.examples.proofs.large.globals.Goals as goal
 
 pub returns : goal.returns
 returns g c =
-    let init = one_constant c.in_ok-i64_const.ensures.stores ((omega (arith, ints), omega (arith, ints)), tt) in
-    adds_global (new_globals c.new-section.ensures) large_constant _ c.in_ok-global.ensures.ok tt init
+    let e1 = one_constant c.in_ok-i64_const.ensures.stores ((omega (arith, ints), omega (arith, ints)), tt) in
+    adds_global (new_globals c.new-section.ensures) large_constant _ c.in_ok-global.ensures.ok tt e1

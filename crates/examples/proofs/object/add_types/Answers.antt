@@ -1,9 +1,10 @@
+-- Written by tools/answers.
 use Rattle.wasm_sections.proofs.Calls.{gains_functions, gains_memories}
 use Rattle.wasm_types.proofs.Calls.{gains_types}
 use Rattle.examples.proofs.object.add_types.Goals as goal
 
 pub returns : goal.returns
 returns g c before =
-    let types = gains_types before c.in_ok-section.ensures.read c.in_ok-section.ensures.fitted c.in_ok-section.ensures.section c.in_ok-types.ensures in
-    let functions = gains_functions types c.in_ok-section-2.ensures.read c.in_ok-section-2.ensures.fitted c.in_ok-section-2.ensures.section c.in_ok-functions.ensures in
-    gains_memories functions c.in_ok-section-3.ensures.read c.in_ok-section-3.ensures.fitted c.in_ok-section-3.ensures.section c.in_ok-memories.ensures
+    let m1 = gains_types before c.in_ok-section.ensures.read c.in_ok-section.ensures.fitted c.in_ok-section.ensures.section c.in_ok-types.ensures in
+    let m2 = gains_functions m1 c.in_ok-section-2.ensures.read c.in_ok-section-2.ensures.fitted c.in_ok-section-2.ensures.section c.in_ok-functions.ensures in
+    gains_memories m2 c.in_ok-section-3.ensures.read c.in_ok-section-3.ensures.fitted c.in_ok-section-3.ensures.section c.in_ok-memories.ensures

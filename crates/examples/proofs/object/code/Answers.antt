@@ -1,3 +1,4 @@
+-- Written by tools/answers.
 use Rattle.wasm_code.proofs.Calls.{new_code, adds_body}
 use Rattle.examples.proofs.object.code.Goals as goal
 

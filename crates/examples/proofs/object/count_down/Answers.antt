@@ -1,28 +1,31 @@
-use Rattle.std.proofs.Common.{arith, pos, rules}
+-- Written by tools/answers.
+use Rattle.std.proofs.Common.{arith, None, pos, rules}
 use Rattle.std.proofs.lemmas.Int.{ints}
+use Rattle.wasm_base.proofs.KnownLengths.{drained_array}
 use Rattle.wasm_code.proofs.Calls.{new_function, lent, writes_instruction}
 use Rattle.wasm_immediates.specs.declared.block_type.BlockType.TheVariants.{Empty}
-use Rattle.wasm_immediates.specs.PlainImmediates.{IsPlainMemory}
-use Rattle.wasm_insn.specs.declared.instruction.Instruction.TheVariants.{Block, LocalGet, I32Load, I32Store, Numeric, BrIf, I32Const, End}
+use Rattle.wasm_immediates.specs.declared.memory.MemArgTarget.TheVariants.{Memory}
+use Rattle.wasm_insn.specs.declared.instruction.Instruction.TheVariants.{Block, LocalGet, I32Load, Numeric, BrIf, I32Const, I32Store, End}
 use Rattle.wasm_insn.specs.declared.numeric.Numeric.TheVariants.{I32Eqz, I32Sub}
-use Rattle.examples.specs.Object.{number_at}
 use Rattle.examples.proofs.object.count_down.Goals as goal
 
 pub returns : goal.returns
 returns g c =
-    let plain : IsPlainMemory number_at = record { align = omega arith; target = omega arith; offset = omega arith } in
-    let begun = lent (new_function c.in_ok-function.ensures tt) c.instructions-sink.ensures.same in
-    let b1 = writes_instruction begun (Block Empty) c.in_ok-block.ensures.writes.bytes (tt, tt) in
-    let b2 = writes_instruction b1 (LocalGet 0) c.in_ok-local_get.ensures.writes.bytes (omega arith, tt) in
-    let b3 = writes_instruction b2 (I32Load number_at) c.in_ok-i32_load.ensures.writes.bytes (plain, tt) in
-    let b4 = writes_instruction b3 (Numeric I32Eqz) c.in_ok-i32_eqz.ensures.writes.bytes tt in
-    let b5 = writes_instruction b4 (BrIf 0) c.in_ok-br_if.ensures.writes.bytes (omega arith, tt) in
-    let b6 = writes_instruction b5 (LocalGet 0) c.in_ok-local_get-2.ensures.writes.bytes (omega arith, tt) in
-    let b7 = writes_instruction b6 (LocalGet 0) c.in_ok-local_get-3.ensures.writes.bytes (omega arith, tt) in
-    let b8 = writes_instruction b7 (I32Load number_at) c.in_ok-i32_load-2.ensures.writes.bytes (plain, tt) in
-    let b9 = writes_instruction b8 (I32Const (pos 1)) c.in_ok-i32_const.ensures.writes.bytes ((omega (arith, ints), omega (arith, ints)), tt) in
-    let b10 = writes_instruction b9 (Numeric I32Sub) c.in_ok-i32_sub.ensures.writes.bytes tt in
-    let b11 = writes_instruction b10 (I32Store number_at) c.in_ok-i32_store.ensures.writes.bytes (plain, tt) in
-    let b12 = writes_instruction b11 End c.in_ok-end.ensures.writes.bytes tt in
-    let b13 = writes_instruction b12 End c.in_ok-end-2.ensures.writes.bytes tt in
-    lent b13 (search rules)
+    let b1 = lent (new_function c.in_ok-function.ensures tt) c.instructions-sink.ensures.same in
+    let b2 = writes_instruction b1 (Block Empty) c.in_ok-block.ensures.writes.bytes (tt, tt) in
+    let b3 = writes_instruction b2 (LocalGet 0) c.in_ok-local_get.ensures.writes.bytes (omega arith, tt) in
+    let b4 = writes_instruction b3 (I32Load (record { offset = 8; align = 2; target = Memory 0; ordering = None })) c.in_ok-i32_load.ensures.writes.bytes (record { align = omega arith; target = omega arith; offset = omega arith }, tt) in
+    let b5 = writes_instruction b4 (Numeric I32Eqz) c.in_ok-i32_eqz.ensures.writes.bytes tt in
+    let b6 = writes_instruction b5 (BrIf 0) c.in_ok-br_if.ensures.writes.bytes (omega arith, tt) in
+    let b7 = writes_instruction b6 (LocalGet 0) c.in_ok-local_get-2.ensures.writes.bytes (omega arith, tt) in
+    let b8 = writes_instruction b7 (LocalGet 0) c.in_ok-local_get-3.ensures.writes.bytes (omega arith, tt) in
+    let b9 = writes_instruction b8 (I32Load (record { offset = 8; align = 2; target = Memory 0; ordering = None })) c.in_ok-i32_load-2.ensures.writes.bytes (record { align = omega arith; target = omega arith; offset = omega arith }, tt) in
+    let b10 = writes_instruction b9 (I32Const (pos 1)) c.in_ok-i32_const.ensures.writes.bytes ((omega (arith, ints), omega (arith, ints)), tt) in
+    let b11 = writes_instruction b10 (Numeric I32Sub) c.in_ok-i32_sub.ensures.writes.bytes tt in
+    let b12 = writes_instruction b11 (I32Store (record { offset = 8; align = 2; target = Memory 0; ordering = None })) c.in_ok-i32_store.ensures.writes.bytes (record { align = omega arith; target = omega arith; offset = omega arith }, tt) in
+    let b13 = writes_instruction b12 End c.in_ok-end.ensures.writes.bytes tt in
+    let b14 = writes_instruction b13 End c.in_ok-end-2.ensures.writes.bytes tt in
+    lent b14 (search rules)
+
+pub new-requires : goal.new-requires
+new-requires g c = record { can = λ it b. tt; told = λ it xs b d. drained_array it xs d }

@@ -1,3 +1,4 @@
+-- Written by tools/answers.
 use Rattle.std.proofs.Common.{arith}
 use Rattle.wasm_sections.proofs.Calls.{new_functions, adds_item}
 use Rattle.examples.proofs.object.functions.Goals as goal

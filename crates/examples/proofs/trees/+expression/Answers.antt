@@ -1,8 +1,6 @@
 use Rattle.std.proofs.Common.{sym}
-use Rattle.std.specs.List.{flat_map}
 use Rattle.examples.proofs.Gains.{gains_member, gains_last}
 use Rattle.examples.proofs.Rows.{call_listed}
-use Rattle.examples.specs.Lowering.{GainsOperations}
 use Rattle.examples.specs.Trees.{expr_operations}
 use Rattle.examples.proofs.trees.+expression.Goals as goal
 
