@@ -59,10 +59,10 @@ pub struct Row {
     pub shape: &'static str,
 }
 
-/// All opcodes: lines of bytes or of a prefix and a number, a name, and a shape.
+/// All opcodes: below a line of names, lines of bytes or of a prefix and a number, a name, and a shape.
 pub fn table() -> &'static [Row] {
     static TABLE: OnceLock<Vec<Row>> = OnceLock::new();
-    TABLE.get_or_init(|| include_str!("../tools/opcodes.tsv").lines().map(row).collect())
+    TABLE.get_or_init(|| include_str!("../tools/instructions.tsv").lines().skip(1).map(row).collect())
 }
 
 fn row(line: &'static str) -> Row {

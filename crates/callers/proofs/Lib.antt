@@ -1,4 +1,3 @@
 pub mod Branch
-pub mod Held
 pub mod OneByte
 pub mod ReadBodies

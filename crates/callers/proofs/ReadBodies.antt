@@ -40,11 +40,11 @@ no_instructions : IsPlainBody (0x00 ∷ []) (without_locals [])
 no_instructions = (has_locals [] (0x00 ∷ []) no_runs).plain (omega arith) (λ k d l. absurd (omega (arith, l)))
 
 pub load-read : ReadsWhole body (0x00 ∷ 0x28 ∷ 0x10 ∷ 0x00 ∷ 0x0B ∷ []) (without_locals (ordered_load ∷ []))
-load-read = reads_whole {F = body} body-whole ((grows load (0x00 ∷ []) _ load_is).plain (record { align = omega arith; target = omega arith; offset = omega arith }, tt) (without_locals []) no_instructions)
+load-read = reads_whole {F = body} body-whole ((grows load (0x00 ∷ []) _ load_is).plain (record { align = omega arith; target = omega arith; offset = omega arith }, tt) (without_locals []) no_instructions).spelled
 
 pub constant-read : ReadsWhole body (0x00 ∷ 0x41 ∷ 0x01 ∷ 0x0B ∷ []) (without_locals constant_and_end)
 constant-read =
     let first = (grows one (0x00 ∷ []) _ one_is).plain ((omega (arith, ints), omega (arith, ints)), tt) (without_locals []) no_instructions in
-    reads_whole {F = body} body-whole ((grows end (0x00 ∷ 0x41 ∷ 0x01 ∷ []) _ end_is).plain tt _ first)
+    reads_whole {F = body} body-whole ((grows end (0x00 ∷ 0x41 ∷ 0x01 ∷ []) _ end_is).plain tt _ first).spelled
 
 pub ruleset readings = (load-read, constant-read)

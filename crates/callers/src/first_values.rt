@@ -1,9 +1,10 @@
 //! Callers that add items whose first values are expressions, and prove what a reader finds.
 ghost use Rattle.std.specs.Prelude.{[], ◌∷◌, OnOk};
 ghost use Rattle.wasm_base.specs.Entries.{counted_format};
+ghost use Rattle.wasm_base.specs.Modules.{GainsReading};
 ghost use Rattle.wasm_sections.specs.Globals.{global_item};
 ghost use Rattle.wasm_sections.specs.Tables.{table_item};
-ghost use Rattle.callers.specs.FirstValues.{GainsReading, copied, null_table, nulled_table};
+ghost use Rattle.callers.specs.FirstValues.{copied, null_table, nulled_table};
 
 use std::alloc::Allocator;
 use wasm_base::{Encode, HeapType, R, RefType, ValType};

@@ -3,9 +3,11 @@
 
 pub mod bodies;
 pub mod first_values;
+pub mod handed;
 pub mod instructions;
 #[cfg(test)]
 mod once;
+pub mod padded;
 pub mod read_back;
 pub mod readings;
 pub mod walks;

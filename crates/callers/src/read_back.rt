@@ -7,9 +7,14 @@ ghost use Rattle.wasm_custom.specs.Names.{Module, Map};
 ghost use Rattle.wasm_custom.specs.Readings.{name_payload};
 ghost use Rattle.wasm_reader_base.specs.declared.fault.ReadFault.TheVariants.{Memory};
 ghost use Rattle.wasm_base.specs.Numbers.{wide};
-ghost use Rattle.wasm_base.specs.Reading.{Reads};
-ghost use Rattle.wasm_reader.specs.Sections.{Functions, Names, contents_of, section};
+ghost use Rattle.wasm_base.specs.Reading.{Reads, ReadsNothing};
+ghost use Rattle.wasm_reader.specs.Sections.{Functions, Names, contents_of, section, Takes, Shortens};
 ghost use Rattle.wasm_reader.specs.declared.section.SectionKind.TheVariants as kinds;
+
+pub mod custom;
+pub mod declared;
+pub mod dumps;
+pub mod stored;
 
 use std::alloc::Allocator;
 use wasm_base::{Encode, R};
@@ -19,6 +24,22 @@ use wasm_reader::{
 };
 use wasm_reader_base::ReadFault;
 use wasm_sections::FunctionSection;
+
+/// Reads the section of this kind that a buffer holds, and shortens it.
+pub(crate) fn read_and_shorten<'a, A: Allocator + Copy + 'a>(
+    kind: SectionKind,
+    text: &'a Vec<u8, A>,
+    sink: &mut Vec<u8, A>,
+) -> Result<Items<'a, A>, ReadFault>
+    ensures found { IfOk result (λ items. (n : ℕ) × Takes kind text.now.items (contents_of items) n) }
+    ensures shortened { OnOk result ((n : ℕ) × Shortens kind text.now.items n sink.old.items sink.new.items) }
+    ensures err { OnErr result (sink.new.items ≡ sink.old.items) }
+    ensures none { IfErr result (λ e. e ≢ Memory → ReadsNothing (section kind) wide text.now.items) }
+{
+    let (items, _taken) = read_section(*text.allocator(), kind, text.as_slice())?;
+    shorten(kind, text.as_slice(), sink)?;
+    Ok(items)
+}
 
 /// A function section of one function.
 pub fn write_function<A: Allocator + Copy>(sink: &mut Vec<u8, A>, index: u32) -> R<()>
@@ -30,7 +51,7 @@ pub fn write_function<A: Allocator + Copy>(sink: &mut Vec<u8, A>, index: u32) ->
 }
 
 /// Reads a function section that was written: the answer is the index that was added, and no cause but `Memory` is given.
-pub fn written_function<'a, A: Allocator + Copy>(
+pub fn written_function<'a, A: Allocator + Copy + 'a>(
     text: &'a mut Vec<u8, A>,
     index: u32,
 ) -> Result<Items<'a, A>, ReadFault>
@@ -68,7 +89,7 @@ pub fn shortened_function<A: Allocator + Copy>(
 
 /// Reads a section that is a function section which was written, some of its numbers padded, and shortens it: the items are those that were added, and what is appended is
 /// the section as it was written.
-pub fn padded_function<'a, A: Allocator + Copy>(
+pub fn padded_function<'a, A: Allocator + Copy + 'a>(
     text: &mut Vec<u8, A>,
     index: u32,
     padded: &'a [u8],
@@ -102,7 +123,7 @@ pub fn write_names<A: Allocator + Copy>(sink: &mut Vec<u8, A>, name: &str, funct
 }
 
 /// Reads a name section that was written: the answer is the names that were added, and no cause but `Memory` is given.
-pub fn written_names<'a, A: Allocator + Copy>(
+pub fn written_names<'a, A: Allocator + Copy + 'a>(
     text: &'a mut Vec<u8, A>,
     name: &str,
     function: &str,

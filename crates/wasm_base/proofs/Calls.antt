@@ -8,13 +8,15 @@ use Rattle.std.specs.Prelude.{OnOk}
 use Rattle.std.specs.declared.vec.Vec.{Vec}
 use Rattle.wasm_base.specs.declared.refused.Refused.{Refused}
 use Rattle.wasm_base.specs.Calls.{AddsEach, Appends, ReadsOneMore, ReadsBack, ReadsBackBoth}
-use Rattle.wasm_base.specs.Entries.{HoldsItems, HoldsWide}
+use Rattle.wasm_base.specs.Entries.{Kind, HoldsItems, HoldsWide, counted_format}
 use Rattle.wasm_base.specs.Laws.{HoldsMoreWide}
-use Rattle.wasm_base.specs.Numbers.{wide}
-use Rattle.wasm_base.specs.Formats.{Format, any_bytes, frame, wasm_module}
-use Rattle.wasm_base.specs.Modules.{SectionReading, reading_of, wide_reading_of, raw_reading, AreRead, ReadsSections, ReadsPayloads, GainsReadingWide}
+use Rattle.wasm_base.specs.Numbers.{shortest, wide}
+use Rattle.wasm_base.specs.Formats.{Format, any_bytes, frame, vec, wasm_module}
+use Rattle.wasm_base.specs.Modules.{SectionReading, reading_of, wide_reading_of, raw_reading, AreRead, ReadsSections, ReadsPayloads, GainsReading, GainsReadingWide}
+use Rattle.wasm_base.specs.Pieces.{SectionPayload, SectionFits, section_text, section_framed}
 use Rattle.wasm_base.specs.Reading.{ReadsAlone, ReadsAloneWide, ReadsWhole}
 use Rattle.wasm_base.specs.Texts.{IsFrameOf, frame_text, FrameFits, raw_framed}
+use Rattle.wasm_base.proofs.HeldLaws.{holds_more}
 use Rattle.wasm_base.proofs.Payloads.{bytes-payload, payload-reads-wide}
 
 are_read-more : (readings : List SectionReading) (sections : List (ℕ × List ℕ)) (reading : SectionReading) (section : ℕ × List ℕ) → AreRead readings sections → section.0 ≡ reading.0 → reading.1 section.1
@@ -65,29 +67,66 @@ gains_raw {bytes = bytes} before more fits reads =
 pub finished : {readings : List SectionReading} {old bytes : List ℕ} → ReadsSections readings old → bytes ≡ old → ReadsSections readings bytes
 finished {readings = readings} before same = subst (λ s. ReadsSections readings s) (sym same) before
 
+-- ---- sections of items of a kind
+
+-- a new section
+pub new_section : {Record Item : Type 0} {kind : Kind Record Item} {entries : List (List ℕ)} → entries ≡ [] → HoldsItems kind entries []
+new_section e = record { entries = []; held = e; meant = tt }
+
+-- an item that is the normal form of a plain record: a function's type, a memory, an import, a tag
+pub adds_item : {Record Item : Type 0} {kind : Kind Record Item} {old new : List (List ℕ)} {items : List Item} → HoldsItems kind old items → (given : Record) → new ≡ old ++ kind.text given ∷ [] → kind.IsPlain given
+    → HoldsItems kind new (items ++ kind.normal_form given ∷ [])
+adds_item {kind = kind} {old = old} {items = items} before given e plain =
+    subst (λ entries. HoldsItems kind entries (items ++ kind.normal_form given ∷ [])) (sym e) ((holds_more kind).given old items given before plain)
+
+-- all items of a list
+pub adds_items : {Record Item : Type 0} {kind : Kind Record Item} {Fits : Record → Type 0} {old new : List (List ℕ)} {items : List Item} {given : List Record} → HoldsItems kind old items → AddsEach kind.text Fits given old new
+    → AllByRecursion kind.IsPlain given → HoldsItems kind new (items ++ map kind.normal_form given)
+adds_items {kind = kind} {old = old} {items = items} {given = given} before added plain =
+    subst (λ entries. HoldsItems kind entries (items ++ map kind.normal_form given)) (sym added.is) ((holds_more kind).all old items given before plain)
+
+-- an item that given bytes spell in shortest form: of elements, data and globals
+pub adds_raw : {Record Item : Type 0} {kind : Kind Record Item} {old new : List (List ℕ)} {items : List Item} {piece : List ℕ} → HoldsItems kind old items → (item : Item) → new ≡ old ++ piece ∷ [] → kind.format shortest piece item
+    → HoldsItems kind new (items ++ item ∷ [])
+adds_raw {kind = kind} {old = old} {items = items} {piece = piece} before item e spelled =
+    subst (λ entries. HoldsItems kind entries (items ++ item ∷ [])) (sym e) ((holds_more kind).raw old items piece item before spelled)
+
+-- a module and one more section of counted items
+pub gains_items : {Record Item : Type 0} {kind : Kind Record Item} {readings : List SectionReading} {id : ℕ} {old new : List ℕ} {entries : List (List ℕ)} {items : List Item} → ReadsPayloads (vec kind.format) → ReadsSections readings old
+    → ReadsOneMore (SectionPayload entries) id old new → SectionFits entries → ReadsBackBoth (counted_format kind.format) (HoldsItems kind entries) (HoldsWide kind.format entries) (section_text entries) → HoldsItems kind entries items
+    → ReadsSections (readings ++ reading_of id (vec kind.format) items ∷ []) new
+gains_items {kind = kind} {entries = entries} {items = items} payloads before more fits reads holds =
+    gains_section {F = vec kind.format} before more payloads (section_text entries) _ refl (section_framed entries _ fits refl) items (reads.plain.for_each items holds)
+
+-- a section of counted items that a buffer has gained
+pub encodes_items : {A Record Item : Type 0} {kind : Kind Record Item} {fits : Type 0} {entries : List (List ℕ)} {old new : Vec ℕ A} {result : Result (Unit {0}) Refused} {items : List Item} → Appends (section_text entries) fits old new result
+    → OnOk result (ReadsBackBoth (counted_format kind.format) (HoldsItems kind entries) (HoldsWide kind.format entries) (section_text entries)) → HoldsItems kind entries items → OnOk result (GainsReading (counted_format kind.format) items old.items new.items)
+encodes_items {entries = entries} {result = Ok u} {items = items} appends reads holds = record { text = section_text entries; added = appends.ok; alone = reads.plain.for_each items holds }
+encodes_items {result = Err e} appends reads holds = tt
+
 -- ---- sections with padded numbers
 
 -- what a section holds in shortest form: with the law of its kind, of `HeldLaws`
-pub holds_wide : {Record Item : Type 0} {text : Record → List ℕ} {IsPlain IsPlainWide : Record → Type 0} {normal_form : Record → Item} {F : Format Item} {entries : List (List ℕ)} {items : List Item}
-    → HoldsMoreWide text IsPlain IsPlainWide normal_form F → HoldsItems text IsPlain normal_form F entries items → HoldsWide F entries items
+pub holds_wide : {Record Item : Type 0} {kind : Kind Record Item} {entries : List (List ℕ)} {items : List Item}
+    → HoldsMoreWide kind → HoldsItems kind entries items → HoldsWide kind.format entries items
 holds_wide {entries = entries} {items = items} law holds = law.held entries items holds
 
 -- an item that given bytes spell with padded numbers
-pub adds_raw_wide : {Record Item : Type 0} {text : Record → List ℕ} {IsPlain IsPlainWide : Record → Type 0} {normal_form : Record → Item} {F : Format Item} {old new : List (List ℕ)} {items : List Item} {piece : List ℕ}
-    → HoldsMoreWide text IsPlain IsPlainWide normal_form F → HoldsWide F old items → (item : Item) → new ≡ old ++ piece ∷ [] → F wide piece item → HoldsWide F new (items ++ item ∷ [])
-adds_raw_wide {F = F} {old = old} {items = items} {piece = piece} law before item e spelled = subst (λ entries. HoldsWide F entries (items ++ item ∷ [])) (sym e) (law.raw old items piece item before spelled)
+pub adds_raw_wide : {Record Item : Type 0} {kind : Kind Record Item} {old new : List (List ℕ)} {items : List Item} {piece : List ℕ}
+    → HoldsMoreWide kind → HoldsWide kind.format old items → (item : Item) → new ≡ old ++ piece ∷ [] → kind.format wide piece item → HoldsWide kind.format new (items ++ item ∷ [])
+adds_raw_wide {kind = kind} {old = old} {items = items} {piece = piece} law before item e spelled = subst (λ entries. HoldsWide kind.format entries (items ++ item ∷ [])) (sym e) (law.raw old items piece item before spelled)
 
 -- an item that is the normal form of a record that is plain but for padded numbers in its expressions
-pub adds_item_wide : {Record Item : Type 0} {text : Record → List ℕ} {IsPlain IsPlainWide : Record → Type 0} {normal_form : Record → Item} {F : Format Item} {old new : List (List ℕ)} {items : List Item}
-    → HoldsMoreWide text IsPlain IsPlainWide normal_form F → HoldsWide F old items → (given : Record) → new ≡ old ++ text given ∷ [] → IsPlainWide given → HoldsWide F new (items ++ normal_form given ∷ [])
-adds_item_wide {normal_form = normal_form} {F = F} {old = old} {items = items} law before given e plain =
-    subst (λ entries. HoldsWide F entries (items ++ normal_form given ∷ [])) (sym e) (law.given old items given before plain)
+pub adds_item_wide : {Record Item : Type 0} {kind : Kind Record Item} {old new : List (List ℕ)} {items : List Item}
+    → HoldsMoreWide kind → HoldsWide kind.format old items → (given : Record) → new ≡ old ++ kind.text given ∷ [] → kind.IsPlainWide given → HoldsWide kind.format new (items ++ kind.normal_form given ∷ [])
+adds_item_wide {kind = kind} {old = old} {items = items} law before given e plain =
+    subst (λ entries. HoldsWide kind.format entries (items ++ kind.normal_form given ∷ [])) (sym e) (law.given old items given before plain)
 
 -- all items of a list
-pub adds_items_wide : {Record Item : Type 0} {text : Record → List ℕ} {IsPlain IsPlainWide : Record → Type 0} {normal_form : Record → Item} {F : Format Item} {Fits : Record → Type 0} {old new : List (List ℕ)} {items : List Item} {given : List Record}
-    → HoldsMoreWide text IsPlain IsPlainWide normal_form F → HoldsWide F old items → AddsEach text Fits given old new → AllByRecursion IsPlainWide given → HoldsWide F new (items ++ map normal_form given)
-adds_items_wide {normal_form = normal_form} {F = F} {old = old} {items = items} {given = given} law before added plain =
-    subst (λ entries. HoldsWide F entries (items ++ map normal_form given)) (sym added.is) (law.all old items given before plain)
+pub adds_items_wide : {Record Item : Type 0} {kind : Kind Record Item} {Fits : Record → Type 0} {old new : List (List ℕ)} {items : List Item} {given : List Record}
+    → HoldsMoreWide kind → HoldsWide kind.format old items → AddsEach kind.text Fits given old new → AllByRecursion kind.IsPlainWide given → HoldsWide kind.format new (items ++ map kind.normal_form given)
+adds_items_wide {kind = kind} {old = old} {items = items} {given = given} law before added plain =
+    subst (λ entries. HoldsWide kind.format entries (items ++ map kind.normal_form given)) (sym added.is) (law.all old items given before plain)
 
 -- a module and one more section, whose text frames the payload and is read with padded numbers as x alone
 pub gains_section_wide : {readings : List SectionReading} {Payload : List ℕ → Type 0} {id : ℕ} {old new : List ℕ} {X : Type 0} {F : Format X} → ReadsSections readings old → ReadsOneMore Payload id old new
@@ -103,3 +142,16 @@ pub encodes_wide : {A X : Type 0} (F : Format X) (Says SaysWide : X → Type 0) 
     → OnOk result (ReadsBackBoth F Says SaysWide text) → SaysWide x → OnOk result (GainsReadingWide F x old.items new.items)
 encodes_wide F Says SaysWide {text = text} {result = Ok u} {x = x} appends reads says = record { text = text; added = appends.ok; alone = reads.wide.for_each x says }
 encodes_wide F Says SaysWide {result = Err e} appends reads says = tt
+
+-- a module and one more section of counted items with padded numbers
+pub gains_items_wide : {Record Item : Type 0} {kind : Kind Record Item} {readings : List SectionReading} {id : ℕ} {old new : List ℕ} {entries : List (List ℕ)} {items : List Item} → HoldsMoreWide kind → ReadsSections readings old
+    → ReadsOneMore (SectionPayload entries) id old new → SectionFits entries → ReadsBackBoth (counted_format kind.format) (HoldsItems kind entries) (HoldsWide kind.format entries) (section_text entries) → HoldsWide kind.format entries items
+    → ReadsSections (readings ++ wide_reading_of id (vec kind.format) items ∷ []) new
+gains_items_wide {kind = kind} {entries = entries} {items = items} law before more fits reads holds =
+    gains_section_wide {F = vec kind.format} before more (section_text entries) _ refl (section_framed entries _ fits refl) items (reads.wide.for_each items holds)
+
+-- a section of counted items with padded numbers that a buffer has gained
+pub encodes_items_wide : {A Record Item : Type 0} {kind : Kind Record Item} {fits : Type 0} {entries : List (List ℕ)} {old new : Vec ℕ A} {result : Result (Unit {0}) Refused} {items : List Item} → HoldsMoreWide kind
+    → Appends (section_text entries) fits old new result → OnOk result (ReadsBackBoth (counted_format kind.format) (HoldsItems kind entries) (HoldsWide kind.format entries) (section_text entries)) → HoldsWide kind.format entries items
+    → OnOk result (GainsReadingWide (counted_format kind.format) items old.items new.items)
+encodes_items_wide {kind = kind} {entries = entries} law appends reads holds = encodes_wide (counted_format kind.format) (HoldsItems kind entries) (HoldsWide kind.format entries) appends reads holds

@@ -7,7 +7,7 @@ use Rattle.wasm_base.specs.Reading.{UniqueReading, ReadsAlone}
 use Rattle.wasm_base.specs.Texts.{longest}
 use Rattle.wasm_base.specs.Pieces.{joined, section_text, SectionFits}
 use Rattle.wasm_base.specs.Calls.{ReadsBack, ReadsBackWide, ReadsBackBoth}
-use Rattle.wasm_base.specs.Entries.{Entry, Given, Raw, entry_text, Means, HoldsItems, SpellsWide, HoldsWide, counted_format, ItemLaws}
+use Rattle.wasm_base.specs.Entries.{Kind, Entry, Given, Raw, entry_text, Means, HoldsItems, SpellsWide, HoldsWide, counted_format, ItemLaws}
 use Rattle.wasm_base.proofs.FormatLaws.{vec-alone, frame-alone, whole_from_alone}
 use Rattle.wasm_base.proofs.TextLaws.{section_alone, section_alone_wide}
 
@@ -32,30 +32,30 @@ counted_alone_wide {F = F} f pieces fits = record {
   for_each = λ items holds. section_alone_wide {F = F} (counted-alone {F = F} f) pieces items fits (pieces_spelled F pieces items (content_fits pieces fits) holds.spelled);
 }
 
-module _ {Record Item : Type 0} (text : Record → List ℕ) (IsPlain : Record → Type 0) (normal_form : Record → Item) (F : Format Item) (laws : ItemLaws text IsPlain normal_form F) where
-  pub entry_spelled : (entry : Entry Record) (item : Item) → length (entry_text text entry) ≤ longest → Means IsPlain normal_form F entry item → F shortest (entry_text text entry) item
-  entry_spelled (Given given) item fits means = subst (λ x. F shortest (text given) x) (sym means.1) (laws.spelled given means.0 fits)
+module _ {Record Item : Type 0} (kind : Kind Record Item) (laws : ItemLaws kind) where
+  pub entry_spelled : (entry : Entry Record) (item : Item) → length (entry_text kind.text entry) ≤ longest → Means kind entry item → kind.format shortest (entry_text kind.text entry) item
+  entry_spelled (Given given) item fits means = subst (λ x. kind.format shortest (kind.text given) x) (sym means.1) (laws.spelled given means.0 fits)
   entry_spelled (Raw piece) item fits means = means
 
   -- each entry spells its item
-  pub entries_spelled : (entries : List (Entry Record)) (items : List Item) → length (joined (map (entry_text text) entries)) ≤ longest
-      → AllZip (Means IsPlain normal_form F) entries items → AllZip (F shortest) (map (entry_text text) entries) items
+  pub entries_spelled : (entries : List (Entry Record)) (items : List Item) → length (joined (map (entry_text kind.text) entries)) ≤ longest
+      → AllZip (Means kind) entries items → AllZip (kind.format shortest) (map (entry_text kind.text) entries) items
   entries_spelled [] [] fits means = tt
   entries_spelled [] (item ∷ items) fits means = absurd means
   entries_spelled (entry ∷ entries) [] fits means = absurd means
   entries_spelled (entry ∷ entries) (item ∷ items) fits means =
-      let rest = joined (map (entry_text text) entries) in
-      let whole = length-append (entry_text text entry) rest in
+      let rest = joined (map (entry_text kind.text) entries) in
+      let whole = length-append (entry_text kind.text entry) rest in
       (entry_spelled entry item (omega (arith, fits, whole)) means.0, entries_spelled entries items (omega (arith, fits, whole)) means.1)
 
-  counted_alone : (pieces : List (List ℕ)) → SectionFits pieces → ReadsBack (counted_format F) (HoldsItems text IsPlain normal_form F pieces) (section_text pieces)
+  counted_alone : (pieces : List (List ℕ)) → SectionFits pieces → ReadsBack (counted_format kind.format) (HoldsItems kind pieces) (section_text pieces)
   counted_alone pieces fits = record {
     for_each = λ items holds.
-        subst (λ ps. ReadsAlone (counted_format F) (section_text ps) items) (sym holds.held)
+        subst (λ ps. ReadsAlone (counted_format kind.format) (section_text ps) items) (sym holds.held)
         (let fits = subst SectionFits holds.held fits in
-        let held = map (entry_text text) holds.entries in
-        section_alone {F = F} (counted-alone {F = F} laws.alone) held items fits (entries_spelled holds.entries items (content_fits held fits) holds.meant));
+        let held = map (entry_text kind.text) holds.entries in
+        section_alone {F = kind.format} (counted-alone {F = kind.format} laws.alone) held items fits (entries_spelled holds.entries items (content_fits held fits) holds.meant));
   }
 
-  pub counted_reads : (pieces : List (List ℕ)) → SectionFits pieces → ReadsBackBoth (counted_format F) (HoldsItems text IsPlain normal_form F pieces) (HoldsWide F pieces) (section_text pieces)
-  counted_reads pieces fits = record { plain = counted_alone pieces fits; wide = counted_alone_wide {F = F} laws.alone pieces fits }
+  pub counted_reads : (pieces : List (List ℕ)) → SectionFits pieces → ReadsBackBoth (counted_format kind.format) (HoldsItems kind pieces) (HoldsWide kind.format pieces) (section_text pieces)
+  counted_reads pieces fits = record { plain = counted_alone pieces fits; wide = counted_alone_wide {F = kind.format} laws.alone pieces fits }

@@ -1,7 +1,7 @@
 -- What texts are spelled, for the laws.
 use Rattle.std.specs.Prelude.{ℕ, ◌^◌, ◌<◌, ℤ, pos, neg_ℤ, ◌≤ℤ◌, ◌<ℤ◌, List, [], ◌∷◌, ◌++◌, map, IsUtf8}
 use Rattle.std.specs.List.{AllByRecursion}
-use Rattle.wasm_base.specs.Entries.{HoldsItems, HoldsWide}
+use Rattle.wasm_base.specs.Entries.{Kind, HoldsItems, HoldsWide}
 use Rattle.wasm_base.specs.Formats.{Format}
 use Rattle.wasm_base.specs.Numbers.{Mode, shortest, wide}
 use Rattle.wasm_base.specs.Reading.{ReadsNothing}
@@ -40,25 +40,21 @@ pub record CustomFits (c : List ℕ × List ℕ) : Type 0 where
 
 -- A section without entries holds no items. An entry that is the text of a plain record adds what this says, and an entry of given
 -- bytes adds the item that they spell. The records that `add_all` adds are added as one by one.
-pub record HoldsMore {Record Item : Type 0} (text : Record → List ℕ) (IsPlain : Record → Type 0) (normal_form : Record → Item) (F : Format Item) : Type 0 where
-  pub none : HoldsItems text IsPlain normal_form F [] []
-  pub given : (pieces : List (List ℕ)) (items : List Item) (given : Record) → HoldsItems text IsPlain normal_form F pieces items → IsPlain given
-      → HoldsItems text IsPlain normal_form F (pieces ++ text given ∷ []) (items ++ normal_form given ∷ [])
-  pub raw : (pieces : List (List ℕ)) (items : List Item) (piece : List ℕ) (item : Item) → HoldsItems text IsPlain normal_form F pieces items → F shortest piece item
-      → HoldsItems text IsPlain normal_form F (pieces ++ piece ∷ []) (items ++ item ∷ [])
-  pub all : (pieces : List (List ℕ)) (items : List Item) (given : List Record) → HoldsItems text IsPlain normal_form F pieces items → AllByRecursion IsPlain given
-      → HoldsItems text IsPlain normal_form F (pieces ++ map text given) (items ++ map normal_form given)
+pub record HoldsMore {Record Item : Type 0} (kind : Kind Record Item) : Type 0 where
+  pub none : HoldsItems kind [] []
+  pub given : (pieces : List (List ℕ)) (items : List Item) (given : Record) → HoldsItems kind pieces items → kind.IsPlain given → HoldsItems kind (pieces ++ kind.text given ∷ []) (items ++ kind.normal_form given ∷ [])
+  pub raw : (pieces : List (List ℕ)) (items : List Item) (piece : List ℕ) (item : Item) → HoldsItems kind pieces items → kind.format shortest piece item → HoldsItems kind (pieces ++ piece ∷ []) (items ++ item ∷ [])
+  pub all : (pieces : List (List ℕ)) (items : List Item) (given : List Record) → HoldsItems kind pieces items → AllByRecursion kind.IsPlain given → HoldsItems kind (pieces ++ map kind.text given) (items ++ map kind.normal_form given)
 
 -- With padded numbers, a section holds what it holds in shortest form. An entry that is the text of a record which is plain but for padded
 -- numbers in its expressions adds what this says, and an entry of given bytes the item that they spell with padded numbers.
-pub record HoldsMoreWide {Record Item : Type 0} (text : Record → List ℕ) (IsPlain IsPlainWide : Record → Type 0) (normal_form : Record → Item) (F : Format Item) : Type 0 where
-  pub none : HoldsWide F [] []
-  pub held : (pieces : List (List ℕ)) (items : List Item) → HoldsItems text IsPlain normal_form F pieces items → HoldsWide F pieces items
-  pub wider : (given : Record) → IsPlain given → IsPlainWide given
-  pub given : (pieces : List (List ℕ)) (items : List Item) (given : Record) → HoldsWide F pieces items → IsPlainWide given → HoldsWide F (pieces ++ text given ∷ []) (items ++ normal_form given ∷ [])
-  pub raw : (pieces : List (List ℕ)) (items : List Item) (piece : List ℕ) (item : Item) → HoldsWide F pieces items → F wide piece item → HoldsWide F (pieces ++ piece ∷ []) (items ++ item ∷ [])
-  pub all : (pieces : List (List ℕ)) (items : List Item) (given : List Record) → HoldsWide F pieces items → AllByRecursion IsPlainWide given
-      → HoldsWide F (pieces ++ map text given) (items ++ map normal_form given)
+pub record HoldsMoreWide {Record Item : Type 0} (kind : Kind Record Item) : Type 0 where
+  pub none : HoldsWide kind.format [] []
+  pub held : (pieces : List (List ℕ)) (items : List Item) → HoldsItems kind pieces items → HoldsWide kind.format pieces items
+  pub wider : (given : Record) → kind.IsPlain given → kind.IsPlainWide given
+  pub given : (pieces : List (List ℕ)) (items : List Item) (given : Record) → HoldsWide kind.format pieces items → kind.IsPlainWide given → HoldsWide kind.format (pieces ++ kind.text given ∷ []) (items ++ kind.normal_form given ∷ [])
+  pub raw : (pieces : List (List ℕ)) (items : List Item) (piece : List ℕ) (item : Item) → HoldsWide kind.format pieces items → kind.format wide piece item → HoldsWide kind.format (pieces ++ piece ∷ []) (items ++ item ∷ [])
+  pub all : (pieces : List (List ℕ)) (items : List Item) (given : List Record) → HoldsWide kind.format pieces items → AllByRecursion kind.IsPlainWide given → HoldsWide kind.format (pieces ++ map kind.text given) (items ++ map kind.normal_form given)
 
 -- No value stands at the front of the text, whatever follows, and with padded numbers neither.
 pub record NothingStandsWide {X : Type 0} (F : Format X) (text : List ℕ) : Type 0 where

@@ -40,7 +40,7 @@ frame-body-alone = frame-alone body-whole
 
 -- The frame of a raw body that spells a body is read as this body alone.
 pub body_reads : (bytes : List ℕ) → FrameFits bytes → ReadsBack (frame body) (IsPlainBody bytes) (frame_text bytes)
-body_reads bytes fits = record { for_each = λ x h. reads_alone {F = frame body} frame-body-alone (frame_spelled body bytes x fits h) }
+body_reads bytes fits = record { for_each = λ x h. reads_alone {F = frame body} frame-body-alone (frame_spelled body bytes x fits h.spelled) }
 
 -- ---- bodies that grow
 
@@ -65,22 +65,22 @@ grows i old new e = record {
   text = e;
   plain = λ h x held.
       subst (λ z. IsPlainBody z (and_then x (normal_row i ∷ []))) (sym e)
-      (grown shortest (instruction_text i) old x (normal_row i ∷ []) held (members_one (instruction table) shortest (instruction_text i) (normal_row i) (normal_spelled i h)));
+      (record { spelled = grown shortest (instruction_text i) old x (normal_row i ∷ []) held.spelled (members_one (instruction table) shortest (instruction_text i) (normal_row i) (normal_spelled i h)) });
 }
 
 pub grows_by : (more old new : List ℕ) → new ≡ old ++ more → GrowsBy more old new
-grows_by more old new e = record { bytes = e; plain = λ x is held spelled. subst (λ z. IsPlainBody z (and_then x is)) (sym e) (grown shortest more old x is held spelled) }
+grows_by more old new e = record { bytes = e; plain = λ x is held spelled. subst (λ z. IsPlainBody z (and_then x is)) (sym e) (record { spelled = grown shortest more old x is held.spelled spelled }) }
 
 -- with padded numbers
 pub body_wider : (bytes : List ℕ) (x : Body) → IsPlainBody bytes x → IsWideBody bytes x
-body_wider bytes x plain = body-whole.spellings.wider bytes x plain
+body_wider bytes x plain = record { spelled = body-whole.spellings.wider bytes x plain.spelled }
 
 pub grows_wide : (old more : List ℕ) (x : Body) (is : List Plain) → IsWideBody old x → members (instruction table) wide more is → IsWideBody (old ++ more) (and_then x is)
-grows_wide old more x is h g = grown wide more old x is h g
+grows_wide old more x is h g = record { spelled = grown wide more old x is h.spelled g }
 
 pub grows_by_instruction : {A : Type 0} (i : Instruction A) (old : List ℕ) (x : Body) → IsPlainInstruction i → IsWideBody old x → IsWideBody (old ++ instruction_text i) (and_then x (normal_row i ∷ []))
 grows_by_instruction i old x plain h =
-    grown wide (instruction_text i) old x (normal_row i ∷ []) h
+    grows_wide old (instruction_text i) x (normal_row i ∷ []) h
     (members_one (instruction table) wide (instruction_text i) (normal_row i) (alone.spellings.wider (instruction_text i) (normal_row i) (normal_spelled i plain)))
 
 -- ---- locals
@@ -91,23 +91,25 @@ run_spelled run h = record { front = _; back = val_text run.1; joined = refl; fi
 pub has_locals : (runs : List Run) (bytes : List ℕ) → bytes ≡ locals_text runs → HasLocals runs bytes
 has_locals runs bytes e = record {
   text = e;
-  plain = λ count are. (
-    (runs, []),
-    refl,
-    record {
-      front = bytes;
-      back = [];
-      joined = sym (append-nil bytes);
-      first = subst (λ z. vec (pair u32 val_type) shortest z runs) (sym e) (vec_spelled (pair u32 val_type) IsRun run_text run_spelled runs (record { count = count; members = are }));
-      second = refl;
-    },
-  );
+  plain = λ count are. record {
+    spelled = (
+      (runs, []),
+      refl,
+      record {
+        front = bytes;
+        back = [];
+        joined = sym (append-nil bytes);
+        first = subst (λ z. vec (pair u32 val_type) shortest z runs) (sym e) (vec_spelled (pair u32 val_type) IsRun run_text run_spelled runs (record { count = count; members = are }));
+        second = refl;
+      },
+    );
+  };
 }
 
 -- ---- the next instruction
 
 -- The instructions of a longer body go on where those of the shorter end.
-goes_on : (front more : List ℕ) (x y : Body) → IsPlainBody front x → IsPlainBody (front ++ more) y → (next : List Plain) × (y ≡ and_then x next) × members (instruction table) shortest more next
+goes_on : (front more : List ℕ) (x y : Body) → body shortest front x → body shortest (front ++ more) y → (next : List Plain) × (y ≡ and_then x next) × members (instruction table) shortest more next
 goes_on front more x y h g =
     let a = h.2 in
     let b = g.2 in

@@ -36,7 +36,7 @@ use Rattle.wasm_code.specs.Code.{code_section, HoldsBodies, SpellsBodiesIn, Spel
 use Rattle.wasm_base.specs.Formats.{such}
 use Rattle.wasm_code.specs.Expressions.{IsNoEnd, StoresInstructions, StoresWide, Stores, normal_row}
 use Rattle.wasm_code.specs.Laws.{HoldsMoreBodies, GrowsByText, GrowsByLabels, br_table_row, HoldsMoreBodiesWide, GrowsWide, GrowsByTextWide, StoresMoreWide}
-use Rattle.wasm_code.proofs.BodyLaws.{grows, grows_by, body_wider, grows_wide, grows_by_instruction}
+use Rattle.wasm_code.proofs.BodyLaws.{body-whole, grows, grows_by, body_wider, grows_wide, grows_by_instruction}
 use Rattle.wasm_code.proofs.CodeLaws.{raw_code-payload, code_section-payload}
 use Rattle.wasm_code.proofs.ExpressionLaws.{members_one, members_join, stores_wider, expression_spelled}
 
@@ -130,15 +130,27 @@ all_bodies mode entries bodies raw xs before spelled = record {
   spelled = zip_join (body_format mode) before.raw raw bodies xs before.spelled spelled;
 }
 
+each_spelled : (raw : List (List ℕ)) (xs : List Body) → AllZip IsPlainBody raw xs → AllZip (body_format shortest) raw xs
+each_spelled [] [] h = tt
+each_spelled [] (x ∷ xs) h = absurd h
+each_spelled (bytes ∷ raw) [] h = absurd h
+each_spelled (bytes ∷ raw) (x ∷ xs) h = (h.0.spelled, each_spelled raw xs h.1)
+
+each_spelled_wide : (raw : List (List ℕ)) (xs : List Body) → AllZip IsWideBody raw xs → AllZip (body_format wide) raw xs
+each_spelled_wide [] [] h = tt
+each_spelled_wide [] (x ∷ xs) h = absurd h
+each_spelled_wide (bytes ∷ raw) [] h = absurd h
+each_spelled_wide (bytes ∷ raw) (x ∷ xs) h = (h.0.spelled, each_spelled_wide raw xs h.1)
+
 -- one more function
 pub adds_body : {old new : List (List ℕ)} {raw : List ℕ} {bodies : List Body} {x : Body} → SpellsBodies old bodies → new ≡ old ++ frame_text raw ∷ [] → IsPlainBody raw x → SpellsBodies new (bodies ++ x ∷ [])
 adds_body {old = old} {new = new} {raw = raw} {bodies = bodies} {x = x} before e spelled =
-    subst (λ es. SpellsBodies es (bodies ++ x ∷ [])) (sym e) (all_bodies shortest old bodies (raw ∷ []) (x ∷ []) before (spelled, tt))
+    subst (λ es. SpellsBodies es (bodies ++ x ∷ [])) (sym e) (all_bodies shortest old bodies (raw ∷ []) (x ∷ []) before (spelled.spelled, tt))
 
 -- all functions of a list
 pub adds_bodies : {old new raw : List (List ℕ)} {bodies : List Body} → SpellsBodies old bodies → AddsEach frame_text FrameFits raw old new → (xs : List Body) → AllZip IsPlainBody raw xs → SpellsBodies new (bodies ++ xs)
 adds_bodies {old = old} {raw = raw} {bodies = bodies} before added xs spelled =
-    subst (λ es. SpellsBodies es (bodies ++ xs)) (sym added.is) (all_bodies shortest old bodies raw xs before spelled)
+    subst (λ es. SpellsBodies es (bodies ++ xs)) (sym added.is) (all_bodies shortest old bodies raw xs before (each_spelled raw xs spelled))
 
 -- a module and a code section of these bodies
 pub gains_code : {readings : List SectionReading} {id : ℕ} {old new : List ℕ} {entries : List (List ℕ)} {bodies : List Body} → ReadsSections readings old → ReadsOneMore (SectionPayload entries) id old new
@@ -180,7 +192,8 @@ padded_i32_const bytes v padded =
 
 -- a raw body without runs: of their number alone, which may be padded
 pub without_runs : {count : List ℕ} → u32 wide count 0 → IsWideBody count (record { runs = []; code = [] })
-without_runs {count = count} none = (([], []), refl, record { front = count; back = []; joined = sym (append-nil count); first = record { front = count; back = []; joined = sym (append-nil count); first = none; second = refl }; second = refl })
+without_runs {count = count} none =
+    record { spelled = (([], []), refl, record { front = count; back = []; joined = sym (append-nil count); first = record { front = count; back = []; joined = sym (append-nil count); first = none; second = refl }; second = refl }) }
 
 -- one more instruction
 pub adds_instruction_wide : {A : Type 0} {old new : List ℕ} {x : Body} → IsWideBody old x → (i : Instruction A) → new ≡ old ++ instruction_text i → IsPlainInstruction i → IsWideBody new (and_then x (normal_row i ∷ []))
@@ -196,21 +209,21 @@ adds_instructions_wide {old = old} {x = x} body more is e spelled = subst (λ s.
 pub spells_wide : {entries : List (List ℕ)} {bodies : List Body} → SpellsBodies entries bodies → SpellsBodiesWide entries bodies
 spells_wide {bodies = bodies} before = record { raw = before.raw; held = before.held; spelled = each_wider before.raw bodies before.spelled }
   where
-    each_wider : (raw : List (List ℕ)) (xs : List Body) → AllZip IsPlainBody raw xs → AllZip IsWideBody raw xs
+    each_wider : (raw : List (List ℕ)) (xs : List Body) → AllZip (body_format shortest) raw xs → AllZip (body_format wide) raw xs
     each_wider [] [] h = tt
     each_wider [] (x ∷ xs) h = absurd h
     each_wider (bytes ∷ raw) [] h = absurd h
-    each_wider (bytes ∷ raw) (x ∷ xs) h = (body_wider bytes x h.0, each_wider raw xs h.1)
+    each_wider (bytes ∷ raw) (x ∷ xs) h = (body-whole.spellings.wider bytes x h.0, each_wider raw xs h.1)
 
 -- one more body, of given bytes or of a function
 pub adds_body_wide : {old new : List (List ℕ)} {raw : List ℕ} {bodies : List Body} {x : Body} → SpellsBodiesWide old bodies → new ≡ old ++ frame_text raw ∷ [] → IsWideBody raw x → SpellsBodiesWide new (bodies ++ x ∷ [])
 adds_body_wide {old = old} {new = new} {raw = raw} {bodies = bodies} {x = x} before e spelled =
-    subst (λ es. SpellsBodiesWide es (bodies ++ x ∷ [])) (sym e) (all_bodies wide old bodies (raw ∷ []) (x ∷ []) before (spelled, tt))
+    subst (λ es. SpellsBodiesWide es (bodies ++ x ∷ [])) (sym e) (all_bodies wide old bodies (raw ∷ []) (x ∷ []) before (spelled.spelled, tt))
 
 -- all functions of a list
 pub adds_bodies_wide : {old new raw : List (List ℕ)} {bodies : List Body} → SpellsBodiesWide old bodies → AddsEach frame_text FrameFits raw old new → (xs : List Body) → AllZip IsWideBody raw xs → SpellsBodiesWide new (bodies ++ xs)
 adds_bodies_wide {old = old} {raw = raw} {bodies = bodies} before added xs spelled =
-    subst (λ es. SpellsBodiesWide es (bodies ++ xs)) (sym added.is) (all_bodies wide old bodies raw xs before spelled)
+    subst (λ es. SpellsBodiesWide es (bodies ++ xs)) (sym added.is) (all_bodies wide old bodies raw xs before (each_spelled_wide raw xs spelled))
 
 -- a module and a code section of these bodies
 pub gains_code_wide : {readings : List SectionReading} {id : ℕ} {old new : List ℕ} {entries : List (List ℕ)} {bodies : List Body} → ReadsSections readings old → ReadsOneMore (SectionPayload entries) id old new
@@ -230,8 +243,8 @@ encodes_code_wide {result = Err e} appends reads spelled = tt
 pub holds_more : HoldsMoreBodies
 holds_more = record {
   none = record { raw = []; held = refl; spelled = tt };
-  given = λ entries bodies raw x before spelled. all_bodies shortest entries bodies (raw ∷ []) (x ∷ []) before (spelled, tt);
-  all = all_bodies shortest;
+  given = λ entries bodies raw x before spelled. all_bodies shortest entries bodies (raw ∷ []) (x ∷ []) before (spelled.spelled, tt);
+  all = λ entries bodies raw xs before spelled. all_bodies shortest entries bodies raw xs before (each_spelled raw xs spelled);
 }
 
 pub grows_by_text : {A : Type 0} (i : Instruction A) → GrowsByText i
@@ -246,8 +259,8 @@ pub holds_more_wide : HoldsMoreBodiesWide
 holds_more_wide = record {
   none = record { raw = []; held = refl; spelled = tt };
   held = λ entries bodies before. spells_wide before;
-  given = λ entries bodies raw x before spelled. all_bodies wide entries bodies (raw ∷ []) (x ∷ []) before (spelled, tt);
-  all = all_bodies wide;
+  given = λ entries bodies raw x before spelled. all_bodies wide entries bodies (raw ∷ []) (x ∷ []) before (spelled.spelled, tt);
+  all = λ entries bodies raw xs before spelled. all_bodies wide entries bodies raw xs before (each_spelled_wide raw xs spelled);
 }
 
 pub body_grows_wide : GrowsWide

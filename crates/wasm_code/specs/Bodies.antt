@@ -88,12 +88,12 @@ abbrev pub body : Format Body
 body = mapped body_of (pair (vec (pair u32 val_type)) (members (instruction table)))
 
 -- plain: The raw body spells this body.
-abbrev pub IsPlainBody : List ℕ → Body → Type 0
-IsPlainBody bytes x = body shortest bytes x
+pub record IsPlainBody (bytes : List ℕ) (x : Body) : Type 0 where
+  pub spelled : body shortest bytes x
 
--- plain but for padded numbers
-abbrev pub IsWideBody : List ℕ → Body → Type 0
-IsWideBody bytes x = body wide bytes x
+-- plain but for padded numbers: It does, whether its numbers are padded or not.
+pub record IsWideBody (bytes : List ℕ) (x : Body) : Type 0 where
+  pub spelled : body wide bytes x
 
 -- a body, and more instructions after its own
 abbrev pub and_then : Body → List Plain → Body

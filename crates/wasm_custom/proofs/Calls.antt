@@ -18,28 +18,27 @@ use Rattle.std.specs.Prelude.{OnOk}
 use Rattle.std.specs.declared.array.IntoIter.{IntoIter}
 use Rattle.std.specs.declared.vec.Vec.{Vec}
 use Rattle.wasm_base.specs.Calls.{Appends, ReadsOneMore, ReadsBack, ReadsBackBoth}
-use Rattle.wasm_base.specs.Entries.{HoldsItems, HoldsWide}
+use Rattle.wasm_base.specs.Entries.{HoldsWide}
 use Rattle.wasm_base.specs.Formats.{Format, frame, name, pair, any_bytes, custom}
 use Rattle.wasm_base.specs.Laws.{FitsUnsigned}
 use Rattle.wasm_base.specs.Modules.{SectionReading, reading_of, wide_reading_of, ReadsSections, ReadsPayloads, GainsReading}
 use Rattle.wasm_base.specs.Numbers.{wide, unsigned_text}
 use Rattle.wasm_base.specs.Texts.{IsFrameOf, longest, frame_text, FrameFits, vec_text, VecFits}
 use Rattle.wasm_base.specs.declared.refused.Refused.{Refused}
-use Rattle.wasm_base.proofs.Calls.{gains_section, gains_section_wide, adds_raw_wide}
-use Rattle.wasm_base.proofs.HeldLaws.{holds_more}
+use Rattle.wasm_base.proofs.Calls.{gains_section, gains_section_wide, adds_raw_wide, new_section, adds_item}
 use Rattle.wasm_base.proofs.KnownLengths.{array_items, copied_items}
 use Rattle.wasm_base.proofs.Payloads.{custom-payload}
 use Rattle.wasm_custom.specs.Adding.{AddsList, AddsTwoLists}
-use Rattle.wasm_custom.specs.CoreDumps.{modules_name, instances_name, marked_text, core_name, SaysProcess, marked_name, IsModule, Instance, instance_text, IsInstance, instance}
-use Rattle.wasm_custom.specs.CoreStacks.{Frame, frame_entry, IsFrame, stack_frame, stack_name, SaysStack}
+use Rattle.wasm_custom.specs.CoreDumps.{modules_name, instances_name, marked_text, core_name, SaysProcess, marked_name, Instance, instance}
+use Rattle.wasm_custom.specs.CoreStacks.{Frame, stack_name, SaysStack}
 use Rattle.wasm_custom.specs.CoreValues.{value_text, IsValue}
 use Rattle.wasm_custom.specs.Customs.{named_payload, named_text, NamedFits, NamedPayload, named_framed, subsection_text}
 use Rattle.wasm_custom.specs.Entries.{entries_text}
-use Rattle.wasm_custom.specs.Hints.{hints_name, Hints, hint_text, IsHint, hints_text, AreHints, hints}
-use Rattle.wasm_custom.specs.Linking.{linking_name, version, LinkItem, Symbols, Target, link_text, IsLink, link}
+use Rattle.wasm_custom.specs.Hints.{hints_name, Hints, hint_text, IsHint, hints}
+use Rattle.wasm_custom.specs.Linking.{linking_name, version, LinkItem, Symbols, Target, link}
 use Rattle.wasm_custom.specs.Lists.{list_text, IsListOf}
-use Rattle.wasm_custom.specs.Names.{name_name, Naming, Inside, NameItem, Module, Map, Indirect, Other, name_text, IsName, name_map, indirect_map, subsection, of_map, of_indirect, of_other, kind_of}
-use Rattle.wasm_custom.specs.Producers.{producers_name, Producer, Field, field_text, IsField, field}
+use Rattle.wasm_custom.specs.Names.{name_name, Naming, Inside, NameItem, Module, Map, Indirect, Other, name_map, indirect_map, subsection, of_map, of_indirect, of_other, kind_of}
+use Rattle.wasm_custom.specs.Producers.{producers_name, Producer, Field, field}
 use Rattle.wasm_custom.specs.Readings.{AreNamings, AreInsides, AreSymbols, AreProducers, HoldsNames, HoldsLinks, HoldsFields, HoldsHints, HoldsModules, HoldsInstances, name_payload, linking_payload, producers_payload, hints_payload, modules_payload, instances_payload, core_payload, stack_payload}
 use Rattle.wasm_custom.specs.Symbols.{Symbol, symbol_text, IsGivenSymbol, IsAsFlagged, IsSymbol}
 use Rattle.wasm_custom.specs.declared.core_values.CoreDumpValue.{CoreDumpValue}
@@ -93,64 +92,54 @@ adds_value before value e room fits name version = adds_member before value e ro
 
 -- ---- new sections
 
-module _ {Record Item : Type 0} (text : Record → List ℕ) (IsPlain : Record → Type 0) (normal_form : Record → Item) (F : Format Item) where
-  nothing_held : {entries : List (List ℕ)} → entries ≡ [] → HoldsItems text IsPlain normal_form F entries []
-  nothing_held e = record { entries = []; held = e; meant = tt }
-
 pub new_names : {entries : List (List ℕ)} → entries ≡ [] → HoldsNames entries []
-new_names e = nothing_held _ _ _ _ e
+new_names e = new_section e
 
 pub new_linking : {entries : List (List ℕ)} → entries ≡ [] → HoldsLinks entries []
-new_linking e = nothing_held _ _ _ _ e
+new_linking e = new_section e
 
 pub new_producers : {entries : List (List ℕ)} → entries ≡ [] → HoldsFields entries []
-new_producers e = nothing_held _ _ _ _ e
+new_producers e = new_section e
 
 pub new_hints : {entries : List (List ℕ)} → entries ≡ [] → HoldsHints entries []
-new_hints e = nothing_held _ _ _ _ e
+new_hints e = new_section e
 
 pub new_modules : {entries : List (List ℕ)} → entries ≡ [] → HoldsModules entries []
-new_modules e = nothing_held _ _ _ _ e
+new_modules e = new_section e
 
 pub new_instances : {entries : List (List ℕ)} → entries ≡ [] → HoldsInstances entries []
-new_instances e = nothing_held _ _ _ _ e
+new_instances e = new_section e
 
 -- ---- one more item
 
-module _ {Record Item : Type 0} (text : Record → List ℕ) (IsPlain : Record → Type 0) (normal_form : Record → Item) (F : Format Item) where
-  adds_record : {old new : List (List ℕ)} {items : List Item} → HoldsItems text IsPlain normal_form F old items → (given : Record) → new ≡ old ++ text given ∷ [] → IsPlain given → HoldsItems text IsPlain normal_form F new (items ++ normal_form given ∷ [])
-  adds_record {old = old} {items = items} before given e plain =
-      subst (λ entries. HoldsItems text IsPlain normal_form F entries (items ++ normal_form given ∷ [])) (sym e)
-      ((holds_more text IsPlain normal_form F).given old items given before plain)
-
 -- the name of the module
 pub adds_module_name : {old new : List (List ℕ)} {items : List NameItem} → HoldsNames old items → (n : List ℕ) → new ≡ old ++ subsection_text 0 (frame_text n) ∷ [] → IsUtf8 n → HoldsNames new (items ++ Module n ∷ [])
-adds_module_name before n e utf8 = adds_record name_text IsName (λ item. item) subsection before (Module n) e utf8
+adds_module_name before n e utf8 = adds_item before (Module n) e utf8
 
 -- names that a map holds; that the id is one of such a map is `refl`
 pub adds_names : {old new entries : List (List ℕ)} {items : List NameItem} {names : List Naming} → HoldsNames old items → (id : ℕ) → AreNamings entries names → new ≡ old ++ subsection_text id (list_text entries) ∷ []
     → kind_of id ≡ of_map → HoldsNames new (items ++ Map id names ∷ [])
 adds_names {old = old} {names = names} before id held e kind =
-    adds_record name_text IsName (λ item. item) subsection before (Map id names) (e ∙ ap (λ s. old ++ subsection_text id s ∷ []) (list_vector held)) (kind, held.fits)
+    adds_item before (Map id names) (e ∙ ap (λ s. old ++ subsection_text id s ∷ []) (list_vector held)) (kind, held.fits)
 
 -- names of what is inside, that an indirect map holds
 pub adds_names_inside : {old new entries : List (List ℕ)} {items : List NameItem} {insides : List Inside} → HoldsNames old items → (id : ℕ) → AreInsides entries insides → new ≡ old ++ subsection_text id (list_text entries) ∷ []
     → kind_of id ≡ of_indirect → HoldsNames new (items ++ Indirect id insides ∷ [])
 adds_names_inside {old = old} {insides = insides} before id held e kind =
-    adds_record name_text IsName (λ item. item) subsection before (Indirect id insides) (e ∙ ap (λ s. old ++ subsection_text id s ∷ []) (list_vector held)) (kind, held.fits)
+    adds_item before (Indirect id insides) (e ∙ ap (λ s. old ++ subsection_text id s ∷ []) (list_vector held)) (kind, held.fits)
 
 -- the bytes of a subsection that no call names
 pub adds_other_names : {old new : List (List ℕ)} {items : List NameItem} → HoldsNames old items → (id : ℕ) (content : List ℕ) → new ≡ old ++ subsection_text id content ∷ [] → kind_of id ≡ of_other → HoldsNames new (items ++ Other id content ∷ [])
-adds_other_names before id content e kind = adds_record name_text IsName (λ item. item) subsection before (Other id content) e kind
+adds_other_names before id content e kind = adds_item before (Other id content) e kind
 
 -- names that given bytes spell with padded numbers, and names of what is inside
-pub adds_raw_names : {old new : List (List ℕ)} {items : List NameItem} → HoldsWide subsection old items → (id : ℕ) (content : List ℕ) (names : List Naming) → new ≡ old ++ subsection_text id content ∷ [] → FrameFits content → kind_of id ≡ of_map
+pub adds_raw_names : {old new : List (List ℕ)} {items : List NameItem} → HoldsWide subsection old items → (id : ℕ) (content : List ℕ) (names : List Naming) → new ≡ old ++ subsection_text id content ∷ [] → FrameFits content × Unit {0} → kind_of id ≡ of_map
     → name_map wide content names → HoldsWide subsection new (items ++ Map id names ∷ [])
-adds_raw_names before id content names e fits kind spelled = adds_raw_wide name-wide before (Map id names) e (names_wide id content names kind fits spelled)
+adds_raw_names before id content names e fits kind spelled = adds_raw_wide name-wide before (Map id names) e (names_wide id content names kind fits.0 spelled)
 
-pub adds_raw_names_inside : {old new : List (List ℕ)} {items : List NameItem} → HoldsWide subsection old items → (id : ℕ) (content : List ℕ) (insides : List Inside) → new ≡ old ++ subsection_text id content ∷ [] → FrameFits content → kind_of id ≡ of_indirect
+pub adds_raw_names_inside : {old new : List (List ℕ)} {items : List NameItem} → HoldsWide subsection old items → (id : ℕ) (content : List ℕ) (insides : List Inside) → new ≡ old ++ subsection_text id content ∷ [] → FrameFits content × Unit {0} → kind_of id ≡ of_indirect
     → indirect_map wide content insides → HoldsWide subsection new (items ++ Indirect id insides ∷ [])
-adds_raw_names_inside before id content insides e fits kind spelled = adds_raw_wide name-wide before (Indirect id insides) e (names_inside_wide id content insides kind fits spelled)
+adds_raw_names_inside before id content insides e fits kind spelled = adds_raw_wide name-wide before (Indirect id insides) e (names_inside_wide id content insides kind fits.0 spelled)
 
 all_symbols : (symbols : List Symbol) → All IsGivenSymbol symbols → AllByRecursion IsAsFlagged symbols → All IsSymbol symbols
 all_symbols symbols given flagged = λ k d l. (given k d l, all_of symbols flagged k d l)
@@ -163,22 +152,22 @@ all_symbols symbols given flagged = λ k d l. (given k d l, all_of symbols flagg
 pub adds_symbols : {old new entries : List (List ℕ)} {items : List LinkItem} {symbols : List Symbol} → HoldsLinks old items → AreSymbols entries symbols → new ≡ old ++ subsection_text 8 (list_text entries) ∷ []
     → AllByRecursion IsAsFlagged symbols → HoldsLinks new (items ++ Symbols symbols ∷ [])
 adds_symbols {old = old} {symbols = symbols} before held e flagged =
-    adds_record link_text IsLink (λ item. item) link before (Symbols symbols) (e ∙ ap (λ s. old ++ subsection_text 8 s ∷ []) (list_vector held))
+    adds_item before (Symbols symbols) (e ∙ ap (λ s. old ++ subsection_text 8 s ∷ []) (list_vector held))
     (record { count = held.fits.count; members = all_symbols symbols held.fits.members flagged })
 
 -- the architecture of the target
 pub adds_target : {old new : List (List ℕ)} {items : List LinkItem} → HoldsLinks old items → (n : List ℕ) → new ≡ old ++ subsection_text 9 (frame_text n) ∷ [] → IsUtf8 n → HoldsLinks new (items ++ Target n ∷ [])
-adds_target before n e utf8 = adds_record link_text IsLink (λ item. item) link before (Target n) e utf8
+adds_target before n e utf8 = adds_item before (Target n) e utf8
 
 -- a field of producers, whose name the call has measured
-pub adds_field : {old new entries : List (List ℕ)} {items : List Field} {values : List Producer} → HoldsFields old items → (n : List ℕ) → AreProducers entries values → new ≡ old ++ (frame_text n ++ list_text entries) ∷ [] → FrameFits n → IsUtf8 n
+pub adds_field : {old new entries : List (List ℕ)} {items : List Field} {values : List Producer} → HoldsFields old items → (n : List ℕ) → AreProducers entries values → new ≡ old ++ (frame_text n ++ list_text entries) ∷ [] → FrameFits n × Unit {0} → IsUtf8 n
     → HoldsFields new (items ++ (n, values) ∷ [])
 adds_field {old = old} {values = values} before n held e fits utf8 =
-    adds_record field_text IsField (λ item. item) field before (n, values) (e ∙ ap (λ s. old ++ (frame_text n ++ s) ∷ []) (list_vector held)) ((utf8, fits), held.fits)
+    adds_item before (n, values) (e ∙ ap (λ s. old ++ (frame_text n ++ s) ∷ []) (list_vector held)) ((utf8, fits.0), held.fits)
 
 -- a module of a core dump, whose name the call has measured
-pub adds_core_module : {old new : List (List ℕ)} {items : List (List ℕ)} → HoldsModules old items → (n : List ℕ) → new ≡ old ++ marked_text n ∷ [] → FrameFits n → IsUtf8 n → HoldsModules new (items ++ n ∷ [])
-adds_core_module before n e fits utf8 = adds_record marked_text IsModule (λ item. item) marked_name before n e (utf8, fits)
+pub adds_core_module : {old new : List (List ℕ)} {items : List (List ℕ)} → HoldsModules old items → (n : List ℕ) → new ≡ old ++ marked_text n ∷ [] → Unit {0} × FrameFits n → IsUtf8 n → HoldsModules new (items ++ n ∷ [])
+adds_core_module before n e fits utf8 = adds_item before n e (utf8, fits.1)
 
 -- ---- what iterators give
 
@@ -220,7 +209,7 @@ pub adds_hints_of : {U S : Type 0} {becomes : U → S → Type 0} {gives : S →
 adds_hints_of {old = old} before index added hs are range plain =
     let given = added.ok in
     let same = are.given given.0 given.1 given.2 given.3 in
-    adds_record hints_text AreHints (λ item. item) hints before (index, hs) (given.5 ∙ ap (λ xs. old ++ (unsigned_text index ++ vec_text hint_text xs) ∷ []) same) (range, list_fits IsHint same given.4 plain)
+    adds_item before (index, hs) (given.5 ∙ ap (λ xs. old ++ (unsigned_text index ++ vec_text hint_text xs) ∷ []) same) (range, list_fits IsHint same given.4 plain)
 
 -- those of an array
 pub adds_hints : {n : ℕ} {remaining : IntoIter BranchHint n → Count} {hs : List BranchHint} {old new : List (List ℕ)} {items : List Hints} → HoldsHints old items → (index : ℕ)
@@ -236,7 +225,7 @@ adds_instance_of {old = old} before i added are others range memories globals =
     let given = added.ok in
     let same = are.given given.0 given.1 given.4 given.5 in
     let alike = others.given given.2 given.3 given.7 given.8 in
-    adds_record instance_text IsInstance (λ item. item) instance before i
+    adds_item before i
     (given.10 ∙ ap₂ (λ xs ys. old ++ ((0x00 ∷ unsigned_text i.module_index) ++ (vec_text unsigned_text xs ++ vec_text unsigned_text ys)) ∷ []) same alike)
     (record { module_index = range; memories = list_fits (FitsUnsigned 32) same given.6 memories; globals = list_fits (FitsUnsigned 32) alike given.9 globals })
 
@@ -249,7 +238,7 @@ adds_instance before i added range memories globals = adds_instance_of before i 
 -- ---- stacks
 
 pub new_stack : {n : List ℕ} {stack : List ℕ × List (List ℕ)} → stack ≡ (marked_text n, []) → IsUtf8 n → SaysStack stack.0 stack.1 (n, [])
-new_stack e utf8 = (utf8, ap (λ s. s.0) e, nothing_held frame_entry IsFrame (λ f. f) stack_frame (ap (λ s. s.1) e))
+new_stack e utf8 = (utf8, ap (λ s. s.0) e, new_section (ap (λ s. s.1) e))
 
 -- one more frame, whose numbers are in range, and whose locals and part of the stack iterators give
 pub adds_frame_of : {U S V R : Type 0} {becomes : U → S → Type 0} {gives : S → Option CoreDumpValue → S → Type 0} {remaining : S → Count} {first : U} {turns : V → R → Type 0} {hands : R → Option CoreDumpValue → R → Type 0} {left : R → Count} {second : V}
@@ -264,7 +253,7 @@ adds_frame_of {old = old} before f added thread are others instance function off
     let alike = others.given given.2 given.3 given.7 given.8 in (
       before.0,
       thread ∙ before.1,
-      adds_record frame_entry IsFrame (λ f. f) stack_frame before.2 f
+      adds_item before.2 f
           (given.10 ∙ ap₂ (λ xs ys. old.1 ++ ((0x00 ∷ (unsigned_text f.instance ++ (unsigned_text f.function ++ unsigned_text f.offset))) ++ (vec_text value_text xs ++ vec_text value_text ys)) ∷ []) same alike)
           (record { instance = instance; function = function; offset = offset; locals = list_fits IsValue same given.6 locals; stack = list_fits IsValue alike given.9 stack }),
     )
@@ -350,3 +339,9 @@ pub encodes_custom : {A X : Type 0} (F : Format X) (Says : X → Type 0) {text :
     → Appends text fits old new result → OnOk result (ReadsBack F Says text) → Says x → OnOk result (GainsReading F x old.items new.items)
 encodes_custom F Says {text = text} {result = Ok u} {x = x} appends reads says = record { text = text; added = appends.ok; alone = reads.for_each x says }
 encodes_custom F Says {result = Err e} appends reads says = tt
+
+-- one of entries
+pub encodes_entries : {A X : Type 0} (F : Format X) (Says SaysWide : X → Type 0) {text : List ℕ} {fits : Type 0} {old new : Vec ℕ A} {result : Result (Unit {0}) Refused} {x : X}
+    → Appends text fits old new result → OnOk result (ReadsBackBoth F Says SaysWide text) → Says x → OnOk result (GainsReading F x old.items new.items)
+encodes_entries F Says SaysWide {text = text} {result = Ok u} {x = x} appends reads says = record { text = text; added = appends.ok; alone = reads.plain.for_each x says }
+encodes_entries F Says SaysWide {result = Err e} appends reads says = tt

@@ -13,7 +13,7 @@ use Rattle.wasm_base.proofs.FormatLaws.{mapped-alone, pair-alone, prefixed-alone
 use Rattle.wasm_base.proofs.NumberLaws.{u32-alone}
 use Rattle.wasm_base.proofs.PartLaws.{pair_spelled, prefixed_spelled}
 use Rattle.wasm_base.proofs.TextLaws.{reads_alone, u32_spelled, name_spelled, vec_spelled}
-use Rattle.wasm_custom.specs.CoreDumps.{marked_text, marked_name, core_name, core_section, SaysProcess, IsModule, modules_name, Instance, instance_text, IsInstance, instance_of, instance, instances_name}
+use Rattle.wasm_custom.specs.CoreDumps.{marked_text, marked_name, core_name, core_section, SaysProcess, modules_name, Instance, instance_text, IsInstance, instance_of, instance, instances_name, module_items, instance_items}
 use Rattle.wasm_custom.specs.Customs.{named_text, NamedFits}
 use Rattle.wasm_custom.specs.Entries.{FrameLaws}
 use Rattle.wasm_custom.proofs.CustomLaws.{named-alone, named_spelled, data_fits}
@@ -45,8 +45,8 @@ process_back content fits = record {
 
 -- ---- modules
 
-pub module_items : ItemLaws marked_text IsModule (λ n. n) marked_name
-module_items = record { alone = marked-alone; spelled = λ n plain fits. marked_spelled n plain.0 plain.1 }
+pub module_laws : ItemLaws module_items
+module_laws = record { alone = marked-alone; spelled = λ n plain fits. marked_spelled n plain.0 plain.1 }
 
 pub module_frame : FrameLaws marked_name modules_name [] (fixed [] (tt {0})) true
 module_frame = record {
@@ -70,8 +70,8 @@ instance_spelled i plain =
     let all = pair_spelled u32 (pair (vec u32) (vec u32)) (unsigned_text i.module_index) (memories ++ globals) i.module_index (i.memories, i.globals) (u32_spelled i.module_index plain.module_index) lists in
     (parts, refl, prefixed_spelled (0x00 ∷ []) (pair u32 (pair (vec u32) (vec u32))) (unsigned_text i.module_index ++ (memories ++ globals)) parts all)
 
-pub instance_items : ItemLaws instance_text IsInstance (λ i. i) instance
-instance_items = record { alone = instance-alone; spelled = λ i plain fits. instance_spelled i plain }
+pub instance_laws : ItemLaws instance_items
+instance_laws = record { alone = instance-alone; spelled = λ i plain fits. instance_spelled i plain }
 
 pub instance_frame : FrameLaws instance instances_name [] (fixed [] (tt {0})) true
 instance_frame = record {

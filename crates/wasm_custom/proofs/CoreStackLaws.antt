@@ -14,7 +14,7 @@ use Rattle.wasm_base.proofs.FormatLaws.{mapped-alone, pair-alone, pair-whole, ve
 use Rattle.wasm_base.proofs.NumberLaws.{u32-alone}
 use Rattle.wasm_base.proofs.TextLaws.{reads_alone, tagged_spelled, u32_spelled, s32_spelled, s64_spelled, little_endian_spelled, vec_spelled}
 use Rattle.wasm_custom.specs.CoreDumps.{marked_text, marked_name}
-use Rattle.wasm_custom.specs.CoreStacks.{Frame, frame_entry, IsFrame, Place, frame_of, stack_frame, stack_name, stack_section, SaysStack}
+use Rattle.wasm_custom.specs.CoreStacks.{Frame, frame_entry, IsFrame, Place, frame_of, stack_frame, stack_name, stack_section, SaysStack, frame_items}
 use Rattle.wasm_custom.specs.CoreValues.{value_text, IsValue, f32_of, f64_of, value_tags, value}
 use Rattle.wasm_custom.specs.Customs.{named_text, NamedFits}
 use Rattle.wasm_custom.specs.Entries.{count_text, entries_text}
@@ -72,8 +72,8 @@ frame_spelled f plain =
     let lists = pair_spelled (vec value) (vec value) locals stack f.locals f.stack (vec_spelled value IsValue value_text value_spelled f.locals plain.locals) (vec_spelled value IsValue value_text value_spelled f.stack plain.stack) in
     ((place, (f.locals, f.stack)), refl, pair_spelled (prefixed (0x00 ∷ []) (pair u32 (pair u32 u32))) (pair (vec value) (vec value)) (0x00 ∷ (unsigned_text f.instance ++ numbers)) (locals ++ stack) place (f.locals, f.stack) front lists)
 
-pub frame_items : ItemLaws frame_entry IsFrame (λ f. f) stack_frame
-frame_items = record { alone = frame-alone; spelled = λ f plain fits. frame_spelled f plain }
+pub frame_laws : ItemLaws frame_items
+frame_laws = record { alone = frame-alone; spelled = λ f plain fits. frame_spelled f plain }
 
 -- ---- stacks
 
@@ -102,7 +102,7 @@ stack_alone front pieces few fits = record {
       let held = map (entry_text frame_entry) holds.entries in
       let listed : AllZip (stack_frame shortest) pieces said.1 =
       subst (λ ps. AllZip (stack_frame shortest) ps said.1) (sym holds.held)
-      (entries_spelled frame_entry IsFrame (λ f. f) stack_frame frame_items holds.entries said.1 (subst (λ ps. length (joined ps) ≤ longest) holds.held short.1) holds.meant) in
+      (entries_spelled frame_items frame_laws holds.entries said.1 (subst (λ ps. length (joined ps) ≤ longest) holds.held short.1) holds.meant) in
       reads_alone {F = stack_section} stack-alone
       (named_spelled shortest stack_name (pair marked_name (vec stack_frame)) (entries_text front true pieces) said (ascii {bytes = stack_name} refl) fits
       (pair_spelled marked_name (vec stack_frame) front content said.0 said.1 named (listing_spelled shortest true stack_frame pieces said.1 few listed)));

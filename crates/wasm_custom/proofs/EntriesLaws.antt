@@ -2,7 +2,7 @@
 use Rattle.std.proofs.Common.{◌≡◌, ℕ, ◌≤◌, List, ◌++◌, length, map, Bool, true, false, refl, sym, subst, arith, length-append}
 use Rattle.std.specs.List.{AllZip}
 use Rattle.wasm_base.specs.Calls.{ReadsBack, ReadsBackWide, ReadsBackBoth}
-use Rattle.wasm_base.specs.Entries.{entry_text, HoldsItems, HoldsWide, ItemLaws}
+use Rattle.wasm_base.specs.Entries.{Kind, entry_text, HoldsItems, HoldsWide, ItemLaws}
 use Rattle.wasm_base.specs.Formats.{Format}
 use Rattle.wasm_base.specs.Numbers.{Mode, shortest, wide}
 use Rattle.wasm_base.specs.Pieces.{joined}
@@ -31,43 +31,43 @@ same_fits n front m first counted other pieces ps e f g h fits =
     subst (λ z. NamedFits n (entries_text front counted z)) h
     (subst (λ z. NamedFits n (entries_text front z ps)) g (subst (λ z. NamedFits n (entries_text z other ps)) f (subst (λ z. NamedFits z (entries_text first other ps)) e fits)))
 
-module _ {Record Item : Type 0} (text : Record → List ℕ) (IsPlain : Record → Type 0) (normal_form : Record → Item) (F : Format Item) (n front : List ℕ) (front_format : Format (Unit {0})) (counted : Bool)
-    (laws : ItemLaws text IsPlain normal_form F) (more : FrameLaws F n front front_format counted) where
-  section_spelled : (mode : Mode) (pieces : List (List ℕ)) (items : List Item) → length pieces ≤ longest → NamedFits n (entries_text front counted pieces) → AllZip (F mode) pieces items
-      → named_section n (entries front_format counted F) mode (named_text n (entries_text front counted pieces)) items
+module _ {Record Item : Type 0} (kind : Kind Record Item) (n front : List ℕ) (front_format : Format (Unit {0})) (counted : Bool)
+    (laws : ItemLaws kind) (more : FrameLaws kind.format n front front_format counted) where
+  section_spelled : (mode : Mode) (pieces : List (List ℕ)) (items : List Item) → length pieces ≤ longest → NamedFits n (entries_text front counted pieces) → AllZip (kind.format mode) pieces items
+      → named_section n (entries front_format counted kind.format) mode (named_text n (entries_text front counted pieces)) items
   section_spelled mode pieces items few fits h =
       let back = count_text counted (length pieces) ++ joined pieces in
       let first = spelled_in {F = front_format} more.front_alone more.front_spelled mode in
-      let listed : entries front_format counted F mode (front ++ back) items =
-      ((tt, items), refl, record { front = front; back = back; joined = refl; first = first; second = listing_spelled mode counted F pieces items few h }) in
-      named_spelled mode n (entries front_format counted F) (entries_text front counted pieces) items more.name_utf8 fits listed
+      let listed : entries front_format counted kind.format mode (front ++ back) items =
+      ((tt, items), refl, record { front = front; back = back; joined = refl; first = first; second = listing_spelled mode counted kind.format pieces items few h }) in
+      named_spelled mode n (entries front_format counted kind.format) (entries_text front counted pieces) items more.name_utf8 fits listed
 
   -- the entries are no longer than the section
   content_fits : (pieces : List (List ℕ)) → NamedFits n (entries_text front counted pieces) → length (joined pieces) ≤ longest
   content_fits pieces fits = omega (arith, data_fits n (entries_text front counted pieces) fits, length-append front (count_text counted (length pieces) ++ joined pieces), length-append (count_text counted (length pieces)) (joined pieces))
 
-  section-alone : UniqueReading (named_section n (entries front_format counted F))
+  section-alone : UniqueReading (named_section n (entries front_format counted kind.format))
   section-alone = named-alone n (entries-whole counted more.front_alone more.begins laws.alone)
 
   entries_alone : (pieces : List (List ℕ)) → length pieces ≤ longest → NamedFits n (entries_text front counted pieces)
-      → ReadsBack (named_section n (entries front_format counted F)) (HoldsItems text IsPlain normal_form F pieces) (named_text n (entries_text front counted pieces))
+      → ReadsBack (named_section n (entries front_format counted kind.format)) (HoldsItems kind pieces) (named_text n (entries_text front counted pieces))
   entries_alone pieces few fits = record {
     for_each = λ items holds.
-        let held = map (entry_text text) holds.entries in
-        reads_alone {F = named_section n (entries front_format counted F)} section-alone
+        let held = map (entry_text kind.text) holds.entries in
+        reads_alone {F = named_section n (entries front_format counted kind.format)} section-alone
         (section_spelled shortest pieces items few fits
-        (subst (λ ps. AllZip (F shortest) ps items) (sym holds.held)
-        (entries_spelled text IsPlain normal_form F laws holds.entries items (subst (λ ps. length (joined ps) ≤ longest) holds.held (content_fits pieces fits)) holds.meant)));
+        (subst (λ ps. AllZip (kind.format shortest) ps items) (sym holds.held)
+        (entries_spelled kind laws holds.entries items (subst (λ ps. length (joined ps) ≤ longest) holds.held (content_fits pieces fits)) holds.meant)));
   }
 
   entries_alone_wide : (pieces : List (List ℕ)) → length pieces ≤ longest → NamedFits n (entries_text front counted pieces)
-      → ReadsBackWide (named_section n (entries front_format counted F)) (HoldsWide F pieces) (named_text n (entries_text front counted pieces))
+      → ReadsBackWide (named_section n (entries front_format counted kind.format)) (HoldsWide kind.format pieces) (named_text n (entries_text front counted pieces))
   entries_alone_wide pieces few fits = record {
     for_each = λ items holds.
-        reads_alone_wide {F = named_section n (entries front_format counted F)} section-alone
-        (section_spelled wide pieces items few fits (pieces_spelled F pieces items (content_fits pieces fits) holds.spelled));
+        reads_alone_wide {F = named_section n (entries front_format counted kind.format)} section-alone
+        (section_spelled wide pieces items few fits (pieces_spelled kind.format pieces items (content_fits pieces fits) holds.spelled));
   }
 
   pub entries_back : (pieces : List (List ℕ)) → length pieces ≤ longest → NamedFits n (entries_text front counted pieces)
-      → ReadsBackBoth (named_section n (entries front_format counted F)) (HoldsItems text IsPlain normal_form F pieces) (HoldsWide F pieces) (named_text n (entries_text front counted pieces))
+      → ReadsBackBoth (named_section n (entries front_format counted kind.format)) (HoldsItems kind pieces) (HoldsWide kind.format pieces) (named_text n (entries_text front counted pieces))
   entries_back pieces few fits = record { plain = entries_alone pieces few fits; wide = entries_alone_wide pieces few fits }

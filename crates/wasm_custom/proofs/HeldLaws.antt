@@ -1,41 +1,41 @@
 -- What sections and lists hold as calls add to them.
 use Rattle.wasm_base.specs.Laws.{HoldsMore, HoldsMoreWide}
 use Rattle.wasm_base.proofs.HeldLaws.{holds_more, plain_more_wide}
-use Rattle.wasm_custom.specs.CoreDumps.{marked_text, marked_name, IsModule, instance_text, IsInstance, instance}
-use Rattle.wasm_custom.specs.CoreStacks.{frame_entry, IsFrame, stack_frame}
-use Rattle.wasm_custom.specs.Hints.{hints_text, AreHints, hints}
-use Rattle.wasm_custom.specs.Linking.{link_text, IsLink, link}
+use Rattle.wasm_custom.specs.CoreDumps.{module_items, instance_items}
+use Rattle.wasm_custom.specs.CoreStacks.{frame_items}
+use Rattle.wasm_custom.specs.Hints.{hint_items}
+use Rattle.wasm_custom.specs.Linking.{link_items}
 use Rattle.wasm_custom.specs.Lists.{IsVectorOf, ListMore}
-use Rattle.wasm_custom.specs.Names.{naming_text, IsNaming, inside_text, IsInside, name_text, IsName, subsection}
-use Rattle.wasm_custom.specs.Producers.{producer_text, IsProducer, field_text, IsField, field}
+use Rattle.wasm_custom.specs.Names.{naming_text, IsNaming, inside_text, IsInside, name_items}
+use Rattle.wasm_custom.specs.Producers.{producer_text, IsProducer, field_items}
 use Rattle.wasm_custom.specs.Symbols.{symbol_text, IsGivenSymbol}
-use Rattle.wasm_custom.proofs.CoreDumpLaws.{module_items, instance_items}
-use Rattle.wasm_custom.proofs.HintLaws.{hint_items}
-use Rattle.wasm_custom.proofs.LinkLaws.{link_items}
+use Rattle.wasm_custom.proofs.CoreDumpLaws.{module_laws, instance_laws}
+use Rattle.wasm_custom.proofs.HintLaws.{hint_laws}
+use Rattle.wasm_custom.proofs.LinkLaws.{link_laws}
 use Rattle.wasm_custom.proofs.ListLaws.{list_more, is_vector}
-use Rattle.wasm_custom.proofs.NameLaws.{name_items}
-use Rattle.wasm_custom.proofs.ProducerLaws.{producer_items}
+use Rattle.wasm_custom.proofs.NameLaws.{name_laws}
+use Rattle.wasm_custom.proofs.ProducerLaws.{producer_laws}
 
-pub name-held : HoldsMore name_text IsName (λ item. item) subsection
-name-held = holds_more name_text IsName (λ item. item) subsection
+pub name-held : HoldsMore name_items
+name-held = holds_more name_items
 
-pub linking-held : HoldsMore link_text IsLink (λ item. item) link
-linking-held = holds_more link_text IsLink (λ item. item) link
+pub linking-held : HoldsMore link_items
+linking-held = holds_more link_items
 
-pub producers-held : HoldsMore field_text IsField (λ field. field) field
-producers-held = holds_more field_text IsField (λ field. field) field
+pub producers-held : HoldsMore field_items
+producers-held = holds_more field_items
 
-pub hints-held : HoldsMore hints_text AreHints (λ hints. hints) hints
-hints-held = holds_more hints_text AreHints (λ hints. hints) hints
+pub hints-held : HoldsMore hint_items
+hints-held = holds_more hint_items
 
-pub modules-held : HoldsMore marked_text IsModule (λ n. n) marked_name
-modules-held = holds_more marked_text IsModule (λ n. n) marked_name
+pub modules-held : HoldsMore module_items
+modules-held = holds_more module_items
 
-pub instances-held : HoldsMore instance_text IsInstance (λ instance. instance) instance
-instances-held = holds_more instance_text IsInstance (λ instance. instance) instance
+pub instances-held : HoldsMore instance_items
+instances-held = holds_more instance_items
 
-pub frames-held : HoldsMore frame_entry IsFrame (λ frame. frame) stack_frame
-frames-held = holds_more frame_entry IsFrame (λ frame. frame) stack_frame
+pub frames-held : HoldsMore frame_items
+frames-held = holds_more frame_items
 
 pub name_maps-held : ListMore naming_text IsNaming
 name_maps-held = list_more
@@ -65,22 +65,22 @@ pub ruleset calls = (name-held, linking-held, producers-held, hints-held, module
 
 -- ---- with padded numbers
 
-pub name-wide : HoldsMoreWide name_text IsName IsName (λ item. item) subsection
-name-wide = plain_more_wide name_items
+pub name-wide : HoldsMoreWide name_items
+name-wide = plain_more_wide name_laws (λ given plain. plain) (λ given plain. plain)
 
-pub linking-wide : HoldsMoreWide link_text IsLink IsLink (λ item. item) link
-linking-wide = plain_more_wide link_items
+pub linking-wide : HoldsMoreWide link_items
+linking-wide = plain_more_wide link_laws (λ given plain. plain) (λ given plain. plain)
 
-pub producers-wide : HoldsMoreWide field_text IsField IsField (λ field. field) field
-producers-wide = plain_more_wide producer_items
+pub producers-wide : HoldsMoreWide field_items
+producers-wide = plain_more_wide producer_laws (λ given plain. plain) (λ given plain. plain)
 
-pub hints-wide : HoldsMoreWide hints_text AreHints AreHints (λ hints. hints) hints
-hints-wide = plain_more_wide hint_items
+pub hints-wide : HoldsMoreWide hint_items
+hints-wide = plain_more_wide hint_laws (λ given plain. plain) (λ given plain. plain)
 
-pub modules-wide : HoldsMoreWide marked_text IsModule IsModule (λ n. n) marked_name
-modules-wide = plain_more_wide module_items
+pub modules-wide : HoldsMoreWide module_items
+modules-wide = plain_more_wide module_laws (λ given plain. plain) (λ given plain. plain)
 
-pub instances-wide : HoldsMoreWide instance_text IsInstance IsInstance (λ instance. instance) instance
-instances-wide = plain_more_wide instance_items
+pub instances-wide : HoldsMoreWide instance_items
+instances-wide = plain_more_wide instance_laws (λ given plain. plain) (λ given plain. plain)
 
 pub ruleset wide_calls = (name-wide, linking-wide, producers-wide, hints-wide, modules-wide, instances-wide)

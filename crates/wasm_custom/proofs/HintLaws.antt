@@ -10,7 +10,7 @@ use Rattle.wasm_base.proofs.NumberLaws.{u32-alone}
 use Rattle.wasm_base.proofs.NumberTexts.{groups_text-last}
 use Rattle.wasm_base.proofs.TextLaws.{u32_spelled, vec_spelled}
 use Rattle.wasm_custom.specs.Entries.{FrameLaws}
-use Rattle.wasm_custom.specs.Hints.{hint_text, IsHint, Hints, hints_text, AreHints, hint_of, hint, hints, hints_name}
+use Rattle.wasm_custom.specs.Hints.{hint_text, IsHint, Hints, hints_text, AreHints, hint_of, hint, hints, hints_name, hint_items}
 use Rattle.wasm_custom.specs.declared.hints.BranchHint.{BranchHint}
 use Rattle.wasm_base.proofs.Calls.{ascii}
 use Rattle.wasm_base.proofs.PartLaws.{pair_spelled, prefixed_spelled}
@@ -31,8 +31,8 @@ hints_spelled h plain = pair_spelled u32 (vec hint) (unsigned_text h.0) (vec_tex
 pub hints-alone : UniqueReading hints
 hints-alone = pair-alone u32-alone (vec-alone hint-alone)
 
-pub hint_items : ItemLaws hints_text AreHints (λ h. h) hints
-hint_items = record { alone = hints-alone; spelled = λ h plain fits. hints_spelled h plain }
+pub hint_laws : ItemLaws hint_items
+hint_laws = record { alone = hints-alone; spelled = λ h plain fits. hints_spelled h plain }
 
 pub hint_frame : FrameLaws hints hints_name [] (fixed [] (tt {0})) true
 hint_frame = record {

@@ -13,7 +13,7 @@ use Rattle.wasm_base.proofs.NumberLaws.{u32-alone}
 use Rattle.wasm_base.proofs.PartLaws.{flag_spelled, tagged_begins}
 use Rattle.wasm_base.proofs.TextLaws.{tagged_spelled, name_spelled, vec_spelled, frame_spelled}
 use Rattle.wasm_custom.specs.Entries.{FrameLaws}
-use Rattle.wasm_custom.specs.Linking.{LinkItem, Symbols, Target, link_text, IsLink, link_tags, link, linking_name, version}
+use Rattle.wasm_custom.specs.Linking.{LinkItem, Symbols, Target, link_text, IsLink, link_tags, link, linking_name, version, link_items}
 use Rattle.wasm_custom.specs.Symbols.{symbol_text, IsSymbol, symbol}
 use Rattle.wasm_custom.proofs.CustomLaws.{content_fits}
 use Rattle.wasm_custom.proofs.SymbolLaws.{symbol-alone, symbol_spelled}
@@ -36,8 +36,8 @@ link_spelled (Target n) plain fits =
     let inside = content_fits 9 (frame_text n) fits in
     tagged_spelled shortest 9 (frame_text (frame_text n)) (Target n) (n, refl, frame_spelled name (frame_text n) n inside (name_spelled n plain (omega (arith, inside, length-append (unsigned_text (length n)) n))))
 
-pub link_items : ItemLaws link_text IsLink (λ x. x) link
-link_items = record { alone = link-alone; spelled = link_spelled }
+pub link_laws : ItemLaws link_items
+link_laws = record { alone = link-alone; spelled = link_spelled }
 
 pub link_frame : FrameLaws link linking_name (version ∷ []) (just version u32) false
 link_frame = record {

@@ -12,7 +12,7 @@ use Rattle.wasm_base.proofs.NumberLaws.{u32-alone}
 use Rattle.wasm_base.proofs.TextLaws.{tagged_spelled, u32_spelled, name_spelled, vec_spelled, frame_in, frame_spelled}
 use Rattle.wasm_custom.specs.Customs.{subsection_text}
 use Rattle.wasm_custom.specs.Entries.{FrameLaws}
-use Rattle.wasm_custom.specs.Names.{Naming, Inside, naming_text, inside_text, IsNaming, IsInside, naming, name_map, indirect_map, NameItem, Module, Map, Indirect, Other, NameKind, of_module, of_map, of_indirect, of_other, is_one_of, map_ids, indirect_ids, kind_of, after_id, subsection, name_text, IsName, name_name}
+use Rattle.wasm_custom.specs.Names.{Naming, Inside, naming_text, inside_text, IsNaming, IsInside, naming, name_map, indirect_map, NameItem, Module, Map, Indirect, Other, NameKind, of_module, of_map, of_indirect, of_other, is_one_of, map_ids, indirect_ids, kind_of, after_id, subsection, name_text, IsName, name_name, name_items}
 use Rattle.wasm_base.proofs.Calls.{ascii}
 use Rattle.wasm_base.proofs.PartLaws.{pair_spelled, tagged_begins}
 use Rattle.wasm_custom.proofs.CustomLaws.{content_fits}
@@ -94,8 +94,8 @@ name_item_spelled (Indirect id names) plain fits =
 name_item_spelled (Other id content) plain fits =
     of_kind shortest of_other id content (Other id content) plain (content, refl, frame_spelled any_bytes content content (content_fits id content fits) refl)
 
-pub name_items : ItemLaws name_text IsName (λ x. x) subsection
-name_items = record { alone = subsection-alone; spelled = name_item_spelled }
+pub name_laws : ItemLaws name_items
+name_laws = record { alone = subsection-alone; spelled = name_item_spelled }
 
 -- with padded numbers: the content of a subsection that is spelled already
 pub names_wide : (id : ℕ) (content : List ℕ) (names : List Naming) → kind_of id ≡ of_map → FrameFits content → name_map wide content names → subsection wide (subsection_text id content) (Map id names)

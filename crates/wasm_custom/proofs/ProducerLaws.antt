@@ -11,7 +11,7 @@ use Rattle.wasm_base.proofs.FormatLaws.{pair-alone, vec-alone, fixed-alone}
 use Rattle.wasm_base.proofs.PartLaws.{pair_spelled}
 use Rattle.wasm_base.proofs.TextLaws.{name_spelled, vec_spelled}
 use Rattle.wasm_custom.specs.Entries.{FrameLaws}
-use Rattle.wasm_custom.specs.Producers.{Producer, producer_text, IsProducer, Field, field_text, IsField, producer, field, producers_name}
+use Rattle.wasm_custom.specs.Producers.{Producer, producer_text, IsProducer, Field, field_text, IsField, producer, field, producers_name, field_items}
 
 pub field-alone : UniqueReading field
 field-alone = pair-alone name-alone (vec-alone (pair-alone name-alone name-alone))
@@ -23,8 +23,8 @@ field_spelled : (f : Field) → IsField f → field shortest (field_text f) f
 field_spelled f plain =
     pair_spelled name (vec producer) (frame_text f.0) (vec_text producer_text f.1) f.0 f.1 (name_spelled f.0 plain.0.0 plain.0.1) (vec_spelled producer IsProducer producer_text producer_spelled f.1 plain.1)
 
-pub producer_items : ItemLaws field_text IsField (λ f. f) field
-producer_items = record { alone = field-alone; spelled = λ f plain fits. field_spelled f plain }
+pub producer_laws : ItemLaws field_items
+producer_laws = record { alone = field-alone; spelled = λ f plain fits. field_spelled f plain }
 
 pub producer_frame : FrameLaws field producers_name [] (fixed [] (tt {0})) true
 producer_frame = record {

@@ -16,13 +16,13 @@ use Rattle.wasm_custom.specs.Linking.{linking_name, version}
 use Rattle.wasm_custom.specs.Names.{name_name}
 use Rattle.wasm_custom.specs.Producers.{producers_name}
 use Rattle.wasm_custom.specs.Readings.{name_payload, linking_payload, producers_payload, hints_payload, modules_payload, instances_payload, core_payload, stack_payload}
-use Rattle.wasm_custom.proofs.CoreDumpLaws.{marked-alone, module_items, instance-alone, instance_items}
-use Rattle.wasm_custom.proofs.CoreStackLaws.{value-alone, frame-alone as stack_frame-alone, frame_items}
+use Rattle.wasm_custom.proofs.CoreDumpLaws.{marked-alone, module_laws, instance-alone, instance_laws}
+use Rattle.wasm_custom.proofs.CoreStackLaws.{value-alone, frame-alone as stack_frame-alone, frame_laws}
 use Rattle.wasm_custom.proofs.EntriesLaws.{entries-whole}
-use Rattle.wasm_custom.proofs.HintLaws.{hints-alone, hint_items}
-use Rattle.wasm_custom.proofs.LinkLaws.{link-alone, link_items}
-use Rattle.wasm_custom.proofs.NameLaws.{subsection-alone, name_items}
-use Rattle.wasm_custom.proofs.ProducerLaws.{field-alone, producer_items}
+use Rattle.wasm_custom.proofs.HintLaws.{hints-alone, hint_laws}
+use Rattle.wasm_custom.proofs.LinkLaws.{link-alone, link_laws}
+use Rattle.wasm_custom.proofs.NameLaws.{subsection-alone, name_laws}
+use Rattle.wasm_custom.proofs.ProducerLaws.{field-alone, producer_laws}
 use Rattle.wasm_custom.proofs.SymbolLaws.{symbol-alone}
 
 -- ---- payloads
@@ -130,7 +130,7 @@ wide-stack = unique_wide stack_section-alone
 pub wide-custom_sections : IsUniqueWide custom
 wide-custom_sections = unique_wide custom-alone
 
-pub ruleset sections = (name_section-alone, linking_section-alone, producers_section-alone, hints_section-alone, modules_section-alone, instances_section-alone, core_section-alone, stack_section-alone, custom-alone, subsection-alone, link-alone, symbol-alone, field-alone, hints-alone, marked-alone, instance-alone, stack_frame-alone, value-alone, name_items, link_items, producer_items, hint_items, module_items, instance_items, frame_items)
+pub ruleset sections = (name_section-alone, linking_section-alone, producers_section-alone, hints_section-alone, modules_section-alone, instances_section-alone, core_section-alone, stack_section-alone, custom-alone, subsection-alone, link-alone, symbol-alone, field-alone, hints-alone, marked-alone, instance-alone, stack_frame-alone, value-alone, name_laws, link_laws, producer_laws, hint_laws, module_laws, instance_laws, frame_laws)
 
 pub ruleset wide_sections = (wide-name, wide-linking, wide-producers, wide-hints, wide-modules, wide-instances, wide-core, wide-stack, wide-custom_sections)
 

@@ -1,5 +1,6 @@
 -- Core dumps: their texts, and what spells them.
 use Rattle.std.specs.Prelude.{◌≡◌, ℕ, ◌^◌, ◌<◌, List, [], ◌∷◌, ◌++◌, IsUtf8, codes}
+use Rattle.wasm_base.specs.Entries.{Kind}
 use Rattle.wasm_base.specs.Formats.{Format, u32, name, mapped, pair, prefixed, vec}
 use Rattle.wasm_base.specs.Laws.{FitsUnsigned, NameFits}
 use Rattle.wasm_base.specs.Numbers.{unsigned_text}
@@ -32,6 +33,10 @@ SaysProcess content n = IsUtf8 n × (content ≡ marked_text n)
 abbrev pub IsModule : List ℕ → Type 0
 IsModule = NameFits
 
+-- the kind of modules of a core dump
+abbrev pub module_items : Kind (List ℕ) (List ℕ)
+module_items = record { text = marked_text; IsPlain = IsModule; IsPlainWide = IsModule; normal_form = λ n. n; format = marked_name }
+
 -- "coremodules"
 abbrev pub modules_name : List ℕ
 modules_name = codes "coremodules"
@@ -61,6 +66,10 @@ instance_of parts = record { module_index = parts.0; memories = parts.1.0; globa
 -- instance: the byte 00, the index of a module, a vector of memories, and a vector of globals
 abbrev pub instance : Format Instance
 instance = mapped instance_of (prefixed (0x00 ∷ []) (pair u32 (pair (vec u32) (vec u32))))
+
+-- the kind of instances of a core dump
+abbrev pub instance_items : Kind Instance Instance
+instance_items = record { text = instance_text; IsPlain = IsInstance; IsPlainWide = IsInstance; normal_form = λ instance. instance; format = instance }
 
 -- "coreinstances"
 abbrev pub instances_name : List ℕ

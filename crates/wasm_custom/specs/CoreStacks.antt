@@ -1,6 +1,6 @@
 -- Stacks of core dumps: their texts, and what spells them.
 use Rattle.std.specs.Prelude.{◌≡◌, ℕ, ◌^◌, ◌<◌, List, [], ◌∷◌, ◌++◌, IsUtf8, codes}
-use Rattle.wasm_base.specs.Entries.{HoldsItems}
+use Rattle.wasm_base.specs.Entries.{Kind, HoldsItems}
 use Rattle.wasm_base.specs.Formats.{Format, u32, mapped, pair, prefixed, vec}
 use Rattle.wasm_base.specs.Numbers.{unsigned_text}
 use Rattle.wasm_base.specs.Texts.{vec_text, VecFits}
@@ -41,6 +41,10 @@ frame_of p = record { instance = p.0.0; function = p.0.1.0; offset = p.0.1.1; lo
 abbrev pub stack_frame : Format Frame
 stack_frame = mapped frame_of (pair (prefixed (0x00 ∷ []) (pair u32 (pair u32 u32))) (pair (vec value) (vec value)))
 
+-- the kind of frames of a stack
+abbrev pub frame_items : Kind Frame Frame
+frame_items = record { text = frame_entry; IsPlain = IsFrame; IsPlainWide = IsFrame; normal_form = λ frame. frame; format = stack_frame }
+
 -- "corestack"
 abbrev pub stack_name : List ℕ
 stack_name = codes "corestack"
@@ -51,4 +55,4 @@ stack_section = named_section stack_name (pair marked_name (vec stack_frame))
 
 -- The front is the byte 00 and this name of a thread, which is UTF-8, and the entries hold these frames.
 abbrev pub SaysStack : List ℕ → List (List ℕ) → List ℕ × List Frame → Type 0
-SaysStack front frames said = IsUtf8 said.0 × (front ≡ marked_text said.0) × HoldsItems frame_entry IsFrame (λ f. f) stack_frame frames said.1
+SaysStack front frames said = IsUtf8 said.0 × (front ≡ marked_text said.0) × HoldsItems frame_items frames said.1

@@ -1,5 +1,6 @@
 -- Branch hints: their text, and what spells them.
 use Rattle.std.specs.Prelude.{ℕ, ◌^◌, ◌<◌, List, [], ◌∷◌, ◌++◌, codes}
+use Rattle.wasm_base.specs.Entries.{Kind}
 use Rattle.wasm_base.specs.Formats.{Format, u32, byte, mapped, pair, prefixed, such, vec}
 use Rattle.wasm_base.specs.Numbers.{unsigned_text}
 use Rattle.wasm_base.specs.Texts.{vec_text, VecFits}
@@ -37,6 +38,10 @@ hint = mapped hint_of (pair u32 (prefixed (0x01 ∷ []) (such (λ b. b < 128) by
 -- hints of a function: its index, and a vector of branch hints
 abbrev pub hints : Format Hints
 hints = pair u32 (vec hint)
+
+-- the kind of functions with their branch hints
+abbrev pub hint_items : Kind Hints Hints
+hint_items = record { text = hints_text; IsPlain = AreHints; IsPlainWide = AreHints; normal_form = λ hints. hints; format = hints }
 
 -- "metadata.code.branch_hint"
 abbrev pub hints_name : List ℕ

@@ -1,5 +1,6 @@
 -- The linking section: its text, and what spells it.
 use Rattle.std.specs.Prelude.{ℕ, List, [], ◌∷◌, IsUtf8, codes}
+use Rattle.wasm_base.specs.Entries.{Kind}
 use Rattle.wasm_base.specs.Formats.{Format, byte, name, impossible, mapped, tagged, choice, vec, frame}
 use Rattle.wasm_base.specs.Texts.{frame_text, vec_text, VecFits}
 use Rattle.wasm_custom.specs.Customs.{subsection_text}
@@ -27,6 +28,10 @@ link_tags = (8, mapped Symbols (frame (vec symbol))) ∷ (9, mapped Target (fram
 -- subsection: an id, and the frame of what it holds
 abbrev pub link : Format LinkItem
 link = tagged byte (choice link_tags (λ b. impossible))
+
+-- the kind of subsections of a linking section
+abbrev pub link_items : Kind LinkItem LinkItem
+link_items = record { text = link_text; IsPlain = IsLink; IsPlainWide = IsLink; normal_form = λ item. item; format = link }
 
 -- "linking"
 abbrev pub linking_name : List ℕ

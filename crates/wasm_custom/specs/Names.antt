@@ -1,5 +1,6 @@
 -- Names of a module and of its parts.
 use Rattle.std.specs.Prelude.{◌≡◌, ℕ, ◌^◌, ◌<◌, List, [], ◌∷◌, ◌++◌, Bool, true, false, cond, ◌==◌, IsUtf8, codes}
+use Rattle.wasm_base.specs.Entries.{Kind}
 use Rattle.wasm_base.specs.Formats.{Format, u32, byte, any_bytes, name, mapped, pair, tagged, vec, frame}
 use Rattle.wasm_base.specs.Laws.{NameFits}
 use Rattle.wasm_base.specs.Numbers.{unsigned_text}
@@ -101,6 +102,10 @@ IsName (Module n) = IsUtf8 n
 IsName (Map id names) = (kind_of id ≡ of_map) × VecFits IsNaming names
 IsName (Indirect id names) = (kind_of id ≡ of_indirect) × VecFits IsInside names
 IsName (Other id content) = kind_of id ≡ of_other
+
+-- the kind of subsections of a name section
+abbrev pub name_items : Kind NameItem NameItem
+name_items = record { text = name_text; IsPlain = IsName; IsPlainWide = IsName; normal_form = λ item. item; format = subsection }
 
 -- "name"
 abbrev pub name_name : List ℕ

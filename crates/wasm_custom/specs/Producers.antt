@@ -1,5 +1,6 @@
 -- Producers of a module: their texts, and what spells them.
 use Rattle.std.specs.Prelude.{ℕ, List, ◌++◌, codes}
+use Rattle.wasm_base.specs.Entries.{Kind}
 use Rattle.wasm_base.specs.Formats.{Format, name, pair, vec}
 use Rattle.wasm_base.specs.Laws.{NameFits}
 use Rattle.wasm_base.specs.Texts.{frame_text, vec_text, VecFits}
@@ -35,6 +36,10 @@ producer = pair name name
 -- field: a name, and a vector of versioned names
 abbrev pub field : Format Field
 field = pair name (vec producer)
+
+-- the kind of fields of a producers section
+abbrev pub field_items : Kind Field Field
+field_items = record { text = field_text; IsPlain = IsField; IsPlainWide = IsField; normal_form = λ field. field; format = field }
 
 -- "producers"
 abbrev pub producers_name : List ℕ

@@ -5,15 +5,15 @@ use Rattle.wasm_base.specs.Formats.{Format, u32, name, fixed, just, pair, vec, a
 use Rattle.wasm_base.specs.Modules.{SectionReading, reading_of}
 use Rattle.wasm_base.specs.SectionId.{number_of}
 use Rattle.wasm_base.specs.declared.section_id.SectionId.TheVariants as ids
-use Rattle.wasm_custom.specs.CoreDumps.{marked_text, marked_name, core_name, IsModule, modules_name, Instance, instance_text, IsInstance, instance, instances_name}
+use Rattle.wasm_custom.specs.CoreDumps.{marked_name, core_name, modules_name, Instance, instance, instances_name, module_items, instance_items}
 use Rattle.wasm_custom.specs.CoreStacks.{Frame, stack_frame, stack_name}
 use Rattle.wasm_custom.specs.Customs.{named_payload}
 use Rattle.wasm_custom.specs.Entries.{entries}
-use Rattle.wasm_custom.specs.Hints.{Hints, hints_text, AreHints, hints, hints_name}
-use Rattle.wasm_custom.specs.Linking.{LinkItem, link_text, IsLink, link, linking_name, version}
+use Rattle.wasm_custom.specs.Hints.{Hints, hints, hints_name, hint_items}
+use Rattle.wasm_custom.specs.Linking.{LinkItem, link, linking_name, version, link_items}
 use Rattle.wasm_custom.specs.Lists.{IsListOf}
-use Rattle.wasm_custom.specs.Names.{Naming, naming_text, IsNaming, Inside, inside_text, IsInside, NameItem, name_text, IsName, subsection, name_name}
-use Rattle.wasm_custom.specs.Producers.{Producer, producer_text, IsProducer, Field, field_text, IsField, field, producers_name}
+use Rattle.wasm_custom.specs.Names.{Naming, naming_text, IsNaming, Inside, inside_text, IsInside, NameItem, subsection, name_name, name_items}
+use Rattle.wasm_custom.specs.Producers.{Producer, producer_text, IsProducer, Field, field, producers_name, field_items}
 use Rattle.wasm_custom.specs.Symbols.{Symbol, symbol_text, IsGivenSymbol}
 
 -- The entries of a name map are these name associations.
@@ -34,27 +34,27 @@ AreProducers = IsListOf producer_text IsProducer
 
 -- The entries of a name section hold these subsections.
 abbrev pub HoldsNames : List (List ℕ) → List NameItem → Type 0
-HoldsNames = HoldsItems name_text IsName (λ item. item) subsection
+HoldsNames = HoldsItems name_items
 
 -- The entries of a linking section hold these subsections.
 abbrev pub HoldsLinks : List (List ℕ) → List LinkItem → Type 0
-HoldsLinks = HoldsItems link_text IsLink (λ item. item) link
+HoldsLinks = HoldsItems link_items
 
 -- The entries of a producers section hold these fields.
 abbrev pub HoldsFields : List (List ℕ) → List Field → Type 0
-HoldsFields = HoldsItems field_text IsField (λ field. field) field
+HoldsFields = HoldsItems field_items
 
 -- The entries of a section of branch hints hold these functions with their hints.
 abbrev pub HoldsHints : List (List ℕ) → List Hints → Type 0
-HoldsHints = HoldsItems hints_text AreHints (λ hints. hints) hints
+HoldsHints = HoldsItems hint_items
 
 -- The entries of a core dump's section of modules hold these names.
 abbrev pub HoldsModules : List (List ℕ) → List (List ℕ) → Type 0
-HoldsModules = HoldsItems marked_text IsModule (λ n. n) marked_name
+HoldsModules = HoldsItems module_items
 
 -- The entries of a core dump's section of instances hold these instances.
 abbrev pub HoldsInstances : List (List ℕ) → List Instance → Type 0
-HoldsInstances = HoldsItems instance_text IsInstance (λ instance. instance) instance
+HoldsInstances = HoldsItems instance_items
 
 -- what follows the size of a name section: its name, and its subsections
 abbrev pub name_payload : Format (List NameItem)

@@ -5,10 +5,10 @@ ghost use Rattle.wasm_base.specs.Cow.{items_of, text_of};
 ghost use Rattle.wasm_base.specs.Formats.{fixed};
 ghost use Rattle.wasm_base.specs.Iterators.{HasKnownLength};
 ghost use Rattle.wasm_base.specs.Numbers.{unsigned_text};
-ghost use Rattle.wasm_base.specs.Texts.{frame_text, FrameFits, vec_text};
+ghost use Rattle.wasm_base.specs.Texts.{FrameFits, vec_text};
 ghost use Rattle.wasm_base.specs.declared.refused.Refused.TheVariants.{TooLong};
 ghost use Rattle.wasm_custom.specs.Adding.{AddsTwoLists};
-ghost use Rattle.wasm_custom.specs.CoreDumps.{marked_text, core_name, core_section, SaysProcess, IsModule, marked_name, modules_name, Instance, instance_text, IsInstance, instance, instances_name};
+ghost use Rattle.wasm_custom.specs.CoreDumps.{instance_items, module_items, marked_text, core_name, core_section, SaysProcess, IsModule, marked_name, modules_name, Instance, instance_text, IsInstance, instance, instances_name};
 ghost use Rattle.wasm_custom.specs.Customs.{named_text, NamedFits};
 ghost use Rattle.wasm_custom.specs.Entries.{entries_text};
 
@@ -119,15 +119,9 @@ impl Items for ModuleItems {
 
     ghost Item = { List ℕ };
 
-    ghost record_text = { marked_text };
+    ghost kind = { module_items };
 
-    ghost is_plain = { IsModule };
-
-    ghost normal_form = { λ item. item };
-
-    ghost item_format = { marked_name };
-
-    #[tactic(auto, using(crate::proofs::CoreDumpLaws::module_items))]
+    #[tactic(auto, using(crate::proofs::CoreDumpLaws::module_laws))]
     fn laws() {}
 }
 
@@ -191,15 +185,9 @@ impl Items for InstanceItems {
 
     ghost Item = { Instance };
 
-    ghost record_text = { instance_text };
+    ghost kind = { instance_items };
 
-    ghost is_plain = { IsInstance };
-
-    ghost normal_form = { λ item. item };
-
-    ghost item_format = { instance };
-
-    #[tactic(auto, using(crate::proofs::CoreDumpLaws::instance_items))]
+    #[tactic(auto, using(crate::proofs::CoreDumpLaws::instance_laws))]
     fn laws() {}
 }
 

@@ -46,7 +46,7 @@ pub trait CustomKind: Items {
     /// The section's name is UTF-8, what stands before the items is spelled, in a format that is read uniquely, and where items are not
     /// counted, none of them is empty. The function does nothing.
     fn frame_laws()
-        ensures { FrameLaws Self.item_format name front front_format counted };
+        ensures { FrameLaws Self.kind.format name front front_format counted };
 }
 
 /// A custom section of entries of the kind `K`, seen as the bytes of each.
@@ -234,7 +234,7 @@ impl<K: CustomKind, A: Allocator> Encode for CustomEntries<K, A> {
 
     ghost fits = { λ section. NamedFits K.name (entries_text K.front K.counted section) };
 
-    ghost reading = { λ section. ReadsBackBoth (named_section K.name (entries K.front_format K.counted K.item_format)) (HoldsItems K.record_text K.is_plain K.normal_form K.item_format section) (HoldsWide K.item_format section) (named_text K.name (entries_text K.front K.counted section)) };
+    ghost reading = { λ section. ReadsBackBoth (named_section K.name (entries K.front_format K.counted K.kind.format)) (HoldsItems K.kind section) (HoldsWide K.kind.format section) (named_text K.name (entries_text K.front K.counted section)) };
 
     fn encode<B: Allocator>(&self, sink: &mut Vec<u8, B>) -> R<()> {
         K::laws();
@@ -254,9 +254,9 @@ impl<K: CustomKind, A: Allocator> Section for CustomEntries<K, A> {
 
     ghost Items = { List K.Item };
 
-    ghost format = { named_section K.name (entries K.front_format K.counted K.item_format) };
+    ghost format = { named_section K.name (entries K.front_format K.counted K.kind.format) };
 
-    ghost says = { HoldsItems K.record_text K.is_plain K.normal_form K.item_format };
+    ghost says = { HoldsItems K.kind };
 
     ghost payload = { λ section. NamedPayload K.name (entries_text K.front K.counted section) };
 

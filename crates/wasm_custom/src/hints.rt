@@ -1,11 +1,11 @@
 // Branch hints.
-ghost use Rattle.std.specs.Prelude.{◌≡◌, List, [], ◌++◌, true, ⊤};
+ghost use Rattle.std.specs.Prelude.{◌≡◌, [], ◌++◌, true, ⊤};
 ghost use Rattle.wasm_base.specs.Formats.{fixed};
 ghost use Rattle.wasm_base.specs.Iterators.{HasKnownLength};
 ghost use Rattle.wasm_base.specs.Numbers.{unsigned_text};
 ghost use Rattle.wasm_base.specs.Texts.{vec_text};
 ghost use Rattle.wasm_custom.specs.Adding.{AddsList};
-ghost use Rattle.wasm_custom.specs.Hints.{hint_text, Hints, hints_text, AreHints, hints, hints_name};
+ghost use Rattle.wasm_custom.specs.Hints.{hint_items, hint_text, Hints, hints_text, AreHints, hints, hints_name};
 
 use crate::entries::{CustomEntries, CustomKind};
 use std::alloc::{Allocator, Global};
@@ -52,15 +52,9 @@ impl Items for HintItems {
 
     ghost Item = { Hints };
 
-    ghost record_text = { hints_text };
+    ghost kind = { hint_items };
 
-    ghost is_plain = { AreHints };
-
-    ghost normal_form = { λ item. item };
-
-    ghost item_format = { hints };
-
-    #[tactic(auto, using(crate::proofs::HintLaws::hint_items))]
+    #[tactic(auto, using(crate::proofs::HintLaws::hint_laws))]
     fn laws() {}
 }
 

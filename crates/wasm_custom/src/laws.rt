@@ -7,14 +7,14 @@ ghost use Rattle.wasm_base.specs.Formats.{custom, frame, pair, name, any_bytes};
 ghost use Rattle.wasm_base.specs.Laws.{HoldsMore, HoldsMoreWide, NothingStandsWide};
 ghost use Rattle.wasm_base.specs.Modules.{ReadsPayloads, ReadsPayloadsWide};
 ghost use Rattle.wasm_base.specs.Reading.{UniqueReading, IsUniqueWide};
-ghost use Rattle.wasm_custom.specs.CoreDumps.{marked_text, marked_name, IsModule, instance_text, IsInstance, instance};
-ghost use Rattle.wasm_custom.specs.CoreStacks.{frame_entry, IsFrame, stack_frame};
+ghost use Rattle.wasm_custom.specs.CoreDumps.{marked_name, instance, module_items, instance_items};
+ghost use Rattle.wasm_custom.specs.CoreStacks.{stack_frame, frame_items};
 ghost use Rattle.wasm_custom.specs.CoreValues.{value};
-ghost use Rattle.wasm_custom.specs.Hints.{hints_text, AreHints, hints, hints_name};
-ghost use Rattle.wasm_custom.specs.Linking.{link_text, IsLink, link, linking_name};
+ghost use Rattle.wasm_custom.specs.Hints.{hints, hints_name, hint_items};
+ghost use Rattle.wasm_custom.specs.Linking.{link, linking_name, link_items};
 ghost use Rattle.wasm_custom.specs.Lists.{IsVectorOf, ListMore};
-ghost use Rattle.wasm_custom.specs.Names.{naming_text, IsNaming, inside_text, IsInside, name_text, IsName, subsection};
-ghost use Rattle.wasm_custom.specs.Producers.{producer_text, IsProducer, field_text, IsField, field};
+ghost use Rattle.wasm_custom.specs.Names.{naming_text, IsNaming, inside_text, IsInside, subsection, name_items};
+ghost use Rattle.wasm_custom.specs.Producers.{producer_text, IsProducer, field, field_items};
 ghost use Rattle.wasm_custom.specs.Readings.{name_payload, linking_payload, producers_payload, hints_payload, modules_payload, instances_payload, core_payload, stack_payload};
 ghost use Rattle.wasm_custom.specs.Symbols.{symbol_text, IsGivenSymbol, symbol};
 
@@ -40,13 +40,13 @@ pub fn sections()
     ensures frames { UniqueReading stack_frame }
     ensures values { UniqueReading value }
 
-    ensures name_items { ItemLaws name_text IsName (λ item. item) subsection }
-    ensures linking_items { ItemLaws link_text IsLink (λ item. item) link }
-    ensures producer_items { ItemLaws field_text IsField (λ field. field) field }
-    ensures hint_items { ItemLaws hints_text AreHints (λ hints. hints) hints }
-    ensures module_items { ItemLaws marked_text IsModule (λ n. n) marked_name }
-    ensures instance_items { ItemLaws instance_text IsInstance (λ instance. instance) instance }
-    ensures frame_items { ItemLaws frame_entry IsFrame (λ frame. frame) stack_frame }
+    ensures name_laws { ItemLaws name_items }
+    ensures linking_items { ItemLaws link_items }
+    ensures producer_laws { ItemLaws field_items }
+    ensures hint_laws { ItemLaws hint_items }
+    ensures module_laws { ItemLaws module_items }
+    ensures instance_laws { ItemLaws instance_items }
+    ensures frame_laws { ItemLaws frame_items }
 {}
 
 /// With padded numbers too, sections are read uniquely, and what shortest numbers spell is among it.
@@ -67,13 +67,13 @@ pub fn wide()
 /// of a list is the vector of its members.
 #[tactic(auto, using(crate::proofs::HeldLaws::calls))]
 pub fn calls()
-    ensures names { HoldsMore name_text IsName (λ item. item) subsection }
-    ensures linking { HoldsMore link_text IsLink (λ item. item) link }
-    ensures producers { HoldsMore field_text IsField (λ field. field) field }
-    ensures hints { HoldsMore hints_text AreHints (λ hints. hints) hints }
-    ensures modules { HoldsMore marked_text IsModule (λ n. n) marked_name }
-    ensures instances { HoldsMore instance_text IsInstance (λ instance. instance) instance }
-    ensures frames { HoldsMore frame_entry IsFrame (λ frame. frame) stack_frame }
+    ensures names { HoldsMore name_items }
+    ensures linking { HoldsMore link_items }
+    ensures producers { HoldsMore field_items }
+    ensures hints { HoldsMore hint_items }
+    ensures modules { HoldsMore module_items }
+    ensures instances { HoldsMore instance_items }
+    ensures frames { HoldsMore frame_items }
     ensures name_maps { ListMore naming_text IsNaming }
     ensures indirect_maps { ListMore inside_text IsInside }
     ensures symbol_tables { ListMore symbol_text IsGivenSymbol }
@@ -87,12 +87,12 @@ pub fn calls()
 /// The same with padded numbers, of the sections of entries: a piece may spell its item with padded numbers.
 #[tactic(auto, using(crate::proofs::HeldLaws::wide_calls))]
 pub fn wide_calls()
-    ensures names { HoldsMoreWide name_text IsName IsName (λ item. item) subsection }
-    ensures linking { HoldsMoreWide link_text IsLink IsLink (λ item. item) link }
-    ensures producers { HoldsMoreWide field_text IsField IsField (λ field. field) field }
-    ensures hints { HoldsMoreWide hints_text AreHints AreHints (λ hints. hints) hints }
-    ensures modules { HoldsMoreWide marked_text IsModule IsModule (λ n. n) marked_name }
-    ensures instances { HoldsMoreWide instance_text IsInstance IsInstance (λ instance. instance) instance }
+    ensures names { HoldsMoreWide name_items }
+    ensures linking { HoldsMoreWide link_items }
+    ensures producers { HoldsMoreWide field_items }
+    ensures hints { HoldsMoreWide hint_items }
+    ensures modules { HoldsMoreWide module_items }
+    ensures instances { HoldsMoreWide instance_items }
 {}
 
 /// Where a module is read as ids and payloads, and a section as its items alone, its payload is read as these alone.

@@ -4,7 +4,7 @@ ghost use Rattle.wasm_base.specs.Calls.{Adds};
 ghost use Rattle.wasm_base.specs.Formats.{u32 as u32_format, just};
 ghost use Rattle.wasm_base.specs.Texts.{frame_text, FrameFits};
 ghost use Rattle.wasm_custom.specs.Customs.{subsection_text};
-ghost use Rattle.wasm_custom.specs.Linking.{LinkItem, link_text, IsLink, link, linking_name, version};
+ghost use Rattle.wasm_custom.specs.Linking.{link_items, LinkItem, link_text, IsLink, link, linking_name, version};
 ghost use Rattle.wasm_custom.specs.Lists.{list_text};
 
 use crate::entries::{CustomEntries, CustomKind};
@@ -33,15 +33,9 @@ impl Items for LinkingItems {
 
     ghost Item = { LinkItem };
 
-    ghost record_text = { link_text };
+    ghost kind = { link_items };
 
-    ghost is_plain = { IsLink };
-
-    ghost normal_form = { λ item. item };
-
-    ghost item_format = { link };
-
-    #[tactic(auto, using(crate::proofs::LinkLaws::link_items))]
+    #[tactic(auto, using(crate::proofs::LinkLaws::link_laws))]
     fn laws() {}
 }
 

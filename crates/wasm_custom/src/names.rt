@@ -8,7 +8,7 @@ ghost use Rattle.wasm_base.specs.Pieces.{joined};
 ghost use Rattle.wasm_base.specs.Texts.{frame_text, FrameFits};
 ghost use Rattle.wasm_custom.specs.Customs.{subsection_text};
 ghost use Rattle.wasm_custom.specs.Lists.{list_text};
-ghost use Rattle.wasm_custom.specs.Names.{Naming, naming_text, IsNaming, Inside, inside_text, IsInside, NameItem, name_text, IsName, subsection, name_name};
+ghost use Rattle.wasm_custom.specs.Names.{name_items, Naming, naming_text, IsNaming, Inside, inside_text, IsInside, NameItem, name_text, IsName, subsection, name_name};
 
 use crate::custom_section::CustomSection;
 use crate::entries::{CustomEntries, CustomKind};
@@ -88,15 +88,9 @@ impl Items for NameItems {
 
     ghost Item = { NameItem };
 
-    ghost record_text = { name_text };
+    ghost kind = { name_items };
 
-    ghost is_plain = { IsName };
-
-    ghost normal_form = { λ item. item };
-
-    ghost item_format = { subsection };
-
-    #[tactic(auto, using(crate::proofs::NameLaws::name_items))]
+    #[tactic(auto, using(crate::proofs::NameLaws::name_laws))]
     fn laws() {}
 }
 

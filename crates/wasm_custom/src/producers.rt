@@ -4,7 +4,7 @@ ghost use Rattle.wasm_base.specs.Calls.{Adds};
 ghost use Rattle.wasm_base.specs.Formats.{fixed};
 ghost use Rattle.wasm_base.specs.Texts.{frame_text, FrameFits};
 ghost use Rattle.wasm_custom.specs.Lists.{list_text};
-ghost use Rattle.wasm_custom.specs.Producers.{Producer, producer_text, IsProducer, Field, field_text, IsField, field, producers_name};
+ghost use Rattle.wasm_custom.specs.Producers.{field_items, Producer, producer_text, IsProducer, Field, field_text, IsField, field, producers_name};
 
 use crate::entries::{CustomEntries, CustomKind};
 use crate::lists::{CountedList, ListKind};
@@ -55,15 +55,9 @@ impl Items for ProducerItems {
 
     ghost Item = { Field };
 
-    ghost record_text = { field_text };
+    ghost kind = { field_items };
 
-    ghost is_plain = { IsField };
-
-    ghost normal_form = { λ item. item };
-
-    ghost item_format = { field };
-
-    #[tactic(auto, using(crate::proofs::ProducerLaws::producer_items))]
+    #[tactic(auto, using(crate::proofs::ProducerLaws::producer_laws))]
     fn laws() {}
 }
 

@@ -1,87 +1,63 @@
 -- What callers cite: what the reader answers where a section's text stands.
 use Rattle.std.proofs.Common.{◌≡◌, ℕ, ◌≤◌, List, [], ◌++◌, length, refl, sym, ap, subst, ◌∙◌, append-nil}
-use Rattle.wasm_base.specs.Formats.{Format, u32, frame, mapped, vec, wasm_module}
-use Rattle.wasm_base.specs.Modules.{GainsReading}
+use Rattle.wasm_base.specs.Formats.{Format, frame, mapped, wasm_module}
+use Rattle.wasm_base.specs.Modules.{GainsReading, GainsReadingWide}
 use Rattle.wasm_base.specs.Numbers.{shortest, wide}
-use Rattle.wasm_base.specs.Reading.{UniqueReading, Reads, ReadsAlone, ReadsNothing}
-use Rattle.wasm_sections.specs.Exports.{ExportItem, export}
-use Rattle.wasm_sections.proofs.SectionLaws.{functions-alone, exports-alone}
-use Rattle.wasm_custom.specs.Names.{NameItem}
-use Rattle.wasm_custom.specs.Readings.{name_payload}
-use Rattle.wasm_custom.proofs.SectionLaws.{name_section-alone}
-use Rattle.wasm_reader.specs.Sections.{Contents, Functions, Exports, Names, section, Takes, Shortens}
+use Rattle.wasm_base.specs.Reading.{Reads, ReadsNothing}
+use Rattle.wasm_reader.specs.Sections.{Contents, section, Takes, Shortens}
 use Rattle.wasm_reader.specs.Shortening.{ShortensModule, AreSettled}
-use Rattle.wasm_reader.specs.declared.section.SectionKind.TheVariants as kinds
+use Rattle.wasm_reader.specs.declared.section.SectionKind.{SectionKind}
 use Rattle.wasm_reader.specs.declared.whole.Offsets.{Offsets}
+use Rattle.wasm_reader.proofs.ShortSections.{section-alone}
 
-module _ {X : Type 0} (F : Format X) (say : X → Contents) {text bytes : List ℕ} {x : X} (alone : ReadsAlone (frame F) text x) (gained : bytes ≡ [] ++ text) where
-  said : {y : Contents} {rest : List ℕ} → Reads (frame (mapped say F)) wide bytes y rest → (y ≡ say x) × (rest ≡ [])
-  said {rest = rest} h =
-      let s = h.spelled in
-      let inside : Reads (frame F) wide (text ++ []) s.spelled.0 rest = record { front = h.front; split = append-nil text ∙ sym gained ∙ h.split; spelled = record { front = s.front; content = s.content; joined = s.joined; size = s.size; spelled = s.spelled.2 } } in
-      let same = alone.alone wide [] s.spelled.0 rest inside in
-      (sym s.spelled.1 ∙ ap say same.0, same.1)
+-- ---- what was written
 
-  stands : UniqueReading (frame F) → ReadsNothing (frame (mapped say F)) wide bytes → ⊥
-  stands unique n =
-      let s = unique.spellings.wider text x alone.spelled in
-      n.none (say x) [] (record { front = text; split = gained ∙ sym (append-nil text); spelled = record { front = s.front; content = s.content; joined = s.joined; size = s.size; spelled = (x, refl, s.spelled) } })
+-- A buffer that had nothing gained a section: it spells what a constructor of `Contents` says of its items, as `written Tables`.
+pub written : {X : Type 0} {F : Format X} (say : X → Contents) {old new : List ℕ} {x : X} → old ≡ [] → GainsReading (frame F) x old new → frame (mapped say F) shortest new (say x)
+written {F = F} say {x = x} e g =
+    let s = g.alone.spelled in
+    subst (λ z. frame (mapped say F) shortest z (say x)) (sym (g.added ∙ ap (λ z. z ++ g.text) e))
+    (record { front = s.front; content = s.content; joined = s.joined; size = s.size; spelled = (x, refl, s.spelled) })
 
-  shortens : ((y : X) → say y ≡ say x → y ≡ x) → {t : List ℕ} → frame (mapped say F) shortest t (say x) → t ≡ text
-  shortens apart {t} h =
-      let s = h.spelled in
-      alone.one t (record { front = h.front; content = h.content; joined = h.joined; size = h.size; spelled = subst (λ z. F shortest h.content z) (apart s.0 s.1) s.2 })
+-- The same of a section with padded numbers: it stands at the front of the buffer.
+pub written_wide : {X : Type 0} {F : Format X} (say : X → Contents) {old new : List ℕ} {x : X} → old ≡ [] → GainsReadingWide (frame F) x old new → Reads (frame (mapped say F)) wide new (say x) []
+written_wide {F = F} say {new = new} {x = x} e g =
+    let s = g.alone.spelled in
+    let spelled = subst (λ z. frame (mapped say F) wide z (say x)) (sym (g.added ∙ ap (λ z. z ++ g.text) e)) (record { front = s.front; content = s.content; joined = s.joined; size = s.size; spelled = (x, refl, s.spelled) }) in
+    record { front = new; split = sym (append-nil new); spelled = spelled }
 
--- One value stands at the front of bytes.
-module _ {X : Type 0} (F : Format X) (say : X → Contents) (unique : UniqueReading (frame F)) {bytes : List ℕ} where
-  inside : {y : Contents} {rest : List ℕ} → Reads (frame (mapped say F)) wide bytes y rest → (x : X) × (say x ≡ y) × Reads (frame F) wide bytes x rest
-  inside h =
-      let s = h.spelled in
-      (s.spelled.0, s.spelled.1, record { front = h.front; split = h.split; spelled = record { front = s.front; content = s.content; joined = s.joined; size = s.size; spelled = s.spelled.2 } })
+-- ---- a section that stands at the front of bytes, of any kind, its numbers padded or not
 
-  one_reading : {y z : Contents} {rest other : List ℕ} → Reads (frame (mapped say F)) wide bytes y rest → Reads (frame (mapped say F)) wide bytes z other → y ≡ z
-  one_reading {rest = rest} {other = other} h g =
-      let p = inside h in
-      let q = inside g in
-      sym p.1 ∙ ap say (unique.alone wide p.2.front q.2.front rest other p.0 q.0 p.2.spelled q.2.spelled (sym p.2.split ∙ q.2.split)).0 ∙ q.1
-
--- The reader answers the indices of a function section that was written into an empty buffer.
-pub reads_functions : {bytes : List ℕ} {types : List ℕ} {y : Contents} {n : ℕ} → GainsReading (frame (vec u32)) types [] bytes → Takes kinds.Functions bytes y n → y ≡ Functions types
-reads_functions {bytes = bytes} g h = (said (vec u32) Functions g.alone g.added h.reads).0
+-- The reader answers these items.
+pub reads_padded : {kind : SectionKind} {bytes rest : List ℕ} {x y : Contents} {n : ℕ} → Takes kind bytes y n → Reads (section kind) wide bytes x rest → y ≡ x
+reads_padded {kind = kind} h r =
+    ((section-alone kind).alone wide h.reads.front r.front _ _ _ _ h.reads.spelled r.spelled (sym h.reads.split ∙ r.split)).0
 
 -- It gives no cause but `Memory`.
-pub functions_stand : {bytes : List ℕ} {types : List ℕ} → GainsReading (frame (vec u32)) types [] bytes → ReadsNothing (section kinds.Functions) wide bytes → ⊥
-functions_stand g n = stands (vec u32) Functions g.alone g.added functions-alone n
+pub padded_stands : (kind : SectionKind) {bytes rest : List ℕ} {x : Contents} → ReadsNothing (section kind) wide bytes → Reads (section kind) wide bytes x rest → ⊥
+padded_stands kind {rest = rest} {x = x} n r = n.none x rest r
 
--- A function section that was written is appended again where it is shortened.
-pub shortens_functions : {bytes : List ℕ} {types : List ℕ} {n : ℕ} {old new : List ℕ} → GainsReading (frame (vec u32)) types [] bytes → Shortens kinds.Functions bytes n old new → new ≡ old ++ bytes
-shortens_functions {types = types} {old = old} g h =
-    let is = reads_functions g h.takes in
-    h.appended ∙ ap (λ t. old ++ t) (shortens (vec u32) Functions g.alone g.added (λ y e. cc e) (subst (λ z. frame (mapped Functions (vec u32)) shortest h.text z) is h.spelled) ∙ sym g.added)
+-- What is appended where it is shortened is the shortest text of these items.
+pub shortens_padded : {kind : SectionKind} {padded rest bytes : List ℕ} {x : Contents} {n : ℕ} {old new : List ℕ} → Shortens kind padded n old new → Reads (section kind) wide padded x rest → section kind shortest bytes x → new ≡ old ++ bytes
+shortens_padded {kind = kind} {bytes = bytes} {x = x} {old = old} h r s =
+    h.appended ∙ ap (λ t. old ++ t) ((section-alone kind).spellings.one h.text bytes x (subst (λ z. section kind shortest h.text z) (reads_padded h.takes r) h.spelled) s)
 
--- The same of exports.
-pub reads_exports : {bytes : List ℕ} {items : List ExportItem} {y : Contents} {n : ℕ} → GainsReading (frame (vec export)) items [] bytes → Takes kinds.Exports bytes y n → y ≡ Exports items
-reads_exports g h = (said (vec export) Exports g.alone g.added h.reads).0
+-- ---- a section of any kind in shortest form, as `written` says of a buffer
 
-pub exports_stand : {bytes : List ℕ} {items : List ExportItem} → GainsReading (frame (vec export)) items [] bytes → ReadsNothing (section kinds.Exports) wide bytes → ⊥
-exports_stand g n = stands (vec export) Exports g.alone g.added exports-alone n
+at_front : (kind : SectionKind) {bytes : List ℕ} {x : Contents} → section kind shortest bytes x → Reads (section kind) wide bytes x []
+at_front kind {bytes = bytes} {x = x} s = record { front = bytes; split = sym (append-nil bytes); spelled = (section-alone kind).spellings.wider bytes x s }
 
--- The same of names.
-pub reads_names : {bytes : List ℕ} {items : List NameItem} {y : Contents} {n : ℕ} → GainsReading (frame name_payload) items [] bytes → Takes kinds.Names bytes y n → y ≡ Names items
-reads_names g h = (said name_payload Names g.alone g.added h.reads).0
+-- The reader answers the items that were added.
+pub reads_written : {kind : SectionKind} {bytes : List ℕ} {x y : Contents} {n : ℕ} → Takes kind bytes y n → section kind shortest bytes x → y ≡ x
+reads_written {kind = kind} h s = reads_padded h (at_front kind s)
 
-pub names_stand : {bytes : List ℕ} {items : List NameItem} → GainsReading (frame name_payload) items [] bytes → ReadsNothing (section kinds.Names) wide bytes → ⊥
-names_stand g n = stands name_payload Names g.alone g.added name_section-alone n
+-- It gives no cause but `Memory`.
+pub written_stands : (kind : SectionKind) {bytes : List ℕ} {x : Contents} → ReadsNothing (section kind) wide bytes → section kind shortest bytes x → ⊥
+written_stands kind n s = padded_stands kind n (at_front kind s)
 
--- Bytes that are read as what was written, some numbers padded, are read as that alone, and shortened to what was written.
-module _ {padded : List ℕ} {types : List ℕ} {rest : List ℕ} (given : Reads (section kinds.Functions) wide padded (Functions types) rest) where
-  pub reads_padded : {y : Contents} {n : ℕ} → Takes kinds.Functions padded y n → y ≡ Functions types
-  reads_padded h = one_reading (vec u32) Functions functions-alone h.reads given
-
-  pub shortens_padded : {bytes : List ℕ} {n : ℕ} {old new : List ℕ} → GainsReading (frame (vec u32)) types [] bytes → Shortens kinds.Functions padded n old new → new ≡ old ++ bytes
-  shortens_padded {old = old} g h =
-      let is = reads_padded h.takes in
-      h.appended ∙ ap (λ t. old ++ t) (shortens (vec u32) Functions g.alone g.added (λ y e. cc e) (subst (λ z. frame (mapped Functions (vec u32)) shortest h.text z) is h.spelled) ∙ sym g.added)
+-- The section is appended again where it is shortened.
+pub shortens_written : {kind : SectionKind} {bytes : List ℕ} {x : Contents} {n : ℕ} {old new : List ℕ} → Shortens kind bytes n old new → section kind shortest bytes x → new ≡ old ++ bytes
+shortens_written {kind = kind} h s = shortens_padded h (at_front kind s) s
 
 -- ---- modules
 

@@ -90,9 +90,11 @@ no_functions_at told {bytes = bytes} e n = subst (λ z. ReadsNothing (elements_a
 behind_kind : {bytes rest : List ℕ} {b : ℕ} → Reads byte wide bytes b rest → b ≡ 0x00 → bytes ≡ 0x00 ∷ rest
 behind_kind {rest = rest} h e = h.split ∙ ap (λ z. z ++ rest) h.spelled ∙ ap (λ z. z ∷ rest) e
 
+pub functions_behind : (told : Bool) (bytes rest last : List ℕ) (b : ℕ) (fs : List ℕ) → told ≡ true → Reads byte wide bytes b rest → b ≡ 0x00 → Reads (vec u32) wide rest fs last → Reads (elements_as told false) wide bytes (functions fs) last
+functions_behind told bytes rest last b fs p h e g = functions_at told p (mapped_reads functions (prefixed_reads (0x00 ∷ []) (vec u32) (behind_kind h e) g))
+
 pub functions_read : (told : Bool) (bytes rest last : List ℕ) (b : ℕ) (fs : List ℕ) → told ≡ true → Reads byte wide bytes b rest → b ≡ 0x00 → Reads (vec u32) wide rest (map (λ n. n) fs) last → Reads (elements_as told false) wide bytes (functions fs) last
-functions_read told bytes rest last b fs p h e g =
-    functions_at told p (mapped_reads functions (prefixed_reads (0x00 ∷ []) (vec u32) (behind_kind h e) (subst (λ z. Reads (vec u32) wide rest z last) (map-id fs) g)))
+functions_read told bytes rest last b fs p h e g = functions_behind told bytes rest last b fs p h e (subst (λ z. Reads (vec u32) wide rest z last) (map-id fs) g)
 
 pub functions_no_kind : (told : Bool) (bytes : List ℕ) → told ≡ true → ReadsNothing byte wide bytes → ReadsNothing (elements_as told false) wide bytes
 functions_no_kind told bytes p n =
@@ -105,8 +107,11 @@ functions_other told bytes rest b p h other =
 pub functions_none : (told : Bool) (bytes rest : List ℕ) (b : ℕ) → told ≡ true → Reads byte wide bytes b rest → b ≡ 0x00 → ReadsNothing (vec u32) wide rest → ReadsNothing (elements_as told false) wide bytes
 functions_none told bytes rest b p h e n = no_functions_at told p (mapped_nothing functions (prefixed_nothing (0x00 ∷ []) (vec u32) (behind_kind h e) n))
 
+pub functions_alone : (told : Bool) (bytes last : List ℕ) (fs : List ℕ) → told ≡ false → Reads (vec u32) wide bytes fs last → Reads (elements_as told false) wide bytes (functions fs) last
+functions_alone told bytes last fs p g = functions_at told p (mapped_reads functions (prefixed_reads [] (vec u32) refl g))
+
 pub functions_untold : (told : Bool) (bytes last : List ℕ) (fs : List ℕ) → told ≡ false → Reads (vec u32) wide bytes (map (λ n. n) fs) last → Reads (elements_as told false) wide bytes (functions fs) last
-functions_untold told bytes last fs p g = functions_at told p (mapped_reads functions (prefixed_reads [] (vec u32) refl (subst (λ z. Reads (vec u32) wide bytes z last) (map-id fs) g)))
+functions_untold told bytes last fs p g = functions_alone told bytes last fs p (subst (λ z. Reads (vec u32) wide bytes z last) (map-id fs) g)
 
 pub functions_none_untold : (told : Bool) (bytes : List ℕ) → told ≡ false → ReadsNothing (vec u32) wide bytes → ReadsNothing (elements_as told false) wide bytes
 functions_none_untold told bytes p n = no_functions_at told p (mapped_nothing functions (prefixed_nothing [] (vec u32) refl n))

@@ -6,9 +6,9 @@ use Rattle.wasm_base.specs.Formats.{Format, u32, members, vec}
 use Rattle.wasm_base.specs.Reading.{Reads}
 use Rattle.wasm_base.proofs.ReadingSteps as steps
 use Rattle.wasm_reader_base.specs.Shortest.{AppendsShortest}
+use Rattle.wasm_reader_base.proofs.ReadPassed.{HasPassed}
 use Rattle.wasm_reader_base.proofs.ReadWhole.{whole_reads}
 use Rattle.wasm_reader_base.proofs.ShortTexts.{members_start, members_more, then_appended}
-use Rattle.wasm_reader.proofs.Counting.{HasPassed}
 
 -- So many values were passed from `start` on, `rest` is behind them, and their shortest texts are appended.
 pub record HasShortened {X : Type 0} (F : Format X) (start : List ℕ) (count : ℕ) (rest old new : List ℕ) : Type 0 where

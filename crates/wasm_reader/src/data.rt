@@ -13,12 +13,12 @@ ghost use Rattle.wasm_reader.specs.Items.{instructions_of, segment_of};
 
 use std::alloc::{Allocator, Global};
 use wasm_base::{Encode, R, encode_frame};
-use wasm_reader_base::{ReadFault, Readable, Shorten};
+use wasm_reader_base::{ReadFault, Readable, Shorten, read_whole};
 use wasm_reader_insn::Expression;
 
 /// Bytes behind their number.
 #[derive(Clone, Copy, Debug)]
-struct Bytes<'a>(&'a [u8]);
+pub(crate) struct Bytes<'a>(&'a [u8]);
 
 impl<'a, A: Allocator + Copy> Readable<'a, A> for Bytes<'a> {
     ghost Value = { List ℕ };
@@ -108,26 +108,14 @@ impl<'a, A: Allocator + Copy> Readable<'a, A> for Segment<'a, A> {
 }
 
 /// Segments behind their number, which all of the bytes spell. Memory is taken for those that stand there, and not by their number.
-#[tactic(auto, using(wasm_reader_base::proofs::ReadVectors::vec_steps, wasm_reader_base::proofs::ReadWhole::whole_steps))]
-pub(crate) fn read_segments<'a, A: Allocator + Copy>(
+pub(crate) fn read_segments<'a, A: Allocator + Copy + 'a>(
     bytes: &'a [u8],
     alloc: A,
 ) -> Result<Vec<Segment<'a, A>, A>, ReadFault>
     ensures found { IfOk result (λ x. vec data_item wide bytes.now (map segment_of x.items)) }
     ensures none { IfErr result (λ e. e ≢ Memory → FillsNothing (vec data_item) bytes.now) }
 {
-    let (count, mut rest) = <u32 as Readable<'a, A>>::read(bytes, alloc)?;
-    let mut items = Vec::new(alloc);
-    for _taken in 0..count {
-        let (item, after) = <Segment<'a, A> as Readable<'a, A>>::read(rest, alloc)?;
-        items.push(item)?;
-        rest = after;
-    }
-    if rest.is_empty() {
-        Ok(items)
-    } else {
-        Err(ReadFault::SizeMismatch)
-    }
+    read_whole::<'a, Vec<Segment<'a, A>, A>, A>(bytes, alloc)
 }
 
 /// Appends the place and the bytes of a segment.
@@ -182,19 +170,4 @@ impl<'a, A: Allocator> Shorten for Segment<'a, A> {
             }
         }
     }
-}
-
-/// Appends segments behind their number.
-#[tactic(auto, using(wasm_reader_base::proofs::ShortTexts::members_start))]
-pub(crate) fn append_segments<A: Allocator, B: Allocator>(
-    segments: &[Segment<'_, A>],
-    out: &mut Vec<u8, B>,
-) -> R<()>
-    ensures { OnOk result (AppendsShortest (vec data_item) (map segment_of segments.now) out.old.items out.new.items) }
-{
-    segments.len().encode(out)?;
-    for segment in segments {
-        segment.append_shortest(out)?;
-    }
-    Ok(())
 }

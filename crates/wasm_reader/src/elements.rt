@@ -17,10 +17,10 @@ use wasm_reader_insn::Expression;
 
 /// What the flag of an element segment says.
 #[derive(Clone, Copy, Debug)]
-struct ElementFlag {
-    not_active: bool,
-    second: bool,
-    expressions: bool,
+pub(crate) struct ElementFlag {
+    pub(crate) not_active: bool,
+    pub(crate) second: bool,
+    pub(crate) expressions: bool,
 }
 
 impl ElementFlag {
@@ -35,7 +35,7 @@ impl ElementFlag {
     }
 
     /// Whether the kind of the elements is told.
-    fn tells_kind(self) -> bool
+    pub(crate) fn tells_kind(self) -> bool
         ensures { result ≡ tells_kind (element_flag_of self) }
     {
         self.not_active || self.second

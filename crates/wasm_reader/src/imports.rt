@@ -15,7 +15,7 @@ ghost use Rattle.wasm_sections.proofs.ImportLaws.{entity-alone, import-alone};
 use crate::Here;
 use std::alloc::Allocator;
 use wasm_base::{CowSlice, Encode, R};
-use wasm_reader_base::{Item, One, ReadFault, Readable, read_many};
+use wasm_reader_base::{Item, One, ReadFault, Readable, read_list, read_many};
 use wasm_sections::{
     EntityType, GlobalType, Import, ImportCompact, Imports, MemoryType, TableType, TagType,
 };
@@ -82,7 +82,7 @@ impl<'a, A: Allocator + Copy> Item<'a, Here, A> for ImportCompact<'a> {
 
 /// The byte of a group, and what follows it, where no single import stands there: behind an empty name the byte is no entity's.
 #[tactic(auto, using(crate::proofs::ReadImports::group_steps))]
-fn group_kind(bytes: &[u8]) -> Option<(u8, &[u8])>
+pub(crate) fn group_kind(bytes: &[u8]) -> Option<(u8, &[u8])>
     ensures { MatchOption result (ReadsNothing (prefixed (0x00 ∷ []) group) wide bytes.now) (λ x. (bytes.now ≡ 0x00 ∷ x.0 ∷ x.1.now) × (0x7E ≤ x.0)) }
 {
     let [first, kind, rest @ ..] = bytes else {
@@ -132,26 +132,14 @@ impl<'a, A: Allocator + Copy> Item<'a, Here, A> for Imports<'a, A> {
 }
 
 /// Imports, and groups of them, behind their number, which all of the bytes spell. Memory is taken for those that stand there, and not by their number.
-#[tactic(auto, using(wasm_reader_base::proofs::ReadVectors::vec_steps, wasm_reader_base::proofs::ReadWhole::whole_steps))]
-pub(crate) fn read_imports<'a, A: Allocator + Copy>(
+pub(crate) fn read_imports<'a, A: Allocator + Copy + 'a>(
     bytes: &'a [u8],
     alloc: A,
 ) -> Result<Vec<Imports<'a, A>, A>, ReadFault>
     ensures found { IfOk result (λ x. vec import_format wide bytes.now (map imports_item x.items)) }
     ensures none { IfErr result (λ e. e ≢ Memory → FillsNothing (vec import_format) bytes.now) }
 {
-    let (count, mut rest) = <u32 as Readable<'a, A>>::read(bytes, alloc)?;
-    let mut items = Vec::new(alloc);
-    for _taken in 0..count {
-        let (item, after) = <Imports<'a, A> as Item<'a, Here, A>>::read_item(rest, alloc)?;
-        items.push(item)?;
-        rest = after;
-    }
-    if rest.is_empty() {
-        Ok(items)
-    } else {
-        Err(ReadFault::SizeMismatch)
-    }
+    read_list::<'a, Imports<'a, A>, Here, A>(bytes, alloc)
 }
 
 /// Appends imports, and groups of them, behind their number.

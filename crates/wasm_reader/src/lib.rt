@@ -15,6 +15,7 @@ pub mod laws;
 mod limits;
 mod modules;
 mod outlines;
+mod passed;
 mod section;
 mod shortest;
 mod standing;

@@ -9,15 +9,17 @@ ghost use Rattle.wasm_reader.specs.Modules.{kind_of as kind_of_id, number_in, si
 ghost use Rattle.wasm_reader.specs.Sections.{Contents, content};
 
 use crate::Here;
-use crate::counts::{Dropped, Walked, count_passed};
+use crate::counts::count_passed;
 use crate::data::Segment;
 use crate::elements::ElementItem;
 use crate::globals::GlobalItem;
+use crate::passed::PassedImports;
 use crate::section::{SectionKind, read_content};
 use crate::tables::TableItem;
 use std::alloc::Allocator;
-use wasm_reader_base::{One, ReadFault, Readable};
-use wasm_sections::{Export, Imports, MemoryType, TagType};
+use wasm_reader_base::{Dropped, One, ReadFault, Readable};
+use wasm_reader_insn::Body;
+use wasm_sections::{Export, MemoryType, TagType};
 
 /// The magic and the version of a module.
 pub(crate) const HEADER: [u8; 8] = [0x00, 0x61, 0x73, 0x6D, 0x01, 0x00, 0x00, 0x00];
@@ -74,7 +76,7 @@ pub(crate) fn kind_of(id: u8) -> SectionKind
     }
 }
 
-/// The number of items of a section of the kind, from what its frame holds. None that is counted is kept, and of the instructions of a body one at a time.
+/// The number of items of a section of the kind, from what its frame holds. Nothing is kept of what is counted.
 pub(crate) fn read_number<'a, A: Allocator + Copy>(
     kind: SectionKind,
     bytes: &'a [u8],
@@ -84,21 +86,19 @@ pub(crate) fn read_number<'a, A: Allocator + Copy>(
     ensures none { IfErr result (λ e. e ≢ Memory → FillsNothing (content kind) bytes.now) }
 {
     match kind {
-        SectionKind::Bodies => count_passed::<'a, Walked, A>(bytes, alloc),
-        SectionKind::Segments => count_passed::<'a, Dropped<Segment<'a, A>>, A>(bytes, alloc),
-        SectionKind::Elements => count_passed::<'a, Dropped<ElementItem<A>>, A>(bytes, alloc),
+        SectionKind::Bodies => count_passed::<'a, Body<A>, A>(bytes, alloc),
+        SectionKind::Segments => count_passed::<'a, Segment<'a, A>, A>(bytes, alloc),
+        SectionKind::Elements => count_passed::<'a, ElementItem<A>, A>(bytes, alloc),
         SectionKind::Exports => {
             count_passed::<'a, Dropped<One<Export<'a>, Here>>, A>(bytes, alloc)
         }
         SectionKind::Functions => count_passed::<'a, Dropped<u32>, A>(bytes, alloc),
-        SectionKind::Globals => count_passed::<'a, Dropped<GlobalItem<A>>, A>(bytes, alloc),
-        SectionKind::Imports => {
-            count_passed::<'a, Dropped<One<Imports<'a, A>, Here>>, A>(bytes, alloc)
-        }
+        SectionKind::Globals => count_passed::<'a, GlobalItem<A>, A>(bytes, alloc),
+        SectionKind::Imports => count_passed::<'a, PassedImports, A>(bytes, alloc),
         SectionKind::Memories => {
             count_passed::<'a, Dropped<One<MemoryType, Here>>, A>(bytes, alloc)
         }
-        SectionKind::Tables => count_passed::<'a, Dropped<TableItem<A>>, A>(bytes, alloc),
+        SectionKind::Tables => count_passed::<'a, TableItem<A>, A>(bytes, alloc),
         SectionKind::Tags => count_passed::<'a, Dropped<One<TagType, Here>>, A>(bytes, alloc),
         SectionKind::DataCount | SectionKind::Start => {
             drop(read_content(kind, bytes, alloc)?);

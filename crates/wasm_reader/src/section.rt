@@ -109,7 +109,7 @@ pub enum Items<'a, A: Allocator = Global> {
 
 /// What the frame of a section of the kind holds.
 #[tactic(auto, using(crate::proofs::ReadSections::content_steps))]
-pub(crate) fn read_content<'a, A: Allocator + Copy>(
+pub(crate) fn read_content<'a, A: Allocator + Copy + 'a>(
     kind: SectionKind,
     bytes: &'a [u8],
     alloc: A,
@@ -217,7 +217,7 @@ pub(crate) fn read_content<'a, A: Allocator + Copy>(
 /// // items are the one index 5, and 3 bytes were taken
 /// ```
 #[tactic(auto, using(crate::proofs::ReadSections::section_steps))]
-pub fn read_section<'a, A: Allocator + Copy>(
+pub fn read_section<'a, A: Allocator + Copy + 'a>(
     alloc: A,
     kind: SectionKind,
     bytes: &'a [u8],

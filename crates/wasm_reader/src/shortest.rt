@@ -9,7 +9,6 @@ ghost use Rattle.wasm_reader_base.specs.Shortest.{AppendsShortest};
 ghost use Rattle.wasm_reader_base.specs.declared.fault.ReadFault.TheVariants.{Memory};
 ghost use Rattle.wasm_reader.specs.Sections.{Contents, content, section, contents_of, kind_in, Shortens};
 
-use crate::data::append_segments;
 use crate::imports::append_imports;
 use crate::section::{Items, SectionKind, read_content};
 use std::alloc::Allocator;
@@ -29,7 +28,7 @@ fn append_content<A: Allocator, B: Allocator>(items: Items<'_, A>, out: &mut Vec
 {
     match items {
         Items::Bodies(items) => items.append_shortest(out),
-        Items::Segments(items) => append_segments(&items, out),
+        Items::Segments(items) => items.append_shortest(out),
         Items::DataCount(count) => count.append_shortest(out),
         Items::Elements(items) => items.append_shortest(out),
         Items::Exports(items) => items.as_slice().encode(out),

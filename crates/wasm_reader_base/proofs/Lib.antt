@@ -3,6 +3,7 @@ pub mod ReadFixed
 pub mod ReadFrames
 pub mod ReadImmediates
 pub mod ReadNumbers
+pub mod ReadPassed
 pub mod ReadPlain
 pub mod ReadTypes
 pub mod ReadVectors

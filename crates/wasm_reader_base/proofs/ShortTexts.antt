@@ -1,7 +1,7 @@
 -- The one shortest text of what was read is appended, part by part.
 use Rattle.std.proofs.Common.{◌≡◌, ℕ, ◌+◌, ◌<◌, ◌≤◌, List, [], ◌∷◌, ◌++◌, length, take, drop, get_or, map, refl, sym, ap, ap₂, subst, ◌∙◌, append_assoc, append-nil}
 use Rattle.std.specs.List.{All, flat_map}
-use Rattle.std.proofs.lemmas.List.Elements.{All-nil, All-cons, All-head, All-tail}
+use Rattle.std.proofs.lemmas.List.Elements.{All-head, All-tail}
 use Rattle.std.proofs.lemmas.List.{drop_at, take_at, map-append, length-map, take_more, take_all}
 use Rattle.wasm_base.specs.Numbers.{shortest, wide, unsigned_text}
 use Rattle.wasm_base.specs.Formats.{Format, u32, fixed, mapped, Then, pair, prefixed, tagged, members, vec, frame}

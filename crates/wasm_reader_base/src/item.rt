@@ -1,8 +1,9 @@
 // Items whose types stand in other crates.
 ghost use Rattle.std.specs.Prelude.{◌≢◌, ℕ, List, IfOk, IfErr, map};
-ghost use Rattle.wasm_base.specs.Formats.{vec};
+ghost use Rattle.wasm_base.specs.Formats.{members, vec};
+ghost use Rattle.wasm_base.specs.Going.{FillsNothing};
 ghost use Rattle.wasm_base.specs.Numbers.{Mode, wide};
-ghost use Rattle.wasm_base.specs.Reading.{UniqueReading, Reads, ReadsNothing};
+ghost use Rattle.wasm_base.specs.Reading.{BeginsWith, UniqueReading, Reads, ReadsNothing};
 ghost use Rattle.wasm_reader_base.specs.declared.fault.ReadFault.TheVariants.{Memory};
 
 use crate::fault::ReadFault;
@@ -68,4 +69,25 @@ pub fn read_many<'a, T: Item<'a, Here, A>, Here, A: Allocator + Copy>(
         rest = after;
     }
     Ok((items, rest))
+}
+
+/// Items one after another, up to the last byte, none of which is empty. Memory is taken for items that stand there.
+pub fn read_to_end<'a, T: Item<'a, Here, A>, Here, A: Allocator + Copy>(
+    bytes: &'a [u8],
+    alloc: A,
+) -> Result<Vec<T, A>, ReadFault>
+    requires { BeginsWith (λ b. Unit {0}) T.format }
+    ensures found { IfOk result (λ x. members T.format wide bytes.now (map T.view x.items)) }
+    ensures none { IfErr result (λ e. e ≢ Memory → FillsNothing (members T.format) bytes.now) }
+{
+    let mut items = Vec::new(alloc);
+    let mut rest = bytes;
+    loop {
+        if rest.is_empty() {
+            return Ok(items);
+        }
+        let (item, after) = T::read_item(rest, alloc)?;
+        items.push(item)?;
+        rest = after;
+    }
 }

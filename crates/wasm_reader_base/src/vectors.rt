@@ -1,7 +1,8 @@
 // Vectors.
-ghost use Rattle.std.specs.Prelude.{List, map};
-ghost use Rattle.wasm_base.specs.Formats.{vec};
+ghost use Rattle.std.specs.Prelude.{List, OnOk, map};
+ghost use Rattle.wasm_base.specs.Formats.{members, vec};
 ghost use Rattle.wasm_base.proofs.FormatLaws.{vec-alone};
+ghost use Rattle.wasm_reader_base.specs.Shortest.{AppendsShortest};
 
 use crate::fault::ReadFault;
 use crate::readable::Readable;
@@ -32,6 +33,18 @@ impl<'a, A: Allocator + Copy, T: Readable<'a, A>> Readable<'a, A> for Vec<T, A> 
     }
 }
 
+/// Appends the shortest texts of the values, one after another. After a refusal a part of them may stand there.
+#[tactic(auto, using(crate::proofs::ShortTexts::members_start))]
+pub fn append_all<T: Shorten, B: Allocator>(items: &[T], out: &mut Vec<u8, B>) -> R<()>
+    ensures { OnOk result (AppendsShortest (members T.format) (map T.view items.now) out.old.items out.new.items) }
+{
+    for item in items {
+        item.append_shortest(out)?;
+    }
+    Ok(())
+}
+
+/// Appends the shortest texts of the values behind their number.
 impl<T: Shorten, A: Allocator> Shorten for Vec<T, A> {
     ghost Value = { List T.Value };
 
@@ -39,12 +52,8 @@ impl<T: Shorten, A: Allocator> Shorten for Vec<T, A> {
 
     ghost view = { λ v. map T.view v.items };
 
-    #[tactic(auto, using(crate::proofs::ShortTexts::members_start))]
     fn append_shortest<B: Allocator>(&self, out: &mut Vec<u8, B>) -> R<()> {
         self.len().encode(out)?;
-        for item in self.iter() {
-            item.append_shortest(out)?;
-        }
-        Ok(())
+        append_all(self, out)
     }
 }

@@ -1,5 +1,5 @@
 -- How core dumps are read.
-use Rattle.std.proofs.Common.{ℕ, List, [], ◌∷◌, map, true, refl, ap₂, subst, ◌∙◌, sym}
+use Rattle.std.proofs.Common.{ℕ, List, [], ◌∷◌, map, true, ap₂, subst}
 use Rattle.std.proofs.lemmas.List.{map-id}
 use Rattle.wasm_base.specs.Going.{FillsNothing}
 use Rattle.wasm_base.specs.Numbers.{wide}

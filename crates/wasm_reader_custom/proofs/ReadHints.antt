@@ -1,9 +1,9 @@
 -- How branch hints are read.
-use Rattle.std.proofs.Common.{◌≡◌, ◌≢◌, ℕ, ◌<◌, ◌≤◌, List, [], ◌∷◌, map, true, subst, arith}
+use Rattle.std.proofs.Common.{ℕ, ◌<◌, ◌≤◌, List, [], ◌∷◌, map, true, subst, arith}
 use Rattle.std.proofs.lemmas.List.{map-id}
 use Rattle.wasm_base.specs.Going.{FillsNothing}
 use Rattle.wasm_base.specs.Numbers.{wide}
-use Rattle.wasm_base.specs.Formats.{Format, byte, name, just, pair, prefixed, such, u32, vec}
+use Rattle.wasm_base.specs.Formats.{Format, byte, name, just, prefixed, such, u32, vec}
 use Rattle.wasm_base.specs.Reading.{Reads, ReadsNothing}
 use Rattle.wasm_base.proofs.FormatLaws.{byte-alone}
 use Rattle.wasm_base.proofs.NumberLaws.{u32-alone}

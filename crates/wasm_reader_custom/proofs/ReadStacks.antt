@@ -1,5 +1,5 @@
 -- How stacks of core dumps are read.
-use Rattle.std.proofs.Common.{◌≡◌, ◌≢◌, ℕ, ℤ, List, [], ◌∷◌, map, refl, sym, subst}
+use Rattle.std.proofs.Common.{◌≡◌, ◌≢◌, ℕ, ℤ, List, [], ◌∷◌, map, sym, subst}
 use Rattle.std.proofs.lemmas.List.{map-id}
 use Rattle.wasm_base.specs.Going.{FillsNothing}
 use Rattle.wasm_base.specs.Numbers.{wide}
@@ -8,7 +8,7 @@ use Rattle.wasm_base.specs.Reading.{UniqueReading, Reads, ReadsNothing}
 use Rattle.wasm_base.proofs.FormatLaws.{byte-alone, pair-alone, prefixed-alone, vec-alone}
 use Rattle.wasm_base.proofs.NumberLaws.{u32-alone}
 use Rattle.wasm_base.proofs.ReadingSteps.{reads_same, then_reads, then_nothing_first, then_nothing_second, mapped_reads, mapped_nothing}
-use Rattle.wasm_base.proofs.Tags.{tagged_reads, tagged_none, tagged_nothing, no_choice, fixed_reads, IsOther}
+use Rattle.wasm_base.proofs.Tags.{tagged_reads, tagged_none, tagged_nothing, no_choice, fixed_reads}
 use Rattle.wasm_custom.specs.CoreDumps.{marked_name}
 use Rattle.wasm_custom.specs.CoreStacks.{Frame, Place, frame_of, stack_frame, stack_name}
 use Rattle.wasm_custom.specs.CoreValues.{f32_of, f64_of, value_tags, value}

@@ -1,9 +1,8 @@
 -- The one shortest text of custom sections that were read.
-use Rattle.std.proofs.Common.{◌≡◌, ℕ, zero, suc, ◌<◌, Bool, List, [], ◌∷◌, ◌++◌, length, get_or, map, true, arith, refl, sym, ap, subst, ◌∙◌, append-nil}
+use Rattle.std.proofs.Common.{◌≡◌, ℕ, zero, suc, ◌<◌, Bool, List, [], ◌∷◌, ◌++◌, length, get_or, map, true, arith, refl, sym, ap, subst, append-nil}
 use Rattle.std.proofs.lemmas.List.{map-id}
-use Rattle.wasm_base.specs.Laws.{FitsUnsigned}
-use Rattle.wasm_base.specs.Numbers.{Mode, shortest, wide, unsigned_text}
-use Rattle.wasm_base.specs.Formats.{Format, u32, byte, name, just, fixed, pair, prefixed, tagged, vec, s32, s64}
+use Rattle.wasm_base.specs.Numbers.{wide}
+use Rattle.wasm_base.specs.Formats.{Format, u32, name, just, fixed, pair, prefixed, vec}
 use Rattle.wasm_base.specs.Texts.{frame_text, FrameFits, vec_text, VecFits}
 use Rattle.wasm_base.proofs.FormatLaws.{AllValues, values_tagged}
 use Rattle.wasm_custom.specs.CoreDumps.{marked_name, core_name, modules_name, Instance, instance, instance_of, instances_name}
@@ -11,7 +10,7 @@ use Rattle.wasm_custom.specs.CoreStacks.{Frame, Place, frame_of, stack_frame, st
 use Rattle.wasm_custom.specs.CoreValues.{value_text, IsValue, value_tags, value}
 use Rattle.wasm_custom.specs.Customs.{named_payload}
 use Rattle.wasm_custom.specs.Entries.{listing, entries}
-use Rattle.wasm_custom.specs.Hints.{Hints, hint_text, IsHint, hint_of, hint, hints, hints_name}
+use Rattle.wasm_custom.specs.Hints.{Hints, hint_text, IsHint, hint, hints, hints_name}
 use Rattle.wasm_custom.specs.Producers.{Field, field, producers_name}
 use Rattle.wasm_custom.specs.Readings.{producers_payload, hints_payload, core_payload, modules_payload, instances_payload, stack_payload}
 use Rattle.wasm_custom.specs.declared.core_values.CoreDumpValue.{CoreDumpValue}
@@ -20,7 +19,7 @@ use Rattle.wasm_custom.proofs.CoreStackLaws.{value_spelled}
 use Rattle.wasm_custom.proofs.HintLaws.{hint_spelled}
 use Rattle.wasm_reader_base.specs.Shortest.{AppendsShortest}
 use Rattle.wasm_reader_base.proofs.ReadPlain.{name_appended, little_endian_below}
-use Rattle.wasm_reader_base.proofs.ShortTexts.{text_appended, nothing_appended, pair_appended, prefixed_appended, tagged_appended, mapped_appended, records_appended}
+use Rattle.wasm_reader_base.proofs.ShortTexts.{text_appended, pair_appended, prefixed_appended, tagged_appended, mapped_appended, records_appended}
 
 -- ---- what is said behind a name
 

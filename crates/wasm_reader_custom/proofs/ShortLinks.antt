@@ -1,6 +1,6 @@
 -- The one shortest text of linking sections that were read.
-use Rattle.std.proofs.Common.{◌≡◌, ℕ, ◌<◌, List, [], ◌∷◌, ◌++◌, length, take, drop, false, refl, sym, ap, subst, ◌∙◌}
-use Rattle.wasm_base.specs.Numbers.{shortest, wide, unsigned_text}
+use Rattle.std.proofs.Common.{◌≡◌, ℕ, List, [], ◌∷◌, ◌++◌, length, take, drop, false, refl, sym, ap, ◌∙◌}
+use Rattle.wasm_base.specs.Numbers.{wide, unsigned_text}
 use Rattle.wasm_base.specs.Formats.{Format, u32, byte, name, just, frame, members, vec, choice, impossible}
 use Rattle.wasm_base.specs.Texts.{frame_text, FrameFits}
 use Rattle.wasm_base.proofs.FormatLaws.{choice_tells}

@@ -1,13 +1,13 @@
 -- The one shortest text of names that were read.
-use Rattle.std.proofs.Common.{◌≡◌, ℕ, ◌<◌, List, [], ◌∷◌, ◌++◌, length, map, take, drop, false, refl, sym, ap, subst, ◌∙◌}
+use Rattle.std.proofs.Common.{◌≡◌, ℕ, List, [], ◌∷◌, ◌++◌, length, take, drop, false, refl, sym, ap, subst}
 use Rattle.wasm_base.specs.Numbers.{Mode, shortest, wide}
-use Rattle.wasm_base.specs.Formats.{Format, byte, name, any_bytes, frame, mapped, members, vec}
+use Rattle.wasm_base.specs.Formats.{Format, byte, name, any_bytes, frame, mapped, members}
 use Rattle.wasm_base.specs.Texts.{frame_text, FrameFits}
 use Rattle.wasm_custom.specs.Names.{Naming, Inside, NameItem, Module, Map, Indirect, Other, NameKind, of_module, of_map, of_indirect, of_other, kind_of, after_id, name_map, indirect_map, subsection, name_name}
 use Rattle.wasm_custom.specs.Readings.{name_payload}
 use Rattle.wasm_custom.proofs.NameLaws.{tells}
 use Rattle.wasm_reader_base.specs.Shortest.{AppendsShortest}
-use Rattle.wasm_reader_base.proofs.ShortTexts.{text_appended, then_appended, tagged_appended, mapped_appended, frame_appended}
+use Rattle.wasm_reader_base.proofs.ShortTexts.{text_appended, tagged_appended, mapped_appended, frame_appended}
 use Rattle.wasm_reader_custom.specs.Names.{inside, id_of, held_by}
 use Rattle.wasm_reader_custom.proofs.ShortCustom.{items_appended}
 

@@ -1,9 +1,9 @@
 -- The one shortest text of symbols that were read.
-use Rattle.std.proofs.Common.{◌≡◌, ℕ, ◌^◌, ◌<◌, List, [], ◌∷◌, ◌++◌, Bool, true, false, Option, Some, None, refl, sym, ap, subst, ◌∙◌}
-use Rattle.wasm_base.specs.Numbers.{shortest, wide}
-use Rattle.wasm_base.specs.Formats.{Format, u32, byte, name, pair, tagged, mapped, optional, choice, impossible}
+use Rattle.std.proofs.Common.{◌≡◌, ℕ, List, [], ◌∷◌, ◌++◌, Bool, true, false, Option, Some, None, refl, sym, ap, subst, ◌∙◌}
+use Rattle.wasm_base.specs.Numbers.{wide}
+use Rattle.wasm_base.specs.Formats.{Format, u32, byte, name, pair, mapped, optional, choice, impossible}
 use Rattle.wasm_base.proofs.FormatLaws.{AllValues, choice_tells}
-use Rattle.wasm_custom.specs.Symbols.{kind_code, Symbol, indexed, of_data, has_name, has_definition, definition_text, IsDefinition, definition, indexed_of, data_of, indexed_symbol, data_symbol, symbol_tags, symbol}
+use Rattle.wasm_custom.specs.Symbols.{kind_code, Symbol, indexed, of_data, has_name, has_definition, definition_text, IsDefinition, definition, indexed_of, data_of, indexed_symbol, symbol_tags, symbol}
 use Rattle.wasm_custom.specs.declared.symbols.DataSymbolDefinition.{DataSymbolDefinition}
 use Rattle.wasm_custom.specs.declared.symbols.SymbolKind.{SymbolKind}
 use Rattle.wasm_custom.specs.declared.symbols.SymbolKind.TheVariants.{Function, Global, Table}

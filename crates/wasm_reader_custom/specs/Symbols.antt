@@ -1,5 +1,5 @@
 -- Symbols, and the subsections of a linking section, without where they lie in memory.
-use Rattle.std.specs.Prelude.{ℕ, map, option_map}
+use Rattle.std.specs.Prelude.{map, option_map}
 use Rattle.wasm_custom.specs.Linking as linking
 use Rattle.wasm_custom.specs.Symbols as symbols
 use Rattle.wasm_custom.specs.declared.symbols.SymbolKind.TheVariants as kinds

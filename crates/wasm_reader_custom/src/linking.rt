@@ -1,23 +1,24 @@
 // The linking section: symbols, and the architecture of the target.
 ghost use Rattle.std.specs.Prelude.{◌≢◌, IfOk, IfErr, OnOk, map};
-ghost use Rattle.wasm_base.specs.Formats.{just, members, u32, vec};
+ghost use Rattle.wasm_base.specs.Formats.{just, u32};
 ghost use Rattle.wasm_base.specs.Going.{FillsNothing};
 ghost use Rattle.wasm_base.specs.Numbers.{wide};
 ghost use Rattle.wasm_base.specs.Reading.{Reads, ReadsNothing};
 ghost use Rattle.wasm_custom.specs.Linking.{LinkItem as LinkModel, link, version};
 ghost use Rattle.wasm_custom.specs.Readings.{linking_payload};
-ghost use Rattle.wasm_custom.specs.Symbols.{symbol};
 ghost use Rattle.wasm_custom.proofs.LinkLaws.{link-alone};
 ghost use Rattle.wasm_reader_base.specs.Shortest.{AppendsShortest};
 ghost use Rattle.wasm_reader_base.specs.declared.fault.ReadFault.TheVariants.{Memory};
-ghost use Rattle.wasm_reader_custom.specs.Symbols.{symbol_of, link_of};
+ghost use Rattle.wasm_reader_custom.specs.Symbols.{link_of};
 
 use crate::Here;
 use crate::named::after_name;
 use crate::symbols::Symbol;
 use std::alloc::{Allocator, Global};
 use wasm_base::{Encode, R};
-use wasm_reader_base::{Framed, Item, ReadFault, Readable, Shorten, frame_since};
+use wasm_reader_base::{
+    Framed, Item, ReadFault, Readable, Shorten, append_all, frame_since, read_to_end, read_whole,
+};
 
 /// The version of linking sections.
 const VERSION: u32 = 2;
@@ -30,24 +31,7 @@ pub enum LinkItem<'a, A: Allocator = Global> {
     Arch(&'a str),
 }
 
-/// The symbols that all of the bytes spell, behind their number.
-#[tactic(auto, using(wasm_reader_base::proofs::ReadWhole::whole_steps))]
-fn fill_symbols<'a, A: Allocator + Copy>(
-    bytes: &'a [u8],
-    alloc: A,
-) -> Result<Vec<Symbol<'a>, A>, ReadFault>
-    ensures found { IfOk result (λ x. vec symbol wide bytes.now (map symbol_of x.items)) }
-    ensures none { IfErr result (λ e. e ≢ Memory → FillsNothing (vec symbol) bytes.now) }
-{
-    let (symbols, rest) = <Vec<Symbol<'a>, A> as Readable<'a, A>>::read(bytes, alloc)?;
-    if rest.is_empty() {
-        Ok(symbols)
-    } else {
-        Err(ReadFault::SizeMismatch)
-    }
-}
-
-impl<'a, A: Allocator + Copy> Item<'a, Here, A> for LinkItem<'a, A> {
+impl<'a, A: Allocator + Copy + 'a> Item<'a, Here, A> for LinkItem<'a, A> {
     ghost Value = { LinkModel };
 
     ghost format = { link };
@@ -62,7 +46,7 @@ impl<'a, A: Allocator + Copy> Item<'a, Here, A> for LinkItem<'a, A> {
         match id {
             8 => {
                 let (content, rest) = <&'a [u8] as Readable<'a, A>>::read(rest, alloc)?;
-                let symbols = fill_symbols(content, alloc)?;
+                let symbols = read_whole::<'a, Vec<Symbol<'a>, A>, A>(content, alloc)?;
                 Ok((LinkItem::Symbols(symbols), rest))
             }
             9 => {
@@ -88,29 +72,9 @@ fn after_version<'a, A: Allocator + Copy>(bytes: &'a [u8], alloc: A) -> Result<&
     }
 }
 
-/// Subsections up to the last byte.
-fn fill_links<'a, A: Allocator + Copy>(
-    bytes: &'a [u8],
-    alloc: A,
-) -> Result<Vec<LinkItem<'a, A>, A>, ReadFault>
-    ensures found { IfOk result (λ x. members link wide bytes.now (map link_of x.items)) }
-    ensures none { IfErr result (λ e. e ≢ Memory → FillsNothing (members link) bytes.now) }
-{
-    let mut items = Vec::new(alloc);
-    let mut rest = bytes;
-    loop {
-        if rest.is_empty() {
-            return Ok(items);
-        }
-        let (item, after) = <LinkItem<'a, A> as Item<'a, Here, A>>::read_item(rest, alloc)?;
-        items.push(item)?;
-        rest = after;
-    }
-}
-
 /// The subsections of a linking section.
 #[tactic(auto, using(crate::proofs::ReadLinks::section_steps))]
-pub fn read_links<'a, A: Allocator + Copy>(
+pub fn read_links<'a, A: Allocator + Copy + 'a>(
     bytes: &'a [u8],
     alloc: A,
 ) -> Result<Vec<LinkItem<'a, A>, A>, ReadFault>
@@ -119,7 +83,7 @@ pub fn read_links<'a, A: Allocator + Copy>(
 {
     let rest = after_name("linking", bytes, alloc)?;
     let rest = after_version(rest, alloc)?;
-    let items = fill_links(rest, alloc)?;
+    let items = read_to_end::<'a, LinkItem<'a, A>, Here, A>(rest, alloc)?;
     Ok(items)
 }
 
@@ -147,20 +111,6 @@ impl<'a, A: Allocator> Shorten for LinkItem<'a, A> {
     }
 }
 
-/// Appends subsections.
-#[tactic(auto, using(wasm_reader_base::proofs::ShortTexts::members_start))]
-fn append_subsections<A: Allocator, B: Allocator>(
-    items: &[LinkItem<'_, A>],
-    out: &mut Vec<u8, B>,
-) -> R<()>
-    ensures { OnOk result (AppendsShortest (members link) (map link_of items.now) out.old.items out.new.items) }
-{
-    for item in items {
-        item.append_shortest(out)?;
-    }
-    Ok(())
-}
-
 /// Appends the shortest text of what a linking section of these subsections holds, where some bytes are read as it. After a refusal a part of it may
 /// stand there.
 #[tactic(auto, using(crate::proofs::ShortLinks::links_appended))]
@@ -172,5 +122,5 @@ pub fn append_links<A: Allocator, B: Allocator>(
 {
     "linking".encode(out)?;
     VERSION.encode(out)?;
-    append_subsections(items, out)
+    append_all(items, out)
 }

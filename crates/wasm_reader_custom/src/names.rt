@@ -1,22 +1,22 @@
 // Names of a module and of its parts.
 ghost use Rattle.std.specs.Prelude.{◌≡◌, ◌≢◌, IfOk, IfErr, OnOk, map};
-ghost use Rattle.wasm_base.specs.Formats.{u32, members, pair};
+ghost use Rattle.wasm_base.specs.Formats.{u32};
 ghost use Rattle.wasm_base.specs.Going.{FillsNothing};
 ghost use Rattle.wasm_base.specs.Numbers.{wide};
-ghost use Rattle.wasm_custom.specs.Names.{NameItem as NameModel, Inside, name_map, indirect_map, kind_of as kind_of_id, subsection};
+ghost use Rattle.wasm_custom.specs.Names.{NameItem as NameModel, kind_of as kind_of_id, subsection};
 ghost use Rattle.wasm_custom.specs.Readings.{name_payload};
-ghost use Rattle.wasm_base.proofs.FormatLaws.{pair-alone};
-ghost use Rattle.wasm_base.proofs.NumberLaws.{u32-alone};
-ghost use Rattle.wasm_custom.proofs.NameLaws.{map-alone, subsection-alone};
+ghost use Rattle.wasm_custom.proofs.NameLaws.{subsection-alone};
 ghost use Rattle.wasm_reader_base.specs.Shortest.{AppendsShortest};
 ghost use Rattle.wasm_reader_base.specs.declared.fault.ReadFault.TheVariants.{Memory};
-ghost use Rattle.wasm_reader_custom.specs.Names.{kind_as, inside, held_by, id_of, names_of, inside_of, name_item_of};
+ghost use Rattle.wasm_reader_custom.specs.Names.{kind_as, inside, held_by, id_of, name_item_of};
 
 use crate::Here;
 use crate::named::after_name;
 use std::alloc::{Allocator, Global};
 use wasm_base::{Encode, R};
-use wasm_reader_base::{Item, ReadFault, Readable, Shorten, frame_since, read_whole};
+use wasm_reader_base::{
+    Item, ReadFault, Readable, Shorten, append_all, frame_since, read_to_end, read_whole,
+};
 
 /// What a subsection of a name section says.
 #[derive(Debug, Drop)]
@@ -61,73 +61,9 @@ fn kind_of(id: u8) -> NameKind
     }
 }
 
-/// Indices and names behind their number, which all of the bytes spell.
-#[tactic(auto, using(wasm_reader_base::proofs::ReadWhole::whole_steps))]
-fn fill_map<'a, A: Allocator + Copy>(
-    bytes: &'a [u8],
-    alloc: A,
-) -> Result<Vec<(u32, &'a str), A>, ReadFault>
-    ensures found { IfOk result (λ x. name_map wide bytes.now (names_of x.items)) }
-    ensures none { IfErr result (λ e. e ≢ Memory → FillsNothing name_map bytes.now) }
-{
-    let (names, rest) = <Vec<(u32, &'a str), A> as Readable<'a, A>>::read(bytes, alloc)?;
-    if rest.is_empty() {
-        Ok(names)
-    } else {
-        Err(ReadFault::SizeMismatch)
-    }
-}
-
-/// An index, and the indices and names of what is inside.
-impl<'a, A: Allocator + Copy> Item<'a, Here, A> for (u32, Vec<(u32, &'a str), A>) {
-    ghost Value = { Inside };
-
-    ghost format = { pair u32 name_map };
-
-    ghost view = { inside_of };
-
-    ghost alone = { pair-alone u32-alone map-alone };
-
-    #[tactic(auto, using(wasm_base::proofs::ReadingSteps::then_reads))]
-    fn read_item(
-        bytes: &'a [u8],
-        alloc: A,
-    ) -> Result<((u32, Vec<(u32, &'a str), A>), &'a [u8]), ReadFault> {
-        let (index, rest) = <u32 as Readable<'a, A>>::read(bytes, alloc)?;
-        let (names, rest) = <Vec<(u32, &'a str), A> as Readable<'a, A>>::read(rest, alloc)?;
-        Ok(((index, names), rest))
-    }
-}
-
-/// Indices, and the indices and names of each, behind their number, which all of the bytes spell. Memory is taken for those that stand there,
-/// and not by their number.
-#[tactic(auto, using(wasm_reader_base::proofs::ReadVectors::vec_steps, wasm_reader_base::proofs::ReadWhole::whole_steps))]
-fn fill_indirect<'a, A: Allocator + Copy>(
-    bytes: &'a [u8],
-    alloc: A,
-) -> Result<Vec<(u32, Vec<(u32, &'a str), A>), A>, ReadFault>
-    ensures found { IfOk result (λ x. indirect_map wide bytes.now (map inside_of x.items)) }
-    ensures none { IfErr result (λ e. e ≢ Memory → FillsNothing indirect_map bytes.now) }
-{
-    let (count, mut rest) = <u32 as Readable<'a, A>>::read(bytes, alloc)?;
-    let mut items = Vec::new(alloc);
-    for _taken in 0..count {
-        let (item, after) = <(u32, Vec<(u32, &'a str), A>) as Item<'a, Here, A>>::read_item(
-            rest, alloc,
-        )?;
-        items.push(item)?;
-        rest = after;
-    }
-    if rest.is_empty() {
-        Ok(items)
-    } else {
-        Err(ReadFault::SizeMismatch)
-    }
-}
-
 /// What a subsection of the id says, which holds this.
 #[tactic(auto, using(crate::proofs::ReadNames::kind_steps))]
-fn fill_subsection<'a, A: Allocator + Copy>(
+fn fill_subsection<'a, A: Allocator + Copy + 'a>(
     kind: NameKind,
     id: u8,
     bytes: &'a [u8],
@@ -142,18 +78,18 @@ fn fill_subsection<'a, A: Allocator + Copy>(
             Ok(NameItem::Module(name))
         }
         NameKind::Map => {
-            let names = fill_map(bytes, alloc)?;
+            let names = read_whole::<'a, Vec<(u32, &'a str), A>, A>(bytes, alloc)?;
             Ok(NameItem::Map { id, names })
         }
         NameKind::Indirect => {
-            let maps = fill_indirect(bytes, alloc)?;
+            let maps = read_whole::<'a, Vec<(u32, Vec<(u32, &'a str), A>), A>, A>(bytes, alloc)?;
             Ok(NameItem::Indirect { id, maps })
         }
         NameKind::Other => Ok(NameItem::Other { id, bytes }),
     }
 }
 
-impl<'a, A: Allocator + Copy> Item<'a, Here, A> for NameItem<'a, A> {
+impl<'a, A: Allocator + Copy + 'a> Item<'a, Here, A> for NameItem<'a, A> {
     ghost Value = { NameModel };
 
     ghost format = { subsection };
@@ -171,29 +107,9 @@ impl<'a, A: Allocator + Copy> Item<'a, Here, A> for NameItem<'a, A> {
     }
 }
 
-/// Subsections up to the last byte.
-fn fill_subsections<'a, A: Allocator + Copy>(
-    bytes: &'a [u8],
-    alloc: A,
-) -> Result<Vec<NameItem<'a, A>, A>, ReadFault>
-    ensures found { IfOk result (λ x. members subsection wide bytes.now (map name_item_of x.items)) }
-    ensures none { IfErr result (λ e. e ≢ Memory → FillsNothing (members subsection) bytes.now) }
-{
-    let mut items = Vec::new(alloc);
-    let mut rest = bytes;
-    loop {
-        if rest.is_empty() {
-            return Ok(items);
-        }
-        let (item, after) = <NameItem<'a, A> as Item<'a, Here, A>>::read_item(rest, alloc)?;
-        items.push(item)?;
-        rest = after;
-    }
-}
-
 /// The subsections of a name section.
 #[tactic(auto, using(crate::proofs::ReadNames::name_steps))]
-pub fn read_names<'a, A: Allocator + Copy>(
+pub fn read_names<'a, A: Allocator + Copy + 'a>(
     bytes: &'a [u8],
     alloc: A,
 ) -> Result<Vec<NameItem<'a, A>, A>, ReadFault>
@@ -201,36 +117,8 @@ pub fn read_names<'a, A: Allocator + Copy>(
     ensures none { IfErr result (λ e. e ≢ Memory → FillsNothing name_payload bytes.now) }
 {
     let rest = after_name("name", bytes, alloc)?;
-    let items = fill_subsections(rest, alloc)?;
+    let items = read_to_end::<'a, NameItem<'a, A>, Here, A>(rest, alloc)?;
     Ok(items)
-}
-
-/// Appends an index, and the indices and names of what is inside.
-#[tactic(auto, using(wasm_reader_base::proofs::ShortTexts::pair_appended))]
-fn append_inside<'a, A: Allocator, B: Allocator>(
-    given: &(u32, Vec<(u32, &'a str), A>),
-    out: &mut Vec<u8, B>,
-) -> R<()>
-    ensures { OnOk result (AppendsShortest (pair u32 name_map) (inside_of given.now) out.old.items out.new.items) }
-{
-    let (index, names) = given;
-    index.append_shortest(out)?;
-    names.append_shortest(out)
-}
-
-/// Appends indices, and the indices and names of each, behind their number.
-#[tactic(auto, using(wasm_reader_base::proofs::ShortTexts::members_start))]
-fn append_indirect<'a, A: Allocator, B: Allocator>(
-    items: &[(u32, Vec<(u32, &'a str), A>)],
-    out: &mut Vec<u8, B>,
-) -> R<()>
-    ensures { OnOk result (AppendsShortest indirect_map (map inside_of items.now) out.old.items out.new.items) }
-{
-    items.len().encode(out)?;
-    for item in items {
-        append_inside(item, out)?;
-    }
-    Ok(())
 }
 
 impl<'a, A: Allocator> NameItem<'a, A> {
@@ -254,7 +142,7 @@ impl<'a, A: Allocator> NameItem<'a, A> {
         match self {
             NameItem::Module(name) => name.append_shortest(out),
             NameItem::Map { names, .. } => names.append_shortest(out),
-            NameItem::Indirect { maps, .. } => append_indirect(maps, out),
+            NameItem::Indirect { maps, .. } => maps.append_shortest(out),
             NameItem::Other { bytes, .. } => {
                 out.extend_from_slice(bytes)?;
                 Ok(())
@@ -279,20 +167,6 @@ impl<'a, A: Allocator> Shorten for NameItem<'a, A> {
     }
 }
 
-/// Appends subsections.
-#[tactic(auto, using(wasm_reader_base::proofs::ShortTexts::members_start))]
-fn append_subsections<A: Allocator, B: Allocator>(
-    items: &[NameItem<'_, A>],
-    out: &mut Vec<u8, B>,
-) -> R<()>
-    ensures { OnOk result (AppendsShortest (members subsection) (map name_item_of items.now) out.old.items out.new.items) }
-{
-    for item in items {
-        item.append_shortest(out)?;
-    }
-    Ok(())
-}
-
 /// Appends the shortest text of what a name section of these subsections holds, where some bytes are read as it. After a refusal a part of it may
 /// stand there.
 #[tactic(auto, using(crate::proofs::ShortNames::names_appended))]
@@ -303,5 +177,5 @@ pub fn append_names<A: Allocator, B: Allocator>(
     ensures { OnOk result (AppendsShortest name_payload (map name_item_of items.now) out.old.items out.new.items) }
 {
     "name".encode(out)?;
-    append_subsections(items, out)
+    append_all(items, out)
 }

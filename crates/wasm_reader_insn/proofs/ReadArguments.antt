@@ -1,7 +1,7 @@
 -- How arguments are read, one for each part.
 use Rattle.std.proofs.Common.{◌≡◌, ℕ, ℤ, ◌+◌, ◌<◌, ◌≤◌, List, [], ◌∷◌, ◌++◌, length, map, drop, get_or, sym, ap, subst, ◌∙◌, append_assoc, append-nil, add-one, arith}
 use Rattle.std.proofs.Math.Seq.{drop-cons}
-use Rattle.std.proofs.lemmas.List.{map-append, map-id, drop_all}
+use Rattle.std.proofs.lemmas.List.{map-id, drop_all}
 use Rattle.wasm_base.specs.Numbers.{wide}
 use Rattle.wasm_base.specs.Formats.{u32, s32, s64, byte, raw_bytes, little_endian, vec}
 use Rattle.wasm_base.specs.Reading.{Reads, ReadsNothing}
@@ -32,37 +32,36 @@ use Rattle.wasm_base.proofs.Tags.{fixed_reads}
 
 -- ---- a loop over the parts
 
--- after k of the parts
-abbrev pub HasArguments : {A : Type 0} → List Part → ℕ → List ℕ → List (Arg A) → List ℕ → Type 0
-HasArguments ps k bytes items rest = GoesOn (arguments ps) bytes (arguments (drop k ps)) rest (λ ys. map argument_of items ++ ys)
+-- after k of the parts, whose arguments these are
+abbrev pub HasArguments : List Part → ℕ → List ℕ → List Argument → List ℕ → Type 0
+HasArguments ps k bytes xs rest = GoesOn (arguments ps) bytes (arguments (drop k ps)) rest (λ ys. xs ++ ys)
 
-module _ {A : Type 0} (ps : List Part) (bytes : List ℕ) where
-  pub arguments_step : (k : ℕ) (d : Part) (rest after : List ℕ) (items : List (Arg A)) (x : Arg A) → k < length ps → HasArguments ps k bytes items rest → Reads (part (get_or ps k d)) wide rest (argument_of x) after
-      → HasArguments ps (k + 1) bytes (items ++ x ∷ []) after
-  arguments_step k d rest after items x l go g =
+module _ (ps : List Part) (bytes : List ℕ) where
+  pub arguments_step : (k : ℕ) (d : Part) (rest after : List ℕ) (xs : List Argument) (x : Argument) → k < length ps → HasArguments ps k bytes xs rest → Reads (part (get_or ps k d)) wide rest x after → HasArguments ps (k + 1) bytes (xs ++ x ∷ []) after
+  arguments_step k d rest after xs x l go g =
       let p = get_or ps k d in
       let e : drop k ps ≡ p ∷ drop (k + 1) ps = drop-cons ps k d l ∙ ap (λ j. p ∷ drop j ps) (sym (add-one k)) in
       record {
         found = λ ys last h.
-            subst (λ z. Reads (arguments ps) wide bytes z last) (sym (ap (λ z. z ++ ys) (map-append argument_of items (x ∷ [])) ∙ append_assoc (map argument_of items) (argument_of x ∷ []) ys))
-            (go.found (argument_of x ∷ ys) last (subst (λ qs. Reads (arguments qs) wide rest (argument_of x ∷ ys) last) (sym e) (mapped_reads cons (then_reads g h))));
+            subst (λ z. Reads (arguments ps) wide bytes z last) (sym (append_assoc xs (x ∷ []) ys))
+            (go.found (x ∷ ys) last (subst (λ qs. Reads (arguments qs) wide rest (x ∷ ys) last) (sym e) (mapped_reads cons (then_reads g h))));
         none = λ n. go.none (subst (λ qs. ReadsNothing (arguments qs) wide rest) (sym e) (mapped_nothing cons (then_nothing_second (part-alone p) g n)));
       }
 
-  pub arguments_fail : (k : ℕ) (d : Part) (rest : List ℕ) (items : List (Arg A)) → k < length ps → HasArguments ps k bytes items rest → ReadsNothing (part (get_or ps k d)) wide rest → ReadsNothing (arguments ps) wide bytes
-  arguments_fail k d rest items l go n =
+  pub arguments_fail : (k : ℕ) (d : Part) (rest : List ℕ) (xs : List Argument) → k < length ps → HasArguments ps k bytes xs rest → ReadsNothing (part (get_or ps k d)) wide rest → ReadsNothing (arguments ps) wide bytes
+  arguments_fail k d rest xs l go n =
       let e : drop k ps ≡ get_or ps k d ∷ drop (k + 1) ps = drop-cons ps k d l ∙ ap (λ j. get_or ps k d ∷ drop j ps) (sym (add-one k)) in
       go.none (subst (λ qs. ReadsNothing (arguments qs) wide rest) (sym e) (mapped_nothing cons (then_nothing_first n)))
 
-  pub arguments_done : (k : ℕ) (rest : List ℕ) (items : List (Arg A)) → length ps ≤ k → HasArguments ps k bytes items rest → Reads (arguments ps) wide bytes (map argument_of items) rest
-  arguments_done k rest items l go =
+  pub arguments_done : (k : ℕ) (rest : List ℕ) (xs : List Argument) → length ps ≤ k → HasArguments ps k bytes xs rest → Reads (arguments ps) wide bytes xs rest
+  arguments_done k rest xs l go =
       let none : List Argument = [] in
-      subst (λ z. Reads (arguments ps) wide bytes z rest) (append-nil (map argument_of items))
+      subst (λ z. Reads (arguments ps) wide bytes z rest) (append-nil xs)
       (go.found [] rest (subst (λ qs. Reads (arguments qs) wide rest none rest) (sym (drop_all k ps l)) (fixed_reads rest none)))
 
-pub arguments_start : {A : Type 0} (ps : List Part) (bytes : List ℕ) (items : List (Arg A)) → items ≡ [] → HasArguments ps 0 bytes items bytes
-arguments_start ps bytes items e = record {
-  found = λ ys last h. subst (λ xs. Reads (arguments ps) wide bytes (map argument_of xs ++ ys) last) (sym e) h;
+pub arguments_start : (ps : List Part) (bytes : List ℕ) (xs : List Argument) → xs ≡ [] → HasArguments ps 0 bytes xs bytes
+arguments_start ps bytes xs e = record {
+  found = λ ys last h. subst (λ zs. Reads (arguments ps) wide bytes (zs ++ ys) last) (sym e) h;
   none = λ n. n;
 }
 
@@ -86,8 +85,23 @@ module _ (shape : Shape) (p : Part) (e : parts_of shape ≡ p ∷ []) (bytes : L
       let listed : Reads (arguments (p ∷ [])) wide bytes (map argument_of items) rest = subst (λ z. Reads (arguments (p ∷ [])) wide bytes (map argument_of z) rest) (sym i) one in
       subst (λ ps. Reads (arguments ps) wide bytes (map argument_of items) last) (sym e) (subst (λ z. Reads (arguments (p ∷ [])) wide bytes (map argument_of items) z) (sym l) listed)
 
+  -- of which nothing is kept
+  pub one_passed : (rest : List ℕ) (x : Argument) → Reads (part p) wide bytes x rest → (xs : List Argument) × Reads (arguments (parts_of shape)) wide bytes xs rest
+  one_passed rest x h =
+      let none : List Argument = [] in
+      (x ∷ none, subst (λ ps. Reads (arguments ps) wide bytes (x ∷ none) rest) (sym e) (mapped_reads cons (then_reads h (fixed_reads rest none))))
+
   pub one_nothing : ReadsNothing (part p) wide bytes → ReadsNothing (arguments (parts_of shape)) wide bytes
   one_nothing n = subst (λ ps. ReadsNothing (arguments ps) wide bytes) (sym e) (mapped_nothing cons (then_nothing_first n))
+
+-- ---- a part that is gone over
+
+module _ {wanted : Part} (p : Part) (e : wanted ≡ p) (bytes : List ℕ) where
+  pub part_passed : (rest : List ℕ) (x : Argument) → Reads (part p) wide bytes x rest → (y : Argument) × Reads (part wanted) wide bytes y rest
+  part_passed rest x h = (x, subst (λ q. Reads (part q) wide bytes x rest) (sym e) h)
+
+  pub part_none : ReadsNothing (part p) wide bytes → ReadsNothing (part wanted) wide bytes
+  part_none n = subst (λ q. ReadsNothing (part q) wide bytes) (sym e) n
 
 -- ---- each part
 

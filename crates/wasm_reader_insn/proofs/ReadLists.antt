@@ -1,8 +1,8 @@
 -- Lists of instructions up to the last byte and up to End, and bodies.
-use Rattle.std.proofs.Common.{◌≡◌, ◌≢◌, ℕ, ◌<◌, ◌≤◌, ◌-◌, List, [], ◌∷◌, ◌++◌, length, map, take, drop, slice_index_or, Bool, true, false, refl, sym, ap, subst, ◌∙◌, append_assoc, append-nil, arith}
+use Rattle.std.proofs.Common.{◌≡◌, ◌≢◌, ℕ, ◌≤◌, ◌-◌, List, [], ◌∷◌, ◌++◌, length, map, take, drop, slice_index_or, Bool, true, false, refl, sym, ap, subst, ◌∙◌, append_assoc, append-nil}
 use Rattle.std.proofs.lemmas.Bool.{ne_eqb}
 use Rattle.wasm_base.proofs.FormatLaws.{byte-alone}
-use Rattle.std.proofs.lemmas.List.{map-append, map-id, length-append}
+use Rattle.std.proofs.lemmas.List.{map-append, map-id}
 use Rattle.wasm_base.specs.Numbers.{wide}
 use Rattle.wasm_base.specs.Formats.{Format, byte, members, ended, pair, vec, u32, such, when, mapped, fixed}
 use Rattle.wasm_base.specs.Types.{val_type}

@@ -47,7 +47,7 @@ pub enum Arg<A: Allocator = Global> {
 /// A number.
 #[inline(always)]
 #[tactic(auto, using(crate::proofs::ReadArguments::unsigned_part))]
-fn read_unsigned<'a, A: Allocator + Copy>(
+pub(crate) fn read_unsigned<'a, A: Allocator + Copy>(
     bytes: &'a [u8],
     alloc: A,
 ) -> Result<(Arg<A>, &'a [u8]), ReadFault>
@@ -61,7 +61,7 @@ fn read_unsigned<'a, A: Allocator + Copy>(
 /// A signed number of 32 bits.
 #[inline(always)]
 #[tactic(auto, using(crate::proofs::ReadArguments::signed32_part))]
-fn read_signed32<'a, A: Allocator + Copy>(
+pub(crate) fn read_signed32<'a, A: Allocator + Copy>(
     bytes: &'a [u8],
     alloc: A,
 ) -> Result<(Arg<A>, &'a [u8]), ReadFault>
@@ -75,7 +75,7 @@ fn read_signed32<'a, A: Allocator + Copy>(
 /// A signed number of 64 bits.
 #[inline(always)]
 #[tactic(auto, using(crate::proofs::ReadArguments::signed64_part))]
-fn read_signed64<'a, A: Allocator + Copy>(
+pub(crate) fn read_signed64<'a, A: Allocator + Copy>(
     bytes: &'a [u8],
     alloc: A,
 ) -> Result<(Arg<A>, &'a [u8]), ReadFault>
@@ -131,7 +131,7 @@ fn read_vector<'a, A: Allocator + Copy>(
 /// A memory argument.
 #[inline(always)]
 #[tactic(auto, using(crate::proofs::ReadArguments::memory_part))]
-fn read_memory<'a, A: Allocator + Copy>(
+pub(crate) fn read_memory<'a, A: Allocator + Copy>(
     bytes: &'a [u8],
     alloc: A,
 ) -> Result<(Arg<A>, &'a [u8]), ReadFault>
@@ -172,7 +172,7 @@ fn read_lanes<'a, A: Allocator + Copy>(
 /// A block type.
 #[inline(always)]
 #[tactic(auto, using(crate::proofs::ReadArguments::block_part))]
-fn read_block<'a, A: Allocator + Copy>(
+pub(crate) fn read_block<'a, A: Allocator + Copy>(
     bytes: &'a [u8],
     alloc: A,
 ) -> Result<(Arg<A>, &'a [u8]), ReadFault>
@@ -285,7 +285,7 @@ fn read_flag<'a, A: Allocator + Copy>(
 }
 
 /// One argument. Arms that are rare or long are not put in place: with all of them there, what each leaves is moved by all.
-fn read_part<'a, A: Allocator + Copy>(
+pub(crate) fn read_part<'a, A: Allocator + Copy>(
     wanted: Part,
     bytes: &'a [u8],
     alloc: A,

@@ -26,7 +26,10 @@ pub struct Plain<A: Allocator = Global> {
 /// The opcode that the bytes begin with, and the bytes after it.
 #[tactic(auto, using(crate::proofs::ReadInstructions::opcode_steps))]
 #[inline]
-fn read_op<'a, A: Allocator + Copy>(bytes: &'a [u8], alloc: A) -> Result<(Op, &'a [u8]), ReadFault>
+pub(crate) fn read_op<'a, A: Allocator + Copy>(
+    bytes: &'a [u8],
+    alloc: A,
+) -> Result<(Op, &'a [u8]), ReadFault>
     ensures found { IfOk result (λ x. Reads opcode wide bytes.now x.0 x.1.now) }
     ensures none { IfErr result (λ e. e ≢ Memory → ReadsNothing opcode wide bytes.now) }
 {

@@ -2,6 +2,7 @@
 //!
 //! [`Plain`] is an instruction, [`Expression`] a constant expression, [`Code`] a list up to the last byte, [`Body`] a function's body.
 //! [`Instructions`] goes over the instructions of a body or an expression and keeps one of them; [`laws`] says what its places are.
+//! By `Passed` of `wasm_reader_base` bodies and expressions are gone over, and nothing is kept.
 #![tactic(auto)]
 
 mod arguments;
@@ -9,6 +10,7 @@ mod body;
 mod expression;
 mod instruction;
 pub mod laws;
+mod passed;
 mod walk;
 
 pub use arguments::Arg;

@@ -1,8 +1,7 @@
 -- What calls leave, step by step: lemmas that a caller cites.
-use Rattle.std.proofs.Common.{◌≡◌, ℕ, ◌^◌, ◌<◌, List, [], ◌∷◌, ◌++◌, map, IsUtf8, Bor, None, Some, Result, Ok, Err, refl, sym, subst, ◌∙◌, arith}
+use Rattle.std.proofs.Common.{◌≡◌, ℕ, ◌^◌, ◌<◌, List, [], ◌∷◌, ◌++◌, map, IsUtf8, Bor, None, Some, Ok, refl, sym, subst, ◌∙◌, arith}
 use Rattle.std.proofs.lemmas.List.{length-map}
 use Rattle.std.proofs.lemmas.List.Elements.{All-map}
-use Rattle.std.specs.Prelude.{OnOk}
 use Rattle.std.specs.Array.Iter.{array_into_iter_items, array_steps}
 use Rattle.std.specs.Iterator.{Count}
 use Rattle.std.specs.Iterator.Adapters.{copied_source, copied_steps}
@@ -10,21 +9,19 @@ use Rattle.std.specs.Slice.Iter.{iter_rest, iter_steps}
 use Rattle.std.specs.declared.array.IntoIter.{IntoIter}
 use Rattle.std.specs.declared.iter.Copied.{Copied}
 use Rattle.std.specs.declared.slice.Iter.{Iter}
-use Rattle.std.specs.declared.vec.Vec.{Vec}
-use Rattle.wasm_base.specs.declared.refused.Refused.{Refused}
 use Rattle.std.specs.List.{All, AllByRecursion}
-use Rattle.wasm_base.specs.Calls.{Appends, ReadsOneMore, ReadsBack, ReadsBackBoth, AddsEach}
-use Rattle.wasm_base.specs.Entries.{HoldsItems, HoldsWide, counted_format}
-use Rattle.wasm_base.specs.Formats.{Format, u32, vec, frame}
-use Rattle.wasm_base.specs.Laws.{NameFits, HoldsMoreWide}
+use Rattle.wasm_base.specs.Calls.{ReadsOneMore, ReadsBack, ReadsBackBoth}
+use Rattle.wasm_base.specs.Entries.{HoldsWide, counted_format}
+use Rattle.wasm_base.specs.Formats.{u32, vec, frame}
+use Rattle.wasm_base.specs.Laws.{NameFits}
 use Rattle.wasm_insn.specs.Plain.{Plain}
-use Rattle.wasm_base.specs.Modules.{SectionReading, reading_of, wide_reading_of, ReadsSections, ReadsPayloads, GainsReading, GainsReadingWide}
+use Rattle.wasm_base.specs.Modules.{SectionReading, reading_of, ReadsSections}
 use Rattle.wasm_base.specs.Numbers.{shortest, unsigned_text}
-use Rattle.wasm_base.specs.Pieces.{SectionPayload, SectionFits, section_text, section_framed}
+use Rattle.wasm_base.specs.Pieces.{SectionPayload, SectionFits, section_text}
 use Rattle.wasm_base.specs.Texts.{frame_text, FrameFits, VecFits, raw_framed}
 use Rattle.wasm_base.specs.Types.{IsRef}
 use Rattle.wasm_base.specs.declared.types.RefType.{RefType}
-use Rattle.wasm_base.proofs.Calls.{gains_section, gains_section_wide, adds_item_wide, encodes_wide}
+use Rattle.wasm_base.proofs.Calls.{gains_section, adds_item_wide, new_section, adds_item, adds_raw, gains_items}
 use Rattle.wasm_base.proofs.KnownLengths.{array_items, copied_items}
 use Rattle.wasm_base.proofs.Payloads.{u32-payload}
 use Rattle.wasm_base.proofs.TextLaws.{u32_spelled, name_spelled}
@@ -44,7 +41,6 @@ use Rattle.wasm_sections.specs.Tags.{tag_type}
 use Rattle.wasm_sections.specs.declared.memory.MemoryType.{MemoryType}
 use Rattle.wasm_sections.specs.declared.table.TableType.{TableType}
 use Rattle.wasm_sections.specs.declared.tag.TagType.{TagType}
-use Rattle.wasm_base.proofs.HeldLaws.{holds_more}
 use Rattle.wasm_base.proofs.PartLaws.{pair_spelled}
 use Rattle.wasm_sections.proofs.ElementLaws.{stored_same}
 use Rattle.wasm_sections.proofs.HeldLaws.{tables-wide, globals-wide, data-wide, elements-wide}
@@ -52,59 +48,34 @@ use Rattle.wasm_sections.proofs.Payloads.{functions-payload, tables-payload, mem
 
 -- ---- a new section
 
-module _ {Record Item : Type 0} (text : Record → List ℕ) (IsPlain : Record → Type 0) (normal_form : Record → Item) (F : Format Item) where
-  nothing_held : {entries : List (List ℕ)} → entries ≡ [] → HoldsItems text IsPlain normal_form F entries []
-  nothing_held e = record { entries = []; held = e; meant = tt }
-
 pub new_functions : {entries : List (List ℕ)} → entries ≡ [] → HoldsFunctions entries []
-new_functions e = nothing_held _ _ _ _ e
+new_functions e = new_section e
 
 pub new_tables : {entries : List (List ℕ)} → entries ≡ [] → HoldsTables entries []
-new_tables e = nothing_held _ _ _ _ e
+new_tables e = new_section e
 
 pub new_memories : {entries : List (List ℕ)} → entries ≡ [] → HoldsMemories entries []
-new_memories e = nothing_held _ _ _ _ e
+new_memories e = new_section e
 
 pub new_globals : {entries : List (List ℕ)} → entries ≡ [] → HoldsGlobals entries []
-new_globals e = nothing_held _ _ _ _ e
+new_globals e = new_section e
 
 pub new_exports : {entries : List (List ℕ)} → entries ≡ [] → HoldsExports entries []
-new_exports e = nothing_held _ _ _ _ e
+new_exports e = new_section e
 
 pub new_elements : {entries : List (List ℕ)} → entries ≡ [] → HoldsElements entries []
-new_elements e = nothing_held _ _ _ _ e
+new_elements e = new_section e
 
 pub new_segments : {entries : List (List ℕ)} → entries ≡ [] → HoldsSegments entries []
-new_segments e = nothing_held _ _ _ _ e
+new_segments e = new_section e
 
 pub new_imports : {entries : List (List ℕ)} → entries ≡ [] → HoldsImports entries []
-new_imports e = nothing_held _ _ _ _ e
+new_imports e = new_section e
 
 pub new_tags : {entries : List (List ℕ)} → entries ≡ [] → HoldsTags entries []
-new_tags e = nothing_held _ _ _ _ e
+new_tags e = new_section e
 
 -- ---- one more item
-
--- an item that is the normal form of a plain record: a function's type, a memory, an import, a tag
-pub adds_item : {Record Item : Type 0} {text : Record → List ℕ} {IsPlain : Record → Type 0} {normal_form : Record → Item} {F : Format Item} {old new : List (List ℕ)} {items : List Item}
-    → HoldsItems text IsPlain normal_form F old items → (given : Record) → new ≡ old ++ text given ∷ [] → IsPlain given → HoldsItems text IsPlain normal_form F new (items ++ normal_form given ∷ [])
-adds_item {text = text} {IsPlain = IsPlain} {normal_form = normal_form} {F = F} {old = old} {items = items} before given e plain =
-    subst (λ entries. HoldsItems text IsPlain normal_form F entries (items ++ normal_form given ∷ [])) (sym e)
-    ((holds_more text IsPlain normal_form F).given old items given before plain)
-
--- all items of a list
-pub adds_items : {Record Item : Type 0} {text : Record → List ℕ} {IsPlain : Record → Type 0} {normal_form : Record → Item} {F : Format Item} {Fits : Record → Type 0} {old new : List (List ℕ)} {items : List Item} {given : List Record}
-    → HoldsItems text IsPlain normal_form F old items → AddsEach text Fits given old new → AllByRecursion IsPlain given → HoldsItems text IsPlain normal_form F new (items ++ map normal_form given)
-adds_items {text = text} {IsPlain = IsPlain} {normal_form = normal_form} {F = F} {old = old} {items = items} {given = given} before added plain =
-    subst (λ entries. HoldsItems text IsPlain normal_form F entries (items ++ map normal_form given)) (sym added.is)
-    ((holds_more text IsPlain normal_form F).all old items given before plain)
-
--- an item that given bytes spell in shortest form: of elements, data and globals
-pub adds_raw : {Record Item : Type 0} {text : Record → List ℕ} {IsPlain : Record → Type 0} {normal_form : Record → Item} {F : Format Item} {old new : List (List ℕ)} {items : List Item} {piece : List ℕ}
-    → HoldsItems text IsPlain normal_form F old items → (item : Item) → new ≡ old ++ piece ∷ [] → F shortest piece item → HoldsItems text IsPlain normal_form F new (items ++ item ∷ [])
-adds_raw {text = text} {IsPlain = IsPlain} {normal_form = normal_form} {F = F} {old = old} {items = items} {piece = piece} before item e spelled =
-    subst (λ entries. HoldsItems text IsPlain normal_form F entries (items ++ item ∷ [])) (sym e)
-    ((holds_more text IsPlain normal_form F).raw old items piece item before spelled)
 
 -- a table without a first value, and one with it
 pub adds_table : {old new : List (List ℕ)} {items : List TableItem} → HoldsTables old items → (table : TableType) → new ≡ old ++ table_text table ∷ [] → IsTable table
@@ -204,27 +175,7 @@ pub adds_active_wide : {old new : List (List ℕ)} {items : List DataItem} → H
     → StoresWide offset is → HoldsWide data_item new (items ++ active memory is bytes ∷ [])
 adds_active_wide before memory is offset bytes e range stored = adds_item_wide data-wide before (given_active memory (record { bytes = offset; instructions = is }) bytes) e (range, stored)
 
--- a module and one more section
-pub gains_items_wide : {Record Item : Type 0} {text : Record → List ℕ} {IsPlain IsPlainWide : Record → Type 0} {normal_form : Record → Item} {F : Format Item} {readings : List SectionReading} {id : ℕ} {old new : List ℕ} {entries : List (List ℕ)} {items : List Item}
-    → HoldsMoreWide text IsPlain IsPlainWide normal_form F → ReadsSections readings old → ReadsOneMore (SectionPayload entries) id old new → SectionFits entries
-    → ReadsBackBoth (counted_format F) (HoldsItems text IsPlain normal_form F entries) (HoldsWide F entries) (section_text entries) → HoldsWide F entries items → ReadsSections (readings ++ wide_reading_of id (vec F) items ∷ []) new
-gains_items_wide {F = F} {entries = entries} {items = items} law before more fits reads holds =
-    gains_section_wide {F = vec F} before more (section_text entries) _ refl (section_framed entries _ fits refl) items (reads.wide.for_each items holds)
-
--- a section that a buffer has gained
-pub encodes_items_wide : {A Record Item : Type 0} {text : Record → List ℕ} {IsPlain IsPlainWide : Record → Type 0} {normal_form : Record → Item} {F : Format Item} {fits : Type 0} {entries : List (List ℕ)} {old new : Vec ℕ A} {result : Result (Unit {0}) Refused} {items : List Item}
-    → HoldsMoreWide text IsPlain IsPlainWide normal_form F → Appends (section_text entries) fits old new result → OnOk result (ReadsBackBoth (counted_format F) (HoldsItems text IsPlain normal_form F entries) (HoldsWide F entries) (section_text entries)) → HoldsWide F entries items
-    → OnOk result (GainsReadingWide (counted_format F) items old.items new.items)
-encodes_items_wide {text = text} {IsPlain = IsPlain} {normal_form = normal_form} {F = F} {entries = entries} law appends reads holds =
-    encodes_wide (counted_format F) (HoldsItems text IsPlain normal_form F entries) (HoldsWide F entries) appends reads holds
-
 -- ---- a module and one more section
-
-module _ {Record Item : Type 0} {text : Record → List ℕ} {IsPlain : Record → Type 0} {normal_form : Record → Item} {F : Format Item} (payloads : ReadsPayloads (vec F)) where
-  gains_items : {readings : List SectionReading} {id : ℕ} {old new : List ℕ} {entries : List (List ℕ)} {items : List Item} → ReadsSections readings old → ReadsOneMore (SectionPayload entries) id old new → SectionFits entries
-      → ReadsBackBoth (counted_format F) (HoldsItems text IsPlain normal_form F entries) (HoldsWide F entries) (section_text entries) → HoldsItems text IsPlain normal_form F entries items → ReadsSections (readings ++ reading_of id (vec F) items ∷ []) new
-  gains_items {entries = entries} {items = items} before more fits reads holds =
-      gains_section {F = vec F} before more payloads (section_text entries) _ refl (section_framed entries _ fits refl) items (reads.plain.for_each items holds)
 
 pub gains_functions : {readings : List SectionReading} {id : ℕ} {old new : List ℕ} {entries : List (List ℕ)} {items : List ℕ} → ReadsSections readings old → ReadsOneMore (SectionPayload entries) id old new → SectionFits entries
     → ReadsBackBoth (counted_format u32) (HoldsFunctions entries) (HoldsWide u32 entries) (section_text entries) → HoldsFunctions entries items → ReadsSections (readings ++ reading_of id (vec u32) items ∷ []) new
@@ -267,10 +218,3 @@ pub gains_number : {readings : List SectionReading} {id number : ℕ} {old new :
     → ReadsBack (frame u32) (λ said. said ≡ number) (frame_text (unsigned_text number)) → ReadsSections (readings ++ reading_of id u32 number ∷ []) new
 gains_number {number = number} before more fits reads =
     gains_section {F = u32} before more u32-payload (frame_text (unsigned_text number)) (unsigned_text number) refl (raw_framed (unsigned_text number) (unsigned_text number) fits refl) number (reads.for_each number refl)
-
--- a section that a buffer has gained
-pub encodes_items : {A Record Item : Type 0} {text : Record → List ℕ} {IsPlain : Record → Type 0} {normal_form : Record → Item} {F : Format Item} {fits : Type 0} {entries : List (List ℕ)} {old new : Vec ℕ A} {result : Result (Unit {0}) Refused} {items : List Item}
-    → Appends (section_text entries) fits old new result → OnOk result (ReadsBackBoth (counted_format F) (HoldsItems text IsPlain normal_form F entries) (HoldsWide F entries) (section_text entries)) → HoldsItems text IsPlain normal_form F entries items
-    → OnOk result (GainsReading (counted_format F) items old.items new.items)
-encodes_items {entries = entries} {result = Ok u} {items = items} appends reads holds = record { text = section_text entries; added = appends.ok; alone = reads.plain.for_each items holds }
-encodes_items {result = Err e} appends reads holds = tt

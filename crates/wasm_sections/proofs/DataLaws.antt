@@ -16,7 +16,7 @@ use Rattle.wasm_code.specs.Expressions.{expression, expression_text}
 use Rattle.wasm_code.proofs.ExpressionLaws.{expression-alone, expression_spelled}
 use Rattle.wasm_insn.specs.Plain.{Plain}
 use Rattle.wasm_sections.specs.Constants.{Stored, IsStoredIn}
-use Rattle.wasm_sections.specs.DataSegments.{GivenData, given_active, given_passive, DataItem, active, passive, AddsBytes, active_text, data_text, IsGivenDataIn, IsGivenData, data_of, in_first, in_memory, data_tags, data_item}
+use Rattle.wasm_sections.specs.DataSegments.{GivenData, given_active, given_passive, DataItem, active, passive, AddsBytes, active_text, data_text, IsGivenDataIn, data_of, in_first, in_memory, data_tags, data_item, data_items}
 use Rattle.wasm_base.proofs.PartLaws.{pair_in, flag_spelled, bytes_spelled}
 
 -- ---- reading
@@ -74,7 +74,7 @@ data_spelled mode (given_active memory e bytes) plain fits = active_spelled mode
 data_spelled mode (given_passive bytes) plain fits =
     ((1, passive bytes), refl, record { front = 0x01 ∷ []; back = frame_text bytes; joined = refl; first = flag_in mode 1 (omega arith); second = (bytes, refl, bytes_in mode bytes (last_fit (0x01 ∷ []) bytes fits)) })
 
-pub data_laws : ItemLaws data_text IsGivenData data_of data_item
+pub data_laws : ItemLaws data_items
 data_laws = record { alone = data-alone; spelled = data_spelled shortest }
 
 -- ---- calls

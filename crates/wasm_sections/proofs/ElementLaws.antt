@@ -25,7 +25,7 @@ use Rattle.wasm_immediates.specs.Immediates.{where_set}
 use Rattle.wasm_immediates.specs.PlainImmediates.{bit}
 use Rattle.wasm_insn.specs.Plain.{Plain}
 use Rattle.wasm_sections.specs.Constants.{Stored, IsStoredIn}
-use Rattle.wasm_sections.specs.Elements.{is_nullable_func, is_funcref, Place, passive, declared, active, ElementList, functions, expressions, Segment, needs_table, settled_place, settled, ElementFlag, flag_code, tells_kind, is_inactive, is_second, are_expressions, flag_of, place_text, elements_text, settled_text, stored_text, element_text, IsPlaceIn, AreElementsIn, IsSegmentIn, IsSegment, stored_by, place_of, elements_of, said_by, element_of, in_no_table, in_table, place, list_of, elements_as, segment_of, element}
+use Rattle.wasm_sections.specs.Elements.{is_nullable_func, is_funcref, Place, passive, declared, active, ElementList, functions, expressions, Segment, needs_table, settled_place, settled, ElementFlag, flag_code, tells_kind, is_inactive, is_second, are_expressions, flag_of, place_text, elements_text, settled_text, stored_text, element_text, IsPlaceIn, AreElementsIn, IsSegmentIn, stored_by, place_of, elements_of, said_by, element_of, in_no_table, in_table, place, list_of, elements_as, segment_of, element, element_items}
 use Rattle.wasm_base.proofs.PartLaws.{pair_in, flag_spelled, numbered-alone}
 use Rattle.wasm_sections.specs.GivenElements.{HaveOneText}
 use Rattle.wasm_sections.specs.declared.element.ElementSegment.{ElementSegment}
@@ -207,7 +207,7 @@ pub element_spelled : (mode : Mode) (s : Segment Stored) → IsSegmentIn mode s 
 element_spelled mode s plain =
     settled_spelled mode (settled s) (record { place = settled_place-plain mode (needs_table s.elements) s.place plain.place; elements = plain.elements }) (kind_told (needs_table s.elements) s.place)
 
-pub element_laws : ItemLaws element_text IsSegment element_of element
+pub element_laws : ItemLaws element_items
 element_laws = record { alone = element-alone; spelled = λ s plain fits. element_spelled shortest s plain }
 
 -- ---- the bytes of a segment's expressions

@@ -9,7 +9,7 @@ use Rattle.wasm_base.proofs.BaseLaws.{name-alone}
 use Rattle.wasm_base.proofs.FormatLaws.{coded-alone, mapped-alone, pair-alone}
 use Rattle.wasm_base.proofs.NumberLaws.{u32-alone}
 use Rattle.wasm_base.proofs.TextLaws.{u32_spelled}
-use Rattle.wasm_sections.specs.Exports.{kind_code, export_text, IsExport, item_of, export_of, export}
+use Rattle.wasm_sections.specs.Exports.{kind_code, export_text, IsExport, item_of, export_of, export, export_items}
 use Rattle.wasm_sections.specs.declared.export.Export.{Export}
 use Rattle.wasm_sections.specs.declared.export.ExportKind.{ExportKind}
 use Rattle.wasm_sections.specs.declared.export.ExportKind.TheVariants.{Func, Table, Memory, Global, Tag}
@@ -45,5 +45,5 @@ export_spelled e plain fits =
     let rest = pair_spelled (coded kind_code) u32 (kind_code e.kind ∷ []) (unsigned_text e.index) e.kind e.index refl (u32_spelled e.index plain.index) in
     ((e.name.now, (e.kind, e.index)), refl, pair_spelled name (pair (coded kind_code) u32) (frame_text e.name.now) back e.name.now (e.kind, e.index) named rest)
 
-pub export_laws : ItemLaws export_text IsExport item_of export
+pub export_laws : ItemLaws export_items
 export_laws = record { alone = export-alone; spelled = export_spelled }

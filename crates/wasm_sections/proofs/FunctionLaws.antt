@@ -1,14 +1,13 @@
 -- Type indices are read uniquely.
 use Rattle.std.proofs.Common.{◌≡◌, ℕ, false, arith, ◌+◌, ◌/◌, ◌%◌, ◌<◌, ◌≤◌, [], ◌∷◌}
 use Rattle.wasm_base.specs.Entries.{ItemLaws}
-use Rattle.wasm_base.specs.Formats.{u32}
-use Rattle.wasm_base.specs.Laws.{FitsUnsigned}
 use Rattle.wasm_base.specs.Numbers.{unsigned_text}
 use Rattle.wasm_base.proofs.NumberLaws.{u32-alone}
 use Rattle.wasm_base.proofs.NumberTexts.{two_groups}
 use Rattle.wasm_base.proofs.TextLaws.{u32_spelled}
+use Rattle.wasm_sections.specs.Functions.{function_items}
 
-pub function_laws : ItemLaws unsigned_text (FitsUnsigned 32) (λ index. index) u32
+pub function_laws : ItemLaws function_items
 function_laws = record { alone = u32-alone; spelled = λ index plain fits. u32_spelled index plain }
 
 -- for the tactics: an index of two bytes

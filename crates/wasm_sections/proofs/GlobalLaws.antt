@@ -10,7 +10,7 @@ use Rattle.wasm_base.proofs.TypeLaws.{val-alone, val-texts}
 use Rattle.wasm_code.specs.Expressions.{expression, expression_text}
 use Rattle.wasm_code.proofs.ExpressionLaws.{expression-alone, expression_spelled}
 use Rattle.wasm_immediates.specs.PlainImmediates.{bit}
-use Rattle.wasm_sections.specs.Globals.{GlobalFlags, global_code, global_flags, global_text, IsGlobal, global_of, global_type, GivenGlobal, global_item_text, IsGivenGlobalIn, IsGivenGlobal, global_item_of, global_from, global_item}
+use Rattle.wasm_sections.specs.Globals.{GlobalFlags, global_code, global_flags, global_text, IsGlobal, global_of, global_type, GivenGlobal, global_item_text, IsGivenGlobalIn, global_item_of, global_from, global_item, global_items}
 use Rattle.wasm_sections.specs.declared.global.GlobalType.{GlobalType}
 use Rattle.wasm_base.proofs.PartLaws.{pair_in, pair_spelled}
 use Rattle.wasm_base.proofs.TextLaws.{spelled_in}
@@ -48,5 +48,5 @@ global_item_spelled mode g plain =
     let init = expression_spelled mode g.init.bytes g.init.instructions plain.init in
     ((g.global_type, g.init.instructions), refl, pair_in mode global_type expression (global_text g.global_type) (expression_text g.init.bytes) g.global_type g.init.instructions typed init)
 
-pub global_laws : ItemLaws global_item_text IsGivenGlobal global_item_of global_item
+pub global_laws : ItemLaws global_items
 global_laws = record { alone = global_item-alone; spelled = λ g plain fits. global_item_spelled shortest g plain }

@@ -11,7 +11,7 @@ use Rattle.wasm_base.proofs.BaseLaws.{name-alone}
 use Rattle.wasm_base.proofs.FormatLaws.{TellsTag, AllValues, BeginNeverAlike, begin_apart, mapped-alone, pair-alone, vec-alone, byte-alone, either-alone, prefixed-alone, tagged-alone, tagged_at, choice_of, choice_begins, begins_mapped, values_mapped, values_tagged, none_in_common}
 use Rattle.wasm_base.proofs.NumberLaws.{u32-alone, u32_small}
 use Rattle.wasm_base.proofs.TextLaws.{tagged_spelled, u32_spelled, name_spelled, vec_spelled}
-use Rattle.wasm_sections.specs.Imports.{entity_text, IsEntity, entity_tags, entity, Imported, single, named, alike, ImportItem, named_text, imported_text, import_text, IsNamed, IsImported, IsImport, alike_of, group_tags, group, named_entity, after_module, import_of, import_format}
+use Rattle.wasm_sections.specs.Imports.{entity_text, IsEntity, entity_tags, entity, Imported, single, named, alike, ImportItem, named_text, imported_text, import_text, IsNamed, IsImported, IsImport, alike_of, group_tags, group, named_entity, after_module, import_of, import_format, import_items}
 use Rattle.wasm_sections.specs.declared.import.EntityType.{EntityType}
 use Rattle.wasm_sections.specs.declared.import.EntityType.TheVariants.{Function, Table, Memory, Global, Tag, FunctionExact}
 use Rattle.wasm_sections.proofs.GlobalLaws.{global-alone, global_spelled}
@@ -160,5 +160,5 @@ import_spelled i plain fits =
           (imported_spelled i.imported plain.1 (omega (arith, fits, whole))),
     )
 
-pub import_laws : ItemLaws import_text IsImport (λ import. import) import_format
+pub import_laws : ItemLaws import_items
 import_laws = record { alone = import-alone; spelled = import_spelled }

@@ -10,7 +10,7 @@ use Rattle.wasm_base.proofs.NumberLaws.{u32-alone}
 use Rattle.wasm_base.proofs.TextLaws.{u32_spelled, u64_spelled}
 use Rattle.wasm_base.specs.Texts.{optional_text}
 use Rattle.wasm_sections.specs.Flags.{flags_code}
-use Rattle.wasm_sections.specs.Memories.{memory_flags, memory_text, IsMemory, memory_of, after_memory_flags, memory_type}
+use Rattle.wasm_sections.specs.Memories.{memory_flags, memory_text, IsMemory, memory_of, after_memory_flags, memory_type, memory_items}
 use Rattle.wasm_sections.specs.declared.memory.MemoryType.{MemoryType}
 use Rattle.wasm_sections.proofs.FlagLaws.{flags-alone}
 use Rattle.wasm_base.proofs.PartLaws.{pair_spelled, optional_spelled, optional_tells}
@@ -47,5 +47,5 @@ memory_spelled m plain =
       },
     )
 
-pub memory_laws : ItemLaws memory_text IsMemory (λ memory. memory) memory_type
+pub memory_laws : ItemLaws memory_items
 memory_laws = record { alone = memory-alone; spelled = λ m plain fits. memory_spelled m plain }

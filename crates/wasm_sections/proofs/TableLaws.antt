@@ -16,7 +16,7 @@ use Rattle.wasm_code.proofs.ExpressionLaws.{expression-alone, expression_spelled
 use Rattle.wasm_insn.specs.Plain.{Plain}
 use Rattle.wasm_sections.specs.Constants.{Stored, IsStoredIn}
 use Rattle.wasm_sections.specs.Flags.{Flags, flags_code}
-use Rattle.wasm_sections.specs.Tables.{table_flags, table_text, IsTable, Limits, limits_of, after_limits_flags, limits, table_of, table_type, before_init, table_init_text, table_item_text, IsGivenTable, init_of, table_item_of, without_init, with_init, table_item}
+use Rattle.wasm_sections.specs.Tables.{table_flags, table_text, IsTable, Limits, limits_of, after_limits_flags, limits, table_of, table_type, before_init, table_init_text, init_of, without_init, with_init, table_item, table_items}
 use Rattle.wasm_sections.specs.declared.table.TableType.{TableType}
 use Rattle.wasm_sections.proofs.FlagLaws.{flags-alone}
 use Rattle.wasm_base.proofs.PartLaws.{pair_in, pair_spelled, optional_spelled, optional_tells}
@@ -94,5 +94,5 @@ init_spelled mode t (Some e) plain stored =
     let parts = pair_in mode table_type expression (table_text t) (expression_text e.bytes) t e.instructions typed (expression_spelled mode e.bytes e.instructions stored) in
     inr ((t, e.instructions), refl, ((tt, (t, e.instructions)), refl, record { front = before_init; back = table_text t ++ expression_text e.bytes; joined = refl; first = (refl, refl); second = parts }))
 
-pub table_laws : ItemLaws table_item_text IsGivenTable table_item_of table_item
+pub table_laws : ItemLaws table_items
 table_laws = record { alone = table_item-alone; spelled = λ t plain fits. init_spelled shortest t.table_type t.init plain.table_type plain.init }

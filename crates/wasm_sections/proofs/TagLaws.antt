@@ -7,7 +7,7 @@ use Rattle.wasm_base.specs.Reading.{UniqueReading}
 use Rattle.wasm_base.proofs.FormatLaws.{coded-alone, mapped-alone, pair-alone}
 use Rattle.wasm_base.proofs.NumberLaws.{u32-alone}
 use Rattle.wasm_base.proofs.TextLaws.{u32_spelled}
-use Rattle.wasm_sections.specs.Tags.{tag_code, tag_text, IsTag, tag_of, tag_type}
+use Rattle.wasm_sections.specs.Tags.{tag_code, tag_text, IsTag, tag_of, tag_type, tag_items}
 use Rattle.wasm_sections.specs.declared.tag.TagKind.{TagKind}
 use Rattle.wasm_sections.specs.declared.tag.TagKind.TheVariants.{Exception}
 use Rattle.wasm_sections.specs.declared.tag.TagType.{TagType}
@@ -26,5 +26,5 @@ pub tag_spelled : (t : TagType) → IsTag t → tag_type shortest (tag_text t) t
 tag_spelled t plain =
     ((t.kind, t.func_type_idx), refl, pair_spelled (coded tag_code) u32 (tag_code t.kind ∷ []) (unsigned_text t.func_type_idx) t.kind t.func_type_idx refl (u32_spelled t.func_type_idx plain))
 
-pub tag_laws : ItemLaws tag_text IsTag (λ tag. tag) tag_type
+pub tag_laws : ItemLaws tag_items
 tag_laws = record { alone = tag-alone; spelled = λ t plain fits. tag_spelled t plain }

@@ -1,5 +1,6 @@
 -- Element segments: their texts, and what spells them.
 use Rattle.std.specs.Prelude.{ℕ, ◌+◌, ◌^◌, ◌<◌, List, [], ◌∷◌, ◌++◌, map, Bool, true, false, cond, Option, Some, None, IfSome}
+use Rattle.wasm_base.specs.Entries.{Kind}
 use Rattle.wasm_base.specs.Formats.{Format, u32, mapped, pair, tagged, prefixed, fixed, vec, when, numbered, is_given}
 use Rattle.wasm_base.specs.Laws.{FitsUnsigned}
 use Rattle.wasm_base.specs.Numbers.{Mode, shortest, wide, unsigned_text}
@@ -230,3 +231,7 @@ segment_of parts = record { place = parts.0; elements = parts.1 }
 -- element segment: a flag, and what it tells of
 abbrev pub element : Format (Segment (List Plain))
 element = tagged (numbered flag_code) (λ f. mapped segment_of (pair (place f) (elements_as (tells_kind f) f.expressions)))
+
+-- the kind of element segments
+abbrev pub element_items : Kind (Segment Stored) (Segment (List Plain))
+element_items = record { text = element_text; IsPlain = IsSegment; IsPlainWide = IsSegmentWide; normal_form = element_of; format = element }

@@ -1,5 +1,6 @@
 -- Exports: their text, and what spells them.
 use Rattle.std.specs.Prelude.{ℕ, ◌^◌, ◌<◌, List, [], ◌∷◌, ◌++◌, IsUtf8}
+use Rattle.wasm_base.specs.Entries.{Kind}
 use Rattle.wasm_base.specs.Formats.{Format, u32, name, coded, mapped, pair}
 use Rattle.wasm_base.specs.Numbers.{unsigned_text}
 use Rattle.wasm_base.specs.Texts.{frame_text, FrameFits}
@@ -45,3 +46,7 @@ export_of parts = record { name = parts.0; kind = parts.1.0; index = parts.1.1 }
 -- export: a name, a kind and an index
 abbrev pub export : Format ExportItem
 export = mapped export_of (pair name (pair (coded kind_code) u32))
+
+-- the kind of exports
+abbrev pub export_items : Kind Export ExportItem
+export_items = record { text = export_text; IsPlain = IsExport; IsPlainWide = IsExport; normal_form = item_of; format = export }

@@ -1,5 +1,6 @@
 -- Global types and globals: their texts, and what spells them.
 use Rattle.std.specs.Prelude.{ℕ, ◌+◌, List, [], ◌∷◌, ◌++◌, Bool}
+use Rattle.wasm_base.specs.Entries.{Kind}
 use Rattle.wasm_base.specs.Formats.{Format, coded, mapped, pair}
 use Rattle.wasm_base.specs.Numbers.{Mode, shortest, wide}
 use Rattle.wasm_base.specs.Types.{val_type, val_text, IsVal}
@@ -79,3 +80,7 @@ global_from parts = record { global_type = parts.0; init = parts.1 }
 -- global: a type and an expression
 abbrev pub global_item : Format GlobalItem
 global_item = mapped global_from (pair global_type expression)
+
+-- the kind of globals
+abbrev pub global_items : Kind GivenGlobal GlobalItem
+global_items = record { text = global_item_text; IsPlain = IsGivenGlobal; IsPlainWide = IsGivenGlobalWide; normal_form = global_item_of; format = global_item }

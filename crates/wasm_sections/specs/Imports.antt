@@ -1,6 +1,7 @@
 -- Imports: their texts, and what spells them.
 use Rattle.std.specs.Prelude.{ℕ, ◌^◌, ◌<◌, List, [], ◌∷◌, ◌++◌, map, IsUtf8}
 use Rattle.wasm_base.specs.Cow.{items_of}
+use Rattle.wasm_base.specs.Entries.{Kind}
 use Rattle.wasm_base.specs.Formats.{Format, u32, name, byte, vec, mapped, tagged, choice, impossible, one_of, pair, prefixed}
 use Rattle.wasm_base.specs.Laws.{NameFits}
 use Rattle.wasm_base.specs.Numbers.{unsigned_text}
@@ -143,3 +144,7 @@ import_of parts = record { module_name = parts.0; imported = parts.1 }
 -- import: the name of a module, the name of an item, and its entity; or a group
 abbrev pub import_format : Format ImportItem
 import_format = mapped import_of (pair name after_module)
+
+-- the kind of imports and groups of imports
+abbrev pub import_items : Kind ImportItem ImportItem
+import_items = record { text = import_text; IsPlain = IsImport; IsPlainWide = IsImport; normal_form = λ import. import; format = import_format }

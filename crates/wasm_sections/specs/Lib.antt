@@ -9,4 +9,5 @@ pub mod Imports
 pub mod DataSegments
 pub mod Elements
 pub mod GivenElements
+pub mod Functions
 pub mod Readings

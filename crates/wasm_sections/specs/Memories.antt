@@ -1,5 +1,6 @@
 -- Memory types: their text, and what spells them.
 use Rattle.std.specs.Prelude.{ℕ, ◌^◌, ◌<◌, List, ◌∷◌, ◌++◌, Option, Some, None, IfSome}
+use Rattle.wasm_base.specs.Entries.{Kind}
 use Rattle.wasm_base.specs.Formats.{Format, u32, u64, mapped, tagged, pair, optional, is_given}
 use Rattle.wasm_base.specs.Numbers.{unsigned_text}
 use Rattle.wasm_base.specs.Texts.{optional_text}
@@ -31,6 +32,10 @@ after_memory_flags f = mapped (memory_of f) (pair u64 (pair (optional f.has_maxi
 -- memory type: flags, the minimum, and the maximum and the exponent of the page size where the flags tell of them
 abbrev pub memory_type : Format MemoryType
 memory_type = tagged flags after_memory_flags
+
+-- the kind of memory types
+abbrev pub memory_items : Kind MemoryType MemoryType
+memory_items = record { text = memory_text; IsPlain = IsMemory; IsPlainWide = IsMemory; normal_form = λ memory. memory; format = memory_type }
 
 -- the exponent of 2 that the page size is: 16 where none is given
 abbrev pub page_exponent : Option ℕ → ℕ

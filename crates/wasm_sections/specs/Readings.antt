@@ -2,58 +2,57 @@
 use Rattle.std.specs.Prelude.{ℕ, List}
 use Rattle.wasm_base.specs.Entries.{HoldsItems}
 use Rattle.wasm_base.specs.Formats.{u32, vec}
-use Rattle.wasm_base.specs.Laws.{FitsUnsigned}
 use Rattle.wasm_base.specs.Modules.{SectionReading, reading_of}
-use Rattle.wasm_base.specs.Numbers.{unsigned_text}
 use Rattle.wasm_base.specs.SectionId.{number_of}
 use Rattle.wasm_base.specs.declared.section_id.SectionId.TheVariants as ids
 use Rattle.wasm_insn.specs.Plain.{Plain}
-use Rattle.wasm_sections.specs.DataSegments.{data_text, IsGivenData, DataItem, data_of, data_item}
-use Rattle.wasm_sections.specs.Elements.{element_text, IsSegment, Segment, element_of, element}
-use Rattle.wasm_sections.specs.Exports.{export_text, IsExport, ExportItem, item_of, export}
-use Rattle.wasm_sections.specs.Globals.{global_item_text, IsGivenGlobal, GlobalItem, global_item_of, global_item}
-use Rattle.wasm_sections.specs.Imports.{ImportItem, import_text, IsImport, import_format}
-use Rattle.wasm_sections.specs.Memories.{memory_text, IsMemory, memory_type}
-use Rattle.wasm_sections.specs.Tables.{table_item_text, IsGivenTable, TableItem, table_item_of, table_item}
-use Rattle.wasm_sections.specs.Tags.{tag_text, IsTag, tag_type}
+use Rattle.wasm_sections.specs.DataSegments.{DataItem, data_item, data_items}
+use Rattle.wasm_sections.specs.Elements.{Segment, element, element_items}
+use Rattle.wasm_sections.specs.Exports.{ExportItem, export, export_items}
+use Rattle.wasm_sections.specs.Globals.{GlobalItem, global_item, global_items}
+use Rattle.wasm_sections.specs.Imports.{ImportItem, import_format, import_items}
+use Rattle.wasm_sections.specs.Memories.{memory_type, memory_items}
+use Rattle.wasm_sections.specs.Tables.{TableItem, table_item, table_items}
+use Rattle.wasm_sections.specs.Tags.{tag_type, tag_items}
 use Rattle.wasm_sections.specs.declared.memory.MemoryType.{MemoryType}
 use Rattle.wasm_sections.specs.declared.tag.TagType.{TagType}
+use Rattle.wasm_sections.specs.Functions.{function_items}
 
 -- The entries hold these indices of types, one for each function.
 abbrev pub HoldsFunctions : List (List ℕ) → List ℕ → Type 0
-HoldsFunctions = HoldsItems unsigned_text (FitsUnsigned 32) (λ index. index) u32
+HoldsFunctions = HoldsItems function_items
 
 -- The entries hold these tables.
 abbrev pub HoldsTables : List (List ℕ) → List TableItem → Type 0
-HoldsTables = HoldsItems table_item_text IsGivenTable table_item_of table_item
+HoldsTables = HoldsItems table_items
 
 -- The entries hold these memory types.
 abbrev pub HoldsMemories : List (List ℕ) → List MemoryType → Type 0
-HoldsMemories = HoldsItems memory_text IsMemory (λ memory. memory) memory_type
+HoldsMemories = HoldsItems memory_items
 
 -- The entries hold these globals.
 abbrev pub HoldsGlobals : List (List ℕ) → List GlobalItem → Type 0
-HoldsGlobals = HoldsItems global_item_text IsGivenGlobal global_item_of global_item
+HoldsGlobals = HoldsItems global_items
 
 -- The entries hold these exports.
 abbrev pub HoldsExports : List (List ℕ) → List ExportItem → Type 0
-HoldsExports = HoldsItems export_text IsExport item_of export
+HoldsExports = HoldsItems export_items
 
 -- The entries hold these element segments.
 abbrev pub HoldsElements : List (List ℕ) → List (Segment (List Plain)) → Type 0
-HoldsElements = HoldsItems element_text IsSegment element_of element
+HoldsElements = HoldsItems element_items
 
 -- The entries hold these data segments.
 abbrev pub HoldsSegments : List (List ℕ) → List DataItem → Type 0
-HoldsSegments = HoldsItems data_text IsGivenData data_of data_item
+HoldsSegments = HoldsItems data_items
 
 -- The entries hold these imports and groups of imports.
 abbrev pub HoldsImports : List (List ℕ) → List ImportItem → Type 0
-HoldsImports = HoldsItems import_text IsImport (λ import. import) import_format
+HoldsImports = HoldsItems import_items
 
 -- The entries hold these tag types.
 abbrev pub HoldsTags : List (List ℕ) → List TagType → Type 0
-HoldsTags = HoldsItems tag_text IsTag (λ tag. tag) tag_type
+HoldsTags = HoldsItems tag_items
 
 -- the function section of these indices of types, as a reader finds it
 abbrev pub function_reading : List ℕ → SectionReading

@@ -1,5 +1,6 @@
 -- Table types and tables: their texts, and what spells them.
 use Rattle.std.specs.Prelude.{ℕ, ◌^◌, ◌<◌, List, [], ◌∷◌, ◌++◌, Bool, true, false, Option, Some, None, IfSome}
+use Rattle.wasm_base.specs.Entries.{Kind}
 use Rattle.wasm_base.specs.Formats.{Format, u64, impossible, mapped, tagged, pair, optional, when, one_of, prefixed, is_given}
 use Rattle.wasm_base.specs.Numbers.{Mode, shortest, wide, unsigned_text}
 use Rattle.wasm_base.specs.Texts.{optional_text}
@@ -117,3 +118,7 @@ with_init parts = record { table_type = parts.0; init = Some parts.1 }
 -- table: a type; or two bytes, a type and an expression
 abbrev pub table_item : Format TableItem
 table_item = one_of (mapped without_init table_type) (mapped with_init (prefixed before_init (pair table_type expression)))
+
+-- the kind of tables
+abbrev pub table_items : Kind GivenTable TableItem
+table_items = record { text = table_item_text; IsPlain = IsGivenTable; IsPlainWide = IsGivenTableWide; normal_form = table_item_of; format = table_item }

@@ -1,5 +1,6 @@
 -- Tag types: their text, and what spells them.
 use Rattle.std.specs.Prelude.{ℕ, ◌^◌, ◌<◌, List, ◌∷◌}
+use Rattle.wasm_base.specs.Entries.{Kind}
 use Rattle.wasm_base.specs.Formats.{Format, u32, coded, mapped, pair}
 use Rattle.wasm_base.specs.Numbers.{unsigned_text}
 use Rattle.wasm_sections.specs.declared.tag.TagKind.{TagKind}
@@ -25,3 +26,7 @@ tag_of parts = record { kind = parts.0; func_type_idx = parts.1 }
 -- tag type: a byte for the kind, and the index of a function type
 abbrev pub tag_type : Format TagType
 tag_type = mapped tag_of (pair (coded tag_code) u32)
+
+-- the kind of tags
+abbrev pub tag_items : Kind TagType TagType
+tag_items = record { text = tag_text; IsPlain = IsTag; IsPlainWide = IsTag; normal_form = λ tag. tag; format = tag_type }

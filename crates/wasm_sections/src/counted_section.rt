@@ -112,7 +112,7 @@ impl<K: ItemKind, A: Allocator> Encode for CountedSection<K, A> {
 
     ghost fits = { SectionFits };
 
-    ghost reading = { λ section. ReadsBackBoth (counted_format K.item_format) (HoldsItems K.record_text K.is_plain K.normal_form K.item_format section) (HoldsWide K.item_format section) (section_text section) };
+    ghost reading = { λ section. ReadsBackBoth (counted_format K.kind.format) (HoldsItems K.kind section) (HoldsWide K.kind.format section) (section_text section) };
 
     fn encode<B: Allocator>(&self, sink: &mut Vec<u8, B>) -> R<()> {
         K::laws();
@@ -128,9 +128,9 @@ impl<K: ItemKind, A: Allocator> Section for CountedSection<K, A> {
 
     ghost Items = { List K.Item };
 
-    ghost format = { counted_format K.item_format };
+    ghost format = { counted_format K.kind.format };
 
-    ghost says = { HoldsItems K.record_text K.is_plain K.normal_form K.item_format };
+    ghost says = { HoldsItems K.kind };
 
     ghost payload = { SectionPayload };
 

@@ -4,6 +4,7 @@ ghost use Rattle.wasm_base.specs.Calls.{Adds};
 ghost use Rattle.wasm_base.specs.Iterators.{HasKnownLength};
 ghost use Rattle.wasm_base.specs.Texts.{frame_text};
 ghost use Rattle.wasm_base.specs.declared.refused.Refused.TheVariants.{TooLong};
+ghost use Rattle.wasm_sections.specs.DataSegments.{data_items};
 
 use crate::counted_section::{CountedSection, ItemKind};
 use std::alloc::{Allocator, Global};
@@ -84,13 +85,7 @@ impl Items for DataItems {
 
     ghost Item = { DataItem };
 
-    ghost record_text = { data_text };
-
-    ghost is_plain = { IsGivenData };
-
-    ghost normal_form = { data_of };
-
-    ghost item_format = { data_item };
+    ghost kind = { data_items };
 
     #[tactic(auto, using(crate::proofs::DataLaws::data_laws))]
     fn laws() {}

@@ -4,7 +4,7 @@ ghost use Rattle.wasm_base.specs.Calls.{Adds};
 ghost use Rattle.wasm_base.specs.declared.refused.Refused.TheVariants.{TooLong};
 ghost use Rattle.wasm_code.specs.Expressions.{expression_text};
 ghost use Rattle.wasm_immediates.specs.Immediates.{where_set};
-ghost use Rattle.wasm_sections.specs.Elements.{is_funcref, needs_table, settled_table, are_expressions, elements_text, ElementsFit};
+ghost use Rattle.wasm_sections.specs.Elements.{element_items, is_funcref, needs_table, settled_table, are_expressions, elements_text, ElementsFit};
 ghost use Rattle.wasm_code.specs.Expressions.{expression_text};
 
 use crate::counted_section::{CountedSection, ItemKind};
@@ -291,13 +291,7 @@ impl Items for ElementItems {
 
     ghost Item = { Segment (List Plain) };
 
-    ghost record_text = { element_text };
-
-    ghost is_plain = { IsSegment };
-
-    ghost normal_form = { element_of };
-
-    ghost item_format = { element };
+    ghost kind = { element_items };
 
     #[tactic(auto, using(crate::proofs::ElementLaws::element_laws))]
     fn laws() {}

@@ -3,7 +3,7 @@ ghost use Rattle.std.specs.Prelude.{◌≡◌, ◌∷◌, ◌++◌, [], ⊤};
 ghost use Rattle.wasm_base.specs.Calls.{Adds};
 ghost use Rattle.wasm_base.specs.Numbers.{unsigned_text};
 ghost use Rattle.wasm_base.specs.Texts.{frame_text, FrameFits};
-ghost use Rattle.wasm_sections.specs.Exports.{kind_code, export_text, ExportFits, IsExport, ExportItem, item_of, export};
+ghost use Rattle.wasm_sections.specs.Exports.{export_items, kind_code, export_text, ExportFits, IsExport, ExportItem, item_of, export};
 ghost use Rattle.wasm_sections.specs.declared.export.Export.{Export as Given};
 
 use crate::counted_section::{CountedSection, ItemKind, RecordOf};
@@ -68,13 +68,7 @@ impl Items for ExportItems {
 
     ghost Item = { ExportItem };
 
-    ghost record_text = { export_text };
-
-    ghost is_plain = { IsExport };
-
-    ghost normal_form = { item_of };
-
-    ghost item_format = { export };
+    ghost kind = { export_items };
 
     #[tactic(auto, using(crate::proofs::ExportLaws::export_laws))]
     fn laws() {}

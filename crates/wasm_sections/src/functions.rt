@@ -1,9 +1,8 @@
 // The function section.
 ghost use Rattle.std.specs.Prelude.{◌≡◌, ℕ, ⊤};
 ghost use Rattle.wasm_base.specs.Calls.{Adds};
-ghost use Rattle.wasm_base.specs.Formats.{u32 as u32_format};
-ghost use Rattle.wasm_base.specs.Laws.{FitsUnsigned};
 ghost use Rattle.wasm_base.specs.Numbers.{unsigned_text};
+ghost use Rattle.wasm_sections.specs.Functions.{function_items};
 
 use crate::counted_section::{CountedSection, ItemKind, RecordOf};
 use std::alloc::{Allocator, Global};
@@ -27,13 +26,7 @@ impl Items for FunctionItems {
 
     ghost Item = { ℕ };
 
-    ghost record_text = { unsigned_text };
-
-    ghost is_plain = { FitsUnsigned 32 };
-
-    ghost normal_form = { λ index. index };
-
-    ghost item_format = { u32_format };
+    ghost kind = { function_items };
 
     #[tactic(auto, using(crate::proofs::FunctionLaws::function_laws))]
     fn laws() {}

@@ -2,7 +2,7 @@
 ghost use Rattle.std.specs.Prelude.{◌≡◌, ◌++◌, ⊤};
 ghost use Rattle.wasm_base.specs.Calls.{Adds};
 ghost use Rattle.wasm_code.specs.Expressions.{expression_text};
-ghost use Rattle.wasm_sections.specs.Globals.{global_flags, global_code, global_text, GivenGlobal, GlobalItem, global_item_text, IsGivenGlobal, global_item_of, global_item};
+ghost use Rattle.wasm_sections.specs.Globals.{global_items, global_flags, global_code, global_text, GivenGlobal, GlobalItem, global_item_text, IsGivenGlobal, global_item_of, global_item};
 
 use crate::counted_section::{CountedSection, ItemKind};
 use crate::flags::where_set;
@@ -60,13 +60,7 @@ impl Items for GlobalItems {
 
     ghost Item = { GlobalItem };
 
-    ghost record_text = { global_item_text };
-
-    ghost is_plain = { IsGivenGlobal };
-
-    ghost normal_form = { global_item_of };
-
-    ghost item_format = { global_item };
+    ghost kind = { global_items };
 
     #[tactic(auto, using(crate::proofs::GlobalLaws::global_laws))]
     fn laws() {}

@@ -3,18 +3,7 @@ ghost use Rattle.std.specs.Prelude.{◌≡◌, ◌≢◌, ◌++◌, IfOk, ⊤};
 ghost use Rattle.wasm_base.specs.Calls.{Adds};
 ghost use Rattle.wasm_base.specs.Texts.{frame_text, FrameFits};
 ghost use Rattle.wasm_base.specs.declared.refused.Refused.TheVariants.{TooLong};
-ghost use Rattle.wasm_sections.specs.Imports.{
-  entity_text,
-  ImportItem,
-  import_text,
-  ImportFits,
-  IsImport,
-  import_format,
-  named_text,
-  import_item,
-  compact_item,
-  imports_item,
-};
+ghost use Rattle.wasm_sections.specs.Imports.{import_items, entity_text, ImportItem, import_text, ImportFits, IsImport, import_format, named_text, import_item, compact_item, imports_item};
 ghost use Rattle.wasm_sections.specs.declared.import.EntityType.TheVariants as entities;
 
 use crate::counted_section::{CountedSection, ItemKind, RecordOf};
@@ -203,13 +192,7 @@ impl Items for ImportItems {
 
     ghost Item = { ImportItem };
 
-    ghost record_text = { import_text };
-
-    ghost is_plain = { IsImport };
-
-    ghost normal_form = { λ import. import };
-
-    ghost item_format = { import_format };
+    ghost kind = { import_items };
 
     #[tactic(auto, using(crate::proofs::ImportLaws::import_laws))]
     fn laws() {}

@@ -4,22 +4,21 @@
 ghost use Rattle.std.specs.Prelude.{All, ◌∷◌, []};
 ghost use Rattle.wasm_base.specs.Entries.{ItemLaws, counted_format};
 ghost use Rattle.wasm_base.specs.Formats.{u32 as u32_format, frame, vec};
-ghost use Rattle.wasm_base.specs.Laws.{FitsUnsigned};
 ghost use Rattle.wasm_base.specs.Modules.{ReadsPayloads, ReadsPayloadsWide};
-ghost use Rattle.wasm_base.specs.Numbers.{unsigned_text};
 ghost use Rattle.wasm_base.specs.Reading.{UniqueReading, IsUniqueWide};
 ghost use Rattle.wasm_sections.specs.Constants.{Stored};
-ghost use Rattle.wasm_sections.specs.DataSegments.{data_text, IsGivenData, IsGivenDataWide, data_of, data_item};
-ghost use Rattle.wasm_sections.specs.Elements.{Segment, element_text, IsSegment, IsSegmentWide, element_of, element};
-ghost use Rattle.wasm_sections.specs.Exports.{export_text, IsExport, item_of, export};
+ghost use Rattle.wasm_sections.specs.DataSegments.{data_item, data_items};
+ghost use Rattle.wasm_sections.specs.Elements.{Segment, element_text, element, element_items};
+ghost use Rattle.wasm_sections.specs.Exports.{IsExport, export, export_items};
 ghost use Rattle.wasm_sections.specs.GivenElements.{HaveOneText};
-ghost use Rattle.wasm_sections.specs.Globals.{global_type, global_item_text, IsGlobal, IsGivenGlobal, IsGivenGlobalWide, global_item_of, global_item};
-ghost use Rattle.wasm_sections.specs.Imports.{import_text, IsEntity, IsImport, import_format, entity};
+ghost use Rattle.wasm_sections.specs.Globals.{global_type, IsGlobal, global_item, global_items};
+ghost use Rattle.wasm_sections.specs.Imports.{IsEntity, import_format, entity, import_items};
 ghost use Rattle.wasm_base.specs.Laws.{HoldsMore, HoldsMoreWide, NothingStandsWide};
-ghost use Rattle.wasm_sections.specs.Memories.{memory_text, IsMemory, memory_type};
-ghost use Rattle.wasm_sections.specs.Tables.{table_type, table_item_text, IsTable, IsGivenTable, IsGivenTableWide, table_item_of, table_item};
-ghost use Rattle.wasm_sections.specs.Tags.{tag_text, IsTag, tag_type};
+ghost use Rattle.wasm_sections.specs.Memories.{IsMemory, memory_type, memory_items};
+ghost use Rattle.wasm_sections.specs.Tables.{table_type, IsTable, table_item, table_items};
+ghost use Rattle.wasm_sections.specs.Tags.{tag_type, tag_items};
 ghost use Rattle.wasm_sections.specs.declared.element.ElementSegment.{ElementSegment};
+ghost use Rattle.wasm_sections.specs.Functions.{function_items};
 
 use crate::export::Export;
 use crate::global::GlobalType;
@@ -45,15 +44,15 @@ pub fn sections()
     ensures global_types { UniqueReading global_type }
     ensures numbers { UniqueReading (frame u32_format) }
 
-    ensures function_items { ItemLaws unsigned_text (FitsUnsigned 32) (λ index. index) u32_format }
-    ensures table_items { ItemLaws table_item_text IsGivenTable table_item_of table_item }
-    ensures memory_items { ItemLaws memory_text IsMemory (λ memory. memory) memory_type }
-    ensures global_items { ItemLaws global_item_text IsGivenGlobal global_item_of global_item }
-    ensures export_items { ItemLaws export_text IsExport item_of export }
-    ensures element_items { ItemLaws element_text IsSegment element_of element }
-    ensures data_items { ItemLaws data_text IsGivenData data_of data_item }
-    ensures import_items { ItemLaws import_text IsImport (λ import. import) import_format }
-    ensures tag_items { ItemLaws tag_text IsTag (λ tag. tag) tag_type }
+    ensures function_items { ItemLaws function_items }
+    ensures table_items { ItemLaws table_items }
+    ensures memory_items { ItemLaws memory_items }
+    ensures global_items { ItemLaws global_items }
+    ensures export_items { ItemLaws export_items }
+    ensures element_items { ItemLaws element_items }
+    ensures data_items { ItemLaws data_items }
+    ensures import_items { ItemLaws import_items }
+    ensures tag_items { ItemLaws tag_items }
 {}
 
 /// With padded numbers too, sections are read uniquely, and what shortest numbers spell is among it.
@@ -77,30 +76,30 @@ pub fn wide()
 /// What sections hold, call by call: at first no items, and after a call that adds a plain record what this says too.
 #[tactic(auto, using(crate::proofs::HeldLaws::calls))]
 pub fn calls()
-    ensures functions { HoldsMore unsigned_text (FitsUnsigned 32) (λ index. index) u32_format }
-    ensures tables { HoldsMore table_item_text IsGivenTable table_item_of table_item }
-    ensures memories { HoldsMore memory_text IsMemory (λ memory. memory) memory_type }
-    ensures globals { HoldsMore global_item_text IsGivenGlobal global_item_of global_item }
-    ensures exports { HoldsMore export_text IsExport item_of export }
-    ensures elements { HoldsMore element_text IsSegment element_of element }
-    ensures segments { HoldsMore data_text IsGivenData data_of data_item }
-    ensures imports { HoldsMore import_text IsImport (λ import. import) import_format }
-    ensures tags { HoldsMore tag_text IsTag (λ tag. tag) tag_type }
+    ensures functions { HoldsMore function_items }
+    ensures tables { HoldsMore table_items }
+    ensures memories { HoldsMore memory_items }
+    ensures globals { HoldsMore global_items }
+    ensures exports { HoldsMore export_items }
+    ensures elements { HoldsMore element_items }
+    ensures segments { HoldsMore data_items }
+    ensures imports { HoldsMore import_items }
+    ensures tags { HoldsMore tag_items }
 {}
 
 /// The same with padded numbers: a record may be plain but for padded numbers in its expressions, and a piece may spell its item with
 /// padded numbers.
 #[tactic(auto, using(crate::proofs::HeldLaws::wide_calls))]
 pub fn wide_calls()
-    ensures functions { HoldsMoreWide unsigned_text (FitsUnsigned 32) (FitsUnsigned 32) (λ index. index) u32_format }
-    ensures tables { HoldsMoreWide table_item_text IsGivenTable IsGivenTableWide table_item_of table_item }
-    ensures memories { HoldsMoreWide memory_text IsMemory IsMemory (λ memory. memory) memory_type }
-    ensures globals { HoldsMoreWide global_item_text IsGivenGlobal IsGivenGlobalWide global_item_of global_item }
-    ensures exports { HoldsMoreWide export_text IsExport IsExport item_of export }
-    ensures elements { HoldsMoreWide element_text IsSegment IsSegmentWide element_of element }
-    ensures segments { HoldsMoreWide data_text IsGivenData IsGivenDataWide data_of data_item }
-    ensures imports { HoldsMoreWide import_text IsImport IsImport (λ import. import) import_format }
-    ensures tags { HoldsMoreWide tag_text IsTag IsTag (λ tag. tag) tag_type }
+    ensures functions { HoldsMoreWide function_items }
+    ensures tables { HoldsMoreWide table_items }
+    ensures memories { HoldsMoreWide memory_items }
+    ensures globals { HoldsMoreWide global_items }
+    ensures exports { HoldsMoreWide export_items }
+    ensures elements { HoldsMoreWide element_items }
+    ensures segments { HoldsMoreWide data_items }
+    ensures imports { HoldsMoreWide import_items }
+    ensures tags { HoldsMoreWide tag_items }
 {}
 
 /// What a call of an element section appends, `given_text`, is the `element_text` of each record that has the segment's place and elements,

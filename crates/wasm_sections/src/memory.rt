@@ -2,7 +2,7 @@
 ghost use Rattle.std.specs.Prelude.{◌≡◌, ◌^◌, ◌<◌, ⊤};
 ghost use Rattle.wasm_base.specs.Calls.{Adds};
 ghost use Rattle.wasm_sections.specs.Flags.{flags_code};
-ghost use Rattle.wasm_sections.specs.Memories.{memory_flags, memory_text, IsMemory, memory_type, page_exponent};
+ghost use Rattle.wasm_sections.specs.Memories.{memory_items, memory_flags, memory_text, IsMemory, memory_type, page_exponent};
 ghost use Rattle.wasm_sections.specs.declared.memory.MemoryType.{MemoryType as Memory};
 
 use crate::counted_section::{CountedSection, ItemKind, RecordOf};
@@ -85,13 +85,7 @@ impl Items for MemoryItems {
 
     ghost Item = { Memory };
 
-    ghost record_text = { memory_text };
-
-    ghost is_plain = { IsMemory };
-
-    ghost normal_form = { λ memory. memory };
-
-    ghost item_format = { memory_type };
+    ghost kind = { memory_items };
 
     #[tactic(auto, using(crate::proofs::MemoryLaws::memory_laws))]
     fn laws() {}

@@ -3,18 +3,7 @@ ghost use Rattle.std.specs.Prelude.{◌≡◌, ◌++◌, ⊤};
 ghost use Rattle.wasm_base.specs.Calls.{Adds};
 ghost use Rattle.wasm_code.specs.Expressions.{expression_text};
 ghost use Rattle.wasm_sections.specs.Flags.{flags_code};
-ghost use Rattle.wasm_sections.specs.Tables.{
-  table_flags,
-  table_text,
-  GivenTable,
-  TableItem,
-  before_init,
-  table_item_text,
-  IsGivenTable,
-  table_item_of,
-  table_item,
-  index_type_of,
-};
+ghost use Rattle.wasm_sections.specs.Tables.{table_items, table_flags, table_text, GivenTable, TableItem, before_init, table_item_text, IsGivenTable, table_item_of, table_item, index_type_of};
 
 use crate::counted_section::{CountedSection, ItemKind, RecordOf};
 use crate::flags::where_set;
@@ -89,13 +78,7 @@ impl Items for TableItems {
 
     ghost Item = { TableItem };
 
-    ghost record_text = { table_item_text };
-
-    ghost is_plain = { IsGivenTable };
-
-    ghost normal_form = { table_item_of };
-
-    ghost item_format = { table_item };
+    ghost kind = { table_items };
 
     #[tactic(auto, using(crate::proofs::TableLaws::table_laws))]
     fn laws() {}

@@ -1,7 +1,7 @@
 // Tag types and the tag section.
 ghost use Rattle.std.specs.Prelude.{◌≡◌, ⊤};
 ghost use Rattle.wasm_base.specs.Calls.{Adds};
-ghost use Rattle.wasm_sections.specs.Tags.{tag_code, tag_text, IsTag, tag_type};
+ghost use Rattle.wasm_sections.specs.Tags.{tag_items, tag_code, tag_text, IsTag, tag_type};
 ghost use Rattle.wasm_sections.specs.declared.tag.TagType.{TagType as Tag};
 
 use crate::counted_section::{CountedSection, ItemKind, RecordOf};
@@ -63,13 +63,7 @@ impl Items for TagItems {
 
     ghost Item = { Tag };
 
-    ghost record_text = { tag_text };
-
-    ghost is_plain = { IsTag };
-
-    ghost normal_form = { λ tag. tag };
-
-    ghost item_format = { tag_type };
+    ghost kind = { tag_items };
 
     #[tactic(auto, using(crate::proofs::TagLaws::tag_laws))]
     fn laws() {}

@@ -41,35 +41,7 @@ decimal_of-parse {E} bits word (Err e) parsed plain =
     let parts = and_parts (is_word word) (all_ascii_digits word) spells in
     says (parts.1, some_from_is_word word parts.0, ltb-true (digits_value 10 word) (2 ^ bits) low))
 
-pub decimal_of-plus : (bits : ℕ) (word : List ℕ) → get_or word 0 0 ≡ 43 → decimal_of bits word ≡ None
-decimal_of-plus bits [] h = absurd (omega arith)
-decimal_of-plus bits (c ∷ cs) h = subst (λ d. decimal_of bits (d ∷ cs) ≡ None) (sym h) refl
-
 -- ---- a number of 64 bits as one of 32
-
-pub narrow : (value : Option ℕ) (n : ℕ) → below 64 value ≡ Some n → n < 2 ^ 32 → below 32 value ≡ Some n
-narrow None n e low = absurd (cc e)
-narrow (Some m) n e low = go (nat_lt m (2 ^ 64)) e
-  where
-    go : (test : Bool) → cond test (Some m) None ≡ Some n → below 32 (Some m) ≡ Some n
-    go true e = let same : m ≡ n = cc e in let small = lt-ltb n (2 ^ 32) low in rw (same, small) refl
-    go false e = absurd (cc e)
-
-pub narrow_large : (value : Option ℕ) (n : ℕ) → below 64 value ≡ Some n → 2 ^ 32 ≤ n → below 32 value ≡ None
-narrow_large None n e high = refl
-narrow_large (Some m) n e high = go (nat_lt m (2 ^ 64)) e
-  where
-    go : (test : Bool) → cond test (Some m) None ≡ Some n → below 32 (Some m) ≡ None
-    go true e = let same : m ≡ n = cc e in let large = le-ltb n (2 ^ 32) high in rw (same, large) refl
-    go false e = absurd (cc e)
-
-pub narrow_none : (value : Option ℕ) → below 64 value ≡ None → below 32 value ≡ None
-narrow_none None e = refl
-narrow_none (Some m) e = go (nat_lt m (2 ^ 64)) refl e
-  where
-    go : (test : Bool) → nat_lt m (2 ^ 64) ≡ test → cond test (Some m) None ≡ None → below 32 (Some m) ≡ None
-    go true is e = absurd (cc e)
-    go false is e = let large = le-ltb m (2 ^ 32) (omega (arith, ltb-false m (2 ^ 64) is)) in rw large refl
 
 -- ---- a number with a sign
 
@@ -121,7 +93,3 @@ module _ {E : Type 0} where
           let other : c ≢ 45 = λ e. let yes = eq-eqb c 45 e in cc in
           subst (λ s. MatchResult r (λ z. s ≡ Some z) (λ _. s ≡ None)) (sym (other_first c cs other))
           (without_sign (c ∷ cs) r (parse_signed_plain (numerals_by_value _ tells_all_ascii_digits) {E = E} w32 (c ∷ cs) r parsed plain other))
-
-pub signed_of-plus : (word : List ℕ) → get_or word 0 0 ≡ 43 → signed_of word ≡ None
-signed_of-plus [] h = absurd (omega arith)
-signed_of-plus (c ∷ cs) h = subst (λ d. signed_of (d ∷ cs) ≡ None) (sym h) refl

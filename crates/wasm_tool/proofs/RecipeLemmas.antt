@@ -47,20 +47,6 @@ added_to-push : (id : ℕ) (lines : List (List ℕ)) (line : List ℕ) (entries 
 added_to-push id lines line entries says =
     ap (added_to id) (entries_of-push lines line entries says) ∙ added_to-append id (entries_of lines) entries
 
-pub holds_none : {A : Type 0} (recipe : Recipe A) → IsEmpty recipe → HoldsLines [] recipe
-holds_none recipe empty = record {
-  good = All-nil IsGood;
-  types = empty.types;
-  functions = empty.functions;
-  memories = empty.memories;
-  globals = empty.globals;
-  exports = empty.exports;
-  start = empty.start;
-  code = empty.code;
-  segments = empty.segments;
-  names = empty.names;
-}
-
 more_items : (id : ℕ) (lines : List (List ℕ)) (line : List ℕ) (entries : List Addition) → entry_of line ≡ Ok entries
     → {old new : List (List ℕ)} → new ≡ old ++ added_to id entries → old ≡ added_to id (entries_of lines) → new ≡ added_to id (entries_of (lines ++ line ∷ []))
 more_items id lines line entries says added held =

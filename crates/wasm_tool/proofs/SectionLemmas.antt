@@ -123,14 +123,3 @@ puts_names items old new result some few ok fitted too_long = record {
 
 one_fits : (item : List ℕ) → FrameFits item → All FrameFits (item ∷ [])
 one_fits item fits = All-push FrameFits [] item (All-nil FrameFits) fits
-
-pub puts_no_start : (old : List ℕ) → Puts (start_of []) (All FrameFits []) old old (Ok tt)
-puts_no_start old = record { ok = sym (append-nil old); fitted = All-nil FrameFits; too_long = λ _ e. cc }
-
-pub puts_start : (item old new : List ℕ) (result : Result (Unit {0}) Refused) → OnOk result (new ≡ old ++ 8 ∷ frame_text item) → OnOk result (FrameFits item) → (FrameFits item → result ≢ Err TooLong)
-    → Puts (start_of (item ∷ [])) (All FrameFits (item ∷ [])) old new result
-puts_start item old new result ok fitted too_long = record {
-  ok = on_ok result _ _ ok (λ e. e ∙ ap (λ t. old ++ t) (sym (append-nil (8 ∷ frame_text item))));
-  fitted = on_ok result _ _ fitted (one_fits item);
-  too_long = λ fits. too_long (All-head FrameFits item [] fits);
-}

@@ -1,5 +1,5 @@
 -- What calls leave, step by step: lemmas that a caller cites.
-use Rattle.std.proofs.Common.{◌≡◌, ◌≤◌, length, ℕ, List, [], ◌∷◌, ◌++◌, Result, Ok, Err, refl, sym, subst, ◌∙◌, arith}
+use Rattle.std.proofs.Common.{◌≡◌, ◌≤◌, length, ℕ, List, [], ◌∷◌, ◌++◌, Result, Ok, sym, subst, ◌∙◌, arith}
 use Rattle.std.proofs.lemmas.List.Elements.{All-nil, All-cons}
 use Rattle.std.specs.Array.Iter.{array_into_iter_items, array_steps}
 use Rattle.std.specs.Iterator.{Count}
@@ -11,18 +11,18 @@ use Rattle.wasm_base.specs.Calls.{Appends, ReadsOneMore, ReadsBackBoth}
 use Rattle.wasm_base.specs.Entries.{HoldsWide, counted_format}
 use Rattle.wasm_base.specs.Modules.{SectionReading, reading_of, ReadsSections, GainsReading}
 use Rattle.wasm_base.specs.Formats.{vec}
-use Rattle.wasm_base.specs.Pieces.{SectionPayload, SectionFits, section_text, section_framed}
+use Rattle.wasm_base.specs.Pieces.{SectionPayload, SectionFits, section_text}
 use Rattle.wasm_base.specs.Texts.{longest, VecFits}
 use Rattle.wasm_base.specs.declared.refused.Refused.{Refused}
-use Rattle.wasm_base.proofs.Calls.{gains_section}
+use Rattle.wasm_base.proofs.Calls.{new_section, adds_item, gains_items, encodes_items}
 use Rattle.wasm_base.proofs.KnownLengths.{array_items}
 use Rattle.wasm_types.specs.Calls.{AddsListed, AddsTwoListed}
 use Rattle.wasm_types.specs.Readings.{HoldsTypes, plain_type}
 use Rattle.wasm_types.specs.RecTypes.{Shape, TypeItem, type_text, shape_text, IsShape, IsType, type_item}
-use Rattle.wasm_types.proofs.SectionLaws.{types-held, types-payload}
+use Rattle.wasm_types.proofs.SectionLaws.{types-payload}
 
 pub new_types : {entries : List (List ℕ)} → entries ≡ [] → HoldsTypes entries []
-new_types e = record { entries = []; held = e; meant = tt }
+new_types e = new_section e
 
 -- the same entries
 pub same_types : {old new : List (List ℕ)} {items : List TypeItem} → HoldsTypes old items → new ≡ old → HoldsTypes new items
@@ -38,7 +38,7 @@ counted P xs are few = record { count = few; members = all P xs are }
 
 -- a type or a group of types: `subtype`, `rec`
 pub adds_type : {old new : List (List ℕ)} {items : List TypeItem} → HoldsTypes old items → (item : TypeItem) → new ≡ old ++ type_text item ∷ [] → IsType item → HoldsTypes new (items ++ item ∷ [])
-adds_type {old = old} {items = items} before item e plain = subst (λ entries. HoldsTypes entries (items ++ item ∷ [])) (sym e) (types-held.given old items item before plain)
+adds_type before item e plain = adds_item before item e plain
 
 -- a type of this shape alone: `function`, `func_type`, `array`, `struct_`, `cont`
 pub adds_shape : {old new : List (List ℕ)} {items : List TypeItem} → HoldsTypes old items → (shape : Shape) → new ≡ old ++ shape_text shape ∷ [] → IsShape shape → HoldsTypes new (items ++ plain_type shape ∷ [])
@@ -63,12 +63,10 @@ listed_arrays {text = text} {old = old} {new = new} added xs ys are are₂ =
 -- a module and one more section
 pub gains_types : {readings : List SectionReading} {id : ℕ} {old new : List ℕ} {entries : List (List ℕ)} {items : List TypeItem} → ReadsSections readings old → ReadsOneMore (SectionPayload entries) id old new → SectionFits entries
     → ReadsBackBoth (counted_format type_item) (HoldsTypes entries) (HoldsWide type_item entries) (section_text entries) → HoldsTypes entries items → ReadsSections (readings ++ reading_of id (vec type_item) items ∷ []) new
-gains_types {entries = entries} {items = items} before more fits reads holds =
-    gains_section {F = vec type_item} before more types-payload (section_text entries) _ refl (section_framed entries _ fits refl) items (reads.plain.for_each items holds)
+gains_types before more fits reads holds = gains_items types-payload before more fits reads holds
 
 -- a section that a buffer has gained
 pub encodes_types : {A : Type 0} {fits : Type 0} {entries : List (List ℕ)} {old new : Vec ℕ A} {result : Result (Unit {0}) Refused} {items : List TypeItem}
     → Appends (section_text entries) fits old new result → OnOk result (ReadsBackBoth (counted_format type_item) (HoldsTypes entries) (HoldsWide type_item entries) (section_text entries)) → HoldsTypes entries items
     → OnOk result (GainsReading (counted_format type_item) items old.items new.items)
-encodes_types {entries = entries} {result = Ok u} {items = items} appends reads holds = record { text = section_text entries; added = appends.ok; alone = reads.plain.for_each items holds }
-encodes_types {result = Err e} appends reads holds = tt
+encodes_types appends reads holds = encodes_items appends reads holds

@@ -8,7 +8,7 @@ use Rattle.wasm_base.proofs.BaseLaws.{unique_wide}
 use Rattle.wasm_base.proofs.EntryLaws.{counted-alone}
 use Rattle.wasm_base.proofs.HeldLaws.{holds_more, plain_more_wide}
 use Rattle.wasm_base.proofs.Payloads.{counted-payload}
-use Rattle.wasm_types.specs.RecTypes.{type_text, IsType, type_item}
+use Rattle.wasm_types.specs.RecTypes.{type_item, type_items}
 use Rattle.wasm_types.proofs.TypeLaws.{storage-alone, field-alone, composite-alone, sub-alone, type-alone, type_laws}
 
 pub types-alone : UniqueReading (counted_format type_item)
@@ -20,11 +20,11 @@ wide-types = unique_wide types-alone
 pub wide-type : IsUniqueWide type_item
 wide-type = unique_wide type-alone
 
-pub types-held : HoldsMore type_text IsType (λ ty. ty) type_item
-types-held = holds_more type_text IsType (λ ty. ty) type_item
+pub types-held : HoldsMore type_items
+types-held = holds_more type_items
 
-pub types-wide : HoldsMoreWide type_text IsType IsType (λ ty. ty) type_item
-types-wide = plain_more_wide type_laws
+pub types-wide : HoldsMoreWide type_items
+types-wide = plain_more_wide type_laws (λ given plain. plain) (λ given plain. plain)
 
 pub types-payload : ReadsPayloads (vec type_item)
 types-payload = counted-payload type-alone

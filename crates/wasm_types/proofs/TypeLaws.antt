@@ -15,7 +15,7 @@ use Rattle.wasm_base.proofs.NumberLaws.{u32-alone}
 use Rattle.wasm_base.proofs.PartLaws.{pair_spelled}
 use Rattle.wasm_base.proofs.TextLaws.{u32_spelled, s33_spelled, vec_spelled, tagged_spelled}
 use Rattle.wasm_base.proofs.TypeLaws.{val-alone, val-texts, val_tag, val_tells, val_choice-alone}
-use Rattle.wasm_types.specs.RecTypes.{Shape, func, array, structure, cont, Composite, Sub, TypeItem, single, group, storage_text, mutable_code, field_text, shape_text, index_text, shared_text, composite_text, before_text, sub_text, type_text, IsStorage, IsField, IsShape, IsGivenIndex, IsComposite, IsSub, IsType, storage_tags, storage_val, storage_type, field_of, field_type, func_of, shape_tags, after_shape, given_index, no_index, with_index, after_descriptor, after_describes, composite_of, after_composite, composite_type, HasSupertypes, sub_of, alone_of, supertypes_and, sub_tags, after_sub, sub_type, after_type, type_item}
+use Rattle.wasm_types.specs.RecTypes.{Shape, func, array, structure, cont, Composite, Sub, TypeItem, single, group, storage_text, mutable_code, field_text, shape_text, index_text, shared_text, composite_text, before_text, sub_text, type_text, IsStorage, IsField, IsShape, IsGivenIndex, IsComposite, IsSub, IsType, storage_tags, storage_val, storage_type, field_of, field_type, func_of, shape_tags, after_shape, given_index, no_index, with_index, after_descriptor, after_describes, composite_of, after_composite, composite_type, HasSupertypes, sub_of, alone_of, supertypes_and, sub_tags, after_sub, sub_type, after_type, type_item, type_items}
 use Rattle.wasm_types.specs.declared.types.FieldType.{FieldType}
 use Rattle.wasm_types.specs.declared.types.StorageType.{StorageType}
 use Rattle.wasm_types.specs.declared.types.StorageType.TheVariants.{I8, I16, Val}
@@ -351,5 +351,5 @@ type_spelled (single s) p =
 type_spelled (group subs) p =
     tagged_spelled {G = after_type} shortest 0x4E (vec_text sub_text subs) (group subs) (subs, refl, vec_spelled sub_type IsSub sub_text sub_spelled subs p)
 
-pub type_laws : ItemLaws type_text IsType (λ ty. ty) type_item
+pub type_laws : ItemLaws type_items
 type_laws = record { alone = type-alone; spelled = λ t plain fits. type_spelled t plain }

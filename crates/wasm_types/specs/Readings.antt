@@ -5,11 +5,11 @@ use Rattle.wasm_base.specs.Formats.{vec}
 use Rattle.wasm_base.specs.Modules.{SectionReading, reading_of}
 use Rattle.wasm_base.specs.SectionId.{number_of}
 use Rattle.wasm_base.specs.declared.section_id.SectionId.TheVariants as ids
-use Rattle.wasm_types.specs.RecTypes.{Shape, TypeItem, single, type_text, IsType, type_item}
+use Rattle.wasm_types.specs.RecTypes.{Shape, TypeItem, single, type_item, type_items}
 
 -- The entries hold these types and groups of types.
 abbrev pub HoldsTypes : List (List ℕ) → List TypeItem → Type 0
-HoldsTypes = HoldsItems type_text IsType (λ ty. ty) type_item
+HoldsTypes = HoldsItems type_items
 
 -- the type section of these types and groups of types, as a reader finds it
 abbrev pub type_reading : List TypeItem → SectionReading

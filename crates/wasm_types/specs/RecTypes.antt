@@ -1,5 +1,6 @@
 -- Types that a module defines: their texts, and what spells them.
 use Rattle.std.specs.Prelude.{ℕ, ◌^◌, ◌<◌, List, [], ◌∷◌, ◌++◌, length, Bool, true, false, Option, Some, None, IfSome, pos}
+use Rattle.wasm_base.specs.Entries.{Kind}
 use Rattle.wasm_base.specs.Formats.{Format, u32, byte, s33, fixed, impossible, coded, mapped, such, pair, tagged, choice, vec}
 use Rattle.wasm_base.specs.Laws.{FitsUnsigned}
 use Rattle.wasm_base.specs.Numbers.{unsigned_text, signed_text}
@@ -241,3 +242,7 @@ after_type b = choice ((0x4E, mapped group (vec sub_type)) ∷ []) (λ c. mapped
 -- entry: 4E and a vector of subtypes, or a subtype alone
 abbrev pub type_item : Format TypeItem
 type_item = tagged byte after_type
+
+-- the kind of types and groups of types
+abbrev pub type_items : Kind TypeItem TypeItem
+type_items = record { text = type_text; IsPlain = IsType; IsPlainWide = IsType; normal_form = λ ty. ty; format = type_item }

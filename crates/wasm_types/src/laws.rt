@@ -5,7 +5,7 @@ ghost use Rattle.wasm_base.specs.Formats.{vec};
 ghost use Rattle.wasm_base.specs.Laws.{HoldsMore, HoldsMoreWide, NothingStandsWide};
 ghost use Rattle.wasm_base.specs.Modules.{ReadsPayloads, ReadsPayloadsWide};
 ghost use Rattle.wasm_base.specs.Reading.{UniqueReading, IsUniqueWide};
-ghost use Rattle.wasm_types.specs.RecTypes.{type_text, IsType, storage_type, field_type, composite_type, sub_type, type_item};
+ghost use Rattle.wasm_types.specs.RecTypes.{storage_type, field_type, composite_type, sub_type, type_item, type_items};
 
 /// Type sections are read uniquely, and so are types and their parts; the text of a plain record spells what it says.
 #[tactic(auto, using(crate::proofs::SectionLaws::type_sections))]
@@ -16,7 +16,7 @@ pub fn types()
     ensures composite { UniqueReading composite_type }
     ensures field { UniqueReading field_type }
     ensures storage { UniqueReading storage_type }
-    ensures items { ItemLaws type_text IsType (λ ty. ty) type_item }
+    ensures items { ItemLaws type_items }
 {}
 
 /// With padded numbers too, type sections and types are read uniquely, and what shortest numbers spell is among it.
@@ -29,13 +29,13 @@ pub fn wide()
 /// What a type section holds, call by call: at first no types, and after a call that adds a plain record what this says too.
 #[tactic(auto, using(crate::proofs::SectionLaws::type_sections))]
 pub fn calls()
-    ensures { HoldsMore type_text IsType (λ ty. ty) type_item }
+    ensures { HoldsMore type_items }
 {}
 
 /// What the pieces of a type section spell with padded numbers, call by call.
 #[tactic(auto, using(crate::proofs::SectionLaws::type_sections))]
 pub fn wide_calls()
-    ensures { HoldsMoreWide type_text IsType IsType (λ ty. ty) type_item }
+    ensures { HoldsMoreWide type_items }
 {}
 
 /// Where a module is read as ids and payloads, and a type section as its items alone, its payload is read as these alone.

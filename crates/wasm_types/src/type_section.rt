@@ -8,7 +8,7 @@ ghost use Rattle.wasm_base.specs.Pieces.{section_text, SectionFits};
 ghost use Rattle.wasm_base.specs.Texts.{VecFits};
 ghost use Rattle.wasm_base.specs.declared.refused.Refused.TheVariants.{TooLong};
 ghost use Rattle.wasm_types.specs.Calls.{AddsListed, AddsTwoListed};
-ghost use Rattle.wasm_types.specs.RecTypes.{TypeItem as Item, type_text, IsType, type_item, field_text, func_text, struct_text, cont_text, sub_text};
+ghost use Rattle.wasm_types.specs.RecTypes.{type_items, TypeItem as Item, type_text, IsType, type_item, field_text, func_text, struct_text, cont_text, sub_text};
 ghost use Rattle.wasm_types.specs.Readings.{HoldsTypes};
 
 use crate::types::{ARRAY, ContType, FUNC, FieldType, FuncType, STRUCT, StorageType, SubType};
@@ -43,13 +43,7 @@ impl Items for TypeItems {
 
     ghost Item = { Item };
 
-    ghost record_text = { type_text };
-
-    ghost is_plain = { IsType };
-
-    ghost normal_form = { λ ty. ty };
-
-    ghost item_format = { type_item };
+    ghost kind = { type_items };
 
     #[tactic(auto, using(crate::proofs::TypeLaws::type_laws))]
     fn laws() {}

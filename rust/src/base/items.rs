@@ -10,14 +10,8 @@
 /// Record: { Type 0 }
 /// // What a section says.
 /// Item: { Type 0 }
-/// // text: the bytes of a record.
-/// record_text: { Record → List ℕ }
-/// // plain: what a record needs to be read back, as numbers in range, names of UTF-8 and plain expressions.
-/// is_plain: { Record → Type 0 }
-/// // normal form: what a plain record says.
-/// normal_form: { Record → Item }
-/// // How an item is spelled.
-/// item_format: { Mode → List ℕ → Item → Type 0 }
+/// // How a record is written, when it is plain, what it says then, and how items are spelled.
+/// kind: { Kind Record Item }
 /// ```
 pub trait Items {
     /// Items are read uniquely, and the text of a plain record spells what it says. The function does nothing.
@@ -25,7 +19,7 @@ pub trait Items {
     /// # Proved
     ///
     /// ```text
-    /// ensures { ItemLaws record_text is_plain normal_form item_format }
+    /// ensures { ItemLaws kind }
     /// ```
     fn laws();
 }

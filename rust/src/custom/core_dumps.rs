@@ -118,10 +118,7 @@ pub struct ModuleItems;
 /// ```text
 /// Record = { List ℕ }
 /// Item = { List ℕ }
-/// record_text = { marked_text }
-/// is_plain = { IsModule }
-/// normal_form = { λ item. item }
-/// item_format = { marked_name }
+/// kind = { module_items }
 /// ```
 impl Items for ModuleItems {
     fn laws() {}
@@ -201,10 +198,7 @@ pub struct InstanceItems;
 /// ```text
 /// Record = { Instance }
 /// Item = { Instance }
-/// record_text = { instance_text }
-/// is_plain = { IsInstance }
-/// normal_form = { λ item. item }
-/// item_format = { instance }
+/// kind = { instance_items }
 /// ```
 impl Items for InstanceItems {
     fn laws() {}

@@ -54,7 +54,7 @@ pub trait CustomKind: Items {
     /// # Proved
     ///
     /// ```text
-    /// ensures { FrameLaws Self.item_format name front front_format counted }
+    /// ensures { FrameLaws Self.kind.format name front front_format counted }
     /// ```
     fn frame_laws();
 }
@@ -294,7 +294,7 @@ pub(in crate::custom) fn data_of<A: Allocator, B: Allocator>(
 /// ```text
 /// text = { λ section. named_text K.name (entries_text K.front K.counted section) }
 /// fits = { λ section. NamedFits K.name (entries_text K.front K.counted section) }
-/// reading = { λ section. ReadsBackBoth (named_section K.name (entries K.front_format K.counted K.item_format)) (HoldsItems K.record_text K.is_plain K.normal_form K.item_format section) (HoldsWide K.item_format section) (named_text K.name (entries_text K.front K.counted section)) }
+/// reading = { λ section. ReadsBackBoth (named_section K.name (entries K.front_format K.counted K.kind.format)) (HoldsItems K.kind section) (HoldsWide K.kind.format section) (named_text K.name (entries_text K.front K.counted section)) }
 /// ```
 impl<K: CustomKind, A: Allocator> Encode for CustomEntries<K, A> {
     fn encode<B: Sink>(&self, sink: &mut B) -> R<()> {
@@ -309,8 +309,8 @@ impl<K: CustomKind, A: Allocator> Encode for CustomEntries<K, A> {
 /// ```text
 /// id_of = { λ _. number_of ids.Custom }
 /// Items = { List K.Item }
-/// format = { named_section K.name (entries K.front_format K.counted K.item_format) }
-/// says = { HoldsItems K.record_text K.is_plain K.normal_form K.item_format }
+/// format = { named_section K.name (entries K.front_format K.counted K.kind.format) }
+/// says = { HoldsItems K.kind }
 /// payload = { λ section. NamedPayload K.name (entries_text K.front K.counted section) }
 /// framed = { λ section bytes fits pays. named_framed K.name (entries_text K.front K.counted section) bytes fits pays }
 /// reads_back = { λ section promised. promised.plain }

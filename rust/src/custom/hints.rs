@@ -56,10 +56,7 @@ impl Encode for BranchHint {
 /// ```text
 /// Record = { Hints }
 /// Item = { Hints }
-/// record_text = { hints_text }
-/// is_plain = { AreHints }
-/// normal_form = { λ item. item }
-/// item_format = { hints }
+/// kind = { hint_items }
 /// ```
 impl Items for HintItems {
     fn laws() {}

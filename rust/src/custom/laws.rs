@@ -26,13 +26,13 @@
 /// ensures single_instances { UniqueReading instance }
 /// ensures frames { UniqueReading stack_frame }
 /// ensures values { UniqueReading value }
-/// ensures name_items { ItemLaws name_text IsName (λ item. item) subsection }
-/// ensures linking_items { ItemLaws link_text IsLink (λ item. item) link }
-/// ensures producer_items { ItemLaws field_text IsField (λ field. field) field }
-/// ensures hint_items { ItemLaws hints_text AreHints (λ hints. hints) hints }
-/// ensures module_items { ItemLaws marked_text IsModule (λ n. n) marked_name }
-/// ensures instance_items { ItemLaws instance_text IsInstance (λ instance. instance) instance }
-/// ensures frame_items { ItemLaws frame_entry IsFrame (λ frame. frame) stack_frame }
+/// ensures name_laws { ItemLaws name_items }
+/// ensures linking_items { ItemLaws link_items }
+/// ensures producer_laws { ItemLaws field_items }
+/// ensures hint_laws { ItemLaws hint_items }
+/// ensures module_laws { ItemLaws module_items }
+/// ensures instance_laws { ItemLaws instance_items }
+/// ensures frame_laws { ItemLaws frame_items }
 /// ```
 pub fn sections() {}
 
@@ -59,13 +59,13 @@ pub fn wide() {}
 /// # Proved
 ///
 /// ```text
-/// ensures names { HoldsMore name_text IsName (λ item. item) subsection }
-/// ensures linking { HoldsMore link_text IsLink (λ item. item) link }
-/// ensures producers { HoldsMore field_text IsField (λ field. field) field }
-/// ensures hints { HoldsMore hints_text AreHints (λ hints. hints) hints }
-/// ensures modules { HoldsMore marked_text IsModule (λ n. n) marked_name }
-/// ensures instances { HoldsMore instance_text IsInstance (λ instance. instance) instance }
-/// ensures frames { HoldsMore frame_entry IsFrame (λ frame. frame) stack_frame }
+/// ensures names { HoldsMore name_items }
+/// ensures linking { HoldsMore link_items }
+/// ensures producers { HoldsMore field_items }
+/// ensures hints { HoldsMore hint_items }
+/// ensures modules { HoldsMore module_items }
+/// ensures instances { HoldsMore instance_items }
+/// ensures frames { HoldsMore frame_items }
 /// ensures name_maps { ListMore naming_text IsNaming }
 /// ensures indirect_maps { ListMore inside_text IsInside }
 /// ensures symbol_tables { ListMore symbol_text IsGivenSymbol }
@@ -82,12 +82,12 @@ pub fn calls() {}
 /// # Proved
 ///
 /// ```text
-/// ensures names { HoldsMoreWide name_text IsName IsName (λ item. item) subsection }
-/// ensures linking { HoldsMoreWide link_text IsLink IsLink (λ item. item) link }
-/// ensures producers { HoldsMoreWide field_text IsField IsField (λ field. field) field }
-/// ensures hints { HoldsMoreWide hints_text AreHints AreHints (λ hints. hints) hints }
-/// ensures modules { HoldsMoreWide marked_text IsModule IsModule (λ n. n) marked_name }
-/// ensures instances { HoldsMoreWide instance_text IsInstance IsInstance (λ instance. instance) instance }
+/// ensures names { HoldsMoreWide name_items }
+/// ensures linking { HoldsMoreWide link_items }
+/// ensures producers { HoldsMoreWide field_items }
+/// ensures hints { HoldsMoreWide hint_items }
+/// ensures modules { HoldsMoreWide module_items }
+/// ensures instances { HoldsMoreWide instance_items }
 /// ```
 pub fn wide_calls() {}
 

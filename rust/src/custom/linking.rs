@@ -34,10 +34,7 @@ pub struct LinkingItems;
 /// ```text
 /// Record = { LinkItem }
 /// Item = { LinkItem }
-/// record_text = { link_text }
-/// is_plain = { IsLink }
-/// normal_form = { λ item. item }
-/// item_format = { link }
+/// kind = { link_items }
 /// ```
 impl Items for LinkingItems {
     fn laws() {}

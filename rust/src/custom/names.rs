@@ -96,10 +96,7 @@ pub struct NameItems;
 /// ```text
 /// Record = { NameItem }
 /// Item = { NameItem }
-/// record_text = { name_text }
-/// is_plain = { IsName }
-/// normal_form = { λ item. item }
-/// item_format = { subsection }
+/// kind = { name_items }
 /// ```
 impl Items for NameItems {
     fn laws() {}

@@ -62,10 +62,7 @@ pub struct ProducerItems;
 /// ```text
 /// Record = { Field }
 /// Item = { Field }
-/// record_text = { field_text }
-/// is_plain = { IsField }
-/// normal_form = { λ item. item }
-/// item_format = { field }
+/// kind = { field_items }
 /// ```
 impl Items for ProducerItems {
     fn laws() {}

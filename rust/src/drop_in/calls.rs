@@ -1,4 +1,4 @@
-// Written by tools/drop-in from tools/opcodes.tsv and tools/calls.tsv: change these.
+// Written by tools/drop-in from tools/instructions.tsv: change that.
 //! A named call for each instruction.
 
 use super::InstructionSink;

@@ -1,4 +1,4 @@
-// Written by tools/drop-in from tools/opcodes.tsv and tools/calls.tsv: change these.
+// Written by tools/drop-in from tools/instructions.tsv: change that.
 //! All instructions, as cases of one enum.
 
 use super::{Encode, done};

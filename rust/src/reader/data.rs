@@ -4,12 +4,12 @@
 use crate::vec::{Sink, Vec};
 use crate::alloc::{Allocator, Global};
 use crate::base::{Encode, R, encode_frame};
-use crate::reader::base::{ReadFault, Readable, Shorten};
+use crate::reader::base::{ReadFault, Readable, Shorten, read_whole};
 use crate::reader::insn::Expression;
 
 /// Bytes behind their number.
 #[derive(Clone, Copy, Debug)]
-struct Bytes<'a>(&'a [u8]);
+pub(in crate::reader) struct Bytes<'a>(&'a [u8]);
 
 /// # Defined
 ///
@@ -104,22 +104,11 @@ impl<'a, A: Allocator + Copy> Readable<'a, A> for Segment<'a, A> {
 /// ensures found { IfOk result (λ x. vec data_item wide bytes.now (map segment_of x.items)) }
 /// ensures none { IfErr result (λ e. e ≢ Memory → FillsNothing (vec data_item) bytes.now) }
 /// ```
-pub(in crate::reader) fn read_segments<'a, A: Allocator + Copy>(
+pub(in crate::reader) fn read_segments<'a, A: Allocator + Copy + 'a>(
     bytes: &'a [u8],
     alloc: A,
 ) -> Result<Vec<Segment<'a, A>, A>, ReadFault> {
-    let (count, mut rest) = <u32 as Readable<'a, A>>::read(bytes, alloc)?;
-    let mut items = Vec::new(alloc);
-    for _taken in 0..count {
-        let (item, after) = <Segment<'a, A> as Readable<'a, A>>::read(rest, alloc)?;
-        items.push(item)?;
-        rest = after;
-    }
-    if rest.is_empty() {
-        Ok(items)
-    } else {
-        Err(ReadFault::SizeMismatch)
-    }
+    read_whole::<'a, Vec<Segment<'a, A>, A>, A>(bytes, alloc)
 }
 
 /// Appends the place and the bytes of a segment.
@@ -180,22 +169,4 @@ impl<'a, A: Allocator> Shorten for Segment<'a, A> {
             }
         }
     }
-}
-
-/// Appends segments behind their number.
-///
-/// # Proved
-///
-/// ```text
-/// ensures { OnOk result (AppendsShortest (vec data_item) (map segment_of segments.now) out.old.items out.new.items) }
-/// ```
-pub(in crate::reader) fn append_segments<A: Allocator, B: Sink>(
-    segments: &[Segment<'_, A>],
-    out: &mut B,
-) -> R<()> {
-    segments.len().encode(out)?;
-    for segment in segments {
-        segment.append_shortest(out)?;
-    }
-    Ok(())
 }

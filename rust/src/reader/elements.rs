@@ -9,10 +9,10 @@ use crate::reader::insn::Expression;
 
 /// What the flag of an element segment says.
 #[derive(Clone, Copy, Debug)]
-struct ElementFlag {
-    not_active: bool,
-    second: bool,
-    expressions: bool,
+pub(in crate::reader) struct ElementFlag {
+    pub(in crate::reader) not_active: bool,
+    pub(in crate::reader) second: bool,
+    pub(in crate::reader) expressions: bool,
 }
 
 impl ElementFlag {
@@ -37,7 +37,7 @@ impl ElementFlag {
     /// ```text
     /// ensures { result ≡ tells_kind (element_flag_of self) }
     /// ```
-    fn tells_kind(self) -> bool {
+    pub(in crate::reader) fn tells_kind(self) -> bool {
         self.not_active || self.second
     }
 }

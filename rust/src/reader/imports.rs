@@ -5,7 +5,7 @@ use crate::vec::{Sink, Vec};
 use crate::reader::Here;
 use crate::alloc::Allocator;
 use crate::base::{CowSlice, Encode, R};
-use crate::reader::base::{Item, One, ReadFault, Readable, read_many};
+use crate::reader::base::{Item, One, ReadFault, Readable, read_list, read_many};
 use crate::sections::{EntityType, GlobalType, Import, ImportCompact, Imports, MemoryType, TableType, TagType};
 
 /// # Defined
@@ -74,7 +74,7 @@ impl<'a, A: Allocator + Copy> Item<'a, Here, A> for ImportCompact<'a> {
 /// ```text
 /// ensures { MatchOption result (ReadsNothing (prefixed (0x00 ∷ []) group) wide bytes.now) (λ x. (bytes.now ≡ 0x00 ∷ x.0 ∷ x.1.now) × (0x7E ≤ x.0)) }
 /// ```
-fn group_kind(bytes: &[u8]) -> Option<(u8, &[u8])> {
+pub(in crate::reader) fn group_kind(bytes: &[u8]) -> Option<(u8, &[u8])> {
     let [first, kind, rest @ ..] = bytes else {
         return None;
     };
@@ -128,22 +128,11 @@ impl<'a, A: Allocator + Copy> Item<'a, Here, A> for Imports<'a, A> {
 /// ensures found { IfOk result (λ x. vec import_format wide bytes.now (map imports_item x.items)) }
 /// ensures none { IfErr result (λ e. e ≢ Memory → FillsNothing (vec import_format) bytes.now) }
 /// ```
-pub(in crate::reader) fn read_imports<'a, A: Allocator + Copy>(
+pub(in crate::reader) fn read_imports<'a, A: Allocator + Copy + 'a>(
     bytes: &'a [u8],
     alloc: A,
 ) -> Result<Vec<Imports<'a, A>, A>, ReadFault> {
-    let (count, mut rest) = <u32 as Readable<'a, A>>::read(bytes, alloc)?;
-    let mut items = Vec::new(alloc);
-    for _taken in 0..count {
-        let (item, after) = <Imports<'a, A> as Item<'a, Here, A>>::read_item(rest, alloc)?;
-        items.push(item)?;
-        rest = after;
-    }
-    if rest.is_empty() {
-        Ok(items)
-    } else {
-        Err(ReadFault::SizeMismatch)
-    }
+    read_list::<'a, Imports<'a, A>, Here, A>(bytes, alloc)
 }
 
 /// Appends imports, and groups of them, behind their number.

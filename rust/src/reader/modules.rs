@@ -3,15 +3,17 @@
 
 use crate::vec::Vec;
 use crate::reader::Here;
-use crate::reader::counts::{Dropped, Walked, count_passed};
+use crate::reader::counts::count_passed;
 use crate::reader::data::Segment;
 use crate::reader::elements::ElementItem;
 use crate::reader::globals::GlobalItem;
+use crate::reader::passed::PassedImports;
 use crate::reader::section::{SectionKind, read_content};
 use crate::reader::tables::TableItem;
 use crate::alloc::Allocator;
-use crate::reader::base::{One, ReadFault, Readable};
-use crate::sections::{Export, Imports, MemoryType, TagType};
+use crate::reader::base::{Dropped, One, ReadFault, Readable};
+use crate::reader::insn::Body;
+use crate::sections::{Export, MemoryType, TagType};
 
 /// The magic and the version of a module.
 pub(in crate::reader) const HEADER: [u8; 8] = [0x00, 0x61, 0x73, 0x6D, 0x01, 0x00, 0x00, 0x00];
@@ -74,7 +76,7 @@ pub(in crate::reader) fn kind_of(id: u8) -> SectionKind {
     }
 }
 
-/// The number of items of a section of the kind, from what its frame holds. None that is counted is kept, and of the instructions of a body one at a time.
+/// The number of items of a section of the kind, from what its frame holds. Nothing is kept of what is counted.
 ///
 /// # Proved
 ///
@@ -88,21 +90,19 @@ pub(in crate::reader) fn read_number<'a, A: Allocator + Copy>(
     alloc: A,
 ) -> Result<Option<u32>, ReadFault> {
     match kind {
-        SectionKind::Bodies => count_passed::<'a, Walked, A>(bytes, alloc),
-        SectionKind::Segments => count_passed::<'a, Dropped<Segment<'a, A>>, A>(bytes, alloc),
-        SectionKind::Elements => count_passed::<'a, Dropped<ElementItem<A>>, A>(bytes, alloc),
+        SectionKind::Bodies => count_passed::<'a, Body<A>, A>(bytes, alloc),
+        SectionKind::Segments => count_passed::<'a, Segment<'a, A>, A>(bytes, alloc),
+        SectionKind::Elements => count_passed::<'a, ElementItem<A>, A>(bytes, alloc),
         SectionKind::Exports => {
             count_passed::<'a, Dropped<One<Export<'a>, Here>>, A>(bytes, alloc)
         }
         SectionKind::Functions => count_passed::<'a, Dropped<u32>, A>(bytes, alloc),
-        SectionKind::Globals => count_passed::<'a, Dropped<GlobalItem<A>>, A>(bytes, alloc),
-        SectionKind::Imports => {
-            count_passed::<'a, Dropped<One<Imports<'a, A>, Here>>, A>(bytes, alloc)
-        }
+        SectionKind::Globals => count_passed::<'a, GlobalItem<A>, A>(bytes, alloc),
+        SectionKind::Imports => count_passed::<'a, PassedImports, A>(bytes, alloc),
         SectionKind::Memories => {
             count_passed::<'a, Dropped<One<MemoryType, Here>>, A>(bytes, alloc)
         }
-        SectionKind::Tables => count_passed::<'a, Dropped<TableItem<A>>, A>(bytes, alloc),
+        SectionKind::Tables => count_passed::<'a, TableItem<A>, A>(bytes, alloc),
         SectionKind::Tags => count_passed::<'a, Dropped<One<TagType, Here>>, A>(bytes, alloc),
         SectionKind::DataCount | SectionKind::Start => {
             drop(read_content(kind, bytes, alloc)?);

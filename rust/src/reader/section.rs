@@ -108,7 +108,7 @@ pub enum Items<'a, A: Allocator = Global> {
 /// ensures found { IfOk result (λ x. content kind wide bytes.now (contents_of x)) }
 /// ensures none { IfErr result (λ e. e ≢ Memory → FillsNothing (content kind) bytes.now) }
 /// ```
-pub(in crate::reader) fn read_content<'a, A: Allocator + Copy>(
+pub(in crate::reader) fn read_content<'a, A: Allocator + Copy + 'a>(
     kind: SectionKind,
     bytes: &'a [u8],
     alloc: A,
@@ -219,7 +219,7 @@ pub(in crate::reader) fn read_content<'a, A: Allocator + Copy>(
 /// ensures found { IfOk result (λ x. Takes kind bytes.now (contents_of x.0) x.1) }
 /// ensures none { IfErr result (λ e. e ≢ Memory → ReadsNothing (section kind) wide bytes.now) }
 /// ```
-pub fn read_section<'a, A: Allocator + Copy>(
+pub fn read_section<'a, A: Allocator + Copy + 'a>(
     alloc: A,
     kind: SectionKind,
     bytes: &'a [u8],

@@ -2,7 +2,6 @@
 // Sections, written as shortly as can be.
 
 use crate::vec::{Sink, Vec};
-use crate::reader::data::append_segments;
 use crate::reader::imports::append_imports;
 use crate::reader::section::{Items, SectionKind, read_content};
 use crate::alloc::Allocator;
@@ -22,7 +21,7 @@ use crate::reader::types::append_types;
 fn append_content<A: Allocator, B: Sink>(items: Items<'_, A>, out: &mut B) -> R<()> {
     match items {
         Items::Bodies(items) => items.append_shortest(out),
-        Items::Segments(items) => append_segments(&items, out),
+        Items::Segments(items) => items.append_shortest(out),
         Items::DataCount(count) => count.append_shortest(out),
         Items::Elements(items) => items.append_shortest(out),
         Items::Exports(items) => items.as_slice().encode(out),

@@ -147,7 +147,7 @@ impl<K, A: Allocator + Copy> CountedSection<K, A> {
 /// ```text
 /// text = { section_text }
 /// fits = { SectionFits }
-/// reading = { λ section. ReadsBackBoth (counted_format K.item_format) (HoldsItems K.record_text K.is_plain K.normal_form K.item_format section) (HoldsWide K.item_format section) (section_text section) }
+/// reading = { λ section. ReadsBackBoth (counted_format K.kind.format) (HoldsItems K.kind section) (HoldsWide K.kind.format section) (section_text section) }
 /// ```
 impl<K: ItemKind, A: Allocator> Encode for CountedSection<K, A> {
     fn encode<B: Sink>(&self, sink: &mut B) -> R<()> {
@@ -161,8 +161,8 @@ impl<K: ItemKind, A: Allocator> Encode for CountedSection<K, A> {
 /// ```text
 /// id_of = { λ _. K.section_id }
 /// Items = { List K.Item }
-/// format = { counted_format K.item_format }
-/// says = { HoldsItems K.record_text K.is_plain K.normal_form K.item_format }
+/// format = { counted_format K.kind.format }
+/// says = { HoldsItems K.kind }
 /// payload = { SectionPayload }
 /// framed = { section_framed }
 /// reads_back = { λ section promised. promised.plain }

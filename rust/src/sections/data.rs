@@ -99,10 +99,7 @@ impl<'a, D: Clone, A: Allocator> DataSegment<'a, D, A> {
 /// ```text
 /// Record = { GivenData }
 /// Item = { DataItem }
-/// record_text = { data_text }
-/// is_plain = { IsGivenData }
-/// normal_form = { data_of }
-/// item_format = { data_item }
+/// kind = { data_items }
 /// ```
 impl Items for DataItems {
     fn laws() {}

@@ -314,10 +314,7 @@ impl<A: Allocator> Encode for ElementSegment<'_, A> {
 /// ```text
 /// Record = { Segment Stored }
 /// Item = { Segment (List Plain) }
-/// record_text = { element_text }
-/// is_plain = { IsSegment }
-/// normal_form = { element_of }
-/// item_format = { element }
+/// kind = { element_items }
 /// ```
 impl Items for ElementItems {
     fn laws() {}

@@ -77,10 +77,7 @@ impl Encode for Export<'_> {
 /// ```text
 /// Record = { Given }
 /// Item = { ExportItem }
-/// record_text = { export_text }
-/// is_plain = { IsExport }
-/// normal_form = { item_of }
-/// item_format = { export }
+/// kind = { export_items }
 /// ```
 impl Items for ExportItems {
     fn laws() {}

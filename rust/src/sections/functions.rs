@@ -31,10 +31,7 @@ pub struct FunctionItems;
 /// ```text
 /// Record = { ℕ }
 /// Item = { ℕ }
-/// record_text = { unsigned_text }
-/// is_plain = { FitsUnsigned 32 }
-/// normal_form = { λ index. index }
-/// item_format = { u32_format }
+/// kind = { function_items }
 /// ```
 impl Items for FunctionItems {
     fn laws() {}

@@ -72,10 +72,7 @@ impl Encode for GlobalType {
 /// ```text
 /// Record = { GivenGlobal }
 /// Item = { GlobalItem }
-/// record_text = { global_item_text }
-/// is_plain = { IsGivenGlobal }
-/// normal_form = { global_item_of }
-/// item_format = { global_item }
+/// kind = { global_items }
 /// ```
 impl Items for GlobalItems {
     fn laws() {}

@@ -220,10 +220,7 @@ impl<A: Allocator> Encode for Imports<'_, A> {
 /// ```text
 /// Record = { ImportItem }
 /// Item = { ImportItem }
-/// record_text = { import_text }
-/// is_plain = { IsImport }
-/// normal_form = { λ import. import }
-/// item_format = { import_format }
+/// kind = { import_items }
 /// ```
 impl Items for ImportItems {
     fn laws() {}

@@ -28,15 +28,15 @@ use crate::alloc::Allocator;
 /// ensures table_types { UniqueReading table_type }
 /// ensures global_types { UniqueReading global_type }
 /// ensures numbers { UniqueReading (frame u32_format) }
-/// ensures function_items { ItemLaws unsigned_text (FitsUnsigned 32) (λ index. index) u32_format }
-/// ensures table_items { ItemLaws table_item_text IsGivenTable table_item_of table_item }
-/// ensures memory_items { ItemLaws memory_text IsMemory (λ memory. memory) memory_type }
-/// ensures global_items { ItemLaws global_item_text IsGivenGlobal global_item_of global_item }
-/// ensures export_items { ItemLaws export_text IsExport item_of export }
-/// ensures element_items { ItemLaws element_text IsSegment element_of element }
-/// ensures data_items { ItemLaws data_text IsGivenData data_of data_item }
-/// ensures import_items { ItemLaws import_text IsImport (λ import. import) import_format }
-/// ensures tag_items { ItemLaws tag_text IsTag (λ tag. tag) tag_type }
+/// ensures function_items { ItemLaws function_items }
+/// ensures table_items { ItemLaws table_items }
+/// ensures memory_items { ItemLaws memory_items }
+/// ensures global_items { ItemLaws global_items }
+/// ensures export_items { ItemLaws export_items }
+/// ensures element_items { ItemLaws element_items }
+/// ensures data_items { ItemLaws data_items }
+/// ensures import_items { ItemLaws import_items }
+/// ensures tag_items { ItemLaws tag_items }
 /// ```
 pub fn sections() {}
 
@@ -66,15 +66,15 @@ pub fn wide() {}
 /// # Proved
 ///
 /// ```text
-/// ensures functions { HoldsMore unsigned_text (FitsUnsigned 32) (λ index. index) u32_format }
-/// ensures tables { HoldsMore table_item_text IsGivenTable table_item_of table_item }
-/// ensures memories { HoldsMore memory_text IsMemory (λ memory. memory) memory_type }
-/// ensures globals { HoldsMore global_item_text IsGivenGlobal global_item_of global_item }
-/// ensures exports { HoldsMore export_text IsExport item_of export }
-/// ensures elements { HoldsMore element_text IsSegment element_of element }
-/// ensures segments { HoldsMore data_text IsGivenData data_of data_item }
-/// ensures imports { HoldsMore import_text IsImport (λ import. import) import_format }
-/// ensures tags { HoldsMore tag_text IsTag (λ tag. tag) tag_type }
+/// ensures functions { HoldsMore function_items }
+/// ensures tables { HoldsMore table_items }
+/// ensures memories { HoldsMore memory_items }
+/// ensures globals { HoldsMore global_items }
+/// ensures exports { HoldsMore export_items }
+/// ensures elements { HoldsMore element_items }
+/// ensures segments { HoldsMore data_items }
+/// ensures imports { HoldsMore import_items }
+/// ensures tags { HoldsMore tag_items }
 /// ```
 pub fn calls() {}
 
@@ -84,15 +84,15 @@ pub fn calls() {}
 /// # Proved
 ///
 /// ```text
-/// ensures functions { HoldsMoreWide unsigned_text (FitsUnsigned 32) (FitsUnsigned 32) (λ index. index) u32_format }
-/// ensures tables { HoldsMoreWide table_item_text IsGivenTable IsGivenTableWide table_item_of table_item }
-/// ensures memories { HoldsMoreWide memory_text IsMemory IsMemory (λ memory. memory) memory_type }
-/// ensures globals { HoldsMoreWide global_item_text IsGivenGlobal IsGivenGlobalWide global_item_of global_item }
-/// ensures exports { HoldsMoreWide export_text IsExport IsExport item_of export }
-/// ensures elements { HoldsMoreWide element_text IsSegment IsSegmentWide element_of element }
-/// ensures segments { HoldsMoreWide data_text IsGivenData IsGivenDataWide data_of data_item }
-/// ensures imports { HoldsMoreWide import_text IsImport IsImport (λ import. import) import_format }
-/// ensures tags { HoldsMoreWide tag_text IsTag IsTag (λ tag. tag) tag_type }
+/// ensures functions { HoldsMoreWide function_items }
+/// ensures tables { HoldsMoreWide table_items }
+/// ensures memories { HoldsMoreWide memory_items }
+/// ensures globals { HoldsMoreWide global_items }
+/// ensures exports { HoldsMoreWide export_items }
+/// ensures elements { HoldsMoreWide element_items }
+/// ensures segments { HoldsMoreWide data_items }
+/// ensures imports { HoldsMoreWide import_items }
+/// ensures tags { HoldsMoreWide tag_items }
 /// ```
 pub fn wide_calls() {}
 

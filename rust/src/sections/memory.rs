@@ -109,10 +109,7 @@ impl Encode for MemoryType {
 /// ```text
 /// Record = { Memory }
 /// Item = { Memory }
-/// record_text = { memory_text }
-/// is_plain = { IsMemory }
-/// normal_form = { λ memory. memory }
-/// item_format = { memory_type }
+/// kind = { memory_items }
 /// ```
 impl Items for MemoryItems {
     fn laws() {}

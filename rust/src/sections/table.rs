@@ -93,10 +93,7 @@ impl Encode for TableType {
 /// ```text
 /// Record = { GivenTable }
 /// Item = { TableItem }
-/// record_text = { table_item_text }
-/// is_plain = { IsGivenTable }
-/// normal_form = { table_item_of }
-/// item_format = { table_item }
+/// kind = { table_items }
 /// ```
 impl Items for TableItems {
     fn laws() {}

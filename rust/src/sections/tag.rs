@@ -75,10 +75,7 @@ impl Encode for TagType {
 /// ```text
 /// Record = { Tag }
 /// Item = { Tag }
-/// record_text = { tag_text }
-/// is_plain = { IsTag }
-/// normal_form = { λ tag. tag }
-/// item_format = { tag_type }
+/// kind = { tag_items }
 /// ```
 impl Items for TagItems {
     fn laws() {}

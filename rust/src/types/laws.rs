@@ -12,7 +12,7 @@
 /// ensures composite { UniqueReading composite_type }
 /// ensures field { UniqueReading field_type }
 /// ensures storage { UniqueReading storage_type }
-/// ensures items { ItemLaws type_text IsType (λ ty. ty) type_item }
+/// ensures items { ItemLaws type_items }
 /// ```
 pub fn types() {}
 
@@ -31,7 +31,7 @@ pub fn wide() {}
 /// # Proved
 ///
 /// ```text
-/// ensures { HoldsMore type_text IsType (λ ty. ty) type_item }
+/// ensures { HoldsMore type_items }
 /// ```
 pub fn calls() {}
 
@@ -40,7 +40,7 @@ pub fn calls() {}
 /// # Proved
 ///
 /// ```text
-/// ensures { HoldsMoreWide type_text IsType IsType (λ ty. ty) type_item }
+/// ensures { HoldsMoreWide type_items }
 /// ```
 pub fn wide_calls() {}
 

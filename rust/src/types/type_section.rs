@@ -34,10 +34,7 @@ pub struct TypeItems;
 /// ```text
 /// Record = { Item }
 /// Item = { Item }
-/// record_text = { type_text }
-/// is_plain = { IsType }
-/// normal_form = { λ ty. ty }
-/// item_format = { type_item }
+/// kind = { type_items }
 /// ```
 impl Items for TypeItems {
     fn laws() {}

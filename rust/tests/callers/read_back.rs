@@ -2,12 +2,37 @@
 //! Callers of the reader, which prove what it answers.
 
 use dolzhytik::vec::Vec;
+pub mod custom;
+pub mod declared;
+pub mod dumps;
+pub mod stored;
+
 use dolzhytik::alloc::Allocator;
 use dolzhytik::base::{Encode, R};
 use dolzhytik::custom::{NameMap, NameSection};
 use dolzhytik::reader::{Items, ModuleFault, Offsets, SectionKind, laws, read_section, shorten, shorten_module};
 use dolzhytik::reader::base::ReadFault;
 use dolzhytik::sections::FunctionSection;
+
+/// Reads the section of this kind that a buffer holds, and shortens it.
+///
+/// # Proved
+///
+/// ```text
+/// ensures found { IfOk result (λ items. (n : ℕ) × Takes kind text.now.items (contents_of items) n) }
+/// ensures shortened { OnOk result ((n : ℕ) × Shortens kind text.now.items n sink.old.items sink.new.items) }
+/// ensures err { OnErr result (sink.new.items ≡ sink.old.items) }
+/// ensures none { IfErr result (λ e. e ≢ Memory → ReadsNothing (section kind) wide text.now.items) }
+/// ```
+pub(in crate::callers) fn read_and_shorten<'a, A: Allocator + Copy + 'a>(
+    kind: SectionKind,
+    text: &'a Vec<u8, A>,
+    sink: &mut Vec<u8, A>,
+) -> Result<Items<'a, A>, ReadFault> {
+    let (items, _taken) = read_section(*text.allocator(), kind, text.as_slice())?;
+    shorten(kind, text.as_slice(), sink)?;
+    Ok(items)
+}
 
 /// A function section of one function.
 ///
@@ -36,7 +61,7 @@ pub fn write_function<A: Allocator + Copy>(sink: &mut Vec<u8, A>, index: u32) ->
 /// ensures read { IfOk result (λ items. contents_of items ≡ Functions (index ∷ [])) }
 /// ensures memory { IfErr result (λ e. e ≢ Memory → ⊥) }
 /// ```
-pub fn written_function<'a, A: Allocator + Copy>(
+pub fn written_function<'a, A: Allocator + Copy + 'a>(
     text: &'a mut Vec<u8, A>,
     index: u32,
 ) -> Result<Items<'a, A>, ReadFault> {
@@ -93,7 +118,7 @@ pub fn shortened_function<A: Allocator + Copy>(
 /// ensures same { OnOk result ((rest : List ℕ) → Reads (section kinds.Functions) wide padded.now (Functions (index ∷ [])) rest → sink.new.items ≡ sink.old.items ++ text.new.items) }
 /// ensures memory { IfErr result (λ e. e ≢ Memory → (rest : List ℕ) → Reads (section kinds.Functions) wide padded.now (Functions (index ∷ [])) rest → ⊥) }
 /// ```
-pub fn padded_function<'a, A: Allocator + Copy>(
+pub fn padded_function<'a, A: Allocator + Copy + 'a>(
     text: &mut Vec<u8, A>,
     index: u32,
     padded: &'a [u8],
@@ -139,7 +164,7 @@ pub fn write_names<A: Allocator + Copy>(sink: &mut Vec<u8, A>, name: &str, funct
 /// ensures read { IfOk result (λ items. contents_of items ≡ Names (Module name.now ∷ Map 1 ((0, function.now) ∷ []) ∷ [])) }
 /// ensures memory { IfErr result (λ e. e ≢ Memory → ⊥) }
 /// ```
-pub fn written_names<'a, A: Allocator + Copy>(
+pub fn written_names<'a, A: Allocator + Copy + 'a>(
     text: &'a mut Vec<u8, A>,
     name: &str,
     function: &str,

@@ -1,4 +1,4 @@
-// Written by tools/drop-in from tools/opcodes.tsv and tools/calls.tsv: change these.
+// Written by tools/drop-in from tools/instructions.tsv: change that.
 //! Each instruction as a value, by its call, and as a proved value, and the bytes that it must have.
 use crate::checks::check;
 use dolzhytik::base::CowSlice;

@@ -1,5 +1,5 @@
 // Written by tools/to-rust from tests/wasm_insn_tests/src/cases.rtt: change that.
-// Written by tools/instruction_rows.py from the opcode table: do not edit.
+// Written by tools/instructions from tools/instructions.tsv: do not edit.
 //! A value of each instruction, in the order of their opcodes within each enum.
 
 use dolzhytik::alloc::Global;

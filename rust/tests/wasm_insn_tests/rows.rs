@@ -1,5 +1,5 @@
 // Written by tools/to-rust from tests/wasm_insn_tests/src/rows.rtt: change that.
-// Written by tools/instruction_rows.py from the opcode table: do not edit.
+// Written by tools/instructions from tools/instructions.tsv: do not edit.
 //! The bytes of each instruction, in hexadecimal, in the order of `cases.rt`.
 
 pub static INSTRUCTIONS: [&str; 122] = [

@@ -32,6 +32,8 @@ mod faults;
 #[cfg(test)]
 mod modules;
 #[cfg(test)]
+mod read_back;
+#[cfg(test)]
 mod refusals;
 #[cfg(test)]
 mod rows;

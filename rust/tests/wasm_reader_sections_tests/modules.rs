@@ -84,6 +84,83 @@ fn modules() {
     check(&rt, alloc, &others, &lines)
 }
 
+/// A section of one line, and how many items it has.
+static COUNTED: [(&[u8], u32); 15] = [
+    // code: a `br_table`, catches, handles, types of a selection, and runs
+    (&[10, 9, 1, 7, 0, 14, 2, 11, 11, 0, 11], 1),
+    (
+        &[10, 14, 1, 12, 0, 31, 64, 2, 0, 11, 11, 3, 11, 11, 11, 11],
+        1,
+    ),
+    (&[10, 12, 1, 10, 0, 227, 4, 2, 0, 11, 11, 1, 11, 11], 1),
+    (
+        &[
+            10, 16, 2, 8, 2, 1, 127, 2, 124, 1, 1, 11, 5, 0, 28, 1, 127, 11,
+        ],
+        2,
+    ),
+    // elements, by their flags
+    (&[9, 8, 1, 0, 65, 0, 11, 2, 11, 11], 1),
+    (&[9, 5, 1, 1, 0, 1, 11], 1),
+    (&[9, 10, 1, 2, 1, 65, 0, 11, 0, 2, 11, 11], 1),
+    (&[9, 5, 1, 3, 0, 1, 11], 1),
+    (&[9, 12, 1, 4, 65, 0, 11, 2, 210, 11, 11, 208, 112, 11], 1),
+    (&[9, 7, 1, 5, 112, 1, 210, 11, 11], 1),
+    (&[9, 12, 1, 6, 1, 65, 0, 11, 99, 110, 1, 210, 11, 11], 1),
+    (&[9, 10, 2, 7, 112, 0, 7, 111, 1, 208, 111, 11], 2),
+    // others that hold expressions or lists
+    (&[6, 11, 2, 127, 0, 65, 11, 11, 111, 1, 208, 111, 11], 2),
+    (&[4, 12, 2, 112, 0, 11, 64, 0, 112, 0, 11, 208, 112, 11], 2),
+    (
+        &[11, 15, 3, 0, 65, 11, 11, 1, 11, 1, 0, 2, 1, 65, 11, 11, 0],
+        3,
+    ),
+];
+
+#[test]
+fn counted() {
+    let rt = crate::host::HostRuntime;
+    let alloc = rt.alloc();
+    for (section, items) in COUNTED.iter() {
+        let size = section.len().saturating_sub(2) as u32;
+        check(&rt, alloc, section, &[(section[0], size, Some(*items))]);
+    }
+    let imports = [
+        2, 26, 3, 1, 109, 1, 102, 0, 11, 1, 109, 0, 127, 2, 1, 97, 0, 11, 0, 0, 11, 1, 109, 0, 126,
+        0, 11, 0,
+    ];
+    check(&rt, alloc, &imports, &[(2, 26, Some(3))]);
+}
+
+/// A section that doesn't hold items of its kind, and why.
+static UNCOUNTED: [(&[u8], ReadFault); 12] = [
+    (&[10, 7, 1, 5, 0, 14, 3, 11, 11], ReadFault::Ended),
+    (
+        &[10, 9, 1, 7, 0, 31, 64, 1, 4, 0, 11],
+        ReadFault::UnknownTag,
+    ),
+    (&[10, 4, 1, 2, 1, 127], ReadFault::Ended),
+    (&[9, 5, 1, 1, 1, 1, 11], ReadFault::UnknownTag),
+    (&[9, 4, 1, 8, 0, 0], ReadFault::UnknownTag),
+    (&[9, 6, 1, 0, 65, 0, 11, 1], ReadFault::Ended),
+    (&[9, 6, 1, 5, 112, 1, 210, 11], ReadFault::Ended),
+    (&[9, 4, 1, 5, 65, 0], ReadFault::UnknownTag),
+    (&[6, 4, 1, 127, 4, 11], ReadFault::UnknownTag),
+    (&[4, 3, 1, 64, 1], ReadFault::UnknownTag),
+    (&[11, 6, 1, 2, 0, 11, 0, 0], ReadFault::UnknownTag),
+    (&[2, 6, 1, 1, 109, 0, 127, 1], ReadFault::Ended),
+];
+
+#[test]
+fn uncounted() {
+    let rt = crate::host::HostRuntime;
+    let alloc = rt.alloc();
+    for (section, fault) in UNCOUNTED.iter() {
+        let bytes = module(alloc, section).expect("accepted");
+        check_stop(&rt, alloc, &bytes, (1, *fault));
+    }
+}
+
 #[test]
 fn stops() {
     let rt = crate::host::HostRuntime;

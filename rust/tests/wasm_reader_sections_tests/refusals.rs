@@ -57,7 +57,7 @@ fn check(
 /// A question, the bytes, and how many requests are made.
 type Row = (Question, &'static [u8], u64);
 
-static ROWS: [Row; 29] = [
+static ROWS: [Row; 34] = [
     (Question::Section(SectionKind::Functions), &[2, 1, 5], 1),
     (
         Question::Section(SectionKind::Bodies),
@@ -173,7 +173,33 @@ static ROWS: [Row; 29] = [
     (
         Question::Module,
         b"\0asm\x01\0\0\0\x0A\x06\x01\x04\x00\x20\x00\x0B",
-        2,
+        1,
+    ),
+    // a list asks for its lines alone: labels, elements of both kinds, a first value, an offset and a group of imports are not kept
+    (
+        Question::Module,
+        b"\0asm\x01\0\0\0\x0A\x0C\x01\x0A\x01\x01\x7F\x0E\x03\x00\x00\x00\x00\x0B",
+        1,
+    ),
+    (
+        Question::Module,
+        b"\0asm\x01\0\0\0\x09\x12\x02\x00\x41\x00\x0B\x03\x00\x00\x00\x05\x70\x02\xD2\x00\x0B\xD2\x00\x0B",
+        1,
+    ),
+    (
+        Question::Module,
+        b"\0asm\x01\0\0\0\x04\x09\x01\x40\x00\x70\x00\x00\xD0\x70\x0B",
+        1,
+    ),
+    (
+        Question::Module,
+        b"\0asm\x01\0\0\0\x06\x06\x01\x7F\x00\x41\x00\x0B\x0B\x06\x01\x00\x41\x00\x0B\x00",
+        1,
+    ),
+    (
+        Question::Module,
+        b"\0asm\x01\0\0\0\x02\x0E\x01\x01m\x00\x7F\x02\x01a\x00\x00\x01b\x00\x00",
+        1,
     ),
 ];
 

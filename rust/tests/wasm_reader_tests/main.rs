@@ -22,6 +22,8 @@ mod frames;
 #[cfg(test)]
 mod instructions;
 #[cfg(test)]
+mod passed;
+#[cfg(test)]
 mod refusals;
 #[cfg(test)]
 mod shorten;

@@ -78,3 +78,33 @@ pub fn read_many<'a, T: Item<'a, Here, A>, Here, A: Allocator + Copy>(
     }
     Ok((items, rest))
 }
+
+/// Items one after another, up to the last byte, none of which is empty. Memory is taken for items that stand there.
+///
+/// # Asks
+///
+/// ```text
+/// requires { BeginsWith (λ b. Unit {0}) T.format }
+/// ```
+///
+/// # Proved
+///
+/// ```text
+/// ensures found { IfOk result (λ x. members T.format wide bytes.now (map T.view x.items)) }
+/// ensures none { IfErr result (λ e. e ≢ Memory → FillsNothing (members T.format) bytes.now) }
+/// ```
+pub fn read_to_end<'a, T: Item<'a, Here, A>, Here, A: Allocator + Copy>(
+    bytes: &'a [u8],
+    alloc: A,
+) -> Result<Vec<T, A>, ReadFault> {
+    let mut items = Vec::new(alloc);
+    let mut rest = bytes;
+    loop {
+        if rest.is_empty() {
+            return Ok(items);
+        }
+        let (item, after) = T::read_item(rest, alloc)?;
+        items.push(item)?;
+        rest = after;
+    }
+}

@@ -4,7 +4,7 @@
 //!
 //! What is read is a type with [`Readable`]: numbers, fixed bytes, names, frames, pairs, vectors, types and immediates here, and
 //! instructions and sections in the crates above. A content that reaches to the last byte of its frame has [`Filling`], and what is
-//! written in its fewest bytes has [`Shorten`].
+//! written in its fewest bytes has [`Shorten`]. What is gone over and not kept has [`Passed`].
 
 mod fault;
 mod fixed;
@@ -14,6 +14,7 @@ mod item;
 mod names;
 mod numbers;
 mod optional;
+mod passed;
 mod readable;
 mod shorten;
 mod tuples;
@@ -23,8 +24,10 @@ mod whole;
 
 pub use fault::ReadFault;
 pub use frames::{Filled, Framed, frame_since};
-pub use item::{Item, One, read_many};
+pub use item::{Item, One, read_many, read_to_end};
 pub use optional::read_optional;
+pub use passed::{Dropped, Passed, pass_many};
 pub use readable::{Filling, Readable};
 pub use shorten::Shorten;
+pub use vectors::append_all;
 pub use whole::{read_list, read_whole};

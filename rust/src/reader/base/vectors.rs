@@ -31,6 +31,22 @@ impl<'a, A: Allocator + Copy, T: Readable<'a, A>> Readable<'a, A> for Vec<T, A> 
     }
 }
 
+/// Appends the shortest texts of the values, one after another. After a refusal a part of them may stand there.
+///
+/// # Proved
+///
+/// ```text
+/// ensures { OnOk result (AppendsShortest (members T.format) (map T.view items.now) out.old.items out.new.items) }
+/// ```
+pub fn append_all<T: Shorten, B: Sink>(items: &[T], out: &mut B) -> R<()> {
+    for item in items {
+        item.append_shortest(out)?;
+    }
+    Ok(())
+}
+
+/// Appends the shortest texts of the values behind their number.
+///
 /// # Defined
 ///
 /// ```text
@@ -41,9 +57,6 @@ impl<'a, A: Allocator + Copy, T: Readable<'a, A>> Readable<'a, A> for Vec<T, A> 
 impl<T: Shorten, A: Allocator> Shorten for Vec<T, A> {
     fn append_shortest<B: Sink>(&self, out: &mut B) -> R<()> {
         self.len().encode(out)?;
-        for item in self.iter() {
-            item.append_shortest(out)?;
-        }
-        Ok(())
+        append_all(self, out)
     }
 }

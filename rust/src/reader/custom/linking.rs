@@ -7,7 +7,7 @@ use crate::reader::custom::named::after_name;
 use crate::reader::custom::symbols::Symbol;
 use crate::alloc::{Allocator, Global};
 use crate::base::{Encode, R};
-use crate::reader::base::{Framed, Item, ReadFault, Readable, Shorten, frame_since};
+use crate::reader::base::{Framed, Item, ReadFault, Readable, Shorten, append_all, frame_since, read_to_end, read_whole};
 
 /// The version of linking sections.
 const VERSION: u32 = 2;
@@ -20,26 +20,6 @@ pub enum LinkItem<'a, A: Allocator = Global> {
     Arch(&'a str),
 }
 
-/// The symbols that all of the bytes spell, behind their number.
-///
-/// # Proved
-///
-/// ```text
-/// ensures found { IfOk result (λ x. vec symbol wide bytes.now (map symbol_of x.items)) }
-/// ensures none { IfErr result (λ e. e ≢ Memory → FillsNothing (vec symbol) bytes.now) }
-/// ```
-fn fill_symbols<'a, A: Allocator + Copy>(
-    bytes: &'a [u8],
-    alloc: A,
-) -> Result<Vec<Symbol<'a>, A>, ReadFault> {
-    let (symbols, rest) = <Vec<Symbol<'a>, A> as Readable<'a, A>>::read(bytes, alloc)?;
-    if rest.is_empty() {
-        Ok(symbols)
-    } else {
-        Err(ReadFault::SizeMismatch)
-    }
-}
-
 /// # Defined
 ///
 /// ```text
@@ -48,13 +28,13 @@ fn fill_symbols<'a, A: Allocator + Copy>(
 /// view = { link_of }
 /// alone = { link-alone }
 /// ```
-impl<'a, A: Allocator + Copy> Item<'a, Here, A> for LinkItem<'a, A> {
+impl<'a, A: Allocator + Copy + 'a> Item<'a, Here, A> for LinkItem<'a, A> {
     fn read_item(bytes: &'a [u8], alloc: A) -> Result<(LinkItem<'a, A>, &'a [u8]), ReadFault> {
         let (id, rest) = <u8 as Readable<'a, A>>::read(bytes, alloc)?;
         match id {
             8 => {
                 let (content, rest) = <&'a [u8] as Readable<'a, A>>::read(rest, alloc)?;
-                let symbols = fill_symbols(content, alloc)?;
+                let symbols = read_whole::<'a, Vec<Symbol<'a>, A>, A>(content, alloc)?;
                 Ok((LinkItem::Symbols(symbols), rest))
             }
             9 => {
@@ -83,30 +63,6 @@ fn after_version<'a, A: Allocator + Copy>(bytes: &'a [u8], alloc: A) -> Result<&
     }
 }
 
-/// Subsections up to the last byte.
-///
-/// # Proved
-///
-/// ```text
-/// ensures found { IfOk result (λ x. members link wide bytes.now (map link_of x.items)) }
-/// ensures none { IfErr result (λ e. e ≢ Memory → FillsNothing (members link) bytes.now) }
-/// ```
-fn fill_links<'a, A: Allocator + Copy>(
-    bytes: &'a [u8],
-    alloc: A,
-) -> Result<Vec<LinkItem<'a, A>, A>, ReadFault> {
-    let mut items = Vec::new(alloc);
-    let mut rest = bytes;
-    loop {
-        if rest.is_empty() {
-            return Ok(items);
-        }
-        let (item, after) = <LinkItem<'a, A> as Item<'a, Here, A>>::read_item(rest, alloc)?;
-        items.push(item)?;
-        rest = after;
-    }
-}
-
 /// The subsections of a linking section.
 ///
 /// # Proved
@@ -115,13 +71,13 @@ fn fill_links<'a, A: Allocator + Copy>(
 /// ensures found { IfOk result (λ x. linking_payload wide bytes.now (map link_of x.items)) }
 /// ensures none { IfErr result (λ e. e ≢ Memory → FillsNothing linking_payload bytes.now) }
 /// ```
-pub fn read_links<'a, A: Allocator + Copy>(
+pub fn read_links<'a, A: Allocator + Copy + 'a>(
     bytes: &'a [u8],
     alloc: A,
 ) -> Result<Vec<LinkItem<'a, A>, A>, ReadFault> {
     let rest = after_name("linking", bytes, alloc)?;
     let rest = after_version(rest, alloc)?;
-    let items = fill_links(rest, alloc)?;
+    let items = read_to_end::<'a, LinkItem<'a, A>, Here, A>(rest, alloc)?;
     Ok(items)
 }
 
@@ -149,23 +105,6 @@ impl<'a, A: Allocator> Shorten for LinkItem<'a, A> {
     }
 }
 
-/// Appends subsections.
-///
-/// # Proved
-///
-/// ```text
-/// ensures { OnOk result (AppendsShortest (members link) (map link_of items.now) out.old.items out.new.items) }
-/// ```
-fn append_subsections<A: Allocator, B: Sink>(
-    items: &[LinkItem<'_, A>],
-    out: &mut B,
-) -> R<()> {
-    for item in items {
-        item.append_shortest(out)?;
-    }
-    Ok(())
-}
-
 /// Appends the shortest text of what a linking section of these subsections holds, where some bytes are read as it. After a refusal a part of it may
 /// stand there.
 ///
@@ -180,5 +119,5 @@ pub fn append_links<A: Allocator, B: Sink>(
 ) -> R<()> {
     "linking".encode(out)?;
     VERSION.encode(out)?;
-    append_subsections(items, out)
+    append_all(items, out)
 }

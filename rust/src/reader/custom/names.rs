@@ -6,7 +6,7 @@ use crate::reader::custom::Here;
 use crate::reader::custom::named::after_name;
 use crate::alloc::{Allocator, Global};
 use crate::base::{Encode, R};
-use crate::reader::base::{Item, ReadFault, Readable, Shorten, frame_since, read_whole};
+use crate::reader::base::{Item, ReadFault, Readable, Shorten, append_all, frame_since, read_to_end, read_whole};
 
 /// What a subsection of a name section says.
 #[derive(Debug)]
@@ -55,76 +55,6 @@ fn kind_of(id: u8) -> NameKind {
     }
 }
 
-/// Indices and names behind their number, which all of the bytes spell.
-///
-/// # Proved
-///
-/// ```text
-/// ensures found { IfOk result (λ x. name_map wide bytes.now (names_of x.items)) }
-/// ensures none { IfErr result (λ e. e ≢ Memory → FillsNothing name_map bytes.now) }
-/// ```
-fn fill_map<'a, A: Allocator + Copy>(
-    bytes: &'a [u8],
-    alloc: A,
-) -> Result<Vec<(u32, &'a str), A>, ReadFault> {
-    let (names, rest) = <Vec<(u32, &'a str), A> as Readable<'a, A>>::read(bytes, alloc)?;
-    if rest.is_empty() {
-        Ok(names)
-    } else {
-        Err(ReadFault::SizeMismatch)
-    }
-}
-
-/// An index, and the indices and names of what is inside.
-///
-/// # Defined
-///
-/// ```text
-/// Value = { Inside }
-/// format = { pair u32 name_map }
-/// view = { inside_of }
-/// alone = { pair-alone u32-alone map-alone }
-/// ```
-impl<'a, A: Allocator + Copy> Item<'a, Here, A> for (u32, Vec<(u32, &'a str), A>) {
-    fn read_item(
-        bytes: &'a [u8],
-        alloc: A,
-    ) -> Result<((u32, Vec<(u32, &'a str), A>), &'a [u8]), ReadFault> {
-        let (index, rest) = <u32 as Readable<'a, A>>::read(bytes, alloc)?;
-        let (names, rest) = <Vec<(u32, &'a str), A> as Readable<'a, A>>::read(rest, alloc)?;
-        Ok(((index, names), rest))
-    }
-}
-
-/// Indices, and the indices and names of each, behind their number, which all of the bytes spell. Memory is taken for those that stand there,
-/// and not by their number.
-///
-/// # Proved
-///
-/// ```text
-/// ensures found { IfOk result (λ x. indirect_map wide bytes.now (map inside_of x.items)) }
-/// ensures none { IfErr result (λ e. e ≢ Memory → FillsNothing indirect_map bytes.now) }
-/// ```
-fn fill_indirect<'a, A: Allocator + Copy>(
-    bytes: &'a [u8],
-    alloc: A,
-) -> Result<Vec<(u32, Vec<(u32, &'a str), A>), A>, ReadFault> {
-    let (count, mut rest) = <u32 as Readable<'a, A>>::read(bytes, alloc)?;
-    let mut items = Vec::new(alloc);
-    for _taken in 0..count {
-        let (item, after) = <(u32, Vec<(u32, &'a str), A>) as Item<'a, Here, A>>::read_item(
-            rest, alloc,
-        )?;
-        items.push(item)?;
-        rest = after;
-    }
-    if rest.is_empty() {
-        Ok(items)
-    } else {
-        Err(ReadFault::SizeMismatch)
-    }
-}
-
 /// What a subsection of the id says, which holds this.
 ///
 /// # Proved
@@ -133,7 +63,7 @@ fn fill_indirect<'a, A: Allocator + Copy>(
 /// ensures found { IfOk result (λ x. inside (kind_as kind) id wide bytes.now (name_item_of x)) }
 /// ensures none { IfErr result (λ e. e ≢ Memory → FillsNothing (inside (kind_as kind) id) bytes.now) }
 /// ```
-fn fill_subsection<'a, A: Allocator + Copy>(
+fn fill_subsection<'a, A: Allocator + Copy + 'a>(
     kind: NameKind,
     id: u8,
     bytes: &'a [u8],
@@ -145,11 +75,11 @@ fn fill_subsection<'a, A: Allocator + Copy>(
             Ok(NameItem::Module(name))
         }
         NameKind::Map => {
-            let names = fill_map(bytes, alloc)?;
+            let names = read_whole::<'a, Vec<(u32, &'a str), A>, A>(bytes, alloc)?;
             Ok(NameItem::Map { id, names })
         }
         NameKind::Indirect => {
-            let maps = fill_indirect(bytes, alloc)?;
+            let maps = read_whole::<'a, Vec<(u32, Vec<(u32, &'a str), A>), A>, A>(bytes, alloc)?;
             Ok(NameItem::Indirect { id, maps })
         }
         NameKind::Other => Ok(NameItem::Other { id, bytes }),
@@ -164,36 +94,12 @@ fn fill_subsection<'a, A: Allocator + Copy>(
 /// view = { name_item_of }
 /// alone = { subsection-alone }
 /// ```
-impl<'a, A: Allocator + Copy> Item<'a, Here, A> for NameItem<'a, A> {
+impl<'a, A: Allocator + Copy + 'a> Item<'a, Here, A> for NameItem<'a, A> {
     fn read_item(bytes: &'a [u8], alloc: A) -> Result<(NameItem<'a, A>, &'a [u8]), ReadFault> {
         let (id, rest) = <u8 as Readable<'a, A>>::read(bytes, alloc)?;
         let (content, rest) = <&'a [u8] as Readable<'a, A>>::read(rest, alloc)?;
         let item = fill_subsection(kind_of(id), id, content, alloc)?;
         Ok((item, rest))
-    }
-}
-
-/// Subsections up to the last byte.
-///
-/// # Proved
-///
-/// ```text
-/// ensures found { IfOk result (λ x. members subsection wide bytes.now (map name_item_of x.items)) }
-/// ensures none { IfErr result (λ e. e ≢ Memory → FillsNothing (members subsection) bytes.now) }
-/// ```
-fn fill_subsections<'a, A: Allocator + Copy>(
-    bytes: &'a [u8],
-    alloc: A,
-) -> Result<Vec<NameItem<'a, A>, A>, ReadFault> {
-    let mut items = Vec::new(alloc);
-    let mut rest = bytes;
-    loop {
-        if rest.is_empty() {
-            return Ok(items);
-        }
-        let (item, after) = <NameItem<'a, A> as Item<'a, Here, A>>::read_item(rest, alloc)?;
-        items.push(item)?;
-        rest = after;
     }
 }
 
@@ -205,47 +111,13 @@ fn fill_subsections<'a, A: Allocator + Copy>(
 /// ensures found { IfOk result (λ x. name_payload wide bytes.now (map name_item_of x.items)) }
 /// ensures none { IfErr result (λ e. e ≢ Memory → FillsNothing name_payload bytes.now) }
 /// ```
-pub fn read_names<'a, A: Allocator + Copy>(
+pub fn read_names<'a, A: Allocator + Copy + 'a>(
     bytes: &'a [u8],
     alloc: A,
 ) -> Result<Vec<NameItem<'a, A>, A>, ReadFault> {
     let rest = after_name("name", bytes, alloc)?;
-    let items = fill_subsections(rest, alloc)?;
+    let items = read_to_end::<'a, NameItem<'a, A>, Here, A>(rest, alloc)?;
     Ok(items)
-}
-
-/// Appends an index, and the indices and names of what is inside.
-///
-/// # Proved
-///
-/// ```text
-/// ensures { OnOk result (AppendsShortest (pair u32 name_map) (inside_of given.now) out.old.items out.new.items) }
-/// ```
-fn append_inside<'a, A: Allocator, B: Sink>(
-    given: &(u32, Vec<(u32, &'a str), A>),
-    out: &mut B,
-) -> R<()> {
-    let (index, names) = given;
-    index.append_shortest(out)?;
-    names.append_shortest(out)
-}
-
-/// Appends indices, and the indices and names of each, behind their number.
-///
-/// # Proved
-///
-/// ```text
-/// ensures { OnOk result (AppendsShortest indirect_map (map inside_of items.now) out.old.items out.new.items) }
-/// ```
-fn append_indirect<'a, A: Allocator, B: Sink>(
-    items: &[(u32, Vec<(u32, &'a str), A>)],
-    out: &mut B,
-) -> R<()> {
-    items.len().encode(out)?;
-    for item in items {
-        append_inside(item, out)?;
-    }
-    Ok(())
 }
 
 impl<'a, A: Allocator> NameItem<'a, A> {
@@ -276,7 +148,7 @@ impl<'a, A: Allocator> NameItem<'a, A> {
         match self {
             NameItem::Module(name) => name.append_shortest(out),
             NameItem::Map { names, .. } => names.append_shortest(out),
-            NameItem::Indirect { maps, .. } => append_indirect(maps, out),
+            NameItem::Indirect { maps, .. } => maps.append_shortest(out),
             NameItem::Other { bytes, .. } => {
                 out.extend_from_slice(bytes)?;
                 Ok(())
@@ -301,23 +173,6 @@ impl<'a, A: Allocator> Shorten for NameItem<'a, A> {
     }
 }
 
-/// Appends subsections.
-///
-/// # Proved
-///
-/// ```text
-/// ensures { OnOk result (AppendsShortest (members subsection) (map name_item_of items.now) out.old.items out.new.items) }
-/// ```
-fn append_subsections<A: Allocator, B: Sink>(
-    items: &[NameItem<'_, A>],
-    out: &mut B,
-) -> R<()> {
-    for item in items {
-        item.append_shortest(out)?;
-    }
-    Ok(())
-}
-
 /// Appends the shortest text of what a name section of these subsections holds, where some bytes are read as it. After a refusal a part of it may
 /// stand there.
 ///
@@ -331,5 +186,5 @@ pub fn append_names<A: Allocator, B: Sink>(
     out: &mut B,
 ) -> R<()> {
     "name".encode(out)?;
-    append_subsections(items, out)
+    append_all(items, out)
 }

@@ -45,7 +45,7 @@ pub enum Arg<A: Allocator = Global> {
 /// ensures none { IfErr result (λ e. e ≢ Memory → ReadsNothing (part parts.Unsigned) wide bytes.now) }
 /// ```
 #[inline(always)]
-fn read_unsigned<'a, A: Allocator + Copy>(
+pub(in crate::reader::insn) fn read_unsigned<'a, A: Allocator + Copy>(
     bytes: &'a [u8],
     alloc: A,
 ) -> Result<(Arg<A>, &'a [u8]), ReadFault> {
@@ -62,7 +62,7 @@ fn read_unsigned<'a, A: Allocator + Copy>(
 /// ensures none { IfErr result (λ e. e ≢ Memory → ReadsNothing (part parts.Signed32) wide bytes.now) }
 /// ```
 #[inline(always)]
-fn read_signed32<'a, A: Allocator + Copy>(
+pub(in crate::reader::insn) fn read_signed32<'a, A: Allocator + Copy>(
     bytes: &'a [u8],
     alloc: A,
 ) -> Result<(Arg<A>, &'a [u8]), ReadFault> {
@@ -79,7 +79,7 @@ fn read_signed32<'a, A: Allocator + Copy>(
 /// ensures none { IfErr result (λ e. e ≢ Memory → ReadsNothing (part parts.Signed64) wide bytes.now) }
 /// ```
 #[inline(always)]
-fn read_signed64<'a, A: Allocator + Copy>(
+pub(in crate::reader::insn) fn read_signed64<'a, A: Allocator + Copy>(
     bytes: &'a [u8],
     alloc: A,
 ) -> Result<(Arg<A>, &'a [u8]), ReadFault> {
@@ -147,7 +147,7 @@ fn read_vector<'a, A: Allocator + Copy>(
 /// ensures none { IfErr result (λ e. e ≢ Memory → ReadsNothing (part parts.Memory) wide bytes.now) }
 /// ```
 #[inline(always)]
-fn read_memory<'a, A: Allocator + Copy>(
+pub(in crate::reader::insn) fn read_memory<'a, A: Allocator + Copy>(
     bytes: &'a [u8],
     alloc: A,
 ) -> Result<(Arg<A>, &'a [u8]), ReadFault> {
@@ -197,7 +197,7 @@ fn read_lanes<'a, A: Allocator + Copy>(
 /// ensures none { IfErr result (λ e. e ≢ Memory → ReadsNothing (part parts.Block) wide bytes.now) }
 /// ```
 #[inline(always)]
-fn read_block<'a, A: Allocator + Copy>(
+pub(in crate::reader::insn) fn read_block<'a, A: Allocator + Copy>(
     bytes: &'a [u8],
     alloc: A,
 ) -> Result<(Arg<A>, &'a [u8]), ReadFault> {
@@ -335,7 +335,7 @@ fn read_flag<'a, A: Allocator + Copy>(
 /// ensures found { IfOk result (λ x. Reads (part wanted) wide bytes.now (argument_of x.0) x.1.now) }
 /// ensures none { IfErr result (λ e. e ≢ Memory → ReadsNothing (part wanted) wide bytes.now) }
 /// ```
-fn read_part<'a, A: Allocator + Copy>(
+pub(in crate::reader::insn) fn read_part<'a, A: Allocator + Copy>(
     wanted: Part,
     bytes: &'a [u8],
     alloc: A,

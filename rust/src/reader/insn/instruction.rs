@@ -24,7 +24,10 @@ pub struct Plain<A: Allocator = Global> {
 /// ensures none { IfErr result (λ e. e ≢ Memory → ReadsNothing opcode wide bytes.now) }
 /// ```
 #[inline]
-fn read_op<'a, A: Allocator + Copy>(bytes: &'a [u8], alloc: A) -> Result<(Op, &'a [u8]), ReadFault> {
+pub(in crate::reader::insn) fn read_op<'a, A: Allocator + Copy>(
+    bytes: &'a [u8],
+    alloc: A,
+) -> Result<(Op, &'a [u8]), ReadFault> {
     let (byte, rest) = <u8 as Readable<'a, A>>::read(bytes, alloc)?;
     if byte < 0xFB {
         return Ok((Op::Byte(byte), rest));

@@ -3,12 +3,14 @@
 //!
 //! [`Plain`] is an instruction, [`Expression`] a constant expression, [`Code`] a list up to the last byte, [`Body`] a function's body.
 //! [`Instructions`] goes over the instructions of a body or an expression and keeps one of them; [`laws`] says what its places are.
+//! By `Passed` of `wasm_reader_base` bodies and expressions are gone over, and nothing is kept.
 
 mod arguments;
 mod body;
 mod expression;
 mod instruction;
 pub mod laws;
+mod passed;
 mod walk;
 
 pub use arguments::Arg;

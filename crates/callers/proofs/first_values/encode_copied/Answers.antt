@@ -1,9 +1,12 @@
 use Rattle.std.proofs.Common.{arith}
-use Rattle.wasm_base.proofs.Outcomes.{on_ok_both}
-use Rattle.callers.proofs.Held.{gains_reading, holds_copied}
+use Rattle.wasm_code.proofs.Calls.{one_constant}
+use Rattle.wasm_base.proofs.Calls.{encodes_items}
+use Rattle.wasm_sections.proofs.Calls.{new_globals, adds_global}
+use Rattle.callers.specs.FirstValues.{copied}
 use Rattle.callers.proofs.first_values.encode_copied.Goals as goal
 
 pub returns : goal.returns
 returns g c =
-    let held = holds_copied c.args.index _ _ _ (omega (arith, c.ranges.index.fits)) c.in_ok-global_get.ensures.stores c.new-section.ensures c.in_ok-global.ensures.ok in
-    on_ok_both c.encode.result _ _ _ c.encode.ensures.appends.ok c.encode.ensures.read (λ e reads. gains_reading _ _ _ _ _ _ e reads.plain held)
+    let init = one_constant c.in_ok-global_get.ensures.stores (omega (arith, c.ranges.index.fits), tt) in
+    let global = adds_global (new_globals c.new-section.ensures) (copied c.args.index) _ c.in_ok-global.ensures.ok tt init in
+    encodes_items c.encode.ensures.appends c.encode.ensures.read global

@@ -1,5 +1,6 @@
 use Rattle.std.proofs.Common.{rules}
-use Rattle.wasm_sections.proofs.Calls.{new_functions, adds_item, encodes_items}
+use Rattle.wasm_base.proofs.Calls.{adds_item, encodes_items}
+use Rattle.wasm_sections.proofs.Calls.{new_functions}
 use Rattle.callers.proofs.read_back.write_function.Goals as goal
 
 pub returns : goal.returns

@@ -1,6 +1,6 @@
 -- Written by tools/answers.
-use Rattle.wasm_base.proofs.Calls.{each}
-use Rattle.wasm_sections.proofs.Calls.{new_exports, adds_items, encodes_items}
+use Rattle.wasm_base.proofs.Calls.{each, adds_items, encodes_items}
+use Rattle.wasm_sections.proofs.Calls.{new_exports}
 use Rattle.wasm_sections.specs.Exports.{IsExport}
 use Rattle.examples.proofs.alone.encode_exports.Goals as goal
 

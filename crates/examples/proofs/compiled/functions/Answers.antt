@@ -1,6 +1,7 @@
 -- Written by tools/answers.
 use Rattle.std.proofs.Common.{arith}
-use Rattle.wasm_sections.proofs.Calls.{new_functions, adds_item}
+use Rattle.wasm_base.proofs.Calls.{adds_item}
+use Rattle.wasm_sections.proofs.Calls.{new_functions}
 use Rattle.examples.proofs.compiled.functions.Goals as goal
 
 pub returns : goal.returns

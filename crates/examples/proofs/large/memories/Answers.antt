@@ -1,6 +1,7 @@
 -- Written by tools/answers.
 use Rattle.std.proofs.Common.{arith}
-use Rattle.wasm_sections.proofs.Calls.{new_memories, adds_item}
+use Rattle.wasm_base.proofs.Calls.{adds_item}
+use Rattle.wasm_sections.proofs.Calls.{new_memories}
 use Rattle.examples.specs.Large.{large_memory}
 use Rattle.examples.proofs.large.memories.Goals as goal
 

@@ -2,13 +2,13 @@
 use Rattle.std.proofs.Common.{[], ◌∷◌, arith, refl, pos, neg_ℤ}
 use Rattle.std.proofs.lemmas.Int.{ints}
 use Rattle.std.specs.declared.alloc.Global.{Global}
-use Rattle.wasm_base.proofs.Calls.{holds_wide}
+use Rattle.wasm_base.proofs.Calls.{holds_wide, encodes_items_wide}
 use Rattle.wasm_base.specs.Formats.{s32}
 use Rattle.wasm_base.specs.Numbers.{wide}
 use Rattle.wasm_code.proofs.Calls.{padded_i32_const, raw_constant}
 use Rattle.wasm_code.specs.Expressions.{normal_row}
 use Rattle.wasm_insn.specs.declared.instruction.Instruction.TheVariants.{I32Const}
-use Rattle.wasm_sections.proofs.Calls.{new_globals, adds_global_wide, encodes_items_wide}
+use Rattle.wasm_sections.proofs.Calls.{new_globals, adds_global_wide}
 use Rattle.wasm_sections.proofs.HeldLaws.{globals-wide}
 use Rattle.examples.specs.Padded.{number}
 use Rattle.examples.proofs.padded.encode_padded_globals.Goals as goal

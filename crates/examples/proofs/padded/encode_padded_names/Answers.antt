@@ -23,5 +23,5 @@ returns g c =
       second = (0x80 ∷ 0x00 ∷ 0x01 ∷ 0x61 ∷ [], [], refl, record { front = 0x80 ∷ 0x00 ∷ []; back = 0x01 ∷ 0x61 ∷ []; joined = refl; first = zero; second = named }, refl);
     } in
     let s0 = holds_wide name-wide (new_names c.new-names.ensures) in
-    let s1 = adds_raw_names s0 1 (0x01 ∷ 0x80 ∷ 0x00 ∷ 0x01 ∷ 0x61 ∷ []) ((0, 97 ∷ []) ∷ []) c.in_ok-raw.ensures.ok c.in_ok-raw.ensures.fitted.0 refl map in
+    let s1 = adds_raw_names s0 1 (0x01 ∷ 0x80 ∷ 0x00 ∷ 0x01 ∷ 0x61 ∷ []) ((0, 97 ∷ []) ∷ []) c.in_ok-raw.ensures.ok c.in_ok-raw.ensures.fitted refl map in
     encodes_wide (frame name_payload) (HoldsNames _) (HoldsWide subsection _) c.encode.ensures.appends c.encode.ensures.read s1

@@ -1,11 +1,11 @@
 -- Written by tools/answers.
 use Rattle.std.proofs.Common.{[], ◌∷◌, arith, refl, pos}
 use Rattle.std.proofs.lemmas.Int.{ints}
-use Rattle.wasm_base.proofs.Calls.{holds_wide}
+use Rattle.wasm_base.proofs.Calls.{holds_wide, encodes_items_wide}
 use Rattle.wasm_base.specs.Formats.{s32}
 use Rattle.wasm_base.specs.Numbers.{wide}
 use Rattle.wasm_code.proofs.Calls.{wider_constant, padded_i32_const}
-use Rattle.wasm_sections.proofs.Calls.{new_globals, adds_global_wide, encodes_items_wide}
+use Rattle.wasm_sections.proofs.Calls.{new_globals, adds_global_wide}
 use Rattle.wasm_sections.proofs.HeldLaws.{globals-wide}
 use Rattle.examples.specs.Padded.{number}
 use Rattle.examples.specs.Sums.{sum_global}

@@ -1,7 +1,7 @@
 -- Written by tools/answers.
 use Rattle.std.proofs.Common.{refl, arith}
-use Rattle.wasm_base.proofs.Calls.{ascii}
-use Rattle.wasm_sections.proofs.Calls.{new_imports, adds_item}
+use Rattle.wasm_base.proofs.Calls.{ascii, adds_item}
+use Rattle.wasm_sections.proofs.Calls.{new_imports}
 use Rattle.examples.specs.Whole.{ready}
 use Rattle.examples.proofs.whole.imports.Goals as goal
 

@@ -1,12 +1,11 @@
 use Rattle.std.proofs.Common.{map, sym, ap, ◌∙◌}
 use Rattle.wasm_base.proofs.Outcomes.{on_ok}
 use Rattle.wasm_sections.specs.Imports.{imports_item}
-use Rattle.wasm_reader_custom.specs.Items.{instance_of, field_of, hints_of}
+use Rattle.wasm_reader_custom.specs.Items.{instance_of, hints_of}
 use Rattle.wasm_reader_custom.specs.Names.{name_item_of}
 use Rattle.wasm_reader_custom.specs.Symbols.{link_of}
-use Rattle.wasm_reader.specs.Items.{segment_of}
 use Rattle.wasm_reader_types.specs.Items.{entry_of}
-use Rattle.wasm_reader.specs.Sections.{Segments, Imports, Types, Names, Linking, Producers, Hints, CoreModules, CoreInstances, contents_of}
+use Rattle.wasm_reader.specs.Sections.{Imports, Types, Names, Linking, Hints, CoreModules, CoreInstances, contents_of}
 use Rattle.wasm_reader.proofs.ShortSections.{of_items, bodies, segments, data_count, elements, globals, imports, start, tables, types, names, links, producers, hints, process, modules, instances, stack}
 use Rattle.wasm_reader.proofs.shortest.append_content.Goals as goal
 
@@ -14,7 +13,7 @@ pub returns-in-Bodies : goal.returns-in-Bodies
 returns-in-Bodies g c = on_ok c.append_shortest.result _ _ c.append_shortest.ensures λ a. of_items _ _ _ _ (ap contents_of c.in-Bodies.is) (bodies _ _ _ a)
 
 pub returns-in-Segments : goal.returns-in-Segments
-returns-in-Segments g c = on_ok c.append_segments.result _ _ c.append_segments.ensures λ a. of_items _ _ _ _ (ap contents_of c.in-Segments.is ∙ ap (λ v. Segments (map segment_of v)) (sym c.deref.ensures.value)) (segments _ _ _ a)
+returns-in-Segments g c = on_ok c.append_shortest-in-Segments.result _ _ c.append_shortest-in-Segments.ensures λ a. of_items _ _ _ _ (ap contents_of c.in-Segments.is) (segments _ _ _ a)
 
 pub returns-in-DataCount : goal.returns-in-DataCount
 returns-in-DataCount g c = on_ok c.append_shortest-in-DataCount.result _ _ c.append_shortest-in-DataCount.ensures λ a. of_items _ _ _ _ (ap contents_of c.in-DataCount.is) (data_count _ _ _ a)
@@ -26,7 +25,7 @@ pub returns-in-Globals : goal.returns-in-Globals
 returns-in-Globals g c = on_ok c.append_shortest-in-Globals.result _ _ c.append_shortest-in-Globals.ensures λ a. of_items _ _ _ _ (ap contents_of c.in-Globals.is) (globals _ _ _ a)
 
 pub returns-in-Imports : goal.returns-in-Imports
-returns-in-Imports g c = on_ok c.append_imports.result _ _ c.append_imports.ensures λ a. of_items _ _ _ _ (ap contents_of c.in-Imports.is ∙ ap (λ v. Imports (map imports_item v)) (sym c.deref-in-Imports.ensures.value)) (imports _ _ _ a)
+returns-in-Imports g c = on_ok c.append_imports.result _ _ c.append_imports.ensures λ a. of_items _ _ _ _ (ap contents_of c.in-Imports.is ∙ ap (λ v. Imports (map imports_item v)) (sym c.deref.ensures.value)) (imports _ _ _ a)
 
 pub returns-in-Start : goal.returns-in-Start
 returns-in-Start g c = on_ok c.append_shortest-in-Start.result _ _ c.append_shortest-in-Start.ensures λ a. of_items _ _ _ _ (ap contents_of c.in-Start.is) (start _ _ _ a)
@@ -44,7 +43,7 @@ pub returns-in-Linking : goal.returns-in-Linking
 returns-in-Linking g c = on_ok c.append_links.result _ _ c.append_links.ensures λ a. of_items _ _ _ _ (ap contents_of c.in-Linking.is ∙ ap (λ v. Linking (map link_of v)) (sym c.deref-in-Linking.ensures.value)) (links _ _ _ a)
 
 pub returns-in-Producers : goal.returns-in-Producers
-returns-in-Producers g c = on_ok c.append_producers.result _ _ c.append_producers.ensures λ a. of_items _ _ _ _ (ap contents_of c.in-Producers.is ∙ ap (λ v. Producers (map field_of v)) (sym c.deref-in-Producers.ensures.value)) (producers _ _ _ a)
+returns-in-Producers g c = on_ok c.append_producers.result _ _ c.append_producers.ensures λ a. of_items _ _ _ _ (ap contents_of c.in-Producers.is) (producers _ _ _ a)
 
 pub returns-in-Hints : goal.returns-in-Hints
 returns-in-Hints g c = on_ok c.append_hints.result _ _ c.append_hints.ensures λ a. of_items _ _ _ _ (ap contents_of c.in-Hints.is ∙ ap (λ v. Hints (map hints_of v)) (sym c.deref-in-Hints.ensures.value)) (hints _ _ _ a)

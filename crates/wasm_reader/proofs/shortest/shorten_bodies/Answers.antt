@@ -5,7 +5,8 @@ use Rattle.wasm_code.specs.Bodies.{body}
 use Rattle.wasm_code.proofs.BodyLaws.{frame-body-alone}
 use Rattle.wasm_reader_base.proofs.Faults.{fault_stays, memory_stays}
 use Rattle.wasm_reader_base.proofs.ReadFrames.{filled_reads, filled_none, filled_nothing}
-use Rattle.wasm_reader.proofs.Counting.{HasPassed, no_count, passed_none, passed_more}
+use Rattle.wasm_reader_base.proofs.ReadPassed.{HasPassed}
+use Rattle.wasm_reader.proofs.Counting.{no_count, passed_none, passed_more}
 use Rattle.wasm_reader.proofs.ShortBodies.{passed, shortened_start, shortened_step, shortened_all}
 use Rattle.wasm_reader.proofs.shortest.shorten_bodies.Goals as goal
 

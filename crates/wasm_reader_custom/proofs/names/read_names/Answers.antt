@@ -1,3 +1,5 @@
+use Rattle.std.proofs.Common.{refl}
+use Rattle.wasm_base.proofs.PartLaws.{tagged_begins}
 use Rattle.wasm_reader_base.proofs.Faults.{fault_stays}
 use Rattle.wasm_reader_custom.proofs.ReadNames.{names_none, names_fill}
 use Rattle.wasm_reader_custom.proofs.ReadNames.{no_names}
@@ -11,3 +13,6 @@ returns-in_err-items-clause-none g c = fault_stays c.from_residual-in_err-items.
 
 pub returns-clause-found : goal.returns-clause-found
 returns-clause-found g c = search (names_fill, c.in_ok-rest.ensures.found, c.in_ok-items.ensures.found)
+
+pub read_to_end-requires : goal.read_to_end-requires
+read_to_end-requires g c = λ l. ((refl, tt), λ mode s x h. tagged_begins mode s x h)

@@ -6,4 +6,4 @@ use Rattle.wasm_sections.proofs.counted_section.CountedSectionEncode.encode.Goal
 
 pub returns-clause-read : goal.returns-clause-read
 returns-clause-read g c =
-    on_ok c.encode.result _ _ c.encode.ensures.appends.fitted (λ fits. counted_reads _ _ _ _ c.laws.ensures c.args.self.now (subst SectionFits c.self.view_is fits))
+    on_ok c.encode.result _ _ c.encode.ensures.appends.fitted (λ fits. counted_reads _ c.laws.ensures c.args.self.now (subst SectionFits c.self.view_is fits))

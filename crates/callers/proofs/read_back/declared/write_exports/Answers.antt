@@ -1,0 +1,10 @@
+use Rattle.std.proofs.Common.{arith}
+use Rattle.wasm_base.proofs.Calls.{encodes_items}
+use Rattle.wasm_sections.proofs.Calls.{new_exports, adds_export}
+use Rattle.callers.specs.Declarations.{exported}
+use Rattle.callers.proofs.read_back.declared.write_exports.Goals as goal
+
+pub returns : goal.returns
+returns g c =
+    let section = adds_export (new_exports c.new-section.ensures) (exported c.args.name.now c.args.index) c.in_ok-export.ensures.ok c.in_ok-export.ensures.fitted c.utf8.name (omega (arith, c.ranges.index.fits)) in
+    encodes_items c.encode.ensures.appends c.encode.ensures.read section

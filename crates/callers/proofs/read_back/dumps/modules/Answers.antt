@@ -1,0 +1,10 @@
+use Rattle.std.proofs.Common.{refl}
+use Rattle.std.specs.Prelude.{codes}
+use Rattle.wasm_base.proofs.Calls.{ascii}
+use Rattle.wasm_custom.proofs.Calls.{new_modules, adds_core_module}
+use Rattle.callers.proofs.read_back.dumps.modules.Goals as goal
+
+pub returns : goal.returns
+returns g c =
+    let first = adds_core_module (new_modules c.new-section.ensures) (codes "main") c.in_ok-module.ensures.ok c.in_ok-module.ensures.fitted (ascii refl) in
+    adds_core_module first c.args.name.now c.in_ok-module-2.ensures.ok c.in_ok-module-2.ensures.fitted c.utf8.name

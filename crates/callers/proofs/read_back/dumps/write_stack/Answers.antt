@@ -1,0 +1,7 @@
+use Rattle.wasm_base.specs.Formats.{frame}
+use Rattle.wasm_custom.specs.Readings.{stack_payload}
+use Rattle.wasm_custom.proofs.Calls.{encodes_custom}
+use Rattle.callers.proofs.read_back.dumps.write_stack.Goals as goal
+
+pub returns : goal.returns
+returns g c = encodes_custom (frame stack_payload) _ c.encode.ensures.appends c.encode.ensures.read c.in_ok-section.ensures

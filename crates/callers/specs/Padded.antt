@@ -1,0 +1,48 @@
+-- What sections with padded numbers say.
+use Rattle.std.specs.Prelude.{ℕ, List, [], ◌∷◌, None, Some, pos}
+use Rattle.std.specs.declared.alloc.Global.{Global}
+use Rattle.wasm_base.specs.Formats.{vec}
+use Rattle.wasm_base.specs.Modules.{SectionReading, wide_reading_of}
+use Rattle.wasm_code.specs.Bodies.{Body}
+use Rattle.wasm_code.specs.Expressions.{normal_row}
+use Rattle.wasm_custom.specs.Names.{NameItem, Indirect}
+use Rattle.wasm_custom.specs.Readings.{name_payload}
+use Rattle.wasm_insn.specs.Plain.{Plain}
+use Rattle.wasm_insn.specs.declared.instruction.Instruction.TheVariants.{RefFunc, I32Const, LocalGet, End}
+use Rattle.wasm_sections.specs.DataSegments as segments
+use Rattle.wasm_sections.specs.Elements as elements
+use Rattle.wasm_sections.specs.Tables.{TableItem, table_item}
+use Rattle.callers.specs.FirstValues.{functions_type}
+
+-- a table of references to the function 0
+abbrev pub first_everywhere : TableItem
+first_everywhere = record { table_type = functions_type 1; init = Some (normal_row {A = Global} (RefFunc 0) ∷ []) }
+
+-- the instruction `I32Const` of 0
+abbrev pub zero_offset : List Plain
+zero_offset = normal_row {A = Global} (I32Const (pos 0)) ∷ []
+
+-- the function 1, put at the front of table 0
+abbrev pub at_front : elements.Segment (List Plain)
+at_front = record { place = elements.active None zero_offset; elements = elements.functions (1 ∷ []) }
+
+-- these bytes, put at the front of this memory
+abbrev pub bytes_at_front : ℕ → List ℕ → segments.DataItem
+bytes_at_front memory bytes = segments.active memory zero_offset bytes
+
+-- the name `a` of the local 0 of the function 0
+abbrev pub local_name : List NameItem
+local_name = Indirect 2 ((0, (0, 97 ∷ []) ∷ []) ∷ []) ∷ []
+
+-- no locals, the instruction `LocalGet` of 0 twice, and `End`
+abbrev pub gets_twice : Body
+gets_twice = record { runs = []; code = normal_row {A = Global} (LocalGet 0) ∷ normal_row {A = Global} (LocalGet 0) ∷ normal_row {A = Global} End ∷ [] }
+
+-- the sections in order
+abbrev pub padded_sections : ℕ → List ℕ → List SectionReading
+padded_sections memory bytes =
+    wide_reading_of 4 (vec table_item) (first_everywhere ∷ [])
+    ∷ wide_reading_of 9 (vec elements.element) (at_front ∷ [])
+    ∷ wide_reading_of 11 (vec segments.data_item) (bytes_at_front memory bytes ∷ [])
+    ∷ wide_reading_of 0 name_payload local_name
+    ∷ []

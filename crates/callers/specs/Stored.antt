@@ -1,0 +1,38 @@
+-- What the sections say that store things.
+use Rattle.std.specs.Prelude.{ℕ, List, [], ◌∷◌, None, pos}
+use Rattle.std.specs.declared.alloc.Global.{Global}
+use Rattle.wasm_base.specs.declared.types.ValType.TheVariants.{I32}
+use Rattle.wasm_code.specs.Bodies.{Body}
+use Rattle.wasm_code.specs.Expressions.{normal_row}
+use Rattle.wasm_insn.specs.Plain.{Plain}
+use Rattle.wasm_insn.specs.declared.instruction.Instruction.TheVariants.{I32Const, LocalGet, End}
+use Rattle.wasm_sections.specs.DataSegments as segments
+use Rattle.wasm_sections.specs.Elements as elements
+
+-- the instruction `I32Const` of 8
+abbrev pub eight : List Plain
+eight = normal_row {A = Global} (I32Const (pos 8)) ∷ []
+
+-- the function of this index, put at the place 8 of table 0
+abbrev pub function_at_8 : ℕ → elements.Segment (List Plain)
+function_at_8 index = record { place = elements.active None eight; elements = elements.functions (index ∷ []) }
+
+-- the functions 1 and 2, put in a table when code says so
+abbrev pub later_functions : elements.Segment (List Plain)
+later_functions = record { place = elements.passive; elements = elements.functions (1 ∷ 2 ∷ []) }
+
+-- two bytes, put at the place 8 of memory 0
+abbrev pub bytes_at_8 : segments.DataItem
+bytes_at_8 = segments.active 0 eight (5 ∷ 6 ∷ [])
+
+-- a byte, put in a memory when code says so
+abbrev pub byte_later : segments.DataItem
+byte_later = segments.passive (7 ∷ [])
+
+-- two locals, of which the one of this index is given
+abbrev pub of_two_locals : ℕ → Body
+of_two_locals index = record { runs = (2, I32) ∷ []; code = normal_row {A = Global} (LocalGet index) ∷ normal_row {A = Global} End ∷ [] }
+
+-- no locals, and `End`
+abbrev pub empty_body : Body
+empty_body = record { runs = []; code = normal_row {A = Global} End ∷ [] }

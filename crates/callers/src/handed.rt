@@ -1,0 +1,44 @@
+//! A module of what is handed in: a raw body, whatever it spells, and a custom section, made and spelled already.
+ghost use Rattle.std.specs.Prelude.{IfOk, [], ◌∷◌};
+ghost use Rattle.wasm_base.specs.Modules.{ReadsSections};
+ghost use Rattle.wasm_code.specs.Code.{HoldsBodies};
+ghost use Rattle.callers.specs.Handed.{handed_sections};
+
+use crate::read_back::declared::tags;
+use std::alloc::Allocator;
+use wasm_base::{CowSlice, CowStr, Encode, Module, R};
+use wasm_code::CodeSection;
+use wasm_custom::{CustomSection, RawCustomSection};
+
+/// A code section of a raw body.
+fn code<A: Allocator + Copy>(alloc: A, body: &[u8]) -> R<CodeSection<A>>
+    ensures { IfOk result (λ section. HoldsBodies section (body.now ∷ [])) }
+{
+    let mut section = CodeSection::new(alloc);
+    section.raw(body)?;
+    Ok(section)
+}
+
+/// A module of tags, a raw body, a custom section, and the bytes of that section again.
+pub fn handed_module<A: Allocator + Copy>(
+    alloc: A,
+    index: u32,
+    body: &[u8],
+    name: &str,
+    bytes: &[u8],
+) -> R<Vec<u8, A>>
+    ensures { IfOk result (λ made. ReadsSections (handed_sections index body.now name.now bytes.now) made.items) }
+{
+    let given: CustomSection<'_> = CustomSection {
+        name: CowStr::Borrowed(name),
+        bytes: CowSlice::Borrowed(bytes),
+    };
+    let mut text = Vec::new(alloc);
+    given.encode(&mut text)?;
+    let mut built = Module::new(alloc)?;
+    built.section(&tags(alloc, index)?)?;
+    built.section(&code(alloc, body)?)?;
+    built.section(&given)?;
+    built.section(&RawCustomSection(text.as_slice()))?;
+    Ok(built.finish())
+}

@@ -1,0 +1,238 @@
+// Items that are gone over, of which nothing is kept: those that hold expressions or lists.
+ghost use Rattle.std.specs.Prelude.{true, false, ◌≢◌, List, IfOk, IfErr};
+ghost use Rattle.wasm_base.specs.Numbers.{wide};
+ghost use Rattle.wasm_base.specs.Reading.{Reads, ReadsNothing};
+ghost use Rattle.wasm_insn.specs.Plain.{Plain};
+ghost use Rattle.wasm_reader_base.specs.declared.fault.ReadFault.TheVariants.{Memory};
+ghost use Rattle.wasm_sections.specs.DataSegments.{DataItem, data_item};
+ghost use Rattle.wasm_sections.specs.Elements.{Place, ElementList as ListModel, Segment as SegmentModel, place, elements_as, element};
+ghost use Rattle.wasm_sections.specs.Globals.{GlobalItem as GlobalModel, global_item};
+ghost use Rattle.wasm_sections.specs.Imports.{ImportItem, import_format};
+ghost use Rattle.wasm_sections.specs.Tables.{TableItem as TableModel, table_item};
+ghost use Rattle.wasm_sections.proofs.DataLaws.{data-alone};
+ghost use Rattle.wasm_sections.proofs.ElementLaws.{element-alone};
+ghost use Rattle.wasm_sections.proofs.GlobalLaws.{global_item-alone};
+ghost use Rattle.wasm_sections.proofs.ImportLaws.{import-alone};
+ghost use Rattle.wasm_sections.proofs.TableLaws.{table_item-alone};
+ghost use Rattle.wasm_reader.specs.Items.{element_flag_of};
+
+use crate::Here;
+use crate::data::{Bytes, Segment};
+use crate::elements::{ElementFlag, ElementItem};
+use crate::globals::GlobalItem;
+use crate::imports::group_kind;
+use crate::tables::TableItem;
+use std::alloc::Allocator;
+use wasm_base::RefType;
+use wasm_reader_base::{Dropped, Item, One, Passed, ReadFault, Readable, pass_many};
+use wasm_reader_insn::Expression;
+use wasm_sections::{EntityType, GlobalType, ImportCompact, TableType};
+
+impl<'a, A: Allocator + Copy> Passed<'a, A> for GlobalItem<A> {
+    ghost Value = { GlobalModel };
+
+    ghost format = { global_item };
+
+    ghost alone = { global_item-alone };
+
+    #[tactic(auto, using(crate::proofs::ReadGlobals::item_steps))]
+    fn pass(bytes: &'a [u8], alloc: A) -> Result<&'a [u8], ReadFault> {
+        let rest = <(Dropped<One<GlobalType, Here>>, Expression<A>) as Passed<'a, A>>::pass(
+            bytes, alloc,
+        )?;
+        Ok(rest)
+    }
+}
+
+impl<'a, A: Allocator + Copy> Passed<'a, A> for TableItem<A> {
+    ghost Value = { TableModel };
+
+    ghost format = { table_item };
+
+    ghost alone = { table_item-alone };
+
+    #[tactic(auto, using(crate::proofs::ReadTables::table_steps))]
+    fn pass(bytes: &'a [u8], alloc: A) -> Result<&'a [u8], ReadFault> {
+        let (first, rest) = <u8 as Readable<'a, A>>::read(bytes, alloc)?;
+        if first != 0x40 {
+            let (_type, rest) = <TableType as Item<'a, Here, A>>::read_item(bytes, alloc)?;
+            return Ok(rest);
+        }
+        let (second, rest) = <u8 as Readable<'a, A>>::read(rest, alloc)?;
+        if second != 0x00 {
+            return Err(ReadFault::UnknownTag);
+        }
+        let rest = <(Dropped<One<TableType, Here>>, Expression<A>) as Passed<'a, A>>::pass(
+            rest, alloc,
+        )?;
+        Ok(rest)
+    }
+}
+
+impl<'a, A: Allocator + Copy> Passed<'a, A> for Segment<'a, A> {
+    ghost Value = { DataItem };
+
+    ghost format = { data_item };
+
+    ghost alone = { data-alone };
+
+    #[tactic(auto, using(crate::proofs::ReadData::segment_steps))]
+    fn pass(bytes: &'a [u8], alloc: A) -> Result<&'a [u8], ReadFault> {
+        let (flag, rest) = <u32 as Readable<'a, A>>::read(bytes, alloc)?;
+        match flag {
+            0 => {
+                let rest = <(Expression<A>, Dropped<Bytes<'a>>) as Passed<'a, A>>::pass(
+                    rest, alloc,
+                )?;
+                Ok(rest)
+            }
+            1 => {
+                let (_bytes, rest) = <Bytes<'a> as Readable<'a, A>>::read(rest, alloc)?;
+                Ok(rest)
+            }
+            2 => {
+                let (memory, rest) = <u32 as Readable<'a, A>>::read(rest, alloc)?;
+                if memory == 0 {
+                    return Err(ReadFault::UnknownTag);
+                }
+                let rest = <(Expression<A>, Dropped<Bytes<'a>>) as Passed<'a, A>>::pass(
+                    rest, alloc,
+                )?;
+                Ok(rest)
+            }
+            _ => Err(ReadFault::UnknownTag),
+        }
+    }
+}
+
+/// Goes over where the elements go, as the flag tells.
+#[tactic(auto, using(crate::proofs::ReadElements::place_steps))]
+fn pass_place<'a, A: Allocator + Copy>(
+    flag: ElementFlag,
+    bytes: &'a [u8],
+    alloc: A,
+) -> Result<&'a [u8], ReadFault>
+    ensures found { IfOk result (λ rest. (x : Place (List Plain)) × Reads (place (element_flag_of flag)) wide bytes.now x rest.now) }
+    ensures none { IfErr result (λ e. e ≢ Memory → ReadsNothing (place (element_flag_of flag)) wide bytes.now) }
+{
+    match (flag.not_active, flag.second) {
+        (true, true) => Ok(bytes),
+        (true, false) => Ok(bytes),
+        (false, true) => {
+            let rest = <(Dropped<u32>, Expression<A>) as Passed<'a, A>>::pass(bytes, alloc)?;
+            Ok(rest)
+        }
+        (false, false) => {
+            let rest = <Expression<A> as Passed<'a, A>>::pass(bytes, alloc)?;
+            Ok(rest)
+        }
+    }
+}
+
+/// Goes over the indices of functions, behind the byte of their kind where that is told.
+fn pass_functions<'a, A: Allocator + Copy>(
+    told: bool,
+    bytes: &'a [u8],
+    alloc: A,
+) -> Result<&'a [u8], ReadFault>
+    ensures found { IfOk result (λ rest. (x : ListModel (List Plain)) × Reads (elements_as told false) wide bytes.now x rest.now) }
+    ensures none { IfErr result (λ e. e ≢ Memory → ReadsNothing (elements_as told false) wide bytes.now) }
+{
+    if told {
+        let (kind, rest) = <u8 as Readable<'a, A>>::read(bytes, alloc)?;
+        if kind != 0x00 {
+            return Err(ReadFault::UnknownTag);
+        }
+        let (_count, rest) = pass_many::<'a, Dropped<u32>, A>(rest, alloc)?;
+        return Ok(rest);
+    }
+    let (_count, rest) = pass_many::<'a, Dropped<u32>, A>(bytes, alloc)?;
+    Ok(rest)
+}
+
+/// Goes over expressions, behind their type where that is told.
+fn pass_expressions<'a, A: Allocator + Copy>(
+    told: bool,
+    bytes: &'a [u8],
+    alloc: A,
+) -> Result<&'a [u8], ReadFault>
+    ensures found { IfOk result (λ rest. (x : ListModel (List Plain)) × Reads (elements_as told true) wide bytes.now x rest.now) }
+    ensures none { IfErr result (λ e. e ≢ Memory → ReadsNothing (elements_as told true) wide bytes.now) }
+{
+    if told {
+        let (_type, rest) = <RefType as Readable<'a, A>>::read(bytes, alloc)?;
+        let (_count, rest) = pass_many::<'a, Expression<A>, A>(rest, alloc)?;
+        return Ok(rest);
+    }
+    let (_count, rest) = pass_many::<'a, Expression<A>, A>(bytes, alloc)?;
+    Ok(rest)
+}
+
+/// Goes over the elements, of the kind that the flag tells.
+fn pass_elements<'a, A: Allocator + Copy>(
+    told: bool,
+    of_expressions: bool,
+    bytes: &'a [u8],
+    alloc: A,
+) -> Result<&'a [u8], ReadFault>
+    ensures found { IfOk result (λ rest. (x : ListModel (List Plain)) × Reads (elements_as told of_expressions) wide bytes.now x rest.now) }
+    ensures none { IfErr result (λ e. e ≢ Memory → ReadsNothing (elements_as told of_expressions) wide bytes.now) }
+{
+    if of_expressions {
+        let rest = pass_expressions(told, bytes, alloc)?;
+        return Ok(rest);
+    }
+    let rest = pass_functions(told, bytes, alloc)?;
+    Ok(rest)
+}
+
+impl<'a, A: Allocator + Copy> Passed<'a, A> for ElementItem<A> {
+    ghost Value = { SegmentModel (List Plain) };
+
+    ghost format = { element };
+
+    ghost alone = { element-alone };
+
+    #[tactic(auto, using(crate::proofs::ReadElements::element_steps))]
+    fn pass(bytes: &'a [u8], alloc: A) -> Result<&'a [u8], ReadFault> {
+        let (flag, rest) = <ElementFlag as Readable<'a, A>>::read(bytes, alloc)?;
+        let rest = pass_place(flag, rest, alloc)?;
+        let rest = pass_elements(flag.tells_kind(), flag.expressions, rest, alloc)?;
+        Ok(rest)
+    }
+}
+
+/// An import or a group of imports.
+pub(crate) struct PassedImports;
+
+impl<'a, A: Allocator + Copy> Passed<'a, A> for PassedImports {
+    ghost Value = { ImportItem };
+
+    ghost format = { import_format };
+
+    ghost alone = { import-alone };
+
+    #[tactic(auto, using(crate::proofs::ReadImports::import_steps))]
+    fn pass(bytes: &'a [u8], alloc: A) -> Result<&'a [u8], ReadFault> {
+        let (_module, rest) = <&'a str as Readable<'a, A>>::read(bytes, alloc)?;
+        let Some((kind, rest)) = group_kind(rest) else {
+            let (_name, rest) = <&'a str as Readable<'a, A>>::read(rest, alloc)?;
+            let (_type, rest) = <EntityType as Item<'a, Here, A>>::read_item(rest, alloc)?;
+            return Ok(rest);
+        };
+        match kind {
+            0x7F => {
+                let (_count, rest) = pass_many::<'a, Dropped<One<ImportCompact<'a>, Here>>, A>(
+                    rest, alloc,
+                )?;
+                Ok(rest)
+            }
+            0x7E => {
+                let (_type, rest) = <EntityType as Item<'a, Here, A>>::read_item(rest, alloc)?;
+                let (_count, rest) = pass_many::<'a, Dropped<&'a str>, A>(rest, alloc)?;
+                Ok(rest)
+            }
+            _ => Err(ReadFault::UnknownTag),
+        }
+    }
+}

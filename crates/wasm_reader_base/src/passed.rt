@@ -1,0 +1,77 @@
+// Values that are gone over and not kept.
+ghost use Rattle.std.specs.Prelude.{◌≡◌, ◌≢◌, ℕ, List, length, IfOk, IfErr};
+ghost use Rattle.wasm_base.specs.Formats.{pair, vec};
+ghost use Rattle.wasm_base.specs.Numbers.{Mode, wide};
+ghost use Rattle.wasm_base.specs.Reading.{UniqueReading, Reads, ReadsNothing};
+ghost use Rattle.wasm_base.proofs.FormatLaws.{pair-alone};
+ghost use Rattle.wasm_reader_base.specs.declared.fault.ReadFault.TheVariants.{Memory};
+
+use crate::fault::ReadFault;
+use crate::readable::Readable;
+use std::alloc::Allocator;
+use std::marker::PhantomData;
+
+/// A value that stands at the front of bytes, as [`Readable`] has it, where the bytes after it are wanted and the value isn't.
+pub trait Passed<'a, A: Allocator + Copy> {
+    // The value without where it lies in memory.
+    ghost Value: { Type 0 };
+
+    // What bytes spell.
+    ghost format: { Mode → List ℕ → Value → Type 0 };
+
+    // One value stands at the front of bytes, whatever follows.
+    ghost alone: { UniqueReading format };
+
+    /// The bytes after the value at the front, its numbers padded or not.
+    fn pass(bytes: &'a [u8], alloc: A) -> Result<&'a [u8], ReadFault>
+        ensures found { IfOk result (λ rest. (x : Value) × Reads format wide bytes.now x rest.now) }
+        ensures none { IfErr result (λ e. e ≢ Memory → ReadsNothing format wide bytes.now) };
+}
+
+/// A value that is read, and dropped at once.
+pub struct Dropped<T>(PhantomData<T>);
+
+impl<'a, A: Allocator + Copy, T: Readable<'a, A>> Passed<'a, A> for Dropped<T> {
+    ghost Value = { T.Value };
+
+    ghost format = { T.format };
+
+    ghost alone = { T.alone };
+
+    #[inline]
+    fn pass(bytes: &'a [u8], alloc: A) -> Result<&'a [u8], ReadFault> {
+        let (_value, rest) = T::read(bytes, alloc)?;
+        Ok(rest)
+    }
+}
+
+/// One value, and then another.
+impl<'a, A: Allocator + Copy, P: Passed<'a, A>, Q: Passed<'a, A>> Passed<'a, A> for (P, Q) {
+    ghost Value = { P.Value × Q.Value };
+
+    ghost format = { pair P.format Q.format };
+
+    ghost alone = { pair-alone P.alone Q.alone };
+
+    #[tactic(auto, using(wasm_base::proofs::ReadingSteps::steps))]
+    fn pass(bytes: &'a [u8], alloc: A) -> Result<&'a [u8], ReadFault> {
+        let after = P::pass(bytes, alloc)?;
+        let rest = Q::pass(after, alloc)?;
+        Ok(rest)
+    }
+}
+
+/// How many values there are behind their number, and the bytes after them.
+pub fn pass_many<'a, P: Passed<'a, A>, A: Allocator + Copy>(
+    bytes: &'a [u8],
+    alloc: A,
+) -> Result<(u32, &'a [u8]), ReadFault>
+    ensures found { IfOk result (λ x. (xs : List P.Value) × Reads (vec P.format) wide bytes.now xs x.1.now × (x.0 ≡ length xs)) }
+    ensures none { IfErr result (λ e. e ≢ Memory → ReadsNothing (vec P.format) wide bytes.now) }
+{
+    let (count, mut rest) = <u32 as Readable<'a, A>>::read(bytes, alloc)?;
+    for _taken in 0..count {
+        rest = P::pass(rest, alloc)?;
+    }
+    Ok((count, rest))
+}

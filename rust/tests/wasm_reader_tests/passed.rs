@@ -1,0 +1,163 @@
+// Written by tools/to-rust from tests/wasm_reader_tests/src/passed.rtt: change that.
+// Values that are gone over and not kept: each request for memory is refused, so that none is made.
+
+use crate::checks::{check_cause, check_left};
+use dolzhytik::alloc::Global;
+use crate::host::Abort;
+use crate::test_support::Refusing;
+use dolzhytik::base::ValType;
+use dolzhytik::reader::base::{Dropped, Passed, ReadFault, pass_many};
+use dolzhytik::reader::insn::{Body, Expression};
+
+/// Where the memory of a test comes from.
+type Heap<'a> = &'a Refusing<Global>;
+
+/// A value of the kind stands there, and so many bytes are after it.
+fn check<'a, P: Passed<'a, Heap<'a>>>(
+    rt: &impl Abort,
+    heap: Heap<'a>,
+    bytes: &'a [u8],
+    left: usize,
+) {
+    heap.refuse_all();
+    match P::pass(bytes, heap) {
+        Ok(rest) => check_left(rt, rest, left),
+        Err(_) => panic!(rt; "nothing stands there"),
+    }
+}
+
+/// None stands there, for this cause.
+fn check_none<'a, P: Passed<'a, Heap<'a>>>(
+    rt: &impl Abort,
+    heap: Heap<'a>,
+    bytes: &'a [u8],
+    expected: ReadFault,
+) {
+    heap.refuse_all();
+    let fault = match P::pass(bytes, heap) {
+        Ok(_) => None,
+        Err(fault) => Some(fault),
+    };
+    check_cause(rt, fault, expected);
+}
+
+fn check_count(rt: &impl Abort, given: u32, expected: u32) {
+    assert_eq!(rt; given, expected);
+}
+
+#[test]
+fn values() {
+    let rt = crate::host::HostRuntime;
+    let heap = Refusing::new(rt.alloc());
+    check::<Dropped<u32>>(&rt, &heap, &[0x85, 0x00, 9], 1);
+    check::<(Dropped<u8>, Dropped<u32>)>(&rt, &heap, &[0xFF, 0x85, 0x00, 9], 1);
+    check_none::<Dropped<u32>>(&rt, &heap, &[0x85], ReadFault::Ended);
+    check_none::<(Dropped<u8>, Dropped<u32>)>(&rt, &heap, &[0xFF], ReadFault::Ended);
+    check_none::<(Dropped<u8>, Dropped<u32>)>(&rt, &heap, &[], ReadFault::Ended);
+}
+
+#[test]
+fn many() {
+    let rt = crate::host::HostRuntime;
+    let heap = Refusing::new(rt.alloc());
+    heap.refuse_all();
+    let (count, rest) = pass_many::<Dropped<ValType>, Heap>(
+        &[0x82, 0x00, 0x7F, 0x64, 0x05, 9],
+        &heap,
+    ).expect("accepted");
+    check_count(&rt, count, 2);
+    check_left(&rt, rest, 1);
+    let (count, rest) = pass_many::<Dropped<ValType>, Heap>(&[0, 9], &heap).expect("accepted");
+    check_count(&rt, count, 0);
+    check_left(&rt, rest, 1);
+    let short = match pass_many::<Dropped<ValType>, Heap>(&[2, 0x7F], &heap) {
+        Ok(_) => None,
+        Err(fault) => Some(fault),
+    };
+    check_cause(&rt, short, ReadFault::Ended);
+}
+
+/// Expressions of one instruction: each part of a shape, and each list with two members.
+static EXPRESSIONS: [&[u8]; 24] = [
+    &[0x0B],
+    &[0x01, 0x0B],
+    &[0x20, 0x85, 0x00, 0x0B],
+    &[0x11, 7, 1, 0x0B],
+    &[0x41, 0xFF, 0x7F, 0x0B],
+    &[0x42, 0x40, 0x0B],
+    &[0x43, 11, 11, 11, 11, 0x0B],
+    &[0x44, 11, 11, 11, 11, 11, 11, 11, 11, 0x0B],
+    &[0x02, 0x40, 0x0B],
+    &[0x02, 0x63, 0x6E, 0x0B],
+    &[0xD0, 0x70, 0x0B],
+    &[0x1C, 2, 0x7F, 0x64, 0x05, 0x0B],
+    &[0x0E, 2, 11, 11, 11, 0x0B],
+    &[0x1F, 0x40, 4, 0, 11, 11, 1, 11, 11, 2, 11, 3, 11, 0x0B],
+    &[0xE3, 4, 2, 0, 11, 11, 1, 11, 0x0B],
+    &[0x28, 2, 4, 0x0B],
+    &[0x28, 0x42, 1, 4, 0x0B],
+    &[0xFC, 0x8A, 0x00, 1, 0, 0x0B],
+    &[0xFB, 24, 3, 5, 0x6E, 0x6D, 0x0B],
+    &[0xFD, 21, 15, 0x0B],
+    &[0xFD, 84, 0, 8, 3, 0x0B],
+    &[
+        0xFD, 12, 11, 11, 11, 11, 11, 11, 11, 11, 11, 11, 11, 11, 11, 11, 11, 11, 0x0B,
+    ],
+    &[
+        0xFD, 13, 11, 11, 11, 11, 11, 11, 11, 11, 11, 11, 11, 11, 11, 11, 11, 11, 0x0B,
+    ],
+    &[0xFE, 0x03, 1, 0x0B],
+];
+
+#[test]
+fn expressions() {
+    let rt = crate::host::HostRuntime;
+    let heap = Refusing::new(rt.alloc());
+    for bytes in EXPRESSIONS.iter() {
+        check::<Expression<Heap>>(&rt, &heap, bytes, 0);
+    }
+    check::<Expression<Heap>>(&rt, &heap, &[0x20, 0, 0x0E, 1, 0, 0, 0x0B, 9, 9], 2);
+}
+
+#[test]
+fn expressions_that_are_none() {
+    let rt = crate::host::HostRuntime;
+    let heap = Refusing::new(rt.alloc());
+    let none = [
+        (&[][..], ReadFault::Ended),
+        (&[0x20, 0], ReadFault::Ended),
+        (&[0x20], ReadFault::Ended),
+        (&[0x16, 0x0B], ReadFault::UnknownOpcode),
+        (&[0x0E, 3, 0, 0], ReadFault::Ended),
+        (&[0x1F, 0x40, 1, 4, 0, 0x0B], ReadFault::UnknownTag),
+        (&[0xE3, 4, 1, 2, 0, 0x0B], ReadFault::UnknownTag),
+        (&[0x1C, 1, 0x41, 0x0B], ReadFault::UnknownTag),
+        (
+            &[0x41, 0x80, 0x80, 0x80, 0x80, 0x70, 0x0B],
+            ReadFault::TooLarge,
+        ),
+    ];
+    for (bytes, fault) in none {
+        check_none::<Expression<Heap>>(&rt, &heap, bytes, fault);
+    }
+}
+
+#[test]
+fn bodies() {
+    let rt = crate::host::HostRuntime;
+    let heap = Refusing::new(rt.alloc());
+    check::<Body<Heap>>(&rt, &heap, &[3, 0x80, 0x00, 0x0B, 9], 1);
+    check::<Body<Heap>>(
+        &rt,
+        &heap,
+        &[
+            18, 2, 1, 0x7F, 0x85, 0x00, 0x64, 0x05, 0x02, 0x40, 0x20, 0, 0x0E, 1, 0, 0, 0x0B, 0x0B,
+            0x0B, 9,
+        ],
+        1,
+    );
+    check_none::<Body<Heap>>(&rt, &heap, &[2, 1, 0x7F], ReadFault::Ended);
+    check_none::<Body<Heap>>(&rt, &heap, &[2, 0, 0x20, 0], ReadFault::Ended);
+    check_none::<Body<Heap>>(&rt, &heap, &[3, 0, 0x0B], ReadFault::Ended);
+    check_none::<Body<Heap>>(&rt, &heap, &[2, 0, 0x16], ReadFault::UnknownOpcode);
+}
