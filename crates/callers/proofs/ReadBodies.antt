@@ -12,7 +12,7 @@ use Rattle.wasm_immediates.specs.declared.memory.MemArgTarget.TheVariants.{Memor
 use Rattle.wasm_immediates.specs.declared.memory.Ordering.TheVariants.{SeqCst}
 use Rattle.wasm_insn.specs.Instructions.{instruction_text}
 use Rattle.wasm_code.specs.Bodies.{IsPlainBody, body, locals_text}
-use Rattle.wasm_code.proofs.BodyLaws.{body-whole, has_locals, grows}
+use Rattle.wasm_code.proofs.BodyLaws.{body_whole, has_locals, grows}
 use Rattle.callers.specs.Readings.{without_locals, ordered_load, constant_and_end}
 
 abbrev load : Instruction Global
@@ -40,11 +40,11 @@ no_instructions : IsPlainBody (0x00 ∷ []) (without_locals [])
 no_instructions = (has_locals [] (0x00 ∷ []) no_runs).plain (omega arith) (λ k d l. absurd (omega (arith, l)))
 
 pub load-read : ReadsWhole body (0x00 ∷ 0x28 ∷ 0x10 ∷ 0x00 ∷ 0x0B ∷ []) (without_locals (ordered_load ∷ []))
-load-read = reads_whole {F = body} body-whole ((grows load (0x00 ∷ []) _ load_is).plain (record { align = omega arith; target = omega arith; offset = omega arith }, tt) (without_locals []) no_instructions).spelled
+load-read = reads_whole {F = body} body_whole ((grows load (0x00 ∷ []) _ load_is).plain (record { align = omega arith; target = omega arith; offset = omega arith }, tt) (without_locals []) no_instructions).spelled
 
 pub constant-read : ReadsWhole body (0x00 ∷ 0x41 ∷ 0x01 ∷ 0x0B ∷ []) (without_locals constant_and_end)
 constant-read =
     let first = (grows one (0x00 ∷ []) _ one_is).plain ((omega (arith, ints), omega (arith, ints)), tt) (without_locals []) no_instructions in
-    reads_whole {F = body} body-whole ((grows end (0x00 ∷ 0x41 ∷ 0x01 ∷ []) _ end_is).plain tt _ first).spelled
+    reads_whole {F = body} body_whole ((grows end (0x00 ∷ 0x41 ∷ 0x01 ∷ []) _ end_is).plain tt _ first).spelled
 
 pub ruleset readings = (load-read, constant-read)

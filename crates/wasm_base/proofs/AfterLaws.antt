@@ -3,10 +3,10 @@ use Rattle.std.proofs.Common.{ℕ, List, ◌++◌, refl}
 use Rattle.wasm_base.specs.Formats.{Format, just, after}
 use Rattle.wasm_base.specs.Numbers.{Mode}
 use Rattle.wasm_base.specs.Reading.{UniqueReading, UniqueWholeReading}
-use Rattle.wasm_base.proofs.FormatLaws.{tagged-alone, mapped-whole, pair-whole}
+use Rattle.wasm_base.proofs.FormatLaws.{tagged_unique, mapped_whole, pair_whole}
 
-pub just-alone : {X : Type 0} (x : X) {F : Format X} → UniqueReading F → UniqueReading (just x F)
-just-alone x {F} f = record {
+pub just_unique : {X : Type 0} (x : X) {F : Format X} → UniqueReading F → UniqueReading (just x F)
+just_unique x {F} f = record {
   alone = λ mode s t r q u v h g e. let a = f.alone mode s t r q x x h g e in (refl, a.1, a.2);
   spellings = record {
     one = λ s t u h g. f.spellings.one s t x h g;
@@ -15,11 +15,11 @@ just-alone x {F} f = record {
   };
 }
 
-pub after-alone : {X Y : Type 0} (x : X) {F : Format X} {G : Format Y} → UniqueReading F → UniqueReading G → UniqueReading (after x F G)
-after-alone x {F} {G} f g = tagged-alone (λ y. tt {0}) (λ mode u s y h. refl) (just-alone x f) (λ u. g)
+pub after_unique : {X Y : Type 0} (x : X) {F : Format X} {G : Format Y} → UniqueReading F → UniqueReading G → UniqueReading (after x F G)
+after_unique x {F} {G} f g = tagged_unique (λ y. tt {0}) (λ mode u s y h. refl) (just_unique x f) (λ u. g)
 
-pub after-whole : {X Y : Type 0} (x : X) {F : Format X} {G : Format Y} → UniqueReading F → UniqueWholeReading G → UniqueWholeReading (after x F G)
-after-whole x {F} {G} f g = mapped-whole (λ p. p.1) (λ x y e. λ i. (tt, e i)) (pair-whole (just-alone x f) g)
+pub after_whole : {X Y : Type 0} (x : X) {F : Format X} {G : Format Y} → UniqueReading F → UniqueWholeReading G → UniqueWholeReading (after x F G)
+after_whole x {F} {G} f g = mapped_whole (λ p. p.1) (λ x y e. λ i. (tt, e i)) (pair_whole (just_unique x f) g)
 
 pub after_spelled : {X Y : Type 0} (mode : Mode) (x : X) (F : Format X) (G : Format Y) (front back : List ℕ) (y : Y) → F mode front x → G mode back y → after x F G mode (front ++ back) y
 after_spelled mode x F G front back y h g = ((tt, y), refl, record { front = front; back = back; joined = refl; first = h; second = g })

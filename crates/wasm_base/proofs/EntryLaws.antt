@@ -8,11 +8,11 @@ use Rattle.wasm_base.specs.Texts.{longest}
 use Rattle.wasm_base.specs.Pieces.{joined, section_text, SectionFits}
 use Rattle.wasm_base.specs.Calls.{ReadsBack, ReadsBackWide, ReadsBackBoth}
 use Rattle.wasm_base.specs.Entries.{Kind, Entry, Given, Raw, entry_text, Means, HoldsItems, SpellsWide, HoldsWide, counted_format, ItemLaws}
-use Rattle.wasm_base.proofs.FormatLaws.{vec-alone, frame-alone, whole_from_alone}
+use Rattle.wasm_base.proofs.FormatLaws.{vec_unique, frame_unique, whole_from_alone}
 use Rattle.wasm_base.proofs.TextLaws.{section_alone, section_alone_wide}
 
-pub counted-alone : {Item : Type 0} {F : Format Item} → UniqueReading F → UniqueReading (counted_format F)
-counted-alone f = frame-alone (whole_from_alone (vec-alone f))
+pub counted_unique : {Item : Type 0} {F : Format Item} → UniqueReading F → UniqueReading (counted_format F)
+counted_unique f = frame_unique (whole_from_alone (vec_unique f))
 
 -- the entries together are no longer than the section's size tells
 pub content_fits : (pieces : List (List ℕ)) → SectionFits pieces → length (joined pieces) ≤ longest
@@ -29,7 +29,7 @@ pieces_spelled F (piece ∷ pieces) (item ∷ items) fits holds =
 
 pub counted_alone_wide : {Item : Type 0} {F : Format Item} → UniqueReading F → (pieces : List (List ℕ)) → SectionFits pieces → ReadsBackWide (counted_format F) (HoldsWide F pieces) (section_text pieces)
 counted_alone_wide {F = F} f pieces fits = record {
-  for_each = λ items holds. section_alone_wide {F = F} (counted-alone {F = F} f) pieces items fits (pieces_spelled F pieces items (content_fits pieces fits) holds.spelled);
+  for_each = λ items holds. section_alone_wide {F = F} (counted_unique {F = F} f) pieces items fits (pieces_spelled F pieces items (content_fits pieces fits) holds.spelled);
 }
 
 module _ {Record Item : Type 0} (kind : Kind Record Item) (laws : ItemLaws kind) where
@@ -54,7 +54,7 @@ module _ {Record Item : Type 0} (kind : Kind Record Item) (laws : ItemLaws kind)
         subst (λ ps. ReadsAlone (counted_format kind.format) (section_text ps) items) (sym holds.held)
         (let fits = subst SectionFits holds.held fits in
         let held = map (entry_text kind.text) holds.entries in
-        section_alone {F = kind.format} (counted-alone {F = kind.format} laws.alone) held items fits (entries_spelled holds.entries items (content_fits held fits) holds.meant));
+        section_alone {F = kind.format} (counted_unique {F = kind.format} laws.alone) held items fits (entries_spelled holds.entries items (content_fits held fits) holds.meant));
   }
 
   pub counted_reads : (pieces : List (List ℕ)) → SectionFits pieces → ReadsBackBoth (counted_format kind.format) (HoldsItems kind pieces) (HoldsWide kind.format pieces) (section_text pieces)

@@ -5,7 +5,7 @@ use Rattle.std.proofs.lemmas.List.{length-append, append_cancel_left}
 use Rattle.wasm_base.specs.Numbers.{Mode, shortest, wide}
 use Rattle.wasm_base.specs.Formats.{Format, u32, AreBytes, byte, any_bytes, raw_bytes, bytes_sum, little_endian, when, Then, pair, mapped, such, fixed, impossible, tagged, members, vec, frame, ended, optional, one_of, coded, choice, prefixed}
 use Rattle.wasm_base.specs.Reading.{IsReadAlone, IsReadWhole, HasOneSpelling, IsPartOf, IsShortenedBy, HasSpellings, UniqueReading, UniqueWholeReading, BeginsWith}
-use Rattle.wasm_base.proofs.NumberLaws.{u32-alone, u32-less}
+use Rattle.wasm_base.proofs.NumberLaws.{u32_unique, u32-less}
 
 -- ---- lists
 
@@ -65,8 +65,8 @@ Then-spellings {F} {G} k l = record {
       (a.0 ++ b.0, record { front = a.0; back = b.0; joined = refl; first = a.1; second = b.1 }, omega (arith, a.2, b.2, length-append a.0 b.0, ap length h.joined, length-append h.front h.back));
 }
 
-pub Then-alone : {X Y : Type 0} {F : Format X} {G : X → Format Y} → UniqueReading F → ((x : X) → UniqueReading (G x)) → UniqueReading (Then F G)
-Then-alone {F} {G} k l = record {
+pub Then_unique : {X Y : Type 0} {F : Format X} {G : X → Format Y} → UniqueReading F → ((x : X) → UniqueReading (G x)) → UniqueReading (Then F G)
+Then_unique {F} {G} k l = record {
   alone = λ mode s t r q p o h g e.
       let a = k.alone mode h.front g.front (h.back ++ r) (g.back ++ q) p.0 o.0 h.first g.first (parts s t h.front h.back g.front g.back r q h.joined g.joined e) in
       let b = (l p.0).alone mode h.back g.back r q p.1 o.1 h.second (subst (λ x. G x mode g.back o.1) (sym a.0) g.second) a.2 in
@@ -74,8 +74,8 @@ Then-alone {F} {G} k l = record {
   spellings = Then-spellings k.spellings (λ x. (l x).spellings);
 }
 
-pub Then-whole : {X Y : Type 0} {F : Format X} {G : X → Format Y} → UniqueReading F → ((x : X) → UniqueWholeReading (G x)) → UniqueWholeReading (Then F G)
-Then-whole {F} {G} k l = record {
+pub Then_whole : {X Y : Type 0} {F : Format X} {G : X → Format Y} → UniqueReading F → ((x : X) → UniqueWholeReading (G x)) → UniqueWholeReading (Then F G)
+Then_whole {F} {G} k l = record {
   whole = λ mode s p o h g.
       let a = k.alone mode h.front g.front h.back g.back p.0 o.0 h.first g.first (sym h.joined ∙ g.joined) in
       let b = (l p.0).whole mode h.back p.1 o.1 h.second (subst (λ x. G x mode h.back o.1) (sym a.0) (subst (λ z. G o.0 mode z o.1) (sym a.2) g.second)) in
@@ -83,22 +83,22 @@ Then-whole {F} {G} k l = record {
   spellings = Then-spellings k.spellings (λ x. (l x).spellings);
 }
 
-pub pair-alone : {X Y : Type 0} {F : Format X} {G : Format Y} → UniqueReading F → UniqueReading G → UniqueReading (pair F G)
-pair-alone {F} {G} k l = Then-alone k (λ x. l)
+pub pair_unique : {X Y : Type 0} {F : Format X} {G : Format Y} → UniqueReading F → UniqueReading G → UniqueReading (pair F G)
+pair_unique {F} {G} k l = Then_unique k (λ x. l)
 
-pub pair-whole : {X Y : Type 0} {F : Format X} {G : Format Y} → UniqueReading F → UniqueWholeReading G → UniqueWholeReading (pair F G)
-pair-whole {F} {G} k l = Then-whole k (λ x. l)
+pub pair_whole : {X Y : Type 0} {F : Format X} {G : Format Y} → UniqueReading F → UniqueWholeReading G → UniqueWholeReading (pair F G)
+pair_whole {F} {G} k l = Then_whole k (λ x. l)
 
 -- ---- restrictions, choices and images
 
-pub impossible-alone : {X : Type 0} → UniqueReading (impossible {X = X})
-impossible-alone {X} = record {
+pub impossible_unique : {X : Type 0} → UniqueReading (impossible {X = X})
+impossible_unique {X} = record {
   alone = λ mode s t r q x y h g e. absurd h;
   spellings = record { one = λ s t x h g. absurd h; wider = λ s x h. absurd h; shorter = λ s x h. absurd h };
 }
 
-pub fixed-alone : {X : Type 0} (bytes : List ℕ) (v : X) → UniqueReading (fixed bytes v)
-fixed-alone bytes v = record {
+pub fixed_unique : {X : Type 0} (bytes : List ℕ) (v : X) → UniqueReading (fixed bytes v)
+fixed_unique bytes v = record {
   alone = λ mode s t r q x y h g e. (h.1 ∙ sym g.1, h.0 ∙ sym g.0, append_cancel_left bytes r q (subst (λ z. z ++ r ≡ bytes ++ q) h.0 (subst (λ z. s ++ r ≡ z ++ q) g.0 e)));
   spellings = record { one = λ s t x h g. h.0 ∙ sym g.0; wider = λ s x h. h; shorter = λ s x h. (s, h, le_refl (length s)) };
 }
@@ -110,15 +110,15 @@ such-spellings P {F} k = record {
   shorter = λ s x h. let a = k.shorter s x h.0 in (a.0, (a.1, h.1), a.2);
 }
 
-pub such-alone : {X : Type 0} (P : X → Type 0) {F : Format X} → UniqueReading F → UniqueReading (such P F)
-such-alone P {F} k = record {
+pub such_unique : {X : Type 0} (P : X → Type 0) {F : Format X} → UniqueReading F → UniqueReading (such P F)
+such_unique P {F} k = record {
   alone = λ mode s t r q x y h g e. k.alone mode s t r q x y h.0 g.0 e;
   spellings = such-spellings P k.spellings;
 }
 
-pub when-alone : {X : Type 0} (test : Bool) {F G : Format X} → UniqueReading F → UniqueReading G → UniqueReading (when test F G)
-when-alone true {F} {G} k l = k
-when-alone false {F} {G} k l = l
+pub when_unique : {X : Type 0} (test : Bool) {F G : Format X} → UniqueReading F → UniqueReading G → UniqueReading (when test F G)
+when_unique true {F} {G} k l = k
+when_unique false {F} {G} k l = l
 
 abbrev pub IsInjective : {X Y : Type 0} → (X → Y) → Type 0
 IsInjective {X} f = (x y : X) → f x ≡ f y → x ≡ y
@@ -130,16 +130,16 @@ mapped-spellings f {F} i k = record {
   shorter = λ s y h. let a = k.shorter s h.0 h.2 in (a.0, (h.0, h.1, a.1), a.2);
 }
 
-pub mapped-alone : {X Y : Type 0} (f : X → Y) {F : Format X} → IsInjective f → UniqueReading F → UniqueReading (mapped f F)
-mapped-alone f {F} i k = record {
+pub mapped_unique : {X Y : Type 0} (f : X → Y) {F : Format X} → IsInjective f → UniqueReading F → UniqueReading (mapped f F)
+mapped_unique f {F} i k = record {
   alone = λ mode s t r q x y h g e.
       let a = k.alone mode s t r q h.0 g.0 h.2 g.2 e in
       (sym h.1 ∙ ap f a.0 ∙ g.1, a.1, a.2);
   spellings = mapped-spellings f i k.spellings;
 }
 
-pub mapped-whole : {X Y : Type 0} (f : X → Y) {F : Format X} → IsInjective f → UniqueWholeReading F → UniqueWholeReading (mapped f F)
-mapped-whole f {F} i k = record {
+pub mapped_whole : {X Y : Type 0} (f : X → Y) {F : Format X} → IsInjective f → UniqueWholeReading F → UniqueWholeReading (mapped f F)
+mapped_whole f {F} i k = record {
   whole = λ mode s x y h g. sym h.1 ∙ ap f (k.whole mode s h.0 g.0 h.2 g.2) ∙ g.1;
   spellings = mapped-spellings f i k.spellings;
 }
@@ -162,16 +162,16 @@ tagged-spellings {F} {G} tag tells k l =
       shorter = λ s y h. let a = both.shorter s h.0 h.2 in (a.0, (h.0, h.1, a.1), a.2);
     }
 
-pub tagged-alone : {X Y : Type 0} {F : Format X} {G : X → Format Y} (tag : Y → X) → TellsTag G tag → UniqueReading F → ((x : X) → UniqueReading (G x)) → UniqueReading (tagged F G)
-tagged-alone {F} {G} tag tells k l = record {
+pub tagged_unique : {X Y : Type 0} {F : Format X} {G : X → Format Y} (tag : Y → X) → TellsTag G tag → UniqueReading F → ((x : X) → UniqueReading (G x)) → UniqueReading (tagged F G)
+tagged_unique {F} {G} tag tells k l = record {
   alone = λ mode s t r q x y h g e.
-      let a = (Then-alone k l).alone mode s t r q h.0 g.0 h.2 g.2 e in
+      let a = (Then_unique k l).alone mode s t r q h.0 g.0 h.2 g.2 e in
       (sym h.1 ∙ ap (λ p. p.1) a.0 ∙ g.1, a.1, a.2);
   spellings = tagged-spellings tag tells k.spellings (λ x. (l x).spellings);
 }
 
-pub optional-alone : {X : Type 0} (flag : Bool) {F : Format X} → UniqueReading F → UniqueReading (optional flag F)
-optional-alone flag {F} k = when-alone flag (mapped-alone Some (λ x y e. cc) k) (fixed-alone [] None)
+pub optional_unique : {X : Type 0} (flag : Bool) {F : Format X} → UniqueReading F → UniqueReading (optional flag F)
+optional_unique flag {F} k = when_unique flag (mapped_unique Some (λ x y e. cc) k) (fixed_unique [] None)
 
 -- ---- two formats with different first bytes
 
@@ -193,8 +193,8 @@ begin_apart P Q {F} {G} apart p q mode s t r u x y h g e =
     let f : a.0 ∷ (a.1 ++ r) ≡ b.0 ∷ (b.1 ++ u) = subst (λ z. z ++ r ≡ b.0 ∷ (b.1 ++ u)) a.2 (subst (λ z. s ++ r ≡ z ++ u) b.2 e) in
     apart b.0 (subst P (cc f) a.3) b.3
 
-pub either-alone : {X : Type 0} {F G : Format X} → BeginNeverAlike F G → HaveNoneInCommon F G → UniqueReading F → UniqueReading G → UniqueReading (one_of F G)
-either-alone {X} {F} {G} clash none k l = record { alone = alone; spellings = record { one = one; wider = wider; shorter = shorter } }
+pub either_unique : {X : Type 0} {F G : Format X} → BeginNeverAlike F G → HaveNoneInCommon F G → UniqueReading F → UniqueReading G → UniqueReading (one_of F G)
+either_unique {X} {F} {G} clash none k l = record { alone = alone; spellings = record { one = one; wider = wider; shorter = shorter } }
   where
     alone : (mode : Mode) → IsReadAlone (one_of F G mode)
     alone mode s t r u x y (inl h) (inl g) e = k.alone mode s t r u x y h g e
@@ -216,14 +216,14 @@ either-alone {X} {F} {G} clash none k l = record { alone = alone; spellings = re
     shorter s x (inl h) = let a = k.spellings.shorter s x h in (a.0, inl a.1, a.2)
     shorter s x (inr h) = let a = l.spellings.shorter s x h in (a.0, inr a.1, a.2)
 
-pub one_of-alone : {X : Type 0} (P Q : ℕ → Type 0) {F G : Format X} → AreApart P Q → BeginsWith P F → BeginsWith Q G → HaveNoneInCommon F G → UniqueReading F → UniqueReading G → UniqueReading (one_of F G)
-one_of-alone P Q {F} {G} apart p q none k l = either-alone (begin_apart P Q apart p q) none k l
+pub one_of_unique : {X : Type 0} (P Q : ℕ → Type 0) {F G : Format X} → AreApart P Q → BeginsWith P F → BeginsWith Q G → HaveNoneInCommon F G → UniqueReading F → UniqueReading G → UniqueReading (one_of F G)
+one_of_unique P Q {F} {G} apart p q none k l = either_unique (begin_apart P Q apart p q) none k l
 
 -- ---- bytes
 
 -- A value is got back from its byte.
-pub coded-alone : {X : Type 0} (code : X → ℕ) (decode : ℕ → X) → ((x : X) → decode (code x) ≡ x) → UniqueReading (coded code)
-coded-alone code decode back = record {
+pub coded_unique : {X : Type 0} (code : X → ℕ) (decode : ℕ → X) → ((x : X) → decode (code x) ≡ x) → UniqueReading (coded code)
+coded_unique code decode back = record {
   alone = λ mode s t r q x y h g e.
       let f : code x ∷ r ≡ code y ∷ q = subst (λ z. z ++ r ≡ code y ∷ q) h (subst (λ z. s ++ r ≡ z ++ q) g e) in
       let same : code x ≡ code y = cc f in
@@ -231,11 +231,11 @@ coded-alone code decode back = record {
   spellings = record { one = λ s t x h g. h ∙ sym g; wider = λ s x h. h; shorter = λ s x h. (s, h, le_refl (length s)) };
 }
 
-pub byte-alone : UniqueReading byte
-byte-alone = coded-alone (λ b. b) (λ b. b) (λ b. refl)
+pub byte_unique : UniqueReading byte
+byte_unique = coded_unique (λ b. b) (λ b. b) (λ b. refl)
 
-pub any_bytes-whole : UniqueWholeReading any_bytes
-any_bytes-whole = record {
+pub any_bytes_whole : UniqueWholeReading any_bytes
+any_bytes_whole = record {
   whole = λ mode s x y h g. sym h ∙ g;
   spellings = record { one = λ s t x h g. h ∙ sym g; wider = λ s x h. h; shorter = λ s x h. (s, h, le_refl (length s)) };
 }
@@ -249,8 +249,8 @@ same_fronts (x ∷ a) (y ∷ b) r q l e =
     let more = same_fronts a b r q (omega arith) cc in
     (cc more.0, more.1)
 
-pub raw_bytes-alone : (n : ℕ) → UniqueReading (raw_bytes n)
-raw_bytes-alone n = record {
+pub raw_bytes_unique : (n : ℕ) → UniqueReading (raw_bytes n)
+raw_bytes_unique n = record {
   alone = λ mode s t r q x y h g e.
       let a = same_fronts s t r q (ap length h.0 ∙ h.1 ∙ sym g.1 ∙ ap length (sym g.0)) e in
       (sym h.0 ∙ a.0 ∙ g.0, a.0, a.1);
@@ -263,8 +263,8 @@ same_bytes [] (y ∷ t) f g l e = absurd (omega arith)
 same_bytes (x ∷ s) [] f g l e = absurd (omega arith)
 same_bytes (x ∷ s) (y ∷ t) f g l e = ap₂ ◌∷◌ (omega (arith, f.0, g.0)) (same_bytes s t f.1 g.1 (omega arith) (omega (arith, f.0, g.0)))
 
-pub little_endian-alone : (n : ℕ) → UniqueReading (little_endian n)
-little_endian-alone n = record {
+pub little_endian_unique : (n : ℕ) → UniqueReading (little_endian n)
+little_endian_unique n = record {
   alone = λ mode s t r q x y h g e.
       let a = same_fronts s t r q (h.2 ∙ sym g.2) e in
       (sym h.0 ∙ ap bytes_sum a.0 ∙ g.0, a.0, a.1);
@@ -300,8 +300,8 @@ as_many F k mode s t r q (x ∷ xs) (y ∷ ys) l h g e =
     let b = as_many F k mode h.1 g.1 r q xs ys (omega arith) h.4 g.4 a.2 in
     (ap₂ ◌∷◌ a.0 b.0, same_joined s t h.0 h.1 g.0 g.1 h.2 g.2 a.1 b.1, b.2)
 
-pub members-whole : {X : Type 0} {F : Format X} (P : ℕ → Type 0) → BeginsWith P F → UniqueReading F → UniqueWholeReading (members F)
-members-whole {X} {F} P begins k = record { whole = whole; spellings = members-spellings k.spellings }
+pub members_whole : {X : Type 0} {F : Format X} (P : ℕ → Type 0) → BeginsWith P F → UniqueReading F → UniqueWholeReading (members F)
+members_whole {X} {F} P begins k = record { whole = whole; spellings = members-spellings k.spellings }
   where
     never : (mode : Mode) (s : List ℕ) (x : X) → F mode s x → 0 < length s
     never mode s x h = let b = begins mode s x h in omega (arith, ap length b.2)
@@ -316,8 +316,8 @@ members-whole {X} {F} P begins k = record { whole = whole; spellings = members-s
 
 -- ---- members before a byte that ends them
 
-pub ended-alone : {X : Type 0} (stop : ℕ) {F : Format X} → BeginsWith (λ b. b ≢ stop) F → UniqueReading F → UniqueReading (ended stop F)
-ended-alone {X} stop {F} apart k = record { alone = alone; spellings = record { one = one; wider = wider; shorter = shorter } }
+pub ended_unique : {X : Type 0} (stop : ℕ) {F : Format X} → BeginsWith (λ b. b ≢ stop) F → UniqueReading F → UniqueReading (ended stop F)
+ended_unique {X} stop {F} apart k = record { alone = alone; spellings = record { one = one; wider = wider; shorter = shorter } }
   where
     clash : (mode : Mode) (s a b r q : List ℕ) (y : X) → s ≡ stop ∷ [] → s ++ r ≡ (a ++ b) ++ q → F mode a y → ⊥
     clash mode s a b r q y h e g =
@@ -351,10 +351,10 @@ ended-alone {X} stop {F} apart k = record { alone = alone; spellings = record { 
 
 -- ---- a count and members, a size and content
 
-pub vec-alone : {X : Type 0} {F : Format X} → UniqueReading F → UniqueReading (vec F)
-vec-alone {X} {F} k = record {
+pub vec_unique : {X : Type 0} {F : Format X} → UniqueReading F → UniqueReading (vec F)
+vec_unique {X} {F} k = record {
   alone = λ mode s t r q xs ys h g e.
-      let a = u32-alone.alone mode h.front g.front (h.back ++ r) (g.back ++ q) (length xs) (length ys) h.first g.first (parts s t h.front h.back g.front g.back r q h.joined g.joined e) in
+      let a = u32_unique.alone mode h.front g.front (h.back ++ r) (g.back ++ q) (length xs) (length ys) h.first g.first (parts s t h.front h.back g.front g.back r q h.joined g.joined e) in
       let b = as_many F k mode h.back g.back r q xs ys a.0 h.second g.second a.2 in
       (b.0, same_joined s t h.front h.back g.front g.back h.joined g.joined a.1 b.1, b.2);
   spellings = record {
@@ -365,19 +365,19 @@ vec-alone {X} {F} k = record {
 }
   where
     both : HasSpellings (Then u32 (λ n. members F))
-    both = Then-spellings u32-alone.spellings (λ n. members-spellings k.spellings)
+    both = Then-spellings u32_unique.spellings (λ n. members-spellings k.spellings)
 
-pub frame-alone : {X : Type 0} {F : Format X} → UniqueWholeReading F → UniqueReading (frame F)
-frame-alone {F} k = record {
+pub frame_unique : {X : Type 0} {F : Format X} → UniqueWholeReading F → UniqueReading (frame F)
+frame_unique {F} k = record {
   alone = λ mode s t r q x y h g e.
-      let a = u32-alone.alone mode h.front g.front (h.content ++ r) (g.content ++ q) (length h.content) (length g.content) h.size g.size (parts s t h.front h.content g.front g.content r q h.joined g.joined e) in
+      let a = u32_unique.alone mode h.front g.front (h.content ++ r) (g.content ++ q) (length h.content) (length g.content) h.size g.size (parts s t h.front h.content g.front g.content r q h.joined g.joined e) in
       let b = same_fronts h.content g.content r q a.0 a.2 in
       (k.whole mode h.content x y h.spelled (subst (λ z. F mode z y) (sym b.0) g.spelled), same_joined s t h.front h.content g.front g.content h.joined g.joined a.1 b.0, b.1);
   spellings = record {
     one = λ s t x h g.
         let same = k.spellings.one h.content g.content x h.spelled g.spelled in
-        same_joined s t h.front h.content g.front g.content h.joined g.joined (u32-alone.spellings.one h.front g.front (length h.content) h.size (subst (λ z. u32 shortest g.front (length z)) (sym same) g.size)) same;
-    wider = λ s x h. record { front = h.front; content = h.content; joined = h.joined; size = u32-alone.spellings.wider h.front (length h.content) h.size; spelled = k.spellings.wider h.content x h.spelled };
+        same_joined s t h.front h.content g.front g.content h.joined g.joined (u32_unique.spellings.one h.front g.front (length h.content) h.size (subst (λ z. u32 shortest g.front (length z)) (sym same) g.size)) same;
+    wider = λ s x h. record { front = h.front; content = h.content; joined = h.joined; size = u32_unique.spellings.wider h.front (length h.content) h.size; spelled = k.spellings.wider h.content x h.spelled };
     shorter = λ s x h.
         let b = k.spellings.shorter h.content x h.spelled in
         let a = u32-less h.front (length h.content) (length b.0) b.2 h.size in
@@ -385,12 +385,12 @@ frame-alone {F} k = record {
   };
 }
 
-pub prefixed-alone : {X : Type 0} (bytes : List ℕ) {F : Format X} → UniqueReading F → UniqueReading (prefixed bytes F)
-prefixed-alone bytes {F} k = tagged-alone (λ x. tt {0}) (λ mode u s y h. refl) (fixed-alone bytes (tt {0})) (λ u. k)
+pub prefixed_unique : {X : Type 0} (bytes : List ℕ) {F : Format X} → UniqueReading F → UniqueReading (prefixed bytes F)
+prefixed_unique bytes {F} k = tagged_unique (λ x. tt {0}) (λ mode u s y h. refl) (fixed_unique bytes (tt {0})) (λ u. k)
 
 -- a value that reaches to the last byte, behind fixed bytes
-pub prefixed-whole : {X : Type 0} (bytes : List ℕ) {F : Format X} → UniqueWholeReading F → UniqueWholeReading (prefixed bytes F)
-prefixed-whole bytes {F} f = mapped-whole (λ p. p.1) (λ x y e. λ i. (tt, e i)) (pair-whole (fixed-alone bytes (tt {0})) f)
+pub prefixed_whole : {X : Type 0} (bytes : List ℕ) {F : Format X} → UniqueWholeReading F → UniqueWholeReading (prefixed bytes F)
+prefixed_whole bytes {F} f = mapped_whole (λ p. p.1) (λ x y e. λ i. (tt, e i)) (pair_whole (fixed_unique bytes (tt {0})) f)
 
 -- ---- tags that are numbers
 
@@ -410,9 +410,9 @@ abbrev pub AllTags : {X : Type 0} → (ℕ → Type 0) → List (ℕ × Format X
 AllTags P [] = Unit {0}
 AllTags P (c ∷ cs) = P c.0 × AllTags P cs
 
-pub choice-alone : {X : Type 0} (cs : List (ℕ × Format X)) (other : ℕ → Format X) → AllAlone cs → ((b : ℕ) → UniqueReading (other b)) → (b : ℕ) → UniqueReading (choice cs other b)
-choice-alone [] other all rest b = rest b
-choice-alone (c ∷ cs) other all rest b = when-alone (eqb b c.0) all.0 (choice-alone cs other all.1 rest b)
+pub choice_unique : {X : Type 0} (cs : List (ℕ × Format X)) (other : ℕ → Format X) → AllAlone cs → ((b : ℕ) → UniqueReading (other b)) → (b : ℕ) → UniqueReading (choice cs other b)
+choice_unique [] other all rest b = rest b
+choice_unique (c ∷ cs) other all rest b = when_unique (eqb b c.0) all.0 (choice_unique cs other all.1 rest b)
 
 pub choice_tells : {X : Type 0} (tag : X → ℕ) (cs : List (ℕ × Format X)) (other : ℕ → Format X) → AllTell tag cs → ((b : ℕ) → Tells tag b (other b)) → TellsTag (choice cs other) tag
 choice_tells tag [] other all rest mode b s x h = rest b mode s x h
@@ -464,7 +464,7 @@ none_in_common Q R {F} {G} h q r mode other s t x k l = h x (q mode s x k) (r ot
 
 -- a tag that the value tells
 pub choice_of : {X : Type 0} (head : Format ℕ) (tag : X → ℕ) (cs : List (ℕ × Format X)) → UniqueReading head → AllAlone cs → AllTell tag cs → UniqueReading (tagged head (choice cs (λ b. impossible)))
-choice_of head tag cs heads all tells = tagged-alone tag (choice_tells tag cs (λ b. impossible) tells (λ b mode s x h. absurd h)) heads (choice-alone cs (λ b. impossible) all (λ b. impossible-alone))
+choice_of head tag cs heads all tells = tagged_unique tag (choice_tells tag cs (λ b. impossible) tells (λ b mode s x h. absurd h)) heads (choice_unique cs (λ b. impossible) all (λ b. impossible_unique))
 
 -- ---- longer texts, and texts that begin so
 
@@ -490,14 +490,14 @@ members_go_on {F} P begins k mode a b (x ∷ xs) (y ∷ ys) h g =
 -- What fills a frame whose size is the byte n.
 pub frame_of : {X : Type 0} {F : Format X} (mode : Mode) (n : ℕ) (content rest s back : List ℕ) (x : X) → u32 mode (n ∷ []) n → length content ≡ n → (n ∷ content) ++ rest ≡ s ++ back → frame F mode s x → F mode content x
 frame_of {F} mode n content rest s back x known l e h =
-    let a = u32-alone.alone mode (n ∷ []) h.front (content ++ rest) (h.content ++ back) n (length h.content) known h.size (e ∙ regroup s h.front h.content back h.joined) in
+    let a = u32_unique.alone mode (n ∷ []) h.front (content ++ rest) (h.content ++ back) n (length h.content) known h.size (e ∙ regroup s h.front h.content back h.joined) in
     let b = same_fronts content h.content rest back (l ∙ a.0) a.2 in
     subst (λ z. F mode z x) (sym b.0) h.spelled
 
 -- The one member of a vector whose count is the byte 1.
 pub vec_of_one : {X : Type 0} {F : Format X} (mode : Mode) (content : List ℕ) (xs : List X) → u32 mode (1 ∷ []) 1 → vec F mode (1 ∷ content) xs → (x : X) × F mode content x
 vec_of_one {X} {F} mode content xs known h =
-    let a = u32-alone.alone mode (1 ∷ []) h.front content h.back 1 (length xs) known h.first h.joined in
+    let a = u32_unique.alone mode (1 ∷ []) h.front content h.back 1 (length xs) known h.first h.joined in
     go xs (sym a.0) (subst (λ z. members F mode z xs) (sym a.2) h.second)
   where
     go : (xs : List X) → length xs ≡ 1 → members F mode content xs → (x : X) × F mode content x

@@ -6,20 +6,20 @@ use Rattle.wasm_base.specs.Formats.{Format, byte, any_bytes, frame, members, any
 use Rattle.wasm_base.specs.Reading.{ReadsWhole, UniqueReading, UniqueWholeReading, HasTexts, BeginsWith}
 use Rattle.wasm_base.specs.Texts.{frame_text, IsFrameOf, any_section_text, AnySectionFits, module_text, ModuleFits}
 use Rattle.wasm_base.specs.Calls.{ReadsOneMore}
-use Rattle.wasm_base.proofs.FormatLaws.{begins_then, pair-alone, frame-alone, byte-alone, any_bytes-whole, members-whole, prefixed-whole}
+use Rattle.wasm_base.proofs.FormatLaws.{begins_then, pair_unique, frame_unique, byte_unique, any_bytes_whole, members_whole, prefixed_whole}
 use Rattle.wasm_base.proofs.TextLaws.{reads_whole, frame_spelled, members_spelled}
 
-pub section-alone : UniqueReading any_section
-section-alone = pair-alone byte-alone (frame-alone any_bytes-whole)
+pub section_unique : UniqueReading any_section
+section_unique = pair_unique byte_unique (frame_unique any_bytes_whole)
 
 byte-begins : BeginsWith (λ b. Unit {0}) byte
 byte-begins mode s b h = (b, [], h, tt)
 
-pub module-whole : UniqueWholeReading wasm_module
-module-whole = prefixed-whole header (members-whole (λ b. Unit {0}) (begins_then (λ b. Unit {0}) byte-begins) section-alone)
+pub module_whole : UniqueWholeReading wasm_module
+module_whole = prefixed_whole header (members_whole (λ b. Unit {0}) (begins_then (λ b. Unit {0}) byte-begins) section_unique)
 
 pub module_empty : ReadsWhole wasm_module header []
-module_empty = reads_whole {F = wasm_module} module-whole ((tt, []), refl, record { front = header; back = []; joined = sym (append-nil header); first = (refl, refl); second = refl })
+module_empty = reads_whole {F = wasm_module} module_whole ((tt, []), refl, record { front = header; back = []; joined = sym (append-nil header); first = (refl, refl); second = refl })
 
 members_push : {X : Type 0} (F : Format X) (mode : Mode) (s t : List ℕ) (xs : List X) (x : X) → members F mode s xs → F mode t x → members F mode (s ++ t) (xs ++ x ∷ [])
 members_push F mode s t [] x h g = (t, [], ap (λ z. z ++ t) h ∙ sym (append-nil t), g, refl)
@@ -55,7 +55,7 @@ pub one_more_section : (Payload : List ℕ → Type 0) (id : ℕ) (text old new 
 one_more_section Payload id text old new e framed = record {
   for_each = λ sections payload read pays.
       subst (λ s. ReadsWhole wasm_module s (sections ++ (id, payload) ∷ [])) (sym e)
-      (reads_whole {F = wasm_module} module-whole (more_spelled old sections id text payload read.spelled (framed payload pays)));
+      (reads_whole {F = wasm_module} module_whole (more_spelled old sections id text payload read.spelled (framed payload pays)));
 }
 
 -- ---- the text of a module
@@ -84,7 +84,7 @@ module_text-spelled sections fits = (
 )
 
 pub module_text-reads : (sections : List (ℕ × List ℕ)) → ModuleFits sections → ReadsWhole wasm_module (module_text sections) sections
-module_text-reads sections fits = reads_whole {F = wasm_module} module-whole (module_text-spelled sections fits)
+module_text-reads sections fits = reads_whole {F = wasm_module} module_whole (module_text-spelled sections fits)
 
 pub module-texts : HasTexts wasm_module ModuleFits module_text
 module-texts = record { spelled = module_text-spelled }

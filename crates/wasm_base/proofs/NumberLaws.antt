@@ -257,8 +257,8 @@ unsigned-less bits some s n v l h =
     let t = lesser s v h.groups (omega (arith, h.total)) in
     (t.0, record { groups = t.1; total = t.2; range = omega (arith, h.range); size = t.3 }, t.4)
 
-pub unsigned-alone : (bits : ℕ) → 0 < bits → UniqueReading (λ mode. Unsigned mode bits)
-unsigned-alone bits some = record {
+pub unsigned_unique : (bits : ℕ) → 0 < bits → UniqueReading (λ mode. Unsigned mode bits)
+unsigned_unique bits some = record {
   alone = λ mode s t r q x y h g e.
       let a = groups_apart s t r q h.groups g.groups e in
       (sym h.total ∙ ap groups_sum a.0 ∙ g.total, a.0, a.1);
@@ -269,8 +269,8 @@ unsigned-alone bits some = record {
   };
 }
 
-pub signed-alone : (bits : ℕ) → 0 < bits → UniqueReading (λ mode. Signed mode bits)
-signed-alone bits some = record {
+pub signed_unique : (bits : ℕ) → 0 < bits → UniqueReading (λ mode. Signed mode bits)
+signed_unique bits some = record {
   alone = λ mode s t r q x y h g e.
       let a = groups_apart s t r q h.groups g.groups e in
       (sym h.total ∙ ap signed_sum a.0 ∙ g.total, a.0, a.1);
@@ -283,8 +283,8 @@ signed-alone bits some = record {
   };
 }
 
-pub u32-alone : UniqueReading u32
-u32-alone = unsigned-alone 32 (omega arith)
+pub u32_unique : UniqueReading u32
+u32_unique = unsigned_unique 32 (omega arith)
 
 pub u32-less : ShortenLess u32
 u32-less = unsigned-less 32 (omega arith)

@@ -5,7 +5,7 @@ use Rattle.wasm_base.specs.Formats.{Format, u32, byte, name, pair, tagged, prefi
 use Rattle.wasm_base.specs.Numbers.{Mode, shortest, unsigned_text}
 use Rattle.wasm_base.specs.Texts.{frame_text, FrameFits, optional_text}
 use Rattle.wasm_base.specs.Reading.{UniqueReading, BeginsWith}
-use Rattle.wasm_base.proofs.NumberLaws.{u32-alone}
+use Rattle.wasm_base.proofs.NumberLaws.{u32_unique}
 use Rattle.wasm_base.proofs.NumberTexts.{groups_text-last}
 use Rattle.wasm_base.proofs.TextLaws.{name_spelled, u32_spelled}
 
@@ -32,13 +32,13 @@ optional_tells F false mode s None h = refl
 optional_tells F false mode s (Some x) h = absurd (cc (h.1))
 
 -- a number that is a code of its value, which tells the value
-pub numbered-alone : {X : Type 0} (code : X → ℕ) (decode : ℕ → X) → ((x : X) → decode (code x) ≡ x) → UniqueReading (numbered code)
-numbered-alone code decode back = record {
-  alone = λ mode s t r q x y h g e. let a = u32-alone.alone mode s t r q (code x) (code y) h g e in (sym (back x) ∙ ap decode a.0 ∙ back y, a.1, a.2);
+pub numbered_unique : {X : Type 0} (code : X → ℕ) (decode : ℕ → X) → ((x : X) → decode (code x) ≡ x) → UniqueReading (numbered code)
+numbered_unique code decode back = record {
+  alone = λ mode s t r q x y h g e. let a = u32_unique.alone mode s t r q (code x) (code y) h g e in (sym (back x) ∙ ap decode a.0 ∙ back y, a.1, a.2);
   spellings = record {
-    one = λ s t x h g. u32-alone.spellings.one s t (code x) h g;
-    wider = λ s x h. u32-alone.spellings.wider s (code x) h;
-    shorter = λ s x h. u32-alone.spellings.shorter s (code x) h;
+    one = λ s t x h g. u32_unique.spellings.one s t (code x) h g;
+    wider = λ s x h. u32_unique.spellings.wider s (code x) h;
+    shorter = λ s x h. u32_unique.spellings.shorter s (code x) h;
   };
 }
 

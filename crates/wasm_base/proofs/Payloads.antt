@@ -5,9 +5,9 @@ use Rattle.wasm_base.specs.Formats.{Format, u32, any_bytes, vec, frame, name, pa
 use Rattle.wasm_base.specs.Modules.{ReadsPayloads, ReadsPayloadsWide}
 use Rattle.wasm_base.specs.Reading.{UniqueReading, UniqueWholeReading}
 use Rattle.wasm_base.specs.Texts.{IsFrameOf}
-use Rattle.wasm_base.proofs.BaseLaws.{frame-bytes-alone, name-alone}
-use Rattle.wasm_base.proofs.FormatLaws.{any_bytes-whole, pair-whole, vec-alone, whole_from_alone}
-use Rattle.wasm_base.proofs.NumberLaws.{u32-alone}
+use Rattle.wasm_base.proofs.BaseLaws.{frame_bytes_unique, name_unique}
+use Rattle.wasm_base.proofs.FormatLaws.{any_bytes_whole, pair_whole, vec_unique, whole_from_alone}
+use Rattle.wasm_base.proofs.NumberLaws.{u32_unique}
 use Rattle.wasm_base.proofs.TextLaws.{reads_whole, frame_in}
 
 -- What the frame spells, its content spells.
@@ -15,7 +15,7 @@ content_spelled : {X : Type 0} {F : Format X} {text payload : List ℕ} {x : X} 
 content_spelled {F = F} {text = text} {payload = payload} {x = x} mode framed h =
     let given = subst (λ s. frame any_bytes mode s payload) (sym framed.is) (frame_in mode any_bytes payload payload framed.fits refl) in
     let found : frame any_bytes mode text h.content = record { front = h.front; content = h.content; joined = h.joined; size = h.size; spelled = refl } in
-    let same = frame-bytes-alone.alone mode text text [] [] h.content payload found given refl in
+    let same = frame_bytes_unique.alone mode text text [] [] h.content payload found given refl in
     subst (λ s. F mode s x) same.0 h.spelled
 
 pub payload-reads : {X : Type 0} {F : Format X} → UniqueWholeReading F → ReadsPayloads F
@@ -34,16 +34,16 @@ payload-reads-wide F = record {
 
 -- the payload of a section of counted items
 pub counted-payload : {X : Type 0} {F : Format X} → UniqueReading F → ReadsPayloads (vec F)
-counted-payload f = payload-reads (whole_from_alone (vec-alone f))
+counted-payload f = payload-reads (whole_from_alone (vec_unique f))
 
 pub bytes-payload : ReadsPayloads any_bytes
-bytes-payload = payload-reads any_bytes-whole
+bytes-payload = payload-reads any_bytes_whole
 
 pub u32-payload : ReadsPayloads u32
-u32-payload = payload-reads (whole_from_alone u32-alone)
+u32-payload = payload-reads (whole_from_alone u32_unique)
 
 pub custom-payload : ReadsPayloads (pair name any_bytes)
-custom-payload = payload-reads (pair-whole name-alone any_bytes-whole)
+custom-payload = payload-reads (pair_whole name_unique any_bytes_whole)
 
 pub ruleset payloads = (bytes-payload, u32-payload, custom-payload)
 

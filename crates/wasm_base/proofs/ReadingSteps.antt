@@ -4,7 +4,7 @@ use Rattle.std.proofs.lemmas.List.{length-append, take-append-drop, length-take-
 use Rattle.wasm_base.specs.Numbers.{Mode, wide}
 use Rattle.wasm_base.specs.Formats.{Format, u32, byte, Then, mapped, such, members, vec, frame}
 use Rattle.wasm_base.specs.Reading.{UniqueReading, Reads, ReadsNothing}
-use Rattle.wasm_base.proofs.NumberLaws.{u32-alone}
+use Rattle.wasm_base.proofs.NumberLaws.{u32_unique}
 
 -- Two readings of the same bytes are one.
 pub reads_same : {X : Type 0} {F : Format X} {mode : Mode} {bytes : List ℕ} {x y : X} {r q : List ℕ} → UniqueReading F → Reads F mode bytes x r → Reads F mode bytes y q → (x ≡ y) × (r ≡ q)
@@ -71,7 +71,7 @@ vec_nothing {F = F} {mode = mode} {bytes = bytes} {last = last} xs k h g l none 
   none = λ ys q r.
       let s = r.spelled in
       let count : Reads u32 mode bytes (length ys) (s.back ++ q) = record { front = s.front; split = r.split ∙ ap (λ z. z ++ q) s.joined ∙ append_assoc s.front s.back q; spelled = s.first } in
-      let same = reads_same u32-alone h count in
+      let same = reads_same u32_unique h count in
       let next = next_member F k mode g.front s.back last q xs ys g.spelled s.second (sym g.split ∙ same.1) (omega (arith, same.0)) in
       none.none next.0 next.1 next.2;
 }
@@ -89,7 +89,7 @@ framed : {X : Type 0} {F : Format X} {mode : Mode} {bytes rest last : List ℕ} 
 framed {mode = mode} {bytes = bytes} {last = last} h g =
     let s = g.spelled in
     let size : Reads u32 mode bytes (length s.content) (s.content ++ last) = record { front = s.front; split = g.split ∙ ap (λ z. z ++ last) s.joined ∙ append_assoc s.front s.content last; spelled = s.size } in
-    let same = reads_same u32-alone h size in
+    let same = reads_same u32_unique h size in
     (s.content, same.1, sym same.0, s.spelled)
 
 pub frame_nothing_size : {X : Type 0} {F : Format X} {mode : Mode} {bytes : List ℕ} → ReadsNothing u32 mode bytes → ReadsNothing (frame F) mode bytes

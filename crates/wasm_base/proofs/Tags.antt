@@ -4,7 +4,7 @@ use Rattle.std.proofs.lemmas.Bool.{ne_eqb}
 use Rattle.wasm_base.specs.Numbers.{wide}
 use Rattle.wasm_base.specs.Formats.{Format, byte, optional, tagged, when, impossible, choice, coded, one_of, fixed}
 use Rattle.wasm_base.specs.Reading.{UniqueReading, BeginsWith, Reads, ReadsNothing}
-use Rattle.wasm_base.proofs.FormatLaws.{byte-alone}
+use Rattle.wasm_base.proofs.FormatLaws.{byte_unique}
 use Rattle.wasm_base.proofs.ReadingSteps.{reads_same, then_reads, then_nothing_first, then_nothing_second, mapped_reads, mapped_nothing}
 
 -- ---- tags
@@ -70,7 +70,7 @@ pub first_byte : {X : Type 0} {P : ℕ → Type 0} {F : Format X} {bytes rest la
 first_byte {P = P} {last = last} {x = x} begins h g =
     let s = begins wide g.front x g.spelled in
     let first : Reads byte wide _ s.0 (s.1 ++ last) = record { front = s.0 ∷ []; split = g.split ∙ ap (λ z. z ++ last) s.2; spelled = refl } in
-    subst P (reads_same byte-alone first h).0 s.3
+    subst P (reads_same byte_unique first h).0 s.3
 
 pub not_begun : {X : Type 0} (P : ℕ → Type 0) (F : Format X) {bytes rest : List ℕ} {b : ℕ} → BeginsWith P F → Reads byte wide bytes b rest → (P b → ⊥) → ReadsNothing F wide bytes
 not_begun P F begins h other = record { none = λ x last g. other (first_byte {P = P} {F = F} begins h g) }
@@ -91,4 +91,4 @@ pub code_none : {X : Type 0} (code : X → ℕ) (bytes : List ℕ) → ReadsNoth
 code_none code bytes none = record { none = λ x rest h. none.none (code x) rest (record { front = h.front; split = h.split; spelled = h.spelled }) }
 
 pub code_unknown : {X : Type 0} (code : X → ℕ) (bytes rest : List ℕ) (b : ℕ) → Reads byte wide bytes b rest → ((x : X) → b ≢ code x) → ReadsNothing (coded code) wide bytes
-code_unknown code bytes rest b h other = record { none = λ x last g. other x (reads_same byte-alone h (record { front = g.front; split = g.split; spelled = g.spelled })).0 }
+code_unknown code bytes rest b h other = record { none = λ x last g. other x (reads_same byte_unique h (record { front = g.front; split = g.split; spelled = g.spelled })).0 }

@@ -12,9 +12,9 @@ use Rattle.wasm_base.specs.Texts.{longest, vec_text, VecFits, frame_text, FrameF
 use Rattle.wasm_base.specs.Pieces.{joined, section_text, SectionFits}
 use Rattle.wasm_base.specs.Calls.{ReadsBack}
 use Rattle.wasm_base.specs.Laws.{FitsSigned32, FitsSigned64}
-use Rattle.wasm_base.proofs.NumberLaws.{u32-alone, one_more, last_of_one, single_low, single_high, signed_step}
+use Rattle.wasm_base.proofs.NumberLaws.{u32_unique, one_more, last_of_one, single_low, single_high, signed_step}
 use Rattle.wasm_base.proofs.NumberTexts.{groups_text-last, groups_text-more}
-use Rattle.wasm_base.proofs.FormatLaws.{any_bytes-whole, frame-alone}
+use Rattle.wasm_base.proofs.FormatLaws.{any_bytes_whole, frame_unique}
 
 -- ---- a text that is read
 
@@ -75,7 +75,7 @@ pub u32_spelled : (n : ℕ) → n < 2 ^ 32 → u32 shortest (unsigned_text n) n
 u32_spelled n h = let t = unsigned_text-spelled n n (le_refl n) in record { groups = t.0; total = t.1; range = h; size = t.2 }
 
 pub u32_in : (mode : Mode) (n : ℕ) → n < 2 ^ 32 → u32 mode (unsigned_text n) n
-u32_in mode n h = spelled_in {F = u32} u32-alone (u32_spelled n h) mode
+u32_in mode n h = spelled_in {F = u32} u32_unique (u32_spelled n h) mode
 
 pub u64_spelled : (n : ℕ) → n < 2 ^ 64 → u64 shortest (unsigned_text n) n
 u64_spelled n h = let t = unsigned_text-spelled n n (le_refl n) in record { groups = t.0; total = t.1; range = h; size = t.2 }
@@ -238,5 +238,5 @@ section_alone_wide {F = F} f pieces xs h g = reads_alone_wide {F = frame (vec F)
 
 pub raw_section : (bytes : List ℕ) → FrameFits bytes → ReadsBack (frame any_bytes) (λ said. said ≡ bytes) (frame_text bytes)
 raw_section bytes h = record {
-  for_each = λ said e. subst (λ x. ReadsAlone (frame any_bytes) (frame_text bytes) x) (sym e) (reads_alone {F = frame any_bytes} (frame-alone {F = any_bytes} any_bytes-whole) (frame_spelled any_bytes bytes bytes h refl));
+  for_each = λ said e. subst (λ x. ReadsAlone (frame any_bytes) (frame_text bytes) x) (sym e) (reads_alone {F = frame any_bytes} (frame_unique {F = any_bytes} any_bytes_whole) (frame_spelled any_bytes bytes bytes h refl));
 }

@@ -13,10 +13,10 @@ use Rattle.wasm_base.specs.declared.types.RefType.{RefType}
 use Rattle.wasm_base.specs.declared.types.ValType.{ValType}
 use Rattle.wasm_base.specs.declared.types.ValType.TheVariants.{I32, I64, F32, F64, V128, Ref}
 use Rattle.wasm_base.specs.Types.{abstract_code, abstract_type, unshared, shared, heap_tags, heap_type, FUNCREF, EXTERNREF, nullable_to, to, HasNoByte, ref_tags, ref_type, val_tags, val_ref, val_type, IsIndexByte, heap_text, nullable_text, ref_bytes, ref_text, val_text, IsHeap, IsRef, IsVal}
-use Rattle.wasm_base.proofs.FormatLaws.{TellsTag, AreApart, mapped-alone, such-alone, coded-alone, fixed-alone, impossible-alone, tagged-alone, one_of-alone, byte-alone, begins_mapped, begins_coded, begins_weaker, begins_one_of, choice_of, choice_begins, choice_tells, choice-alone, choice_tags, AllValues, values_mapped, values_tagged, values_one_of, none_in_common, AllTell, AllAlone}
-use Rattle.wasm_base.proofs.NumberLaws.{u32-alone, single_high}
+use Rattle.wasm_base.proofs.FormatLaws.{TellsTag, AreApart, mapped_unique, such_unique, coded_unique, fixed_unique, impossible_unique, tagged_unique, one_of_unique, byte_unique, begins_mapped, begins_coded, begins_weaker, begins_one_of, choice_of, choice_begins, choice_tells, choice_unique, choice_tags, AllValues, values_mapped, values_tagged, values_one_of, none_in_common, AllTell, AllAlone}
+use Rattle.wasm_base.proofs.NumberLaws.{u32_unique, single_high}
 use Rattle.wasm_base.proofs.TextLaws.{u32_spelled, s33_spelled, tagged_spelled}
-use Rattle.wasm_base.proofs.BaseLaws.{s33-alone, unique_wide}
+use Rattle.wasm_base.proofs.BaseLaws.{s33_unique, unique_wide}
 
 abstract_decode : ℕ → AbstractHeapType
 abstract_decode b = cond (eqb b 0x70) kinds.Func (cond (eqb b 0x6F) kinds.Extern (cond (eqb b 0x6E) kinds.Any (cond (eqb b 0x6D) kinds.Eq (cond (eqb b 0x6C) kinds.I31 (cond (eqb b 0x6B) kinds.Struct (cond (eqb b 0x6A) kinds.Array (cond (eqb b 0x69) kinds.Exn (cond (eqb b 0x74) kinds.NoExn (cond (eqb b 0x73) kinds.NoFunc (cond (eqb b 0x72) kinds.NoExtern (cond (eqb b 0x71) kinds.None (cond (eqb b 0x68) kinds.Cont kinds.NoCont))))))))))))
@@ -38,8 +38,8 @@ abstract_back kinds.None = refl
 abstract_back kinds.Cont = refl
 abstract_back kinds.NoCont = refl
 
-pub abstract-alone : UniqueReading abstract_type
-abstract-alone = coded-alone abstract_code abstract_decode abstract_back
+pub abstract_unique : UniqueReading abstract_type
+abstract_unique = coded_unique abstract_code abstract_decode abstract_back
 
 -- ---- an index begins with no type's byte
 
@@ -90,10 +90,10 @@ heap_tag (Exact n) = 0x62
 tagged_heap : Format HeapType
 tagged_heap = tagged byte (choice heap_tags (λ b. impossible))
 
-tagged_heap-alone : UniqueReading (tagged byte (choice heap_tags (λ b. impossible)))
-tagged_heap-alone =
-    choice_of byte heap_tag heap_tags byte-alone
-    (mapped-alone shared (λ x y e. cc) abstract-alone, (mapped-alone Exact (λ x y e. cc) u32-alone, tt))
+tagged_heap_unique : UniqueReading (tagged byte (choice heap_tags (λ b. impossible)))
+tagged_heap_unique =
+    choice_of byte heap_tag heap_tags byte_unique
+    (mapped_unique shared (λ x y e. cc) abstract_unique, (mapped_unique Exact (λ x y e. cc) u32_unique, tt))
     (λ mode s x h. ap heap_tag h.1, (λ mode s x h. ap heap_tag h.1, tt))
 
 mapped_heap_begins : (P : ℕ → Type 0) → ((b : ℕ) → 0x68 ≤ b → b < 0x76 → P b) → BeginsWith P (mapped unshared abstract_type)
@@ -115,14 +115,14 @@ form (Abstract true ty) = 1
 form (Concrete n) = 2
 form (Exact n) = 3
 
-told-alone : UniqueReading told
-told-alone =
-    one_of-alone IsHeapTag IsIndexByte
+told_unique : UniqueReading told
+told_unique =
+    one_of_unique IsHeapTag IsIndexByte
     (λ b p q. types_apart b (omega (arith, p.0, p.1)) q) tagged_heap_begins (begins_mapped IsIndexByte Concrete begins_s33)
     (none_in_common (λ x. form x ≢ 2) (λ x. form x ≡ 2) (λ x p q. p q)
     (values_tagged (λ x. form x ≢ 2) heap_tags (values_mapped (λ x. form x ≢ 2) shared _ (λ x. omega arith), (values_mapped (λ x. form x ≢ 2) Exact _ (λ x. omega arith), tt)))
     (values_mapped (λ x. form x ≡ 2) Concrete _ (λ x. refl)))
-    tagged_heap-alone (mapped-alone Concrete (λ x y e. cc) s33-alone)
+    tagged_heap_unique (mapped_unique Concrete (λ x y e. cc) s33_unique)
 
 told_begins : BeginsWith (λ b. IsHeapTag b ⊎ IsIndexByte b) told
 told_begins =
@@ -139,13 +139,13 @@ told_values =
 abbrev IsAbstractByte : ℕ → Type 0
 IsAbstractByte b = (0x68 ≤ b) × (b < 0x76)
 
-pub heap-alone : UniqueReading heap_type
-heap-alone =
-    one_of-alone IsAbstractByte (λ b. IsHeapTag b ⊎ IsIndexByte b)
+pub heap_unique : UniqueReading heap_type
+heap_unique =
+    one_of_unique IsAbstractByte (λ b. IsHeapTag b ⊎ IsIndexByte b)
     (λ b p q. elim q [ inl h ↦ omega (arith, p.0, h.1) | inr i ↦ types_apart b (omega (arith, p.0, p.1)) i ])
     (mapped_heap_begins IsAbstractByte (λ b p q. (p, q))) told_begins
     (none_in_common (λ x. form x ≡ 0) (λ x. 0 < form x) (λ x p q. omega (arith, p, q)) (values_mapped (λ x. form x ≡ 0) unshared _ (λ x. refl)) told_values)
-    (mapped-alone unshared (λ x y e. cc) abstract-alone) told-alone
+    (mapped_unique unshared (λ x y e. cc) abstract_unique) told_unique
 
 -- ---- reference types
 
@@ -184,18 +184,18 @@ ref_tells = (
 
 pub ref_all : AllAlone ref_tags
 ref_all = (
-  fixed-alone [] FUNCREF,
+  fixed_unique [] FUNCREF,
   (
-    fixed-alone [] EXTERNREF,
+    fixed_unique [] EXTERNREF,
     (
-      mapped-alone nullable_to (λ x y e. ap (λ r. r.heap_type) e) (such-alone HasNoByte heap-alone),
-      (mapped-alone to (λ x y e. ap (λ r. r.heap_type) e) heap-alone, tt),
+      mapped_unique nullable_to (λ x y e. ap (λ r. r.heap_type) e) (such_unique HasNoByte heap_unique),
+      (mapped_unique to (λ x y e. ap (λ r. r.heap_type) e) heap_unique, tt),
     ),
   ),
 )
 
-pub ref-alone : UniqueReading ref_type
-ref-alone = choice_of byte ref_tag ref_tags byte-alone ref_all ref_tells
+pub ref_unique : UniqueReading ref_type
+ref_unique = choice_of byte ref_tag ref_tags byte_unique ref_all ref_tells
 
 -- ---- value types
 
@@ -213,13 +213,13 @@ val_tells =
     (λ mode s x h. ap val_tag (sym h.1), (λ mode s x h. ap val_tag (sym h.1), (λ mode s x h. ap val_tag (sym h.1), (λ mode s x h. ap val_tag (sym h.1), (λ mode s x h. ap val_tag (sym h.1), tt)))))
     (λ b mode s x h. choice_tells ref_tag ref_tags (λ b. impossible) ref_tells (λ b mode s x h. absurd h) mode b s h.0 h.2 ∙ ap val_tag h.1)
 
-pub val_choice-alone : (b : ℕ) → UniqueReading (choice val_tags val_ref b)
-val_choice-alone = choice-alone val_tags val_ref
-    (fixed-alone [] I32, (fixed-alone [] I64, (fixed-alone [] F32, (fixed-alone [] F64, (fixed-alone [] V128, tt)))))
-    (λ b. mapped-alone Ref (λ x y e. cc) (choice-alone ref_tags (λ b. impossible) ref_all (λ b. impossible-alone) b))
+pub val_choice_unique : (b : ℕ) → UniqueReading (choice val_tags val_ref b)
+val_choice_unique = choice_unique val_tags val_ref
+    (fixed_unique [] I32, (fixed_unique [] I64, (fixed_unique [] F32, (fixed_unique [] F64, (fixed_unique [] V128, tt)))))
+    (λ b. mapped_unique Ref (λ x y e. cc) (choice_unique ref_tags (λ b. impossible) ref_all (λ b. impossible_unique) b))
 
-pub val-alone : UniqueReading val_type
-val-alone = tagged-alone val_tag val_tells byte-alone val_choice-alone
+pub val_unique : UniqueReading val_type
+val_unique = tagged_unique val_tag val_tells byte_unique val_choice_unique
 
 -- the first bytes of value types
 abbrev pub IsValByte : ℕ → Type 0
@@ -279,17 +279,17 @@ ref-texts = record { spelled = λ r p. (bytes_spelled r.nullable r.heap_type p).
 pub val-texts : HasTexts val_type IsVal val_text
 val-texts = record { spelled = val_spelled }
 
-pub ruleset types = (heap-alone, ref-alone, val-alone, heap-texts, ref-texts, val-texts, begins_s33)
+pub ruleset types = (heap_unique, ref_unique, val_unique, heap-texts, ref-texts, val-texts, begins_s33)
 
 -- ---- padded numbers
 
 pub wide-heap : IsUniqueWide heap_type
-wide-heap = unique_wide heap-alone
+wide-heap = unique_wide heap_unique
 
 pub wide-ref : IsUniqueWide ref_type
-wide-ref = unique_wide ref-alone
+wide-ref = unique_wide ref_unique
 
 pub wide-val : IsUniqueWide val_type
-wide-val = unique_wide val-alone
+wide-val = unique_wide val_unique
 
 pub ruleset wide_types = (wide-heap, wide-ref, wide-val)

@@ -10,16 +10,16 @@ use Rattle.wasm_base.specs.Calls.{ReadsBack}
 use Rattle.wasm_base.specs.Iterators.{AppendsVec}
 use Rattle.wasm_base.specs.Texts.{longest, frame_text, FrameFits}
 use Rattle.wasm_base.specs.Types.{val_type, val_text}
-use Rattle.wasm_base.proofs.FormatLaws.{mapped-whole, pair-alone, pair-whole, vec-alone, frame-alone, members_go_on}
-use Rattle.wasm_base.proofs.NumberLaws.{u32-alone}
+use Rattle.wasm_base.proofs.FormatLaws.{mapped_whole, pair_unique, pair_whole, vec_unique, frame_unique, members_go_on}
+use Rattle.wasm_base.proofs.NumberLaws.{u32_unique}
 use Rattle.wasm_base.proofs.NumberTexts.{groups_text-last}
-use Rattle.wasm_base.proofs.TypeLaws.{val-alone, val-texts}
+use Rattle.wasm_base.proofs.TypeLaws.{val_unique, val-texts}
 use Rattle.wasm_base.proofs.TextLaws.{reads_alone, frame_spelled, u32_spelled, vec_spelled}
 use Rattle.wasm_insn.specs.declared.instruction.Instruction.{Instruction}
 use Rattle.wasm_insn.specs.Plain.{Plain, instruction}
 use Rattle.wasm_insn.specs.Table.{table}
 use Rattle.wasm_insn.specs.Instructions.{instruction_text, IsPlainInstruction}
-use Rattle.wasm_insn.proofs.InstructionLaws.{alone, any_begins, lists-whole}
+use Rattle.wasm_insn.proofs.InstructionLaws.{alone, any_begins, lists_whole}
 use Rattle.wasm_code.specs.Expressions.{normal_row}
 use Rattle.wasm_code.specs.Bodies.{Run, run_text, locals_text, IsRun, Body, body_of, body, IsPlainBody, IsWideBody, and_then, Grows, GrowsBy, HasLocals, BeginsWithRuns}
 use Rattle.wasm_code.specs.Laws.{GoesOnWith, HasOffsets, FindsAdded}
@@ -27,20 +27,20 @@ use Rattle.wasm_code.proofs.ExpressionLaws.{members_join, members_one, normal_sp
 
 -- ---- unique reading
 
-pub runs-alone : UniqueReading (vec (pair u32 val_type))
-runs-alone = vec-alone (pair-alone u32-alone val-alone)
+pub runs_unique : UniqueReading (vec (pair u32 val_type))
+runs_unique = vec_unique (pair_unique u32_unique val_unique)
 
-pub body-whole : UniqueWholeReading body
-body-whole =
-    mapped-whole body_of (λ x y e. ap (λ b. (b.runs, b.code)) e)
-    (pair-whole runs-alone lists-whole)
+pub body_whole : UniqueWholeReading body
+body_whole =
+    mapped_whole body_of (λ x y e. ap (λ b. (b.runs, b.code)) e)
+    (pair_whole runs_unique lists_whole)
 
-pub frame-body-alone : UniqueReading (frame body)
-frame-body-alone = frame-alone body-whole
+pub frame_body_unique : UniqueReading (frame body)
+frame_body_unique = frame_unique body_whole
 
 -- The frame of a raw body that spells a body is read as this body alone.
 pub body_reads : (bytes : List ℕ) → FrameFits bytes → ReadsBack (frame body) (IsPlainBody bytes) (frame_text bytes)
-body_reads bytes fits = record { for_each = λ x h. reads_alone {F = frame body} frame-body-alone (frame_spelled body bytes x fits h.spelled) }
+body_reads bytes fits = record { for_each = λ x h. reads_alone {F = frame body} frame_body_unique (frame_spelled body bytes x fits h.spelled) }
 
 -- ---- bodies that grow
 
@@ -73,7 +73,7 @@ grows_by more old new e = record { bytes = e; plain = λ x is held spelled. subs
 
 -- with padded numbers
 pub body_wider : (bytes : List ℕ) (x : Body) → IsPlainBody bytes x → IsWideBody bytes x
-body_wider bytes x plain = record { spelled = body-whole.spellings.wider bytes x plain.spelled }
+body_wider bytes x plain = record { spelled = body_whole.spellings.wider bytes x plain.spelled }
 
 pub grows_wide : (old more : List ℕ) (x : Body) (is : List Plain) → IsWideBody old x → members (instruction table) wide more is → IsWideBody (old ++ more) (and_then x is)
 grows_wide old more x is h g = record { spelled = grown wide more old x is h.spelled g }
@@ -113,7 +113,7 @@ goes_on : (front more : List ℕ) (x y : Body) → body shortest front x → bod
 goes_on front more x y h g =
     let a = h.2 in
     let b = g.2 in
-    let r = runs-alone.alone shortest a.front b.front (a.back ++ more) b.back h.0.0 g.0.0 a.first b.first (sym (append_assoc a.front a.back more) ∙ ap (λ z. z ++ more) (sym a.joined) ∙ b.joined) in
+    let r = runs_unique.alone shortest a.front b.front (a.back ++ more) b.back h.0.0 g.0.0 a.first b.first (sym (append_assoc a.front a.back more) ∙ ap (λ z. z ++ more) (sym a.joined) ∙ b.joined) in
     let m = members_go_on (λ b. Unit {0}) any_begins alone shortest a.back more h.0.1 g.0.1 a.second (subst (λ z. members (instruction table) shortest z g.0.1) (sym r.2) b.second) in
     let runs : y.runs ≡ x.runs = ap (λ z. z.runs) (sym g.1) ∙ sym r.0 ∙ ap (λ z. z.runs) h.1 in
     let code : y.code ≡ x.code ++ m.0 = ap (λ z. z.code) (sym g.1) ∙ m.1 ∙ ap (λ z. z.code ++ m.0) h.1 in

@@ -36,7 +36,7 @@ use Rattle.wasm_code.specs.Code.{code_section, HoldsBodies, SpellsBodiesIn, Spel
 use Rattle.wasm_base.specs.Formats.{such}
 use Rattle.wasm_code.specs.Expressions.{IsNoEnd, StoresInstructions, StoresWide, Stores, normal_row}
 use Rattle.wasm_code.specs.Laws.{HoldsMoreBodies, GrowsByText, GrowsByLabels, br_table_row, HoldsMoreBodiesWide, GrowsWide, GrowsByTextWide, StoresMoreWide}
-use Rattle.wasm_code.proofs.BodyLaws.{body-whole, grows, grows_by, body_wider, grows_wide, grows_by_instruction}
+use Rattle.wasm_code.proofs.BodyLaws.{body_whole, grows, grows_by, body_wider, grows_wide, grows_by_instruction}
 use Rattle.wasm_code.proofs.CodeLaws.{raw_code-payload, code_section-payload}
 use Rattle.wasm_code.proofs.ExpressionLaws.{members_one, members_join, stores_wider, expression_spelled}
 
@@ -213,7 +213,7 @@ spells_wide {bodies = bodies} before = record { raw = before.raw; held = before.
     each_wider [] [] h = tt
     each_wider [] (x ∷ xs) h = absurd h
     each_wider (bytes ∷ raw) [] h = absurd h
-    each_wider (bytes ∷ raw) (x ∷ xs) h = (body-whole.spellings.wider bytes x h.0, each_wider raw xs h.1)
+    each_wider (bytes ∷ raw) (x ∷ xs) h = (body_whole.spellings.wider bytes x h.0, each_wider raw xs h.1)
 
 -- one more body, of given bytes or of a function
 pub adds_body_wide : {old new : List (List ℕ)} {raw : List ℕ} {bodies : List Body} {x : Body} → SpellsBodiesWide old bodies → new ≡ old ++ frame_text raw ∷ [] → IsWideBody raw x → SpellsBodiesWide new (bodies ++ x ∷ [])

@@ -7,22 +7,22 @@ use Rattle.wasm_base.specs.Reading.{UniqueReading, IsUniqueWide, IsUniqueWholeWi
 use Rattle.wasm_base.specs.Modules.{ReadsPayloads}
 use Rattle.wasm_base.specs.Texts.{longest, frame_text}
 use Rattle.wasm_base.specs.Pieces.{joined, section_text, SectionFits}
-use Rattle.wasm_base.proofs.BaseLaws.{frame-bytes-alone, unique_wide, unique_whole_wide}
-use Rattle.wasm_base.proofs.FormatLaws.{vec-alone, frame-alone, whole_from_alone}
+use Rattle.wasm_base.proofs.BaseLaws.{frame_bytes_unique, unique_wide, unique_whole_wide}
+use Rattle.wasm_base.proofs.FormatLaws.{vec_unique, frame_unique, whole_from_alone}
 use Rattle.wasm_base.proofs.Payloads.{counted-payload}
 use Rattle.wasm_base.proofs.EntryLaws.{content_fits}
 use Rattle.wasm_base.proofs.TextLaws.{frame_in, section_alone, section_alone_wide}
 use Rattle.wasm_code.specs.Expressions.{expression}
 use Rattle.wasm_code.specs.Bodies.{body}
 use Rattle.wasm_code.specs.Code.{raw_code, code_section, HoldsBodies, ReadsCode}
-use Rattle.wasm_code.proofs.ExpressionLaws.{expression-alone}
-use Rattle.wasm_code.proofs.BodyLaws.{body-whole, frame-body-alone}
+use Rattle.wasm_code.proofs.ExpressionLaws.{expression_unique}
+use Rattle.wasm_code.proofs.BodyLaws.{body_whole, frame_body_unique}
 
-pub raw_code-alone : UniqueReading raw_code
-raw_code-alone = frame-alone (whole_from_alone (vec-alone frame-bytes-alone))
+pub raw_code_unique : UniqueReading raw_code
+raw_code_unique = frame_unique (whole_from_alone (vec_unique frame_bytes_unique))
 
-pub code_section-alone : UniqueReading code_section
-code_section-alone = frame-alone (whole_from_alone (vec-alone frame-body-alone))
+pub code_section_unique : UniqueReading code_section
+code_section_unique = frame_unique (whole_from_alone (vec_unique frame_body_unique))
 
 -- Each frame of a content that fits spells what its bytes spell.
 frames_spelled : {X : Type 0} (mode : Mode) (F : Format X) (raw : List (List ℕ)) (xs : List X) → length (joined (map frame_text raw)) ≤ longest → AllZip (F mode) raw xs → AllZip (frame F mode) (map frame_text raw) xs
@@ -45,36 +45,36 @@ same_bytes (bytes ∷ raw) = (refl, same_bytes raw)
 
 pub code_reads : (entries : List (List ℕ)) → SectionFits entries → ReadsCode entries (section_text entries)
 code_reads entries fits = record {
-  raw = record { for_each = λ raw e. section_alone {F = frame any_bytes} raw_code-alone entries raw fits (framed shortest any_bytes entries raw raw e fits (same_bytes raw)) };
-  bodies = record { for_each = λ xs h. section_alone {F = frame body} code_section-alone entries xs fits (framed shortest body entries h.raw xs h.held fits h.spelled) };
-  wide = record { for_each = λ xs h. section_alone_wide {F = frame body} code_section-alone entries xs fits (framed wide body entries h.raw xs h.held fits h.spelled) };
+  raw = record { for_each = λ raw e. section_alone {F = frame any_bytes} raw_code_unique entries raw fits (framed shortest any_bytes entries raw raw e fits (same_bytes raw)) };
+  bodies = record { for_each = λ xs h. section_alone {F = frame body} code_section_unique entries xs fits (framed shortest body entries h.raw xs h.held fits h.spelled) };
+  wide = record { for_each = λ xs h. section_alone_wide {F = frame body} code_section_unique entries xs fits (framed wide body entries h.raw xs h.held fits h.spelled) };
 }
 
 -- ---- payloads
 
 pub raw_code-payload : ReadsPayloads (vec (frame any_bytes))
-raw_code-payload = counted-payload frame-bytes-alone
+raw_code-payload = counted-payload frame_bytes_unique
 
 pub code_section-payload : ReadsPayloads (vec (frame body))
-code_section-payload = counted-payload frame-body-alone
+code_section-payload = counted-payload frame_body_unique
 
 pub ruleset payloads = (raw_code-payload, code_section-payload)
 
 -- ---- padded numbers
 
 pub wide-expression : IsUniqueWide expression
-wide-expression = unique_wide expression-alone
+wide-expression = unique_wide expression_unique
 
 pub wide-body : IsUniqueWholeWide body
-wide-body = unique_whole_wide body-whole
+wide-body = unique_whole_wide body_whole
 
 pub wide-frame : IsUniqueWide (frame body)
-wide-frame = unique_wide frame-body-alone
+wide-frame = unique_wide frame_body_unique
 
 pub wide-raw_code : IsUniqueWide raw_code
-wide-raw_code = unique_wide raw_code-alone
+wide-raw_code = unique_wide raw_code_unique
 
 pub wide-code_section : IsUniqueWide code_section
-wide-code_section = unique_wide code_section-alone
+wide-code_section = unique_wide code_section_unique
 
 pub ruleset wide_laws = (wide-expression, wide-body, wide-frame, wide-raw_code, wide-code_section)

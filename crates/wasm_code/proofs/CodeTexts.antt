@@ -13,9 +13,9 @@ use Rattle.wasm_code.specs.Expressions.{IsNoEnd, expression}
 use Rattle.wasm_code.specs.Bodies.{body, IsRun, run_text, locals_text}
 use Rattle.wasm_code.specs.Code.{raw_code, code_section}
 use Rattle.wasm_code.specs.Laws.{IsNormal, IsNormalInside, code_text, PlainExpressionFits, plain_expression_text, BodyFits, body_text, BodyFrameFits, body_frame_text, RawCodeFits, raw_code_text, CodeSectionFits, code_section_text}
-use Rattle.wasm_code.proofs.ExpressionLaws.{expression-alone, expression_spelled}
-use Rattle.wasm_code.proofs.BodyLaws.{body-whole, frame-body-alone, run_spelled}
-use Rattle.wasm_code.proofs.CodeLaws.{raw_code-alone, code_section-alone}
+use Rattle.wasm_code.proofs.ExpressionLaws.{expression_unique, expression_spelled}
+use Rattle.wasm_code.proofs.BodyLaws.{body_whole, frame_body_unique, run_spelled}
+use Rattle.wasm_code.proofs.CodeLaws.{raw_code_unique, code_section_unique}
 
 -- A plain instruction in normal form is spelled by its text.
 same_spelled : (i : Plain) → IsNormal i → instruction table shortest (plain_text i) i
@@ -54,6 +54,6 @@ code_section-texts = record {
   spelled = λ bodies h. frame_spelled (vec (frame body)) (vec_text body_frame_text bodies) bodies h.size (vec_spelled (frame body) BodyFrameFits body_frame_text frame-body-texts.spelled bodies h.members);
 }
 
-pub ruleset expressions = (expression-alone, expression-texts)
+pub ruleset expressions = (expression_unique, expression-texts)
 
-pub ruleset bodies = (body-whole, frame-body-alone, raw_code-alone, code_section-alone, body-texts, frame-body-texts, raw_code-texts, code_section-texts)
+pub ruleset bodies = (body_whole, frame_body_unique, raw_code_unique, code_section_unique, body-texts, frame-body-texts, raw_code-texts, code_section-texts)

@@ -11,7 +11,7 @@ use Rattle.std.specs.declared.vec.Vec.{Vec}
 use Rattle.wasm_base.specs.Calls.{Appends, ReadsBack}
 use Rattle.wasm_base.specs.declared.refused.Refused.{Refused}
 use Rattle.wasm_base.proofs.Outcomes.{on_ok}
-use Rattle.wasm_base.proofs.FormatLaws.{such-alone, ended-alone, members-whole}
+use Rattle.wasm_base.proofs.FormatLaws.{such_unique, ended_unique, members_whole}
 use Rattle.wasm_base.proofs.TextLaws.{reads_alone}
 use Rattle.wasm_code.specs.declared.first.First.{First}
 use Rattle.wasm_code.specs.declared.first.First.TheVariants as firsts
@@ -43,15 +43,15 @@ not_end_begins mode s i h =
       λ e. no_end i.op h.1 (sym (ap (λ i. i.op) k.1) ∙ sym op.1 ∙ end_is mode op.2.back op.0.1 (subst (λ b. op_after b mode op.2.back op.0.1) e op.2.second)),
     )
 
-pub expression-alone : UniqueReading expression
-expression-alone = ended-alone 0x0B not_end_begins (such-alone IsNoEnd alone)
+pub expression_unique : UniqueReading expression
+expression_unique = ended_unique 0x0B not_end_begins (such_unique IsNoEnd alone)
 
-stored-whole : UniqueWholeReading (members (such IsNoEnd (instruction table)))
-stored-whole = members-whole (λ b. b ≢ 0x0B) not_end_begins (such-alone IsNoEnd alone)
+stored_whole : UniqueWholeReading (members (such IsNoEnd (instruction table)))
+stored_whole = members_whole (λ b. b ≢ 0x0B) not_end_begins (such_unique IsNoEnd alone)
 
 -- What is plain is so with padded numbers too.
 pub stores_wider : (bytes : List ℕ) (is : List Plain) → StoresInstructions bytes is → StoresWide bytes is
-stores_wider bytes is stored = stored-whole.spellings.wider bytes is stored
+stores_wider bytes is stored = stored_whole.spellings.wider bytes is stored
 
 -- ---- texts
 
@@ -73,7 +73,7 @@ pub expression_spelled : (mode : Mode) (bytes : List ℕ) (is : List Plain) → 
 expression_spelled mode bytes is h = ended_spelled 0x0B (such IsNoEnd (instruction table)) mode bytes is h
 
 pub expression_reads : (bytes : List ℕ) → ReadsBack expression (StoresInstructions bytes) (expression_text bytes)
-expression_reads bytes = record { for_each = λ is h. reads_alone {F = expression} expression-alone (expression_spelled shortest bytes is h) }
+expression_reads bytes = record { for_each = λ is h. reads_alone {F = expression} expression_unique (expression_spelled shortest bytes is h) }
 
 -- ---- calls
 

@@ -5,8 +5,8 @@ use Rattle.std.specs.declared.alloc.Global.{Global}
 use Rattle.wasm_base.specs.Numbers.{shortest, AreGroups, IsUnsignedSize}
 use Rattle.wasm_base.specs.Formats.{u32, u64, fixed, mapped, pair, vec, members, frame}
 use Rattle.wasm_base.specs.Types.{val_type}
-use Rattle.wasm_base.proofs.FormatLaws.{byte-alone, fixed-alone, then_at, tagged_at, member_at, frame_of, vec_of_one}
-use Rattle.wasm_base.proofs.NumberLaws.{u32-alone, u32_small, groups_apart}
+use Rattle.wasm_base.proofs.FormatLaws.{byte_unique, fixed_unique, then_at, tagged_at, member_at, frame_of, vec_of_one}
+use Rattle.wasm_base.proofs.NumberLaws.{u32_unique, u32_small, groups_apart}
 use Rattle.wasm_insn.specs.declared.instruction.Instruction.{Instruction}
 use Rattle.wasm_insn.specs.declared.instruction.Instruction.TheVariants.{I32Load}
 use Rattle.wasm_immediates.specs.declared.memory.MemArg.{MemArg}
@@ -19,12 +19,12 @@ use Rattle.wasm_immediates.specs.PlainImmediates.{mem_ordering, mem_arg, after_f
 use Rattle.wasm_insn.specs.Plain.{Plain, part, arguments, arguments_after, shape_of, instruction}
 use Rattle.wasm_insn.specs.Table.{table, IsRow}
 use Rattle.wasm_insn.specs.Instructions.{row_of}
-use Rattle.wasm_insn.proofs.PlainLaws.{opcode-alone, opcode_spelled}
+use Rattle.wasm_insn.proofs.PlainLaws.{opcode_unique, opcode_spelled}
 use Rattle.wasm_insn.proofs.TableRows.{instruction_row}
 use Rattle.wasm_code.specs.Bodies.{Body, body}
 use Rattle.wasm_code.specs.Code.{code_section}
 use Rattle.wasm_code.specs.Laws.{NothingStands}
-use Rattle.wasm_code.proofs.BodyLaws.{runs-alone}
+use Rattle.wasm_code.proofs.BodyLaws.{runs_unique}
 
 regrouped : (s a b r : List ℕ) → s ≡ a ++ b → s ++ r ≡ a ++ (b ++ r)
 regrouped s a b r e = rw e (append_assoc a b r)
@@ -38,17 +38,17 @@ no_groups (b ∷ s) t r e g = omega (arith, ap length e, length-append t ((b ∷
 -- After flags 10 an ordering and an offset are left, and there is one byte.
 cut_after : (s back : List ℕ) (m : MemArg) → 0x00 ∷ [] ≡ s ++ back → after_flags 0x10 shortest s m → ⊥
 cut_after s back m e h =
-    let target = then_at {F = fixed [] (Memory 0)} {G = λ u. pair (mapped Some mem_ordering) u64} (fixed-alone [] (Memory 0)) shortest [] (Memory 0) (refl, refl) (0x00 ∷ []) s back h.0 e h.2 in
+    let target = then_at {F = fixed [] (Memory 0)} {G = λ u. pair (mapped Some mem_ordering) u64} (fixed_unique [] (Memory 0)) shortest [] (Memory 0) (refl, refl) (0x00 ∷ []) s back h.0 e h.2 in
     cut_order target.0 back h.0.1 target.1 target.2
   where
     cut_order : (s back : List ℕ) (p : Option MemArgOrdering × ℕ) → 0x00 ∷ [] ≡ s ++ back → pair (mapped Some mem_ordering) u64 shortest s p → ⊥
     cut_order s back p e h =
-        let order = tagged_at byte-alone shortest (0x00 ∷ []) 0x00 refl [] h.front (h.back ++ back) h.first.0 (e ∙ regrouped s h.front h.back back h.joined) h.first.2 in
+        let order = tagged_at byte_unique shortest (0x00 ∷ []) 0x00 refl [] h.front (h.back ++ back) h.first.0 (e ∙ regrouped s h.front h.back back h.joined) h.first.2 in
         no_groups h.back order.0 back order.1 h.second.groups
 
 cut_flags : (s back : List ℕ) (m : MemArg) → 0x10 ∷ 0x00 ∷ [] ≡ s ++ back → mem_arg shortest s m → ⊥
 cut_flags s back m e h =
-    let flags = tagged_at {G = after_flags} u32-alone shortest (0x10 ∷ []) 0x10 (u32_small shortest 0x10 (omega arith)) (0x00 ∷ []) s back m e h in
+    let flags = tagged_at {G = after_flags} u32_unique shortest (0x10 ∷ []) 0x10 (u32_small shortest 0x10 (omega arith)) (0x00 ∷ []) s back m e h in
     cut_after flags.0 back m flags.1 flags.2
 
 abbrev load : Instruction Global
@@ -63,7 +63,7 @@ load_arguments s xs h = subst (λ ps. arguments ps shortest s xs) (sym load_row.
 
 cut_load : (s back : List ℕ) (i : Plain) → 0x28 ∷ 0x10 ∷ 0x00 ∷ [] ≡ s ++ back → instruction table shortest s i → ⊥
 cut_load s back i e h =
-    let args = then_at {G = λ op. arguments_after (shape_of table op)} opcode-alone shortest (0x28 ∷ []) (Byte 0x28) (opcode_spelled (Byte 0x28) refl) (0x10 ∷ 0x00 ∷ []) s back h.0 e h.2 in
+    let args = then_at {G = λ op. arguments_after (shape_of table op)} opcode_unique shortest (0x28 ∷ []) (Byte 0x28) (opcode_spelled (Byte 0x28) refl) (0x10 ∷ 0x00 ∷ []) s back h.0 e h.2 in
     let given = load_arguments args.0 h.0.1 args.2 in
     cut_args args.0 back given.0 args.1 given.2
   where
@@ -85,7 +85,7 @@ no_runs = record { front = 0x00 ∷ []; back = []; joined = refl; first = u32_sm
 
 cut_body : (x : Body) → body shortest (0x00 ∷ 0x28 ∷ 0x10 ∷ 0x00 ∷ []) x → ⊥
 cut_body x h =
-    let code = then_at {G = λ u. members (instruction table)} runs-alone shortest (0x00 ∷ []) [] no_runs (0x28 ∷ 0x10 ∷ 0x00 ∷ []) (0x00 ∷ 0x28 ∷ 0x10 ∷ 0x00 ∷ []) [] h.0 refl h.2 in
+    let code = then_at {G = λ u. members (instruction table)} runs_unique shortest (0x00 ∷ []) [] no_runs (0x28 ∷ 0x10 ∷ 0x00 ∷ []) (0x00 ∷ 0x28 ∷ 0x10 ∷ 0x00 ∷ []) [] h.0 refl h.2 in
     let found = member_at (instruction table) shortest 0x28 (0x10 ∷ 0x00 ∷ []) code.0 h.0.1 (code.1 ∙ append-nil code.0) code.2 in
     cut_load found.0 found.1 found.2 found.3 found.4
 

@@ -4,8 +4,8 @@ use Rattle.wasm_base.specs.Numbers.{wide, groups_sum, unsigned_text}
 use Rattle.wasm_base.specs.Reading.{ReadsNothing}
 use Rattle.wasm_base.specs.Formats.{u32, fixed}
 use Rattle.wasm_base.specs.Groups.{groups, HasGroups}
-use Rattle.wasm_base.proofs.FormatLaws.{fixed-alone, tagged_at}
-use Rattle.wasm_base.proofs.NumberLaws.{groups_apart, u32-alone}
+use Rattle.wasm_base.proofs.FormatLaws.{fixed_unique, tagged_at}
+use Rattle.wasm_base.proofs.NumberLaws.{groups_apart, u32_unique}
 use Rattle.wasm_base.proofs.ReadingSteps.{front_and_rest}
 use Rattle.wasm_base.proofs.TextLaws.{u32_in}
 use Rattle.wasm_code.specs.declared.first.First.{First}
@@ -15,7 +15,7 @@ use Rattle.wasm_code.specs.Expressions.{BeginsWithRefFunc, IsRefFunc, first_text
 -- What follows the op is the index.
 after_op : (bytes rest : List ℕ) (f : ℕ) → bytes ≡ 0xD2 ∷ rest → BeginsWithRefFunc bytes f → (t q : List ℕ) × (rest ≡ t ++ q) × u32 wide t f
 after_op bytes rest f e h =
-    let r = tagged_at {F = fixed (0xD2 ∷ []) (tt {0})} {G = λ u. u32} (fixed-alone (0xD2 ∷ []) (tt {0})) wide (0xD2 ∷ []) tt (refl, refl) rest h.read.front h.rest f (sym e ∙ h.read.split) h.read.spelled in
+    let r = tagged_at {F = fixed (0xD2 ∷ []) (tt {0})} {G = λ u. u32} (fixed_unique (0xD2 ∷ []) (tt {0})) wide (0xD2 ∷ []) tt (refl, refl) rest h.read.front h.rest f (sym e ∙ h.read.split) h.read.spelled in
     (r.0, h.rest, r.1, r.2)
 
 -- It is the sum of the groups there.
@@ -100,7 +100,7 @@ index_written bytes rest n low e =
         λ is. let same : n ≡ f = cc is in subst (BeginsWithRefFunc bytes) same begins,
         λ h.
             let a = after_op bytes (unsigned_text n ++ rest) f e h in
-            ap Some (u32-alone.alone wide (unsigned_text n) a.0 rest a.1 n f (u32_in wide n low) a.3 a.2).0,
+            ap Some (u32_unique.alone wide (unsigned_text n) a.0 rest a.1 n f (u32_in wide n low) a.3 a.2).0,
       );
     }
 

@@ -7,29 +7,29 @@ use Rattle.wasm_base.specs.Laws.{FitsUnsigned}
 use Rattle.wasm_base.specs.Numbers.{shortest, unsigned_text}
 use Rattle.wasm_base.specs.Reading.{UniqueReading}
 use Rattle.wasm_base.specs.Texts.{frame_text, FrameFits, vec_text}
-use Rattle.wasm_base.proofs.BaseLaws.{name-alone, vec-u32-alone}
+use Rattle.wasm_base.proofs.BaseLaws.{name_unique, vec_u32_unique}
 use Rattle.wasm_base.proofs.Calls.{ascii}
-use Rattle.wasm_base.proofs.FormatLaws.{mapped-alone, pair-alone, prefixed-alone, fixed-alone, whole_from_alone}
-use Rattle.wasm_base.proofs.NumberLaws.{u32-alone}
+use Rattle.wasm_base.proofs.FormatLaws.{mapped_unique, pair_unique, prefixed_unique, fixed_unique, whole_from_alone}
+use Rattle.wasm_base.proofs.NumberLaws.{u32_unique}
 use Rattle.wasm_base.proofs.PartLaws.{pair_spelled, prefixed_spelled}
 use Rattle.wasm_base.proofs.TextLaws.{reads_alone, u32_spelled, name_spelled, vec_spelled}
 use Rattle.wasm_custom.specs.CoreDumps.{marked_text, marked_name, core_name, core_section, SaysProcess, modules_name, Instance, instance_text, IsInstance, instance_of, instance, instances_name, module_items, instance_items}
 use Rattle.wasm_custom.specs.Customs.{named_text, NamedFits}
 use Rattle.wasm_custom.specs.Entries.{FrameLaws}
-use Rattle.wasm_custom.proofs.CustomLaws.{named-alone, named_spelled, data_fits}
+use Rattle.wasm_custom.proofs.CustomLaws.{named_unique, named_spelled, data_fits}
 
 -- ---- names of processes, modules and threads
 
-pub marked-alone : UniqueReading marked_name
-marked-alone = prefixed-alone (0x00 ∷ []) name-alone
+pub marked_unique : UniqueReading marked_name
+marked_unique = prefixed_unique (0x00 ∷ []) name_unique
 
 pub marked_spelled : (n : List ℕ) → IsUtf8 n → FrameFits n → marked_name shortest (marked_text n) n
 marked_spelled n utf8 fits = prefixed_spelled (0x00 ∷ []) name (frame_text n) n (name_spelled n utf8 fits)
 
 -- ---- the process
 
-pub core-alone : UniqueReading core_section
-core-alone = named-alone core_name (whole_from_alone marked-alone)
+pub core_unique : UniqueReading core_section
+core_unique = named_unique core_name (whole_from_alone marked_unique)
 
 -- the name fits where the section does
 marked_fits : (n content : List ℕ) → content ≡ marked_text n → NamedFits core_name content → FrameFits n
@@ -38,7 +38,7 @@ marked_fits n content e fits = omega (arith, data_fits core_name (marked_text n)
 pub process_back : (content : List ℕ) → NamedFits core_name content → ReadsBack core_section (SaysProcess content) (named_text core_name content)
 process_back content fits = record {
   for_each = λ n says.
-      reads_alone {F = core_section} core-alone
+      reads_alone {F = core_section} core_unique
       (named_spelled shortest core_name marked_name content n (ascii {bytes = core_name} refl) fits
       (subst (λ s. marked_name shortest s n) (sym says.1) (marked_spelled n says.0 (marked_fits n content says.1 fits))));
 }
@@ -46,20 +46,20 @@ process_back content fits = record {
 -- ---- modules
 
 pub module_laws : ItemLaws module_items
-module_laws = record { alone = marked-alone; spelled = λ n plain fits. marked_spelled n plain.0 plain.1 }
+module_laws = record { alone = marked_unique; spelled = λ n plain fits. marked_spelled n plain.0 plain.1 }
 
 pub module_frame : FrameLaws marked_name modules_name [] (fixed [] (tt {0})) true
 module_frame = record {
   name_utf8 = ascii {bytes = modules_name} refl;
-  front_alone = fixed-alone [] (tt {0});
+  front_alone = fixed_unique [] (tt {0});
   front_spelled = (refl, refl);
   begins = λ e. absurd (cc e);
 }
 
 -- ---- instances
 
-pub instance-alone : UniqueReading instance
-instance-alone = mapped-alone instance_of (λ x y e. ap (λ i. (i.module_index, (i.memories, i.globals))) e) (prefixed-alone (0x00 ∷ []) (pair-alone u32-alone (pair-alone vec-u32-alone vec-u32-alone)))
+pub instance_unique : UniqueReading instance
+instance_unique = mapped_unique instance_of (λ x y e. ap (λ i. (i.module_index, (i.memories, i.globals))) e) (prefixed_unique (0x00 ∷ []) (pair_unique u32_unique (pair_unique vec_u32_unique vec_u32_unique)))
 
 instance_spelled : (i : Instance) → IsInstance i → instance shortest (instance_text i) i
 instance_spelled i plain =
@@ -71,12 +71,12 @@ instance_spelled i plain =
     (parts, refl, prefixed_spelled (0x00 ∷ []) (pair u32 (pair (vec u32) (vec u32))) (unsigned_text i.module_index ++ (memories ++ globals)) parts all)
 
 pub instance_laws : ItemLaws instance_items
-instance_laws = record { alone = instance-alone; spelled = λ i plain fits. instance_spelled i plain }
+instance_laws = record { alone = instance_unique; spelled = λ i plain fits. instance_spelled i plain }
 
 pub instance_frame : FrameLaws instance instances_name [] (fixed [] (tt {0})) true
 instance_frame = record {
   name_utf8 = ascii {bytes = instances_name} refl;
-  front_alone = fixed-alone [] (tt {0});
+  front_alone = fixed_unique [] (tt {0});
   front_spelled = (refl, refl);
   begins = λ e. absurd (cc e);
 }

@@ -8,10 +8,10 @@ use Rattle.wasm_base.specs.Numbers.{shortest, unsigned_text, signed_text}
 use Rattle.wasm_base.specs.Pieces.{joined}
 use Rattle.wasm_base.specs.Reading.{UniqueReading}
 use Rattle.wasm_base.specs.Texts.{longest, FrameFits, vec_text, little_endian_text}
-use Rattle.wasm_base.proofs.BaseLaws.{s32-alone, s64-alone}
+use Rattle.wasm_base.proofs.BaseLaws.{s32_unique, s64_unique}
 use Rattle.wasm_base.proofs.EntryLaws.{entries_spelled}
-use Rattle.wasm_base.proofs.FormatLaws.{mapped-alone, pair-alone, pair-whole, vec-alone, prefixed-alone, fixed-alone, byte-alone, choice_of, little_endian-alone, whole_from_alone}
-use Rattle.wasm_base.proofs.NumberLaws.{u32-alone}
+use Rattle.wasm_base.proofs.FormatLaws.{mapped_unique, pair_unique, pair_whole, vec_unique, prefixed_unique, fixed_unique, byte_unique, choice_of, little_endian_unique, whole_from_alone}
+use Rattle.wasm_base.proofs.NumberLaws.{u32_unique}
 use Rattle.wasm_base.proofs.TextLaws.{reads_alone, tagged_spelled, u32_spelled, s32_spelled, s64_spelled, little_endian_spelled, vec_spelled}
 use Rattle.wasm_custom.specs.CoreDumps.{marked_text, marked_name}
 use Rattle.wasm_custom.specs.CoreStacks.{Frame, frame_entry, IsFrame, Place, frame_of, stack_frame, stack_name, stack_section, SaysStack, frame_items}
@@ -21,8 +21,8 @@ use Rattle.wasm_custom.specs.Entries.{count_text, entries_text}
 use Rattle.wasm_custom.specs.declared.core_values.CoreDumpValue.{CoreDumpValue}
 use Rattle.wasm_custom.specs.declared.core_values.CoreDumpValue.TheVariants.{Missing, I32, I64, F32, F64}
 use Rattle.wasm_base.proofs.Calls.{ascii}
-use Rattle.wasm_custom.proofs.CoreDumpLaws.{marked-alone, marked_spelled}
-use Rattle.wasm_custom.proofs.CustomLaws.{named-alone, named_spelled, data_fits}
+use Rattle.wasm_custom.proofs.CoreDumpLaws.{marked_unique, marked_spelled}
+use Rattle.wasm_custom.proofs.CustomLaws.{named_unique, named_spelled, data_fits}
 use Rattle.wasm_custom.proofs.EntriesLaws.{listing_spelled}
 use Rattle.wasm_base.proofs.PartLaws.{pair_spelled, prefixed_spelled}
 
@@ -40,10 +40,10 @@ bits_of (F32 v) = v.bits
 bits_of (F64 v) = v.bits
 bits_of _ = 0
 
-pub value-alone : UniqueReading value
-value-alone =
-    choice_of byte code_of value_tags byte-alone
-    (fixed-alone [] Missing, (mapped-alone I32 (λ x y e. cc) s32-alone, (mapped-alone I64 (λ x y e. cc) s64-alone, (mapped-alone f32_of (λ x y e. ap bits_of e) (little_endian-alone 4), (mapped-alone f64_of (λ x y e. ap bits_of e) (little_endian-alone 8), tt)))))
+pub value_unique : UniqueReading value
+value_unique =
+    choice_of byte code_of value_tags byte_unique
+    (fixed_unique [] Missing, (mapped_unique I32 (λ x y e. cc) s32_unique, (mapped_unique I64 (λ x y e. cc) s64_unique, (mapped_unique f32_of (λ x y e. ap bits_of e) (little_endian_unique 4), (mapped_unique f64_of (λ x y e. ap bits_of e) (little_endian_unique 8), tt)))))
     (λ mode s x h. sym (ap code_of h.1), (λ mode s x h. ap code_of h.1, (λ mode s x h. ap code_of h.1, (λ mode s x h. ap code_of h.1, (λ mode s x h. ap code_of h.1, tt)))))
 
 pub value_spelled : (x : CoreDumpValue) → IsValue x → value shortest (value_text x) x
@@ -55,10 +55,10 @@ value_spelled (F64 v) plain = tagged_spelled shortest 0x7C (little_endian_text 8
 
 -- ---- frames
 
-pub frame-alone : UniqueReading stack_frame
-frame-alone =
-    mapped-alone frame_of (λ x y e. ap (λ f. ((f.instance, (f.function, f.offset)), (f.locals, f.stack))) e)
-    (pair-alone (prefixed-alone (0x00 ∷ []) (pair-alone u32-alone (pair-alone u32-alone u32-alone))) (pair-alone (vec-alone value-alone) (vec-alone value-alone)))
+pub frame_unique : UniqueReading stack_frame
+frame_unique =
+    mapped_unique frame_of (λ x y e. ap (λ f. ((f.instance, (f.function, f.offset)), (f.locals, f.stack))) e)
+    (pair_unique (prefixed_unique (0x00 ∷ []) (pair_unique u32_unique (pair_unique u32_unique u32_unique))) (pair_unique (vec_unique value_unique) (vec_unique value_unique)))
 
 frame_spelled : (f : Frame) → IsFrame f → stack_frame shortest (frame_entry f) f
 frame_spelled f plain =
@@ -73,12 +73,12 @@ frame_spelled f plain =
     ((place, (f.locals, f.stack)), refl, pair_spelled (prefixed (0x00 ∷ []) (pair u32 (pair u32 u32))) (pair (vec value) (vec value)) (0x00 ∷ (unsigned_text f.instance ++ numbers)) (locals ++ stack) place (f.locals, f.stack) front lists)
 
 pub frame_laws : ItemLaws frame_items
-frame_laws = record { alone = frame-alone; spelled = λ f plain fits. frame_spelled f plain }
+frame_laws = record { alone = frame_unique; spelled = λ f plain fits. frame_spelled f plain }
 
 -- ---- stacks
 
-pub stack-alone : UniqueReading stack_section
-stack-alone = named-alone stack_name (pair-whole marked-alone (whole_from_alone (vec-alone frame-alone)))
+pub stack_unique : UniqueReading stack_section
+stack_unique = named_unique stack_name (pair_whole marked_unique (whole_from_alone (vec_unique frame_unique)))
 
 -- what the data are no longer than
 within : (front content : List ℕ) (pieces : List (List ℕ)) → length (front ++ (content ++ joined pieces)) ≤ longest → (length front ≤ longest) × (length (joined pieces) ≤ longest)
@@ -103,7 +103,7 @@ stack_alone front pieces few fits = record {
       let listed : AllZip (stack_frame shortest) pieces said.1 =
       subst (λ ps. AllZip (stack_frame shortest) ps said.1) (sym holds.held)
       (entries_spelled frame_items frame_laws holds.entries said.1 (subst (λ ps. length (joined ps) ≤ longest) holds.held short.1) holds.meant) in
-      reads_alone {F = stack_section} stack-alone
+      reads_alone {F = stack_section} stack_unique
       (named_spelled shortest stack_name (pair marked_name (vec stack_frame)) (entries_text front true pieces) said (ascii {bytes = stack_name} refl) fits
       (pair_spelled marked_name (vec stack_frame) front content said.0 said.1 named (listing_spelled shortest true stack_frame pieces said.1 few listed)));
 }

@@ -5,21 +5,21 @@ use Rattle.wasm_base.specs.Formats.{Format, after, name, any_bytes, pair, custom
 use Rattle.wasm_base.specs.Numbers.{Mode, shortest, wide, unsigned_text}
 use Rattle.wasm_base.specs.Reading.{UniqueReading, UniqueWholeReading, ReadsAlone}
 use Rattle.wasm_base.specs.Texts.{longest, frame_text, FrameFits}
-use Rattle.wasm_base.proofs.AfterLaws.{after-whole, after_spelled}
-use Rattle.wasm_base.proofs.BaseLaws.{name-alone, custom-alone}
-use Rattle.wasm_base.proofs.FormatLaws.{frame-alone}
+use Rattle.wasm_base.proofs.AfterLaws.{after_whole, after_spelled}
+use Rattle.wasm_base.proofs.BaseLaws.{name_unique, custom_unique}
+use Rattle.wasm_base.proofs.FormatLaws.{frame_unique}
 use Rattle.wasm_base.proofs.TextLaws.{spelled_in, reads_alone, reads_alone_wide, frame_in, frame_spelled}
 use Rattle.wasm_custom.specs.Customs.{named_section, named_text, NamedFits, subsection_text}
 use Rattle.wasm_base.proofs.PartLaws.{pair_spelled, front_name_spelled}
 
-pub named-alone : {X : Type 0} (n : List ℕ) {F : Format X} → UniqueWholeReading F → UniqueReading (named_section n F)
-named-alone n f = frame-alone (after-whole n name-alone f)
+pub named_unique : {X : Type 0} (n : List ℕ) {F : Format X} → UniqueWholeReading F → UniqueReading (named_section n F)
+named_unique n f = frame_unique (after_whole n name_unique f)
 
 pub named_spelled : {X : Type 0} (mode : Mode) (n : List ℕ) (F : Format X) (content : List ℕ) (x : X) → IsUtf8 n → NamedFits n content → F mode content x → named_section n F mode (named_text n content) x
 unfolding named_text
 named_spelled mode n F content x utf8 fits h =
     frame_in mode (after n name F) (frame_text n ++ content) x fits
-    (after_spelled mode n name F (frame_text n) content x (spelled_in {F = name} name-alone (front_name_spelled n content utf8 fits) mode) h)
+    (after_spelled mode n name F (frame_text n) content x (spelled_in {F = name} name_unique (front_name_spelled n content utf8 fits) mode) h)
 
 -- the data are no longer than the section
 pub data_fits : (n content : List ℕ) → NamedFits n content → length content ≤ 4294967295
@@ -31,7 +31,7 @@ unfolding named_text
 custom_back n content fits = record {
   for_each = λ said h.
       subst (λ x. ReadsAlone custom (frame_text (frame_text n ++ content)) x) (sym h.1)
-      (reads_alone {F = custom} custom-alone
+      (reads_alone {F = custom} custom_unique
       (frame_spelled (pair name any_bytes) (frame_text n ++ content) (n, content) fits (pair_spelled name any_bytes (frame_text n) content n content (front_name_spelled n content h.0 fits) refl)));
 }
 
@@ -42,7 +42,7 @@ fits_of n content told given size e f l h =
 
 -- a section of bytes that are given is read as what they spell, with padded numbers too
 pub raw_back : (bytes : List ℕ) → ReadsBackBoth custom (custom shortest bytes) (custom wide bytes) bytes
-raw_back bytes = record { plain = record { for_each = λ said h. reads_alone {F = custom} custom-alone h }; wide = record { for_each = λ said h. reads_alone_wide {F = custom} custom-alone h } }
+raw_back bytes = record { plain = record { for_each = λ said h. reads_alone {F = custom} custom_unique h }; wide = record { for_each = λ said h. reads_alone_wide {F = custom} custom_unique h } }
 
 -- the frame in a subsection fits where the subsection does
 pub content_fits : (id : ℕ) (content : List ℕ) → FrameFits (subsection_text id content) → FrameFits content

@@ -9,18 +9,18 @@ use Rattle.wasm_base.specs.Pieces.{joined}
 use Rattle.wasm_base.specs.Reading.{UniqueReading, UniqueWholeReading, BeginsWith}
 use Rattle.wasm_base.specs.Texts.{longest}
 use Rattle.wasm_base.proofs.EntryLaws.{entries_spelled, pieces_spelled}
-use Rattle.wasm_base.proofs.FormatLaws.{vec-alone, members-whole, whole_from_alone, mapped-whole, pair-whole}
+use Rattle.wasm_base.proofs.FormatLaws.{vec_unique, members_whole, whole_from_alone, mapped_whole, pair_whole}
 use Rattle.wasm_base.proofs.TextLaws.{spelled_in, reads_alone, reads_alone_wide, joined_spelled, vec_of_pieces}
 use Rattle.wasm_custom.specs.Customs.{named_section, named_text, NamedFits}
 use Rattle.wasm_custom.specs.Entries.{count_text, entries_text, listing, entries, FrameLaws}
-use Rattle.wasm_custom.proofs.CustomLaws.{named-alone, named_spelled, data_fits}
+use Rattle.wasm_custom.proofs.CustomLaws.{named_unique, named_spelled, data_fits}
 
-listing-whole : {Item : Type 0} (counted : Bool) {F : Format Item} → (counted ≡ false → BeginsWith (λ b. Unit {0}) F) → UniqueReading F → UniqueWholeReading (listing counted F)
-listing-whole true begins f = whole_from_alone (vec-alone f)
-listing-whole false begins f = members-whole (λ b. Unit {0}) (begins refl) f
+listing_whole : {Item : Type 0} (counted : Bool) {F : Format Item} → (counted ≡ false → BeginsWith (λ b. Unit {0}) F) → UniqueReading F → UniqueWholeReading (listing counted F)
+listing_whole true begins f = whole_from_alone (vec_unique f)
+listing_whole false begins f = members_whole (λ b. Unit {0}) (begins refl) f
 
-pub entries-whole : {Item : Type 0} {front : Format (Unit {0})} (counted : Bool) {F : Format Item} → UniqueReading front → (counted ≡ false → BeginsWith (λ b. Unit {0}) F) → UniqueReading F → UniqueWholeReading (entries front counted F)
-entries-whole counted first begins f = mapped-whole (λ p. p.1) (λ x y e. λ i. (tt, e i)) (pair-whole first (listing-whole counted begins f))
+pub entries_whole : {Item : Type 0} {front : Format (Unit {0})} (counted : Bool) {F : Format Item} → UniqueReading front → (counted ≡ false → BeginsWith (λ b. Unit {0}) F) → UniqueReading F → UniqueWholeReading (entries front counted F)
+entries_whole counted first begins f = mapped_whole (λ p. p.1) (λ x y e. λ i. (tt, e i)) (pair_whole first (listing_whole counted begins f))
 
 pub listing_spelled : {Item : Type 0} (mode : Mode) (counted : Bool) (F : Format Item) (pieces : List (List ℕ)) (items : List Item) → length pieces ≤ longest → AllZip (F mode) pieces items → listing counted F mode (count_text counted (length pieces) ++ joined pieces) items
 listing_spelled mode true F pieces items few h = vec_of_pieces mode F pieces items few h
@@ -46,15 +46,15 @@ module _ {Record Item : Type 0} (kind : Kind Record Item) (n front : List ℕ) (
   content_fits : (pieces : List (List ℕ)) → NamedFits n (entries_text front counted pieces) → length (joined pieces) ≤ longest
   content_fits pieces fits = omega (arith, data_fits n (entries_text front counted pieces) fits, length-append front (count_text counted (length pieces) ++ joined pieces), length-append (count_text counted (length pieces)) (joined pieces))
 
-  section-alone : UniqueReading (named_section n (entries front_format counted kind.format))
-  section-alone = named-alone n (entries-whole counted more.front_alone more.begins laws.alone)
+  section_unique : UniqueReading (named_section n (entries front_format counted kind.format))
+  section_unique = named_unique n (entries_whole counted more.front_alone more.begins laws.alone)
 
   entries_alone : (pieces : List (List ℕ)) → length pieces ≤ longest → NamedFits n (entries_text front counted pieces)
       → ReadsBack (named_section n (entries front_format counted kind.format)) (HoldsItems kind pieces) (named_text n (entries_text front counted pieces))
   entries_alone pieces few fits = record {
     for_each = λ items holds.
         let held = map (entry_text kind.text) holds.entries in
-        reads_alone {F = named_section n (entries front_format counted kind.format)} section-alone
+        reads_alone {F = named_section n (entries front_format counted kind.format)} section_unique
         (section_spelled shortest pieces items few fits
         (subst (λ ps. AllZip (kind.format shortest) ps items) (sym holds.held)
         (entries_spelled kind laws holds.entries items (subst (λ ps. length (joined ps) ≤ longest) holds.held (content_fits pieces fits)) holds.meant)));
@@ -64,7 +64,7 @@ module _ {Record Item : Type 0} (kind : Kind Record Item) (n front : List ℕ) (
       → ReadsBackWide (named_section n (entries front_format counted kind.format)) (HoldsWide kind.format pieces) (named_text n (entries_text front counted pieces))
   entries_alone_wide pieces few fits = record {
     for_each = λ items holds.
-        reads_alone_wide {F = named_section n (entries front_format counted kind.format)} section-alone
+        reads_alone_wide {F = named_section n (entries front_format counted kind.format)} section_unique
         (section_spelled wide pieces items few fits (pieces_spelled kind.format pieces items (content_fits pieces fits) holds.spelled));
   }
 

@@ -5,8 +5,8 @@ use Rattle.wasm_base.specs.Formats.{u32, byte, prefixed, such, vec, fixed}
 use Rattle.wasm_base.specs.Numbers.{shortest, unsigned_text}
 use Rattle.wasm_base.specs.Reading.{UniqueReading}
 use Rattle.wasm_base.specs.Texts.{vec_text}
-use Rattle.wasm_base.proofs.FormatLaws.{mapped-alone, pair-alone, vec-alone, byte-alone, such-alone, prefixed-alone, fixed-alone}
-use Rattle.wasm_base.proofs.NumberLaws.{u32-alone}
+use Rattle.wasm_base.proofs.FormatLaws.{mapped_unique, pair_unique, vec_unique, byte_unique, such_unique, prefixed_unique, fixed_unique}
+use Rattle.wasm_base.proofs.NumberLaws.{u32_unique}
 use Rattle.wasm_base.proofs.NumberTexts.{groups_text-last}
 use Rattle.wasm_base.proofs.TextLaws.{u32_spelled, vec_spelled}
 use Rattle.wasm_custom.specs.Entries.{FrameLaws}
@@ -15,8 +15,8 @@ use Rattle.wasm_custom.specs.declared.hints.BranchHint.{BranchHint}
 use Rattle.wasm_base.proofs.Calls.{ascii}
 use Rattle.wasm_base.proofs.PartLaws.{pair_spelled, prefixed_spelled}
 
-pub hint-alone : UniqueReading hint
-hint-alone = mapped-alone hint_of (λ x y e. ap (λ h. (h.branch_func_offset, h.branch_hint_value)) e) (pair-alone u32-alone (prefixed-alone (0x01 ∷ []) (such-alone (λ b. b < 128) byte-alone)))
+pub hint_unique : UniqueReading hint
+hint_unique = mapped_unique hint_of (λ x y e. ap (λ h. (h.branch_func_offset, h.branch_hint_value)) e) (pair_unique u32_unique (prefixed_unique (0x01 ∷ []) (such_unique (λ b. b < 128) byte_unique)))
 
 pub hint_spelled : (h : BranchHint) → IsHint h → hint shortest (hint_text h) h
 hint_spelled h plain =
@@ -28,16 +28,16 @@ hint_spelled h plain =
 hints_spelled : (h : Hints) → AreHints h → hints shortest (hints_text h) h
 hints_spelled h plain = pair_spelled u32 (vec hint) (unsigned_text h.0) (vec_text hint_text h.1) h.0 h.1 (u32_spelled h.0 plain.0) (vec_spelled hint IsHint hint_text hint_spelled h.1 plain.1)
 
-pub hints-alone : UniqueReading hints
-hints-alone = pair-alone u32-alone (vec-alone hint-alone)
+pub hints_unique : UniqueReading hints
+hints_unique = pair_unique u32_unique (vec_unique hint_unique)
 
 pub hint_laws : ItemLaws hint_items
-hint_laws = record { alone = hints-alone; spelled = λ h plain fits. hints_spelled h plain }
+hint_laws = record { alone = hints_unique; spelled = λ h plain fits. hints_spelled h plain }
 
 pub hint_frame : FrameLaws hints hints_name [] (fixed [] (tt {0})) true
 hint_frame = record {
   name_utf8 = ascii {bytes = hints_name} refl;
-  front_alone = fixed-alone [] (tt {0});
+  front_alone = fixed_unique [] (tt {0});
   front_spelled = (refl, refl);
   begins = λ e. absurd (cc e);
 }

@@ -6,9 +6,9 @@ use Rattle.wasm_base.specs.Formats.{u32, any_bytes, name, pair, fixed}
 use Rattle.wasm_base.specs.Numbers.{Mode, shortest, wide, unsigned_text}
 use Rattle.wasm_base.specs.Reading.{UniqueReading}
 use Rattle.wasm_base.specs.Texts.{frame_text, FrameFits, vec_text, VecFits}
-use Rattle.wasm_base.proofs.BaseLaws.{name-alone}
-use Rattle.wasm_base.proofs.FormatLaws.{TellsTag, mapped-alone, pair-alone, vec-alone, frame-alone, whole_from_alone, byte-alone, any_bytes-whole, tagged-alone, fixed-alone}
-use Rattle.wasm_base.proofs.NumberLaws.{u32-alone}
+use Rattle.wasm_base.proofs.BaseLaws.{name_unique}
+use Rattle.wasm_base.proofs.FormatLaws.{TellsTag, mapped_unique, pair_unique, vec_unique, frame_unique, whole_from_alone, byte_unique, any_bytes_whole, tagged_unique, fixed_unique}
+use Rattle.wasm_base.proofs.NumberLaws.{u32_unique}
 use Rattle.wasm_base.proofs.TextLaws.{tagged_spelled, u32_spelled, name_spelled, vec_spelled, frame_in, frame_spelled}
 use Rattle.wasm_custom.specs.Customs.{subsection_text}
 use Rattle.wasm_custom.specs.Entries.{FrameLaws}
@@ -17,14 +17,14 @@ use Rattle.wasm_base.proofs.Calls.{ascii}
 use Rattle.wasm_base.proofs.PartLaws.{pair_spelled, tagged_begins}
 use Rattle.wasm_custom.proofs.CustomLaws.{content_fits}
 
-pub naming-alone : UniqueReading naming
-naming-alone = pair-alone u32-alone name-alone
+pub naming_unique : UniqueReading naming
+naming_unique = pair_unique u32_unique name_unique
 
-pub map-alone : UniqueReading name_map
-map-alone = vec-alone naming-alone
+pub map_unique : UniqueReading name_map
+map_unique = vec_unique naming_unique
 
-pub indirect-alone : UniqueReading indirect_map
-indirect-alone = vec-alone (pair-alone u32-alone map-alone)
+pub indirect_unique : UniqueReading indirect_map
+indirect_unique = vec_unique (pair_unique u32_unique map_unique)
 
 -- ---- subsections
 
@@ -55,14 +55,14 @@ tells mode id s x h = go (kind_of id) refl h
     go of_indirect e h = ap id_of h.1
     go of_other e h = ap id_of h.1
 
-after_id-alone : (k : NameKind) (id : ℕ) → UniqueReading (after_id k id)
-after_id-alone of_module id = mapped-alone Module (λ x y e. cc) (frame-alone (whole_from_alone name-alone))
-after_id-alone of_map id = mapped-alone (Map id) (λ x y e. cc) (frame-alone (whole_from_alone map-alone))
-after_id-alone of_indirect id = mapped-alone (Indirect id) (λ x y e. cc) (frame-alone (whole_from_alone indirect-alone))
-after_id-alone of_other id = mapped-alone (Other id) (λ x y e. cc) (frame-alone any_bytes-whole)
+after_id_unique : (k : NameKind) (id : ℕ) → UniqueReading (after_id k id)
+after_id_unique of_module id = mapped_unique Module (λ x y e. cc) (frame_unique (whole_from_alone name_unique))
+after_id_unique of_map id = mapped_unique (Map id) (λ x y e. cc) (frame_unique (whole_from_alone map_unique))
+after_id_unique of_indirect id = mapped_unique (Indirect id) (λ x y e. cc) (frame_unique (whole_from_alone indirect_unique))
+after_id_unique of_other id = mapped_unique (Other id) (λ x y e. cc) (frame_unique any_bytes_whole)
 
-pub subsection-alone : UniqueReading subsection
-subsection-alone = tagged-alone id_of tells byte-alone (λ id. after_id-alone (kind_of id) id)
+pub subsection_unique : UniqueReading subsection
+subsection_unique = tagged_unique id_of tells byte_unique (λ id. after_id_unique (kind_of id) id)
 
 -- ---- texts
 
@@ -95,7 +95,7 @@ name_item_spelled (Other id content) plain fits =
     of_kind shortest of_other id content (Other id content) plain (content, refl, frame_spelled any_bytes content content (content_fits id content fits) refl)
 
 pub name_laws : ItemLaws name_items
-name_laws = record { alone = subsection-alone; spelled = name_item_spelled }
+name_laws = record { alone = subsection_unique; spelled = name_item_spelled }
 
 -- with padded numbers: the content of a subsection that is spelled already
 pub names_wide : (id : ℕ) (content : List ℕ) (names : List Naming) → kind_of id ≡ of_map → FrameFits content → name_map wide content names → subsection wide (subsection_text id content) (Map id names)
@@ -107,7 +107,7 @@ names_inside_wide id content insides kind fits h = of_kind wide of_indirect id c
 pub name_frame : FrameLaws subsection name_name [] (fixed [] (tt {0})) false
 name_frame = record {
   name_utf8 = ascii {bytes = name_name} refl;
-  front_alone = fixed-alone [] (tt {0});
+  front_alone = fixed_unique [] (tt {0});
   front_spelled = (refl, refl);
   begins = λ e. tagged_begins;
 }

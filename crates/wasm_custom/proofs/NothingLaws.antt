@@ -4,12 +4,12 @@ use Rattle.wasm_base.specs.Formats.{Format, u32, byte, name, pair, mapped, tagge
 use Rattle.wasm_base.specs.Laws.{NothingStandsWide}
 use Rattle.wasm_base.specs.Numbers.{wide, AreGroups}
 use Rattle.wasm_base.specs.Reading.{UniqueReading}
-use Rattle.wasm_base.proofs.AfterLaws.{just-alone}
-use Rattle.wasm_base.proofs.BaseLaws.{name-alone}
+use Rattle.wasm_base.proofs.AfterLaws.{just_unique}
+use Rattle.wasm_base.proofs.BaseLaws.{name_unique}
 use Rattle.wasm_base.proofs.Calls.{ascii}
-use Rattle.wasm_base.proofs.FormatLaws.{byte-alone, fixed-alone, frame_of, vec_of_one, then_at, tagged_at, member_at}
+use Rattle.wasm_base.proofs.FormatLaws.{byte_unique, fixed_unique, frame_of, vec_of_one, then_at, tagged_at, member_at}
 use Rattle.wasm_base.proofs.NothingLaws.{nothing_wide}
-use Rattle.wasm_base.proofs.NumberLaws.{u32-alone, u32_small}
+use Rattle.wasm_base.proofs.NumberLaws.{u32_unique, u32_small}
 use Rattle.wasm_custom.specs.Customs.{named_payload}
 use Rattle.wasm_custom.specs.Hints.{Hints, hint, hints, hints_name}
 use Rattle.wasm_custom.specs.Linking.{LinkItem, link_tags, link, linking_name, version}
@@ -17,7 +17,7 @@ use Rattle.wasm_custom.specs.Readings.{hints_payload, linking_payload}
 use Rattle.wasm_custom.specs.Symbols.{Symbol, has_name, indexed_of, symbol_tags, symbol}
 use Rattle.wasm_custom.specs.declared.hints.BranchHint.{BranchHint}
 use Rattle.wasm_custom.specs.declared.symbols.SymbolKind.TheVariants.{Function}
-use Rattle.wasm_custom.proofs.SectionLaws.{hints_section-alone, linking_section-alone}
+use Rattle.wasm_custom.proofs.SectionLaws.{hints_section_unique, linking_section_unique}
 
 -- ---- what follows a front that is known, up to the last byte
 
@@ -34,29 +34,29 @@ behind_first {G = G} k a x known rest p h =
 -- a name whose length has one byte
 behind_name : {X : Type 0} {F : Format X} (size : ℕ) (n content : List ℕ) (x : X) → size < 128 → length n ≡ size → IsUtf8 n → named_payload n F wide (size ∷ (n ++ content)) x → F wide content x
 behind_name {F = F} size n content x low l utf8 h =
-    behind_tag {F = just n name} {G = λ u. F} (just-alone n name-alone) (size ∷ n) (tt {0})
+    behind_tag {F = just n name} {G = λ u. F} (just_unique n name_unique) (size ∷ n) (tt {0})
     (record { front = size ∷ []; content = n; joined = refl; size = subst (λ z. u32 wide (size ∷ []) z) (sym l) (u32_small wide size low); spelled = refl }, utf8) content x h
 
 -- ---- a hint whose value has two bytes
 
 no_hint : (x : BranchHint) → hint wide (3 ∷ 1 ∷ 128 ∷ 1 ∷ []) x → ⊥
 no_hint x h =
-    let marked = behind_first {F = u32} {G = λ n. prefixed (1 ∷ []) (such (λ b. b < 128) byte)} u32-alone (3 ∷ []) 3 (u32_small wide 3 (omega arith)) (1 ∷ 128 ∷ 1 ∷ []) h.0 h.2 in
-    let value = behind_tag {F = fixed (1 ∷ []) (tt {0})} {G = λ u. such (λ b. b < 128) byte} (fixed-alone (1 ∷ []) (tt {0})) (1 ∷ []) (tt {0}) (refl, refl) (128 ∷ 1 ∷ []) h.0.1 marked in
+    let marked = behind_first {F = u32} {G = λ n. prefixed (1 ∷ []) (such (λ b. b < 128) byte)} u32_unique (3 ∷ []) 3 (u32_small wide 3 (omega arith)) (1 ∷ 128 ∷ 1 ∷ []) h.0 h.2 in
+    let value = behind_tag {F = fixed (1 ∷ []) (tt {0})} {G = λ u. such (λ b. b < 128) byte} (fixed_unique (1 ∷ []) (tt {0})) (1 ∷ []) (tt {0}) (refl, refl) (128 ∷ 1 ∷ []) h.0.1 marked in
     absurd (cc value.0)
 
 no_hints : (xs : List Hints) → hints_payload wide (25 ∷ (hints_name ++ (1 ∷ 0 ∷ 1 ∷ 3 ∷ 1 ∷ 128 ∷ 1 ∷ []))) xs → ⊥
 no_hints xs h =
     let content : List ℕ = 1 ∷ 0 ∷ 1 ∷ 3 ∷ 1 ∷ 128 ∷ 1 ∷ [] in
-    let all = behind_tag {F = fixed [] (tt {0})} {G = λ u. vec hints} (fixed-alone [] (tt {0})) [] (tt {0}) (refl, refl) content xs (behind_name 25 hints_name content xs (omega arith) refl (ascii {bytes = hints_name} refl) h) in
+    let all = behind_tag {F = fixed [] (tt {0})} {G = λ u. vec hints} (fixed_unique [] (tt {0})) [] (tt {0}) (refl, refl) content xs (behind_name 25 hints_name content xs (omega arith) refl (ascii {bytes = hints_name} refl) h) in
     let first = vec_of_one {F = hints} wide (0 ∷ 1 ∷ 3 ∷ 1 ∷ 128 ∷ 1 ∷ []) xs (u32_small wide 1 (omega arith)) all in
-    let its = behind_first {F = u32} {G = λ n. vec hint} u32-alone (0 ∷ []) 0 (u32_small wide 0 (omega arith)) (1 ∷ 3 ∷ 1 ∷ 128 ∷ 1 ∷ []) first.0 first.1 in
+    let its = behind_first {F = u32} {G = λ n. vec hint} u32_unique (0 ∷ []) 0 (u32_small wide 0 (omega arith)) (1 ∷ 3 ∷ 1 ∷ 128 ∷ 1 ∷ []) first.0 first.1 in
     let one = vec_of_one {F = hint} wide (3 ∷ 1 ∷ 128 ∷ 1 ∷ []) first.0.1 (u32_small wide 1 (omega arith)) its in
     no_hint one.0 one.1
 
 pub long_value : NothingStandsWide (frame hints_payload) (33 ∷ 25 ∷ (hints_name ++ (1 ∷ 0 ∷ 1 ∷ 3 ∷ 1 ∷ 128 ∷ 1 ∷ [])))
 long_value =
-    nothing_wide {F = frame hints_payload} (33 ∷ 25 ∷ (hints_name ++ (1 ∷ 0 ∷ 1 ∷ 3 ∷ 1 ∷ 128 ∷ 1 ∷ []))) hints_section-alone
+    nothing_wide {F = frame hints_payload} (33 ∷ 25 ∷ (hints_name ++ (1 ∷ 0 ∷ 1 ∷ 3 ∷ 1 ∷ 128 ∷ 1 ∷ []))) hints_section_unique
     (λ after rest xs h. no_hints xs (frame_of {F = hints_payload} wide 33 (25 ∷ (hints_name ++ (1 ∷ 0 ∷ 1 ∷ 3 ∷ 1 ∷ 128 ∷ 1 ∷ []))) after h.front rest xs (u32_small wide 33 (omega arith)) refl h.split h.spelled))
 
 -- ---- a function that is defined, without a name
@@ -67,14 +67,14 @@ no_groups (b ∷ s) t e h = absurd (cc e)
 
 no_symbol : (x : Symbol) → symbol wide (0 ∷ 0 ∷ 1 ∷ []) x → ⊥
 no_symbol x h =
-    let function = behind_tag {F = byte} {G = choice symbol_tags (λ b. impossible)} byte-alone (0 ∷ []) 0 refl (0 ∷ 1 ∷ []) x h in
-    let parts = behind_tag {F = u32} {G = λ flags. mapped (indexed_of Function flags) (pair u32 (optional (has_name flags) name))} u32-alone (0 ∷ []) 0 (u32_small wide 0 (omega arith)) (1 ∷ []) x function in
-    let named = behind_first {F = u32} {G = λ n. optional (has_name 0) name} u32-alone (1 ∷ []) 1 (u32_small wide 1 (omega arith)) [] parts.0 parts.2 in
+    let function = behind_tag {F = byte} {G = choice symbol_tags (λ b. impossible)} byte_unique (0 ∷ []) 0 refl (0 ∷ 1 ∷ []) x h in
+    let parts = behind_tag {F = u32} {G = λ flags. mapped (indexed_of Function flags) (pair u32 (optional (has_name flags) name))} u32_unique (0 ∷ []) 0 (u32_small wide 0 (omega arith)) (1 ∷ []) x function in
+    let named = behind_first {F = u32} {G = λ n. optional (has_name 0) name} u32_unique (1 ∷ []) 1 (u32_small wide 1 (omega arith)) [] parts.0 parts.2 in
     no_groups named.2.0.front named.2.0.content named.2.0.joined named.2.0.size.groups
 
 no_link : (front back : List ℕ) (x : LinkItem) → 8 ∷ 4 ∷ 1 ∷ 0 ∷ 0 ∷ 1 ∷ [] ≡ front ++ back → link wide front x → ⊥
 no_link front back x e h =
-    let found = tagged_at {F = byte} {G = choice link_tags (λ b. impossible)} byte-alone wide (8 ∷ []) 8 refl (4 ∷ 1 ∷ 0 ∷ 0 ∷ 1 ∷ []) front back x e h in
+    let found = tagged_at {F = byte} {G = choice link_tags (λ b. impossible)} byte_unique wide (8 ∷ []) 8 refl (4 ∷ 1 ∷ 0 ∷ 0 ∷ 1 ∷ []) front back x e h in
     let symbols = frame_of {F = vec symbol} wide 4 (1 ∷ 0 ∷ 0 ∷ 1 ∷ []) [] found.0 back found.2.0 (u32_small wide 4 (omega arith)) refl found.1 found.2.2 in
     let one = vec_of_one {F = symbol} wide (0 ∷ 0 ∷ 1 ∷ []) found.2.0 (u32_small wide 1 (omega arith)) symbols in
     no_symbol one.0 one.1
@@ -82,14 +82,14 @@ no_link front back x e h =
 no_links : (xs : List LinkItem) → linking_payload wide (7 ∷ (linking_name ++ (2 ∷ 8 ∷ 4 ∷ 1 ∷ 0 ∷ 0 ∷ 1 ∷ []))) xs → ⊥
 no_links xs h =
     let content : List ℕ = 2 ∷ 8 ∷ 4 ∷ 1 ∷ 0 ∷ 0 ∷ 1 ∷ [] in
-    let all = behind_tag {F = just version u32} {G = λ u. members link} (just-alone version u32-alone) (2 ∷ []) (tt {0}) (u32_small wide 2 (omega arith)) (8 ∷ 4 ∷ 1 ∷ 0 ∷ 0 ∷ 1 ∷ []) xs
+    let all = behind_tag {F = just version u32} {G = λ u. members link} (just_unique version u32_unique) (2 ∷ []) (tt {0}) (u32_small wide 2 (omega arith)) (8 ∷ 4 ∷ 1 ∷ 0 ∷ 0 ∷ 1 ∷ []) xs
     (behind_name 7 linking_name content xs (omega arith) refl (ascii {bytes = linking_name} refl) h) in
     let first = member_at link wide 8 (4 ∷ 1 ∷ 0 ∷ 0 ∷ 1 ∷ []) (8 ∷ 4 ∷ 1 ∷ 0 ∷ 0 ∷ 1 ∷ []) xs refl all in
     no_link first.0 first.1 first.2 first.3 first.4
 
 pub no_name : NothingStandsWide (frame linking_payload) (15 ∷ 7 ∷ (linking_name ++ (2 ∷ 8 ∷ 4 ∷ 1 ∷ 0 ∷ 0 ∷ 1 ∷ [])))
 no_name =
-    nothing_wide {F = frame linking_payload} (15 ∷ 7 ∷ (linking_name ++ (2 ∷ 8 ∷ 4 ∷ 1 ∷ 0 ∷ 0 ∷ 1 ∷ []))) linking_section-alone
+    nothing_wide {F = frame linking_payload} (15 ∷ 7 ∷ (linking_name ++ (2 ∷ 8 ∷ 4 ∷ 1 ∷ 0 ∷ 0 ∷ 1 ∷ []))) linking_section_unique
     (λ after rest xs h. no_links xs (frame_of {F = linking_payload} wide 15 (7 ∷ (linking_name ++ (2 ∷ 8 ∷ 4 ∷ 1 ∷ 0 ∷ 0 ∷ 1 ∷ []))) after h.front rest xs (u32_small wide 15 (omega arith)) refl h.split h.spelled))
 
 pub ruleset nothing = (long_value, no_name)

@@ -5,16 +5,16 @@ use Rattle.wasm_base.specs.Formats.{name, vec, fixed}
 use Rattle.wasm_base.specs.Numbers.{shortest}
 use Rattle.wasm_base.specs.Reading.{UniqueReading}
 use Rattle.wasm_base.specs.Texts.{frame_text, vec_text}
-use Rattle.wasm_base.proofs.BaseLaws.{name-alone}
+use Rattle.wasm_base.proofs.BaseLaws.{name_unique}
 use Rattle.wasm_base.proofs.Calls.{ascii}
-use Rattle.wasm_base.proofs.FormatLaws.{pair-alone, vec-alone, fixed-alone}
+use Rattle.wasm_base.proofs.FormatLaws.{pair_unique, vec_unique, fixed_unique}
 use Rattle.wasm_base.proofs.PartLaws.{pair_spelled}
 use Rattle.wasm_base.proofs.TextLaws.{name_spelled, vec_spelled}
 use Rattle.wasm_custom.specs.Entries.{FrameLaws}
 use Rattle.wasm_custom.specs.Producers.{Producer, producer_text, IsProducer, Field, field_text, IsField, producer, field, producers_name, field_items}
 
-pub field-alone : UniqueReading field
-field-alone = pair-alone name-alone (vec-alone (pair-alone name-alone name-alone))
+pub field_unique : UniqueReading field
+field_unique = pair_unique name_unique (vec_unique (pair_unique name_unique name_unique))
 
 producer_spelled : (p : Producer) → IsProducer p → producer shortest (producer_text p) p
 producer_spelled p plain = pair_spelled name name (frame_text p.0) (frame_text p.1) p.0 p.1 (name_spelled p.0 plain.0.0 plain.0.1) (name_spelled p.1 plain.1.0 plain.1.1)
@@ -24,12 +24,12 @@ field_spelled f plain =
     pair_spelled name (vec producer) (frame_text f.0) (vec_text producer_text f.1) f.0 f.1 (name_spelled f.0 plain.0.0 plain.0.1) (vec_spelled producer IsProducer producer_text producer_spelled f.1 plain.1)
 
 pub producer_laws : ItemLaws field_items
-producer_laws = record { alone = field-alone; spelled = λ f plain fits. field_spelled f plain }
+producer_laws = record { alone = field_unique; spelled = λ f plain fits. field_spelled f plain }
 
 pub producer_frame : FrameLaws field producers_name [] (fixed [] (tt {0})) true
 producer_frame = record {
   name_utf8 = ascii {bytes = producers_name} refl;
-  front_alone = fixed-alone [] (tt {0});
+  front_alone = fixed_unique [] (tt {0});
   front_spelled = (refl, refl);
   begins = λ e. absurd (cc e);
 }

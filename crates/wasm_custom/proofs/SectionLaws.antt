@@ -3,10 +3,10 @@ use Rattle.std.proofs.Common.{[], true, false}
 use Rattle.wasm_base.specs.Formats.{frame, custom}
 use Rattle.wasm_base.specs.Modules.{ReadsPayloads}
 use Rattle.wasm_base.specs.Reading.{UniqueReading, UniqueWholeReading, IsUniqueWide}
-use Rattle.wasm_base.proofs.AfterLaws.{just-alone, after-whole}
-use Rattle.wasm_base.proofs.BaseLaws.{name-alone, custom-alone, unique_wide}
-use Rattle.wasm_base.proofs.FormatLaws.{fixed-alone, frame-alone, vec-alone, pair-whole, whole_from_alone}
-use Rattle.wasm_base.proofs.NumberLaws.{u32-alone}
+use Rattle.wasm_base.proofs.AfterLaws.{just_unique, after_whole}
+use Rattle.wasm_base.proofs.BaseLaws.{name_unique, custom_unique, unique_wide}
+use Rattle.wasm_base.proofs.FormatLaws.{fixed_unique, frame_unique, vec_unique, pair_whole, whole_from_alone}
+use Rattle.wasm_base.proofs.NumberLaws.{u32_unique}
 use Rattle.wasm_base.proofs.PartLaws.{tagged_begins}
 use Rattle.wasm_base.proofs.Payloads.{payload-reads, custom-payload}
 use Rattle.wasm_custom.specs.CoreDumps.{core_name, modules_name, instances_name}
@@ -16,121 +16,121 @@ use Rattle.wasm_custom.specs.Linking.{linking_name, version}
 use Rattle.wasm_custom.specs.Names.{name_name}
 use Rattle.wasm_custom.specs.Producers.{producers_name}
 use Rattle.wasm_custom.specs.Readings.{name_payload, linking_payload, producers_payload, hints_payload, modules_payload, instances_payload, core_payload, stack_payload}
-use Rattle.wasm_custom.proofs.CoreDumpLaws.{marked-alone, module_laws, instance-alone, instance_laws}
-use Rattle.wasm_custom.proofs.CoreStackLaws.{value-alone, frame-alone as stack_frame-alone, frame_laws}
-use Rattle.wasm_custom.proofs.EntriesLaws.{entries-whole}
-use Rattle.wasm_custom.proofs.HintLaws.{hints-alone, hint_laws}
-use Rattle.wasm_custom.proofs.LinkLaws.{link-alone, link_laws}
-use Rattle.wasm_custom.proofs.NameLaws.{subsection-alone, name_laws}
-use Rattle.wasm_custom.proofs.ProducerLaws.{field-alone, producer_laws}
-use Rattle.wasm_custom.proofs.SymbolLaws.{symbol-alone}
+use Rattle.wasm_custom.proofs.CoreDumpLaws.{marked_unique, module_laws, instance_unique, instance_laws}
+use Rattle.wasm_custom.proofs.CoreStackLaws.{value_unique, frame_unique as stack_frame_unique, frame_laws}
+use Rattle.wasm_custom.proofs.EntriesLaws.{entries_whole}
+use Rattle.wasm_custom.proofs.HintLaws.{hints_unique, hint_laws}
+use Rattle.wasm_custom.proofs.LinkLaws.{link_unique, link_laws}
+use Rattle.wasm_custom.proofs.NameLaws.{subsection_unique, name_laws}
+use Rattle.wasm_custom.proofs.ProducerLaws.{field_unique, producer_laws}
+use Rattle.wasm_custom.proofs.SymbolLaws.{symbol_unique}
 
 -- ---- payloads
 
-pub name-whole : UniqueWholeReading name_payload
-name-whole = after-whole name_name name-alone (entries-whole false (fixed-alone [] (tt {0})) (λ e. tagged_begins) subsection-alone)
+pub name_whole : UniqueWholeReading name_payload
+name_whole = after_whole name_name name_unique (entries_whole false (fixed_unique [] (tt {0})) (λ e. tagged_begins) subsection_unique)
 
-pub linking-whole : UniqueWholeReading linking_payload
-linking-whole = after-whole linking_name name-alone (entries-whole false (just-alone version u32-alone) (λ e. tagged_begins) link-alone)
+pub linking_whole : UniqueWholeReading linking_payload
+linking_whole = after_whole linking_name name_unique (entries_whole false (just_unique version u32_unique) (λ e. tagged_begins) link_unique)
 
-pub producers-whole : UniqueWholeReading producers_payload
-producers-whole = after-whole producers_name name-alone (entries-whole true (fixed-alone [] (tt {0})) (λ e. absurd (cc e)) field-alone)
+pub producers_whole : UniqueWholeReading producers_payload
+producers_whole = after_whole producers_name name_unique (entries_whole true (fixed_unique [] (tt {0})) (λ e. absurd (cc e)) field_unique)
 
-pub hints-whole : UniqueWholeReading hints_payload
-hints-whole = after-whole hints_name name-alone (entries-whole true (fixed-alone [] (tt {0})) (λ e. absurd (cc e)) hints-alone)
+pub hints_whole : UniqueWholeReading hints_payload
+hints_whole = after_whole hints_name name_unique (entries_whole true (fixed_unique [] (tt {0})) (λ e. absurd (cc e)) hints_unique)
 
-pub modules-whole : UniqueWholeReading modules_payload
-modules-whole = after-whole modules_name name-alone (entries-whole true (fixed-alone [] (tt {0})) (λ e. absurd (cc e)) marked-alone)
+pub modules_whole : UniqueWholeReading modules_payload
+modules_whole = after_whole modules_name name_unique (entries_whole true (fixed_unique [] (tt {0})) (λ e. absurd (cc e)) marked_unique)
 
-pub instances-whole : UniqueWholeReading instances_payload
-instances-whole = after-whole instances_name name-alone (entries-whole true (fixed-alone [] (tt {0})) (λ e. absurd (cc e)) instance-alone)
+pub instances_whole : UniqueWholeReading instances_payload
+instances_whole = after_whole instances_name name_unique (entries_whole true (fixed_unique [] (tt {0})) (λ e. absurd (cc e)) instance_unique)
 
-pub core-whole : UniqueWholeReading core_payload
-core-whole = after-whole core_name name-alone (whole_from_alone marked-alone)
+pub core_whole : UniqueWholeReading core_payload
+core_whole = after_whole core_name name_unique (whole_from_alone marked_unique)
 
-pub stack-whole : UniqueWholeReading stack_payload
-stack-whole = after-whole stack_name name-alone (pair-whole marked-alone (whole_from_alone (vec-alone stack_frame-alone)))
+pub stack_whole : UniqueWholeReading stack_payload
+stack_whole = after_whole stack_name name_unique (pair_whole marked_unique (whole_from_alone (vec_unique stack_frame_unique)))
 
 pub name-payload : ReadsPayloads name_payload
-name-payload = payload-reads name-whole
+name-payload = payload-reads name_whole
 
 pub linking-payload : ReadsPayloads linking_payload
-linking-payload = payload-reads linking-whole
+linking-payload = payload-reads linking_whole
 
 pub producers-payload : ReadsPayloads producers_payload
-producers-payload = payload-reads producers-whole
+producers-payload = payload-reads producers_whole
 
 pub hints-payload : ReadsPayloads hints_payload
-hints-payload = payload-reads hints-whole
+hints-payload = payload-reads hints_whole
 
 pub modules-payload : ReadsPayloads modules_payload
-modules-payload = payload-reads modules-whole
+modules-payload = payload-reads modules_whole
 
 pub instances-payload : ReadsPayloads instances_payload
-instances-payload = payload-reads instances-whole
+instances-payload = payload-reads instances_whole
 
 pub core-payload : ReadsPayloads core_payload
-core-payload = payload-reads core-whole
+core-payload = payload-reads core_whole
 
 pub stack-payload : ReadsPayloads stack_payload
-stack-payload = payload-reads stack-whole
+stack-payload = payload-reads stack_whole
 
 -- ---- sections
 
-pub name_section-alone : UniqueReading (frame name_payload)
-name_section-alone = frame-alone name-whole
+pub name_section_unique : UniqueReading (frame name_payload)
+name_section_unique = frame_unique name_whole
 
-pub linking_section-alone : UniqueReading (frame linking_payload)
-linking_section-alone = frame-alone linking-whole
+pub linking_section_unique : UniqueReading (frame linking_payload)
+linking_section_unique = frame_unique linking_whole
 
-pub producers_section-alone : UniqueReading (frame producers_payload)
-producers_section-alone = frame-alone producers-whole
+pub producers_section_unique : UniqueReading (frame producers_payload)
+producers_section_unique = frame_unique producers_whole
 
-pub hints_section-alone : UniqueReading (frame hints_payload)
-hints_section-alone = frame-alone hints-whole
+pub hints_section_unique : UniqueReading (frame hints_payload)
+hints_section_unique = frame_unique hints_whole
 
-pub modules_section-alone : UniqueReading (frame modules_payload)
-modules_section-alone = frame-alone modules-whole
+pub modules_section_unique : UniqueReading (frame modules_payload)
+modules_section_unique = frame_unique modules_whole
 
-pub instances_section-alone : UniqueReading (frame instances_payload)
-instances_section-alone = frame-alone instances-whole
+pub instances_section_unique : UniqueReading (frame instances_payload)
+instances_section_unique = frame_unique instances_whole
 
-pub core_section-alone : UniqueReading (frame core_payload)
-core_section-alone = frame-alone core-whole
+pub core_section_unique : UniqueReading (frame core_payload)
+core_section_unique = frame_unique core_whole
 
-pub stack_section-alone : UniqueReading (frame stack_payload)
-stack_section-alone = frame-alone stack-whole
+pub stack_section_unique : UniqueReading (frame stack_payload)
+stack_section_unique = frame_unique stack_whole
 
 -- ---- padded numbers
 
 pub wide-name : IsUniqueWide (frame name_payload)
-wide-name = unique_wide name_section-alone
+wide-name = unique_wide name_section_unique
 
 pub wide-linking : IsUniqueWide (frame linking_payload)
-wide-linking = unique_wide linking_section-alone
+wide-linking = unique_wide linking_section_unique
 
 pub wide-producers : IsUniqueWide (frame producers_payload)
-wide-producers = unique_wide producers_section-alone
+wide-producers = unique_wide producers_section_unique
 
 pub wide-hints : IsUniqueWide (frame hints_payload)
-wide-hints = unique_wide hints_section-alone
+wide-hints = unique_wide hints_section_unique
 
 pub wide-modules : IsUniqueWide (frame modules_payload)
-wide-modules = unique_wide modules_section-alone
+wide-modules = unique_wide modules_section_unique
 
 pub wide-instances : IsUniqueWide (frame instances_payload)
-wide-instances = unique_wide instances_section-alone
+wide-instances = unique_wide instances_section_unique
 
 pub wide-core : IsUniqueWide (frame core_payload)
-wide-core = unique_wide core_section-alone
+wide-core = unique_wide core_section_unique
 
 pub wide-stack : IsUniqueWide (frame stack_payload)
-wide-stack = unique_wide stack_section-alone
+wide-stack = unique_wide stack_section_unique
 
 pub wide-custom_sections : IsUniqueWide custom
-wide-custom_sections = unique_wide custom-alone
+wide-custom_sections = unique_wide custom_unique
 
-pub ruleset sections = (name_section-alone, linking_section-alone, producers_section-alone, hints_section-alone, modules_section-alone, instances_section-alone, core_section-alone, stack_section-alone, custom-alone, subsection-alone, link-alone, symbol-alone, field-alone, hints-alone, marked-alone, instance-alone, stack_frame-alone, value-alone, name_laws, link_laws, producer_laws, hint_laws, module_laws, instance_laws, frame_laws)
+pub ruleset sections = (name_section_unique, linking_section_unique, producers_section_unique, hints_section_unique, modules_section_unique, instances_section_unique, core_section_unique, stack_section_unique, custom_unique, subsection_unique, link_unique, symbol_unique, field_unique, hints_unique, marked_unique, instance_unique, stack_frame_unique, value_unique, name_laws, link_laws, producer_laws, hint_laws, module_laws, instance_laws, frame_laws)
 
 pub ruleset wide_sections = (wide-name, wide-linking, wide-producers, wide-hints, wide-modules, wide-instances, wide-core, wide-stack, wide-custom_sections)
 

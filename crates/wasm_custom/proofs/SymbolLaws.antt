@@ -5,9 +5,9 @@ use Rattle.wasm_base.specs.Laws.{NameFits}
 use Rattle.wasm_base.specs.Numbers.{shortest, unsigned_text}
 use Rattle.wasm_base.specs.Reading.{UniqueReading}
 use Rattle.wasm_base.specs.Texts.{frame_text, optional_text}
-use Rattle.wasm_base.proofs.BaseLaws.{name-alone}
-use Rattle.wasm_base.proofs.FormatLaws.{mapped-alone, pair-alone, byte-alone, tagged-alone, optional-alone, choice_of}
-use Rattle.wasm_base.proofs.NumberLaws.{u32-alone}
+use Rattle.wasm_base.proofs.BaseLaws.{name_unique}
+use Rattle.wasm_base.proofs.FormatLaws.{mapped_unique, pair_unique, byte_unique, tagged_unique, optional_unique, choice_of}
+use Rattle.wasm_base.proofs.NumberLaws.{u32_unique}
 use Rattle.wasm_base.proofs.PartLaws.{pair_spelled, optional_spelled}
 use Rattle.wasm_base.proofs.TextLaws.{tagged_spelled, u32_spelled, name_spelled}
 use Rattle.wasm_custom.specs.Symbols.{kind_code, Symbol, indexed, of_data, has_name, has_definition, definition_text, symbol_text, IsDefinition, IsSymbol, definition, definition_of, indexed_of, data_of, indexed_symbol, data_symbol, symbol_tags, symbol}
@@ -17,8 +17,8 @@ use Rattle.wasm_custom.specs.declared.symbols.SymbolKind.TheVariants.{Function, 
 
 -- ---- reading
 
-pub definition-alone : UniqueReading definition
-definition-alone = mapped-alone definition_of (λ x y e. ap (λ d. (d.index, (d.offset, d.size))) e) (pair-alone u32-alone (pair-alone u32-alone u32-alone))
+pub definition_unique : UniqueReading definition
+definition_unique = mapped_unique definition_of (λ x y e. ap (λ d. (d.index, (d.offset, d.size))) e) (pair_unique u32_unique (pair_unique u32_unique u32_unique))
 
 abbrev flags_of : Symbol → ℕ
 flags_of (indexed kind flags index n) = flags
@@ -36,16 +36,16 @@ abbrev data_parts : Symbol → List ℕ × Option DataSymbolDefinition
 data_parts (indexed kind flags index n) = ([], None)
 data_parts (of_data flags n d) = (n, d)
 
-indexed-alone : (kind : SymbolKind) → UniqueReading (indexed_symbol kind)
-indexed-alone kind = tagged-alone flags_of (λ mode flags s x h. ap flags_of h.1) u32-alone (λ flags. mapped-alone (indexed_of kind flags) (λ x y e. ap indexed_parts e) (pair-alone u32-alone (optional-alone (has_name flags) name-alone)))
+indexed_unique : (kind : SymbolKind) → UniqueReading (indexed_symbol kind)
+indexed_unique kind = tagged_unique flags_of (λ mode flags s x h. ap flags_of h.1) u32_unique (λ flags. mapped_unique (indexed_of kind flags) (λ x y e. ap indexed_parts e) (pair_unique u32_unique (optional_unique (has_name flags) name_unique)))
 
-data-alone : UniqueReading data_symbol
-data-alone = tagged-alone flags_of (λ mode flags s x h. ap flags_of h.1) u32-alone (λ flags. mapped-alone (data_of flags) (λ x y e. ap data_parts e) (pair-alone name-alone (optional-alone (has_definition flags) definition-alone)))
+data_unique : UniqueReading data_symbol
+data_unique = tagged_unique flags_of (λ mode flags s x h. ap flags_of h.1) u32_unique (λ flags. mapped_unique (data_of flags) (λ x y e. ap data_parts e) (pair_unique name_unique (optional_unique (has_definition flags) definition_unique)))
 
-pub symbol-alone : UniqueReading symbol
-symbol-alone =
-    choice_of byte code_of symbol_tags byte-alone
-    (indexed-alone Function, (data-alone, (indexed-alone Global, (indexed-alone Table, tt))))
+pub symbol_unique : UniqueReading symbol
+symbol_unique =
+    choice_of byte code_of symbol_tags byte_unique
+    (indexed_unique Function, (data_unique, (indexed_unique Global, (indexed_unique Table, tt))))
     (λ mode s x h. ap code_of (h.2.second.1 ∙ h.1), (λ mode s x h. ap code_of (h.2.second.1 ∙ h.1), (λ mode s x h. ap code_of (h.2.second.1 ∙ h.1), (λ mode s x h. ap code_of (h.2.second.1 ∙ h.1), tt))))
 
 -- ---- texts

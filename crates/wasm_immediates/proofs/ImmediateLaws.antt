@@ -6,10 +6,10 @@ use Rattle.wasm_base.specs.Numbers.{Mode}
 use Rattle.wasm_base.specs.Formats.{Format, u32, byte, fixed, impossible, mapped, when, choice, tagged, pair, optional}
 use Rattle.wasm_base.specs.Reading.{UniqueReading, BeginsWith}
 use Rattle.wasm_base.specs.Types.{val_tags, val_ref, IsIndexByte}
-use Rattle.wasm_base.proofs.FormatLaws.{IsInjective, TellsTag, when-alone, mapped-alone, such-alone, coded-alone, fixed-alone, impossible-alone, tagged-alone, one_of-alone, byte-alone, little_endian-alone, pair-alone, optional-alone, choice_of, choice-alone, choice_tells, choice_begins, choice_tags, begins_mapped, values_mapped, AllValues, none_in_common}
-use Rattle.wasm_base.proofs.NumberLaws.{u32-alone}
-use Rattle.wasm_base.proofs.BaseLaws.{u64-alone, s33-alone}
-use Rattle.wasm_base.proofs.TypeLaws.{val_tag, val_begins, begins_s33, val_choice-alone, val_tells, IsTypeByte, types_apart}
+use Rattle.wasm_base.proofs.FormatLaws.{IsInjective, TellsTag, when_unique, mapped_unique, such_unique, coded_unique, fixed_unique, impossible_unique, tagged_unique, one_of_unique, byte_unique, little_endian_unique, pair_unique, optional_unique, choice_of, choice_unique, choice_tells, choice_begins, choice_tags, begins_mapped, values_mapped, AllValues, none_in_common}
+use Rattle.wasm_base.proofs.NumberLaws.{u32_unique}
+use Rattle.wasm_base.proofs.BaseLaws.{u64_unique, s33_unique}
+use Rattle.wasm_base.proofs.TypeLaws.{val_tag, val_begins, begins_s33, val_choice_unique, val_tells, IsTypeByte, types_apart}
 use Rattle.wasm_immediates.specs.declared.memory.Ordering.{Ordering}
 use Rattle.wasm_immediates.specs.declared.memory.Ordering.TheVariants.{AcqRel, SeqCst}
 use Rattle.wasm_immediates.specs.declared.memory.MemArgOrdering.{MemArgOrdering}
@@ -28,8 +28,8 @@ use Rattle.wasm_immediates.specs.PlainImmediates.{block_type, ordering_format, m
 
 -- ---- orderings
 
-pub ordering-alone : UniqueReading ordering_format
-ordering-alone = coded-alone ordering_code (λ b. cond (eqb b 0) SeqCst AcqRel) back
+pub ordering_unique : UniqueReading ordering_format
+ordering_unique = coded_unique ordering_code (λ b. cond (eqb b 0) SeqCst AcqRel) back
   where
     back : (x : Ordering) → cond (eqb (ordering_code x) 0) SeqCst AcqRel ≡ x
     back SeqCst = refl
@@ -40,20 +40,20 @@ mem_ordering_tag (orders.Op SeqCst) = 0x00
 mem_ordering_tag (orders.Op AcqRel) = 0x01
 mem_ordering_tag (orders.Rmw o) = 0x11
 
-pub mem_ordering-alone : UniqueReading mem_ordering
+pub mem_ordering_unique : UniqueReading mem_ordering
 unfolding mem_ordering_tag
-mem_ordering-alone =
-    choice_of byte mem_ordering_tag mem_orderings byte-alone
-    (fixed-alone [] (orders.Op SeqCst), (fixed-alone [] (orders.Op AcqRel), (fixed-alone [] (orders.Rmw AcqRel), tt)))
+mem_ordering_unique =
+    choice_of byte mem_ordering_tag mem_orderings byte_unique
+    (fixed_unique [] (orders.Op SeqCst), (fixed_unique [] (orders.Op AcqRel), (fixed_unique [] (orders.Rmw AcqRel), tt)))
     (λ mode s x h. ap mem_ordering_tag (sym h.1), (λ mode s x h. ap mem_ordering_tag (sym h.1), (λ mode s x h. ap mem_ordering_tag (sym h.1), tt)))
 
 -- ---- memory arguments
 
-pub target-alone : (array other : Bool) → UniqueReading (target_of array other)
-target-alone false false = fixed-alone [] (Memory 0)
-target-alone true false = mapped-alone Array (λ x y e. cc) u32-alone
-target-alone false true = mapped-alone Memory (λ x y e. cc) (such-alone (λ n. 0 < n) u32-alone)
-target-alone true true = impossible-alone
+pub target_unique : (array other : Bool) → UniqueReading (target_of array other)
+target_unique false false = fixed_unique [] (Memory 0)
+target_unique true false = mapped_unique Array (λ x y e. cc) u32_unique
+target_unique false true = mapped_unique Memory (λ x y e. cc) (such_unique (λ n. 0 < n) u32_unique)
+target_unique true true = impossible_unique
 
 mem_parts_of : MemArg → MemArgTarget × (Option MemArgOrdering × ℕ)
 mem_parts_of m = (m.target, (m.ordering, m.offset))
@@ -62,10 +62,10 @@ mem_arg_apart : (align : ℕ) → IsInjective (mem_arg_of align)
 unfolding mem_parts_of
 mem_arg_apart align x y e = ap mem_parts_of e
 
-mem_arg_with-alone : (align : ℕ) (ordered array other : Bool) → UniqueReading (mem_arg_with align ordered array other)
-mem_arg_with-alone align ordered array other =
-    mapped-alone (mem_arg_of align) (mem_arg_apart align)
-    (pair-alone (target-alone array other) (pair-alone (optional-alone ordered mem_ordering-alone) u64-alone))
+mem_arg_with_unique : (align : ℕ) (ordered array other : Bool) → UniqueReading (mem_arg_with align ordered array other)
+mem_arg_with_unique align ordered array other =
+    mapped_unique (mem_arg_of align) (mem_arg_apart align)
+    (pair_unique (target_unique array other) (pair_unique (optional_unique ordered mem_ordering_unique) u64_unique))
 
 -- a bit as a number
 pub bit_value : (b : Bool) (n : ℕ) → n < 2 → eqb n 1 ≡ b → n ≡ where_set b 1
@@ -119,9 +119,9 @@ flags_tell mode f s m h = go (nat_lt f 0x80) refl h
     go true e g = split (ltb-true f 0x80 e) ∙ with_tells (f % 16) (bit 4 f) (bit 5 f) (bit 6 f) mode s m g
     go false e g = absurd g
 
-pub mem_arg-alone : UniqueReading mem_arg
-mem_arg-alone =
-    tagged-alone flags_of flags_tell u32-alone λ f. when-alone (nat_lt f 0x80) (mem_arg_with-alone (f % 16) (bit 4 f) (bit 5 f) (bit 6 f)) impossible-alone
+pub mem_arg_unique : UniqueReading mem_arg
+mem_arg_unique =
+    tagged_unique flags_of flags_tell u32_unique λ f. when_unique (nat_lt f 0x80) (mem_arg_with_unique (f % 16) (bit 4 f) (bit 5 f) (bit 6 f)) impossible_unique
 
 -- ---- block types
 
@@ -139,10 +139,10 @@ block_tag (blocks.FunctionType f) = 0
 block_tells : TellsTag (choice block_tags block_result) block_tag
 block_tells = choice_tells block_tag block_tags block_result (λ mode s x h. ap block_tag (sym h.1), tt) (λ b mode s x h. val_tells mode b s h.0 h.2 ∙ ap block_tag h.1)
 
-tagged_block-alone : UniqueReading (tagged byte (choice block_tags block_result))
-tagged_block-alone =
-    tagged-alone block_tag block_tells byte-alone
-    (choice-alone block_tags block_result (fixed-alone [] blocks.Empty, tt) (λ b. mapped-alone blocks.Result (λ x y e. cc) (val_choice-alone b)))
+tagged_block_unique : UniqueReading (tagged byte (choice block_tags block_result))
+tagged_block_unique =
+    tagged_unique block_tag block_tells byte_unique
+    (choice_unique block_tags block_result (fixed_unique [] blocks.Empty, tt) (λ b. mapped_unique blocks.Result (λ x y e. cc) (val_choice_unique b)))
 
 block_after_begins : (b : ℕ) → AllValues (λ x. IsTypeByte b) (choice block_tags block_result b)
 block_after_begins b mode s x h = choice_tags IsTypeByte block_tags block_result ((omega arith, omega arith), tt) (λ b mode s x h. val_begins b mode s h.0 h.2) b mode s x h
@@ -154,17 +154,17 @@ block_values : AllValues (λ x. block_tag x ≢ 0) (tagged byte (choice block_ta
 block_values mode s x h e =
     omega (arith, e, ap block_tag h.1, block_tells mode h.0.0 h.2.back h.0.1 h.2.second, (block_after_begins h.0.0 mode h.2.back h.0.1 h.2.second).0)
 
-pub block-alone : UniqueReading block_type
-block-alone =
-    one_of-alone IsTypeByte IsIndexByte types_apart
+pub block_unique : UniqueReading block_type
+block_unique =
+    one_of_unique IsTypeByte IsIndexByte types_apart
     block_begins (begins_mapped IsIndexByte blocks.FunctionType begins_s33)
     (none_in_common (λ x. block_tag x ≢ 0) (λ x. block_tag x ≡ 0) (λ x p q. p q) block_values (values_mapped (λ x. block_tag x ≡ 0) blocks.FunctionType _ (λ x. refl)))
-    tagged_block-alone (mapped-alone blocks.FunctionType (λ x y e. cc) s33-alone)
+    tagged_block_unique (mapped_unique blocks.FunctionType (λ x y e. cc) s33_unique)
 
 -- ---- catches and handles
 
-numbers-alone : UniqueReading (pair u32 u32)
-numbers-alone = pair-alone u32-alone u32-alone
+numbers_unique : UniqueReading (pair u32 u32)
+numbers_unique = pair_unique u32_unique u32_unique
 
 abbrev catch_tag : Catch → ℕ
 catch_tag (One tag label) = 0x00
@@ -178,10 +178,10 @@ catch_numbers (OneRef tag label) = (tag, label)
 catch_numbers (All label) = (0, label)
 catch_numbers (AllRef label) = (0, label)
 
-pub catch-alone : UniqueReading catch
-catch-alone =
-    choice_of byte catch_tag catch_tags byte-alone
-    (mapped-alone one_of_pair (λ x y e. ap catch_numbers e) numbers-alone, (mapped-alone one_ref_of_pair (λ x y e. ap catch_numbers e) numbers-alone, (mapped-alone All (λ x y e. cc) u32-alone, (mapped-alone AllRef (λ x y e. cc) u32-alone, tt))))
+pub catch_unique : UniqueReading catch
+catch_unique =
+    choice_of byte catch_tag catch_tags byte_unique
+    (mapped_unique one_of_pair (λ x y e. ap catch_numbers e) numbers_unique, (mapped_unique one_ref_of_pair (λ x y e. ap catch_numbers e) numbers_unique, (mapped_unique All (λ x y e. cc) u32_unique, (mapped_unique AllRef (λ x y e. cc) u32_unique, tt))))
     (λ mode s x h. ap catch_tag h.1, (λ mode s x h. ap catch_tag h.1, (λ mode s x h. ap catch_tag h.1, (λ mode s x h. ap catch_tag h.1, tt))))
 
 abbrev handle_tag : Handle → ℕ
@@ -192,10 +192,10 @@ abbrev handle_numbers : Handle → ℕ × ℕ
 handle_numbers (OnLabel tag label) = (tag, label)
 handle_numbers (OnSwitch tag) = (tag, 0)
 
-pub handle-alone : UniqueReading handle
-handle-alone =
-    choice_of byte handle_tag handle_tags byte-alone
-    (mapped-alone on_label_of_pair (λ x y e. ap handle_numbers e) numbers-alone, (mapped-alone OnSwitch (λ x y e. cc) u32-alone, tt))
+pub handle_unique : UniqueReading handle
+handle_unique =
+    choice_of byte handle_tag handle_tags byte_unique
+    (mapped_unique on_label_of_pair (λ x y e. ap handle_numbers e) numbers_unique, (mapped_unique OnSwitch (λ x y e. cc) u32_unique, tt))
     (λ mode s x h. ap handle_tag h.1, (λ mode s x h. ap handle_tag h.1, tt))
 
 -- ---- vectors of 128 bits
@@ -206,9 +206,9 @@ same_vector (pos n) (negsuc m) h g e = absurd (omega (arith, h, g, e))
 same_vector (negsuc n) (pos m) h g e = absurd (omega (arith, h, g, e))
 same_vector (negsuc n) (negsuc m) h g e = let same : n ≡ m = omega (arith, h, g, e) in ap negsuc same
 
-pub vector-alone : UniqueReading vector_format
-vector-alone =
-    let f = little_endian-alone 16 in
+pub vector_unique : UniqueReading vector_format
+vector_unique =
+    let f = little_endian_unique 16 in
     record {
       alone = λ mode s t r q x y h g e.
           let a = f.alone mode s t r q (twos_complement 128 x) (twos_complement 128 y) h.0 g.0 e in

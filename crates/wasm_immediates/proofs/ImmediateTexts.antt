@@ -28,7 +28,7 @@ use Rattle.wasm_immediates.specs.declared.control.Handle.{Handle}
 use Rattle.wasm_immediates.specs.declared.control.Handle.TheVariants.{OnLabel, OnSwitch}
 use Rattle.wasm_immediates.specs.Immediates.{mem_ordering_code, index_of, has_ordering, is_array, has_memory, where_set, mem_flags, mem_arg_text, block_text, catch_text, handle_text, twos_complement, vector_text}
 use Rattle.wasm_immediates.specs.PlainImmediates.{IsNormalMemory, ReadsMemoryArgument, ordering_text, ordering_format, vector_format, normal_ordering, normal_order, normal_memory, IsPlainTarget, IsPlainMemory, IsPlainBlock, IsPlainCatch, IsPlainHandle, IsVector, block_type, mem_ordering, bit, target_of, mem_arg_with, after_flags, mem_arg, catch, handle}
-use Rattle.wasm_immediates.proofs.ImmediateLaws.{ordering-alone, mem_arg-alone, block-alone, catch-alone, handle-alone, vector-alone, block_tags, block_result}
+use Rattle.wasm_immediates.proofs.ImmediateLaws.{ordering_unique, mem_arg_unique, block_unique, catch_unique, handle_unique, vector_unique, block_tags, block_result}
 
 -- ---- the texts of memory arguments
 
@@ -187,27 +187,27 @@ pub ordering-texts : HasTexts ordering_format (λ o. ⊤) ordering_text
 ordering-texts = record { spelled = λ o h. refl }
 
 pub memory_arguments : (m : MemArg) → ReadsMemoryArgument m
-memory_arguments m = record { alone = λ h. reads_alone mem_arg-alone (memory_spelled m h) }
+memory_arguments m = record { alone = λ h. reads_alone mem_arg_unique (memory_spelled m h) }
 
-pub ruleset immediates = (ordering-texts, ordering-alone, mem_arg-alone, block-alone, catch-alone, handle-alone, vector-alone, memory-texts, block-texts, catch-texts, handle-texts, vector-texts)
+pub ruleset immediates = (ordering-texts, ordering_unique, mem_arg_unique, block_unique, catch_unique, handle_unique, vector_unique, memory-texts, block-texts, catch-texts, handle-texts, vector-texts)
 
 pub wide-ordering : IsUniqueWide ordering_format
-wide-ordering = unique_wide ordering-alone
+wide-ordering = unique_wide ordering_unique
 
 pub wide-mem_arg : IsUniqueWide mem_arg
-wide-mem_arg = unique_wide mem_arg-alone
+wide-mem_arg = unique_wide mem_arg_unique
 
 pub wide-block : IsUniqueWide block_type
-wide-block = unique_wide block-alone
+wide-block = unique_wide block_unique
 
 pub wide-catch : IsUniqueWide catch
-wide-catch = unique_wide catch-alone
+wide-catch = unique_wide catch_unique
 
 pub wide-handle : IsUniqueWide handle
-wide-handle = unique_wide handle-alone
+wide-handle = unique_wide handle_unique
 
 pub wide-vector : IsUniqueWide vector_format
-wide-vector = unique_wide vector-alone
+wide-vector = unique_wide vector_unique
 
 pub ruleset wide_immediates = (wide-ordering, wide-mem_arg, wide-block, wide-catch, wide-handle, wide-vector)
 

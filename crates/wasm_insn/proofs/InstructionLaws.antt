@@ -7,7 +7,7 @@ use Rattle.wasm_base.specs.Formats.{members}
 use Rattle.wasm_base.specs.Reading.{UniqueReading, UniqueWholeReading, HasTexts, IsUniqueWide, IsUniqueWholeWide, BeginsWith}
 use Rattle.wasm_base.specs.Texts.{VecFits}
 use Rattle.wasm_base.proofs.BaseLaws.{unique_wide, unique_whole_wide}
-use Rattle.wasm_base.proofs.FormatLaws.{members-whole}
+use Rattle.wasm_base.proofs.FormatLaws.{members_whole}
 use Rattle.wasm_base.proofs.TextLaws.{tagged_spelled}
 use Rattle.wasm_insn.specs.declared.op.Op.{Op}
 use Rattle.wasm_insn.specs.declared.op.Op.TheVariants.{Byte, Prefixed}
@@ -22,7 +22,7 @@ use Rattle.wasm_insn.specs.Table.{table, IsTableOp, IsOpcodeTable, BeginsNoOther
 use Rattle.wasm_insn.specs.Instructions.{row_of, IsPlainInstruction, ReadsInstruction, HaveOneText}
 use Rattle.wasm_insn.specs.Arguments.{Argument, labels, unsigned}
 use Rattle.wasm_insn.specs.Sink.{br_table_text}
-use Rattle.wasm_insn.proofs.PlainLaws.{opcode-alone, opcode_spelled, instruction-alone, plain_spelled, plain-alone, same_text, wide-opcode}
+use Rattle.wasm_insn.proofs.PlainLaws.{opcode_unique, opcode_spelled, instruction_unique, plain_spelled, plain_unique, same_text, wide-opcode}
 use Rattle.wasm_insn.proofs.TableRows.{is_op, op_is, instruction_row}
 use Rattle.wasm_insn.proofs.TableRuns.{byte_shape}
 
@@ -47,13 +47,13 @@ as_opcode (Prefixed p n) h = h
 pub apart : BeginsNoOther
 apart = record {
   for_each = λ a b x y h g e.
-      (opcode-alone.alone shortest (op_text a) (op_text b) x y a b (opcode_spelled a (as_opcode a h)) (opcode_spelled b (as_opcode b g)) e).0;
+      (opcode_unique.alone shortest (op_text a) (op_text b) x y a b (opcode_spelled a (as_opcode a h)) (opcode_spelled b (as_opcode b g)) e).0;
 }
 
 pub opcode-texts : HasTexts opcode IsOpcode op_text
 opcode-texts = record { spelled = opcode_spelled }
 
-pub ruleset opcodes = (opcode-texts, table-is, apart, opcode-alone)
+pub ruleset opcodes = (opcode-texts, table-is, apart, opcode_unique)
 
 -- ---- instructions
 
@@ -63,7 +63,7 @@ is_plain i h =
     record { shape = row.shape; opcode = as_opcode (row_of i).op row.op; row = row.row; parts = row.parts; arguments = h }
 
 pub reads : {A : Type 0} (i : Instruction A) → ReadsInstruction i
-reads i = record { alone = λ h. plain-alone table (row_of i) (is_plain i h) }
+reads i = record { alone = λ h. plain_unique table (row_of i) (is_plain i h) }
 
 pub one_text : {A : Type 0} (i j : Instruction A) → HaveOneText i j
 one_text i j = record { exactly = λ h g. same_text table (row_of i) (row_of j) (is_plain i h) (is_plain j g) }
@@ -76,7 +76,7 @@ pub br_table_spelled : (ls : List ℕ) (default : ℕ) → VecFits (λ n. n < 2 
 br_table_spelled ls default fits range = plain_spelled table (br_table_row ls default) (record { shape = Bt; opcode = refl; row = byte_shape 0x0E; parts = refl; arguments = (fits, (range, tt)) })
 
 pub alone : UniqueReading (instruction table)
-alone = instruction-alone table
+alone = instruction_unique table
 
 -- an instruction whose op is one byte, with padded numbers in its arguments or without
 pub byte_spelled : (mode : Mode) (b : ℕ) (bytes : List ℕ) (shape : Shape) (xs : List Argument) → is_prefix b ≡ false → shape_of table (Byte b) ≡ Some shape → arguments (parts_of shape) mode bytes xs
@@ -97,12 +97,12 @@ any_begins mode s i h =
     let op = h.2.first in
     (op.0.0, op.2.back ++ h.2.back, h.2.joined ∙ ap (λ z. z ++ h.2.back) (op.2.joined ∙ ap (λ z. z ++ op.2.back) op.2.first), tt)
 
-pub lists-whole : UniqueWholeReading (members (instruction table))
-lists-whole = members-whole (λ b. Unit {0}) any_begins alone
+pub lists_whole : UniqueWholeReading (members (instruction table))
+lists_whole = members_whole (λ b. Unit {0}) any_begins alone
 
-pub ruleset lists = (lists-whole)
+pub ruleset lists = (lists_whole)
 
 pub wide-lists : IsUniqueWholeWide (members (instruction table))
-wide-lists = unique_whole_wide lists-whole
+wide-lists = unique_whole_wide lists_whole
 
 pub ruleset wide = (wide-lists, wide-opcode, wide-instruction)

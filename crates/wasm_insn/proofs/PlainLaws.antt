@@ -5,17 +5,17 @@ use Rattle.wasm_base.specs.Numbers.{shortest, unsigned_text}
 use Rattle.wasm_base.specs.Formats.{u32, mapped, when}
 use Rattle.wasm_base.specs.Reading.{ReadsAlone, UniqueReading, IsUniqueWide}
 use Rattle.wasm_base.specs.Types.{val_type, val_text, IsVal}
-use Rattle.wasm_base.proofs.FormatLaws.{IsInjective, TellsTag, same_pair, when-alone, mapped-alone, such-alone, fixed-alone, impossible-alone, tagged-alone, byte-alone, little_endian-alone, raw_bytes-alone, pair-alone, Then-alone, vec-alone}
-use Rattle.wasm_base.proofs.NumberLaws.{u32-alone}
-use Rattle.wasm_base.proofs.BaseLaws.{s32-alone, s64-alone, unique_wide}
-use Rattle.wasm_base.proofs.TypeLaws.{heap-alone, val-alone, heap-texts, val-texts}
+use Rattle.wasm_base.proofs.FormatLaws.{IsInjective, TellsTag, same_pair, when_unique, mapped_unique, such_unique, fixed_unique, impossible_unique, tagged_unique, byte_unique, little_endian_unique, raw_bytes_unique, pair_unique, Then_unique, vec_unique}
+use Rattle.wasm_base.proofs.NumberLaws.{u32_unique}
+use Rattle.wasm_base.proofs.BaseLaws.{s32_unique, s64_unique, unique_wide}
+use Rattle.wasm_base.proofs.TypeLaws.{heap_unique, val_unique, heap-texts, val-texts}
 use Rattle.wasm_base.proofs.TextLaws.{reads_alone, u32_spelled, s32_spelled, s64_spelled, little_endian_spelled, vec_spelled, tagged_spelled}
 use Rattle.wasm_insn.specs.declared.op.Op.{Op}
 use Rattle.wasm_insn.specs.declared.op.Op.TheVariants.{Byte, Prefixed}
 use Rattle.wasm_insn.specs.declared.op.Shape.{Shape}
 use Rattle.wasm_immediates.specs.Immediates.{catch_text, handle_text}
 use Rattle.wasm_immediates.specs.PlainImmediates.{normal_memory, IsPlainCatch, IsPlainHandle, catch, handle}
-use Rattle.wasm_immediates.proofs.ImmediateLaws.{ordering-alone, mem_arg-alone, block-alone, catch-alone, handle-alone, vector-alone}
+use Rattle.wasm_immediates.proofs.ImmediateLaws.{ordering_unique, mem_arg_unique, block_unique, catch_unique, handle_unique, vector_unique}
 use Rattle.wasm_immediates.proofs.ImmediateTexts.{memory_spelled, block_spelled, catch_spelled, handle_spelled, vector_spelled}
 use Rattle.wasm_insn.specs.Opcodes.{op_text}
 use Rattle.wasm_insn.specs.declared.part.Part.TheVariants as parts
@@ -39,8 +39,8 @@ op_tells mode b s x h = go (is_prefix b) h
     go true k = ap op_tag k.1
     go false k = ap op_tag (sym k.1)
 
-pub opcode-alone : UniqueReading opcode
-opcode-alone = tagged-alone op_tag op_tells byte-alone (λ b. when-alone (is_prefix b) (mapped-alone (Prefixed b) (λ x y e. cc) u32-alone) (fixed-alone [] (Byte b)))
+pub opcode_unique : UniqueReading opcode
+opcode_unique = tagged_unique op_tag op_tells byte_unique (λ b. when_unique (is_prefix b) (mapped_unique (Prefixed b) (λ x y e. cc) u32_unique) (fixed_unique [] (Byte b)))
 
 pub opcode_spelled : (op : Op) → IsOpcode op → opcode shortest (op_text op) op
 opcode_spelled (Byte b) h = tagged_spelled shortest b [] (Byte b) (rw h (refl, refl))
@@ -53,24 +53,24 @@ float_bits (float32 float) = float.bits
 float_bits (float64 float) = float.bits
 float_bits _ = 0
 
-pub part-alone : (p : Part) → UniqueReading (part p)
-part-alone parts.Unsigned = mapped-alone unsigned (λ x y e. cc) u32-alone
-part-alone parts.Signed32 = mapped-alone signed32 (λ x y e. cc) s32-alone
-part-alone parts.Signed64 = mapped-alone signed64 (λ x y e. cc) s64-alone
-part-alone parts.Float32 = mapped-alone float32_of (λ x y e. ap float_bits e) (little_endian-alone 4)
-part-alone parts.Float64 = mapped-alone float64_of (λ x y e. ap float_bits e) (little_endian-alone 8)
-part-alone parts.Vector = mapped-alone vector (λ x y e. cc) vector-alone
-part-alone parts.Memory = mapped-alone memory (λ x y e. cc) mem_arg-alone
-part-alone parts.Lane = mapped-alone lane (λ x y e. cc) byte-alone
-part-alone parts.Lanes = mapped-alone lanes (λ x y e. cc) (raw_bytes-alone 16)
-part-alone parts.Block = mapped-alone block (λ x y e. cc) block-alone
-part-alone parts.Heap = mapped-alone heap (λ x y e. cc) heap-alone
-part-alone parts.Ordering = mapped-alone ordering (λ x y e. cc) ordering-alone
-part-alone parts.Labels = mapped-alone labels (λ x y e. cc) (vec-alone u32-alone)
-part-alone parts.Catches = mapped-alone catches (λ x y e. cc) (vec-alone catch-alone)
-part-alone parts.Types = mapped-alone types (λ x y e. cc) (vec-alone val-alone)
-part-alone parts.Handles = mapped-alone handles (λ x y e. cc) (vec-alone handle-alone)
-part-alone parts.Flag = mapped-alone flag (λ x y e. cc) (such-alone (λ b. b < 4) byte-alone)
+pub part_unique : (p : Part) → UniqueReading (part p)
+part_unique parts.Unsigned = mapped_unique unsigned (λ x y e. cc) u32_unique
+part_unique parts.Signed32 = mapped_unique signed32 (λ x y e. cc) s32_unique
+part_unique parts.Signed64 = mapped_unique signed64 (λ x y e. cc) s64_unique
+part_unique parts.Float32 = mapped_unique float32_of (λ x y e. ap float_bits e) (little_endian_unique 4)
+part_unique parts.Float64 = mapped_unique float64_of (λ x y e. ap float_bits e) (little_endian_unique 8)
+part_unique parts.Vector = mapped_unique vector (λ x y e. cc) vector_unique
+part_unique parts.Memory = mapped_unique memory (λ x y e. cc) mem_arg_unique
+part_unique parts.Lane = mapped_unique lane (λ x y e. cc) byte_unique
+part_unique parts.Lanes = mapped_unique lanes (λ x y e. cc) (raw_bytes_unique 16)
+part_unique parts.Block = mapped_unique block (λ x y e. cc) block_unique
+part_unique parts.Heap = mapped_unique heap (λ x y e. cc) heap_unique
+part_unique parts.Ordering = mapped_unique ordering (λ x y e. cc) ordering_unique
+part_unique parts.Labels = mapped_unique labels (λ x y e. cc) (vec_unique u32_unique)
+part_unique parts.Catches = mapped_unique catches (λ x y e. cc) (vec_unique catch_unique)
+part_unique parts.Types = mapped_unique types (λ x y e. cc) (vec_unique val_unique)
+part_unique parts.Handles = mapped_unique handles (λ x y e. cc) (vec_unique handle_unique)
+part_unique parts.Flag = mapped_unique flag (λ x y e. cc) (such_unique (λ b. b < 4) byte_unique)
 
 cons_apart : {X : Type 0} (x y : X × List X) → cons x ≡ cons y → x ≡ y
 cons_apart x y e =
@@ -78,19 +78,19 @@ cons_apart x y e =
     let second : x.1 ≡ y.1 = cc in
     same_pair x y first second
 
-pub arguments-alone : (ps : List Part) → UniqueReading (arguments ps)
-arguments-alone [] = fixed-alone [] []
-arguments-alone (p ∷ ps) = mapped-alone cons cons_apart (pair-alone (part-alone p) (arguments-alone ps))
+pub arguments_unique : (ps : List Part) → UniqueReading (arguments ps)
+arguments_unique [] = fixed_unique [] []
+arguments_unique (p ∷ ps) = mapped_unique cons cons_apart (pair_unique (part_unique p) (arguments_unique ps))
 
-arguments_after-alone : (shape : Option Shape) → UniqueReading (arguments_after shape)
-arguments_after-alone None = impossible-alone
-arguments_after-alone (Some shape) = arguments-alone (parts_of shape)
+arguments_after_unique : (shape : Option Shape) → UniqueReading (arguments_after shape)
+arguments_after_unique None = impossible_unique
+arguments_after_unique (Some shape) = arguments_unique (parts_of shape)
 
 plain_apart : IsInjective plain_of
 plain_apart x y e = ap (λ i. (i.op, i.arguments)) e
 
-pub instruction-alone : (table : Table) → UniqueReading (instruction table)
-instruction-alone table = mapped-alone plain_of plain_apart (Then-alone opcode-alone (λ op. arguments_after-alone (shape_of table op)))
+pub instruction_unique : (table : Table) → UniqueReading (instruction table)
+instruction_unique table = mapped_unique plain_of plain_apart (Then_unique opcode_unique (λ op. arguments_after_unique (shape_of table op)))
 
 -- ---- the texts of arguments
 
@@ -140,13 +140,13 @@ pub plain_spelled : (table : Table) (i : Plain) → IsPlain table i → instruct
 plain_spelled table i h = spelled table i h.shape h.opcode h.row h.parts h.arguments
 
 -- The text of a plain instruction is read as its normal form alone.
-pub plain-alone : (table : Table) (i : Plain) → IsPlain table i → ReadsAlone (instruction table) (plain_text i) (normal i)
-plain-alone table i h = reads_alone {F = instruction table} (instruction-alone table) (plain_spelled table i h)
+pub plain_unique : (table : Table) (i : Plain) → IsPlain table i → ReadsAlone (instruction table) (plain_text i) (normal i)
+plain_unique table i h = reads_alone {F = instruction table} (instruction_unique table) (plain_spelled table i h)
 
 -- Plain instructions have one text exactly where they have one normal form.
 pub same_text : (table : Table) (i j : Plain) → IsPlain table i → IsPlain table j → (plain_text i ≡ plain_text j) ↔ (normal i ≡ normal j)
 same_text table i j h g =
-    let f = instruction-alone table in
+    let f = instruction_unique table in
     let a = plain_spelled table i h in
     let b = plain_spelled table j g in (
       (λ e. (f.alone shortest (plain_text i) (plain_text j) [] [] (normal i) (normal j) a b (ap (λ s. s ++ []) e)).0),
@@ -166,4 +166,4 @@ cast_flag_below from to = below from.nullable to.nullable
     below true true = omega arith
 
 pub wide-opcode : IsUniqueWide opcode
-wide-opcode = unique_wide opcode-alone
+wide-opcode = unique_wide opcode_unique

@@ -8,7 +8,7 @@ use Rattle.wasm_reader.specs.Sections.{Contents, section, Takes, Shortens}
 use Rattle.wasm_reader.specs.Shortening.{ShortensModule, AreSettled}
 use Rattle.wasm_reader.specs.declared.section.SectionKind.{SectionKind}
 use Rattle.wasm_reader.specs.declared.whole.Offsets.{Offsets}
-use Rattle.wasm_reader.proofs.ShortSections.{section-alone}
+use Rattle.wasm_reader.proofs.ShortSections.{section_unique}
 
 -- ---- what was written
 
@@ -31,7 +31,7 @@ written_wide {F = F} say {new = new} {x = x} e g =
 -- The reader answers these items.
 pub reads_padded : {kind : SectionKind} {bytes rest : List ℕ} {x y : Contents} {n : ℕ} → Takes kind bytes y n → Reads (section kind) wide bytes x rest → y ≡ x
 reads_padded {kind = kind} h r =
-    ((section-alone kind).alone wide h.reads.front r.front _ _ _ _ h.reads.spelled r.spelled (sym h.reads.split ∙ r.split)).0
+    ((section_unique kind).alone wide h.reads.front r.front _ _ _ _ h.reads.spelled r.spelled (sym h.reads.split ∙ r.split)).0
 
 -- It gives no cause but `Memory`.
 pub padded_stands : (kind : SectionKind) {bytes rest : List ℕ} {x : Contents} → ReadsNothing (section kind) wide bytes → Reads (section kind) wide bytes x rest → ⊥
@@ -40,12 +40,12 @@ padded_stands kind {rest = rest} {x = x} n r = n.none x rest r
 -- What is appended where it is shortened is the shortest text of these items.
 pub shortens_padded : {kind : SectionKind} {padded rest bytes : List ℕ} {x : Contents} {n : ℕ} {old new : List ℕ} → Shortens kind padded n old new → Reads (section kind) wide padded x rest → section kind shortest bytes x → new ≡ old ++ bytes
 shortens_padded {kind = kind} {bytes = bytes} {x = x} {old = old} h r s =
-    h.appended ∙ ap (λ t. old ++ t) ((section-alone kind).spellings.one h.text bytes x (subst (λ z. section kind shortest h.text z) (reads_padded h.takes r) h.spelled) s)
+    h.appended ∙ ap (λ t. old ++ t) ((section_unique kind).spellings.one h.text bytes x (subst (λ z. section kind shortest h.text z) (reads_padded h.takes r) h.spelled) s)
 
 -- ---- a section of any kind in shortest form, as `written` says of a buffer
 
 at_front : (kind : SectionKind) {bytes : List ℕ} {x : Contents} → section kind shortest bytes x → Reads (section kind) wide bytes x []
-at_front kind {bytes = bytes} {x = x} s = record { front = bytes; split = sym (append-nil bytes); spelled = (section-alone kind).spellings.wider bytes x s }
+at_front kind {bytes = bytes} {x = x} s = record { front = bytes; split = sym (append-nil bytes); spelled = (section_unique kind).spellings.wider bytes x s }
 
 -- The reader answers the items that were added.
 pub reads_written : {kind : SectionKind} {bytes : List ℕ} {x y : Contents} {n : ℕ} → Takes kind bytes y n → section kind shortest bytes x → y ≡ x

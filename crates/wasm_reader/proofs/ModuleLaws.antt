@@ -4,23 +4,23 @@ use Rattle.std.proofs.lemmas.List.{append_cancel_left}
 use Rattle.wasm_base.specs.Numbers.{wide}
 use Rattle.wasm_base.specs.Formats.{Format, byte, fixed, header, members}
 use Rattle.wasm_base.specs.Reading.{Reads, ReadsNothing, IsReadAlone, BeginsWith}
-use Rattle.wasm_base.proofs.BaseLaws.{frame-bytes-alone}
-use Rattle.wasm_base.proofs.FormatLaws.{byte-alone, begins_then, same_pair}
+use Rattle.wasm_base.proofs.BaseLaws.{frame_bytes_unique}
+use Rattle.wasm_base.proofs.FormatLaws.{byte_unique, begins_then, same_pair}
 use Rattle.wasm_reader.specs.Modules.{kind_of, sized_section, sized_module, line_of, HasLines, StopsAt, HaveOneListing}
 use Rattle.wasm_reader.specs.Sections.{Contents, content}
 use Rattle.wasm_reader.specs.declared.modules.Listed.{Listed}
-use Rattle.wasm_reader.proofs.ShortSections.{content-whole}
+use Rattle.wasm_reader.proofs.ShortSections.{content_whole}
 
 -- ---- a section
 
-pub sized-alone : IsReadAlone (sized_section wide)
-sized-alone s t r q x y h g e =
-    let id = byte-alone.alone wide h.front g.front (h.back ++ r) (g.back ++ q) x.0 y.0 h.first g.first (sym (append_assoc h.front h.back r) ∙ ap (λ z. z ++ r) (sym h.joined) ∙ e ∙ ap (λ z. z ++ q) g.joined ∙ append_assoc g.front g.back q) in
+pub sized_unique : IsReadAlone (sized_section wide)
+sized_unique s t r q x y h g e =
+    let id = byte_unique.alone wide h.front g.front (h.back ++ r) (g.back ++ q) x.0 y.0 h.first g.first (sym (append_assoc h.front h.back r) ∙ ap (λ z. z ++ r) (sym h.joined) ∙ e ∙ ap (λ z. z ++ q) g.joined ∙ append_assoc g.front g.back q) in
     let a = h.second in
     let b = g.second in
-    let framed = frame-bytes-alone.alone wide h.back g.back r q a.payload b.payload a.framed b.framed id.2 in
+    let framed = frame_bytes_unique.alone wide h.back g.back r q a.payload b.payload a.framed b.framed id.2 in
     let held : content (kind_of x.0) wide a.payload y.1.1 = subst (λ z. content (kind_of z) wide a.payload y.1.1) (sym id.0) (subst (λ z. content (kind_of y.0) wide z y.1.1) (sym framed.0) b.holds) in
-    let same : x.1.1 ≡ y.1.1 = (content-whole (kind_of x.0)).whole wide a.payload x.1.1 y.1.1 a.holds held in
+    let same : x.1.1 ≡ y.1.1 = (content_whole (kind_of x.0)).whole wide a.payload x.1.1 y.1.1 a.holds held in
     let size : x.1.0 ≡ y.1.0 = sym a.size ∙ ap length framed.0 ∙ b.size in (
       same_pair x y id.0 (same_pair x.1 y.1 size same),
       h.joined ∙ ap (λ z. z ++ h.back) id.1 ∙ ap (λ z. g.front ++ z) framed.1 ∙ sym g.joined,
@@ -70,7 +70,7 @@ pub one_module : (bytes last q : List ℕ) (xs ys : List (ℕ × (ℕ × Content
 one_module bytes last q xs ys h g n m =
     let a = behind h in
     let b = behind g in
-    (one_way sized_section sized-alone section_begins a.0 b.0 last q xs ys a.2 b.2 (append_cancel_left header (a.0 ++ last) (b.0 ++ q) (sym a.1 ∙ b.1)) n m).0
+    (one_way sized_section sized_unique section_begins a.0 b.0 last q xs ys a.2 b.2 (append_cancel_left header (a.0 ++ last) (b.0 ++ q) (sym a.1 ∙ b.1)) n m).0
 
 whole : {bytes : List ℕ} {xs : List (ℕ × (ℕ × Contents))} → sized_module wide bytes xs → Reads sized_module wide bytes xs []
 whole {bytes = bytes} h = record { front = bytes; split = sym (append-nil bytes); spelled = h }
@@ -93,7 +93,7 @@ one_listing = record {
     either bytes a (suc k) h s =
         let u = behind (whole h.read) in
         let v = behind s.read in
-        s.more (sym (one_way sized_section sized-alone section_begins u.0 v.0 [] s.rest h.sections s.sections u.2 v.2 (append_cancel_left header (u.0 ++ []) (v.0 ++ s.rest) (sym u.1 ∙ v.1)) none_left (λ m. s.none)).1)
+        s.more (sym (one_way sized_section sized_unique section_begins u.0 v.0 [] s.rest h.sections s.sections u.2 v.2 (append_cancel_left header (u.0 ++ []) (v.0 ++ s.rest) (sym u.1 ∙ v.1)) none_left (λ m. s.none)).1)
 
     place : (bytes : List ℕ) (p q : ℕ) → StopsAt bytes p → StopsAt bytes q → p ≡ q
     place bytes zero zero h g = refl

@@ -3,7 +3,7 @@ use Rattle.std.proofs.Common.{◌≡◌, ℕ, List, ◌++◌, refl, ap, ◌∙�
 use Rattle.wasm_base.specs.Numbers.{wide}
 use Rattle.wasm_base.specs.Formats.{Format, fixed, prefixed}
 use Rattle.wasm_base.specs.Reading.{Reads, ReadsNothing}
-use Rattle.wasm_base.proofs.FormatLaws.{fixed-alone}
+use Rattle.wasm_base.proofs.FormatLaws.{fixed_unique}
 use Rattle.wasm_base.proofs.Tags.{tagged_reads, tagged_none, tagged_nothing}
 
 module _ {X : Type 0} (head : List ℕ) (F : Format X) {bytes : List ℕ} where
@@ -14,7 +14,7 @@ module _ {X : Type 0} (head : List ℕ) (F : Format X) {bytes : List ℕ} where
   prefixed_reads e h = tagged_reads {G = λ u. F} (front_of e) h
 
   pub prefixed_nothing : {rest : List ℕ} → bytes ≡ head ++ rest → ReadsNothing F wide rest → ReadsNothing (prefixed head F) wide bytes
-  prefixed_nothing e n = tagged_nothing {G = λ u. F} (fixed-alone head tt) (front_of e) n
+  prefixed_nothing e n = tagged_nothing {G = λ u. F} (fixed_unique head tt) (front_of e) n
 
   -- The bytes do not begin so.
   pub prefixed_other : ((rest : List ℕ) → bytes ≡ head ++ rest → ⊥) → ReadsNothing (prefixed head F) wide bytes

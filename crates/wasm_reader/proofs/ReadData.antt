@@ -3,8 +3,8 @@ use Rattle.std.proofs.Common.{◌≡◌, ◌≢◌, ℕ, ◌<◌, ◌≤◌, Lis
 use Rattle.wasm_base.specs.Numbers.{wide}
 use Rattle.wasm_base.specs.Formats.{Format, u32, byte, any_bytes, choice, frame, impossible, members, pair, vec}
 use Rattle.wasm_base.specs.Reading.{Reads, ReadsNothing}
-use Rattle.wasm_base.proofs.FormatLaws.{such-alone}
-use Rattle.wasm_base.proofs.NumberLaws.{u32-alone}
+use Rattle.wasm_base.proofs.FormatLaws.{such_unique}
+use Rattle.wasm_base.proofs.NumberLaws.{u32_unique}
 use Rattle.wasm_base.proofs.ReadingSteps.{then_reads, then_nothing_first, then_nothing_second, mapped_reads, mapped_nothing, such_reads, such_none, such_nothing}
 use Rattle.wasm_base.proofs.Tags.{tagged_reads, tagged_none, tagged_nothing, no_choice}
 use Rattle.wasm_code.specs.Expressions.{expression}
@@ -52,13 +52,13 @@ segment_at : (c : ℕ) {bytes rest last : List ℕ} {n : ℕ} {x : DataItem} →
 segment_at c {rest = rest} {last = last} {x = x} h e g = tagged_reads {G = after_flag} h (subst (λ z. Reads (after_flag z) wide rest x last) (sym e) g)
 
 segment_not : (c : ℕ) {bytes rest : List ℕ} {n : ℕ} → Reads u32 wide bytes n rest → n ≡ c → ReadsNothing (after_flag c) wide rest → ReadsNothing data_item wide bytes
-segment_not c {rest = rest} h e n = tagged_nothing {G = after_flag} u32-alone h (subst (λ z. ReadsNothing (after_flag z) wide rest) (sym e) n)
+segment_not c {rest = rest} h e n = tagged_nothing {G = after_flag} u32_unique h (subst (λ z. ReadsNothing (after_flag z) wide rest) (sym e) n)
 
 pub segment_none : (bytes : List ℕ) → ReadsNothing u32 wide bytes → ReadsNothing data_item wide bytes
 segment_none bytes n = tagged_none u32 after_flag bytes n
 
 pub segment_unknown : (bytes rest : List ℕ) (n : ℕ) → Reads u32 wide bytes n rest → 3 ≤ n → ReadsNothing data_item wide bytes
-segment_unknown bytes rest n h l = tagged_nothing {G = after_flag} u32-alone h (no_choice data_tags n rest ((λ e. omega (arith, l, e)), ((λ e. omega (arith, l, e)), ((λ e. omega (arith, l, e)), tt))))
+segment_unknown bytes rest n h l = tagged_nothing {G = after_flag} u32_unique h (no_choice data_tags n rest ((λ e. omega (arith, l, e)), ((λ e. omega (arith, l, e)), ((λ e. omega (arith, l, e)), tt))))
 
 pub first_reads : (bytes rest last : List ℕ) (n : ℕ) (is : List Plain) (x : List ℕ) → Reads u32 wide bytes n rest → n ≡ 0 → Reads placed wide rest (is, x) last → Reads data_item wide bytes (active 0 is x) last
 first_reads bytes rest last n is x h e g = segment_at 0 h e (mapped_reads in_first g)
@@ -82,9 +82,9 @@ pub other_no_memory : (bytes rest : List ℕ) (n : ℕ) → Reads u32 wide bytes
 other_no_memory bytes rest n h e none = segment_not 2 h e (mapped_nothing in_memory (then_nothing_first (such_none IsOther none)))
 
 pub other_zero : (bytes rest next : List ℕ) (n m : ℕ) → Reads u32 wide bytes n rest → n ≡ 2 → Reads u32 wide rest m next → m ≡ 0 → ReadsNothing data_item wide bytes
-other_zero bytes rest next n m h e g z = segment_not 2 h e (mapped_nothing in_memory (then_nothing_first (such_nothing IsOther u32-alone g (λ p. omega (arith, p, z)))))
+other_zero bytes rest next n m h e g z = segment_not 2 h e (mapped_nothing in_memory (then_nothing_first (such_nothing IsOther u32_unique g (λ p. omega (arith, p, z)))))
 
 pub other_none : (bytes rest next : List ℕ) (n m : ℕ) → Reads u32 wide bytes n rest → n ≡ 2 → Reads u32 wide rest m next → m ≢ 0 → ReadsNothing placed wide next → ReadsNothing data_item wide bytes
-other_none bytes rest next n m h e g p none = segment_not 2 h e (mapped_nothing in_memory (then_nothing_second (such-alone IsOther u32-alone) (such_reads IsOther g (omega (arith, p))) none))
+other_none bytes rest next n m h e g p none = segment_not 2 h e (mapped_nothing in_memory (then_nothing_second (such_unique IsOther u32_unique) (such_reads IsOther g (omega (arith, p))) none))
 
 pub ruleset segment_steps = (segment_unknown, first_reads, other_zero)

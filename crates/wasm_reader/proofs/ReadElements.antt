@@ -7,15 +7,15 @@ use Rattle.wasm_base.specs.Formats.{Format, u32, byte, fixed, mapped, numbered, 
 use Rattle.wasm_base.specs.Reading.{Reads, ReadsNothing}
 use Rattle.wasm_base.specs.Types.{ref_type, FUNCREF}
 use Rattle.wasm_base.specs.declared.types.RefType.{RefType}
-use Rattle.wasm_base.proofs.NumberLaws.{u32-alone}
+use Rattle.wasm_base.proofs.NumberLaws.{u32_unique}
 use Rattle.wasm_base.proofs.ReadingSteps.{reads_same, then_reads, then_nothing_first, then_nothing_second, mapped_reads, mapped_nothing}
-use Rattle.wasm_base.proofs.FormatLaws.{byte-alone, fixed-alone}
+use Rattle.wasm_base.proofs.FormatLaws.{byte_unique, fixed_unique}
 use Rattle.wasm_base.proofs.Tags.{tagged_reads, tagged_none, tagged_nothing, fixed_reads}
 use Rattle.wasm_code.specs.Expressions.{expression}
 use Rattle.wasm_immediates.proofs.ImmediateLaws.{bit_value}
 use Rattle.wasm_insn.specs.Plain.{Plain}
 use Rattle.wasm_sections.specs.Elements.{Place, passive, declared, active, ElementList, functions, expressions, Segment, ElementFlag, flag_code, tells_kind, in_no_table, in_table, place, list_of, elements_as, segment_of, element}
-use Rattle.wasm_sections.proofs.ElementLaws.{element_flag-alone, place-alone}
+use Rattle.wasm_sections.proofs.ElementLaws.{element_flag_unique, place_unique}
 use Rattle.wasm_sections.proofs.FlagLaws.{weight_is, bit_low}
 use Rattle.wasm_reader.proofs.Prefixes.{prefixed_reads, prefixed_nothing, prefixed_other}
 
@@ -39,7 +39,7 @@ flag_small f = omega (arith, bit_low f.not_active, bit_low f.second, bit_low f.e
 
 pub flag_unknown : (bytes rest : List ℕ) (b : ℕ) → Reads u32 wide bytes b rest → 8 ≤ b → ReadsNothing (numbered flag_code) wide bytes
 flag_unknown bytes rest b h l = record {
-  none = λ f last g. let same = reads_same u32-alone h (record { front = g.front; split = g.split; spelled = g.spelled }) in omega (arith, l, same.0, flag_small f);
+  none = λ f last g. let same = reads_same u32_unique h (record { front = g.front; split = g.split; spelled = g.spelled }) in omega (arith, l, same.0, flag_small f);
 }
 
 pub ruleset flag_steps = (flag_reads)
@@ -102,7 +102,7 @@ functions_no_kind told bytes p n =
 
 pub functions_other : (told : Bool) (bytes rest : List ℕ) (b : ℕ) → told ≡ true → Reads byte wide bytes b rest → b ≢ 0x00 → ReadsNothing (elements_as told false) wide bytes
 functions_other told bytes rest b p h other =
-    no_functions_at told p (mapped_nothing functions (prefixed_other (0x00 ∷ []) (vec u32) (λ q e. other (reads_same byte-alone h (record { front = 0x00 ∷ []; split = e; spelled = refl })).0)))
+    no_functions_at told p (mapped_nothing functions (prefixed_other (0x00 ∷ []) (vec u32) (λ q e. other (reads_same byte_unique h (record { front = 0x00 ∷ []; split = e; spelled = refl })).0)))
 
 pub functions_none : (told : Bool) (bytes rest : List ℕ) (b : ℕ) → told ≡ true → Reads byte wide bytes b rest → b ≡ 0x00 → ReadsNothing (vec u32) wide rest → ReadsNothing (elements_as told false) wide bytes
 functions_none told bytes rest b p h e n = no_functions_at told p (mapped_nothing functions (prefixed_nothing (0x00 ∷ []) (vec u32) (behind_kind h e) n))
@@ -139,7 +139,7 @@ pub expressions_untold : (told : Bool) (bytes last : List ℕ) (es : List (List 
 expressions_untold told bytes last es p h = expressions_at told p (mapped_reads list_of (then_reads (fixed_reads bytes FUNCREF) h))
 
 pub expressions_none_untold : (told : Bool) (bytes : List ℕ) → told ≡ false → ReadsNothing (vec expression) wide bytes → ReadsNothing (elements_as told true) wide bytes
-expressions_none_untold told bytes p n = no_expressions_at told p (mapped_nothing list_of (then_nothing_second (fixed-alone [] FUNCREF) (fixed_reads bytes FUNCREF) n))
+expressions_none_untold told bytes p n = no_expressions_at told p (mapped_nothing list_of (then_nothing_second (fixed_unique [] FUNCREF) (fixed_reads bytes FUNCREF) n))
 
 pub ruleset expression_steps = (expressions_read)
 
@@ -172,9 +172,9 @@ pub element_none : (bytes : List ℕ) → ReadsNothing (numbered flag_code) wide
 element_none bytes n = tagged_none (numbered flag_code) after_flag bytes n
 
 pub element_no_place : (bytes start : List ℕ) (f : ElementFlag) → Reads (numbered flag_code) wide bytes f start → ReadsNothing (place f) wide start → ReadsNothing element wide bytes
-element_no_place bytes start f h n = tagged_nothing {G = after_flag} element_flag-alone h (mapped_nothing segment_of (then_nothing_first n))
+element_no_place bytes start f h n = tagged_nothing {G = after_flag} element_flag_unique h (mapped_nothing segment_of (then_nothing_first n))
 
 pub element_no_list : (bytes start middle : List ℕ) (f : ElementFlag) (p : Place (List Plain)) → Reads (numbered flag_code) wide bytes f start → Reads (place f) wide start p middle → ReadsNothing (elements_as (tells_kind f) f.expressions) wide middle → ReadsNothing element wide bytes
-element_no_list bytes start middle f p h g n = tagged_nothing {G = after_flag} element_flag-alone h (mapped_nothing segment_of (then_nothing_second (place-alone f) g n))
+element_no_list bytes start middle f p h g n = tagged_nothing {G = after_flag} element_flag_unique h (mapped_nothing segment_of (then_nothing_second (place_unique f) g n))
 
 pub ruleset element_steps = (element_no_list)

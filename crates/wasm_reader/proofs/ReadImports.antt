@@ -4,8 +4,8 @@ use Rattle.std.proofs.lemmas.List.{take_all}
 use Rattle.wasm_base.specs.Numbers.{wide}
 use Rattle.wasm_base.specs.Formats.{Format, u32, byte, name, vec, choice, impossible, pair, prefixed, mapped}
 use Rattle.wasm_base.specs.Reading.{Reads, ReadsNothing}
-use Rattle.wasm_base.proofs.BaseLaws.{name-alone}
-use Rattle.wasm_base.proofs.FormatLaws.{byte-alone, tagged_at}
+use Rattle.wasm_base.proofs.BaseLaws.{name_unique}
+use Rattle.wasm_base.proofs.FormatLaws.{byte_unique, tagged_at}
 use Rattle.wasm_base.proofs.ReadingSteps.{then_reads, then_nothing_first, then_nothing_second, mapped_reads, mapped_nothing}
 use Rattle.wasm_base.proofs.Tags.{tagged_reads, tagged_none, tagged_nothing, no_choice, one_of_nothing, one_of_left, one_of_right}
 use Rattle.wasm_sections.specs.Globals.{global_type}
@@ -19,7 +19,7 @@ use Rattle.wasm_sections.specs.declared.import.EntityType.TheVariants.{Function,
 use Rattle.wasm_sections.specs.declared.memory.MemoryType.{MemoryType}
 use Rattle.wasm_sections.specs.declared.table.TableType.{TableType}
 use Rattle.wasm_sections.specs.declared.tag.TagType.{TagType}
-use Rattle.wasm_sections.proofs.ImportLaws.{entity-alone, entity_begins, IsGroupByte, group_begins, empty_name}
+use Rattle.wasm_sections.proofs.ImportLaws.{entity_unique, entity_begins, IsGroupByte, group_begins, empty_name}
 use Rattle.wasm_reader.proofs.Prefixes.{prefixed_reads, prefixed_nothing}
 
 -- ---- entities
@@ -31,13 +31,13 @@ entity_at : (c : ℕ) {bytes rest last : List ℕ} {b : ℕ} {x : EntityType} �
 entity_at c {rest = rest} {last = last} {x = x} h e g = tagged_reads {G = after_kind} h (subst (λ z. Reads (after_kind z) wide rest x last) (sym e) g)
 
 entity_not : (c : ℕ) {bytes rest : List ℕ} {b : ℕ} → Reads byte wide bytes b rest → b ≡ c → ReadsNothing (after_kind c) wide rest → ReadsNothing entity wide bytes
-entity_not c {rest = rest} h e n = tagged_nothing {G = after_kind} byte-alone h (subst (λ z. ReadsNothing (after_kind z) wide rest) (sym e) n)
+entity_not c {rest = rest} h e n = tagged_nothing {G = after_kind} byte_unique h (subst (λ z. ReadsNothing (after_kind z) wide rest) (sym e) n)
 
 pub entity_none : (bytes : List ℕ) → ReadsNothing byte wide bytes → ReadsNothing entity wide bytes
 entity_none bytes n = tagged_none byte after_kind bytes n
 
 pub entity_unknown : (bytes rest : List ℕ) (b : ℕ) → Reads byte wide bytes b rest → b ≢ 0x00 → b ≢ 0x01 → b ≢ 0x02 → b ≢ 0x03 → b ≢ 0x04 → b ≢ 0x20 → ReadsNothing entity wide bytes
-entity_unknown bytes rest b h p q r s t u = tagged_nothing {G = after_kind} byte-alone h (no_choice entity_tags b rest (p, (q, (r, (s, (t, (u, tt)))))))
+entity_unknown bytes rest b h p q r s t u = tagged_nothing {G = after_kind} byte_unique h (no_choice entity_tags b rest (p, (q, (r, (s, (t, (u, tt)))))))
 
 pub entity_function : (bytes rest last : List ℕ) (b n : ℕ) → Reads byte wide bytes b rest → b ≡ 0x00 → Reads u32 wide rest n last → Reads entity wide bytes (Function n) last
 entity_function bytes rest last b n h e g = entity_at 0x00 h e (mapped_reads Function g)
@@ -133,13 +133,13 @@ pub single_reads : (bytes rest next last m text : List ℕ) (ty : EntityType) �
 single_reads bytes rest next last m text ty h g k = mapped_reads import_of (then_reads h (one_of_left behind_zero (named_from (then_reads g k))))
 
 single_none : {bytes rest m : List ℕ} → Reads name wide bytes m rest → ReadsNothing behind_zero wide rest → ReadsNothing (pair name entity) wide rest → ReadsNothing import_format wide bytes
-single_none h other n = mapped_nothing import_of (then_nothing_second name-alone h (one_of_nothing (named_nothing n) other))
+single_none h other n = mapped_nothing import_of (then_nothing_second name_unique h (one_of_nothing (named_nothing n) other))
 
 pub single_no_name : (bytes rest m : List ℕ) → Reads name wide bytes m rest → ReadsNothing behind_zero wide rest → ReadsNothing name wide rest → ReadsNothing import_format wide bytes
 single_no_name bytes rest m h other n = single_none h other (then_nothing_first n)
 
 pub single_no_type : (bytes rest next m text : List ℕ) → Reads name wide bytes m rest → ReadsNothing behind_zero wide rest → Reads name wide rest text next → ReadsNothing entity wide next → ReadsNothing import_format wide bytes
-single_no_type bytes rest next m text h other g n = single_none h other (then_nothing_second name-alone g n)
+single_no_type bytes rest next m text h other g n = single_none h other (then_nothing_second name_unique g n)
 
 -- ---- groups
 
@@ -147,7 +147,7 @@ single_no_type bytes rest next m text h other g n = single_none h other (then_no
 not_named : {bytes after : List ℕ} {k : ℕ} → bytes ≡ 0x00 ∷ k ∷ after → 0x7E ≤ k → ReadsNothing named_entity wide bytes
 not_named {after = after} {k = k} e l = record {
   none = λ x last h.
-      let found = tagged_at {F = name} {G = λ item. mapped (single item) entity} name-alone wide (0x00 ∷ []) [] (empty_name wide) (k ∷ after) h.front last x (sym e ∙ h.split) h.spelled in
+      let found = tagged_at {F = name} {G = λ item. mapped (single item) entity} name_unique wide (0x00 ∷ []) [] (empty_name wide) (k ∷ after) h.front last x (sym e ∙ h.split) h.spelled in
       let b = entity_begins wide found.0 found.2.0 found.2.2 in
       let same : k ≡ b.0 = first (found.1 ∙ ap (λ z. z ++ last) b.2) in
       omega (arith, l, same, b.3);
@@ -169,8 +169,8 @@ group_reads c {after = after} {last = last} {k = k} {x = x} h e f g =
 
 group_nothing : {bytes rest after m : List ℕ} {k : ℕ} → Reads name wide bytes m rest → rest ≡ 0x00 ∷ k ∷ after → 0x7E ≤ k → ReadsNothing (after_zero k) wide after → ReadsNothing import_format wide bytes
 group_nothing {after = after} {k = k} h e l n =
-    let inside : ReadsNothing group wide (k ∷ after) = tagged_nothing {G = after_zero} byte-alone (at_byte k after) n in
-    mapped_nothing import_of (then_nothing_second name-alone h (one_of_nothing (not_named e l) (prefixed_nothing (0x00 ∷ []) group e inside)))
+    let inside : ReadsNothing group wide (k ∷ after) = tagged_nothing {G = after_zero} byte_unique (at_byte k after) n in
+    mapped_nothing import_of (then_nothing_second name_unique h (one_of_nothing (not_named e l) (prefixed_nothing (0x00 ∷ []) group e inside)))
 
 pub named_reads : (bytes rest after last m : List ℕ) (k : ℕ) (items : List (List ℕ × EntityType)) → Reads name wide bytes m rest → rest ≡ 0x00 ∷ k ∷ after → k ≡ 0x7F → Reads (vec (pair name entity)) wide after items last
     → Reads import_format wide bytes (record { module_name = m; imported = named items }) last
@@ -190,7 +190,7 @@ pub alike_no_type : (bytes rest after m : List ℕ) (k : ℕ) → Reads name wid
 alike_no_type bytes rest after m k h e f n = alike_none h e f (then_nothing_first n)
 
 pub alike_no_names : (bytes rest after next m : List ℕ) (k : ℕ) (ty : EntityType) → Reads name wide bytes m rest → rest ≡ 0x00 ∷ k ∷ after → k ≡ 0x7E → Reads entity wide after ty next → ReadsNothing (vec name) wide next → ReadsNothing import_format wide bytes
-alike_no_names bytes rest after next m k ty h e f g n = alike_none h e f (then_nothing_second entity-alone g n)
+alike_no_names bytes rest after next m k ty h e f g n = alike_none h e f (then_nothing_second entity_unique g n)
 
 pub group_unknown : (bytes rest after m : List ℕ) (k : ℕ) → Reads name wide bytes m rest → rest ≡ 0x00 ∷ k ∷ after → 0x7E ≤ k → k ≢ 0x7F → k ≢ 0x7E → ReadsNothing import_format wide bytes
 group_unknown bytes rest after m k h e l p q = group_nothing h e l (no_choice group_tags k after (p, (q, tt)))

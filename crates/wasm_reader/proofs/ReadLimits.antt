@@ -6,8 +6,8 @@ use Rattle.wasm_base.specs.Formats.{Format, u32, u64, byte, impossible, mapped, 
 use Rattle.wasm_base.specs.Reading.{Reads, ReadsNothing}
 use Rattle.wasm_base.specs.Types.{ref_type}
 use Rattle.wasm_base.specs.declared.types.RefType.{RefType}
-use Rattle.wasm_base.proofs.BaseLaws.{u64-alone}
-use Rattle.wasm_base.proofs.FormatLaws.{optional-alone}
+use Rattle.wasm_base.proofs.BaseLaws.{u64_unique}
+use Rattle.wasm_base.proofs.FormatLaws.{optional_unique}
 use Rattle.wasm_base.proofs.ReadingSteps.{then_reads, then_nothing_first, then_nothing_second, mapped_reads, mapped_nothing}
 use Rattle.wasm_base.proofs.Tags.{tagged_reads, tagged_none, tagged_nothing, impossible_nothing, code_reads, code_none, code_unknown}
 use Rattle.wasm_immediates.proofs.ImmediateLaws.{bit_value}
@@ -15,7 +15,7 @@ use Rattle.wasm_reader_base.proofs.ReadImmediates.{option_same}
 use Rattle.wasm_sections.specs.Flags.{Flags, flags, flags_code}
 use Rattle.wasm_sections.specs.Memories.{memory_of, after_memory_flags, memory_type}
 use Rattle.wasm_sections.specs.Tables.{Limits, limits_of, after_limits_flags, limits, table_of, table_type}
-use Rattle.wasm_sections.proofs.FlagLaws.{flags-alone, weight_is, bit_low}
+use Rattle.wasm_sections.proofs.FlagLaws.{flags_unique, weight_is, bit_low}
 
 -- ---- flags
 
@@ -53,17 +53,17 @@ pub memory_none : (bytes : List ℕ) → ReadsNothing flags wide bytes → Reads
 memory_none bytes n = tagged_none flags after_memory_flags bytes n
 
 memory_nothing : (bytes start : List ℕ) (f : Flags) → Reads flags wide bytes f start → ReadsNothing (pair u64 (pair (optional f.has_maximum u64) (optional f.has_page_size u32))) wide start → ReadsNothing memory_type wide bytes
-memory_nothing bytes start f h n = tagged_nothing {G = after_memory_flags} flags-alone h (mapped_nothing (memory_of f) n)
+memory_nothing bytes start f h n = tagged_nothing {G = after_memory_flags} flags_unique h (mapped_nothing (memory_of f) n)
 
 pub memory_no_minimum : (bytes start : List ℕ) (f : Flags) → Reads flags wide bytes f start → ReadsNothing u64 wide start → ReadsNothing memory_type wide bytes
 memory_no_minimum bytes start f h n = memory_nothing bytes start f h (then_nothing_first n)
 
 pub memory_no_maximum : (bytes start middle : List ℕ) (f : Flags) (minimum : ℕ) → Reads flags wide bytes f start → Reads u64 wide start minimum middle → ReadsNothing (optional f.has_maximum u64) wide middle → ReadsNothing memory_type wide bytes
-memory_no_maximum bytes start middle f minimum h g n = memory_nothing bytes start f h (then_nothing_second u64-alone g (then_nothing_first n))
+memory_no_maximum bytes start middle f minimum h g n = memory_nothing bytes start f h (then_nothing_second u64_unique g (then_nothing_first n))
 
 pub memory_no_page : (bytes start middle next : List ℕ) (f : Flags) (minimum : ℕ) (maximum : Option ℕ) → Reads flags wide bytes f start → Reads u64 wide start minimum middle → Reads (optional f.has_maximum u64) wide middle (option_map (λ n. n) maximum) next
     → ReadsNothing (optional f.has_page_size u32) wide next → ReadsNothing memory_type wide bytes
-memory_no_page bytes start middle next f minimum maximum h g k n = memory_nothing bytes start f h (then_nothing_second u64-alone g (then_nothing_second (optional-alone f.has_maximum u64-alone) k n))
+memory_no_page bytes start middle next f minimum maximum h g k n = memory_nothing bytes start f h (then_nothing_second u64_unique g (then_nothing_second (optional_unique f.has_maximum u64_unique) k n))
 
 pub ruleset memory_steps = (memory_no_page)
 
@@ -86,16 +86,16 @@ pub limits_none : (bytes : List ℕ) → ReadsNothing flags wide bytes → Reads
 limits_none bytes n = tagged_none flags after_limits_flags bytes n
 
 pub limits_page : (bytes start : List ℕ) (f : Flags) → Reads flags wide bytes f start → f.has_page_size ≡ true → ReadsNothing limits wide bytes
-limits_page bytes start f h e = tagged_nothing {G = after_limits_flags} flags-alone h (subst (λ t. ReadsNothing (when t impossible (limits_rest f)) wide start) (sym e) (impossible_nothing start))
+limits_page bytes start f h e = tagged_nothing {G = after_limits_flags} flags_unique h (subst (λ t. ReadsNothing (when t impossible (limits_rest f)) wide start) (sym e) (impossible_nothing start))
 
 limits_nothing : (bytes start : List ℕ) (f : Flags) → Reads flags wide bytes f start → f.has_page_size ≡ false → ReadsNothing (pair u64 (optional f.has_maximum u64)) wide start → ReadsNothing limits wide bytes
-limits_nothing bytes start f h e n = tagged_nothing {G = after_limits_flags} flags-alone h (subst (λ F. ReadsNothing {X = Limits} F wide start) (sym (no_page f e)) (mapped_nothing (limits_of f) n))
+limits_nothing bytes start f h e n = tagged_nothing {G = after_limits_flags} flags_unique h (subst (λ F. ReadsNothing {X = Limits} F wide start) (sym (no_page f e)) (mapped_nothing (limits_of f) n))
 
 pub limits_no_minimum : (bytes start : List ℕ) (f : Flags) → Reads flags wide bytes f start → f.has_page_size ≡ false → ReadsNothing u64 wide start → ReadsNothing limits wide bytes
 limits_no_minimum bytes start f h e n = limits_nothing bytes start f h e (then_nothing_first n)
 
 pub limits_no_maximum : (bytes start middle : List ℕ) (f : Flags) (minimum : ℕ) → Reads flags wide bytes f start → f.has_page_size ≡ false → Reads u64 wide start minimum middle → ReadsNothing (optional f.has_maximum u64) wide middle → ReadsNothing limits wide bytes
-limits_no_maximum bytes start middle f minimum h e g n = limits_nothing bytes start f h e (then_nothing_second u64-alone g n)
+limits_no_maximum bytes start middle f minimum h e g n = limits_nothing bytes start f h e (then_nothing_second u64_unique g n)
 
 pub ruleset limits_steps = (limits_page)
 

@@ -6,8 +6,8 @@ use Rattle.wasm_base.specs.Going.{FillsNothing}
 use Rattle.wasm_base.specs.Numbers.{wide}
 use Rattle.wasm_base.specs.Formats.{Format, byte, any_bytes, fixed, frame, header, members}
 use Rattle.wasm_base.specs.Reading.{BeginsWith, Reads, ReadsNothing}
-use Rattle.wasm_base.proofs.BaseLaws.{frame-bytes-alone}
-use Rattle.wasm_base.proofs.FormatLaws.{byte-alone, begins_then}
+use Rattle.wasm_base.proofs.BaseLaws.{frame_bytes_unique}
+use Rattle.wasm_base.proofs.FormatLaws.{byte_unique, begins_then}
 use Rattle.wasm_base.proofs.ReadingSteps.{reads_same, then_reads, then_nothing_first, then_nothing_second, members_start, members_step}
 use Rattle.wasm_reader_base.proofs.ReadWhole.{member_shorter}
 use Rattle.wasm_reader.specs.Modules.{kind_among, known_kinds, kind_of, Sized, sized_section, sized_module, line_of, HasLines, StopsBehind}
@@ -66,12 +66,12 @@ as_frame : {kind : SectionKind} {bytes rest : List ℕ} {p : ℕ × Contents} �
 as_frame h = record { front = h.front; split = h.split; spelled = h.spelled.framed }
 
 pub line_no_frame : (bytes rest : List ℕ) (id : ℕ) → Reads byte wide bytes id rest → ReadsNothing (frame any_bytes) wide rest → ReadsNothing sized_section wide bytes
-line_no_frame bytes rest id h n = then_nothing_second {G = λ i. Sized (kind_of i)} byte-alone h (record { none = λ p last g. n.none g.spelled.payload last (as_frame g) })
+line_no_frame bytes rest id h n = then_nothing_second {G = λ i. Sized (kind_of i)} byte_unique h (record { none = λ p last g. n.none g.spelled.payload last (as_frame g) })
 
 pub line_nothing : (bytes rest framed after : List ℕ) (id : ℕ) → Reads byte wide bytes id rest → Reads (frame any_bytes) wide rest framed after → FillsNothing (content (kind_of id)) framed → ReadsNothing sized_section wide bytes
 line_nothing bytes rest framed after id h g n =
-    then_nothing_second {G = λ i. Sized (kind_of i)} byte-alone h (record {
-      none = λ p last k. n.none p.1 (subst (λ z. content (kind_of id) wide z p.1) (sym (reads_same frame-bytes-alone g (as_frame k)).0) k.spelled.holds);
+    then_nothing_second {G = λ i. Sized (kind_of i)} byte_unique h (record {
+      none = λ p last k. n.none p.1 (subst (λ z. content (kind_of id) wide z p.1) (sym (reads_same frame_bytes_unique g (as_frame k)).0) k.spelled.holds);
     })
 
 pub ruleset line_steps = (line_nothing)

@@ -7,8 +7,8 @@ use Rattle.wasm_base.specs.Going.{FillsNothing}
 use Rattle.wasm_base.specs.Numbers.{wide}
 use Rattle.wasm_base.specs.Formats.{Format, any_bytes, any_section, byte, fixed, frame, header, members, vec, wasm_module}
 use Rattle.wasm_base.specs.Reading.{Reads, ReadsNothing, BeginsWith}
-use Rattle.wasm_base.proofs.FormatLaws.{byte-alone, begins_then}
-use Rattle.wasm_base.proofs.ModuleLaws.{section-alone}
+use Rattle.wasm_base.proofs.FormatLaws.{byte_unique, begins_then}
+use Rattle.wasm_base.proofs.ModuleLaws.{section_unique}
 use Rattle.wasm_base.proofs.ReadingSteps.{then_nothing_first, then_nothing_second}
 use Rattle.wasm_types.specs.RecTypes.{TypeItem, type_item}
 use Rattle.wasm_reader.specs.Modules.{number_in}
@@ -19,7 +19,7 @@ use Rattle.wasm_reader.specs.declared.section.SectionKind.{SectionKind}
 use Rattle.wasm_reader.specs.declared.section.SectionKind.TheVariants as kinds
 use Rattle.wasm_reader.proofs.ModuleLaws.{one_way}
 use Rattle.wasm_reader.proofs.Prefixes.{prefixed_reads}
-use Rattle.wasm_reader.proofs.ShortSections.{content-whole}
+use Rattle.wasm_reader.proofs.ShortSections.{content_whole}
 
 -- ---- a section as it stands
 
@@ -40,7 +40,7 @@ pub no_id : (bytes : List ℕ) → ReadsNothing byte wide bytes → ReadsNothing
 no_id bytes n = then_nothing_first n
 
 pub no_frame : (bytes rest : List ℕ) (id : ℕ) → Reads byte wide bytes id rest → ReadsNothing (frame any_bytes) wide rest → ReadsNothing any_section wide bytes
-no_frame bytes rest id h n = then_nothing_second {G = λ i. frame any_bytes} byte-alone h n
+no_frame bytes rest id h n = then_nothing_second {G = λ i. frame any_bytes} byte_unique h n
 
 pub ruleset standing_steps = (framed_is, section_split)
 
@@ -48,7 +48,7 @@ pub ruleset standing_steps = (framed_is, section_split)
 
 same_count : (kind : SectionKind) (payload : List ℕ) (x : Contents) (number : Option ℕ) → content kind wide payload x → count_in x ≡ number → IsCount kind payload number
 same_count kind payload x (Some n) h e = (x, h, e)
-same_count kind payload x None h e = λ y g. ap count_in ((content-whole kind).whole wide payload y x g h) ∙ e
+same_count kind payload x None h e = λ y g. ap count_in ((content_whole kind).whole wide payload y x g h) ∙ e
 
 pub types_counted : (payload : List ℕ) (types : List TypeItem) (n : ℕ) → vec type_item wide payload types → n ≡ length types → IsCount kinds.Types payload (Some n)
 types_counted payload types n h e = (Types types, (types, refl, h), ap Some (sym e))
@@ -140,7 +140,7 @@ no_module bytes start rest xs e h more n = record {
       let back : header ++ start ≡ header ++ t.back = sym e ∙ t.joined ∙ ap (λ z. z ++ t.back) t.first.0 in
       let ys' = subst (λ z. members any_section wide t.back z) g.1 t.second in
       let split : h.front ++ rest ≡ t.back ++ [] = sym h.split ∙ cancel start t.back back ∙ sym (append-nil t.back) in
-      more (one_way any_section (section-alone.alone wide) any_begins h.front t.back rest [] xs ys h.spelled ys' split (λ m. n) (λ m. absurd (m refl))).1;
+      more (one_way any_section (section_unique.alone wide) any_begins h.front t.back rest [] xs ys h.spelled ys' split (λ m. n) (λ m. absurd (m refl))).1;
 }
   where
     cancel : (a b : List ℕ) → header ++ a ≡ header ++ b → a ≡ b

@@ -6,8 +6,8 @@ use Rattle.std.proofs.lemmas.List.{append_cancel_left}
 use Rattle.wasm_base.specs.Numbers.{shortest, wide}
 use Rattle.wasm_base.specs.Formats.{Format, any_bytes, frame, header, name}
 use Rattle.wasm_base.specs.Reading.{Reads, ReadsNothing}
-use Rattle.wasm_base.proofs.BaseLaws.{frame-bytes-alone, name-alone}
-use Rattle.wasm_base.proofs.NumberLaws.{u32-alone}
+use Rattle.wasm_base.proofs.BaseLaws.{frame_bytes_unique, name_unique}
+use Rattle.wasm_base.proofs.NumberLaws.{u32_unique}
 use Rattle.wasm_base.proofs.ReadingSteps.{reads_same}
 use Rattle.wasm_custom.specs.Customs.{named_payload}
 use Rattle.wasm_custom.specs.CoreDumps.{core_name, modules_name, instances_name}
@@ -26,7 +26,7 @@ use Rattle.wasm_reader.specs.declared.whole.How.TheVariants.{Shortest, Kept, Lef
 use Rattle.wasm_reader.specs.declared.whole.Offsets.{Offsets}
 use Rattle.wasm_reader.specs.declared.whole.Offsets.TheVariants.{LeaveOut}
 use Rattle.wasm_reader.proofs.ShortModules.{sections_of, bytes_joined}
-use Rattle.wasm_reader.proofs.ShortSections.{section-alone}
+use Rattle.wasm_reader.proofs.ShortSections.{section_unique}
 
 -- ---- names
 
@@ -54,8 +54,8 @@ named_front : {X : Type 0} (m : List ℕ) (F : Format X) (s t rest n : List ℕ)
 named_front m F s t rest n x y h g r =
     let a = h.2 in
     let b = g.2 in
-    let same : n ≡ m = (reads_same name-alone r (record { front = a.front; split = a.joined; spelled = a.first })).0 in
-    (b.back, subst (λ z. Reads name wide t z b.back) (sym same) (record { front = b.front; split = b.joined; spelled = name-alone.spellings.wider b.front m b.first }))
+    let same : n ≡ m = (reads_same name_unique r (record { front = a.front; split = a.joined; spelled = a.first })).0 in
+    (b.back, subst (λ z. Reads name wide t z b.back) (sym same) (record { front = b.front; split = b.joined; spelled = name_unique.spellings.wider b.front m b.first }))
 
 keeps_name : (n : List ℕ) → KeepsName n (kind_named n)
 keeps_name n = for_named (KeepsName n)
@@ -70,14 +70,14 @@ keeps_name n = for_named (KeepsName n)
     (λ s t rest x h g r.
     let a = h.2 in
     let b = g.2 in
-    let same : n ≡ h.0.0 = (reads_same name-alone r (record { front = a.front; split = a.joined; spelled = a.first })).0 in
+    let same : n ≡ h.0.0 = (reads_same name_unique r (record { front = a.front; split = a.joined; spelled = a.first })).0 in
     let told : h.0 ≡ g.0 = cc (h.1 ∙ sym g.1) in
-    (b.back, subst (λ z. Reads name wide t z b.back) (sym (same ∙ ap (λ z. z.0) told)) (record { front = b.front; split = b.joined; spelled = name-alone.spellings.wider b.front g.0.0 b.first })))
+    (b.back, subst (λ z. Reads name wide t z b.back) (sym (same ∙ ap (λ z. z.0) told)) (record { front = b.front; split = b.joined; spelled = name_unique.spellings.wider b.front g.0.0 b.first })))
     n
 
 one_name : (id : ℕ) (payload : List ℕ) (a b : Option (List ℕ)) → IsNameOf id payload a → IsNameOf id payload b → a ≡ b
 one_name id payload None None h g = refl
-one_name id payload (Some n) (Some m) h g = ap Some (reads_same name-alone h.2 g.2).0
+one_name id payload (Some n) (Some m) h g = ap Some (reads_same name_unique h.2 g.2).0
 one_name id payload (Some n) None h g = absurd ((g h.0).none n h.1 h.2)
 one_name id payload None (Some m) h g = absurd ((h g.0).none m g.1 g.2)
 
@@ -85,7 +85,7 @@ one_name id payload None (Some m) h g = absurd ((h g.0).none m g.1 g.2)
 
 -- What a frame holds, where it stands alone.
 one_payload : (s p q : List ℕ) → frame any_bytes wide s p → frame any_bytes wide s q → p ≡ q
-one_payload s p q h g = (frame-bytes-alone.alone wide s s [] [] p q h g refl).0
+one_payload s p q h g = (frame_bytes_unique.alone wide s s [] [] p q h g refl).0
 
 -- What is read of a section's frame, as a section of the kind.
 record ReadOf (kind : SectionKind) (s : Section) (x : Contents) : Type 0 where
@@ -99,7 +99,7 @@ read_of kind s text i h =
     let any : frame any_bytes wide r.front f.content = record { front = f.front; content = f.content; joined = f.joined; size = f.size; spelled = refl } in
     let read : Reads (frame any_bytes) wide s.framed f.content (drop (length s.framed) s.framed) = record { front = r.front; split = r.split; spelled = any } in
     let all : Reads (frame any_bytes) wide s.framed s.payload [] = record { front = s.framed; split = sym (append-nil s.framed); spelled = i.holds } in
-    let same = reads_same frame-bytes-alone all read in
+    let same = reads_same frame_bytes_unique all read in
     let front : s.framed ≡ r.front = r.split ∙ ap (λ z. r.front ++ z) (sym same.1) ∙ append-nil r.front in
     record { holds = subst (λ z. content kind wide z h.value) (sym same.0) f.spelled; whole = subst (λ z. section kind wide z h.value) (sym front) f }
 
@@ -120,7 +120,7 @@ module _ (offsets : Offsets) (w v : Rewrite) (i : IsSection w.section) (j : IsSe
   name_after (Some n) e h g =
       let read = read_of (kind_named n) w.section w.text i h in
       let f = h.spelled in
-      let any : frame any_bytes wide h.text f.content = record { front = f.front; content = f.content; joined = f.joined; size = u32-alone.spellings.wider f.front (length f.content) f.size; spelled = refl } in
+      let any : frame any_bytes wide h.text f.content = record { front = f.front; content = f.content; joined = f.joined; size = u32_unique.spellings.wider f.front (length f.content) f.size; spelled = refl } in
       let same : f.content ≡ v.section.payload = one_payload v.section.framed f.content v.section.payload (subst (λ z. frame any_bytes wide z f.content) (sym h.appended ∙ s.text) any) j.holds in
       let kept = keeps_name n w.section.payload f.content g.1 h.value read.holds f.spelled g.2 in
       one_name v.section.id v.section.payload v.section.name (Some n) j.named (sym s.id ∙ g.0, kept.0, subst (λ z. Reads name wide z n kept.0) same kept.1)
@@ -146,7 +146,7 @@ module _ (offsets : Offsets) (w v : Rewrite) (i : IsSection w.section) (j : IsSe
   shortest_again Shortest h n g =
       let kind = kind_of w.section in
       let k : Shortens kind v.section.framed (length v.section.framed) [] v.text = subst (λ z. Shortens z v.section.framed (length v.section.framed) [] v.text) (same_kind Shortest h n) g in
-      let alone = section-alone kind in
+      let alone = section_unique kind in
       let first : section kind shortest v.section.framed h.0.value = subst (λ z. section kind shortest z h.0.value) (sym h.0.appended ∙ s.text) h.0.spelled in
       let read = read_of kind v.section v.text j k in
       let same : h.0.value ≡ k.value = (alone.alone wide v.section.framed v.section.framed [] [] h.0.value k.value (alone.spellings.wider v.section.framed h.0.value first) read.whole refl).0 in
@@ -179,7 +179,7 @@ text_framed : (offsets : Offsets) (w : Rewrite) (how : How) → IsSection w.sect
 text_framed offsets w Shortest i h n =
     let t = h.0 in
     let f = t.spelled in
-    let any : frame any_bytes wide t.text f.content = record { front = f.front; content = f.content; joined = f.joined; size = u32-alone.spellings.wider f.front (length f.content) f.size; spelled = refl } in
+    let any : frame any_bytes wide t.text f.content = record { front = f.front; content = f.content; joined = f.joined; size = u32_unique.spellings.wider f.front (length f.content) f.size; spelled = refl } in
     record { payload = f.content; framed = subst (λ z. frame any_bytes wide z f.content) (sym t.appended) any }
 text_framed offsets w Kept i h n = record { payload = w.section.payload; framed = subst (λ z. frame any_bytes wide z w.section.payload) (sym h.0.0) i.holds }
 text_framed offsets w LeftOut i h n = absurd (n refl)
@@ -190,7 +190,7 @@ module _ (offsets : Offsets) where
   next w rest how i h n v behind j e =
       let f = text_framed offsets w how i h n in
       let tails : w.text ++ rest ≡ v.section.framed ++ behind = cc e in
-      let same = frame-bytes-alone.alone wide w.text v.section.framed rest behind f.payload v.section.payload f.framed j.holds tails in
+      let same = frame_bytes_unique.alone wide w.text v.section.framed rest behind f.payload v.section.payload f.framed j.holds tails in
       (record { id = cc e; text = same.1 }, same.2)
 
   -- One section was written, and the others stand behind it.

@@ -9,8 +9,8 @@ use Rattle.wasm_base.specs.Going.{FillsNothing}
 use Rattle.wasm_base.specs.Numbers.{wide}
 use Rattle.wasm_base.specs.Formats.{any_bytes, any_section, frame, header, members, wasm_module}
 use Rattle.wasm_base.specs.Reading.{Reads, ReadsNothing}
-use Rattle.wasm_base.proofs.BaseLaws.{frame-bytes-alone}
-use Rattle.wasm_base.proofs.NumberLaws.{u32-alone}
+use Rattle.wasm_base.proofs.BaseLaws.{frame_bytes_unique}
+use Rattle.wasm_base.proofs.NumberLaws.{u32_unique}
 use Rattle.wasm_base.proofs.ReadingSteps.{reads_same}
 use Rattle.wasm_reader.specs.Outlines.{Section, IsSection, IsNameOf, HasSections, bytes_of, EndsAt}
 use Rattle.wasm_reader.specs.Sections.{Takes, Shortens}
@@ -33,7 +33,7 @@ whole_frame kind s n old new i h =
     let f = r.spelled in
     let any : frame any_bytes wide r.front f.content = record { front = f.front; content = f.content; joined = f.joined; size = f.size; spelled = refl } in
     let read : Reads (frame any_bytes) wide s.framed f.content (drop n s.framed) = record { front = r.front; split = r.split; spelled = any } in
-    let same = reads_same frame-bytes-alone all read in
+    let same = reads_same frame_bytes_unique all read in
     let taken : n ≡ length s.framed = omega (arith, ap length same.1, length-drop n s.framed, h.takes.within) in (
       h.text,
       record {
@@ -263,7 +263,7 @@ module _ (w : Rewrite) (bytes ids : List ℕ) (rest : SpelledWith bytes ids) whe
   one_written offsets Shortest i g =
       let t = g.0 in
       let f = t.spelled in
-      let any : frame any_bytes wide t.text f.content = record { front = f.front; content = f.content; joined = f.joined; size = u32-alone.spellings.wider f.front (length f.content) f.size; spelled = refl } in
+      let any : frame any_bytes wide t.text f.content = record { front = f.front; content = f.content; joined = f.joined; size = u32_unique.spellings.wider f.front (length f.content) f.size; spelled = refl } in
       one_more w.section.id w.text f.content bytes ids (subst (λ z. frame any_bytes wide z f.content) (sym t.appended) any) rest
   one_written offsets Kept i g = one_more w.section.id w.text w.section.payload bytes ids (subst (λ z. frame any_bytes wide z w.section.payload) (sym g.0.0) i.holds) rest
   one_written offsets LeftOut i g = rest

@@ -5,13 +5,13 @@ use Rattle.wasm_base.specs.Numbers.{shortest, wide}
 use Rattle.wasm_base.specs.Formats.{u32, name, any_bytes, frame, pair, vec}
 use Rattle.wasm_base.specs.Reading.{UniqueReading, UniqueWholeReading, Reads}
 use Rattle.wasm_base.specs.Texts.{frame_text, FrameFits, vec_text, VecFits}
-use Rattle.wasm_base.proofs.BaseLaws.{name-alone}
-use Rattle.wasm_base.proofs.FormatLaws.{vec-alone, frame-alone, whole_from_alone, mapped-whole, pair-whole, any_bytes-whole}
-use Rattle.wasm_base.proofs.NumberLaws.{u32-alone}
+use Rattle.wasm_base.proofs.BaseLaws.{name_unique}
+use Rattle.wasm_base.proofs.FormatLaws.{vec_unique, frame_unique, whole_from_alone, mapped_whole, pair_whole, any_bytes_whole}
+use Rattle.wasm_base.proofs.NumberLaws.{u32_unique}
 use Rattle.wasm_base.proofs.ReadingSteps.{reads_same}
 use Rattle.wasm_base.proofs.TextLaws.{frame_spelled}
 use Rattle.wasm_code.specs.Bodies.{Body, body}
-use Rattle.wasm_code.proofs.BodyLaws.{frame-body-alone}
+use Rattle.wasm_code.proofs.BodyLaws.{frame_body_unique}
 use Rattle.wasm_insn.specs.Plain.{Plain}
 use Rattle.wasm_sections.specs.DataSegments.{DataItem, data_item}
 use Rattle.wasm_sections.specs.Elements.{Segment, element}
@@ -24,16 +24,16 @@ use Rattle.wasm_sections.specs.Tags.{tag_text, tag_type}
 use Rattle.wasm_sections.specs.declared.export.Export.{Export}
 use Rattle.wasm_sections.specs.declared.memory.MemoryType.{MemoryType}
 use Rattle.wasm_sections.specs.declared.tag.TagType.{TagType}
-use Rattle.wasm_sections.proofs.DataLaws.{data-alone}
-use Rattle.wasm_sections.proofs.ElementLaws.{element-alone}
-use Rattle.wasm_sections.proofs.ExportLaws.{export-alone}
-use Rattle.wasm_sections.proofs.GlobalLaws.{global_item-alone}
-use Rattle.wasm_sections.proofs.ImportLaws.{import-alone}
-use Rattle.wasm_sections.proofs.MemoryLaws.{memory-alone, memory_spelled}
-use Rattle.wasm_sections.proofs.TableLaws.{table_item-alone}
-use Rattle.wasm_sections.proofs.TagLaws.{tag-alone, tag_spelled}
+use Rattle.wasm_sections.proofs.DataLaws.{data_unique}
+use Rattle.wasm_sections.proofs.ElementLaws.{element_unique}
+use Rattle.wasm_sections.proofs.ExportLaws.{export_unique}
+use Rattle.wasm_sections.proofs.GlobalLaws.{global_item_unique}
+use Rattle.wasm_sections.proofs.ImportLaws.{import_unique}
+use Rattle.wasm_sections.proofs.MemoryLaws.{memory_unique, memory_spelled}
+use Rattle.wasm_sections.proofs.TableLaws.{table_item_unique}
+use Rattle.wasm_sections.proofs.TagLaws.{tag_unique, tag_spelled}
 use Rattle.wasm_types.specs.RecTypes.{TypeItem, type_item}
-use Rattle.wasm_types.proofs.TypeLaws.{type-alone}
+use Rattle.wasm_types.proofs.TypeLaws.{type_unique}
 use Rattle.wasm_custom.specs.CoreDumps.{Instance}
 use Rattle.wasm_custom.specs.CoreStacks.{Frame}
 use Rattle.wasm_custom.specs.Hints.{Hints as FunctionHints}
@@ -41,7 +41,7 @@ use Rattle.wasm_custom.specs.Linking.{LinkItem}
 use Rattle.wasm_custom.specs.Names.{NameItem}
 use Rattle.wasm_custom.specs.Producers.{Field}
 use Rattle.wasm_custom.specs.Readings.{name_payload, linking_payload, producers_payload, hints_payload, core_payload, modules_payload, instances_payload, stack_payload}
-use Rattle.wasm_custom.proofs.SectionLaws.{name-whole, linking-whole, producers-whole, hints-whole, modules-whole, instances-whole, core-whole, stack-whole}
+use Rattle.wasm_custom.proofs.SectionLaws.{name_whole, linking_whole, producers_whole, hints_whole, modules_whole, instances_whole, core_whole, stack_whole}
 use Rattle.wasm_reader_base.specs.Shortest.{AppendsShortest}
 use Rattle.wasm_reader_base.proofs.ShortTexts.{text_appended, pair_appended, mapped_appended, records_appended}
 use Rattle.wasm_reader.specs.Sections.{Contents, Bodies, Segments, DataCount, Elements, Exports, Functions, Globals, Imports, Memories, Start, Tables, Tags, Types, Names, Linking, Producers, Hints, Core, CoreModules, CoreInstances, CoreStack, Custom, Raw, content, kind_in, section, Takes, Shortens, HaveOneText}
@@ -133,33 +133,33 @@ pub ruleset contents = (exports, functions, memories, tags, custom, raw)
 
 -- ---- sections
 
-pub content-whole : (kind : SectionKind) → UniqueWholeReading (content kind)
-content-whole kinds.Bodies = mapped-whole Bodies (λ x y e. cc) (whole_from_alone (vec-alone frame-body-alone))
-content-whole kinds.Segments = mapped-whole Segments (λ x y e. cc) (whole_from_alone (vec-alone data-alone))
-content-whole kinds.DataCount = mapped-whole DataCount (λ x y e. cc) (whole_from_alone u32-alone)
-content-whole kinds.Elements = mapped-whole Elements (λ x y e. cc) (whole_from_alone (vec-alone element-alone))
-content-whole kinds.Exports = mapped-whole Exports (λ x y e. cc) (whole_from_alone (vec-alone export-alone))
-content-whole kinds.Functions = mapped-whole Functions (λ x y e. cc) (whole_from_alone (vec-alone u32-alone))
-content-whole kinds.Globals = mapped-whole Globals (λ x y e. cc) (whole_from_alone (vec-alone global_item-alone))
-content-whole kinds.Imports = mapped-whole Imports (λ x y e. cc) (whole_from_alone (vec-alone import-alone))
-content-whole kinds.Memories = mapped-whole Memories (λ x y e. cc) (whole_from_alone (vec-alone memory-alone))
-content-whole kinds.Start = mapped-whole Start (λ x y e. cc) (whole_from_alone u32-alone)
-content-whole kinds.Tables = mapped-whole Tables (λ x y e. cc) (whole_from_alone (vec-alone table_item-alone))
-content-whole kinds.Tags = mapped-whole Tags (λ x y e. cc) (whole_from_alone (vec-alone tag-alone))
-content-whole kinds.Names = mapped-whole Names (λ x y e. cc) name-whole
-content-whole kinds.Linking = mapped-whole Linking (λ x y e. cc) linking-whole
-content-whole kinds.Producers = mapped-whole Producers (λ x y e. cc) producers-whole
-content-whole kinds.Hints = mapped-whole Hints (λ x y e. cc) hints-whole
-content-whole kinds.Core = mapped-whole Core (λ x y e. cc) core-whole
-content-whole kinds.CoreModules = mapped-whole CoreModules (λ x y e. cc) modules-whole
-content-whole kinds.CoreInstances = mapped-whole CoreInstances (λ x y e. cc) instances-whole
-content-whole kinds.CoreStack = mapped-whole CoreStack (λ x y e. cc) stack-whole
-content-whole kinds.Custom = mapped-whole Custom (λ x y e. cc) (pair-whole name-alone any_bytes-whole)
-content-whole kinds.Raw = mapped-whole Raw (λ x y e. cc) any_bytes-whole
-content-whole kinds.Types = mapped-whole Types (λ x y e. cc) (whole_from_alone (vec-alone type-alone))
+pub content_whole : (kind : SectionKind) → UniqueWholeReading (content kind)
+content_whole kinds.Bodies = mapped_whole Bodies (λ x y e. cc) (whole_from_alone (vec_unique frame_body_unique))
+content_whole kinds.Segments = mapped_whole Segments (λ x y e. cc) (whole_from_alone (vec_unique data_unique))
+content_whole kinds.DataCount = mapped_whole DataCount (λ x y e. cc) (whole_from_alone u32_unique)
+content_whole kinds.Elements = mapped_whole Elements (λ x y e. cc) (whole_from_alone (vec_unique element_unique))
+content_whole kinds.Exports = mapped_whole Exports (λ x y e. cc) (whole_from_alone (vec_unique export_unique))
+content_whole kinds.Functions = mapped_whole Functions (λ x y e. cc) (whole_from_alone (vec_unique u32_unique))
+content_whole kinds.Globals = mapped_whole Globals (λ x y e. cc) (whole_from_alone (vec_unique global_item_unique))
+content_whole kinds.Imports = mapped_whole Imports (λ x y e. cc) (whole_from_alone (vec_unique import_unique))
+content_whole kinds.Memories = mapped_whole Memories (λ x y e. cc) (whole_from_alone (vec_unique memory_unique))
+content_whole kinds.Start = mapped_whole Start (λ x y e. cc) (whole_from_alone u32_unique)
+content_whole kinds.Tables = mapped_whole Tables (λ x y e. cc) (whole_from_alone (vec_unique table_item_unique))
+content_whole kinds.Tags = mapped_whole Tags (λ x y e. cc) (whole_from_alone (vec_unique tag_unique))
+content_whole kinds.Names = mapped_whole Names (λ x y e. cc) name_whole
+content_whole kinds.Linking = mapped_whole Linking (λ x y e. cc) linking_whole
+content_whole kinds.Producers = mapped_whole Producers (λ x y e. cc) producers_whole
+content_whole kinds.Hints = mapped_whole Hints (λ x y e. cc) hints_whole
+content_whole kinds.Core = mapped_whole Core (λ x y e. cc) core_whole
+content_whole kinds.CoreModules = mapped_whole CoreModules (λ x y e. cc) modules_whole
+content_whole kinds.CoreInstances = mapped_whole CoreInstances (λ x y e. cc) instances_whole
+content_whole kinds.CoreStack = mapped_whole CoreStack (λ x y e. cc) stack_whole
+content_whole kinds.Custom = mapped_whole Custom (λ x y e. cc) (pair_whole name_unique any_bytes_whole)
+content_whole kinds.Raw = mapped_whole Raw (λ x y e. cc) any_bytes_whole
+content_whole kinds.Types = mapped_whole Types (λ x y e. cc) (whole_from_alone (vec_unique type_unique))
 
-pub section-alone : (kind : SectionKind) → UniqueReading (section kind)
-section-alone kind = frame-alone (content-whole kind)
+pub section_unique : (kind : SectionKind) → UniqueReading (section kind)
+section_unique kind = frame_unique (content_whole kind)
 
 -- What is read as a section of a kind is what sections of that kind hold.
 kind_is : (kind : SectionKind) (s : List ℕ) (x : Contents) → content kind wide s x → kind_in x ≡ kind
@@ -206,7 +206,7 @@ shortened kind bytes framed rest start text old new n h l empty s fits e =
     let read = t.reads in
     let is : text ≡ given.text = given.appended ∙ ap (λ z. z ++ given.text) empty in
     let spelled = frame_spelled (content kind) text x fits (subst (λ z. content kind shortest z x) (sym is) (given.spelled read.spelled.content read.spelled.spelled)) in
-    let alone = section-alone kind in
+    let alone = section_unique kind in
     let less = alone.spellings.shorter read.front x read.spelled in
     let same = alone.spellings.one less.0 (frame_text text) x less.1 spelled in
     record {
@@ -221,12 +221,12 @@ shortened kind bytes framed rest start text old new n h l empty s fits e =
 -- ---- one text
 
 read_as : (kind : SectionKind) (bytes old new : List ℕ) (n : ℕ) (x : Contents) → (s : Shortens kind bytes n old new) → Takes kind bytes x n → section kind shortest s.text x
-read_as kind bytes old new n x s t = subst (λ z. section kind shortest s.text z) (reads_same (section-alone kind) s.takes.reads t.reads).0 s.spelled
+read_as kind bytes old new n x s t = subst (λ z. section kind shortest s.text z) (reads_same (section_unique kind) s.takes.reads t.reads).0 s.spelled
 
 pub one_text : HaveOneText
 one_text = record {
   same = λ kind a b old other s t n m x y p q h g.
-      let alone = section-alone kind in
+      let alone = section_unique kind in
       let first = read_as kind a old (old ++ s) n x p h in
       let second = read_as kind b other (other ++ t) m y q g in
       let s_is : s ≡ p.text = append_cancel_left old s p.text p.appended in

@@ -6,9 +6,9 @@ ghost use Rattle.wasm_reader_base.specs.declared.fault.ReadFault.TheVariants.{Me
 ghost use Rattle.wasm_base.specs.Formats.{byte, pair, vec};
 ghost use Rattle.wasm_code.specs.Expressions.{expression};
 ghost use Rattle.wasm_reader_base.specs.Shortest.{AppendsShortest};
-ghost use Rattle.wasm_base.proofs.BaseLaws.{vec-bytes-alone};
+ghost use Rattle.wasm_base.proofs.BaseLaws.{vec_bytes_unique};
 ghost use Rattle.wasm_sections.specs.DataSegments.{DataItem, active, data_item};
-ghost use Rattle.wasm_sections.proofs.DataLaws.{data-alone};
+ghost use Rattle.wasm_sections.proofs.DataLaws.{data_unique};
 ghost use Rattle.wasm_reader.specs.Items.{instructions_of, segment_of};
 
 use std::alloc::{Allocator, Global};
@@ -27,7 +27,7 @@ impl<'a, A: Allocator + Copy> Readable<'a, A> for Bytes<'a> {
 
     ghost view = { λ b. b.0.now };
 
-    ghost alone = { vec-bytes-alone };
+    ghost alone = { vec_bytes_unique };
 
     #[tactic(auto, using(crate::proofs::ReadData::bytes_steps))]
     fn read(bytes: &'a [u8], alloc: A) -> Result<(Bytes<'a>, &'a [u8]), ReadFault> {
@@ -59,7 +59,7 @@ impl<'a, A: Allocator + Copy> Readable<'a, A> for Segment<'a, A> {
 
     ghost view = { segment_of };
 
-    ghost alone = { data-alone };
+    ghost alone = { data_unique };
 
     #[tactic(auto, using(crate::proofs::ReadData::segment_steps))]
     fn read(bytes: &'a [u8], alloc: A) -> Result<(Segment<'a, A>, &'a [u8]), ReadFault> {

@@ -7,7 +7,7 @@ ghost use Rattle.wasm_insn.specs.Plain.{Plain};
 ghost use Rattle.wasm_reader_base.specs.declared.fault.ReadFault.TheVariants.{Memory};
 ghost use Rattle.wasm_reader_base.specs.Shortest.{AppendsShortest};
 ghost use Rattle.wasm_sections.specs.Elements.{Segment, ElementFlag as FlagModel, flag_code, flag_of, active, functions, expressions, are_expressions, tells_kind, place, elements_as, element};
-ghost use Rattle.wasm_sections.proofs.ElementLaws.{element_flag-alone, element-alone};
+ghost use Rattle.wasm_sections.proofs.ElementLaws.{element_flag_unique, element_unique};
 ghost use Rattle.wasm_reader.specs.Items.{instructions_of, element_flag_of, place_of, list_of, element_of};
 
 use std::alloc::{Allocator, Global};
@@ -49,7 +49,7 @@ impl<'a, A: Allocator + Copy> Readable<'a, A> for ElementFlag {
 
     ghost view = { element_flag_of };
 
-    ghost alone = { element_flag-alone };
+    ghost alone = { element_flag_unique };
 
     #[tactic(auto, using(crate::proofs::ReadElements::flag_steps))]
     fn read(bytes: &'a [u8], alloc: A) -> Result<(ElementFlag, &'a [u8]), ReadFault> {
@@ -197,7 +197,7 @@ impl<'a, A: Allocator + Copy> Readable<'a, A> for ElementItem<A> {
 
     ghost view = { element_of };
 
-    ghost alone = { element-alone };
+    ghost alone = { element_unique };
 
     #[tactic(auto, using(crate::proofs::ReadElements::element_steps))]
     fn read(bytes: &'a [u8], alloc: A) -> Result<(ElementItem<A>, &'a [u8]), ReadFault> {

@@ -2,7 +2,7 @@
 ghost use Rattle.wasm_base.specs.Formats.{coded};
 ghost use Rattle.wasm_sections.specs.Exports.{kind_code, ExportItem, item_of, export};
 ghost use Rattle.wasm_sections.specs.declared.export.ExportKind.{ExportKind as Kind};
-ghost use Rattle.wasm_sections.proofs.ExportLaws.{export-alone, export_kind-alone};
+ghost use Rattle.wasm_sections.proofs.ExportLaws.{export_unique, export_kind_unique};
 
 use crate::Here;
 use std::alloc::Allocator;
@@ -16,7 +16,7 @@ impl<'a, A: Allocator + Copy> Item<'a, Here, A> for ExportKind {
 
     ghost view = { λ kind. kind };
 
-    ghost alone = { export_kind-alone };
+    ghost alone = { export_kind_unique };
 
     #[tactic(auto, using(crate::proofs::ReadItems::export_kind_steps))]
     fn read_item(bytes: &'a [u8], alloc: A) -> Result<(ExportKind, &'a [u8]), ReadFault> {
@@ -39,7 +39,7 @@ impl<'a, A: Allocator + Copy> Item<'a, Here, A> for Export<'a> {
 
     ghost view = { item_of };
 
-    ghost alone = { export-alone };
+    ghost alone = { export_unique };
 
     #[tactic(auto, using(crate::proofs::ReadItems::export_steps))]
     fn read_item(bytes: &'a [u8], alloc: A) -> Result<(Export<'a>, &'a [u8]), ReadFault> {

@@ -2,7 +2,7 @@
 ghost use Rattle.wasm_base.specs.Formats.{coded};
 ghost use Rattle.wasm_sections.specs.Globals.{GlobalFlags as GlobalBits, global_code, global_type, GlobalItem as GlobalModel, global_item};
 ghost use Rattle.wasm_sections.specs.declared.global.GlobalType.{GlobalType as TypeModel};
-ghost use Rattle.wasm_sections.proofs.GlobalLaws.{global-alone, global_flags-alone, global_item-alone};
+ghost use Rattle.wasm_sections.proofs.GlobalLaws.{global_unique, global_flags_unique, global_item_unique};
 ghost use Rattle.wasm_reader.specs.Items.{global_flags_of, global_of};
 
 use crate::Here;
@@ -26,7 +26,7 @@ impl<'a, A: Allocator + Copy> Readable<'a, A> for GlobalFlags {
 
     ghost view = { global_flags_of };
 
-    ghost alone = { global_flags-alone };
+    ghost alone = { global_flags_unique };
 
     #[tactic(auto, using(crate::proofs::ReadGlobals::flag_steps))]
     fn read(bytes: &'a [u8], alloc: A) -> Result<(GlobalFlags, &'a [u8]), ReadFault> {
@@ -49,7 +49,7 @@ impl<'a, A: Allocator + Copy> Item<'a, Here, A> for GlobalType {
 
     ghost view = { λ global. global };
 
-    ghost alone = { global-alone };
+    ghost alone = { global_unique };
 
     #[tactic(auto, using(crate::proofs::ReadGlobals::type_steps))]
     fn read_item(bytes: &'a [u8], alloc: A) -> Result<(GlobalType, &'a [u8]), ReadFault> {
@@ -79,7 +79,7 @@ impl<'a, A: Allocator + Copy> Readable<'a, A> for GlobalItem<A> {
 
     ghost view = { global_of };
 
-    ghost alone = { global_item-alone };
+    ghost alone = { global_item_unique };
 
     #[tactic(auto, using(crate::proofs::ReadGlobals::item_steps))]
     fn read(bytes: &'a [u8], alloc: A) -> Result<(GlobalItem<A>, &'a [u8]), ReadFault> {

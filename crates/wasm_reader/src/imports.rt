@@ -8,9 +8,9 @@ ghost use Rattle.wasm_sections.specs.Imports.{entity, group, ImportItem, compact
 ghost use Rattle.wasm_sections.specs.declared.import.EntityType.{EntityType as EntityModel};
 ghost use Rattle.wasm_reader_base.specs.declared.fault.ReadFault.TheVariants.{Memory};
 ghost use Rattle.wasm_reader_base.specs.Shortest.{AppendsShortest};
-ghost use Rattle.wasm_base.proofs.BaseLaws.{name-alone};
-ghost use Rattle.wasm_base.proofs.FormatLaws.{pair-alone};
-ghost use Rattle.wasm_sections.proofs.ImportLaws.{entity-alone, import-alone};
+ghost use Rattle.wasm_base.proofs.BaseLaws.{name_unique};
+ghost use Rattle.wasm_base.proofs.FormatLaws.{pair_unique};
+ghost use Rattle.wasm_sections.proofs.ImportLaws.{entity_unique, import_unique};
 
 use crate::Here;
 use std::alloc::Allocator;
@@ -27,7 +27,7 @@ impl<'a, A: Allocator + Copy> Item<'a, Here, A> for EntityType {
 
     ghost view = { λ entity. entity };
 
-    ghost alone = { entity-alone };
+    ghost alone = { entity_unique };
 
     #[tactic(auto, using(crate::proofs::ReadImports::entity_steps))]
     fn read_item(bytes: &'a [u8], alloc: A) -> Result<(EntityType, &'a [u8]), ReadFault> {
@@ -69,7 +69,7 @@ impl<'a, A: Allocator + Copy> Item<'a, Here, A> for ImportCompact<'a> {
 
     ghost view = { compact_item };
 
-    ghost alone = { pair-alone name-alone entity-alone };
+    ghost alone = { pair_unique name_unique entity_unique };
 
     fn read_item(bytes: &'a [u8], alloc: A) -> Result<(ImportCompact<'a>, &'a [u8]), ReadFault> {
         let ((name, One(ty, _)), rest) = <(&'a str, One<EntityType, Here>) as Readable<
@@ -104,7 +104,7 @@ impl<'a, A: Allocator + Copy> Item<'a, Here, A> for Imports<'a, A> {
 
     ghost view = { imports_item };
 
-    ghost alone = { import-alone };
+    ghost alone = { import_unique };
 
     #[tactic(auto, using(crate::proofs::ReadImports::import_steps))]
     fn read_item(bytes: &'a [u8], alloc: A) -> Result<(Imports<'a, A>, &'a [u8]), ReadFault> {

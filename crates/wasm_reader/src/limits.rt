@@ -5,9 +5,9 @@ ghost use Rattle.wasm_sections.specs.Memories.{memory_type};
 ghost use Rattle.wasm_sections.specs.Tables.{Limits as LimitsModel, limits, table_type};
 ghost use Rattle.wasm_sections.specs.declared.memory.MemoryType.{MemoryType as MemoryModel};
 ghost use Rattle.wasm_sections.specs.declared.table.TableType.{TableType as TableModel};
-ghost use Rattle.wasm_sections.proofs.FlagLaws.{flags-alone};
-ghost use Rattle.wasm_sections.proofs.MemoryLaws.{memory-alone};
-ghost use Rattle.wasm_sections.proofs.TableLaws.{limits-alone, table-alone};
+ghost use Rattle.wasm_sections.proofs.FlagLaws.{flags_unique};
+ghost use Rattle.wasm_sections.proofs.MemoryLaws.{memory_unique};
+ghost use Rattle.wasm_sections.proofs.TableLaws.{limits_unique, table_unique};
 ghost use Rattle.wasm_reader.specs.Items.{flags_of, limits_of};
 
 use crate::Here;
@@ -32,7 +32,7 @@ impl<'a, A: Allocator + Copy> Readable<'a, A> for Flags {
 
     ghost view = { flags_of };
 
-    ghost alone = { flags-alone };
+    ghost alone = { flags_unique };
 
     #[tactic(auto, using(crate::proofs::ReadLimits::flag_steps))]
     fn read(bytes: &'a [u8], alloc: A) -> Result<(Flags, &'a [u8]), ReadFault> {
@@ -57,7 +57,7 @@ impl<'a, A: Allocator + Copy> Item<'a, Here, A> for MemoryType {
 
     ghost view = { λ memory. memory };
 
-    ghost alone = { memory-alone };
+    ghost alone = { memory_unique };
 
     #[tactic(auto, using(crate::proofs::ReadLimits::memory_steps))]
     fn read_item(bytes: &'a [u8], alloc: A) -> Result<(MemoryType, &'a [u8]), ReadFault> {
@@ -92,7 +92,7 @@ impl<'a, A: Allocator + Copy> Readable<'a, A> for Limits {
 
     ghost view = { limits_of };
 
-    ghost alone = { limits-alone };
+    ghost alone = { limits_unique };
 
     #[tactic(auto, using(crate::proofs::ReadLimits::limits_steps))]
     fn read(bytes: &'a [u8], alloc: A) -> Result<(Limits, &'a [u8]), ReadFault> {
@@ -119,7 +119,7 @@ impl<'a, A: Allocator + Copy> Item<'a, Here, A> for TableType {
 
     ghost view = { λ table. table };
 
-    ghost alone = { table-alone };
+    ghost alone = { table_unique };
 
     #[tactic(auto, using(crate::proofs::ReadLimits::table_steps))]
     fn read_item(bytes: &'a [u8], alloc: A) -> Result<(TableType, &'a [u8]), ReadFault> {

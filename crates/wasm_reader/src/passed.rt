@@ -9,11 +9,11 @@ ghost use Rattle.wasm_sections.specs.Elements.{Place, ElementList as ListModel, 
 ghost use Rattle.wasm_sections.specs.Globals.{GlobalItem as GlobalModel, global_item};
 ghost use Rattle.wasm_sections.specs.Imports.{ImportItem, import_format};
 ghost use Rattle.wasm_sections.specs.Tables.{TableItem as TableModel, table_item};
-ghost use Rattle.wasm_sections.proofs.DataLaws.{data-alone};
-ghost use Rattle.wasm_sections.proofs.ElementLaws.{element-alone};
-ghost use Rattle.wasm_sections.proofs.GlobalLaws.{global_item-alone};
-ghost use Rattle.wasm_sections.proofs.ImportLaws.{import-alone};
-ghost use Rattle.wasm_sections.proofs.TableLaws.{table_item-alone};
+ghost use Rattle.wasm_sections.proofs.DataLaws.{data_unique};
+ghost use Rattle.wasm_sections.proofs.ElementLaws.{element_unique};
+ghost use Rattle.wasm_sections.proofs.GlobalLaws.{global_item_unique};
+ghost use Rattle.wasm_sections.proofs.ImportLaws.{import_unique};
+ghost use Rattle.wasm_sections.proofs.TableLaws.{table_item_unique};
 ghost use Rattle.wasm_reader.specs.Items.{element_flag_of};
 
 use crate::Here;
@@ -33,7 +33,7 @@ impl<'a, A: Allocator + Copy> Passed<'a, A> for GlobalItem<A> {
 
     ghost format = { global_item };
 
-    ghost alone = { global_item-alone };
+    ghost alone = { global_item_unique };
 
     #[tactic(auto, using(crate::proofs::ReadGlobals::item_steps))]
     fn pass(bytes: &'a [u8], alloc: A) -> Result<&'a [u8], ReadFault> {
@@ -49,7 +49,7 @@ impl<'a, A: Allocator + Copy> Passed<'a, A> for TableItem<A> {
 
     ghost format = { table_item };
 
-    ghost alone = { table_item-alone };
+    ghost alone = { table_item_unique };
 
     #[tactic(auto, using(crate::proofs::ReadTables::table_steps))]
     fn pass(bytes: &'a [u8], alloc: A) -> Result<&'a [u8], ReadFault> {
@@ -74,7 +74,7 @@ impl<'a, A: Allocator + Copy> Passed<'a, A> for Segment<'a, A> {
 
     ghost format = { data_item };
 
-    ghost alone = { data-alone };
+    ghost alone = { data_unique };
 
     #[tactic(auto, using(crate::proofs::ReadData::segment_steps))]
     fn pass(bytes: &'a [u8], alloc: A) -> Result<&'a [u8], ReadFault> {
@@ -191,7 +191,7 @@ impl<'a, A: Allocator + Copy> Passed<'a, A> for ElementItem<A> {
 
     ghost format = { element };
 
-    ghost alone = { element-alone };
+    ghost alone = { element_unique };
 
     #[tactic(auto, using(crate::proofs::ReadElements::element_steps))]
     fn pass(bytes: &'a [u8], alloc: A) -> Result<&'a [u8], ReadFault> {
@@ -210,7 +210,7 @@ impl<'a, A: Allocator + Copy> Passed<'a, A> for PassedImports {
 
     ghost format = { import_format };
 
-    ghost alone = { import-alone };
+    ghost alone = { import_unique };
 
     #[tactic(auto, using(crate::proofs::ReadImports::import_steps))]
     fn pass(bytes: &'a [u8], alloc: A) -> Result<&'a [u8], ReadFault> {

@@ -1,6 +1,6 @@
 // Tables.
 ghost use Rattle.wasm_sections.specs.Tables.{TableItem as TableModel, table_item};
-ghost use Rattle.wasm_sections.proofs.TableLaws.{table_item-alone};
+ghost use Rattle.wasm_sections.proofs.TableLaws.{table_item_unique};
 ghost use Rattle.wasm_reader.specs.Items.{table_of};
 
 use crate::Here;
@@ -27,7 +27,7 @@ impl<'a, A: Allocator + Copy> Readable<'a, A> for TableItem<A> {
 
     ghost view = { table_of };
 
-    ghost alone = { table_item-alone };
+    ghost alone = { table_item_unique };
 
     #[tactic(auto, using(crate::proofs::ReadTables::table_steps))]
     fn read(bytes: &'a [u8], alloc: A) -> Result<(TableItem<A>, &'a [u8]), ReadFault> {

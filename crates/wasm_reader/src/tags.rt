@@ -3,7 +3,7 @@ ghost use Rattle.wasm_base.specs.Formats.{coded};
 ghost use Rattle.wasm_sections.specs.Tags.{tag_code, tag_type};
 ghost use Rattle.wasm_sections.specs.declared.tag.TagKind.{TagKind as Kind};
 ghost use Rattle.wasm_sections.specs.declared.tag.TagType.{TagType as TagModel};
-ghost use Rattle.wasm_sections.proofs.TagLaws.{tag-alone, tag_kind-alone};
+ghost use Rattle.wasm_sections.proofs.TagLaws.{tag_unique, tag_kind_unique};
 
 use crate::Here;
 use std::alloc::Allocator;
@@ -17,7 +17,7 @@ impl<'a, A: Allocator + Copy> Item<'a, Here, A> for TagKind {
 
     ghost view = { λ kind. kind };
 
-    ghost alone = { tag_kind-alone };
+    ghost alone = { tag_kind_unique };
 
     #[tactic(auto, using(crate::proofs::ReadItems::tag_kind_steps))]
     fn read_item(bytes: &'a [u8], alloc: A) -> Result<(TagKind, &'a [u8]), ReadFault> {
@@ -37,7 +37,7 @@ impl<'a, A: Allocator + Copy> Item<'a, Here, A> for TagType {
 
     ghost view = { λ tag. tag };
 
-    ghost alone = { tag-alone };
+    ghost alone = { tag_unique };
 
     #[tactic(auto, using(crate::proofs::ReadItems::tag_steps))]
     fn read_item(bytes: &'a [u8], alloc: A) -> Result<(TagType, &'a [u8]), ReadFault> {

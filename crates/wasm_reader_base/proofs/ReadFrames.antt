@@ -4,7 +4,7 @@ use Rattle.wasm_base.specs.Going.{FillsNothing}
 use Rattle.wasm_base.specs.Numbers.{wide}
 use Rattle.wasm_base.specs.Formats.{Format, u32, frame, any_bytes, name}
 use Rattle.wasm_base.specs.Reading.{UniqueReading, Reads, ReadsNothing}
-use Rattle.wasm_base.proofs.BaseLaws.{frame-bytes-alone}
+use Rattle.wasm_base.proofs.BaseLaws.{frame_bytes_unique}
 use Rattle.wasm_base.proofs.ReadingSteps.{frame_reads, frame_nothing_size, frame_nothing_short, reads_same, such_nothing, such_reads, such_none}
 
 -- ---- any bytes
@@ -37,7 +37,7 @@ filled_none F bytes n = record { none = λ x rest h. n.none h.spelled.content re
 
 pub filled_nothing : {X : Type 0} (F : Format X) (bytes content rest : List ℕ) → Reads (frame any_bytes) wide bytes content rest → FillsNothing F content → ReadsNothing (frame F) wide bytes
 filled_nothing F bytes content rest h n = record {
-  none = λ x last g. n.none x (subst (λ z. F wide z x) (sym (reads_same frame-bytes-alone h (any_frame F bytes last x g)).0) g.spelled.spelled);
+  none = λ x last g. n.none x (subst (λ z. F wide z x) (sym (reads_same frame_bytes_unique h (any_frame F bytes last x g)).0) g.spelled.spelled);
 }
 
 pub ruleset filled_steps = (filled_reads, filled_none, filled_nothing)
@@ -74,6 +74,6 @@ pub name_none : (bytes : List ℕ) → ReadsNothing (frame any_bytes) wide bytes
 name_none bytes none = such_none IsUtf8 none
 
 pub name_faulty : (bytes text rest : List ℕ) → Reads (frame any_bytes) wide bytes text rest → (IsUtf8 text → ⊥) → ReadsNothing name wide bytes
-name_faulty bytes text rest h u = such_nothing IsUtf8 frame-bytes-alone h u
+name_faulty bytes text rest h u = such_nothing IsUtf8 frame_bytes_unique h u
 
 pub ruleset name_steps = (name_none, name_reads, name_faulty)

@@ -6,8 +6,8 @@ use Rattle.wasm_base.specs.Formats.{Format, u32, u64, byte, s33, choice, impossi
 use Rattle.wasm_base.specs.Reading.{Reads, ReadsNothing}
 use Rattle.wasm_base.specs.Types.{val_tags, val_ref, IsIndexByte}
 use Rattle.wasm_base.specs.declared.types.ValType.{ValType}
-use Rattle.wasm_base.proofs.FormatLaws.{byte-alone, optional-alone}
-use Rattle.wasm_base.proofs.NumberLaws.{u32-alone}
+use Rattle.wasm_base.proofs.FormatLaws.{byte_unique, optional_unique}
+use Rattle.wasm_base.proofs.NumberLaws.{u32_unique}
 use Rattle.wasm_base.proofs.TypeLaws.{begins_s33, val_begins}
 use Rattle.wasm_immediates.specs.declared.memory.Ordering.{Ordering}
 use Rattle.wasm_immediates.specs.declared.memory.Ordering.TheVariants.{AcqRel, SeqCst}
@@ -24,7 +24,7 @@ use Rattle.wasm_immediates.specs.declared.control.Handle.{Handle}
 use Rattle.wasm_immediates.specs.declared.control.Handle.TheVariants.{OnLabel, OnSwitch}
 use Rattle.wasm_immediates.specs.Immediates.{ordering_code}
 use Rattle.wasm_immediates.specs.PlainImmediates.{block_type, ordering_format, mem_orderings, mem_ordering, bit, target_of, mem_arg_of, mem_arg_with, after_flags, mem_arg, one_of_pair, one_ref_of_pair, catch_tags, catch, on_label_of_pair, handle_tags, handle}
-use Rattle.wasm_immediates.proofs.ImmediateLaws.{target-alone, mem_ordering-alone, block_tags, block_result}
+use Rattle.wasm_immediates.proofs.ImmediateLaws.{target_unique, mem_ordering_unique, block_tags, block_result}
 use Rattle.wasm_reader_base.proofs.ReadNumbers.{u32_byte}
 use Rattle.wasm_reader_base.proofs.ReadTypes.{no_index_byte}
 use Rattle.wasm_base.proofs.ReadingSteps.{then_reads, then_nothing_first, then_nothing_second, mapped_reads, mapped_nothing, such_reads, such_none, such_nothing}
@@ -66,7 +66,7 @@ pub mem_order_none : (bytes : List ℕ) → ReadsNothing byte wide bytes → Rea
 mem_order_none bytes n = tagged_none byte after_order bytes n
 
 pub mem_order_unknown : (bytes rest : List ℕ) (b : ℕ) → Reads byte wide bytes b rest → b ≢ 0x00 → b ≢ 0x01 → b ≢ 0x11 → ReadsNothing mem_ordering wide bytes
-mem_order_unknown bytes rest b h p q r = tagged_nothing {G = after_order} byte-alone h (no_choice mem_orderings b rest (p, (q, (r, tt))))
+mem_order_unknown bytes rest b h p q r = tagged_nothing {G = after_order} byte_unique h (no_choice mem_orderings b rest (p, (q, (r, tt))))
 
 pub ruleset mem_ordering_steps = (mem_seq_cst, mem_acq_rel, mem_rmw, mem_order_none, mem_order_unknown)
 
@@ -91,7 +91,7 @@ pub target_no_memory : (array other : Bool) (bytes : List ℕ) → array ≡ fal
 target_no_memory array other bytes e f n = rw (e, f) (mapped_nothing Memory (such_none (λ n. 0 < n) n))
 
 pub target_zero : (array other : Bool) (bytes rest : List ℕ) (n : ℕ) → array ≡ false → other ≡ true → Reads u32 wide bytes n rest → n ≡ 0 → ReadsNothing (target_of array other) wide bytes
-target_zero array other bytes rest n e f h p = rw (e, f) (mapped_nothing Memory (such_nothing (λ n. 0 < n) u32-alone h (λ l. omega (arith, l, p))))
+target_zero array other bytes rest n e f h p = rw (e, f) (mapped_nothing Memory (such_nothing (λ n. 0 < n) u32_unique h (λ l. omega (arith, l, p))))
 
 pub ruleset target_steps = (target_memory_0, target_array, target_memory, target_both, target_no_array, target_no_memory, target_zero)
 
@@ -118,23 +118,23 @@ pub memory_none : (bytes : List ℕ) → ReadsNothing u32 wide bytes → ReadsNo
 memory_none bytes n = tagged_none u32 after_flags bytes n
 
 pub memory_unknown : (bytes rest : List ℕ) (flags : ℕ) → Reads u32 wide bytes flags rest → 0x80 ≤ flags → ReadsNothing mem_arg wide bytes
-memory_unknown bytes rest flags h l = tagged_nothing {G = after_flags} u32-alone h (subst (λ low. ReadsNothing (mem_after flags low) wide rest) (sym (le-ltb flags 0x80 l)) (impossible_nothing rest))
+memory_unknown bytes rest flags h l = tagged_nothing {G = after_flags} u32_unique h (subst (λ low. ReadsNothing (mem_after flags low) wide rest) (sym (le-ltb flags 0x80 l)) (impossible_nothing rest))
 
 memory_nothing : (bytes start : List ℕ) (flags : ℕ) → Reads u32 wide bytes flags start → flags < 0x80 → ReadsNothing (mem_parts flags) wide start → ReadsNothing mem_arg wide bytes
 memory_nothing bytes start flags h l n =
-    tagged_nothing {G = after_flags} u32-alone h (subst (λ low. ReadsNothing (mem_after flags low) wide start) (sym (lt-ltb flags 0x80 l)) (mapped_nothing (mem_arg_of (flags % 16)) n))
+    tagged_nothing {G = after_flags} u32_unique h (subst (λ low. ReadsNothing (mem_after flags low) wide start) (sym (lt-ltb flags 0x80 l)) (mapped_nothing (mem_arg_of (flags % 16)) n))
 
 pub memory_no_target : (bytes start : List ℕ) (flags : ℕ) → Reads u32 wide bytes flags start → flags < 0x80 → ReadsNothing (target_of (bit 5 flags) (bit 6 flags)) wide start → ReadsNothing mem_arg wide bytes
 memory_no_target bytes start flags h l n = memory_nothing bytes start flags h l (then_nothing_first n)
 
 pub memory_no_ordering : (bytes start next : List ℕ) (flags : ℕ) (t : MemArgTarget) → Reads u32 wide bytes flags start → flags < 0x80 → Reads (target_of (bit 5 flags) (bit 6 flags)) wide start t next
     → ReadsNothing (optional (bit 4 flags) mem_ordering) wide next → ReadsNothing mem_arg wide bytes
-memory_no_ordering bytes start next flags t h l g n = memory_nothing bytes start flags h l (then_nothing_second (target-alone (bit 5 flags) (bit 6 flags)) g (then_nothing_first n))
+memory_no_ordering bytes start next flags t h l g n = memory_nothing bytes start flags h l (then_nothing_second (target_unique (bit 5 flags) (bit 6 flags)) g (then_nothing_first n))
 
 pub memory_no_offset : (bytes start next last : List ℕ) (flags : ℕ) (t : MemArgTarget) (o : Option MemArgOrdering) → Reads u32 wide bytes flags start → flags < 0x80 → Reads (target_of (bit 5 flags) (bit 6 flags)) wide start t next
     → Reads (optional (bit 4 flags) mem_ordering) wide next (option_map (λ n. n) o) last → ReadsNothing u64 wide last → ReadsNothing mem_arg wide bytes
 memory_no_offset bytes start next last flags t o h l g k n =
-    memory_nothing bytes start flags h l (then_nothing_second (target-alone (bit 5 flags) (bit 6 flags)) g (then_nothing_second (optional-alone (bit 4 flags) mem_ordering-alone) k n))
+    memory_nothing bytes start flags h l (then_nothing_second (target_unique (bit 5 flags) (bit 6 flags)) g (then_nothing_second (optional_unique (bit 4 flags) mem_ordering_unique) k n))
 
 -- Flags below 16 are those of memory 0, without an ordering.
 unset : (place flags : ℕ) → flags / 2 ^ place % 2 ≡ 0 → bit place flags ≡ false
@@ -190,7 +190,7 @@ block_none bytes n = one_of_nothing (tagged_none byte after_block bytes n) (mapp
 pub block_no_result : (bytes rest : List ℕ) (b : ℕ) → Reads byte wide bytes b rest → 0x40 < b → b < 0x80 → ReadsNothing (choice val_tags val_ref b) wide rest → ReadsNothing block_type wide bytes
 block_no_result bytes rest b h l u n =
     one_of_nothing
-    (tagged_nothing {G = after_block} byte-alone h (subst (λ F. ReadsNothing {X = BlockType} F wide rest) (sym (is_result b (omega (arith, l)))) (mapped_nothing blocks.Result n)))
+    (tagged_nothing {G = after_block} byte_unique h (subst (λ F. ReadsNothing {X = BlockType} F wide rest) (sym (is_result b (omega (arith, l)))) (mapped_nothing blocks.Result n)))
     (mapped_nothing blocks.FunctionType (not_begun IsIndexByte s33 begins_s33 h (no_index_byte b (omega (arith, l)) u)))
 
 no_value : (bytes : List ℕ) (b : ℕ) → (b < 0x40) ⊎ (0x80 ≤ b) → ReadsNothing (choice val_tags val_ref b) wide bytes
@@ -204,7 +204,7 @@ pub block_no_index : (bytes rest : List ℕ) (b : ℕ) → Reads byte wide bytes
 block_no_index bytes rest b h other n =
     let p : b ≢ 0x40 = λ e. elim other [ inl l ↦ omega (arith, l, e) | inr l ↦ omega (arith, l, e) ] in
     one_of_nothing
-    (tagged_nothing {G = after_block} byte-alone h (subst (λ F. ReadsNothing {X = BlockType} F wide rest) (sym (is_result b p)) (mapped_nothing blocks.Result (no_value rest b other))))
+    (tagged_nothing {G = after_block} byte_unique h (subst (λ F. ReadsNothing {X = BlockType} F wide rest) (sym (is_result b p)) (mapped_nothing blocks.Result (no_value rest b other))))
     (mapped_nothing blocks.FunctionType n)
 
 pub ruleset block_steps = (block_empty, block_result_reads, block_index, block_none, block_no_result, block_no_index)
@@ -218,7 +218,7 @@ catch_is : (bytes rest last : List ℕ) (b c : ℕ) (x : Catch) → Reads byte w
 catch_is bytes rest last b c x h e g = tagged_reads {G = after_catch} h (subst (λ c. Reads (after_catch c) wide rest x last) (sym e) g)
 
 catch_is_not : (bytes rest : List ℕ) (b c : ℕ) → Reads byte wide bytes b rest → b ≡ c → ReadsNothing (after_catch c) wide rest → ReadsNothing catch wide bytes
-catch_is_not bytes rest b c h e n = tagged_nothing {G = after_catch} byte-alone h (subst (λ c. ReadsNothing (after_catch c) wide rest) (sym e) n)
+catch_is_not bytes rest b c h e n = tagged_nothing {G = after_catch} byte_unique h (subst (λ c. ReadsNothing (after_catch c) wide rest) (sym e) n)
 
 pub catch_one : (bytes rest last : List ℕ) (b : ℕ) (tag label : ℕ) → Reads byte wide bytes b rest → b ≡ 0x00 → Reads (pair u32 u32) wide rest (tag, label) last → Reads catch wide bytes (One tag label) last
 catch_one bytes rest last b tag label h e g = catch_is bytes rest last b 0x00 (One tag label) h e (mapped_reads one_of_pair g)
@@ -248,7 +248,7 @@ pub catch_no_all_ref : (bytes rest : List ℕ) (b : ℕ) → Reads byte wide byt
 catch_no_all_ref bytes rest b h e n = catch_is_not bytes rest b 0x03 h e (mapped_nothing AllRef n)
 
 pub catch_unknown : (bytes rest : List ℕ) (b : ℕ) → Reads byte wide bytes b rest → 4 ≤ b → ReadsNothing catch wide bytes
-catch_unknown bytes rest b h l = tagged_nothing {G = after_catch} byte-alone h (no_choice catch_tags b rest (omega arith, (omega arith, (omega arith, (omega arith, tt)))))
+catch_unknown bytes rest b h l = tagged_nothing {G = after_catch} byte_unique h (no_choice catch_tags b rest (omega arith, (omega arith, (omega arith, (omega arith, tt)))))
 
 pub ruleset catch_steps = (catch_one, catch_one_ref, catch_all, catch_all_ref, catch_none, catch_no_one, catch_no_one_ref, catch_no_all, catch_no_all_ref, catch_unknown)
 
@@ -261,7 +261,7 @@ handle_is : (bytes rest last : List ℕ) (b c : ℕ) (x : Handle) → Reads byte
 handle_is bytes rest last b c x h e g = tagged_reads {G = after_handle} h (subst (λ c. Reads (after_handle c) wide rest x last) (sym e) g)
 
 handle_is_not : (bytes rest : List ℕ) (b c : ℕ) → Reads byte wide bytes b rest → b ≡ c → ReadsNothing (after_handle c) wide rest → ReadsNothing handle wide bytes
-handle_is_not bytes rest b c h e n = tagged_nothing {G = after_handle} byte-alone h (subst (λ c. ReadsNothing (after_handle c) wide rest) (sym e) n)
+handle_is_not bytes rest b c h e n = tagged_nothing {G = after_handle} byte_unique h (subst (λ c. ReadsNothing (after_handle c) wide rest) (sym e) n)
 
 pub handle_on_label : (bytes rest last : List ℕ) (b : ℕ) (tag label : ℕ) → Reads byte wide bytes b rest → b ≡ 0x00 → Reads (pair u32 u32) wide rest (tag, label) last → Reads handle wide bytes (OnLabel tag label) last
 handle_on_label bytes rest last b tag label h e g = handle_is bytes rest last b 0x00 (OnLabel tag label) h e (mapped_reads on_label_of_pair g)
@@ -279,6 +279,6 @@ pub handle_no_switch : (bytes rest : List ℕ) (b : ℕ) → Reads byte wide byt
 handle_no_switch bytes rest b h e n = handle_is_not bytes rest b 0x01 h e (mapped_nothing OnSwitch n)
 
 pub handle_unknown : (bytes rest : List ℕ) (b : ℕ) → Reads byte wide bytes b rest → 2 ≤ b → ReadsNothing handle wide bytes
-handle_unknown bytes rest b h l = tagged_nothing {G = after_handle} byte-alone h (no_choice handle_tags b rest (omega arith, (omega arith, tt)))
+handle_unknown bytes rest b h l = tagged_nothing {G = after_handle} byte_unique h (no_choice handle_tags b rest (omega arith, (omega arith, tt)))
 
 pub ruleset handle_steps = (handle_on_label, handle_on_switch, handle_none, handle_no_label, handle_no_switch, handle_unknown)

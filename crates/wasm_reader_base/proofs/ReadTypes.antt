@@ -11,8 +11,8 @@ use Rattle.wasm_base.specs.declared.types.HeapType.TheVariants.{Abstract, Concre
 use Rattle.wasm_base.specs.declared.types.RefType.{RefType}
 use Rattle.wasm_base.specs.declared.types.ValType.{ValType}
 use Rattle.wasm_base.specs.declared.types.ValType.TheVariants.{I32, I64, F32, F64, V128, Ref}
-use Rattle.wasm_base.proofs.FormatLaws.{byte-alone}
-use Rattle.wasm_base.proofs.TypeLaws.{abstract_bytes, begins_s33, heap-alone}
+use Rattle.wasm_base.proofs.FormatLaws.{byte_unique}
+use Rattle.wasm_base.proofs.TypeLaws.{abstract_bytes, begins_s33, heap_unique}
 use Rattle.wasm_base.proofs.ReadingSteps.{mapped_reads, mapped_nothing, such_reads, such_none, such_nothing}
 use Rattle.wasm_reader_base.specs.declared.fault.ReadFault.{ReadFault}
 use Rattle.wasm_reader_base.specs.declared.fault.ReadFault.TheVariants.{Memory}
@@ -68,7 +68,7 @@ no_index_byte b l u h = elim h [ inl i ↦ omega (arith, l, i) | inr i ↦ omega
 
 heap_tag_nothing : (bytes rest : List ℕ) (b : ℕ) → Reads byte wide bytes b rest → 0x62 ≤ b → b < 0x68 → ReadsNothing (choice heap_tags (λ c. impossible) b) wide rest → ReadsNothing heap_type wide bytes
 heap_tag_nothing bytes rest b h l u none =
-    heap_nothing bytes (abstract_unknown bytes rest b h (no_abstract b (inl u))) (tagged_nothing {G = choice heap_tags (λ b. impossible)} byte-alone h none)
+    heap_nothing bytes (abstract_unknown bytes rest b h (no_abstract b (inl u))) (tagged_nothing {G = choice heap_tags (λ b. impossible)} byte_unique h none)
     (not_begun IsIndexByte s33 begins_s33 h (no_index_byte b (omega (arith, l)) (omega (arith, u))))
 
 pub heap_no_exact : (bytes rest : List ℕ) (b : ℕ) → Reads byte wide bytes b rest → b ≡ 0x62 → ReadsNothing u32 wide rest → ReadsNothing heap_type wide bytes
@@ -79,7 +79,7 @@ heap_no_shared bytes rest b h e none = heap_tag_nothing bytes rest b h (omega (a
 
 pub heap_no_index : (bytes rest : List ℕ) (b : ℕ) → Reads byte wide bytes b rest → b ≢ 0x62 → b ≢ 0x65 → ((ty : AbstractHeapType) → b ≢ abstract_code ty) → ReadsNothing s33 wide bytes → ReadsNothing heap_type wide bytes
 heap_no_index bytes rest b h p q other none =
-    heap_nothing bytes (abstract_unknown bytes rest b h other) (tagged_nothing {G = choice heap_tags (λ b. impossible)} byte-alone h (no_choice heap_tags b rest (q, (p, tt)))) none
+    heap_nothing bytes (abstract_unknown bytes rest b h other) (tagged_nothing {G = choice heap_tags (λ b. impossible)} byte_unique h (no_choice heap_tags b rest (q, (p, tt)))) none
 
 pub ruleset heap_steps = (heap_exact, heap_shared, heap_abstract, heap_index, heap_none, heap_no_exact, heap_no_shared, heap_no_index)
 
@@ -115,7 +115,7 @@ pub ref_no_nullable : (bytes : List ℕ) (b : ℕ) → b ≡ 0x63 → ReadsNothi
 ref_no_nullable bytes b e none = subst (λ c. ReadsNothing (after_ref c) wide bytes) (sym e) (mapped_nothing nullable_to (such_none HasNoByte none))
 
 pub ref_own_byte : (bytes rest : List ℕ) (b : ℕ) (h : HeapType) → b ≡ 0x63 → Reads heap_type wide bytes h rest → (HasNoByte h → ⊥) → ReadsNothing (after_ref b) wide bytes
-ref_own_byte bytes rest b h e g p = subst (λ c. ReadsNothing (after_ref c) wide bytes) (sym e) (mapped_nothing nullable_to (such_nothing HasNoByte heap-alone g p))
+ref_own_byte bytes rest b h e g p = subst (λ c. ReadsNothing (after_ref c) wide bytes) (sym e) (mapped_nothing nullable_to (such_nothing HasNoByte heap_unique g p))
 
 pub ref_unknown : (bytes : List ℕ) (b : ℕ) → b ≢ 0x70 → b ≢ 0x6F → b ≢ 0x63 → b ≢ 0x64 → ReadsNothing (after_ref b) wide bytes
 ref_unknown bytes b p q r s = no_choice ref_tags b bytes (p, (q, (r, (s, tt))))
@@ -129,7 +129,7 @@ pub ref_type_none : (bytes : List ℕ) → ReadsNothing byte wide bytes → Read
 ref_type_none bytes none = tagged_none byte after_ref bytes none
 
 pub ref_type_nothing : (bytes rest : List ℕ) (b : ℕ) → Reads byte wide bytes b rest → ReadsNothing (after_ref b) wide rest → ReadsNothing ref_type wide bytes
-ref_type_nothing bytes rest b h none = tagged_nothing {G = after_ref} byte-alone h none
+ref_type_nothing bytes rest b h none = tagged_nothing {G = after_ref} byte_unique h none
 
 pub ref_type_fails : {T : Type 0} (bytes rest : List ℕ) (b : ℕ) (r : Result T ReadFault) → Reads byte wide bytes b rest → IfErr r (λ e. e ≢ Memory → ReadsNothing (after_ref b) wide rest) → IfErr r (λ e. e ≢ Memory → ReadsNothing ref_type wide bytes)
 ref_type_fails bytes rest b r h = if_err_more r λ e none n. ref_type_nothing bytes rest b h (none n)
@@ -174,7 +174,7 @@ pub val_type_none : (bytes : List ℕ) → ReadsNothing byte wide bytes → Read
 val_type_none bytes none = tagged_none byte after_val bytes none
 
 pub val_type_nothing : (bytes rest : List ℕ) (b : ℕ) → Reads byte wide bytes b rest → ReadsNothing (after_val b) wide rest → ReadsNothing val_type wide bytes
-val_type_nothing bytes rest b h none = tagged_nothing {G = after_val} byte-alone h none
+val_type_nothing bytes rest b h none = tagged_nothing {G = after_val} byte_unique h none
 
 pub val_type_fails : {T : Type 0} (bytes rest : List ℕ) (b : ℕ) (r : Result T ReadFault) → Reads byte wide bytes b rest → IfErr r (λ e. e ≢ Memory → ReadsNothing (after_val b) wide rest) → IfErr r (λ e. e ≢ Memory → ReadsNothing val_type wide bytes)
 val_type_fails bytes rest b r h = if_err_more r λ e none n. val_type_nothing bytes rest b h (none n)

@@ -1,24 +1,25 @@
 // Fixed bytes: a byte, floats, vectors of 128 bits and lanes.
 ghost use Rattle.std.specs.Prelude.{ℕ, List, ℤ};
 ghost use Rattle.wasm_base.specs.Formats.{byte, little_endian, raw_bytes};
-ghost use Rattle.wasm_base.proofs.FormatLaws.{byte-alone, little_endian-alone, raw_bytes-alone};
 ghost use Rattle.wasm_immediates.specs.PlainImmediates.{vector_format};
-ghost use Rattle.wasm_immediates.proofs.ImmediateLaws.{vector-alone};
 
 use crate::fault::ReadFault;
-use crate::readable::Readable;
+use crate::readable::{Readable, Spelled};
 use std::alloc::Allocator;
 use wasm_immediates::{Ieee32, Ieee64};
 
-impl<'a, A: Allocator + Copy> Readable<'a, A> for u8 {
+impl Spelled for u8 {
     ghost Value = { ℕ };
 
     ghost format = { byte };
 
     ghost view = { λ b. b };
 
-    ghost alone = { byte-alone };
+    #[tactic(auto, using(wasm_base::proofs::FormatLaws::byte_unique))]
+    fn laws() {}
+}
 
+impl<'a, A: Allocator + Copy> Readable<'a, A> for u8 {
     #[tactic(auto, using(wasm_base::proofs::ReadingSteps::steps))]
     #[inline]
     fn read(bytes: &'a [u8], _alloc: A) -> Result<(u8, &'a [u8]), ReadFault> {
@@ -30,15 +31,18 @@ impl<'a, A: Allocator + Copy> Readable<'a, A> for u8 {
 }
 
 /// A float's four bytes, the least first.
-impl<'a, A: Allocator + Copy> Readable<'a, A> for Ieee32 {
+impl Spelled for Ieee32 {
     ghost Value = { ℕ };
 
     ghost format = { little_endian 4 };
 
     ghost view = { λ float. float.bits };
 
-    ghost alone = { little_endian-alone 4 };
+    #[tactic(auto, using(wasm_base::proofs::BaseLaws::fixed_4_unique))]
+    fn laws() {}
+}
 
+impl<'a, A: Allocator + Copy> Readable<'a, A> for Ieee32 {
     fn read(bytes: &'a [u8], _alloc: A) -> Result<(Ieee32, &'a [u8]), ReadFault> {
         match bytes.split_first_chunk::<4>() {
             Some((front, rest)) => Ok((Ieee32::new(u32::from_le_bytes(*front)), rest)),
@@ -48,15 +52,18 @@ impl<'a, A: Allocator + Copy> Readable<'a, A> for Ieee32 {
 }
 
 /// A float's eight bytes, the least first.
-impl<'a, A: Allocator + Copy> Readable<'a, A> for Ieee64 {
+impl Spelled for Ieee64 {
     ghost Value = { ℕ };
 
     ghost format = { little_endian 8 };
 
     ghost view = { λ float. float.bits };
 
-    ghost alone = { little_endian-alone 8 };
+    #[tactic(auto, using(wasm_base::proofs::BaseLaws::fixed_8_unique))]
+    fn laws() {}
+}
 
+impl<'a, A: Allocator + Copy> Readable<'a, A> for Ieee64 {
     fn read(bytes: &'a [u8], _alloc: A) -> Result<(Ieee64, &'a [u8]), ReadFault> {
         match bytes.split_first_chunk::<8>() {
             Some((front, rest)) => Ok((Ieee64::new(u64::from_le_bytes(*front)), rest)),
@@ -66,15 +73,18 @@ impl<'a, A: Allocator + Copy> Readable<'a, A> for Ieee64 {
 }
 
 /// A vector's sixteen bytes, the least first, in two's complement.
-impl<'a, A: Allocator + Copy> Readable<'a, A> for i128 {
+impl Spelled for i128 {
     ghost Value = { ℤ };
 
     ghost format = { vector_format };
 
     ghost view = { λ v. v };
 
-    ghost alone = { vector-alone };
+    #[tactic(auto, using(wasm_immediates::proofs::ImmediateLaws::vector_unique))]
+    fn laws() {}
+}
 
+impl<'a, A: Allocator + Copy> Readable<'a, A> for i128 {
     fn read(bytes: &'a [u8], _alloc: A) -> Result<(i128, &'a [u8]), ReadFault> {
         match bytes.split_first_chunk::<16>() {
             Some((front, rest)) => Ok((i128::from_le_bytes(*front), rest)),
@@ -84,15 +94,17 @@ impl<'a, A: Allocator + Copy> Readable<'a, A> for i128 {
 }
 
 /// Sixteen lanes, a byte each.
-impl<'a, A: Allocator + Copy> Readable<'a, A> for [u8; 16] {
+impl Spelled for [u8; 16] {
     ghost Value = { List ℕ };
 
     ghost format = { raw_bytes 16 };
 
     ghost view = { λ lanes. lanes };
 
-    ghost alone = { raw_bytes-alone 16 };
+    fn laws() {}
+}
 
+impl<'a, A: Allocator + Copy> Readable<'a, A> for [u8; 16] {
     #[tactic(auto, using(crate::proofs::ReadFixed::raw_steps))]
     fn read(bytes: &'a [u8], _alloc: A) -> Result<([u8; 16], &'a [u8]), ReadFault> {
         match bytes.split_first_chunk::<16>() {

@@ -4,10 +4,9 @@ ghost use Rattle.wasm_base.specs.Formats.{frame};
 ghost use Rattle.wasm_base.specs.Texts.{frame_text, FrameFits};
 ghost use Rattle.wasm_base.specs.declared.refused.Refused.TheVariants.{TooLong};
 ghost use Rattle.wasm_reader_base.specs.Shortest.{AppendsShortest};
-ghost use Rattle.wasm_base.proofs.FormatLaws.{frame-alone, whole_from_alone};
 
 use crate::fault::ReadFault;
-use crate::readable::{Filling, Readable};
+use crate::readable::{Readable, Spelled};
 use crate::shorten::Shorten;
 use std::alloc::Allocator;
 use wasm_base::{Encode, R};
@@ -16,45 +15,29 @@ use wasm_base::{Encode, R};
 #[derive(Debug, Drop)]
 pub struct Framed<T>(pub T);
 
-impl<'a, A: Allocator + Copy, T: Readable<'a, A>> Readable<'a, A> for Framed<T> {
+impl<T: Spelled> Spelled for Framed<T> {
     ghost Value = { T.Value };
 
     ghost format = { frame T.format };
 
     ghost view = { λ f. T.view f.0 };
 
-    ghost alone = { frame-alone (whole_from_alone T.alone) };
+    fn laws() {
+        T::laws();
+    }
+}
 
+impl<'a, A: Allocator + Copy, T: Readable<'a, A>> Readable<'a, A> for Framed<T> {
     #[tactic(auto, using(crate::proofs::ReadFrames::framed_steps))]
     fn read(bytes: &'a [u8], alloc: A) -> Result<(Framed<T>, &'a [u8]), ReadFault> {
         let (content, rest) = <&'a [u8] as Readable<'a, A>>::read(bytes, alloc)?;
         let (value, left) = T::read(content, alloc)?;
+        T::laws();
         if left.is_empty() {
             Ok((Framed(value), rest))
         } else {
             Err(ReadFault::SizeMismatch)
         }
-    }
-}
-
-/// A value in a frame, whose bytes spell it together.
-#[derive(Debug, Drop)]
-pub struct Filled<T>(pub T);
-
-impl<'a, A: Allocator + Copy, T: Filling<'a, A>> Readable<'a, A> for Filled<T> {
-    ghost Value = { T.Value };
-
-    ghost format = { frame T.format };
-
-    ghost view = { λ f. T.view f.0 };
-
-    ghost alone = { frame-alone T.whole };
-
-    #[tactic(auto, using(crate::proofs::ReadFrames::filled_steps))]
-    fn read(bytes: &'a [u8], alloc: A) -> Result<(Filled<T>, &'a [u8]), ReadFault> {
-        let (content, rest) = <&'a [u8] as Readable<'a, A>>::read(bytes, alloc)?;
-        let value = T::fill(content, alloc)?;
-        Ok((Filled(value), rest))
     }
 }
 
@@ -83,27 +66,8 @@ fn append_framed<T: Shorten, B: Allocator>(value: &T, out: &mut Vec<u8, B>) -> R
 }
 
 impl<T: Shorten> Shorten for Framed<T> {
-    ghost Value = { T.Value };
-
-    ghost format = { frame T.format };
-
-    ghost view = { λ f. T.view f.0 };
-
     fn append_shortest<B: Allocator>(&self, out: &mut Vec<u8, B>) -> R<()> {
         let Framed(value) = self;
         append_framed(value, out)
-    }
-}
-
-impl<T: Shorten> Shorten for Filled<T> {
-    ghost Value = { T.Value };
-
-    ghost format = { frame T.format };
-
-    ghost view = { λ f. T.view f.0 };
-
-    fn append_shortest<B: Allocator>(&self, out: &mut Vec<u8, B>) -> R<()> {
-        let Filled(content) = self;
-        append_framed(content, out)
     }
 }

@@ -4,7 +4,6 @@ ghost use Rattle.wasm_base.specs.Formats.{optional};
 ghost use Rattle.wasm_base.specs.Numbers.{Mode, wide};
 ghost use Rattle.wasm_base.specs.Reading.{Reads, ReadsNothing};
 ghost use Rattle.wasm_immediates.specs.PlainImmediates.{ordering_format, mem_ordering, target_of, mem_arg, block_type, catch as catch_format, handle as handle_format};
-ghost use Rattle.wasm_immediates.proofs.ImmediateLaws.{ordering-alone, mem_ordering-alone, mem_arg-alone, block-alone, catch-alone, handle-alone};
 ghost use Rattle.wasm_immediates.specs.declared.memory.Ordering.{Ordering as OrderingModel};
 ghost use Rattle.wasm_immediates.specs.declared.memory.MemArgOrdering.{MemArgOrdering as MemOrderingModel};
 ghost use Rattle.wasm_immediates.specs.declared.memory.MemArg.{MemArg as MemArgModel};
@@ -16,20 +15,23 @@ ghost use Rattle.wasm_reader_base.specs.declared.fault.ReadFault.TheVariants.{Me
 use crate::fault::ReadFault;
 use crate::numbers::read_index;
 use crate::optional::read_optional;
-use crate::readable::Readable;
+use crate::readable::{Readable, Spelled};
 use crate::types::read_val_after;
 use std::alloc::Allocator;
 use wasm_immediates::{BlockType, Catch, Handle, MemArg, MemArgOrdering, MemArgTarget, Ordering};
 
-impl<'a, A: Allocator + Copy> Readable<'a, A> for Ordering {
+impl Spelled for Ordering {
     ghost Value = { OrderingModel };
 
     ghost format = { ordering_format };
 
     ghost view = { λ o. o };
 
-    ghost alone = { ordering-alone };
+    #[tactic(auto, using(wasm_immediates::proofs::ImmediateLaws::ordering_unique))]
+    fn laws() {}
+}
 
+impl<'a, A: Allocator + Copy> Readable<'a, A> for Ordering {
     #[tactic(auto, using(crate::proofs::ReadImmediates::ordering_steps))]
     fn read(bytes: &'a [u8], alloc: A) -> Result<(Ordering, &'a [u8]), ReadFault> {
         let (byte, rest) = <u8 as Readable<'a, A>>::read(bytes, alloc)?;
@@ -41,15 +43,18 @@ impl<'a, A: Allocator + Copy> Readable<'a, A> for Ordering {
     }
 }
 
-impl<'a, A: Allocator + Copy> Readable<'a, A> for MemArgOrdering {
+impl Spelled for MemArgOrdering {
     ghost Value = { MemOrderingModel };
 
     ghost format = { mem_ordering };
 
     ghost view = { λ o. o };
 
-    ghost alone = { mem_ordering-alone };
+    #[tactic(auto, using(wasm_immediates::proofs::ImmediateLaws::mem_ordering_unique))]
+    fn laws() {}
+}
 
+impl<'a, A: Allocator + Copy> Readable<'a, A> for MemArgOrdering {
     #[tactic(auto, using(crate::proofs::ReadImmediates::mem_ordering_steps))]
     fn read(bytes: &'a [u8], alloc: A) -> Result<(MemArgOrdering, &'a [u8]), ReadFault> {
         let (tag, rest) = <u8 as Readable<'a, A>>::read(bytes, alloc)?;
@@ -122,15 +127,18 @@ fn read_any_memory<'a, A: Allocator + Copy>(
     ))
 }
 
-impl<'a, A: Allocator + Copy> Readable<'a, A> for MemArg {
+impl Spelled for MemArg {
     ghost Value = { MemArgModel };
 
     ghost format = { mem_arg };
 
     ghost view = { λ m. m };
 
-    ghost alone = { mem_arg-alone };
+    #[tactic(auto, using(wasm_immediates::proofs::ImmediateLaws::mem_arg_unique))]
+    fn laws() {}
+}
 
+impl<'a, A: Allocator + Copy> Readable<'a, A> for MemArg {
     #[tactic(auto, using(crate::proofs::ReadImmediates::memory_steps))]
     #[inline]
     fn read(bytes: &'a [u8], alloc: A) -> Result<(MemArg, &'a [u8]), ReadFault> {
@@ -174,15 +182,18 @@ fn read_any_block<'a, A: Allocator + Copy>(
     }
 }
 
-impl<'a, A: Allocator + Copy> Readable<'a, A> for BlockType {
+impl Spelled for BlockType {
     ghost Value = { BlockModel };
 
     ghost format = { block_type };
 
     ghost view = { λ b. b };
 
-    ghost alone = { block-alone };
+    #[tactic(auto, using(wasm_immediates::proofs::ImmediateLaws::block_unique))]
+    fn laws() {}
+}
 
+impl<'a, A: Allocator + Copy> Readable<'a, A> for BlockType {
     #[tactic(auto, using(crate::proofs::ReadImmediates::block_steps))]
     #[inline]
     fn read(bytes: &'a [u8], alloc: A) -> Result<(BlockType, &'a [u8]), ReadFault> {
@@ -194,15 +205,18 @@ impl<'a, A: Allocator + Copy> Readable<'a, A> for BlockType {
     }
 }
 
-impl<'a, A: Allocator + Copy> Readable<'a, A> for Catch {
+impl Spelled for Catch {
     ghost Value = { CatchModel };
 
     ghost format = { catch_format };
 
     ghost view = { λ c. c };
 
-    ghost alone = { catch-alone };
+    #[tactic(auto, using(wasm_immediates::proofs::ImmediateLaws::catch_unique))]
+    fn laws() {}
+}
 
+impl<'a, A: Allocator + Copy> Readable<'a, A> for Catch {
     #[tactic(auto, using(crate::proofs::ReadImmediates::catch_steps))]
     fn read(bytes: &'a [u8], alloc: A) -> Result<(Catch, &'a [u8]), ReadFault> {
         let (kind, rest) = <u8 as Readable<'a, A>>::read(bytes, alloc)?;
@@ -228,15 +242,18 @@ impl<'a, A: Allocator + Copy> Readable<'a, A> for Catch {
     }
 }
 
-impl<'a, A: Allocator + Copy> Readable<'a, A> for Handle {
+impl Spelled for Handle {
     ghost Value = { HandleModel };
 
     ghost format = { handle_format };
 
     ghost view = { λ h. h };
 
-    ghost alone = { handle-alone };
+    #[tactic(auto, using(wasm_immediates::proofs::ImmediateLaws::handle_unique))]
+    fn laws() {}
+}
 
+impl<'a, A: Allocator + Copy> Readable<'a, A> for Handle {
     #[tactic(auto, using(crate::proofs::ReadImmediates::handle_steps))]
     fn read(bytes: &'a [u8], alloc: A) -> Result<(Handle, &'a [u8]), ReadFault> {
         let (kind, rest) = <u8 as Readable<'a, A>>::read(bytes, alloc)?;

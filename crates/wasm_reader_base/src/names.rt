@@ -1,24 +1,29 @@
 // Framed bytes and names, which are slices of the input.
 ghost use Rattle.std.specs.Prelude.{ℕ, List};
 ghost use Rattle.wasm_base.specs.Formats.{frame, any_bytes, name};
-ghost use Rattle.wasm_base.proofs.BaseLaws.{frame-bytes-alone, name-alone};
+ghost use Rattle.wasm_base.specs.Reading.{UniqueReading};
 
 use crate::fault::ReadFault;
-use crate::readable::Readable;
+use crate::readable::{Readable, Spelled};
 use crate::shorten::Shorten;
 use std::alloc::Allocator;
 use wasm_base::{Encode, R, encode_frame};
 
 /// The bytes of a frame.
-impl<'a, A: Allocator + Copy> Readable<'a, A> for &'a [u8] {
+impl<'a> Spelled for &'a [u8] {
     ghost Value = { List ℕ };
 
     ghost format = { frame any_bytes };
 
     ghost view = { λ b. b.now };
 
-    ghost alone = { frame-bytes-alone };
+    #[tactic(auto, using(wasm_base::proofs::BaseLaws::frame_bytes_unique))]
+    fn laws()
+        ensures { UniqueReading (frame any_bytes) }
+    {}
+}
 
+impl<'a, A: Allocator + Copy> Readable<'a, A> for &'a [u8] {
     #[tactic(auto, using(crate::proofs::ReadFrames::frame_steps))]
     fn read(bytes: &'a [u8], alloc: A) -> Result<(&'a [u8], &'a [u8]), ReadFault> {
         let (size, rest) = <u32 as Readable<'a, A>>::read(bytes, alloc)?;
@@ -30,15 +35,20 @@ impl<'a, A: Allocator + Copy> Readable<'a, A> for &'a [u8] {
 }
 
 /// A name: a length, and that many bytes of UTF-8.
-impl<'a, A: Allocator + Copy> Readable<'a, A> for &'a str {
+impl<'a> Spelled for &'a str {
     ghost Value = { List ℕ };
 
     ghost format = { name };
 
     ghost view = { λ s. s.now };
 
-    ghost alone = { name-alone };
+    #[tactic(auto, using(wasm_base::proofs::BaseLaws::name_unique))]
+    fn laws()
+        ensures { UniqueReading name }
+    {}
+}
 
+impl<'a, A: Allocator + Copy> Readable<'a, A> for &'a str {
     #[tactic(auto, using(crate::proofs::ReadFrames::name_steps))]
     fn read(bytes: &'a [u8], alloc: A) -> Result<(&'a str, &'a [u8]), ReadFault> {
         let (text, rest) = <&'a [u8] as Readable<'a, A>>::read(bytes, alloc)?;
@@ -50,12 +60,6 @@ impl<'a, A: Allocator + Copy> Readable<'a, A> for &'a str {
 }
 
 impl Shorten for &[u8] {
-    ghost Value = { List ℕ };
-
-    ghost format = { frame any_bytes };
-
-    ghost view = { λ b. b.now };
-
     #[tactic(auto, using(crate::proofs::ReadPlain::bytes_appended))]
     fn append_shortest<B: Allocator>(&self, out: &mut Vec<u8, B>) -> R<()> {
         encode_frame(out, self)
@@ -63,12 +67,6 @@ impl Shorten for &[u8] {
 }
 
 impl Shorten for &str {
-    ghost Value = { List ℕ };
-
-    ghost format = { name };
-
-    ghost view = { λ s. s.now };
-
     #[tactic(auto, using(crate::proofs::ReadPlain::name_appended))]
     fn append_shortest<B: Allocator>(&self, out: &mut Vec<u8, B>) -> R<()> {
         self.encode(out)

@@ -4,12 +4,10 @@ ghost use Rattle.wasm_base.specs.Formats.{u32 as u32_format, u64 as u64_format, 
 ghost use Rattle.wasm_base.specs.Groups.{groups, HasGroups, signed_of};
 ghost use Rattle.wasm_base.specs.Numbers.{wide};
 ghost use Rattle.wasm_base.specs.Reading.{Reads, ReadsNothing};
-ghost use Rattle.wasm_base.proofs.NumberLaws.{u32-alone};
-ghost use Rattle.wasm_base.proofs.BaseLaws.{u64-alone, s32-alone, s64-alone};
 ghost use Rattle.wasm_reader_base.specs.declared.fault.ReadFault.TheVariants.{Memory};
 
 use crate::fault::ReadFault;
-use crate::readable::Readable;
+use crate::readable::{Readable, Spelled};
 use crate::shorten::Shorten;
 use std::alloc::Allocator;
 use wasm_base::{Encode, Groups, NoGroups, R, read_groups};
@@ -164,15 +162,18 @@ fn read_long_i64(bytes: &[u8]) -> Result<(i64, &[u8]), ReadFault>
     }
 }
 
-impl<'a, A: Allocator + Copy> Readable<'a, A> for u32 {
+impl Spelled for u32 {
     ghost Value = { ℕ };
 
     ghost format = { u32_format };
 
     ghost view = { λ n. n };
 
-    ghost alone = { u32-alone };
+    #[tactic(auto, using(wasm_base::proofs::NumberLaws::u32_unique))]
+    fn laws() {}
+}
 
+impl<'a, A: Allocator + Copy> Readable<'a, A> for u32 {
     #[tactic(auto, using(crate::proofs::ReadNumbers::u32_steps))]
     #[inline]
     fn read(bytes: &'a [u8], _alloc: A) -> Result<(u32, &'a [u8]), ReadFault> {
@@ -185,15 +186,18 @@ impl<'a, A: Allocator + Copy> Readable<'a, A> for u32 {
     }
 }
 
-impl<'a, A: Allocator + Copy> Readable<'a, A> for u64 {
+impl Spelled for u64 {
     ghost Value = { ℕ };
 
     ghost format = { u64_format };
 
     ghost view = { λ n. n };
 
-    ghost alone = { u64-alone };
+    #[tactic(auto, using(wasm_base::proofs::BaseLaws::u64_unique))]
+    fn laws() {}
+}
 
+impl<'a, A: Allocator + Copy> Readable<'a, A> for u64 {
     #[tactic(auto, using(crate::proofs::ReadNumbers::u64_steps))]
     #[inline]
     fn read(bytes: &'a [u8], _alloc: A) -> Result<(u64, &'a [u8]), ReadFault> {
@@ -206,15 +210,18 @@ impl<'a, A: Allocator + Copy> Readable<'a, A> for u64 {
     }
 }
 
-impl<'a, A: Allocator + Copy> Readable<'a, A> for i32 {
+impl Spelled for i32 {
     ghost Value = { ℤ };
 
     ghost format = { s32 };
 
     ghost view = { λ n. n };
 
-    ghost alone = { s32-alone };
+    #[tactic(auto, using(wasm_base::proofs::BaseLaws::s32_unique))]
+    fn laws() {}
+}
 
+impl<'a, A: Allocator + Copy> Readable<'a, A> for i32 {
     #[tactic(auto, using(crate::proofs::ReadNumbers::s32_steps))]
     #[inline]
     fn read(bytes: &'a [u8], _alloc: A) -> Result<(i32, &'a [u8]), ReadFault> {
@@ -227,15 +234,18 @@ impl<'a, A: Allocator + Copy> Readable<'a, A> for i32 {
     }
 }
 
-impl<'a, A: Allocator + Copy> Readable<'a, A> for i64 {
+impl Spelled for i64 {
     ghost Value = { ℤ };
 
     ghost format = { s64 };
 
     ghost view = { λ n. n };
 
-    ghost alone = { s64-alone };
+    #[tactic(auto, using(wasm_base::proofs::BaseLaws::s64_unique))]
+    fn laws() {}
+}
 
+impl<'a, A: Allocator + Copy> Readable<'a, A> for i64 {
     #[tactic(auto, using(crate::proofs::ReadNumbers::s64_steps))]
     #[inline]
     fn read(bytes: &'a [u8], _alloc: A) -> Result<(i64, &'a [u8]), ReadFault> {
@@ -267,12 +277,6 @@ pub(crate) fn read_index(bytes: &[u8]) -> Result<(u32, &[u8]), ReadFault>
 }
 
 impl Shorten for u32 {
-    ghost Value = { ℕ };
-
-    ghost format = { u32_format };
-
-    ghost view = { λ n. n };
-
     #[tactic(auto, using(crate::proofs::ReadPlain::u32_appended))]
     fn append_shortest<B: Allocator>(&self, out: &mut Vec<u8, B>) -> R<()> {
         self.encode(out)

@@ -3,7 +3,6 @@ ghost use Rattle.std.specs.Prelude.{◌≡◌, ◌≢◌, ℕ, List, length, IfO
 ghost use Rattle.wasm_base.specs.Formats.{pair, vec};
 ghost use Rattle.wasm_base.specs.Numbers.{Mode, wide};
 ghost use Rattle.wasm_base.specs.Reading.{UniqueReading, Reads, ReadsNothing};
-ghost use Rattle.wasm_base.proofs.FormatLaws.{pair-alone};
 ghost use Rattle.wasm_reader_base.specs.declared.fault.ReadFault.TheVariants.{Memory};
 
 use crate::fault::ReadFault;
@@ -19,8 +18,9 @@ pub trait Passed<'a, A: Allocator + Copy> {
     // What bytes spell.
     ghost format: { Mode → List ℕ → Value → Type 0 };
 
-    // One value stands at the front of bytes, whatever follows.
-    ghost alone: { UniqueReading format };
+    /// One value stands at the front of bytes, whatever follows. The function does nothing.
+    fn laws()
+        ensures { UniqueReading format };
 
     /// The bytes after the value at the front, its numbers padded or not.
     fn pass(bytes: &'a [u8], alloc: A) -> Result<&'a [u8], ReadFault>
@@ -36,7 +36,9 @@ impl<'a, A: Allocator + Copy, T: Readable<'a, A>> Passed<'a, A> for Dropped<T> {
 
     ghost format = { T.format };
 
-    ghost alone = { T.alone };
+    fn laws() {
+        T::laws();
+    }
 
     #[inline]
     fn pass(bytes: &'a [u8], alloc: A) -> Result<&'a [u8], ReadFault> {
@@ -51,11 +53,15 @@ impl<'a, A: Allocator + Copy, P: Passed<'a, A>, Q: Passed<'a, A>> Passed<'a, A> 
 
     ghost format = { pair P.format Q.format };
 
-    ghost alone = { pair-alone P.alone Q.alone };
+    fn laws() {
+        P::laws();
+        Q::laws();
+    }
 
     #[tactic(auto, using(wasm_base::proofs::ReadingSteps::steps))]
     fn pass(bytes: &'a [u8], alloc: A) -> Result<&'a [u8], ReadFault> {
         let after = P::pass(bytes, alloc)?;
+        P::laws();
         let rest = Q::pass(after, alloc)?;
         Ok(rest)
     }
@@ -70,6 +76,7 @@ pub fn pass_many<'a, P: Passed<'a, A>, A: Allocator + Copy>(
     ensures none { IfErr result (λ e. e ≢ Memory → ReadsNothing (vec P.format) wide bytes.now) }
 {
     let (count, mut rest) = <u32 as Readable<'a, A>>::read(bytes, alloc)?;
+    P::laws();
     for _taken in 0..count {
         rest = P::pass(rest, alloc)?;
     }

@@ -4,7 +4,6 @@ ghost use Rattle.wasm_base.specs.Formats.{choice, impossible};
 ghost use Rattle.wasm_base.specs.Numbers.{Mode, wide};
 ghost use Rattle.wasm_base.specs.Reading.{Reads, ReadsNothing};
 ghost use Rattle.wasm_base.specs.Types.{abstract_code, abstract_type, heap_type, ref_tags, ref_type, val_tags, val_ref, val_type, HasNoByte};
-ghost use Rattle.wasm_base.proofs.TypeLaws.{abstract-alone, heap-alone, ref-alone, val-alone};
 ghost use Rattle.wasm_base.specs.declared.types.AbstractHeapType.{AbstractHeapType as Abstract};
 ghost use Rattle.wasm_base.specs.declared.types.HeapType.{HeapType as Heap};
 ghost use Rattle.wasm_base.specs.declared.types.RefType.{RefType as Ref};
@@ -13,7 +12,7 @@ ghost use Rattle.wasm_reader_base.specs.declared.fault.ReadFault.TheVariants.{Me
 
 use crate::fault::ReadFault;
 use crate::numbers::read_index;
-use crate::readable::Readable;
+use crate::readable::{Readable, Spelled};
 use crate::shorten::Shorten;
 use std::alloc::Allocator;
 use wasm_base::{AbstractHeapType, Encode, HeapType, R, RefType, ValType};
@@ -42,15 +41,18 @@ fn abstract_of(byte: u8) -> Option<AbstractHeapType>
     }
 }
 
-impl<'a, A: Allocator + Copy> Readable<'a, A> for AbstractHeapType {
+impl Spelled for AbstractHeapType {
     ghost Value = { Abstract };
 
     ghost format = { abstract_type };
 
     ghost view = { λ ty. ty };
 
-    ghost alone = { abstract-alone };
+    #[tactic(auto, using(wasm_base::proofs::TypeLaws::abstract_unique))]
+    fn laws() {}
+}
 
+impl<'a, A: Allocator + Copy> Readable<'a, A> for AbstractHeapType {
     #[tactic(auto, using(crate::proofs::ReadTypes::abstract_type_steps))]
     fn read(bytes: &'a [u8], alloc: A) -> Result<(AbstractHeapType, &'a [u8]), ReadFault> {
         let (byte, rest) = <u8 as Readable<'a, A>>::read(bytes, alloc)?;
@@ -61,15 +63,18 @@ impl<'a, A: Allocator + Copy> Readable<'a, A> for AbstractHeapType {
     }
 }
 
-impl<'a, A: Allocator + Copy> Readable<'a, A> for HeapType {
+impl Spelled for HeapType {
     ghost Value = { Heap };
 
     ghost format = { heap_type };
 
     ghost view = { λ heap. heap };
 
-    ghost alone = { heap-alone };
+    #[tactic(auto, using(wasm_base::proofs::TypeLaws::heap_unique))]
+    fn laws() {}
+}
 
+impl<'a, A: Allocator + Copy> Readable<'a, A> for HeapType {
     #[tactic(auto, using(crate::proofs::ReadTypes::heap_steps))]
     fn read(bytes: &'a [u8], alloc: A) -> Result<(HeapType, &'a [u8]), ReadFault> {
         let (tag, rest) = <u8 as Readable<'a, A>>::read(bytes, alloc)?;
@@ -148,15 +153,18 @@ fn read_ref_after<'a, A: Allocator + Copy>(
     }
 }
 
-impl<'a, A: Allocator + Copy> Readable<'a, A> for RefType {
+impl Spelled for RefType {
     ghost Value = { Ref };
 
     ghost format = { ref_type };
 
     ghost view = { λ r. r };
 
-    ghost alone = { ref-alone };
+    #[tactic(auto, using(wasm_base::proofs::TypeLaws::ref_unique))]
+    fn laws() {}
+}
 
+impl<'a, A: Allocator + Copy> Readable<'a, A> for RefType {
     #[tactic(auto, using(crate::proofs::ReadTypes::ref_type_steps))]
     fn read(bytes: &'a [u8], alloc: A) -> Result<(RefType, &'a [u8]), ReadFault> {
         let (tag, rest) = <u8 as Readable<'a, A>>::read(bytes, alloc)?;
@@ -187,15 +195,18 @@ pub fn read_val_after<'a, A: Allocator + Copy>(
     }
 }
 
-impl<'a, A: Allocator + Copy> Readable<'a, A> for ValType {
+impl Spelled for ValType {
     ghost Value = { Val };
 
     ghost format = { val_type };
 
     ghost view = { λ ty. ty };
 
-    ghost alone = { val-alone };
+    #[tactic(auto, using(wasm_base::proofs::TypeLaws::val_unique))]
+    fn laws() {}
+}
 
+impl<'a, A: Allocator + Copy> Readable<'a, A> for ValType {
     #[tactic(auto, using(crate::proofs::ReadTypes::val_type_steps))]
     fn read(bytes: &'a [u8], alloc: A) -> Result<(ValType, &'a [u8]), ReadFault> {
         let (tag, rest) = <u8 as Readable<'a, A>>::read(bytes, alloc)?;
@@ -204,12 +215,6 @@ impl<'a, A: Allocator + Copy> Readable<'a, A> for ValType {
 }
 
 impl Shorten for ValType {
-    ghost Value = { Val };
-
-    ghost format = { val_type };
-
-    ghost view = { λ ty. ty };
-
     #[tactic(auto, using(crate::proofs::ReadPlain::val_appended))]
     fn append_shortest<B: Allocator>(&self, out: &mut Vec<u8, B>) -> R<()> {
         self.encode(out)

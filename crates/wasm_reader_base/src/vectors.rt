@@ -1,29 +1,33 @@
 // Vectors.
 ghost use Rattle.std.specs.Prelude.{List, OnOk, map};
 ghost use Rattle.wasm_base.specs.Formats.{members, vec};
-ghost use Rattle.wasm_base.proofs.FormatLaws.{vec-alone};
 ghost use Rattle.wasm_reader_base.specs.Shortest.{AppendsShortest};
 
 use crate::fault::ReadFault;
-use crate::readable::Readable;
+use crate::readable::{Readable, Spelled};
 use crate::shorten::Shorten;
 use std::alloc::Allocator;
 use wasm_base::{Encode, R};
 
 /// A count, and that many members. Memory is taken for members that stand there, and not by the count.
-impl<'a, A: Allocator + Copy, T: Readable<'a, A>> Readable<'a, A> for Vec<T, A> {
+impl<A: Allocator, T: Spelled> Spelled for Vec<T, A> {
     ghost Value = { List T.Value };
 
     ghost format = { vec T.format };
 
     ghost view = { λ v. map T.view v.items };
 
-    ghost alone = { vec-alone T.alone };
+    fn laws() {
+        T::laws();
+    }
+}
 
+impl<'a, A: Allocator + Copy, T: Readable<'a, A>> Readable<'a, A> for Vec<T, A> {
     #[tactic(auto, using(crate::proofs::ReadVectors::vec_steps))]
     fn read(bytes: &'a [u8], alloc: A) -> Result<(Vec<T, A>, &'a [u8]), ReadFault> {
         let (count, mut rest) = <u32 as Readable<'a, A>>::read(bytes, alloc)?;
         let mut items = Vec::new(alloc);
+        T::laws();
         for _taken in 0..count {
             let (item, after) = T::read(rest, alloc)?;
             items.push(item)?;
@@ -46,12 +50,6 @@ pub fn append_all<T: Shorten, B: Allocator>(items: &[T], out: &mut Vec<u8, B>) -
 
 /// Appends the shortest texts of the values behind their number.
 impl<T: Shorten, A: Allocator> Shorten for Vec<T, A> {
-    ghost Value = { List T.Value };
-
-    ghost format = { vec T.format };
-
-    ghost view = { λ v. map T.view v.items };
-
     fn append_shortest<B: Allocator>(&self, out: &mut Vec<u8, B>) -> R<()> {
         self.len().encode(out)?;
         append_all(self, out)

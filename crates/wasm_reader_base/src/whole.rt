@@ -1,12 +1,12 @@
 // Values that all of the bytes spell.
 ghost use Rattle.std.specs.Prelude.{◌≢◌, IfOk, IfErr, map};
-ghost use Rattle.wasm_base.specs.Formats.{vec};
+ghost use Rattle.wasm_base.specs.Formats.{members};
 ghost use Rattle.wasm_base.specs.Going.{FillsNothing};
 ghost use Rattle.wasm_base.specs.Numbers.{wide};
+ghost use Rattle.wasm_base.specs.Reading.{BeginsWith};
 ghost use Rattle.wasm_reader_base.specs.declared.fault.ReadFault.TheVariants.{Memory};
 
 use crate::fault::ReadFault;
-use crate::item::{Item, read_many};
 use crate::readable::Readable;
 use std::alloc::Allocator;
 
@@ -20,6 +20,7 @@ pub fn read_whole<'a, T: Readable<'a, A>, A: Allocator + Copy>(
     ensures none { IfErr result (λ e. e ≢ Memory → FillsNothing T.format bytes.now) }
 {
     let (value, left) = T::read(bytes, alloc)?;
+    T::laws();
     if left.is_empty() {
         Ok(value)
     } else {
@@ -27,19 +28,24 @@ pub fn read_whole<'a, T: Readable<'a, A>, A: Allocator + Copy>(
     }
 }
 
-/// The items behind their number that all of the bytes spell.
-#[tactic(auto, using(crate::proofs::ReadWhole::whole_steps))]
-pub fn read_list<'a, T: Item<'a, Here, A>, Here, A: Allocator + Copy>(
+/// Values one after another, up to the last byte, none of which is empty. Memory is taken for values that stand there.
+pub fn read_to_end<'a, T: Readable<'a, A>, A: Allocator + Copy>(
     bytes: &'a [u8],
     alloc: A,
 ) -> Result<Vec<T, A>, ReadFault>
-    ensures found { IfOk result (λ x. vec T.format wide bytes.now (map T.view x.items)) }
-    ensures none { IfErr result (λ e. e ≢ Memory → FillsNothing (vec T.format) bytes.now) }
+    requires { BeginsWith (λ b. Unit {0}) T.format }
+    ensures found { IfOk result (λ x. members T.format wide bytes.now (map T.view x.items)) }
+    ensures none { IfErr result (λ e. e ≢ Memory → FillsNothing (members T.format) bytes.now) }
 {
-    let (items, left) = read_many::<'a, T, Here, A>(bytes, alloc)?;
-    if left.is_empty() {
-        Ok(items)
-    } else {
-        Err(ReadFault::SizeMismatch)
+    let mut items = Vec::new(alloc);
+    let mut rest = bytes;
+    T::laws();
+    loop {
+        if rest.is_empty() {
+            return Ok(items);
+        }
+        let (item, after) = T::read(rest, alloc)?;
+        items.push(item)?;
+        rest = after;
     }
 }

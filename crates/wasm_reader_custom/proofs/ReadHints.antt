@@ -5,8 +5,8 @@ use Rattle.wasm_base.specs.Going.{FillsNothing}
 use Rattle.wasm_base.specs.Numbers.{wide}
 use Rattle.wasm_base.specs.Formats.{Format, byte, name, just, prefixed, such, u32, vec}
 use Rattle.wasm_base.specs.Reading.{Reads, ReadsNothing}
-use Rattle.wasm_base.proofs.FormatLaws.{byte-alone}
-use Rattle.wasm_base.proofs.NumberLaws.{u32-alone}
+use Rattle.wasm_base.proofs.FormatLaws.{byte_unique}
+use Rattle.wasm_base.proofs.NumberLaws.{u32_unique}
 use Rattle.wasm_base.proofs.ReadingSteps.{then_reads, then_nothing_first, then_nothing_second, mapped_reads, mapped_nothing, such_reads, such_none, such_nothing}
 use Rattle.wasm_custom.specs.Hints.{Hints, hint_of, hint, hints, hints_name}
 use Rattle.wasm_custom.specs.Readings.{hints_payload}
@@ -25,7 +25,7 @@ pub value_none : (bytes : List ℕ) → ReadsNothing byte wide bytes → ReadsNo
 value_none bytes n = such_none (λ b. b < 128) n
 
 pub value_large : (bytes rest : List ℕ) (b : ℕ) → Reads byte wide bytes b rest → 128 ≤ b → ReadsNothing value wide bytes
-value_large bytes rest b h l = such_nothing (λ b. b < 128) byte-alone h (λ p. omega (arith, p, l))
+value_large bytes rest b h l = such_nothing (λ b. b < 128) byte_unique h (λ p. omega (arith, p, l))
 
 pub ruleset value_steps = (value_reads, value_large)
 
@@ -41,7 +41,7 @@ pub hint_none : (bytes : List ℕ) → ReadsNothing u32 wide bytes → ReadsNoth
 hint_none bytes n = mapped_nothing hint_of (then_nothing_first n)
 
 pub hint_nothing : (bytes rest : List ℕ) (n : ℕ) → Reads u32 wide bytes n rest → ReadsNothing marked_value wide rest → ReadsNothing hint wide bytes
-hint_nothing bytes rest n h none = mapped_nothing hint_of (then_nothing_second u32-alone h none)
+hint_nothing bytes rest n h none = mapped_nothing hint_of (then_nothing_second u32_unique h none)
 
 pub ruleset hint_steps = (hint_reads, hint_nothing)
 
@@ -54,7 +54,7 @@ pub hints_none : (bytes : List ℕ) → ReadsNothing u32 wide bytes → ReadsNot
 hints_none bytes n = then_nothing_first n
 
 pub hints_nothing : (bytes rest : List ℕ) (n : ℕ) → Reads u32 wide bytes n rest → ReadsNothing (vec hint) wide rest → ReadsNothing hints wide bytes
-hints_nothing bytes rest n h none = then_nothing_second u32-alone h none
+hints_nothing bytes rest n h none = then_nothing_second u32_unique h none
 
 -- ---- sections
 

@@ -4,9 +4,9 @@ use Rattle.wasm_base.specs.Going.{FillsNothing}
 use Rattle.wasm_base.specs.Numbers.{wide}
 use Rattle.wasm_base.specs.Formats.{Format, byte, name, any_bytes, just, frame, u32, members, vec, impossible, choice}
 use Rattle.wasm_base.specs.Reading.{Reads, ReadsNothing}
-use Rattle.wasm_base.proofs.AfterLaws.{just-alone}
-use Rattle.wasm_base.proofs.FormatLaws.{byte-alone}
-use Rattle.wasm_base.proofs.NumberLaws.{u32-alone}
+use Rattle.wasm_base.proofs.AfterLaws.{just_unique}
+use Rattle.wasm_base.proofs.FormatLaws.{byte_unique}
+use Rattle.wasm_base.proofs.NumberLaws.{u32_unique}
 use Rattle.wasm_base.proofs.ReadingSteps.{mapped_reads, mapped_nothing}
 use Rattle.wasm_base.proofs.Tags.{tagged_reads, tagged_none, tagged_nothing, no_choice}
 use Rattle.wasm_reader_base.proofs.ReadFrames.{filled_reads, filled_none, filled_nothing}
@@ -25,7 +25,7 @@ id_is : (c : ℕ) {bytes rest last : List ℕ} {b : ℕ} {x : LinkItem} → Read
 id_is c {rest = rest} {last = last} {x = x} h e g = tagged_reads {G = after_id} h (subst (λ z. Reads (after_id z) wide rest x last) (sym e) g)
 
 id_is_not : (c : ℕ) {bytes rest : List ℕ} {b : ℕ} → Reads byte wide bytes b rest → b ≡ c → ReadsNothing (after_id c) wide rest → ReadsNothing link wide bytes
-id_is_not c {rest = rest} h e n = tagged_nothing {G = after_id} byte-alone h (subst (λ z. ReadsNothing (after_id z) wide rest) (sym e) n)
+id_is_not c {rest = rest} h e n = tagged_nothing {G = after_id} byte_unique h (subst (λ z. ReadsNothing (after_id z) wide rest) (sym e) n)
 
 pub link_none : (bytes : List ℕ) → ReadsNothing byte wide bytes → ReadsNothing link wide bytes
 link_none bytes n = tagged_none byte after_id bytes n
@@ -46,7 +46,7 @@ pub arch_none : (bytes rest : List ℕ) (b : ℕ) → Reads byte wide bytes b re
 arch_none bytes rest b h e n = id_is_not 9 h e (mapped_nothing Target n)
 
 pub link_unknown : (bytes rest : List ℕ) (b : ℕ) → Reads byte wide bytes b rest → b ≢ 8 → b ≢ 9 → ReadsNothing link wide bytes
-link_unknown bytes rest b h p q = tagged_nothing {G = after_id} byte-alone h (no_choice link_tags b rest (p, (q, tt)))
+link_unknown bytes rest b h p q = tagged_nothing {G = after_id} byte_unique h (no_choice link_tags b rest (p, (q, tt)))
 
 pub ruleset link_steps = (arch_reads, arch_none, link_unknown)
 
@@ -59,7 +59,7 @@ pub version_none : (bytes : List ℕ) → ReadsNothing u32 wide bytes → ReadsN
 version_none bytes n = just_none u32 version bytes n
 
 pub version_other : (bytes rest : List ℕ) (n : ℕ) → Reads u32 wide bytes n rest → n ≢ 2 → ReadsNothing (just version u32) wide bytes
-version_other bytes rest n h p = just_other u32 version bytes u32-alone rest n h p
+version_other bytes rest n h p = just_other u32 version bytes u32_unique rest n h p
 
 pub ruleset version_steps = (version_there, version_other)
 
@@ -78,6 +78,6 @@ pub links_no_version : (bytes rest : List ℕ) → Reads (just linking_name name
 links_no_version bytes rest h n = named_nothing linking_name items bytes rest h (behind_none (just version u32) (listing false link) rest n)
 
 pub no_links : (bytes rest last : List ℕ) → Reads (just linking_name name) wide bytes tt rest → Reads (just version u32) wide rest tt last → FillsNothing (members link) last → FillsNothing linking_payload bytes
-no_links bytes rest last h g n = named_nothing linking_name items bytes rest h (behind_nothing (just version u32) (listing false link) rest (just-alone version u32-alone) last g n)
+no_links bytes rest last h g n = named_nothing linking_name items bytes rest h (behind_nothing (just version u32) (listing false link) rest (just_unique version u32_unique) last g n)
 
 pub ruleset section_steps = (links_fill, links_none, links_no_version, no_links)

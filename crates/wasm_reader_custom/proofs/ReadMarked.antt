@@ -3,7 +3,7 @@ use Rattle.std.proofs.Common.{◌≡◌, ◌≢◌, ℕ, List, [], ◌∷◌, re
 use Rattle.wasm_base.specs.Numbers.{wide}
 use Rattle.wasm_base.specs.Formats.{Format, byte, fixed, prefixed}
 use Rattle.wasm_base.specs.Reading.{Reads, ReadsNothing}
-use Rattle.wasm_base.proofs.FormatLaws.{fixed-alone, byte-alone}
+use Rattle.wasm_base.proofs.FormatLaws.{fixed_unique, byte_unique}
 use Rattle.wasm_base.proofs.ReadingSteps.{reads_same}
 use Rattle.wasm_base.proofs.Tags.{tagged_reads, tagged_none, tagged_nothing}
 
@@ -21,9 +21,9 @@ module _ {X : Type 0} (m : ℕ) (F : Format X) (bytes : List ℕ) where
   marked_none n = tagged_none (fixed (m ∷ []) (tt {0})) (λ u. F) bytes (record { none = λ u rest h. n.none m rest (there_mark h) })
 
   pub marked_other : (rest : List ℕ) (b : ℕ) → Reads byte wide bytes b rest → b ≢ m → ReadsNothing (prefixed (m ∷ []) F) wide bytes
-  marked_other rest b h p = tagged_none (fixed (m ∷ []) (tt {0})) (λ u. F) bytes (record { none = λ u last g. p (reads_same byte-alone h (there_mark g)).0 })
+  marked_other rest b h p = tagged_none (fixed (m ∷ []) (tt {0})) (λ u. F) bytes (record { none = λ u last g. p (reads_same byte_unique h (there_mark g)).0 })
 
   pub marked_nothing : (rest : List ℕ) (b : ℕ) → Reads byte wide bytes b rest → b ≡ m → ReadsNothing F wide rest → ReadsNothing (prefixed (m ∷ []) F) wide bytes
-  marked_nothing rest b h e n = tagged_nothing {G = λ u. F} (fixed-alone (m ∷ []) tt) (mark_there h e) n
+  marked_nothing rest b h e n = tagged_nothing {G = λ u. F} (fixed_unique (m ∷ []) tt) (mark_there h e) n
 
 pub ruleset marked_steps = (marked_reads, marked_other, marked_nothing)

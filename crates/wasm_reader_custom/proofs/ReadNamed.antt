@@ -4,9 +4,9 @@ use Rattle.wasm_base.specs.Going.{FillsNothing}
 use Rattle.wasm_base.specs.Numbers.{wide}
 use Rattle.wasm_base.specs.Formats.{Format, name, just, fixed, tagged}
 use Rattle.wasm_base.specs.Reading.{UniqueReading, Reads, ReadsNothing}
-use Rattle.wasm_base.proofs.AfterLaws.{just-alone}
-use Rattle.wasm_base.proofs.BaseLaws.{name-alone}
-use Rattle.wasm_base.proofs.FormatLaws.{fixed-alone}
+use Rattle.wasm_base.proofs.AfterLaws.{just_unique}
+use Rattle.wasm_base.proofs.BaseLaws.{name_unique}
+use Rattle.wasm_base.proofs.FormatLaws.{fixed_unique}
 use Rattle.wasm_base.proofs.ReadingSteps.{reads_same}
 use Rattle.wasm_base.proofs.Tags.{fixed_reads}
 use Rattle.wasm_custom.specs.Customs.{named_payload}
@@ -31,7 +31,7 @@ pub name_none : (m bytes : List ℕ) → ReadsNothing name wide bytes → ReadsN
 name_none m bytes = just_none name m bytes
 
 pub name_other : (m bytes rest n : List ℕ) → Reads name wide bytes n rest → n ≢ m → ReadsNothing (just m name) wide bytes
-name_other m bytes rest n = just_other name m bytes name-alone rest n
+name_other m bytes rest n = just_other name m bytes name_unique rest n
 
 pub ruleset name_steps = (name_there, name_none, name_other)
 
@@ -61,7 +61,7 @@ module _ {X : Type 0} (n : List ℕ) (G : Format X) (bytes : List ℕ) where
   named_none none = behind_none (just n name) G bytes none
 
   pub named_nothing : (rest : List ℕ) → Reads (just n name) wide bytes tt rest → FillsNothing G rest → FillsNothing (named_payload n G) bytes
-  named_nothing rest h none = behind_nothing (just n name) G bytes (just-alone n name-alone) rest h none
+  named_nothing rest h none = behind_nothing (just n name) G bytes (just_unique n name_unique) rest h none
 
 -- ---- items right behind a name
 
@@ -71,4 +71,4 @@ module _ {X : Type 0} (n : List ℕ) (counted : Bool) (F : Format X) (bytes : Li
 
   pub no_items : (rest : List ℕ) → Reads (just n name) wide bytes tt rest → FillsNothing (listing counted F) rest → FillsNothing (named_payload n (entries (fixed [] (tt {0})) counted F)) bytes
   no_items rest h none =
-      named_nothing n (entries (fixed [] (tt {0})) counted F) bytes rest h (behind_nothing (fixed [] (tt {0})) (listing counted F) rest (fixed-alone [] (tt {0})) rest (fixed_reads rest (tt {0})) none)
+      named_nothing n (entries (fixed [] (tt {0})) counted F) bytes rest h (behind_nothing (fixed [] (tt {0})) (listing counted F) rest (fixed_unique [] (tt {0})) rest (fixed_reads rest (tt {0})) none)

@@ -4,7 +4,7 @@ use Rattle.wasm_base.specs.Going.{FillsNothing}
 use Rattle.wasm_base.specs.Numbers.{wide}
 use Rattle.wasm_base.specs.Formats.{Format, byte, name, any_bytes, just, frame, mapped, members}
 use Rattle.wasm_base.specs.Reading.{Reads, ReadsNothing}
-use Rattle.wasm_base.proofs.FormatLaws.{byte-alone}
+use Rattle.wasm_base.proofs.FormatLaws.{byte_unique}
 use Rattle.wasm_base.proofs.Tags.{tagged_reads, tagged_none, tagged_nothing}
 use Rattle.wasm_reader_base.proofs.ReadFrames.{filled_reads, filled_none, filled_nothing}
 use Rattle.wasm_custom.specs.Names.{Naming, Inside, NameItem, Module, Map, Indirect, Other, NameKind, of_module, of_map, of_indirect, of_other, kind_of, after_id, name_map, indirect_map, subsection, name_name}
@@ -82,11 +82,11 @@ pub subsection_none : (bytes : List ℕ) → ReadsNothing byte wide bytes → Re
 subsection_none bytes n = tagged_none byte behind bytes n
 
 pub subsection_no_frame : (bytes rest : List ℕ) (id : ℕ) → Reads byte wide bytes id rest → ReadsNothing (frame any_bytes) wide rest → ReadsNothing subsection wide bytes
-subsection_no_frame bytes rest id h n = tagged_nothing {G = behind} byte-alone h (nothing_behind (kind_of id) id rest (filled_none (inside (kind_of id) id) rest n))
+subsection_no_frame bytes rest id h n = tagged_nothing {G = behind} byte_unique h (nothing_behind (kind_of id) id rest (filled_none (inside (kind_of id) id) rest n))
 
 pub subsection_nothing : (bytes rest content last : List ℕ) (id : ℕ) (k : NameKind) → Reads byte wide bytes id rest → Reads (frame any_bytes) wide rest content last → k ≡ kind_of id → FillsNothing (inside k id) content → ReadsNothing subsection wide bytes
 subsection_nothing bytes rest content last id k h g e n =
-    tagged_nothing {G = behind} byte-alone h (subst (λ k. ReadsNothing (after_id k id) wide rest) e (nothing_behind k id rest (filled_nothing (inside k id) rest content last g n)))
+    tagged_nothing {G = behind} byte_unique h (subst (λ k. ReadsNothing (after_id k id) wide rest) e (nothing_behind k id rest (filled_nothing (inside k id) rest content last g n)))
 
 -- ---- sections
 

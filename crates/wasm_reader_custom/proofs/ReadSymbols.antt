@@ -3,9 +3,9 @@ use Rattle.std.proofs.Common.{◌≡◌, ◌≢◌, ℕ, List, Option, sym, subs
 use Rattle.wasm_base.specs.Numbers.{wide}
 use Rattle.wasm_base.specs.Formats.{Format, byte, name, pair, u32, mapped, optional, impossible, choice}
 use Rattle.wasm_base.specs.Reading.{Reads, ReadsNothing}
-use Rattle.wasm_base.proofs.BaseLaws.{name-alone}
-use Rattle.wasm_base.proofs.FormatLaws.{byte-alone}
-use Rattle.wasm_base.proofs.NumberLaws.{u32-alone}
+use Rattle.wasm_base.proofs.BaseLaws.{name_unique}
+use Rattle.wasm_base.proofs.FormatLaws.{byte_unique}
+use Rattle.wasm_base.proofs.NumberLaws.{u32_unique}
 use Rattle.wasm_base.proofs.ReadingSteps.{then_reads, then_nothing_first, then_nothing_second, mapped_reads, mapped_nothing}
 use Rattle.wasm_base.proofs.Tags.{tagged_reads, tagged_none, tagged_nothing, no_choice}
 use Rattle.wasm_custom.specs.Symbols.{Symbol, indexed, of_data, has_name, has_definition, definition, definition_of, indexed_of, data_of, indexed_symbol, data_symbol, symbol_tags, symbol}
@@ -26,10 +26,10 @@ pub indexed_none : (kind : SymbolKind) (bytes : List ℕ) → ReadsNothing u32 w
 indexed_none kind bytes n = tagged_none u32 (flagged kind) bytes n
 
 pub indexed_no_index : (kind : SymbolKind) (bytes rest : List ℕ) (flags : ℕ) → Reads u32 wide bytes flags rest → ReadsNothing u32 wide rest → ReadsNothing (indexed_symbol kind) wide bytes
-indexed_no_index kind bytes rest flags h n = tagged_nothing {G = flagged kind} u32-alone h (mapped_nothing (indexed_of kind flags) (then_nothing_first n))
+indexed_no_index kind bytes rest flags h n = tagged_nothing {G = flagged kind} u32_unique h (mapped_nothing (indexed_of kind flags) (then_nothing_first n))
 
 pub indexed_no_name : (kind : SymbolKind) (bytes rest next : List ℕ) (flags index : ℕ) → Reads u32 wide bytes flags rest → Reads u32 wide rest index next → ReadsNothing (optional (has_name flags) name) wide next → ReadsNothing (indexed_symbol kind) wide bytes
-indexed_no_name kind bytes rest next flags index h g n = tagged_nothing {G = flagged kind} u32-alone h (mapped_nothing (indexed_of kind flags) (then_nothing_second u32-alone g n))
+indexed_no_name kind bytes rest next flags index h g n = tagged_nothing {G = flagged kind} u32_unique h (mapped_nothing (indexed_of kind flags) (then_nothing_second u32_unique g n))
 
 -- ---- data
 
@@ -50,10 +50,10 @@ pub data_none : (bytes : List ℕ) → ReadsNothing u32 wide bytes → ReadsNoth
 data_none bytes n = tagged_none u32 given bytes n
 
 pub data_no_name : (bytes rest : List ℕ) (flags : ℕ) → Reads u32 wide bytes flags rest → ReadsNothing name wide rest → ReadsNothing data_symbol wide bytes
-data_no_name bytes rest flags h n = tagged_nothing {G = given} u32-alone h (mapped_nothing (data_of flags) (then_nothing_first n))
+data_no_name bytes rest flags h n = tagged_nothing {G = given} u32_unique h (mapped_nothing (data_of flags) (then_nothing_first n))
 
 pub data_no_definition : (bytes rest next : List ℕ) (flags : ℕ) (n : List ℕ) → Reads u32 wide bytes flags rest → Reads name wide rest n next → ReadsNothing (optional (has_definition flags) definition) wide next → ReadsNothing data_symbol wide bytes
-data_no_definition bytes rest next flags n h g none = tagged_nothing {G = given} u32-alone h (mapped_nothing (data_of flags) (then_nothing_second name-alone g none))
+data_no_definition bytes rest next flags n h g none = tagged_nothing {G = given} u32_unique h (mapped_nothing (data_of flags) (then_nothing_second name_unique g none))
 
 pub ruleset data_steps = (data_reads, data_no_definition)
 
@@ -66,7 +66,7 @@ kind_is : (c : ℕ) {bytes rest last : List ℕ} {b : ℕ} {x : Symbol} → Read
 kind_is c {rest = rest} {last = last} {x = x} h e g = tagged_reads {G = after_kind} h (subst (λ z. Reads (after_kind z) wide rest x last) (sym e) g)
 
 kind_is_not : (c : ℕ) {bytes rest : List ℕ} {b : ℕ} → Reads byte wide bytes b rest → b ≡ c → ReadsNothing (after_kind c) wide rest → ReadsNothing symbol wide bytes
-kind_is_not c {rest = rest} h e n = tagged_nothing {G = after_kind} byte-alone h (subst (λ z. ReadsNothing (after_kind z) wide rest) (sym e) n)
+kind_is_not c {rest = rest} h e n = tagged_nothing {G = after_kind} byte_unique h (subst (λ z. ReadsNothing (after_kind z) wide rest) (sym e) n)
 
 pub symbol_none : (bytes : List ℕ) → ReadsNothing byte wide bytes → ReadsNothing symbol wide bytes
 symbol_none bytes n = tagged_none byte after_kind bytes n
@@ -96,6 +96,6 @@ pub table_none : (bytes rest : List ℕ) (b : ℕ) → Reads byte wide bytes b r
 table_none bytes rest b h e n = kind_is_not 0x05 h e n
 
 pub symbol_unknown : (bytes rest : List ℕ) (b : ℕ) → Reads byte wide bytes b rest → b ≢ 0x00 → b ≢ 0x01 → b ≢ 0x02 → b ≢ 0x05 → ReadsNothing symbol wide bytes
-symbol_unknown bytes rest b h p q r s = tagged_nothing {G = after_kind} byte-alone h (no_choice symbol_tags b rest (p, (q, (r, (s, tt)))))
+symbol_unknown bytes rest b h p q r s = tagged_nothing {G = after_kind} byte_unique h (no_choice symbol_tags b rest (p, (q, (r, (s, tt)))))
 
 pub ruleset symbol_steps = (table_reads, table_none, symbol_unknown)

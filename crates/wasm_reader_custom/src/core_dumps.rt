@@ -5,7 +5,7 @@ ghost use Rattle.wasm_base.specs.Numbers.{wide};
 ghost use Rattle.wasm_base.specs.Formats.{vec};
 ghost use Rattle.wasm_custom.specs.CoreDumps.{Instance, instance, marked_name};
 ghost use Rattle.wasm_custom.specs.Readings.{core_payload, modules_payload, instances_payload};
-ghost use Rattle.wasm_custom.proofs.CoreDumpLaws.{instance-alone};
+ghost use Rattle.wasm_custom.proofs.CoreDumpLaws.{instance_unique};
 ghost use Rattle.wasm_reader_base.specs.Shortest.{AppendsShortest};
 ghost use Rattle.wasm_reader_base.specs.declared.fault.ReadFault.TheVariants.{Memory};
 ghost use Rattle.wasm_reader_custom.specs.Items.{instance_of};
@@ -53,7 +53,7 @@ impl<'a, A: Allocator + Copy> Item<'a, Here, A> for (u32, Vec<u32, A>, Vec<u32, 
 
     ghost view = { instance_of };
 
-    ghost alone = { instance-alone };
+    ghost alone = { instance_unique };
 
     #[tactic(auto, using(crate::proofs::ReadCoreDumps::instance_steps))]
     fn read_item(

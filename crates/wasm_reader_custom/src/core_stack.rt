@@ -6,7 +6,7 @@ ghost use Rattle.wasm_custom.specs.CoreStacks.{Frame, stack_frame};
 ghost use Rattle.wasm_custom.specs.CoreValues.{value as value_format};
 ghost use Rattle.wasm_custom.specs.Readings.{stack_payload};
 ghost use Rattle.wasm_custom.specs.declared.core_values.CoreDumpValue.{CoreDumpValue as ValueModel};
-ghost use Rattle.wasm_custom.proofs.CoreStackLaws.{value-alone, frame-alone};
+ghost use Rattle.wasm_custom.proofs.CoreStackLaws.{value_unique, frame_unique};
 ghost use Rattle.wasm_reader_base.specs.Shortest.{AppendsShortest};
 ghost use Rattle.wasm_reader_base.specs.declared.fault.ReadFault.TheVariants.{Memory};
 ghost use Rattle.wasm_reader_custom.specs.Items.{frame_of};
@@ -28,7 +28,7 @@ impl<'a, A: Allocator + Copy> Item<'a, Here, A> for CoreDumpValue {
 
     ghost view = { λ value. value };
 
-    ghost alone = { value-alone };
+    ghost alone = { value_unique };
 
     #[tactic(auto, using(crate::proofs::ReadStacks::value_steps))]
     fn read_item(bytes: &'a [u8], alloc: A) -> Result<(CoreDumpValue, &'a [u8]), ReadFault> {
@@ -74,7 +74,7 @@ impl<'a, A: Allocator + Copy> Item<'a, Here, A> for CoreFrame<A> {
 
     ghost view = { frame_of };
 
-    ghost alone = { frame-alone };
+    ghost alone = { frame_unique };
 
     #[tactic(auto, using(crate::proofs::ReadStacks::frame_steps))]
     fn read_item(bytes: &'a [u8], alloc: A) -> Result<(CoreFrame<A>, &'a [u8]), ReadFault> {

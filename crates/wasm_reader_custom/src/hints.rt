@@ -3,11 +3,11 @@ ghost use Rattle.std.specs.Prelude.{◌≢◌, ◌<◌, ℕ, IfOk, IfErr, OnOk, 
 ghost use Rattle.wasm_base.specs.Formats.{byte, such, vec};
 ghost use Rattle.wasm_base.specs.Going.{FillsNothing};
 ghost use Rattle.wasm_base.specs.Numbers.{wide};
-ghost use Rattle.wasm_base.proofs.FormatLaws.{byte-alone, such-alone};
+ghost use Rattle.wasm_base.proofs.FormatLaws.{byte_unique, such_unique};
 ghost use Rattle.wasm_custom.specs.Hints.{Hints, hint, hints};
 ghost use Rattle.wasm_custom.specs.Readings.{hints_payload};
 ghost use Rattle.wasm_custom.specs.declared.hints.BranchHint.{BranchHint as HintModel};
-ghost use Rattle.wasm_custom.proofs.HintLaws.{hint-alone, hints-alone};
+ghost use Rattle.wasm_custom.proofs.HintLaws.{hint_unique, hints_unique};
 ghost use Rattle.wasm_reader_base.specs.Shortest.{AppendsShortest};
 ghost use Rattle.wasm_reader_base.specs.declared.fault.ReadFault.TheVariants.{Memory};
 ghost use Rattle.wasm_reader_custom.specs.Items.{hints_of};
@@ -31,7 +31,7 @@ impl<'a, A: Allocator + Copy> Readable<'a, A> for HintValue {
 
     ghost view = { λ value. value.0 };
 
-    ghost alone = { such-alone (λ b. b < 128) byte-alone };
+    ghost alone = { such_unique (λ b. b < 128) byte_unique };
 
     #[tactic(auto, using(crate::proofs::ReadHints::value_steps))]
     fn read(bytes: &'a [u8], alloc: A) -> Result<(HintValue, &'a [u8]), ReadFault> {
@@ -50,7 +50,7 @@ impl<'a, A: Allocator + Copy> Item<'a, Here, A> for BranchHint {
 
     ghost view = { λ hint. hint };
 
-    ghost alone = { hint-alone };
+    ghost alone = { hint_unique };
 
     #[tactic(auto, using(crate::proofs::ReadHints::hint_steps))]
     fn read_item(bytes: &'a [u8], alloc: A) -> Result<(BranchHint, &'a [u8]), ReadFault> {
@@ -72,7 +72,7 @@ impl<'a, A: Allocator + Copy> Item<'a, Here, A> for (u32, Vec<BranchHint, A>) {
 
     ghost view = { hints_of };
 
-    ghost alone = { hints-alone };
+    ghost alone = { hints_unique };
 
     #[tactic(auto, using(crate::proofs::ReadHints::hints_read))]
     fn read_item(

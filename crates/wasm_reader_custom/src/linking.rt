@@ -6,7 +6,7 @@ ghost use Rattle.wasm_base.specs.Numbers.{wide};
 ghost use Rattle.wasm_base.specs.Reading.{Reads, ReadsNothing};
 ghost use Rattle.wasm_custom.specs.Linking.{LinkItem as LinkModel, link, version};
 ghost use Rattle.wasm_custom.specs.Readings.{linking_payload};
-ghost use Rattle.wasm_custom.proofs.LinkLaws.{link-alone};
+ghost use Rattle.wasm_custom.proofs.LinkLaws.{link_unique};
 ghost use Rattle.wasm_reader_base.specs.Shortest.{AppendsShortest};
 ghost use Rattle.wasm_reader_base.specs.declared.fault.ReadFault.TheVariants.{Memory};
 ghost use Rattle.wasm_reader_custom.specs.Symbols.{link_of};
@@ -38,7 +38,7 @@ impl<'a, A: Allocator + Copy + 'a> Item<'a, Here, A> for LinkItem<'a, A> {
 
     ghost view = { link_of };
 
-    ghost alone = { link-alone };
+    ghost alone = { link_unique };
 
     #[tactic(auto, using(crate::proofs::ReadLinks::link_steps))]
     fn read_item(bytes: &'a [u8], alloc: A) -> Result<(LinkItem<'a, A>, &'a [u8]), ReadFault> {

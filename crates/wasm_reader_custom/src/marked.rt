@@ -4,7 +4,7 @@ ghost use Rattle.wasm_base.specs.Formats.{prefixed};
 ghost use Rattle.wasm_base.specs.Numbers.{wide};
 ghost use Rattle.wasm_base.specs.Reading.{Reads, ReadsNothing};
 ghost use Rattle.wasm_custom.specs.CoreDumps.{marked_name};
-ghost use Rattle.wasm_custom.proofs.CoreDumpLaws.{marked-alone};
+ghost use Rattle.wasm_custom.proofs.CoreDumpLaws.{marked_unique};
 ghost use Rattle.wasm_reader_base.specs.declared.fault.ReadFault.TheVariants.{Memory};
 
 use crate::Here;
@@ -37,7 +37,7 @@ impl<'a, A: Allocator + Copy> Item<'a, Here, A> for &'a str {
 
     ghost view = { λ s. s.now };
 
-    ghost alone = { marked-alone };
+    ghost alone = { marked_unique };
 
     fn read_item(bytes: &'a [u8], alloc: A) -> Result<(&'a str, &'a [u8]), ReadFault> {
         let (name, rest) = read_marked::<'a, &'a str, A>(0x00, bytes, alloc)?;

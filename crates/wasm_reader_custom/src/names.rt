@@ -5,7 +5,7 @@ ghost use Rattle.wasm_base.specs.Going.{FillsNothing};
 ghost use Rattle.wasm_base.specs.Numbers.{wide};
 ghost use Rattle.wasm_custom.specs.Names.{NameItem as NameModel, kind_of as kind_of_id, subsection};
 ghost use Rattle.wasm_custom.specs.Readings.{name_payload};
-ghost use Rattle.wasm_custom.proofs.NameLaws.{subsection-alone};
+ghost use Rattle.wasm_custom.proofs.NameLaws.{subsection_unique};
 ghost use Rattle.wasm_reader_base.specs.Shortest.{AppendsShortest};
 ghost use Rattle.wasm_reader_base.specs.declared.fault.ReadFault.TheVariants.{Memory};
 ghost use Rattle.wasm_reader_custom.specs.Names.{kind_as, inside, held_by, id_of, name_item_of};
@@ -96,7 +96,7 @@ impl<'a, A: Allocator + Copy + 'a> Item<'a, Here, A> for NameItem<'a, A> {
 
     ghost view = { name_item_of };
 
-    ghost alone = { subsection-alone };
+    ghost alone = { subsection_unique };
 
     #[tactic(auto, using(crate::proofs::ReadNames::subsection_reads))]
     fn read_item(bytes: &'a [u8], alloc: A) -> Result<(NameItem<'a, A>, &'a [u8]), ReadFault> {

@@ -5,7 +5,7 @@ ghost use Rattle.wasm_base.specs.Going.{FillsNothing};
 ghost use Rattle.wasm_base.specs.Numbers.{wide};
 ghost use Rattle.wasm_custom.specs.Producers.{Field, field};
 ghost use Rattle.wasm_custom.specs.Readings.{producers_payload};
-ghost use Rattle.wasm_custom.proofs.ProducerLaws.{field-alone};
+ghost use Rattle.wasm_custom.proofs.ProducerLaws.{field_unique};
 ghost use Rattle.wasm_reader_base.specs.Shortest.{AppendsShortest};
 ghost use Rattle.wasm_reader_base.specs.declared.fault.ReadFault.TheVariants.{Memory};
 ghost use Rattle.wasm_reader_custom.specs.Items.{field_of};

@@ -5,7 +5,7 @@ ghost use Rattle.wasm_base.specs.Numbers.{wide};
 ghost use Rattle.wasm_base.specs.Reading.{Reads, ReadsNothing};
 ghost use Rattle.wasm_custom.specs.Symbols.{Symbol as SymbolModel, indexed, of_data, has_name as flags_name, has_definition as flags_definition, definition as definition_format, indexed_symbol, data_symbol, symbol};
 ghost use Rattle.wasm_custom.specs.declared.symbols.DataSymbolDefinition.{DataSymbolDefinition as DefinitionModel};
-ghost use Rattle.wasm_custom.proofs.SymbolLaws.{definition-alone, symbol-alone};
+ghost use Rattle.wasm_custom.proofs.SymbolLaws.{definition_unique, symbol_unique};
 ghost use Rattle.wasm_reader_base.specs.Shortest.{AppendsShortest};
 ghost use Rattle.wasm_reader_base.specs.declared.fault.ReadFault.TheVariants.{Memory};
 ghost use Rattle.wasm_reader_custom.specs.Symbols.{symbol_of};
@@ -87,7 +87,7 @@ impl<'a, A: Allocator + Copy> Item<'a, Here, A> for DataSymbolDefinition {
 
     ghost view = { λ definition. definition };
 
-    ghost alone = { definition-alone };
+    ghost alone = { definition_unique };
 
     #[tactic(auto, using(crate::proofs::ReadSymbols::definition_reads))]
     fn read_item(bytes: &'a [u8], alloc: A) -> Result<(DataSymbolDefinition, &'a [u8]), ReadFault> {
@@ -152,7 +152,7 @@ impl<'a, A: Allocator + Copy> Readable<'a, A> for Symbol<'a> {
 
     ghost view = { symbol_of };
 
-    ghost alone = { symbol-alone };
+    ghost alone = { symbol_unique };
 
     #[tactic(auto, using(crate::proofs::ReadSymbols::symbol_steps))]
     fn read(bytes: &'a [u8], alloc: A) -> Result<(Symbol<'a>, &'a [u8]), ReadFault> {

@@ -9,7 +9,7 @@ use Rattle.wasm_insn.specs.Plain.{Plain, instruction}
 use Rattle.wasm_insn.specs.Table.{table}
 use Rattle.wasm_insn.proofs.InstructionLaws.{alone}
 use Rattle.wasm_code.specs.Bodies.{Body, Run, body, body_of, and_then}
-use Rattle.wasm_code.proofs.BodyLaws.{runs-alone}
+use Rattle.wasm_code.proofs.BodyLaws.{runs_unique}
 use Rattle.wasm_code.proofs.ExpressionLaws.{members_join, members_one}
 use Rattle.wasm_reader_insn.specs.Laws.{HasGone, HasPlaces}
 
@@ -63,7 +63,7 @@ same front more place x y h g l n =
     let whole : a.front ++ (a.back ++ drop place bytes) ≡ b.front ++ (b.back ++ more) =
     sym (append_assoc a.front a.back (drop place bytes)) ∙ ap (λ z. z ++ drop place bytes) (sym a.joined) ∙ take-append-drop place bytes ∙ ap (λ z. z ++ more) b.joined ∙ append_assoc b.front b.back more
     in
-    let r = runs-alone.alone wide a.front b.front (a.back ++ drop place bytes) (b.back ++ more) g.0.0 h.0.0 a.first b.first whole in
+    let r = runs_unique.alone wide a.front b.front (a.back ++ drop place bytes) (b.back ++ more) g.0.0 h.0.0 a.first b.first whole in
     let many : length g.0.1 ≡ length h.0.1 = ap (λ z. length z.code) g.1 ∙ n ∙ ap (λ z. length z.code) (sym h.1) in
     let m = same_members alone wide a.back b.back (drop place bytes) more g.0.1 h.0.1 a.second b.second r.2 many in
     let texts : take place bytes ≡ front = a.joined ∙ ap₂ ◌++◌ r.1 m.1 ∙ sym b.joined in

@@ -6,14 +6,14 @@ use Rattle.wasm_base.specs.Numbers.{wide}
 use Rattle.wasm_base.specs.Formats.{u32, s32, s64, byte, raw_bytes, little_endian, vec}
 use Rattle.wasm_base.specs.Reading.{Reads, ReadsNothing}
 use Rattle.wasm_base.specs.Types.{heap_type, val_type}
-use Rattle.wasm_base.proofs.FormatLaws.{byte-alone}
+use Rattle.wasm_base.proofs.FormatLaws.{byte_unique}
 use Rattle.wasm_insn.specs.declared.op.Shape.{Shape}
 use Rattle.wasm_insn.specs.declared.part.Part.{Part}
 use Rattle.wasm_insn.specs.declared.part.Part.TheVariants as parts
 use Rattle.wasm_insn.specs.Parts.{parts_of}
 use Rattle.wasm_insn.specs.Arguments.{Argument, unsigned, signed32, signed64, float32, float64, vector, memory, lane, lanes, block, heap, ordering, labels, catches, types, handles, flag}
 use Rattle.wasm_insn.specs.Plain.{part, arguments, cons, float32_of, float64_of}
-use Rattle.wasm_insn.proofs.PlainLaws.{part-alone}
+use Rattle.wasm_insn.proofs.PlainLaws.{part_unique}
 use Rattle.wasm_base.specs.declared.types.HeapType.{HeapType}
 use Rattle.wasm_base.specs.declared.types.ValType.{ValType}
 use Rattle.wasm_immediates.specs.declared.floats.Ieee32.{Ieee32}
@@ -45,7 +45,7 @@ module _ (ps : List Part) (bytes : List ℕ) where
         found = λ ys last h.
             subst (λ z. Reads (arguments ps) wide bytes z last) (sym (append_assoc xs (x ∷ []) ys))
             (go.found (x ∷ ys) last (subst (λ qs. Reads (arguments qs) wide rest (x ∷ ys) last) (sym e) (mapped_reads cons (then_reads g h))));
-        none = λ n. go.none (subst (λ qs. ReadsNothing (arguments qs) wide rest) (sym e) (mapped_nothing cons (then_nothing_second (part-alone p) g n)));
+        none = λ n. go.none (subst (λ qs. ReadsNothing (arguments qs) wide rest) (sym e) (mapped_nothing cons (then_nothing_second (part_unique p) g n)));
       }
 
   pub arguments_fail : (k : ℕ) (d : Part) (rest : List ℕ) (xs : List Argument) → k < length ps → HasArguments ps k bytes xs rest → ReadsNothing (part (get_or ps k d)) wide rest → ReadsNothing (arguments ps) wide bytes
@@ -240,6 +240,6 @@ pub flag_none : (bytes : List ℕ) → ReadsNothing byte wide bytes → ReadsNot
 flag_none bytes n = mapped_nothing flag (such_none (λ b. b < 4) n)
 
 pub flag_large : (bytes rest : List ℕ) (v : ℕ) → Reads byte wide bytes v rest → 4 ≤ v → ReadsNothing (part parts.Flag) wide bytes
-flag_large bytes rest v h l = mapped_nothing flag (such_nothing (λ b. b < 4) byte-alone h (λ m. omega (arith, l, m)))
+flag_large bytes rest v h l = mapped_nothing flag (such_nothing (λ b. b < 4) byte_unique h (λ m. omega (arith, l, m)))
 
 pub ruleset flag_part = (flag_reads, flag_none, flag_large)

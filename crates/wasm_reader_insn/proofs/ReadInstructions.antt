@@ -4,7 +4,7 @@ use Rattle.std.proofs.lemmas.Bool.{le-leb, lt-leb}
 use Rattle.wasm_base.specs.Numbers.{wide}
 use Rattle.wasm_base.specs.Formats.{u32, byte, mapped, fixed, when}
 use Rattle.wasm_base.specs.Reading.{Reads, ReadsNothing}
-use Rattle.wasm_base.proofs.FormatLaws.{byte-alone}
+use Rattle.wasm_base.proofs.FormatLaws.{byte_unique}
 use Rattle.wasm_insn.specs.declared.op.Op.{Op}
 use Rattle.wasm_insn.specs.declared.op.Op.TheVariants.{Byte, Prefixed}
 use Rattle.wasm_insn.specs.declared.op.Shape.{Shape}
@@ -12,7 +12,7 @@ use Rattle.wasm_insn.specs.Parts.{parts_of}
 use Rattle.wasm_insn.specs.Arguments.{Argument}
 use Rattle.wasm_insn.specs.Plain.{is_prefix, op_after, opcode, arguments, arguments_after, shape_of, plain_of, instruction}
 use Rattle.wasm_insn.specs.Table.{table}
-use Rattle.wasm_insn.proofs.PlainLaws.{opcode-alone}
+use Rattle.wasm_insn.proofs.PlainLaws.{opcode_unique}
 use Rattle.wasm_base.proofs.ReadingSteps.{then_reads, then_nothing_first, then_nothing_second, mapped_reads, mapped_nothing}
 use Rattle.wasm_base.proofs.Tags.{tagged_reads, tagged_none, tagged_nothing, fixed_reads, impossible_nothing}
 
@@ -45,7 +45,7 @@ op_none bytes n = tagged_none byte op_after bytes n
 
 pub op_no_number : (bytes rest : List ℕ) (b : ℕ) → Reads byte wide bytes b rest → 0xFB ≤ b → b ≢ 0xFF → b < 256 → ReadsNothing u32 wide rest → ReadsNothing opcode wide bytes
 op_no_number bytes rest b h l u m n =
-    tagged_nothing {G = op_after} byte-alone h (subst (λ t. ReadsNothing (when t (mapped (Prefixed b) u32) (fixed [] (Byte b))) wide rest) (sym (op_among b l (omega (arith, u, m)))) (mapped_nothing (Prefixed b) n))
+    tagged_nothing {G = op_after} byte_unique h (subst (λ t. ReadsNothing (when t (mapped (Prefixed b) u32) (fixed [] (Byte b))) wide rest) (sym (op_among b l (omega (arith, u, m)))) (mapped_nothing (Prefixed b) n))
 
 pub ruleset opcode_steps = (op_byte, op_last, op_prefixed, op_none, op_no_number)
 
@@ -57,7 +57,7 @@ instruction_reads bytes rest last op shape xs h e g =
     mapped_reads plain_of (then_reads {G = λ op. arguments_after (shape_of table op)} h (subst (λ s. Reads (arguments_after s) wide rest xs last) (sym e) g))
 
 instruction_nothing : (bytes rest : List ℕ) (op : Op) → Reads opcode wide bytes op rest → ReadsNothing (arguments_after (shape_of table op)) wide rest → ReadsNothing (instruction table) wide bytes
-instruction_nothing bytes rest op h n = mapped_nothing plain_of (then_nothing_second {G = λ op. arguments_after (shape_of table op)} opcode-alone h n)
+instruction_nothing bytes rest op h n = mapped_nothing plain_of (then_nothing_second {G = λ op. arguments_after (shape_of table op)} opcode_unique h n)
 
 pub instruction_none : (bytes : List ℕ) → ReadsNothing opcode wide bytes → ReadsNothing (instruction table) wide bytes
 instruction_none bytes n = mapped_nothing plain_of (then_nothing_first {G = λ op. arguments_after (shape_of table op)} n)

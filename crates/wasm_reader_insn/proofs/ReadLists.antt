@@ -1,7 +1,7 @@
 -- Lists of instructions up to the last byte and up to End, and bodies.
 use Rattle.std.proofs.Common.{◌≡◌, ◌≢◌, ℕ, ◌≤◌, ◌-◌, List, [], ◌∷◌, ◌++◌, length, map, take, drop, slice_index_or, Bool, true, false, refl, sym, ap, subst, ◌∙◌, append_assoc, append-nil}
 use Rattle.std.proofs.lemmas.Bool.{ne_eqb}
-use Rattle.wasm_base.proofs.FormatLaws.{byte-alone}
+use Rattle.wasm_base.proofs.FormatLaws.{byte_unique}
 use Rattle.std.proofs.lemmas.List.{map-append, map-id}
 use Rattle.wasm_base.specs.Numbers.{wide}
 use Rattle.wasm_base.specs.Formats.{Format, byte, members, ended, pair, vec, u32, such, when, mapped, fixed}
@@ -14,7 +14,7 @@ use Rattle.wasm_insn.specs.Plain.{Plain, instruction, same_op, is_prefix, op_aft
 use Rattle.wasm_insn.specs.Table.{table}
 use Rattle.wasm_code.specs.Expressions.{IsNoEnd}
 use Rattle.wasm_code.specs.Bodies.{body}
-use Rattle.wasm_code.proofs.BodyLaws.{runs-alone}
+use Rattle.wasm_code.proofs.BodyLaws.{runs_unique}
 use Rattle.wasm_base.specs.Going.{GoesOn, FillsNothing}
 use Rattle.wasm_base.proofs.ReadingSteps.{reads_same, such_reads}
 use Rattle.wasm_base.proofs.ReadingSteps.{front_and_rest}
@@ -95,7 +95,7 @@ not_end bytes tail rest b i e other h = such_reads IsNoEnd h (is_other i.op (λ 
         let op = h.spelled.2.first in
         let first : Reads byte wide bytes op.0.0 _ = record { front = op.0.0 ∷ []; split = h.split ∙ ap (λ z. z ++ rest) (h.spelled.2.joined ∙ ap (λ z. z ++ h.spelled.2.back) (op.2.joined ∙ ap (λ z. z ++ op.2.back) op.2.first)); spelled = refl } in
         let given : Reads byte wide bytes b tail = record { front = b ∷ []; split = e; spelled = refl } in
-        (reads_same byte-alone given first).0 ∙ after_byte op.0.0 0x0B op.2.back op.0.1 op.2.second (op.1 ∙ ap (λ i. i.op) h.spelled.1 ∙ f)
+        (reads_same byte_unique given first).0 ∙ after_byte op.0.0 0x0B op.2.back op.0.1 op.2.second (op.1 ∙ ap (λ i. i.op) h.spelled.1 ∙ f)
 
 -- ---- bodies
 
@@ -108,7 +108,7 @@ body_no_runs bytes n = record { none = λ x h. n.none h.0.0 h.2.back (record { f
 pub body_no_code : (bytes rest : List ℕ) (runs : List (ℕ × ValType)) → Reads (vec (pair u32 val_type)) wide bytes runs rest → FillsNothing (members (instruction table)) rest → FillsNothing body bytes
 body_no_code bytes rest runs h n = record {
   none = λ x g.
-      let same = reads_same runs-alone h (record { front = g.2.front; split = g.2.joined; spelled = g.2.first }) in
+      let same = reads_same runs_unique h (record { front = g.2.front; split = g.2.joined; spelled = g.2.first }) in
       n.none g.0.1 (subst (λ z. members (instruction table) wide z g.0.1) (sym same.1) g.2.second);
 }
 

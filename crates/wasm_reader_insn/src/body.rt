@@ -1,13 +1,11 @@
 // Lists of instructions up to the last byte, and functions' bodies.
-ghost use Rattle.std.specs.Prelude.{◌≢◌, List, IfErr, OnOk, map};
+ghost use Rattle.std.specs.Prelude.{◌≢◌, IfOk, IfErr, OnOk, map};
 ghost use Rattle.wasm_base.specs.Formats.{members, frame};
 ghost use Rattle.wasm_base.specs.Going.{FillsNothing};
 ghost use Rattle.wasm_base.specs.Numbers.{wide};
-ghost use Rattle.wasm_insn.specs.Plain.{Plain as PlainInstruction, instruction};
+ghost use Rattle.wasm_insn.specs.Plain.{instruction};
 ghost use Rattle.wasm_insn.specs.Table.{table};
-ghost use Rattle.wasm_insn.proofs.InstructionLaws.{lists-whole};
 ghost use Rattle.wasm_code.specs.Bodies.{Body as BodyModel, body};
-ghost use Rattle.wasm_code.proofs.BodyLaws.{body-whole, frame-body-alone};
 ghost use Rattle.wasm_reader_base.specs.Shortest.{AppendsShortest};
 ghost use Rattle.wasm_reader_base.specs.declared.fault.ReadFault.TheVariants.{Memory};
 ghost use Rattle.wasm_reader_insn.specs.Arguments.{plain_of, body_of};
@@ -16,35 +14,28 @@ use crate::instruction::{Plain, append_instruction};
 use crate::walk::Instructions;
 use std::alloc::{Allocator, Global};
 use wasm_base::{R, ValType};
-use wasm_reader_base::{Filled, Filling, ReadFault, Readable, Shorten, frame_since};
+use wasm_reader_base::{ReadFault, Readable, Shorten, Spelled, frame_since};
 
 /// A list is made with room for an instruction of so many bytes each, and grows where they are shorter.
 const BYTES_OF_ONE: usize = 4;
 
-/// Instructions up to the last byte.
-#[derive(Debug, Drop)]
-pub struct Code<A: Allocator = Global>(pub Vec<Plain<A>, A>);
-
-impl<'a, A: Allocator + Copy> Filling<'a, A> for Code<A> {
-    ghost Value = { List PlainInstruction };
-
-    ghost format = { members (instruction table) };
-
-    ghost view = { λ c. map plain_of c.0.items };
-
-    ghost whole = { lists-whole };
-
-    fn fill(bytes: &'a [u8], alloc: A) -> Result<Code<A>, ReadFault> {
-        let mut items = Vec::with_capacity(alloc, bytes.len() / BYTES_OF_ONE)?;
-        let mut rest = bytes;
-        loop {
-            if rest.is_empty() {
-                return Ok(Code(items));
-            }
-            let (item, after) = <Plain<A> as Readable<'a, A>>::read(rest, alloc)?;
-            items.push(item)?;
-            rest = after;
+/// The instructions up to the last byte.
+pub fn read_code<'a, A: Allocator + Copy>(
+    bytes: &'a [u8],
+    alloc: A,
+) -> Result<Vec<Plain<A>, A>, ReadFault>
+    ensures found { IfOk result (λ x. members (instruction table) wide bytes.now (map plain_of x.items)) }
+    ensures none { IfErr result (λ e. e ≢ Memory → FillsNothing (members (instruction table)) bytes.now) }
+{
+    let mut items = Vec::with_capacity(alloc, bytes.len() / BYTES_OF_ONE)?;
+    let mut rest = bytes;
+    loop {
+        if rest.is_empty() {
+            return Ok(items);
         }
+        let (item, after) = <Plain<A> as Readable<'a, A>>::read(rest, alloc)?;
+        items.push(item)?;
+        rest = after;
     }
 }
 
@@ -69,48 +60,38 @@ pub struct Body<A: Allocator = Global> {
     pub code: Vec<Plain<A>, A>,
 }
 
-/// The bytes of a body, without its size.
-impl<'a, A: Allocator + Copy> Filling<'a, A> for Body<A> {
-    ghost Value = { BodyModel };
-
-    ghost format = { body };
-
-    ghost view = { body_of };
-
-    ghost whole = { body-whole };
-
-    #[tactic(auto, using(crate::proofs::ReadLists::body_steps))]
-    fn fill(bytes: &'a [u8], alloc: A) -> Result<Body<A>, ReadFault> {
-        let (runs, rest) = <Vec<(u32, ValType), A> as Readable<'a, A>>::read(bytes, alloc)?;
-        let Code(code) = <Code<A> as Filling<'a, A>>::fill(rest, alloc)?;
-        Ok(Body { runs, code })
-    }
+/// The body that all of the bytes spell, which are those in its frame.
+#[tactic(auto, using(crate::proofs::ReadLists::body_steps))]
+pub fn read_body<'a, A: Allocator + Copy>(bytes: &'a [u8], alloc: A) -> Result<Body<A>, ReadFault>
+    ensures found { IfOk result (λ x. body wide bytes.now (body_of x)) }
+    ensures none { IfErr result (λ e. e ≢ Memory → FillsNothing body bytes.now) }
+{
+    let (runs, rest) = <Vec<(u32, ValType), A> as Readable<'a, A>>::read(bytes, alloc)?;
+    let code = read_code(rest, alloc)?;
+    Ok(Body { runs, code })
 }
 
 /// A body in its frame, as it stands in a code section.
-impl<'a, A: Allocator + Copy> Readable<'a, A> for Body<A> {
+impl<A: Allocator> Spelled for Body<A> {
     ghost Value = { BodyModel };
 
     ghost format = { frame body };
 
     ghost view = { body_of };
 
-    ghost alone = { frame-body-alone };
+    #[tactic(auto, using(wasm_code::proofs::BodyLaws::frame_body_unique))]
+    fn laws() {}
+}
 
+impl<'a, A: Allocator + Copy> Readable<'a, A> for Body<A> {
     fn read(bytes: &'a [u8], alloc: A) -> Result<(Body<A>, &'a [u8]), ReadFault> {
-        let (Filled(body), rest) = <Filled<Body<A>> as Readable<'a, A>>::read(bytes, alloc)?;
+        let (content, rest) = <&'a [u8] as Readable<'a, A>>::read(bytes, alloc)?;
+        let body = read_body(content, alloc)?;
         Ok((body, rest))
     }
 }
 
-/// The same: the text is that of the frame.
 impl<A: Allocator> Shorten for Body<A> {
-    ghost Value = { BodyModel };
-
-    ghost format = { frame body };
-
-    ghost view = { body_of };
-
     fn append_shortest<B: Allocator>(&self, out: &mut Vec<u8, B>) -> R<()> {
         let start = out.len();
         self.runs.append_shortest(out)?;

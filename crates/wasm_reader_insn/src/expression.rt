@@ -2,14 +2,13 @@
 ghost use Rattle.std.specs.Prelude.{List, map};
 ghost use Rattle.wasm_insn.specs.Plain.{Plain as PlainInstruction};
 ghost use Rattle.wasm_code.specs.Expressions.{expression};
-ghost use Rattle.wasm_code.proofs.ExpressionLaws.{expression-alone};
 ghost use Rattle.wasm_reader_insn.specs.Arguments.{plain_of};
 
 use crate::body::append_code;
 use crate::instruction::Plain;
 use std::alloc::{Allocator, Global};
 use wasm_base::R;
-use wasm_reader_base::{ReadFault, Readable, Shorten};
+use wasm_reader_base::{ReadFault, Readable, Shorten, Spelled};
 
 /// The opcode of `End`.
 pub(crate) const END: u8 = 0x0B;
@@ -18,15 +17,18 @@ pub(crate) const END: u8 = 0x0B;
 #[derive(Debug, Drop)]
 pub struct Expression<A: Allocator = Global>(pub Vec<Plain<A>, A>);
 
-impl<'a, A: Allocator + Copy> Readable<'a, A> for Expression<A> {
+impl<A: Allocator> Spelled for Expression<A> {
     ghost Value = { List PlainInstruction };
 
     ghost format = { expression };
 
     ghost view = { λ e. map plain_of e.0.items };
 
-    ghost alone = { expression-alone };
+    #[tactic(auto, using(wasm_code::proofs::ExpressionLaws::expression_unique))]
+    fn laws() {}
+}
 
+impl<'a, A: Allocator + Copy> Readable<'a, A> for Expression<A> {
     #[tactic(auto, using(wasm_insn::proofs::InstructionLaws::any_begins))]
     fn read(bytes: &'a [u8], alloc: A) -> Result<(Expression<A>, &'a [u8]), ReadFault> {
         let mut items = Vec::new(alloc);
@@ -46,12 +48,6 @@ impl<'a, A: Allocator + Copy> Readable<'a, A> for Expression<A> {
 }
 
 impl<A: Allocator> Shorten for Expression<A> {
-    ghost Value = { List PlainInstruction };
-
-    ghost format = { expression };
-
-    ghost view = { λ e. map plain_of e.0.items };
-
     #[tactic(auto, using(crate::proofs::ShortLists::expression_appended))]
     fn append_shortest<B: Allocator>(&self, out: &mut Vec<u8, B>) -> R<()> {
         append_code(&self.0, out)?;

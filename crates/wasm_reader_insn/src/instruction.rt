@@ -4,8 +4,7 @@ ghost use Rattle.wasm_base.specs.Numbers.{wide};
 ghost use Rattle.wasm_base.specs.Reading.{Reads, ReadsNothing};
 ghost use Rattle.wasm_insn.specs.Plain.{Plain as PlainInstruction, opcode, instruction};
 ghost use Rattle.wasm_insn.specs.Table.{table};
-ghost use Rattle.wasm_insn.proofs.InstructionLaws.{alone};
-ghost use Rattle.wasm_insn.proofs.PlainLaws.{opcode-alone};
+ghost use Rattle.wasm_insn.proofs.PlainLaws.{opcode_unique};
 ghost use Rattle.wasm_reader_base.specs.Shortest.{AppendsShortest};
 ghost use Rattle.wasm_reader_base.specs.declared.fault.ReadFault.TheVariants.{Memory};
 ghost use Rattle.wasm_reader_insn.specs.Arguments.{argument_of, plain_of};
@@ -14,7 +13,7 @@ use crate::arguments::{Arg, append_arguments, read_arguments, read_arguments_int
 use std::alloc::{Allocator, Global};
 use wasm_base::{Encode, R};
 use wasm_insn::Op;
-use wasm_reader_base::{ReadFault, Readable, Shorten};
+use wasm_reader_base::{ReadFault, Readable, Shorten, Spelled};
 
 /// An instruction in normal form: its opcode, and an argument for each part of the opcode's shape.
 #[derive(Debug, Drop)]
@@ -44,15 +43,18 @@ pub(crate) fn read_op<'a, A: Allocator + Copy>(
     Ok((Op::Prefixed(byte, number), rest))
 }
 
-impl<'a, A: Allocator + Copy> Readable<'a, A> for Plain<A> {
+impl<A: Allocator> Spelled for Plain<A> {
     ghost Value = { PlainInstruction };
 
     ghost format = { instruction table };
 
     ghost view = { plain_of };
 
-    ghost alone = { alone };
+    #[tactic(auto, using(wasm_insn::proofs::InstructionLaws::alone))]
+    fn laws() {}
+}
 
+impl<'a, A: Allocator + Copy> Readable<'a, A> for Plain<A> {
     #[tactic(auto, using(crate::proofs::ReadInstructions::instruction_steps))]
     fn read(bytes: &'a [u8], alloc: A) -> Result<(Plain<A>, &'a [u8]), ReadFault> {
         let (op, rest) = read_op(bytes, alloc)?;
@@ -96,12 +98,6 @@ pub(crate) fn append_instruction<A: Allocator, B: Allocator>(
 }
 
 impl<A: Allocator> Shorten for Plain<A> {
-    ghost Value = { PlainInstruction };
-
-    ghost format = { instruction table };
-
-    ghost view = { plain_of };
-
     fn append_shortest<B: Allocator>(&self, out: &mut Vec<u8, B>) -> R<()> {
         append_instruction(self.op, &self.args, out)
     }

@@ -10,8 +10,6 @@ ghost use Rattle.wasm_insn.specs.Plain.{Plain as PlainInstruction, part, argumen
 ghost use Rattle.wasm_insn.specs.Table.{table};
 ghost use Rattle.wasm_code.specs.Bodies.{Body as BodyModel, body};
 ghost use Rattle.wasm_code.specs.Expressions.{expression};
-ghost use Rattle.wasm_code.proofs.BodyLaws.{frame-body-alone};
-ghost use Rattle.wasm_code.proofs.ExpressionLaws.{expression-alone};
 ghost use Rattle.wasm_reader_base.specs.declared.fault.ReadFault.TheVariants.{Memory};
 
 use crate::arguments::{
@@ -173,7 +171,8 @@ impl<'a, A: Allocator + Copy> Passed<'a, A> for Body<A> {
 
     ghost format = { frame body };
 
-    ghost alone = { frame-body-alone };
+    #[tactic(auto, using(wasm_code::proofs::BodyLaws::frame_body_unique))]
+    fn laws() {}
 
     fn pass(bytes: &'a [u8], alloc: A) -> Result<&'a [u8], ReadFault> {
         let (framed, rest) = <&'a [u8] as Readable<'a, A>>::read(bytes, alloc)?;
@@ -188,7 +187,8 @@ impl<'a, A: Allocator + Copy> Passed<'a, A> for Expression<A> {
 
     ghost format = { expression };
 
-    ghost alone = { expression-alone };
+    #[tactic(auto, using(wasm_code::proofs::ExpressionLaws::expression_unique))]
+    fn laws() {}
 
     #[tactic(auto, using(wasm_insn::proofs::InstructionLaws::any_begins))]
     fn pass(bytes: &'a [u8], alloc: A) -> Result<&'a [u8], ReadFault> {

@@ -5,7 +5,7 @@ use Rattle.wasm_base.specs.Formats.{Format, Then, byte, coded, choice, pair}
 use Rattle.wasm_base.specs.Reading.{Reads, ReadsNothing}
 use Rattle.wasm_base.specs.Types.{val_type, val_tags, val_ref}
 use Rattle.wasm_base.specs.declared.types.ValType.{ValType}
-use Rattle.wasm_base.proofs.FormatLaws.{byte-alone}
+use Rattle.wasm_base.proofs.FormatLaws.{byte_unique}
 use Rattle.wasm_base.proofs.ReadingSteps.{mapped_reads, mapped_nothing}
 use Rattle.wasm_base.proofs.Tags.{IsOther, tagged_reads, tagged_none, tagged_nothing, choice_other, fixed_reads, code_reads, code_none, code_unknown}
 use Rattle.wasm_types.specs.RecTypes.{mutable_code, storage_tags, storage_val, storage_type, field_of, field_type}
@@ -75,7 +75,7 @@ val_reads bytes rest ty h = record { front = h.front; split = h.split; spelled =
 
 -- Where the first byte is no packed type's, a value type stands there or nothing.
 pub val_nothing : (bytes rest : List ℕ) (b : ℕ) → Reads byte wide bytes b rest → b ≢ 0x78 → b ≢ 0x77 → ReadsNothing val_type wide bytes → ReadsNothing storage_type wide bytes
-val_nothing bytes rest b h p q none = tagged_nothing {G = after_storage} byte-alone h (not_other storage_tags storage_val (p, (q, tt)) (mapped_nothing Val left))
+val_nothing bytes rest b h p q none = tagged_nothing {G = after_storage} byte_unique h (not_other storage_tags storage_val (p, (q, tt)) (mapped_nothing Val left))
   where
     left : ReadsNothing (choice val_tags val_ref b) wide rest
     left = record { none = λ x last g. none.none x last (tagged_reads {G = choice val_tags val_ref} h g) }

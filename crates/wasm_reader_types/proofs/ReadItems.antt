@@ -4,12 +4,12 @@ use Rattle.std.proofs.lemmas.List.{map-id}
 use Rattle.wasm_base.specs.Numbers.{wide}
 use Rattle.wasm_base.specs.Formats.{Format, u32, byte, mapped, pair, vec}
 use Rattle.wasm_base.specs.Reading.{Reads, ReadsNothing}
-use Rattle.wasm_base.proofs.BaseLaws.{vec-u32-alone}
-use Rattle.wasm_base.proofs.FormatLaws.{byte-alone, pair-alone}
+use Rattle.wasm_base.proofs.BaseLaws.{vec_u32_unique}
+use Rattle.wasm_base.proofs.FormatLaws.{byte_unique, pair_unique}
 use Rattle.wasm_base.proofs.ReadingSteps.{then_reads, then_nothing_second, mapped_reads, mapped_nothing, such_reads, such_none, such_nothing}
 use Rattle.wasm_base.proofs.Tags.{tagged_reads, tagged_none, tagged_nothing}
 use Rattle.wasm_types.specs.RecTypes.{Composite, Sub, TypeItem, single, group, after_composite, HasSupertypes, sub_of, alone_of, supertypes_and, sub_tags, after_sub, sub_type, after_type, type_item}
-use Rattle.wasm_types.proofs.TypeLaws.{composite-alone}
+use Rattle.wasm_types.proofs.TypeLaws.{composite_unique}
 use Rattle.wasm_reader_types.proofs.ReadFields.{first_of_both, at_tag, not_tag, at_other, not_other}
 
 -- ---- supertypes, and a composite type
@@ -28,7 +28,7 @@ supertypes_none bytes none = record {
 }
 
 pub supertypes_none_after : {bytes middle : List ℕ} {xs : List ℕ} {b : ℕ} → Reads (pair (vec u32) byte) wide bytes (xs, b) middle → ReadsNothing (after_composite b) wide middle → ReadsNothing supertypes_and wide bytes
-supertypes_none_after h none = let parts = first_of_both h in then_nothing_second vec-u32-alone parts.1 (tagged_nothing {G = after_composite} byte-alone parts.2 none)
+supertypes_none_after h none = let parts = first_of_both h in then_nothing_second vec_u32_unique parts.1 (tagged_nothing {G = after_composite} byte_unique parts.2 none)
 
 -- ---- subtypes
 
@@ -48,7 +48,7 @@ pub final_none : {b : ℕ} {bytes : List ℕ} → b ≡ 0x4F → ReadsNothing su
 final_none e none = not_tag after_sub 0x4F e (mapped_nothing (sub_of true) (such_none HasSupertypes none))
 
 pub final_without : {b : ℕ} {xs : List ℕ} {x : Composite} {bytes rest : List ℕ} → b ≡ 0x4F → Reads supertypes_and wide bytes (xs, x) rest → length xs ≡ 0 → ReadsNothing (after_sub b) wide bytes
-final_without e h z = not_tag after_sub 0x4F e (mapped_nothing (sub_of true) (such_nothing HasSupertypes (pair-alone vec-u32-alone composite-alone) h (λ p. omega (arith, p, z))))
+final_without e h z = not_tag after_sub 0x4F e (mapped_nothing (sub_of true) (such_nothing HasSupertypes (pair_unique vec_u32_unique composite_unique) h (λ p. omega (arith, p, z))))
 
 pub alone_reads : {b : ℕ} {xs : List ℕ} {x : Composite} {bytes rest : List ℕ} → b ≢ 0x50 → b ≢ 0x4F → xs ≡ [] → Reads (after_composite b) wide bytes x rest → Reads (after_sub b) wide bytes (sub_of true (xs, x)) rest
 alone_reads {b = b} {x = x} {bytes = bytes} {rest = rest} p q e h =
@@ -64,7 +64,7 @@ pub sub_none : (bytes : List ℕ) → ReadsNothing byte wide bytes → ReadsNoth
 sub_none bytes none = tagged_none byte after_sub bytes none
 
 pub sub_none_after : {bytes middle : List ℕ} {b : ℕ} → Reads byte wide bytes b middle → ReadsNothing (after_sub b) wide middle → ReadsNothing sub_type wide bytes
-sub_none_after h none = tagged_nothing {G = after_sub} byte-alone h none
+sub_none_after h none = tagged_nothing {G = after_sub} byte_unique h none
 
 -- ---- entries
 
@@ -81,12 +81,12 @@ pub group_reads : {bytes middle rest : List ℕ} {b : ℕ} {xs : List Sub} → R
 group_reads h e g = tagged_reads {G = after_type} h (at_tag after_type 0x4E e (mapped_reads group g))
 
 pub group_none : {bytes middle : List ℕ} {b : ℕ} → Reads byte wide bytes b middle → b ≡ 0x4E → ReadsNothing (vec sub_type) wide middle → ReadsNothing type_item wide bytes
-group_none h e none = tagged_nothing {G = after_type} byte-alone h (not_tag after_type 0x4E e (mapped_nothing group none))
+group_none h e none = tagged_nothing {G = after_type} byte_unique h (not_tag after_type 0x4E e (mapped_nothing group none))
 
 pub single_reads : {bytes middle rest : List ℕ} {b : ℕ} {x : Sub} → Reads byte wide bytes b middle → b ≢ 0x4E → Reads (after_sub b) wide middle x rest → Reads type_item wide bytes (single x) rest
 single_reads h p g = tagged_reads {G = after_type} h (at_other group_tags not_group (p, tt) (mapped_reads single g))
 
 pub single_none : {bytes middle : List ℕ} {b : ℕ} → Reads byte wide bytes b middle → b ≢ 0x4E → ReadsNothing (after_sub b) wide middle → ReadsNothing type_item wide bytes
-single_none h p none = tagged_nothing {G = after_type} byte-alone h (not_other group_tags not_group (p, tt) (mapped_nothing single none))
+single_none h p none = tagged_nothing {G = after_type} byte_unique h (not_other group_tags not_group (p, tt) (mapped_nothing single none))
 
 pub ruleset sub_steps = (open_reads, final_reads, final_without, alone_reads)

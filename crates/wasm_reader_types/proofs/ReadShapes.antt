@@ -6,8 +6,8 @@ use Rattle.wasm_base.specs.Formats.{Format, u32, byte, s33, mapped, pair, tagged
 use Rattle.wasm_base.specs.Reading.{Reads, ReadsNothing}
 use Rattle.wasm_base.specs.Types.{val_type}
 use Rattle.wasm_base.specs.declared.types.ValType.{ValType}
-use Rattle.wasm_base.proofs.FormatLaws.{byte-alone}
-use Rattle.wasm_base.proofs.NumberLaws.{u32-alone}
+use Rattle.wasm_base.proofs.FormatLaws.{byte_unique}
+use Rattle.wasm_base.proofs.NumberLaws.{u32_unique}
 use Rattle.wasm_base.proofs.ReadingSteps.{then_reads, then_nothing_second, mapped_reads, mapped_nothing}
 use Rattle.wasm_base.proofs.Tags.{tagged_reads, tagged_none, tagged_nothing, no_choice}
 use Rattle.wasm_types.specs.RecTypes.{Shape, func, array, structure, cont, Composite, field_type, func_of, shape_tags, after_shape, given_index, no_index, with_index, after_describes, composite_of, after_composite}
@@ -60,7 +60,7 @@ module _ {X : Type 0} (tag : ℕ) (F : ℕ → Format X) (here : with_index tag 
   pub index_none_after : {b n next : ℕ} {bytes middle : List ℕ} → b ≡ tag → Reads (pair u32 byte) wide bytes (n, next) middle → ReadsNothing (F next) wide middle → ReadsNothing (with_index tag F b) wide bytes
   index_none_after {bytes = bytes} e h none =
       let parts = first_of_both h in
-      not_tag (with_index tag F) tag e (subst (λ G. ReadsNothing G wide bytes) (sym here) (mapped_nothing given_index (then_nothing_second u32-alone parts.1 (tagged_nothing {G = F} byte-alone parts.2 none))))
+      not_tag (with_index tag F) tag e (subst (λ G. ReadsNothing G wide bytes) (sym here) (mapped_nothing given_index (then_nothing_second u32_unique parts.1 (tagged_nothing {G = F} byte_unique parts.2 none))))
 
   pub index_none : {b : ℕ} {bytes : List ℕ} → b ≡ tag → ReadsNothing (pair u32 byte) wide bytes → ReadsNothing (with_index tag F b) wide bytes
   index_none {bytes = bytes} e none =
@@ -95,7 +95,7 @@ pub shared_none : {b : ℕ} {bytes : List ℕ} → b ≡ 0x65 → ReadsNothing b
 shared_none {bytes = bytes} e none = not_tag after_composite 0x65 e (mapped_nothing (composite_of true) (tagged_none byte after_describes bytes none))
 
 pub shared_none_after : {b next : ℕ} {bytes middle : List ℕ} → b ≡ 0x65 → Reads byte wide bytes next middle → ReadsNothing (after_describes next) wide middle → ReadsNothing (after_composite b) wide bytes
-shared_none_after e h none = not_tag after_composite 0x65 e (mapped_nothing (composite_of true) (tagged_nothing {G = after_describes} byte-alone h none))
+shared_none_after e h none = not_tag after_composite 0x65 e (mapped_nothing (composite_of true) (tagged_nothing {G = after_describes} byte_unique h none))
 
 pub unshared_reads : {b : ℕ} {x : Option ℕ × (Option ℕ × Shape)} {bytes rest : List ℕ} → b ≢ 0x65 → Reads (after_describes b) wide bytes x rest → Reads (after_composite b) wide bytes (composite_of false x) rest
 unshared_reads p h = at_other shared_tags not_shared (p, tt) (mapped_reads (composite_of false) h)

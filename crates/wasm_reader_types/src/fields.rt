@@ -7,7 +7,7 @@ ghost use Rattle.wasm_reader_base.specs.declared.fault.ReadFault.TheVariants.{Me
 ghost use Rattle.wasm_types.specs.RecTypes.{mutable_code, storage_type, field_type};
 ghost use Rattle.wasm_types.specs.declared.types.FieldType.{FieldType as Field};
 ghost use Rattle.wasm_types.specs.declared.types.StorageType.{StorageType as Storage};
-ghost use Rattle.wasm_types.proofs.TypeLaws.{mutable-alone, storage-alone, field-alone};
+ghost use Rattle.wasm_types.proofs.TypeLaws.{mutable_unique, storage_unique, field_unique};
 
 use crate::Here;
 use std::alloc::Allocator;
@@ -43,7 +43,7 @@ impl<'a, A: Allocator + Copy> Readable<'a, A> for Mutable {
 
     ghost view = { λ m. m.0 };
 
-    ghost alone = { mutable-alone };
+    ghost alone = { mutable_unique };
 
     #[tactic(auto, using(crate::proofs::ReadFields::mutable_steps))]
     fn read(bytes: &'a [u8], alloc: A) -> Result<(Mutable, &'a [u8]), ReadFault> {
@@ -63,7 +63,7 @@ impl<'a, A: Allocator + Copy> Item<'a, Here, A> for StorageType {
 
     ghost view = { λ ty. ty };
 
-    ghost alone = { storage-alone };
+    ghost alone = { storage_unique };
 
     #[tactic(auto, using(crate::proofs::ReadFields::storage_steps))]
     fn read_item(bytes: &'a [u8], alloc: A) -> Result<(StorageType, &'a [u8]), ReadFault> {
@@ -86,7 +86,7 @@ impl<'a, A: Allocator + Copy> Item<'a, Here, A> for FieldType {
 
     ghost view = { λ field. field };
 
-    ghost alone = { field-alone };
+    ghost alone = { field_unique };
 
     #[tactic(auto, using(crate::proofs::ReadFields::field_steps))]
     fn read_item(bytes: &'a [u8], alloc: A) -> Result<(FieldType, &'a [u8]), ReadFault> {

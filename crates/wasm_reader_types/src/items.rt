@@ -6,7 +6,7 @@ ghost use Rattle.wasm_base.specs.Reading.{Reads, ReadsNothing};
 ghost use Rattle.wasm_reader_base.specs.declared.fault.ReadFault.TheVariants.{Memory};
 ghost use Rattle.wasm_types.specs.Given.{composite_in};
 ghost use Rattle.wasm_types.specs.RecTypes.{supertypes_and, after_sub, sub_type, type_item, Sub, TypeItem as Entry};
-ghost use Rattle.wasm_types.proofs.TypeLaws.{sub-alone, type-alone};
+ghost use Rattle.wasm_types.proofs.TypeLaws.{sub_unique, type_unique};
 ghost use Rattle.wasm_reader_types.specs.Items.{sub_of, entry_of};
 
 use crate::shapes::read_composite_after;
@@ -95,7 +95,7 @@ impl<'a, A: Allocator + Copy> Readable<'a, A> for SubItem<A> {
 
     ghost view = { sub_of };
 
-    ghost alone = { sub-alone };
+    ghost alone = { sub_unique };
 
     fn read(bytes: &'a [u8], alloc: A) -> Result<(SubItem<A>, &'a [u8]), ReadFault> {
         let (tag, rest) = <u8 as Readable<'a, A>>::read(bytes, alloc)?;
@@ -110,7 +110,7 @@ impl<'a, A: Allocator + Copy> Readable<'a, A> for TypeEntry<A> {
 
     ghost view = { entry_of };
 
-    ghost alone = { type-alone };
+    ghost alone = { type_unique };
 
     fn read(bytes: &'a [u8], alloc: A) -> Result<(TypeEntry<A>, &'a [u8]), ReadFault> {
         let (tag, rest) = <u8 as Readable<'a, A>>::read(bytes, alloc)?;

@@ -8,12 +8,12 @@ use Rattle.wasm_base.specs.Numbers.{Mode, shortest, unsigned_text}
 use Rattle.wasm_base.specs.Reading.{UniqueReading}
 use Rattle.wasm_base.specs.Texts.{frame_text, FrameFits}
 use Rattle.wasm_base.specs.declared.refused.Refused.{Refused}
-use Rattle.wasm_base.proofs.BaseLaws.{vec-bytes-alone}
-use Rattle.wasm_base.proofs.FormatLaws.{mapped-alone, pair-alone, such-alone, choice_of}
-use Rattle.wasm_base.proofs.NumberLaws.{u32-alone}
+use Rattle.wasm_base.proofs.BaseLaws.{vec_bytes_unique}
+use Rattle.wasm_base.proofs.FormatLaws.{mapped_unique, pair_unique, such_unique, choice_of}
+use Rattle.wasm_base.proofs.NumberLaws.{u32_unique}
 use Rattle.wasm_base.proofs.TextLaws.{spelled_in, u32_in}
 use Rattle.wasm_code.specs.Expressions.{expression, expression_text}
-use Rattle.wasm_code.proofs.ExpressionLaws.{expression-alone, expression_spelled}
+use Rattle.wasm_code.proofs.ExpressionLaws.{expression_unique, expression_spelled}
 use Rattle.wasm_insn.specs.Plain.{Plain}
 use Rattle.wasm_sections.specs.Constants.{Stored, IsStoredIn}
 use Rattle.wasm_sections.specs.DataSegments.{GivenData, given_active, given_passive, DataItem, active, passive, AddsBytes, active_text, data_text, IsGivenDataIn, data_of, in_first, in_memory, data_tags, data_item, data_items}
@@ -34,11 +34,11 @@ abbrev active_parts : DataItem → ℕ × (List Plain × List ℕ)
 active_parts (active n offset bytes) = (n, (offset, bytes))
 active_parts (passive bytes) = (0, ([], bytes))
 
-pub data-alone : UniqueReading data_item
-data-alone =
-    let rest = pair-alone expression-alone vec-bytes-alone in
-    choice_of u32 flag_of data_tags u32-alone
-    (mapped-alone in_first (λ x y e. ap (λ s. (active_parts s).1) e) rest, (mapped-alone passive (λ x y e. cc) vec-bytes-alone, (mapped-alone in_memory (λ x y e. ap active_parts e) (pair-alone (such-alone (λ n. 0 < n) u32-alone) rest), tt)))
+pub data_unique : UniqueReading data_item
+data_unique =
+    let rest = pair_unique expression_unique vec_bytes_unique in
+    choice_of u32 flag_of data_tags u32_unique
+    (mapped_unique in_first (λ x y e. ap (λ s. (active_parts s).1) e) rest, (mapped_unique passive (λ x y e. cc) vec_bytes_unique, (mapped_unique in_memory (λ x y e. ap active_parts e) (pair_unique (such_unique (λ n. 0 < n) u32_unique) rest), tt)))
     (λ mode s x h. ap flag_of h.1, (λ mode s x h. ap flag_of h.1, (λ mode s x h. sym (not_first h.0.0 h.0.1.0 h.0.1.1 h.2.first.1) ∙ ap flag_of h.1, tt)))
 
 -- ---- texts
@@ -48,10 +48,10 @@ last_fit : (front bytes : List ℕ) → FrameFits (front ++ frame_text bytes) �
 last_fit front bytes fits = omega (arith, fits, length-append front (frame_text bytes), length-append (unsigned_text (length bytes)) bytes)
 
 flag_in : (mode : Mode) (n : ℕ) → n < 128 → u32 mode (n ∷ []) n
-flag_in mode n small = spelled_in {F = u32} u32-alone (flag_spelled n small) mode
+flag_in mode n small = spelled_in {F = u32} u32_unique (flag_spelled n small) mode
 
 bytes_in : (mode : Mode) (bytes : List ℕ) → FrameFits bytes → vec byte mode (frame_text bytes) bytes
-bytes_in mode bytes fits = spelled_in {F = vec byte} vec-bytes-alone (bytes_spelled bytes fits) mode
+bytes_in mode bytes fits = spelled_in {F = vec byte} vec_bytes_unique (bytes_spelled bytes fits) mode
 
 placed : (mode : Mode) (e : Stored) (bytes : List ℕ) → IsStoredIn mode e → FrameFits bytes → pair expression (vec byte) mode (expression_text e.bytes ++ frame_text bytes) (e.instructions, bytes)
 placed mode e bytes plain fits = pair_in mode expression (vec byte) (expression_text e.bytes) (frame_text bytes) e.instructions bytes (expression_spelled mode e.bytes e.instructions plain) (bytes_in mode bytes fits)
@@ -75,7 +75,7 @@ data_spelled mode (given_passive bytes) plain fits =
     ((1, passive bytes), refl, record { front = 0x01 ∷ []; back = frame_text bytes; joined = refl; first = flag_in mode 1 (omega arith); second = (bytes, refl, bytes_in mode bytes (last_fit (0x01 ∷ []) bytes fits)) })
 
 pub data_laws : ItemLaws data_items
-data_laws = record { alone = data-alone; spelled = data_spelled shortest }
+data_laws = record { alone = data_unique; spelled = data_spelled shortest }
 
 -- ---- calls
 

@@ -14,19 +14,19 @@ use Rattle.wasm_base.specs.declared.types.AbstractHeapType.TheVariants as kinds
 use Rattle.wasm_base.specs.declared.types.HeapType.{HeapType}
 use Rattle.wasm_base.specs.declared.types.HeapType.TheVariants.{Abstract}
 use Rattle.wasm_base.specs.declared.types.RefType.{RefType}
-use Rattle.wasm_base.proofs.BaseLaws.{vec-u32-alone}
-use Rattle.wasm_base.proofs.FormatLaws.{TellsTag, mapped-alone, pair-alone, vec-alone, when-alone, fixed-alone, prefixed-alone, tagged-alone}
-use Rattle.wasm_base.proofs.NumberLaws.{u32-alone}
+use Rattle.wasm_base.proofs.BaseLaws.{vec_u32_unique}
+use Rattle.wasm_base.proofs.FormatLaws.{TellsTag, mapped_unique, pair_unique, vec_unique, when_unique, fixed_unique, prefixed_unique, tagged_unique}
+use Rattle.wasm_base.proofs.NumberLaws.{u32_unique}
 use Rattle.wasm_base.proofs.TextLaws.{spelled_in, u32_spelled, u32_in, vec_spelled}
-use Rattle.wasm_base.proofs.TypeLaws.{ref-alone, ref-texts}
+use Rattle.wasm_base.proofs.TypeLaws.{ref_unique, ref-texts}
 use Rattle.wasm_code.specs.Expressions.{expression, expression_text}
-use Rattle.wasm_code.proofs.ExpressionLaws.{expression-alone, expression_spelled}
+use Rattle.wasm_code.proofs.ExpressionLaws.{expression_unique, expression_spelled}
 use Rattle.wasm_immediates.specs.Immediates.{where_set}
 use Rattle.wasm_immediates.specs.PlainImmediates.{bit}
 use Rattle.wasm_insn.specs.Plain.{Plain}
 use Rattle.wasm_sections.specs.Constants.{Stored, IsStoredIn}
 use Rattle.wasm_sections.specs.Elements.{is_nullable_func, is_funcref, Place, passive, declared, active, ElementList, functions, expressions, Segment, needs_table, settled_place, settled, ElementFlag, flag_code, tells_kind, is_inactive, is_second, are_expressions, flag_of, place_text, elements_text, settled_text, stored_text, element_text, IsPlaceIn, AreElementsIn, IsSegmentIn, stored_by, place_of, elements_of, said_by, element_of, in_no_table, in_table, place, list_of, elements_as, segment_of, element, element_items}
-use Rattle.wasm_base.proofs.PartLaws.{pair_in, flag_spelled, numbered-alone}
+use Rattle.wasm_base.proofs.PartLaws.{pair_in, flag_spelled, numbered_unique}
 use Rattle.wasm_sections.specs.GivenElements.{HaveOneText}
 use Rattle.wasm_sections.specs.declared.element.ElementSegment.{ElementSegment}
 use Rattle.wasm_sections.proofs.ViewedLists.{viewed_text}
@@ -65,21 +65,21 @@ table_parts declared = (0, [])
 table_parts (active None offset) = (0, offset)
 table_parts (active (Some table) offset) = (table, offset)
 
-pub place-alone : (f : ElementFlag) → UniqueReading (place f)
-place-alone f =
-    when-alone f.not_active
-    (when-alone f.second (fixed-alone [] declared) (fixed-alone [] passive))
-    (when-alone f.second (mapped-alone in_table (λ x y e. ap table_parts e) (pair-alone u32-alone expression-alone)) (mapped-alone in_no_table (λ x y e. ap (λ p. (table_parts p).1) e) expression-alone))
+pub place_unique : (f : ElementFlag) → UniqueReading (place f)
+place_unique f =
+    when_unique f.not_active
+    (when_unique f.second (fixed_unique [] declared) (fixed_unique [] passive))
+    (when_unique f.second (mapped_unique in_table (λ x y e. ap table_parts e) (pair_unique u32_unique expression_unique)) (mapped_unique in_no_table (λ x y e. ap (λ p. (table_parts p).1) e) expression_unique))
 
 abbrev list_parts : ElementList (List Plain) → RefType × List (List Plain)
 list_parts (functions fs) = (FUNCREF, [])
 list_parts (expressions r es) = (r, es)
 
-pub elements-alone : (told of_expressions : Bool) → UniqueReading (elements_as told of_expressions)
-elements-alone told of_expressions =
-    when-alone of_expressions
-    (mapped-alone list_of (λ x y e. ap list_parts e) (pair-alone (when-alone told ref-alone (fixed-alone [] FUNCREF)) (vec-alone expression-alone)))
-    (mapped-alone functions (λ x y e. cc) (prefixed-alone (cond told (0x00 ∷ []) []) vec-u32-alone))
+pub elements_unique : (told of_expressions : Bool) → UniqueReading (elements_as told of_expressions)
+elements_unique told of_expressions =
+    when_unique of_expressions
+    (mapped_unique list_of (λ x y e. ap list_parts e) (pair_unique (when_unique told ref_unique (fixed_unique [] FUNCREF)) (vec_unique expression_unique)))
+    (mapped_unique functions (λ x y e. cc) (prefixed_unique (cond told (0x00 ∷ []) []) vec_u32_unique))
 
 inactive_told : (f : ElementFlag) (mode : Mode) (s : List ℕ) (p : Place (List Plain)) → place f mode s p → f.not_active ≡ is_inactive p
 inactive_told f mode s p h = go f.not_active f.second h
@@ -111,13 +111,13 @@ flag_told mode f s x h =
     let told : f ≡ flag_of (segment_of h.0) = λ i. record { not_active = a i; second = b i; expressions = c i } in
     told ∙ ap flag_of h.1
 
-pub element_flag-alone : UniqueReading (numbered flag_code)
-element_flag-alone = numbered-alone flag_code decode (λ f. back_of f.not_active f.second f.expressions)
+pub element_flag_unique : UniqueReading (numbered flag_code)
+element_flag_unique = numbered_unique flag_code decode (λ f. back_of f.not_active f.second f.expressions)
 
-pub element-alone : UniqueReading element
-element-alone =
-    tagged-alone flag_of flag_told element_flag-alone λ f.
-    mapped-alone segment_of (λ x y e. ap (λ s. (s.place, s.elements)) e) (pair-alone (place-alone f) (elements-alone (tells_kind f) f.expressions))
+pub element_unique : UniqueReading element
+element_unique =
+    tagged_unique flag_of flag_told element_flag_unique λ f.
+    mapped_unique segment_of (λ x y e. ap (λ s. (s.place, s.elements)) e) (pair_unique (place_unique f) (elements_unique (tells_kind f) f.expressions))
 
 -- ---- texts
 
@@ -157,11 +157,11 @@ all_spelled mode es h = record {
 elements_spelled : (mode : Mode) (told : Bool) (e : ElementList Stored) → AreElementsIn mode e → (told ≡ false → needs_table e ≡ false) → elements_as told (are_expressions e) mode (elements_text stored_text told e) (elements_of e)
 elements_spelled mode told (functions fs) plain short =
     let kind = cond told (0x00 ∷ []) [] in
-    let listed = spelled_in {F = vec u32} vec-u32-alone (vec_spelled u32 (FitsUnsigned 32) unsigned_text u32_spelled fs plain) mode in
+    let listed = spelled_in {F = vec u32} vec_u32_unique (vec_spelled u32 (FitsUnsigned 32) unsigned_text u32_spelled fs plain) mode in
     (fs, refl, ((tt, fs), refl, record { front = kind; back = vec_text unsigned_text fs; joined = refl; first = (refl, refl); second = listed }))
 elements_spelled mode true (expressions r es) plain short =
     let said = map (λ e. e.instructions) es in
-    ((r, said), refl, pair_in mode ref_type (vec expression) (ref_text r) (vec_text stored_text es) r said (spelled_in {F = ref_type} ref-alone (ref-texts.spelled r plain.0) mode) (all_spelled mode es plain.1))
+    ((r, said), refl, pair_in mode ref_type (vec expression) (ref_text r) (vec_text stored_text es) r said (spelled_in {F = ref_type} ref_unique (ref-texts.spelled r plain.0) mode) (all_spelled mode es plain.1))
 elements_spelled mode false (expressions r es) plain short =
     let said = map (λ e. e.instructions) es in
     ((r, said), refl, pair_in mode (fixed [] FUNCREF) (vec expression) [] (vec_text stored_text es) r said (refl, funcref_of r (short refl)) (all_spelled mode es plain.1))
@@ -178,7 +178,7 @@ settled_spelled mode s plain short =
         front = flag_code f ∷ [];
         back = place_text stored_text s.place ++ elements_text stored_text told s.elements;
         joined = refl;
-        first = spelled_in {F = u32} u32-alone (flag_spelled (flag_code f) (code_low f.not_active f.second f.expressions)) mode;
+        first = spelled_in {F = u32} u32_unique (flag_spelled (flag_code f) (code_low f.not_active f.second f.expressions)) mode;
         second = (
           (place_of s.place, elements_of s.elements),
           refl,
@@ -208,7 +208,7 @@ element_spelled mode s plain =
     settled_spelled mode (settled s) (record { place = settled_place-plain mode (needs_table s.elements) s.place plain.place; elements = plain.elements }) (kind_told (needs_table s.elements) s.place)
 
 pub element_laws : ItemLaws element_items
-element_laws = record { alone = element-alone; spelled = λ s plain fits. element_spelled shortest s plain }
+element_laws = record { alone = element_unique; spelled = λ s plain fits. element_spelled shortest s plain }
 
 -- ---- the bytes of a segment's expressions
 

@@ -5,9 +5,9 @@ use Rattle.wasm_base.specs.Formats.{u32, name, coded, pair}
 use Rattle.wasm_base.specs.Numbers.{shortest, unsigned_text}
 use Rattle.wasm_base.specs.Reading.{UniqueReading}
 use Rattle.wasm_base.specs.Texts.{frame_text, FrameFits}
-use Rattle.wasm_base.proofs.BaseLaws.{name-alone}
-use Rattle.wasm_base.proofs.FormatLaws.{coded-alone, mapped-alone, pair-alone}
-use Rattle.wasm_base.proofs.NumberLaws.{u32-alone}
+use Rattle.wasm_base.proofs.BaseLaws.{name_unique}
+use Rattle.wasm_base.proofs.FormatLaws.{coded_unique, mapped_unique, pair_unique}
+use Rattle.wasm_base.proofs.NumberLaws.{u32_unique}
 use Rattle.wasm_base.proofs.TextLaws.{u32_spelled}
 use Rattle.wasm_sections.specs.Exports.{kind_code, export_text, IsExport, item_of, export_of, export, export_items}
 use Rattle.wasm_sections.specs.declared.export.Export.{Export}
@@ -30,13 +30,13 @@ back Memory = refl
 back Global = refl
 back Tag = refl
 
-pub export_kind-alone : UniqueReading (coded kind_code)
-export_kind-alone = coded-alone kind_code decode back
+pub export_kind_unique : UniqueReading (coded kind_code)
+export_kind_unique = coded_unique kind_code decode back
 
-pub export-alone : UniqueReading export
-export-alone =
-    mapped-alone export_of (λ x y e. ap (λ item. (item.name, (item.kind, item.index))) e)
-    (pair-alone name-alone (pair-alone export_kind-alone u32-alone))
+pub export_unique : UniqueReading export
+export_unique =
+    mapped_unique export_of (λ x y e. ap (λ item. (item.name, (item.kind, item.index))) e)
+    (pair_unique name_unique (pair_unique export_kind_unique u32_unique))
 
 export_spelled : (e : Export) → IsExport e → FrameFits (export_text e) → export shortest (export_text e) (item_of e)
 export_spelled e plain fits =
@@ -46,4 +46,4 @@ export_spelled e plain fits =
     ((e.name.now, (e.kind, e.index)), refl, pair_spelled name (pair (coded kind_code) u32) (frame_text e.name.now) back e.name.now (e.kind, e.index) named rest)
 
 pub export_laws : ItemLaws export_items
-export_laws = record { alone = export-alone; spelled = export_spelled }
+export_laws = record { alone = export_unique; spelled = export_spelled }

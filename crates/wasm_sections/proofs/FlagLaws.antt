@@ -1,7 +1,7 @@
 -- The byte of the flags tells each of them.
 use Rattle.std.proofs.Common.{◌≡◌, ℕ, ◌+◌, ◌*◌, ◌/◌, ◌%◌, ◌^◌, ◌<◌, Bool, true, false, refl, arith}
 use Rattle.wasm_base.specs.Reading.{UniqueReading}
-use Rattle.wasm_base.proofs.FormatLaws.{coded-alone}
+use Rattle.wasm_base.proofs.FormatLaws.{coded_unique}
 use Rattle.wasm_immediates.specs.Immediates.{where_set}
 use Rattle.wasm_immediates.specs.PlainImmediates.{bit}
 use Rattle.wasm_sections.specs.Flags.{Flags, flags, flags_code}
@@ -38,5 +38,5 @@ back f =
     let t : bit 3 n ≡ f.has_page_size = bit_of 3 n f.has_page_size (omega (arith, sum, a, b, c, d)) in
     λ i. record { has_maximum = p i; shared = q i; is_64 = r i; has_page_size = t i }
 
-pub flags-alone : UniqueReading flags
-flags-alone = coded-alone flags_code decode back
+pub flags_unique : UniqueReading flags
+flags_unique = coded_unique flags_code decode back

@@ -7,17 +7,17 @@ use Rattle.wasm_base.specs.Laws.{NameFits}
 use Rattle.wasm_base.specs.Numbers.{Mode, shortest, unsigned_text}
 use Rattle.wasm_base.specs.Reading.{UniqueReading, BeginsWith}
 use Rattle.wasm_base.specs.Texts.{frame_text, FrameFits, vec_text}
-use Rattle.wasm_base.proofs.BaseLaws.{name-alone}
-use Rattle.wasm_base.proofs.FormatLaws.{TellsTag, AllValues, BeginNeverAlike, begin_apart, mapped-alone, pair-alone, vec-alone, byte-alone, either-alone, prefixed-alone, tagged-alone, tagged_at, choice_of, choice_begins, begins_mapped, values_mapped, values_tagged, none_in_common}
-use Rattle.wasm_base.proofs.NumberLaws.{u32-alone, u32_small}
+use Rattle.wasm_base.proofs.BaseLaws.{name_unique}
+use Rattle.wasm_base.proofs.FormatLaws.{TellsTag, AllValues, BeginNeverAlike, begin_apart, mapped_unique, pair_unique, vec_unique, byte_unique, either_unique, prefixed_unique, tagged_unique, tagged_at, choice_of, choice_begins, begins_mapped, values_mapped, values_tagged, none_in_common}
+use Rattle.wasm_base.proofs.NumberLaws.{u32_unique, u32_small}
 use Rattle.wasm_base.proofs.TextLaws.{tagged_spelled, u32_spelled, name_spelled, vec_spelled}
 use Rattle.wasm_sections.specs.Imports.{entity_text, IsEntity, entity_tags, entity, Imported, single, named, alike, ImportItem, named_text, imported_text, import_text, IsNamed, IsImported, IsImport, alike_of, group_tags, group, named_entity, after_module, import_of, import_format, import_items}
 use Rattle.wasm_sections.specs.declared.import.EntityType.{EntityType}
 use Rattle.wasm_sections.specs.declared.import.EntityType.TheVariants.{Function, Table, Memory, Global, Tag, FunctionExact}
-use Rattle.wasm_sections.proofs.GlobalLaws.{global-alone, global_spelled}
-use Rattle.wasm_sections.proofs.MemoryLaws.{memory-alone, memory_spelled}
-use Rattle.wasm_sections.proofs.TableLaws.{table-alone, table_spelled}
-use Rattle.wasm_sections.proofs.TagLaws.{tag-alone, tag_spelled}
+use Rattle.wasm_sections.proofs.GlobalLaws.{global_unique, global_spelled}
+use Rattle.wasm_sections.proofs.MemoryLaws.{memory_unique, memory_spelled}
+use Rattle.wasm_sections.proofs.TableLaws.{table_unique, table_spelled}
+use Rattle.wasm_sections.proofs.TagLaws.{tag_unique, tag_spelled}
 use Rattle.wasm_base.proofs.PartLaws.{pair_spelled, front_name_spelled}
 
 -- ---- entities
@@ -30,10 +30,10 @@ entity_code (Global ty) = 0x03
 entity_code (Tag ty) = 0x04
 entity_code (FunctionExact index) = 0x20
 
-pub entity-alone : UniqueReading entity
-entity-alone =
-    choice_of byte entity_code entity_tags byte-alone
-    (mapped-alone Function (λ x y e. cc) u32-alone, (mapped-alone Table (λ x y e. cc) table-alone, (mapped-alone Memory (λ x y e. cc) memory-alone, (mapped-alone Global (λ x y e. cc) global-alone, (mapped-alone Tag (λ x y e. cc) tag-alone, (mapped-alone FunctionExact (λ x y e. cc) u32-alone, tt))))))
+pub entity_unique : UniqueReading entity
+entity_unique =
+    choice_of byte entity_code entity_tags byte_unique
+    (mapped_unique Function (λ x y e. cc) u32_unique, (mapped_unique Table (λ x y e. cc) table_unique, (mapped_unique Memory (λ x y e. cc) memory_unique, (mapped_unique Global (λ x y e. cc) global_unique, (mapped_unique Tag (λ x y e. cc) tag_unique, (mapped_unique FunctionExact (λ x y e. cc) u32_unique, tt))))))
     (λ mode s x h. ap entity_code h.1, (λ mode s x h. ap entity_code h.1, (λ mode s x h. ap entity_code h.1, (λ mode s x h. ap entity_code h.1, (λ mode s x h. ap entity_code h.1, (λ mode s x h. ap entity_code h.1, tt))))))
 
 pub entity_spelled : (ty : EntityType) → IsEntity ty → entity shortest (entity_text ty) ty
@@ -63,10 +63,10 @@ alike_parts (single n ty) = (ty, [])
 alike_parts (named items) = (Function 0, [])
 alike_parts (alike ty names) = (ty, names)
 
-pub group-alone : UniqueReading group
-group-alone =
-    choice_of byte group_code group_tags byte-alone
-    (mapped-alone named (λ x y e. cc) (vec-alone (pair-alone name-alone entity-alone)), (mapped-alone alike_of (λ x y e. ap alike_parts e) (pair-alone entity-alone (vec-alone name-alone)), tt))
+pub group_unique : UniqueReading group
+group_unique =
+    choice_of byte group_code group_tags byte_unique
+    (mapped_unique named (λ x y e. cc) (vec_unique (pair_unique name_unique entity_unique)), (mapped_unique alike_of (λ x y e. ap alike_parts e) (pair_unique entity_unique (vec_unique name_unique)), tt))
     (λ mode s x h. ap group_code h.1, (λ mode s x h. ap group_code h.1, tt))
 
 abbrev pub IsGroupByte : ℕ → Type 0
@@ -91,8 +91,8 @@ item_name (alike ty names) = []
 name_tells : TellsTag (λ item. mapped (single item) entity) item_name
 name_tells mode item s x h = ap item_name h.1
 
-pub named_entity-alone : UniqueReading named_entity
-named_entity-alone = tagged-alone item_name name_tells name-alone (λ item. mapped-alone (single item) (λ x y e. cc) entity-alone)
+pub named_entity_unique : UniqueReading named_entity
+named_entity_unique = tagged_unique item_name name_tells name_unique (λ item. mapped_unique (single item) (λ x y e. cc) entity_unique)
 
 abbrev IsSingle : Imported → Type 0
 IsSingle x = group_code x ≡ 0
@@ -111,15 +111,15 @@ never_alike : BeginNeverAlike named_entity (prefixed (0x00 ∷ []) group)
 never_alike mode s t r u x y h g e =
     let back = g.2.back in
     let split : 0x00 ∷ (back ++ u) ≡ s ++ r = sym (e ∙ ap (λ z. z ++ u) (g.2.joined ∙ ap (λ z. z ++ back) g.2.first.0)) in
-    let found = tagged_at {F = name} {G = λ item. mapped (single item) entity} name-alone mode (0x00 ∷ []) [] (empty_name mode) (back ++ u) s r x split h in
+    let found = tagged_at {F = name} {G = λ item. mapped (single item) entity} name_unique mode (0x00 ∷ []) [] (empty_name mode) (back ++ u) s r x split h in
     begin_apart IsEntityByte IsGroupByte (λ b p q. omega (arith, p, q)) (begins_mapped IsEntityByte (single []) entity_begins) group_begins mode found.0 back r u x g.0.1 found.2 g.2.second (sym found.1)
 
-pub after_module-alone : UniqueReading after_module
-after_module-alone =
-    either-alone never_alike (none_in_common IsSingle IsGroup (λ x p q. q p) named_entity_values after_zero_values) named_entity-alone (prefixed-alone (0x00 ∷ []) group-alone)
+pub after_module_unique : UniqueReading after_module
+after_module_unique =
+    either_unique never_alike (none_in_common IsSingle IsGroup (λ x p q. q p) named_entity_values after_zero_values) named_entity_unique (prefixed_unique (0x00 ∷ []) group_unique)
 
-pub import-alone : UniqueReading import_format
-import-alone = mapped-alone import_of (λ x y e. ap (λ i. (i.module_name, i.imported)) e) (pair-alone name-alone after_module-alone)
+pub import_unique : UniqueReading import_format
+import_unique = mapped_unique import_of (λ x y e. ap (λ i. (i.module_name, i.imported)) e) (pair_unique name_unique after_module_unique)
 
 -- ---- texts
 
@@ -161,4 +161,4 @@ import_spelled i plain fits =
     )
 
 pub import_laws : ItemLaws import_items
-import_laws = record { alone = import-alone; spelled = import_spelled }
+import_laws = record { alone = import_unique; spelled = import_spelled }

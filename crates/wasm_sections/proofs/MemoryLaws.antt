@@ -4,15 +4,15 @@ use Rattle.wasm_base.specs.Entries.{ItemLaws}
 use Rattle.wasm_base.specs.Formats.{u32, u64, optional, is_given}
 use Rattle.wasm_base.specs.Numbers.{shortest, unsigned_text}
 use Rattle.wasm_base.specs.Reading.{UniqueReading}
-use Rattle.wasm_base.proofs.BaseLaws.{u64-alone}
-use Rattle.wasm_base.proofs.FormatLaws.{TellsTag, tagged-alone, mapped-alone, pair-alone, optional-alone}
-use Rattle.wasm_base.proofs.NumberLaws.{u32-alone}
+use Rattle.wasm_base.proofs.BaseLaws.{u64_unique}
+use Rattle.wasm_base.proofs.FormatLaws.{TellsTag, tagged_unique, mapped_unique, pair_unique, optional_unique}
+use Rattle.wasm_base.proofs.NumberLaws.{u32_unique}
 use Rattle.wasm_base.proofs.TextLaws.{u32_spelled, u64_spelled}
 use Rattle.wasm_base.specs.Texts.{optional_text}
 use Rattle.wasm_sections.specs.Flags.{flags_code}
 use Rattle.wasm_sections.specs.Memories.{memory_flags, memory_text, IsMemory, memory_of, after_memory_flags, memory_type, memory_items}
 use Rattle.wasm_sections.specs.declared.memory.MemoryType.{MemoryType}
-use Rattle.wasm_sections.proofs.FlagLaws.{flags-alone}
+use Rattle.wasm_sections.proofs.FlagLaws.{flags_unique}
 use Rattle.wasm_base.proofs.PartLaws.{pair_spelled, optional_spelled, optional_tells}
 
 abbrev parts_of : MemoryType → ℕ × (Option ℕ × Option ℕ)
@@ -25,11 +25,11 @@ flags_tell mode f s m h =
     let told : f ≡ memory_flags (memory_of f h.0) = λ i. record { has_maximum = maximum i; shared = f.shared; is_64 = f.is_64; has_page_size = page i } in
     told ∙ ap memory_flags h.1
 
-pub memory-alone : UniqueReading memory_type
-memory-alone =
-    tagged-alone memory_flags flags_tell flags-alone λ f.
-    mapped-alone (memory_of f) (λ x y e. ap parts_of e)
-    (pair-alone u64-alone (pair-alone (optional-alone f.has_maximum u64-alone) (optional-alone f.has_page_size u32-alone)))
+pub memory_unique : UniqueReading memory_type
+memory_unique =
+    tagged_unique memory_flags flags_tell flags_unique λ f.
+    mapped_unique (memory_of f) (λ x y e. ap parts_of e)
+    (pair_unique u64_unique (pair_unique (optional_unique f.has_maximum u64_unique) (optional_unique f.has_page_size u32_unique)))
 
 pub memory_spelled : (m : MemoryType) → IsMemory m → memory_type shortest (memory_text m) m
 memory_spelled m plain =
@@ -48,4 +48,4 @@ memory_spelled m plain =
     )
 
 pub memory_laws : ItemLaws memory_items
-memory_laws = record { alone = memory-alone; spelled = λ m plain fits. memory_spelled m plain }
+memory_laws = record { alone = memory_unique; spelled = λ m plain fits. memory_spelled m plain }

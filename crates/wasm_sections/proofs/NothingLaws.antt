@@ -8,9 +8,9 @@ use Rattle.wasm_base.specs.Formats.{u32, impossible, choice, name, mapped, such}
 use Rattle.wasm_base.specs.Laws.{NothingStandsWide}
 use Rattle.wasm_base.specs.Numbers.{shortest, wide}
 use Rattle.wasm_base.specs.declared.types.ValType.TheVariants.{I32}
-use Rattle.wasm_base.proofs.BaseLaws.{name-alone}
+use Rattle.wasm_base.proofs.BaseLaws.{name_unique}
 use Rattle.wasm_base.proofs.FormatLaws.{then_at, tagged_at, begins_mapped}
-use Rattle.wasm_base.proofs.NumberLaws.{u32-alone, u32_small}
+use Rattle.wasm_base.proofs.NumberLaws.{u32_unique, u32_small}
 use Rattle.wasm_base.proofs.NothingLaws.{nothing_wide, one_item}
 use Rattle.wasm_base.proofs.NumberTexts.{groups_text-last}
 use Rattle.wasm_insn.specs.Plain.{instruction}
@@ -22,9 +22,9 @@ use Rattle.wasm_code.proofs.ExpressionLaws.{members_one, normal_spelled}
 use Rattle.wasm_sections.specs.DataSegments.{DataItem, data_tags, data_item}
 use Rattle.wasm_sections.specs.Globals.{GivenGlobal, GlobalItem, global_item_of, global_item}
 use Rattle.wasm_sections.specs.Imports.{Imported, ImportItem, single, entity, after_module, import_format}
-use Rattle.wasm_sections.proofs.GlobalLaws.{global_item-alone, global_item_spelled}
+use Rattle.wasm_sections.proofs.GlobalLaws.{global_item_unique, global_item_spelled}
 use Rattle.wasm_sections.proofs.ImportLaws.{IsEntityByte, entity_begins, empty_name}
-use Rattle.wasm_sections.proofs.SectionLaws.{globals-alone, imports-alone, segments-alone}
+use Rattle.wasm_sections.proofs.SectionLaws.{globals_unique, imports_unique, segments_unique}
 
 -- ---- a global behind whose first `End` bytes are left
 
@@ -42,13 +42,13 @@ first_spelled = global_item_spelled shortest first (record { global_type = tt; i
 
 no_global : (x : GlobalItem) → global_item wide (0x7F ∷ 0x00 ∷ 0x41 ∷ 0x01 ∷ 0x0B ∷ 0x41 ∷ 0x02 ∷ 0x0B ∷ []) x → ⊥
 no_global x h =
-    let known = global_item-alone.spellings.wider (0x7F ∷ 0x00 ∷ 0x41 ∷ 0x01 ∷ 0x0B ∷ []) (global_item_of first) first_spelled in
-    let apart = global_item-alone.alone wide (0x7F ∷ 0x00 ∷ 0x41 ∷ 0x01 ∷ 0x0B ∷ []) (0x7F ∷ 0x00 ∷ 0x41 ∷ 0x01 ∷ 0x0B ∷ 0x41 ∷ 0x02 ∷ 0x0B ∷ []) (0x41 ∷ 0x02 ∷ 0x0B ∷ []) [] (global_item_of first) x known h refl in
+    let known = global_item_unique.spellings.wider (0x7F ∷ 0x00 ∷ 0x41 ∷ 0x01 ∷ 0x0B ∷ []) (global_item_of first) first_spelled in
+    let apart = global_item_unique.alone wide (0x7F ∷ 0x00 ∷ 0x41 ∷ 0x01 ∷ 0x0B ∷ []) (0x7F ∷ 0x00 ∷ 0x41 ∷ 0x01 ∷ 0x0B ∷ 0x41 ∷ 0x02 ∷ 0x0B ∷ []) (0x41 ∷ 0x02 ∷ 0x0B ∷ []) [] (global_item_of first) x known h refl in
     absurd (cc apart.2)
 
 pub inner_end : NothingStandsWide (counted_format global_item) (9 ∷ 1 ∷ 127 ∷ 0 ∷ 65 ∷ 1 ∷ 11 ∷ 65 ∷ 2 ∷ 11 ∷ [])
 inner_end =
-    nothing_wide {F = counted_format global_item} (9 ∷ 1 ∷ 127 ∷ 0 ∷ 65 ∷ 1 ∷ 11 ∷ 65 ∷ 2 ∷ 11 ∷ []) globals-alone
+    nothing_wide {F = counted_format global_item} (9 ∷ 1 ∷ 127 ∷ 0 ∷ 65 ∷ 1 ∷ 11 ∷ 65 ∷ 2 ∷ 11 ∷ []) globals_unique
     (λ after rest xs h. let x = one_item {F = global_item} 9 (127 ∷ 0 ∷ 65 ∷ 1 ∷ 11 ∷ 65 ∷ 2 ∷ 11 ∷ []) after rest h.front xs (omega arith) refl h.split h.spelled in no_global x.0 x.1)
 
 -- ---- a padded 00 before a group
@@ -67,7 +67,7 @@ padded_name = (
 
 no_group : (s : List ℕ) (x : Imported) → 0x80 ∷ 0x00 ∷ 0x7F ∷ 0x00 ∷ [] ≡ s ++ [] → after_module wide s x → ⊥
 no_group s x e (inl h) =
-    let found = tagged_at {F = name} {G = λ item. mapped (single item) entity} name-alone wide (0x80 ∷ 0x00 ∷ []) [] padded_name (0x7F ∷ 0x00 ∷ []) s [] x e h in
+    let found = tagged_at {F = name} {G = λ item. mapped (single item) entity} name_unique wide (0x80 ∷ 0x00 ∷ []) [] padded_name (0x7F ∷ 0x00 ∷ []) s [] x e h in
     let kind = begins_mapped IsEntityByte (single []) entity_begins wide found.0 x found.2 in
     let same : 0x7F ∷ 0x00 ∷ [] ≡ kind.0 ∷ kind.1 = found.1 ∙ append-nil found.0 ∙ kind.2 in
     let low : 0x7F < 0x21 = subst IsEntityByte (sym (cc same)) kind.3 in
@@ -79,26 +79,26 @@ no_group s x e (inr h) =
 
 no_import : (x : ImportItem) → import_format wide (0x00 ∷ 0x80 ∷ 0x00 ∷ 0x7F ∷ 0x00 ∷ []) x → ⊥
 no_import x h =
-    let found = then_at {F = name} {G = λ n. after_module} name-alone wide (0x00 ∷ []) [] (empty_name wide) (0x80 ∷ 0x00 ∷ 0x7F ∷ 0x00 ∷ []) (0x00 ∷ 0x80 ∷ 0x00 ∷ 0x7F ∷ 0x00 ∷ []) [] h.0 refl h.2 in
+    let found = then_at {F = name} {G = λ n. after_module} name_unique wide (0x00 ∷ []) [] (empty_name wide) (0x80 ∷ 0x00 ∷ 0x7F ∷ 0x00 ∷ []) (0x00 ∷ 0x80 ∷ 0x00 ∷ 0x7F ∷ 0x00 ∷ []) [] h.0 refl h.2 in
     no_group found.0 h.0.1 found.1 found.2
 
 pub padded_group : NothingStandsWide (counted_format import_format) (6 ∷ 1 ∷ 0 ∷ 128 ∷ 0 ∷ 127 ∷ 0 ∷ [])
 padded_group =
-    nothing_wide {F = counted_format import_format} (6 ∷ 1 ∷ 0 ∷ 128 ∷ 0 ∷ 127 ∷ 0 ∷ []) imports-alone
+    nothing_wide {F = counted_format import_format} (6 ∷ 1 ∷ 0 ∷ 128 ∷ 0 ∷ 127 ∷ 0 ∷ []) imports_unique
     (λ after rest xs h. let x = one_item {F = import_format} 6 (0 ∷ 128 ∷ 0 ∷ 127 ∷ 0 ∷ []) after rest h.front xs (omega arith) refl h.split h.spelled in no_import x.0 x.1)
 
 -- ---- a segment that names memory 0
 
 no_segment : (x : DataItem) → data_item wide (2 ∷ 0 ∷ 65 ∷ 0 ∷ 11 ∷ 1 ∷ 9 ∷ []) x → ⊥
 no_segment x h =
-    let flag = tagged_at {F = u32} {G = choice data_tags (λ flag. impossible)} u32-alone wide (2 ∷ []) 2 (u32_small wide 2 (omega arith)) (0 ∷ 65 ∷ 0 ∷ 11 ∷ 1 ∷ 9 ∷ []) (2 ∷ 0 ∷ 65 ∷ 0 ∷ 11 ∷ 1 ∷ 9 ∷ []) [] x refl h in
+    let flag = tagged_at {F = u32} {G = choice data_tags (λ flag. impossible)} u32_unique wide (2 ∷ []) 2 (u32_small wide 2 (omega arith)) (0 ∷ 65 ∷ 0 ∷ 11 ∷ 1 ∷ 9 ∷ []) (2 ∷ 0 ∷ 65 ∷ 0 ∷ 11 ∷ 1 ∷ 9 ∷ []) [] x refl h in
     let parts = flag.2.2 in
-    let memory = u32-alone.alone wide (0 ∷ []) parts.front (65 ∷ 0 ∷ 11 ∷ 1 ∷ 9 ∷ []) parts.back 0 flag.2.0.0 (u32_small wide 0 (omega arith)) parts.first.0 (flag.1 ∙ append-nil flag.0 ∙ parts.joined) in
+    let memory = u32_unique.alone wide (0 ∷ []) parts.front (65 ∷ 0 ∷ 11 ∷ 1 ∷ 9 ∷ []) parts.back 0 flag.2.0.0 (u32_small wide 0 (omega arith)) parts.first.0 (flag.1 ∙ append-nil flag.0 ∙ parts.joined) in
     omega (arith, memory.0, parts.first.1)
 
 pub named_first_memory : NothingStandsWide (counted_format data_item) (8 ∷ 1 ∷ 2 ∷ 0 ∷ 65 ∷ 0 ∷ 11 ∷ 1 ∷ 9 ∷ [])
 named_first_memory =
-    nothing_wide {F = counted_format data_item} (8 ∷ 1 ∷ 2 ∷ 0 ∷ 65 ∷ 0 ∷ 11 ∷ 1 ∷ 9 ∷ []) segments-alone
+    nothing_wide {F = counted_format data_item} (8 ∷ 1 ∷ 2 ∷ 0 ∷ 65 ∷ 0 ∷ 11 ∷ 1 ∷ 9 ∷ []) segments_unique
     (λ after rest xs h. let x = one_item {F = data_item} 8 (2 ∷ 0 ∷ 65 ∷ 0 ∷ 11 ∷ 1 ∷ 9 ∷ []) after rest h.front xs (omega arith) refl h.split h.spelled in no_segment x.0 x.1)
 
 pub ruleset nothing = (inner_end, padded_group, named_first_memory)

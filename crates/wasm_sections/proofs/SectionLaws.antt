@@ -3,8 +3,8 @@ use Rattle.wasm_base.specs.Entries.{counted_format}
 use Rattle.wasm_base.specs.Formats.{u32, frame}
 use Rattle.wasm_base.specs.Reading.{UniqueReading, IsUniqueWide}
 use Rattle.wasm_base.proofs.BaseLaws.{unique_wide}
-use Rattle.wasm_base.proofs.EntryLaws.{counted-alone}
-use Rattle.wasm_base.proofs.NumberLaws.{u32-alone}
+use Rattle.wasm_base.proofs.EntryLaws.{counted_unique}
+use Rattle.wasm_base.proofs.NumberLaws.{u32_unique}
 use Rattle.wasm_sections.specs.DataSegments.{data_item}
 use Rattle.wasm_sections.specs.Elements.{element}
 use Rattle.wasm_sections.specs.Exports.{export}
@@ -13,83 +13,83 @@ use Rattle.wasm_sections.specs.Imports.{import_format, entity}
 use Rattle.wasm_sections.specs.Memories.{memory_type}
 use Rattle.wasm_sections.specs.Tables.{table_type, table_item}
 use Rattle.wasm_sections.specs.Tags.{tag_type}
-use Rattle.wasm_sections.proofs.DataLaws.{data-alone, data_laws}
-use Rattle.wasm_sections.proofs.ElementLaws.{element-alone, element_laws}
-use Rattle.wasm_sections.proofs.ExportLaws.{export-alone, export_laws}
+use Rattle.wasm_sections.proofs.DataLaws.{data_unique, data_laws}
+use Rattle.wasm_sections.proofs.ElementLaws.{element_unique, element_laws}
+use Rattle.wasm_sections.proofs.ExportLaws.{export_unique, export_laws}
 use Rattle.wasm_sections.proofs.FunctionLaws.{function_laws}
-use Rattle.wasm_sections.proofs.GlobalLaws.{global-alone, global_item-alone, global_laws}
-use Rattle.wasm_sections.proofs.ImportLaws.{entity-alone, import-alone, import_laws}
-use Rattle.wasm_sections.proofs.MemoryLaws.{memory-alone, memory_laws}
-use Rattle.wasm_sections.proofs.NumberLaws.{number-alone}
-use Rattle.wasm_sections.proofs.TableLaws.{table-alone, table_item-alone, table_laws}
-use Rattle.wasm_sections.proofs.TagLaws.{tag-alone, tag_laws}
+use Rattle.wasm_sections.proofs.GlobalLaws.{global_unique, global_item_unique, global_laws}
+use Rattle.wasm_sections.proofs.ImportLaws.{entity_unique, import_unique, import_laws}
+use Rattle.wasm_sections.proofs.MemoryLaws.{memory_unique, memory_laws}
+use Rattle.wasm_sections.proofs.NumberLaws.{number_unique}
+use Rattle.wasm_sections.proofs.TableLaws.{table_unique, table_item_unique, table_laws}
+use Rattle.wasm_sections.proofs.TagLaws.{tag_unique, tag_laws}
 
-pub functions-alone : UniqueReading (counted_format u32)
-functions-alone = counted-alone u32-alone
+pub functions_unique : UniqueReading (counted_format u32)
+functions_unique = counted_unique u32_unique
 
-pub tables-alone : UniqueReading (counted_format table_item)
-tables-alone = counted-alone table_item-alone
+pub tables_unique : UniqueReading (counted_format table_item)
+tables_unique = counted_unique table_item_unique
 
-pub globals-alone : UniqueReading (counted_format global_item)
-globals-alone = counted-alone global_item-alone
+pub globals_unique : UniqueReading (counted_format global_item)
+globals_unique = counted_unique global_item_unique
 
-pub memories-alone : UniqueReading (counted_format memory_type)
-memories-alone = counted-alone memory-alone
+pub memories_unique : UniqueReading (counted_format memory_type)
+memories_unique = counted_unique memory_unique
 
-pub exports-alone : UniqueReading (counted_format export)
-exports-alone = counted-alone export-alone
+pub exports_unique : UniqueReading (counted_format export)
+exports_unique = counted_unique export_unique
 
-pub tags-alone : UniqueReading (counted_format tag_type)
-tags-alone = counted-alone tag-alone
+pub tags_unique : UniqueReading (counted_format tag_type)
+tags_unique = counted_unique tag_unique
 
-pub imports-alone : UniqueReading (counted_format import_format)
-imports-alone = counted-alone import-alone
+pub imports_unique : UniqueReading (counted_format import_format)
+imports_unique = counted_unique import_unique
 
-pub segments-alone : UniqueReading (counted_format data_item)
-segments-alone = counted-alone data-alone
+pub segments_unique : UniqueReading (counted_format data_item)
+segments_unique = counted_unique data_unique
 
-pub elements-alone : UniqueReading (counted_format element)
-elements-alone = counted-alone element-alone
+pub elements_unique : UniqueReading (counted_format element)
+elements_unique = counted_unique element_unique
 
-pub ruleset sections = (segments-alone, elements-alone, data_laws, element_laws, imports-alone, entity-alone, global-alone, table-alone, import_laws, functions-alone, tables-alone, globals-alone, memories-alone, exports-alone, tags-alone, number-alone, function_laws, table_laws, global_laws, memory_laws, export_laws, tag_laws)
+pub ruleset sections = (segments_unique, elements_unique, data_laws, element_laws, imports_unique, entity_unique, global_unique, table_unique, import_laws, functions_unique, tables_unique, globals_unique, memories_unique, exports_unique, tags_unique, number_unique, function_laws, table_laws, global_laws, memory_laws, export_laws, tag_laws)
 
 pub wide-functions : IsUniqueWide (counted_format u32)
-wide-functions = unique_wide functions-alone
+wide-functions = unique_wide functions_unique
 
 pub wide-tables : IsUniqueWide (counted_format table_item)
-wide-tables = unique_wide tables-alone
+wide-tables = unique_wide tables_unique
 
 pub wide-table_types : IsUniqueWide table_type
-wide-table_types = unique_wide table-alone
+wide-table_types = unique_wide table_unique
 
 pub wide-memories : IsUniqueWide (counted_format memory_type)
-wide-memories = unique_wide memories-alone
+wide-memories = unique_wide memories_unique
 
 pub wide-exports : IsUniqueWide (counted_format export)
-wide-exports = unique_wide exports-alone
+wide-exports = unique_wide exports_unique
 
 pub wide-tags : IsUniqueWide (counted_format tag_type)
-wide-tags = unique_wide tags-alone
+wide-tags = unique_wide tags_unique
 
 pub wide-numbers : IsUniqueWide (frame u32)
-wide-numbers = unique_wide number-alone
+wide-numbers = unique_wide number_unique
 
 pub wide-imports : IsUniqueWide (counted_format import_format)
-wide-imports = unique_wide imports-alone
+wide-imports = unique_wide imports_unique
 
 pub wide-entities : IsUniqueWide entity
-wide-entities = unique_wide entity-alone
+wide-entities = unique_wide entity_unique
 
 pub wide-globals : IsUniqueWide (counted_format global_item)
-wide-globals = unique_wide globals-alone
+wide-globals = unique_wide globals_unique
 
 pub wide-global_types : IsUniqueWide global_type
-wide-global_types = unique_wide global-alone
+wide-global_types = unique_wide global_unique
 
 pub wide-data : IsUniqueWide (counted_format data_item)
-wide-data = unique_wide segments-alone
+wide-data = unique_wide segments_unique
 
 pub wide-elements : IsUniqueWide (counted_format element)
-wide-elements = unique_wide elements-alone
+wide-elements = unique_wide elements_unique
 
 pub ruleset wide_sections = (wide-data, wide-elements, wide-imports, wide-entities, wide-globals, wide-global_types, wide-functions, wide-tables, wide-table_types, wide-memories, wide-exports, wide-tags, wide-numbers)

@@ -7,18 +7,18 @@ use Rattle.wasm_base.specs.Numbers.{Mode, shortest, unsigned_text}
 use Rattle.wasm_base.specs.Reading.{UniqueReading, BeginsWith}
 use Rattle.wasm_base.specs.Texts.{optional_text}
 use Rattle.wasm_base.specs.Types.{ref_type, ref_tags, ref_text}
-use Rattle.wasm_base.proofs.BaseLaws.{u64-alone}
-use Rattle.wasm_base.proofs.FormatLaws.{TellsTag, tagged-alone, mapped-alone, when-alone, impossible-alone, pair-alone, optional-alone, prefixed-alone, one_of-alone, begins_then, begins_mapped, begins_fixed, choice_begins, none_in_common, values_mapped}
+use Rattle.wasm_base.proofs.BaseLaws.{u64_unique}
+use Rattle.wasm_base.proofs.FormatLaws.{TellsTag, tagged_unique, mapped_unique, when_unique, impossible_unique, pair_unique, optional_unique, prefixed_unique, one_of_unique, begins_then, begins_mapped, begins_fixed, choice_begins, none_in_common, values_mapped}
 use Rattle.wasm_base.proofs.TextLaws.{spelled_in, u64_spelled}
-use Rattle.wasm_base.proofs.TypeLaws.{ref-alone, ref-texts}
+use Rattle.wasm_base.proofs.TypeLaws.{ref_unique, ref-texts}
 use Rattle.wasm_code.specs.Expressions.{expression, expression_text}
-use Rattle.wasm_code.proofs.ExpressionLaws.{expression-alone, expression_spelled}
+use Rattle.wasm_code.proofs.ExpressionLaws.{expression_unique, expression_spelled}
 use Rattle.wasm_insn.specs.Plain.{Plain}
 use Rattle.wasm_sections.specs.Constants.{Stored, IsStoredIn}
 use Rattle.wasm_sections.specs.Flags.{Flags, flags_code}
 use Rattle.wasm_sections.specs.Tables.{table_flags, table_text, IsTable, Limits, limits_of, after_limits_flags, limits, table_of, table_type, before_init, table_init_text, init_of, without_init, with_init, table_item, table_items}
 use Rattle.wasm_sections.specs.declared.table.TableType.{TableType}
-use Rattle.wasm_sections.proofs.FlagLaws.{flags-alone}
+use Rattle.wasm_sections.proofs.FlagLaws.{flags_unique}
 use Rattle.wasm_base.proofs.PartLaws.{pair_in, pair_spelled, optional_spelled, optional_tells}
 
 abbrev limits_flags : Limits → Flags
@@ -34,17 +34,17 @@ flags_tell mode f s l h = go f.has_page_size refl h
         let told : f ≡ limits_flags (limits_of f g.0) = λ i. record { has_maximum = maximum i; shared = f.shared; is_64 = f.is_64; has_page_size = e i } in
         told ∙ ap limits_flags g.1
 
-pub limits-alone : UniqueReading limits
-limits-alone =
-    tagged-alone limits_flags flags_tell flags-alone λ f.
-    when-alone f.has_page_size impossible-alone
-    (mapped-alone (limits_of f) (λ x y e. ap (λ l. (l.minimum, l.maximum)) e) (pair-alone u64-alone (optional-alone f.has_maximum u64-alone)))
+pub limits_unique : UniqueReading limits
+limits_unique =
+    tagged_unique limits_flags flags_tell flags_unique λ f.
+    when_unique f.has_page_size impossible_unique
+    (mapped_unique (limits_of f) (λ x y e. ap (λ l. (l.minimum, l.maximum)) e) (pair_unique u64_unique (optional_unique f.has_maximum u64_unique)))
 
 abbrev limits_in : TableType → Limits
 limits_in t = record { table64 = t.table64; shared = t.shared; minimum = t.minimum; maximum = t.maximum }
 
-pub table-alone : UniqueReading table_type
-table-alone = mapped-alone table_of (λ x y e. ap (λ t. (t.element_type, limits_in t)) e) (pair-alone ref-alone limits-alone)
+pub table_unique : UniqueReading table_type
+table_unique = mapped_unique table_of (λ x y e. ap (λ t. (t.element_type, limits_in t)) e) (pair_unique ref_unique limits_unique)
 
 pub table_spelled : (t : TableType) → IsTable t → table_type shortest (table_text t) t
 table_spelled t plain =
@@ -76,23 +76,23 @@ abbrev instructions_in : Option (List Plain) → List Plain
 instructions_in None = []
 instructions_in (Some is) = is
 
-pub table_item-alone : UniqueReading table_item
-table_item-alone =
-    one_of-alone IsTypeByte IsInitByte (λ b p q. omega (arith, p, q)) type_item_begins init_begins
+pub table_item_unique : UniqueReading table_item
+table_item_unique =
+    one_of_unique IsTypeByte IsInitByte (λ b p q. omega (arith, p, q)) type_item_begins init_begins
     (none_in_common (λ i. is_given i.init ≡ false) (λ i. is_given i.init ≡ true) (λ i p q. absurd (cc (p, q)))
     (values_mapped (λ i. is_given i.init ≡ false) without_init table_type (λ t. refl)) (values_mapped (λ i. is_given i.init ≡ true) with_init (prefixed before_init (pair table_type expression)) (λ p. refl)))
-    (mapped-alone without_init (λ x y e. ap (λ i. i.table_type) e) table-alone)
-    (mapped-alone with_init (λ x y e. ap (λ i. (i.table_type, instructions_in i.init)) e) (prefixed-alone before_init (pair-alone table-alone expression-alone)))
+    (mapped_unique without_init (λ x y e. ap (λ i. i.table_type) e) table_unique)
+    (mapped_unique with_init (λ x y e. ap (λ i. (i.table_type, instructions_in i.init)) e) (prefixed_unique before_init (pair_unique table_unique expression_unique)))
   where
     type_item_begins : BeginsWith IsTypeByte (mapped without_init table_type)
     type_item_begins = begins_mapped IsTypeByte without_init type_begins
 
 pub init_spelled : (mode : Mode) (t : TableType) (init : Option Stored) → IsTable t → IfSome init (IsStoredIn mode) → table_item mode (table_init_text t init) (record { table_type = t; init = init_of init })
-init_spelled mode t None plain stored = inl (t, refl, spelled_in {F = table_type} table-alone (table_spelled t plain) mode)
+init_spelled mode t None plain stored = inl (t, refl, spelled_in {F = table_type} table_unique (table_spelled t plain) mode)
 init_spelled mode t (Some e) plain stored =
-    let typed = spelled_in {F = table_type} table-alone (table_spelled t plain) mode in
+    let typed = spelled_in {F = table_type} table_unique (table_spelled t plain) mode in
     let parts = pair_in mode table_type expression (table_text t) (expression_text e.bytes) t e.instructions typed (expression_spelled mode e.bytes e.instructions stored) in
     inr ((t, e.instructions), refl, ((tt, (t, e.instructions)), refl, record { front = before_init; back = table_text t ++ expression_text e.bytes; joined = refl; first = (refl, refl); second = parts }))
 
 pub table_laws : ItemLaws table_items
-table_laws = record { alone = table_item-alone; spelled = λ t plain fits. init_spelled shortest t.table_type t.init plain.table_type plain.init }
+table_laws = record { alone = table_item_unique; spelled = λ t plain fits. init_spelled shortest t.table_type t.init plain.table_type plain.init }

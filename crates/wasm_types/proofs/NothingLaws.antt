@@ -6,21 +6,21 @@ use Rattle.wasm_base.specs.Laws.{NothingStandsWide}
 use Rattle.wasm_base.specs.Numbers.{wide}
 use Rattle.wasm_base.specs.Reading.{UniqueReading}
 use Rattle.wasm_base.specs.declared.types.ValType.TheVariants.{I32}
-use Rattle.wasm_base.proofs.BaseLaws.{vec-u32-alone}
-use Rattle.wasm_base.proofs.FormatLaws.{byte-alone, vec_of_one, then_at, tagged_at}
+use Rattle.wasm_base.proofs.BaseLaws.{vec_u32_unique}
+use Rattle.wasm_base.proofs.FormatLaws.{byte_unique, vec_of_one, then_at, tagged_at}
 use Rattle.wasm_base.proofs.NothingLaws.{nothing_wide, one_item}
 use Rattle.wasm_base.proofs.NumberLaws.{u32_small}
 use Rattle.wasm_types.specs.RecTypes.{TypeItem, mutable_code, storage_type, field_type, after_type, type_item}
 use Rattle.wasm_types.specs.declared.types.FieldType.{FieldType}
 use Rattle.wasm_types.specs.declared.types.StorageType.TheVariants.{Val}
-use Rattle.wasm_types.proofs.SectionLaws.{types-alone}
-use Rattle.wasm_types.proofs.TypeLaws.{storage-alone, val_storage}
+use Rattle.wasm_types.proofs.SectionLaws.{types_unique}
+use Rattle.wasm_types.proofs.TypeLaws.{storage_unique, val_storage}
 
 -- ---- what follows a front that is known, up to the last byte
 
 behind_byte : {X : Type 0} {G : ℕ → Format X} (b : ℕ) (rest : List ℕ) (x : X) → tagged byte G wide (b ∷ rest) x → G b wide rest x
 behind_byte {G = G} b rest x h =
-    let found = tagged_at {F = byte} {G = G} byte-alone wide (b ∷ []) b refl rest (b ∷ rest) [] x (sym (append-nil (b ∷ rest))) h in
+    let found = tagged_at {F = byte} {G = G} byte_unique wide (b ∷ []) b refl rest (b ∷ rest) [] x (sym (append-nil (b ∷ rest))) h in
     subst (λ s. G b wide s x) (sym (found.1 ∙ append-nil found.0)) found.2
 
 behind_first : {X Y : Type 0} {F : Format X} {G : Format Y} → UniqueReading F → (a : List ℕ) (x : X) → F wide a x → (rest : List ℕ) (p : X × Y) → Then F (λ x. G) wide (a ++ rest) p → G wide rest p.1
@@ -38,7 +38,7 @@ number : storage_type wide (0x7F ∷ []) (Val I32)
 number = val_storage wide (0x7F ∷ []) I32 ((0x7F, I32), refl, record { front = 0x7F ∷ []; back = []; joined = refl; first = refl; second = (refl, refl) })
 
 no_field : (x : FieldType) → field_type wide (0x7F ∷ 0x02 ∷ []) x → ⊥
-no_field x h = no_mutability h.0.1 (behind_first {F = storage_type} {G = coded mutable_code} storage-alone (0x7F ∷ []) (Val I32) number (0x02 ∷ []) h.0 h.2)
+no_field x h = no_mutability h.0.1 (behind_first {F = storage_type} {G = coded mutable_code} storage_unique (0x7F ∷ []) (Val I32) number (0x02 ∷ []) h.0 h.2)
 
 no_structure : (x : TypeItem) → type_item wide (0x5F ∷ 0x01 ∷ 0x7F ∷ 0x02 ∷ []) x → ⊥
 no_structure x h =
@@ -49,7 +49,7 @@ no_structure x h =
 
 pub mutability_of_2 : NothingStandsWide (counted_format type_item) (5 ∷ 1 ∷ 95 ∷ 1 ∷ 127 ∷ 2 ∷ [])
 mutability_of_2 =
-    nothing_wide {F = counted_format type_item} (5 ∷ 1 ∷ 95 ∷ 1 ∷ 127 ∷ 2 ∷ []) types-alone
+    nothing_wide {F = counted_format type_item} (5 ∷ 1 ∷ 95 ∷ 1 ∷ 127 ∷ 2 ∷ []) types_unique
     (λ after rest xs h. let x = one_item {F = type_item} 5 (95 ∷ 1 ∷ 127 ∷ 2 ∷ []) after rest h.front xs (omega arith) refl h.split h.spelled in no_structure x.0 x.1)
 
 -- ---- a group whose tag is padded
@@ -61,7 +61,7 @@ no_group x h =
 
 pub padded_group : NothingStandsWide (counted_format type_item) (4 ∷ 1 ∷ 206 ∷ 0 ∷ 0 ∷ [])
 padded_group =
-    nothing_wide {F = counted_format type_item} (4 ∷ 1 ∷ 206 ∷ 0 ∷ 0 ∷ []) types-alone
+    nothing_wide {F = counted_format type_item} (4 ∷ 1 ∷ 206 ∷ 0 ∷ 0 ∷ []) types_unique
     (λ after rest xs h. let x = one_item {F = type_item} 4 (206 ∷ 0 ∷ 0 ∷ []) after rest h.front xs (omega arith) refl h.split h.spelled in no_group x.0 x.1)
 
 -- ---- a final type that is spelled with an empty list of supertypes
@@ -73,13 +73,13 @@ no_final : (x : TypeItem) → type_item wide (0x4F ∷ 0x00 ∷ 0x5F ∷ 0x00 �
 no_final x h =
     let sub = behind_byte {G = after_type} 0x4F (0x00 ∷ 0x5F ∷ 0x00 ∷ []) x h in
     let parts = sub.2.2.0 in
-    let none = vec-u32-alone.alone wide (0 ∷ []) parts.front (0x5F ∷ 0x00 ∷ []) parts.back [] sub.2.0.0 no_indices parts.first parts.joined in
+    let none = vec_u32_unique.alone wide (0 ∷ []) parts.front (0x5F ∷ 0x00 ∷ []) parts.back [] sub.2.0.0 no_indices parts.first parts.joined in
     let some : 0 < length {A = ℕ} [] = subst (λ xs. 0 < length xs) (sym none.0) sub.2.2.1 in
     omega (arith, some)
 
 pub no_supertypes : NothingStandsWide (counted_format type_item) (5 ∷ 1 ∷ 79 ∷ 0 ∷ 95 ∷ 0 ∷ [])
 no_supertypes =
-    nothing_wide {F = counted_format type_item} (5 ∷ 1 ∷ 79 ∷ 0 ∷ 95 ∷ 0 ∷ []) types-alone
+    nothing_wide {F = counted_format type_item} (5 ∷ 1 ∷ 79 ∷ 0 ∷ 95 ∷ 0 ∷ []) types_unique
     (λ after rest xs h. let x = one_item {F = type_item} 5 (79 ∷ 0 ∷ 95 ∷ 0 ∷ []) after rest h.front xs (omega arith) refl h.split h.spelled in no_final x.0 x.1)
 
 pub ruleset nothing = (mutability_of_2, padded_group, no_supertypes)

@@ -9,12 +9,12 @@ use Rattle.wasm_base.specs.Reading.{UniqueReading}
 use Rattle.wasm_base.specs.Texts.{vec_text, VecFits}
 use Rattle.wasm_base.specs.Types.{val_type, val_text, IsVal, val_tags, val_ref, ref_tags}
 use Rattle.wasm_base.specs.declared.types.ValType.{ValType}
-use Rattle.wasm_base.proofs.BaseLaws.{s33-alone, vec-u32-alone}
-use Rattle.wasm_base.proofs.FormatLaws.{TellsTag, mapped-alone, such-alone, coded-alone, fixed-alone, impossible-alone, pair-alone, tagged-alone, vec-alone, byte-alone, choice-alone, choice_tells, choice_tags}
-use Rattle.wasm_base.proofs.NumberLaws.{u32-alone}
+use Rattle.wasm_base.proofs.BaseLaws.{s33_unique, vec_u32_unique}
+use Rattle.wasm_base.proofs.FormatLaws.{TellsTag, mapped_unique, such_unique, coded_unique, fixed_unique, impossible_unique, pair_unique, tagged_unique, vec_unique, byte_unique, choice_unique, choice_tells, choice_tags}
+use Rattle.wasm_base.proofs.NumberLaws.{u32_unique}
 use Rattle.wasm_base.proofs.PartLaws.{pair_spelled}
 use Rattle.wasm_base.proofs.TextLaws.{u32_spelled, s33_spelled, vec_spelled, tagged_spelled}
-use Rattle.wasm_base.proofs.TypeLaws.{val-alone, val-texts, val_tag, val_tells, val_choice-alone}
+use Rattle.wasm_base.proofs.TypeLaws.{val_unique, val-texts, val_tag, val_tells, val_choice_unique}
 use Rattle.wasm_types.specs.RecTypes.{Shape, func, array, structure, cont, Composite, Sub, TypeItem, single, group, storage_text, mutable_code, field_text, shape_text, index_text, shared_text, composite_text, before_text, sub_text, type_text, IsStorage, IsField, IsShape, IsGivenIndex, IsComposite, IsSub, IsType, storage_tags, storage_val, storage_type, field_of, field_type, func_of, shape_tags, after_shape, given_index, no_index, with_index, after_descriptor, after_describes, composite_of, after_composite, composite_type, HasSupertypes, sub_of, alone_of, supertypes_and, sub_tags, after_sub, sub_type, after_type, type_item, type_items}
 use Rattle.wasm_types.specs.declared.types.FieldType.{FieldType}
 use Rattle.wasm_types.specs.declared.types.StorageType.{StorageType}
@@ -23,8 +23,8 @@ use Rattle.wasm_types.specs.declared.types.StorageType.TheVariants.{I8, I16, Val
 -- ---- one tag before others
 
 -- A format that is told by its first byte is read uniquely.
-told-alone : {X : Type 0} (tag : X → ℕ) {G : ℕ → Format X} → TellsTag G tag → ((b : ℕ) → UniqueReading (G b)) → UniqueReading (tagged byte G)
-told-alone tag {G} tells all = tagged-alone tag tells byte-alone all
+told_unique : {X : Type 0} (tag : X → ℕ) {G : ℕ → Format X} → TellsTag G tag → ((b : ℕ) → UniqueReading (G b)) → UniqueReading (tagged byte G)
+told_unique tag {G} tells all = tagged_unique tag tells byte_unique all
 
 -- What another tag tells stands behind a byte that isn't this one.
 other_at : {X : Type 0} (tag : ℕ) (F : Format X) (G : ℕ → Format X) (b : ℕ) → b ≢ tag → (mode : Mode) (s : List ℕ) (x : X) → G b mode s x → choice ((tag, F) ∷ []) G b mode s x
@@ -52,8 +52,8 @@ storage_tells =
     (λ mode s x h. ap storage_tag (sym h.1), (λ mode s x h. ap storage_tag (sym h.1), tt))
     (λ b mode s x h. val_tells mode b s h.0 h.2 ∙ ap storage_tag h.1)
 
-pub storage-alone : UniqueReading storage_type
-storage-alone = told-alone storage_tag storage_tells (choice-alone storage_tags storage_val (fixed-alone [] I8, (fixed-alone [] I16, tt)) (λ b. mapped-alone Val (λ x y e. cc) (val_choice-alone b)))
+pub storage_unique : UniqueReading storage_type
+storage_unique = told_unique storage_tag storage_tells (choice_unique storage_tags storage_val (fixed_unique [] I8, (fixed_unique [] I16, tt)) (λ b. mapped_unique Val (λ x y e. cc) (val_choice_unique b)))
 
 mutable_decode : ℕ → Bool
 mutable_decode zero = false
@@ -64,11 +64,11 @@ unfolding mutable_decode
 mutable_back false = refl
 mutable_back true = refl
 
-pub mutable-alone : UniqueReading (coded mutable_code)
-mutable-alone = coded-alone mutable_code mutable_decode mutable_back
+pub mutable_unique : UniqueReading (coded mutable_code)
+mutable_unique = coded_unique mutable_code mutable_decode mutable_back
 
-pub field-alone : UniqueReading field_type
-field-alone = mapped-alone field_of (λ x y e. ap (λ f. (f.element_type, f.mutable)) e) (pair-alone storage-alone mutable-alone)
+pub field_unique : UniqueReading field_type
+field_unique = mapped_unique field_of (λ x y e. ap (λ f. (f.element_type, f.mutable)) e) (pair_unique storage_unique mutable_unique)
 
 -- ---- shapes
 
@@ -88,13 +88,13 @@ abbrev func_parts : Shape → List ValType × List ValType
 func_parts (func params results) = (params, results)
 func_parts _ = ([], [])
 
-shape_after-alone : (b : ℕ) → UniqueReading (after_shape b)
-shape_after-alone =
-    choice-alone shape_tags (λ b. impossible) (
-      mapped-alone func_of (λ x y e. ap func_parts e) (pair-alone (vec-alone val-alone) (vec-alone val-alone)),
-      (mapped-alone array (λ x y e. cc) field-alone, (mapped-alone structure (λ x y e. cc) (vec-alone field-alone), (mapped-alone cont (λ x y e. cc) s33-alone, tt))),
+shape_after_unique : (b : ℕ) → UniqueReading (after_shape b)
+shape_after_unique =
+    choice_unique shape_tags (λ b. impossible) (
+      mapped_unique func_of (λ x y e. ap func_parts e) (pair_unique (vec_unique val_unique) (vec_unique val_unique)),
+      (mapped_unique array (λ x y e. cc) field_unique, (mapped_unique structure (λ x y e. cc) (vec_unique field_unique), (mapped_unique cont (λ x y e. cc) s33_unique, tt))),
     )
-    (λ b. impossible-alone)
+    (λ b. impossible_unique)
 
 -- ---- indices that may stand before
 
@@ -123,11 +123,11 @@ given_same p q e =
     let a : p.0 ≡ q.0 = sym (index_of-some p.0 p.1) ∙ ap index_of e ∙ index_of-some q.0 q.1 in
     λ i. (a i, (e i).1)
 
-index-alone : {X : Type 0} (tag : ℕ) (F : ℕ → Format X) → UniqueReading (tagged byte F) → ((b : ℕ) → UniqueReading (F b)) → (b : ℕ) → UniqueReading (with_index tag F b)
-index-alone tag F whole all =
-    choice-alone ((tag, mapped given_index (pair u32 (tagged byte F))) ∷ []) (λ c. mapped no_index (F c))
-    (mapped-alone given_index given_same (pair-alone u32-alone whole), tt)
-    (λ b. mapped-alone no_index (λ x y e. ap (λ p. p.1) e) (all b))
+index_unique : {X : Type 0} (tag : ℕ) (F : ℕ → Format X) → UniqueReading (tagged byte F) → ((b : ℕ) → UniqueReading (F b)) → (b : ℕ) → UniqueReading (with_index tag F b)
+index_unique tag F whole all =
+    choice_unique ((tag, mapped given_index (pair u32 (tagged byte F))) ∷ []) (λ c. mapped no_index (F c))
+    (mapped_unique given_index given_same (pair_unique u32_unique whole), tt)
+    (λ b. mapped_unique no_index (λ x y e. ap (λ p. p.1) e) (all b))
 
 -- ---- composite types
 
@@ -143,11 +143,11 @@ descriptor_tells = index_tells 0x4D shape_tag after_shape shape_tells
 describes_tells : TellsTag after_describes describes_tag
 describes_tells = index_tells 0x4C descriptor_tag after_descriptor descriptor_tells
 
-descriptor_after-alone : (b : ℕ) → UniqueReading (after_descriptor b)
-descriptor_after-alone = index-alone 0x4D after_shape (told-alone shape_tag shape_tells shape_after-alone) shape_after-alone
+descriptor_after_unique : (b : ℕ) → UniqueReading (after_descriptor b)
+descriptor_after_unique = index_unique 0x4D after_shape (told_unique shape_tag shape_tells shape_after_unique) shape_after_unique
 
-describes_after-alone : (b : ℕ) → UniqueReading (after_describes b)
-describes_after-alone = index-alone 0x4C after_descriptor (told-alone descriptor_tag descriptor_tells descriptor_after-alone) descriptor_after-alone
+describes_after_unique : (b : ℕ) → UniqueReading (after_describes b)
+describes_after_unique = index_unique 0x4C after_descriptor (told_unique descriptor_tag descriptor_tells descriptor_after_unique) descriptor_after_unique
 
 abbrev composite_parts : Composite → Option ℕ × (Option ℕ × Shape)
 composite_parts c = (c.describes, (c.descriptor, c.shape))
@@ -167,14 +167,14 @@ composite_tells =
     (λ mode s x h. ap composite_tag h.1, tt)
     (λ b mode s x h. describes_tells mode b s h.0 h.2 ∙ ap composite_tag h.1)
 
-composite_after-alone : (b : ℕ) → UniqueReading (after_composite b)
-composite_after-alone =
-    choice-alone shared_tags not_shared
-    (mapped-alone (composite_of true) (λ x y e. ap composite_parts e) (told-alone describes_tag describes_tells describes_after-alone), tt)
-    (λ b. mapped-alone (composite_of false) (λ x y e. ap composite_parts e) (describes_after-alone b))
+composite_after_unique : (b : ℕ) → UniqueReading (after_composite b)
+composite_after_unique =
+    choice_unique shared_tags not_shared
+    (mapped_unique (composite_of true) (λ x y e. ap composite_parts e) (told_unique describes_tag describes_tells describes_after_unique), tt)
+    (λ b. mapped_unique (composite_of false) (λ x y e. ap composite_parts e) (describes_after_unique b))
 
-pub composite-alone : UniqueReading composite_type
-composite-alone = told-alone composite_tag composite_tells composite_after-alone
+pub composite_unique : UniqueReading composite_type
+composite_unique = told_unique composite_tag composite_tells composite_after_unique
 
 -- ---- subtypes
 
@@ -202,15 +202,15 @@ sub_tells =
 abbrev sub_parts : Sub → List ℕ × Composite
 sub_parts s = (s.supertypes, s.composite)
 
-sub_after-alone : (b : ℕ) → UniqueReading (after_sub b)
-sub_after-alone =
-    let both = pair-alone vec-u32-alone composite-alone in
-    choice-alone sub_tags not_before
-    (mapped-alone (sub_of false) (λ x y e. ap sub_parts e) both, (mapped-alone (sub_of true) (λ x y e. ap sub_parts e) (such-alone HasSupertypes both), tt))
-    (λ b. mapped-alone alone_of (λ x y e. ap (λ s. s.composite) e) (composite_after-alone b))
+sub_after_unique : (b : ℕ) → UniqueReading (after_sub b)
+sub_after_unique =
+    let both = pair_unique vec_u32_unique composite_unique in
+    choice_unique sub_tags not_before
+    (mapped_unique (sub_of false) (λ x y e. ap sub_parts e) both, (mapped_unique (sub_of true) (λ x y e. ap sub_parts e) (such_unique HasSupertypes both), tt))
+    (λ b. mapped_unique alone_of (λ x y e. ap (λ s. s.composite) e) (composite_after_unique b))
 
-pub sub-alone : UniqueReading sub_type
-sub-alone = told-alone sub_tag sub_tells sub_after-alone
+pub sub_unique : UniqueReading sub_type
+sub_unique = told_unique sub_tag sub_tells sub_after_unique
 
 -- ---- entries
 
@@ -227,8 +227,8 @@ not_group c = mapped single (after_sub c)
 type_tells : TellsTag after_type type_tag
 type_tells = choice_tells type_tag group_tags not_group (λ mode s x h. ap type_tag h.1, tt) (λ b mode s x h. sub_tells mode b s h.0 h.2 ∙ ap type_tag h.1)
 
-pub type-alone : UniqueReading type_item
-type-alone = told-alone type_tag type_tells (choice-alone group_tags not_group (mapped-alone group (λ x y e. cc) (vec-alone sub-alone), tt) (λ b. mapped-alone single (λ x y e. cc) (sub_after-alone b)))
+pub type_unique : UniqueReading type_item
+type_unique = told_unique type_tag type_tells (choice_unique group_tags not_group (mapped_unique group (λ x y e. cc) (vec_unique sub_unique), tt) (λ b. mapped_unique single (λ x y e. cc) (sub_after_unique b)))
 
 -- ---- texts
 
@@ -352,4 +352,4 @@ type_spelled (group subs) p =
     tagged_spelled {G = after_type} shortest 0x4E (vec_text sub_text subs) (group subs) (subs, refl, vec_spelled sub_type IsSub sub_text sub_spelled subs p)
 
 pub type_laws : ItemLaws type_items
-type_laws = record { alone = type-alone; spelled = λ t plain fits. type_spelled t plain }
+type_laws = record { alone = type_unique; spelled = λ t plain fits. type_spelled t plain }

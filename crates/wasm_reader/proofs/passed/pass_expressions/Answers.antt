@@ -1,6 +1,6 @@
 use Rattle.wasm_reader_base.proofs.Faults.{fault_stays}
 use Rattle.wasm_base.proofs.ReadingSteps.{then_reads, then_nothing_first, then_nothing_second}
-use Rattle.wasm_base.proofs.TypeLaws.{ref-alone}
+use Rattle.wasm_base.proofs.TypeLaws.{ref_unique}
 use Rattle.wasm_reader.proofs.ReadElements.{expressions_read, expressions_none, expressions_none_untold, expressions_untold}
 use Rattle.wasm_reader.proofs.passed.pass_expressions.Goals as goal
 
@@ -8,7 +8,7 @@ pub returns-in_err-_type-clause-none : goal.returns-in_err-_type-clause-none
 returns-in_err-_type-clause-none g c = fault_stays c.from_residual.result _ c.from_residual.ensures.1 λ n. expressions_none c.args.told c.args.bytes.now c.if-told.true (then_nothing_first (c.in_err-_type.ensures.none n))
 
 pub returns-in_err-_count-clause-none : goal.returns-in_err-_count-clause-none
-returns-in_err-_count-clause-none g c = fault_stays c.from_residual-in_err-_count.result _ c.from_residual-in_err-_count.ensures.1 λ n. expressions_none c.args.told c.args.bytes.now c.if-told.true (then_nothing_second ref-alone c.in_ok-_type.ensures.found (c.in_err-_count.ensures.none n))
+returns-in_err-_count-clause-none g c = fault_stays c.from_residual-in_err-_count.result _ c.from_residual-in_err-_count.ensures.1 λ n. expressions_none c.args.told c.args.bytes.now c.if-told.true (then_nothing_second ref_unique c.in_ok-_type.ensures.found (c.in_err-_count.ensures.none n))
 
 pub returns-then-told-clause-found : goal.returns-then-told-clause-found
 returns-then-told-clause-found g c =

@@ -9,7 +9,7 @@ returns-in_err-count-clause-none g c = fault_stays c.from_residual.result _ c.fr
 
 pub returns-in_err-rest-clause-none : goal.returns-in_err-rest-clause-none
 returns-in_err-rest-clause-none g c = fault_stays c.from_residual-in_err-rest.result _ c.from_residual-in_err-rest.ensures.1 λ n.
-    passed_nothing g.P.Passed.format c.args.bytes.now _ c.loop-taken.rest.now _ _ g.P.Passed.alone c.in_ok-count.ensures.found c.loop-taken.invariant c.loop-taken-test.true (c.in_err-rest.ensures.none n)
+    passed_nothing g.P.Passed.format c.args.bytes.now _ c.loop-taken.rest.now _ _ c.laws.ensures c.in_ok-count.ensures.found c.loop-taken.invariant c.loop-taken-test.true (c.in_err-rest.ensures.none n)
 
 pub loop-taken-preserved : goal.loop-taken-preserved
 loop-taken-preserved g c =

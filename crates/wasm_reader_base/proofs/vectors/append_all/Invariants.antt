@@ -4,4 +4,4 @@ use Rattle.wasm_reader_base.specs.Shortest.{AppendsShortest}
 use Rattle.wasm_reader_base.proofs.vectors.append_all.Given as goal
 
 abbrev pub invariant-loop-item : goal.invariant-loop-item
-invariant-loop-item g l = AppendsShortest (members g.T.Shorten.format) (map g.T.Shorten.view (take l.item-index l.items)) l.initial.out.items l.out.items
+invariant-loop-item g l = AppendsShortest (members g.T.Spelled.format) (map g.T.Spelled.view (take l.item-index l.items)) l.initial.out.items l.out.items

@@ -6,7 +6,7 @@ use Rattle.wasm_reader_base.proofs.whole.read_whole.Goals as goal
 
 pub returns-else-is_empty-clause-none : goal.returns-else-is_empty-clause-none
 returns-else-is_empty-clause-none g c = λ n.
-    whole_more g.T.Readable.format c.args.bytes.now c.in_ok-value.left.now _ g.T.Readable.alone c.in_ok-value.ensures.found (eqb-false _ _ (sym c.is_empty.ensures ∙ c.if-is_empty.false))
+    whole_more g.T.Spelled.format c.args.bytes.now c.in_ok-value.left.now _ c.laws.ensures c.in_ok-value.ensures.found (eqb-false _ _ (sym c.is_empty.ensures ∙ c.if-is_empty.false))
 
 pub returns-in_err-value-clause-none : goal.returns-in_err-value-clause-none
 returns-in_err-value-clause-none g c = fault_stays c.from_residual.result _ c.from_residual.ensures.1 λ n. whole_nothing _ c.args.bytes.now (c.in_err-value.ensures.none n)

@@ -14,4 +14,4 @@ pub returns-then-is_empty-clause-found : goal.returns-then-is_empty-clause-found
 returns-then-is_empty-clause-found g c = search (framed_reads, c.in_ok-content.ensures.found, c.in_ok-value.ensures.found, eqb-true _ _ (sym c.is_empty.ensures ∙ c.if-is_empty.true))
 
 pub returns-else-is_empty-clause-none : goal.returns-else-is_empty-clause-none
-returns-else-is_empty-clause-none g c = λ n. framed_more _ c.args.bytes.now _ _ _ _ g.T.Readable.alone c.in_ok-content.ensures.found c.in_ok-value.ensures.found (eqb-false _ _ (sym c.is_empty.ensures ∙ c.if-is_empty.false))
+returns-else-is_empty-clause-none g c = λ n. framed_more _ c.args.bytes.now _ _ _ _ c.laws.ensures c.in_ok-content.ensures.found c.in_ok-value.ensures.found (eqb-false _ _ (sym c.is_empty.ensures ∙ c.if-is_empty.false))

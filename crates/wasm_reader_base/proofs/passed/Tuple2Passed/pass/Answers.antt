@@ -6,7 +6,7 @@ pub returns-in_err-after-clause-none : goal.returns-in_err-after-clause-none
 returns-in_err-after-clause-none g c = fault_stays c.from_residual.result _ c.from_residual.ensures.1 λ n. then_nothing_first (c.in_err-after.ensures.none n)
 
 pub returns-in_err-rest-clause-none : goal.returns-in_err-rest-clause-none
-returns-in_err-rest-clause-none g c = fault_stays c.from_residual-in_err-rest.result _ c.from_residual-in_err-rest.ensures.1 λ n. then_nothing_second g.P.Passed.alone c.in_ok-after.ensures.found.1 (c.in_err-rest.ensures.none n)
+returns-in_err-rest-clause-none g c = fault_stays c.from_residual-in_err-rest.result _ c.from_residual-in_err-rest.ensures.1 λ n. then_nothing_second c.laws.ensures c.in_ok-after.ensures.found.1 (c.in_err-rest.ensures.none n)
 
 pub returns-clause-found : goal.returns-clause-found
 returns-clause-found g c =

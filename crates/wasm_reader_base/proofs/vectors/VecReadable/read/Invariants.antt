@@ -3,4 +3,4 @@ use Rattle.wasm_reader_base.proofs.ReadVectors.{HasRead}
 use Rattle.wasm_reader_base.proofs.vectors.VecReadable.read.Given as goal
 
 abbrev pub invariant-loop-taken : goal.invariant-loop-taken
-invariant-loop-taken g l = HasRead g.T.Readable.format g.T.Readable.view l.initial.rest l.items.items l.rest × (length l.items.items ≡ l._taken)
+invariant-loop-taken g l = HasRead g.T.Spelled.format g.T.Spelled.view l.initial.rest l.items.items l.rest × (length l.items.items ≡ l._taken)

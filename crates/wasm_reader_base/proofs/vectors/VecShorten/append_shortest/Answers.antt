@@ -8,7 +8,7 @@ use Rattle.wasm_reader_base.proofs.vectors.VecShorten.append_shortest.Goals as g
 
 pub returns : goal.returns
 returns g c =
-    let t = g.T.Shorten in
+    let t = g.T.Spelled in
     let items = c.deref.result.now in
     let old = c.args.out.now.items in
     on_ok c.append_all.result _ _ c.append_all.ensures (λ added.

@@ -1,6 +1,6 @@
 use Rattle.std.proofs.Common.{subst, sym, arith}
 use Rattle.wasm_base.specs.Formats.{such}
-use Rattle.wasm_base.proofs.FormatLaws.{such-alone, begins_such}
+use Rattle.wasm_base.proofs.FormatLaws.{such_unique, begins_such}
 use Rattle.wasm_insn.specs.Plain.{instruction}
 use Rattle.wasm_insn.specs.Table.{table}
 use Rattle.wasm_insn.proofs.InstructionLaws.{alone}
@@ -32,7 +32,7 @@ pub loop-rest-preserved : goal.loop-rest-preserved
 loop-rest-preserved g c =
     let split = front_and_rest c.loop-rest.rest.now c.in-len1-up.len_at_least in
     subst (λ z. HasEnded 11 (such IsNoEnd (instruction table)) plain_of c.args.bytes.now z c.in_ok-item.after.now) (sym c.in_ok-push.ensures.items)
-    (ended_step 11 (such IsNoEnd (instruction table)) plain_of c.args.bytes.now (such-alone IsNoEnd alone) _ c.loop-rest.rest.now _ c.in_ok-item.after.now c.loop-rest.items.items c.in_ok-item.item c.loop-rest.invariant split c.if-first-eq-END.false
+    (ended_step 11 (such IsNoEnd (instruction table)) plain_of c.args.bytes.now (such_unique IsNoEnd alone) _ c.loop-rest.rest.now _ c.in_ok-item.after.now c.loop-rest.items.items c.in_ok-item.item c.loop-rest.invariant split c.if-first-eq-END.false
     (not_end c.loop-rest.rest.now _ c.in_ok-item.after.now _ (plain_of c.in_ok-item.item) split c.if-first-eq-END.false c.in_ok-item.ensures.found))
 
 pub loop-rest-smaller : goal.loop-rest-smaller

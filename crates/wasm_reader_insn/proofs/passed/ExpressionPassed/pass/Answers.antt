@@ -1,6 +1,6 @@
 use Rattle.std.proofs.Common.{◌∷◌, ◌++◌, [], arith, map}
 use Rattle.wasm_base.specs.Formats.{such}
-use Rattle.wasm_base.proofs.FormatLaws.{such-alone, begins_such}
+use Rattle.wasm_base.proofs.FormatLaws.{such_unique, begins_such}
 use Rattle.wasm_base.proofs.ReadingSteps.{front_and_rest, such_none}
 use Rattle.wasm_insn.specs.Plain.{instruction}
 use Rattle.wasm_insn.specs.Table.{table}
@@ -32,7 +32,7 @@ loop-rest-preserved g c =
     let x = c.in_ok-rest.ensures.found in
     let split = front_and_rest c.loop-rest.rest.now c.in-len1-up.len_at_least in (
       go.0 ++ x.0 ∷ [],
-      ended_step 11 (such IsNoEnd (instruction table)) (λ i. i) c.args.bytes.now (such-alone IsNoEnd alone) _ c.loop-rest.rest.now _ _ go.0 x.0 go.1 split c.if-first-eq-END.false (not_end c.loop-rest.rest.now _ _ _ x.0 split c.if-first-eq-END.false x.1),
+      ended_step 11 (such IsNoEnd (instruction table)) (λ i. i) c.args.bytes.now (such_unique IsNoEnd alone) _ c.loop-rest.rest.now _ _ go.0 x.0 go.1 split c.if-first-eq-END.false (not_end c.loop-rest.rest.now _ _ _ x.0 split c.if-first-eq-END.false x.1),
     )
 
 pub loop-rest-smaller : goal.loop-rest-smaller

@@ -7,7 +7,7 @@ use Rattle.wasm_reader_insn.specs.Arguments.{plain_of}
 use Rattle.wasm_reader_base.proofs.Faults.{fault_stays, memory_stays}
 use Rattle.wasm_reader_base.proofs.ReadFrames.{none_left}
 use Rattle.wasm_reader_base.proofs.ReadWhole.{HasMembers, members_step, members_fail, members_done, empty_not}
-use Rattle.wasm_reader_insn.proofs.body.CodeFilling.fill.Goals as goal
+use Rattle.wasm_reader_insn.proofs.body.read_code.Goals as goal
 
 pub returns-then-is_empty-clause-found : goal.returns-then-is_empty-clause-found
 returns-then-is_empty-clause-found g c = members_done (instruction table) plain_of c.args.bytes.now c.loop-rest.rest.now c.loop-rest.items.items c.loop-rest.invariant (none_left c.loop-rest.rest.now (eqb-true _ _ (sym c.is_empty.ensures ∙ c.if-is_empty.true)))
