@@ -15,7 +15,7 @@ use Rattle.wasm_sections.specs.Memories.{memory_type}
 use Rattle.wasm_sections.specs.Tables.{TableItem, table_item}
 use Rattle.wasm_sections.specs.Tags.{tag_type}
 use Rattle.wasm_types.specs.RecTypes.{TypeItem, type_item}
-use Rattle.wasm_reader_types.specs.Items.{entry_of}
+use Rattle.wasm_types.specs.Items.{entry_of}
 use Rattle.wasm_sections.specs.declared.memory.MemoryType.{MemoryType}
 use Rattle.wasm_sections.specs.declared.tag.TagType.{TagType}
 use Rattle.wasm_custom.specs.CoreDumps.{Instance}

@@ -34,7 +34,7 @@ pub use tables::TableItem;
 pub use wasm_reader_base::ReadFault;
 pub use wasm_reader_custom::{CoreFrame, LinkItem, NameItem, Symbol};
 pub use wasm_reader_insn::{Arg, Body, Code, Expression, Plain};
-pub use wasm_reader_types::TypeEntry;
+pub use wasm_types::TypeEntry;
 pub use whole::{ModuleFault, Offsets, shorten_module};
 
 /// This crate, which says how items of other crates are read.

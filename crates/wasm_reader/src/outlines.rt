@@ -13,7 +13,7 @@ use crate::section::SectionKind;
 use crate::standing::{Standing, read_standing};
 use std::alloc::Allocator;
 use wasm_reader_base::ReadFault;
-use wasm_reader_types::read_types;
+use wasm_types::read_types;
 
 /// A section of a module, as an outline has it.
 #[derive(Clone, Copy, PartialEq, Eq, Debug)]

@@ -20,7 +20,7 @@ use wasm_reader_custom::{
     read_names, read_process, read_producers, read_stack,
 };
 use wasm_reader_insn::Body;
-use wasm_reader_types::{TypeEntry, read_types};
+use wasm_types::{TypeEntry, read_types};
 use wasm_sections::{Export, Imports, MemoryType, TagType};
 
 /// What a section is read as.

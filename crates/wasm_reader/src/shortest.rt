@@ -19,7 +19,7 @@ use wasm_reader_custom::{
     append_producers, append_stack,
 };
 use wasm_reader_insn::shorten_body;
-use wasm_reader_types::append_types;
+use wasm_types::append_types;
 
 /// Appends the shortest text of what the frame of a section holds.
 #[tactic(auto, using(crate::proofs::ShortSections::contents))]

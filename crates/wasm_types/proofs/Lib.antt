@@ -2,3 +2,7 @@ pub mod TypeLaws
 pub mod SectionLaws
 pub mod NothingLaws
 pub mod Calls
+pub mod ReadFields
+pub mod ReadShapes
+pub mod ReadItems
+pub mod ShortTypes

@@ -1,20 +1,28 @@
-// The type section.
-ghost use Rattle.std.specs.Prelude.{◌≡◌, ◌≢◌, ℕ, List, [], ◌∷◌, length, IfOk, IsTrue, ◌↔◌, slice_get, ⊤, pos};
+// The type section: built, read, and written in its fewest bytes.
+ghost use Rattle.std.specs.Prelude.{◌≡◌, ◌≢◌, ℕ, List, [], ◌∷◌, length, map, IfErr, IfOk, IsTrue, OnOk, ◌↔◌, slice_get, ⊤, pos};
 ghost use Rattle.std.specs.Option.{option_copied};
 ghost use Rattle.wasm_base.specs.Calls.{Adds, ReadsBackBoth};
 ghost use Rattle.wasm_base.specs.Entries.{HoldsWide, counted_format};
+ghost use Rattle.wasm_base.specs.Formats.{vec};
+ghost use Rattle.wasm_base.specs.Going.{FillsNothing};
 ghost use Rattle.wasm_base.specs.Iterators.{HasKnownLength};
+ghost use Rattle.wasm_base.specs.Numbers.{wide};
 ghost use Rattle.wasm_base.specs.Pieces.{section_text, SectionFits};
 ghost use Rattle.wasm_base.specs.Texts.{VecFits};
 ghost use Rattle.wasm_base.specs.declared.refused.Refused.TheVariants.{TooLong};
+ghost use Rattle.wasm_reader_base.specs.Shortest.{AppendsShortest};
+ghost use Rattle.wasm_reader_base.specs.declared.fault.ReadFault.TheVariants.{Memory};
 ghost use Rattle.wasm_types.specs.Calls.{AddsListed, AddsTwoListed};
+ghost use Rattle.wasm_types.specs.Items.{entry_of};
 ghost use Rattle.wasm_types.specs.RecTypes.{type_items, TypeItem as Item, type_text, IsType, type_item, field_text, func_text, struct_text, cont_text, sub_text};
 ghost use Rattle.wasm_types.specs.Readings.{HoldsTypes};
 
+use crate::items::TypeEntry;
 use crate::types::{ARRAY, ContType, FUNC, FieldType, FuncType, STRUCT, StorageType, SubType};
 use std::alloc::{Allocator, Global};
 use std::marker::Model;
 use wasm_base::{Encode, Items, Pieces, R, Section, SectionId, ValType, vec_of};
+use wasm_reader_base::{ReadFault, read_whole};
 
 /// The types that a module defines, seen as the bytes of each entry.
 ///
@@ -230,3 +238,25 @@ impl<'a, A: Allocator> CoreTypeEncoder<'a, A> {
 
 /// The byte before a group.
 const REC: u8 = 0x4E;
+
+/// The types behind their number that all of the bytes spell, their numbers padded or not.
+pub fn read_types<'a, A: Allocator + Copy>(
+    bytes: &'a [u8],
+    alloc: A,
+) -> Result<Vec<TypeEntry<A>, A>, ReadFault>
+    ensures found { IfOk result (λ x. vec type_item wide bytes.now (map entry_of x.items)) }
+    ensures none { IfErr result (λ e. e ≢ Memory → FillsNothing (vec type_item) bytes.now) }
+{
+    read_whole::<'a, Vec<TypeEntry<A>, A>, A>(bytes, alloc)
+}
+
+/// Appends the one shortest text of types that were read, behind their number.
+#[tactic(auto, using(crate::proofs::ShortTypes::types_appended))]
+pub fn append_types<A: Allocator, B: Allocator>(
+    types: &[TypeEntry<A>],
+    out: &mut Vec<u8, B>,
+) -> R<()>
+    ensures { OnOk result (AppendsShortest (vec type_item) (map entry_of types.now) out.old.items out.new.items) }
+{
+    types.encode(out)
+}

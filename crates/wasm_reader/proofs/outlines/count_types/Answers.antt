@@ -1,6 +1,6 @@
 use Rattle.std.proofs.Common.{map}
 use Rattle.std.proofs.lemmas.List.{length-map}
-use Rattle.wasm_reader_types.specs.Items.{entry_of}
+use Rattle.wasm_types.specs.Items.{entry_of}
 use Rattle.wasm_reader.proofs.ReadOutlines.{types_counted}
 use Rattle.wasm_reader.proofs.outlines.count_types.Goals as goal
 

@@ -4,7 +4,7 @@ use Rattle.wasm_sections.specs.Imports.{imports_item}
 use Rattle.wasm_reader_custom.specs.Items.{instance_of, hints_of}
 use Rattle.wasm_reader_custom.specs.Names.{name_item_of}
 use Rattle.wasm_reader_custom.specs.Symbols.{link_of}
-use Rattle.wasm_reader_types.specs.Items.{entry_of}
+use Rattle.wasm_types.specs.Items.{entry_of}
 use Rattle.wasm_reader.specs.Sections.{Imports, Types, Names, Linking, Hints, CoreModules, CoreInstances, contents_of}
 use Rattle.wasm_reader.proofs.ShortSections.{of_items, bodies, segments, data_count, elements, globals, imports, start, tables, types, names, links, producers, hints, process, modules, instances, stack}
 use Rattle.wasm_reader.proofs.shortest.append_content.Goals as goal

@@ -1,4 +1,0 @@
-pub mod ReadFields
-pub mod ReadShapes
-pub mod ReadItems
-pub mod ShortTypes

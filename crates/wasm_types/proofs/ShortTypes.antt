@@ -1,0 +1,166 @@
+-- What was read is plain, so its text is its one shortest spelling.
+use Rattle.std.proofs.Common.{◌≡◌, ◌≢◌, ℕ, ◌^◌, ◌<◌, List, [], ◌∷◌, ◌++◌, length, map, Bool, true, false, Option, Result, Ok, Err, refl, sym, ap, ap₂, subst, eqb, arith}
+use Rattle.std.specs.List.{flat_map}
+use Rattle.std.proofs.lemmas.Int.{ints}
+use Rattle.std.proofs.lemmas.List.{length-map}
+use Rattle.std.proofs.lemmas.List.Elements.{All-nil}
+use Rattle.wasm_base.specs.Numbers.{Mode, shortest, wide, unsigned_text}
+use Rattle.wasm_base.specs.Formats.{Format, u32, s33, byte, choice, impossible, mapped, pair, tagged, vec, when}
+use Rattle.wasm_base.specs.Laws.{FitsUnsigned}
+use Rattle.wasm_base.specs.Texts.{vec_text, VecFits}
+use Rattle.wasm_base.specs.Types.{IsVal, val_type, val_tags, val_ref}
+use Rattle.wasm_base.proofs.FormatLaws.{AllValues, AllChoices}
+use Rattle.wasm_base.proofs.TextLaws.{tagged_spelled}
+use Rattle.wasm_base.proofs.Outcomes.{on_ok}
+use Rattle.wasm_base.specs.Calls.{Appends}
+use Rattle.wasm_base.specs.declared.refused.Refused.{Refused}
+use Rattle.std.specs.declared.vec.Vec.{Vec}
+use Rattle.std.specs.Prelude.{OnOk}
+use Rattle.wasm_reader_base.specs.Shortest.{AppendsShortest}
+use Rattle.wasm_reader_base.proofs.ReadPlain.{val_type_is, vec_is}
+use Rattle.wasm_reader_base.proofs.ShortTexts.{records_appended}
+use Rattle.wasm_types.specs.RecTypes.{Shape, Composite, single, group, before_text, sub_text, type_text, IsStorage, IsField, IsShape, IsGivenIndex, IsComposite, IsSub, IsType, storage_tags, storage_val, storage_type, field_type, shape_tags, after_shape, with_index, given_index, no_index, after_descriptor, after_describes, composite_of, after_composite, composite_type, sub_tags, after_sub, alone_of, sub_type, after_type, type_item}
+use Rattle.wasm_types.proofs.TypeLaws.{type_spelled}
+use Rattle.wasm_types.specs.Items.{sub_of, entry_of, entry_text, SubItemFits, EntryFits}
+use Rattle.wasm_types.specs.declared.items.SubItem.{SubItem}
+use Rattle.wasm_types.specs.declared.items.TypeEntry.{TypeEntry}
+use Rattle.wasm_types.specs.declared.items.TypeEntry.TheVariants as entries
+
+values_choice : {X : Type 0} (Q : X → Type 0) (cs : List (ℕ × Format X)) (other : ℕ → Format X) → AllChoices Q cs → ((b : ℕ) → AllValues Q (other b)) → (b : ℕ) → AllValues Q (choice cs other b)
+values_choice Q [] other h g b mode s x k = g b mode s x k
+values_choice {X} Q (c ∷ cs) other h g b mode s x k = go (values_choice Q cs other h.1 g b mode s x) (eqb b c.0) k
+  where
+    go : (choice cs other b mode s x → Q x) → (test : Bool) → when test c.1 (choice cs other b) mode s x → Q x
+    go more true k = h.0 mode s x k
+    go more false k = more k
+
+told_values : {X : Type 0} (Q : X → Type 0) (G : ℕ → Format X) → ((b : ℕ) → AllValues Q (G b)) → AllValues Q (tagged byte G)
+told_values Q G all mode s x h = subst Q h.1 (all h.0.0 mode h.2.back h.0.1 h.2.second)
+
+after_storage_is : (b : ℕ) → AllValues IsStorage (choice storage_tags storage_val b)
+after_storage_is =
+    values_choice IsStorage storage_tags storage_val (λ mode s x h. subst IsStorage (sym h.1) tt, (λ mode s x h. subst IsStorage (sym h.1) tt, tt))
+    (λ b mode s x h. subst IsStorage h.1 (val_type_is mode (b ∷ s) h.0 (tagged_spelled {G = choice val_tags val_ref} mode b s h.0 h.2)))
+
+storage_is : AllValues IsStorage storage_type
+storage_is = told_values IsStorage (choice storage_tags storage_val) after_storage_is
+
+field_is : AllValues IsField field_type
+field_is mode s x h = subst IsField h.1 (storage_is mode h.2.front h.0.0 h.2.first)
+
+index_is : (mode : Mode) (s : List ℕ) (n : ℕ) → s33 mode s n → n < 2 ^ 32
+index_is mode s n h = omega (arith, ints, h.below)
+
+shape_is : (b : ℕ) → AllValues IsShape (after_shape b)
+shape_is =
+    values_choice IsShape shape_tags (λ b. impossible) (
+      λ mode s x h. subst IsShape h.1 (vec_is IsVal val_type val_type_is mode h.2.front h.0.0 h.2.first, vec_is IsVal val_type val_type_is mode h.2.back h.0.1 h.2.second),
+      (
+        λ mode s x h. subst IsShape h.1 (field_is mode s h.0 h.2),
+        (λ mode s x h. subst IsShape h.1 (vec_is IsField field_type field_is mode s h.0 h.2), (λ mode s x h. subst IsShape h.1 (index_is mode s h.0 h.2), tt)),
+      ),
+    )
+    (λ b mode s x h. absurd h)
+
+abbrev IsIndexAnd : {X : Type 0} → (X → Type 0) → Option ℕ × X → Type 0
+IsIndexAnd P p = IsGivenIndex p.0 × P p.1
+
+index_values : {X : Type 0} (P : X → Type 0) (tag : ℕ) (F : ℕ → Format X) → ((b : ℕ) → AllValues P (F b)) → (b : ℕ) → AllValues (IsIndexAnd P) (with_index tag F b)
+index_values P tag F all =
+    values_choice (IsIndexAnd P) ((tag, mapped given_index (pair u32 (tagged byte F))) ∷ []) (λ c. mapped no_index (F c))
+    (λ mode s x h. subst (IsIndexAnd P) h.1 (h.2.first.range, told_values P F all mode h.2.back h.0.1 h.2.second), tt)
+    (λ b mode s x h. subst (IsIndexAnd P) h.1 (tt, all b mode s h.0 h.2))
+
+abbrev IsDescribed : Option ℕ × Shape → Type 0
+IsDescribed p = IsIndexAnd IsShape p
+
+abbrev IsDescribing : Option ℕ × (Option ℕ × Shape) → Type 0
+IsDescribing p = IsIndexAnd IsDescribed p
+
+described_is : (b : ℕ) → AllValues IsDescribed (after_descriptor b)
+described_is = index_values IsShape 0x4D after_shape shape_is
+
+describing_is : (b : ℕ) → AllValues IsDescribing (after_describes b)
+describing_is = index_values IsDescribed 0x4C after_descriptor described_is
+
+of_parts : (shared : Bool) (p : Option ℕ × (Option ℕ × Shape)) → IsDescribing p → IsComposite (composite_of shared p)
+of_parts shared p h = record { describes = h.0; descriptor = h.1.0; shape = h.1.1 }
+
+composite_is : (b : ℕ) → AllValues IsComposite (after_composite b)
+composite_is =
+    values_choice IsComposite ((0x65, mapped (composite_of true) (tagged byte after_describes)) ∷ []) (λ c. mapped (composite_of false) (after_describes c))
+    (λ mode s x h. subst IsComposite h.1 (of_parts true h.0 (told_values IsDescribing after_describes describing_is mode s h.0 h.2)), tt)
+    (λ b mode s x h. subst IsComposite h.1 (of_parts false h.0 (describing_is b mode s h.0 h.2)))
+
+abbrev AreSupertypesAnd : List ℕ × Composite → Type 0
+AreSupertypesAnd p = VecFits (FitsUnsigned 32) p.0 × IsComposite p.1
+
+supertypes_are : AllValues AreSupertypesAnd (pair (vec u32) composite_type)
+supertypes_are mode s p h = (vec_is (FitsUnsigned 32) u32 (λ mode s n k. k.range) mode h.front p.0 h.first, told_values IsComposite after_composite composite_is mode h.back p.1 h.second)
+
+sub_is : (b : ℕ) → AllValues IsSub (after_sub b)
+sub_is =
+    values_choice IsSub sub_tags (λ c. mapped alone_of (after_composite c)) (
+      λ mode s x h. let p = supertypes_are mode s h.0 h.2 in subst IsSub h.1 (record { supertypes = p.0; composite = p.1 }),
+      (λ mode s x h. let p = supertypes_are mode s h.0 h.2.0 in subst IsSub h.1 (record { supertypes = p.0; composite = p.1 }), tt),
+    )
+    (λ b mode s x h. subst IsSub h.1 (record { supertypes = record { count = omega arith; members = All-nil _ }; composite = composite_is b mode s h.0 h.2 }))
+
+after_type_is : (b : ℕ) → AllValues IsType (after_type b)
+after_type_is =
+    values_choice IsType ((0x4E, mapped group (vec sub_type)) ∷ []) (λ c. mapped single (after_sub c))
+    (λ mode s x h. subst IsType h.1 (vec_is IsSub sub_type (told_values IsSub after_sub sub_is) mode s h.0 h.2), tt)
+    (λ b mode s x h. subst IsType h.1 (sub_is b mode s h.0 h.2))
+
+pub type_is : AllValues IsType type_item
+type_is = told_values IsType after_type after_type_is
+
+-- ---- texts
+
+pub before_none : (xs : List ℕ) → length xs ≡ 0 → before_text true xs ≡ []
+before_none [] e = refl
+before_none (x ∷ xs) e = absurd (omega (arith, e))
+
+pub before_final : (xs : List ℕ) → length xs ≢ 0 → before_text true xs ≡ 0x4F ∷ vec_text unsigned_text xs
+before_final [] p = absurd (p refl)
+before_final (x ∷ xs) p = refl
+
+pub none_fits : (xs : List ℕ) → length xs ≡ 0 → VecFits (λ i. Unit {0}) xs
+none_fits xs e = record { count = omega (arith, e); members = λ k d l. tt }
+
+pub ruleset before_steps = (before_none, before_final, none_fits)
+
+flat_map-map : {X Y : Type 0} (text : Y → List ℕ) (f : X → Y) (xs : List X) → flat_map (λ x. text (f x)) xs ≡ flat_map text (map f xs)
+flat_map-map text f [] = refl
+flat_map-map text f (x ∷ xs) = ap (λ s. text (f x) ++ s) (flat_map-map text f xs)
+
+entry_is : {A : Type 0} (t : TypeEntry A) → entry_text t ≡ type_text (entry_of t)
+entry_is (entries.Single s) = refl
+entry_is (entries.Group v) = ap₂ (λ n s. 0x4E ∷ (unsigned_text n ++ s)) (sym (length-map v.items sub_of)) (flat_map-map sub_text sub_of v.items)
+
+entry_short : {A : Type 0} (t : TypeEntry A) (s : List ℕ) → type_item wide s (entry_of t) → type_item shortest (entry_text t) (entry_of t)
+entry_short t s h = subst (λ z. type_item shortest z (entry_of t)) (sym (entry_is t)) (type_spelled (entry_of t) (type_is wide s (entry_of t) h))
+
+pub types_appended : {A : Type 0} (Fits : TypeEntry A → Type 0) (xs : List (TypeEntry A)) (old new : List ℕ) → VecFits Fits xs → new ≡ old ++ vec_text entry_text xs → AppendsShortest (vec type_item) (map entry_of xs) old new
+types_appended Fits xs old new fits e = records_appended type_item entry_of entry_text Fits xs old new (λ t p s h. entry_short t s h) fits e
+
+-- ---- calls
+
+-- a group, by the slice of its subtypes
+pub group_appended : {A B : Type 0} (subs slice : List (SubItem A)) {old new : Vec ℕ B} {result : Result (Unit {0}) Refused} → slice ≡ subs
+    → Appends (0x4E ∷ vec_text (λ s. sub_text (sub_of s)) slice) (Unit {0} × VecFits SubItemFits slice) old new result → Appends (0x4E ∷ vec_text (λ s. sub_text (sub_of s)) subs) (VecFits SubItemFits subs) old new result
+group_appended subs slice {old = old} {new = new} {result = result} e a =
+    subst (λ xs. Appends (0x4E ∷ vec_text (λ s. sub_text (sub_of s)) xs) (VecFits SubItemFits xs) old new result) e (record {
+      ok = a.ok;
+      err = a.err;
+      fitted = on_ok result _ _ a.fitted (λ p. p.1);
+      too_long = λ fits. a.too_long (tt, fits);
+      room = λ fits. a.room (tt, fits);
+      capacity = a.capacity;
+    })
+
+-- entries behind their number
+pub each_appended : {A B : Type 0} (xs : List (TypeEntry A)) {old new : Vec ℕ B} {result : Result (Unit {0}) Refused} → Appends (vec_text entry_text xs) (VecFits EntryFits xs) old new result
+    → OnOk result (AppendsShortest (vec type_item) (map entry_of xs) old.items new.items)
+each_appended xs {old = old} {new = new} {result = Ok u} a = types_appended EntryFits xs old.items new.items a.fitted a.ok
+each_appended xs {result = Err e} a = tt

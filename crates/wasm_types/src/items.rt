@@ -1,0 +1,175 @@
+// Subtypes and groups of them.
+ghost use Rattle.std.specs.Prelude.{◌≢◌, IfOk, IfErr};
+ghost use Rattle.wasm_base.specs.Formats.{pair, vec, u32 as u32_format};
+ghost use Rattle.wasm_base.specs.Numbers.{wide};
+ghost use Rattle.wasm_base.specs.Reading.{Reads, ReadsNothing};
+ghost use Rattle.wasm_reader_base.specs.declared.fault.ReadFault.TheVariants.{Memory};
+ghost use Rattle.wasm_types.specs.Given.{composite_in};
+ghost use Rattle.wasm_types.specs.RecTypes.{supertypes_and, after_sub, sub_text, sub_type, type_item, Sub, TypeItem as Entry};
+ghost use Rattle.wasm_types.specs.Items.{sub_of, SubItemFits, entry_of};
+
+use crate::shapes::read_composite_after;
+use crate::types::CompositeType;
+use std::alloc::{Allocator, Global};
+use wasm_base::{Encode, Lent, R};
+use wasm_reader_base::{ReadFault, Readable, Spelled};
+
+/// A type that may have supertypes, and subtypes where it isn't final.
+#[derive(Drop, Debug)]
+pub struct SubItem<A: Allocator = Global> {
+    pub is_final: bool,
+    /// The indices of its supertypes.
+    pub supertypes: Vec<u32, A>,
+    pub composite_type: CompositeType<A>,
+}
+
+/// An entry of a type section.
+#[derive(Drop, Debug)]
+pub enum TypeEntry<A: Allocator = Global> {
+    Single(SubItem<A>),
+    /// Types that may refer to one another.
+    Group(Vec<SubItem<A>, A>),
+}
+
+/// Supertypes, and a composite type.
+fn read_supertypes_and<'a, A: Allocator + Copy>(
+    bytes: &'a [u8],
+    alloc: A,
+) -> Result<(Vec<u32, A>, CompositeType<A>, &'a [u8]), ReadFault>
+    ensures found { IfOk result (λ x. Reads supertypes_and wide bytes.now (x.0.items, composite_in x.1) x.2.now) }
+    ensures none { IfErr result (λ e. e ≢ Memory → ReadsNothing supertypes_and wide bytes.now) }
+{
+    let ((supertypes, tag), rest) = <(Vec<u32, A>, u8) as Readable<'a, A>>::read(bytes, alloc)?;
+    let (composite_type, rest) = read_composite_after(tag, rest, alloc)?;
+    Ok((supertypes, composite_type, rest))
+}
+
+/// What follows the first byte of a subtype.
+#[tactic(auto, using(crate::proofs::ReadItems::sub_steps))]
+fn read_sub_after<'a, A: Allocator + Copy>(
+    tag: u8,
+    bytes: &'a [u8],
+    alloc: A,
+) -> Result<(SubItem<A>, &'a [u8]), ReadFault>
+    ensures found { IfOk result (λ x. Reads (after_sub tag) wide bytes.now (sub_of x.0) x.1.now) }
+    ensures none { IfErr result (λ e. e ≢ Memory → ReadsNothing (after_sub tag) wide bytes.now) }
+{
+    match tag {
+        0x50 => {
+            let (supertypes, composite_type, rest) = read_supertypes_and(bytes, alloc)?;
+            let sub = SubItem {
+                is_final: false,
+                supertypes,
+                composite_type,
+            };
+            Ok((sub, rest))
+        }
+        0x4F => {
+            let (supertypes, composite_type, rest) = read_supertypes_and(bytes, alloc)?;
+            if supertypes.is_empty() {
+                return Err(ReadFault::UnknownTag);
+            }
+            let sub = SubItem {
+                is_final: true,
+                supertypes,
+                composite_type,
+            };
+            Ok((sub, rest))
+        }
+        _ => {
+            let (composite_type, rest) = read_composite_after(tag, bytes, alloc)?;
+            let sub = SubItem {
+                is_final: true,
+                supertypes: Vec::new(alloc),
+                composite_type,
+            };
+            Ok((sub, rest))
+        }
+    }
+}
+
+impl<A: Allocator> Spelled for SubItem<A> {
+    ghost Value = { Sub };
+
+    ghost format = { sub_type };
+
+    ghost view = { sub_of };
+
+    #[tactic(auto, using(crate::proofs::TypeLaws::sub_unique))]
+    fn laws() {}
+}
+
+impl<'a, A: Allocator + Copy> Readable<'a, A> for SubItem<A> {
+    fn read(bytes: &'a [u8], alloc: A) -> Result<(SubItem<A>, &'a [u8]), ReadFault> {
+        let (tag, rest) = <u8 as Readable<'a, A>>::read(bytes, alloc)?;
+        read_sub_after(tag, rest, alloc)
+    }
+}
+
+impl<A: Allocator> Spelled for TypeEntry<A> {
+    ghost Value = { Entry };
+
+    ghost format = { type_item };
+
+    ghost view = { entry_of };
+
+    #[tactic(auto, using(crate::proofs::TypeLaws::type_unique))]
+    fn laws() {}
+}
+
+impl<'a, A: Allocator + Copy> Readable<'a, A> for TypeEntry<A> {
+    fn read(bytes: &'a [u8], alloc: A) -> Result<(TypeEntry<A>, &'a [u8]), ReadFault> {
+        let (tag, rest) = <u8 as Readable<'a, A>>::read(bytes, alloc)?;
+        if tag == 0x4E {
+            let (types, rest) = <Vec<SubItem<A>, A> as Readable<'a, A>>::read(rest, alloc)?;
+            Ok((TypeEntry::Group(types), rest))
+        } else {
+            let (sub, rest) = read_sub_after(tag, rest, alloc)?;
+            Ok((TypeEntry::Single(sub), rest))
+        }
+    }
+}
+
+/// What stands before the composite type, and this.
+impl<A: Allocator> Encode for SubItem<A> {
+    ghost text = { λ s. sub_text (sub_of s) };
+
+    ghost fits = { SubItemFits };
+
+    #[tactic(auto, using(crate::proofs::ShortTypes::before_steps))]
+    fn encode<B: Allocator>(&self, sink: &mut Vec<u8, B>) -> R<()> {
+        if !self.is_final {
+            return (
+                0x50u8,
+                self.supertypes.as_slice(),
+                Lent(&self.composite_type),
+            )
+                .encode(sink);
+        }
+        if self.supertypes.is_empty() {
+            return self.composite_type.encode(sink);
+        }
+        (
+            0x4Fu8,
+            self.supertypes.as_slice(),
+            Lent(&self.composite_type),
+        )
+            .encode(sink)
+    }
+}
+
+/// A subtype, or a byte and the vector of subtypes.
+impl<A: Allocator> Encode for TypeEntry<A> {
+    ghost use Rattle.wasm_types.specs.Items.{entry_text, EntryFits};
+
+    ghost text = { entry_text };
+
+    ghost fits = { EntryFits };
+
+    fn encode<B: Allocator>(&self, sink: &mut Vec<u8, B>) -> R<()> {
+        match self {
+            TypeEntry::Single(sub) => sub.encode(sink),
+            TypeEntry::Group(subs) => (0x4Eu8, subs.as_slice()).encode(sink),
+        }
+    }
+}

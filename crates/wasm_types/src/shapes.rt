@@ -1,0 +1,131 @@
+// Composite types.
+ghost use Rattle.std.specs.Prelude.{◌≢◌, IfOk, IfErr};
+ghost use Rattle.wasm_base.specs.Numbers.{wide};
+ghost use Rattle.wasm_base.specs.Reading.{Reads, ReadsNothing};
+ghost use Rattle.wasm_reader_base.specs.declared.fault.ReadFault.TheVariants.{Memory};
+ghost use Rattle.wasm_types.specs.Given.{shape_in, composite_in};
+ghost use Rattle.wasm_types.specs.RecTypes.{after_shape, after_descriptor, after_describes, after_composite};
+ghost use Rattle.wasm_types.specs.Items.{described_of, describing_of};
+
+use crate::fields::read_index;
+use crate::types::{
+    ArrayType, CompositeInnerType, CompositeType, ContType, FieldType, FuncType, StructType,
+};
+use std::alloc::Allocator;
+use wasm_base::ValType;
+use wasm_reader_base::{ReadFault, Readable};
+
+/// What follows the first byte of an inner type.
+#[tactic(auto, using(crate::proofs::ReadShapes::shape_steps))]
+fn read_shape_after<'a, A: Allocator + Copy>(
+    tag: u8,
+    bytes: &'a [u8],
+    alloc: A,
+) -> Result<(CompositeInnerType<A>, &'a [u8]), ReadFault>
+    ensures found { IfOk result (λ x. Reads (after_shape tag) wide bytes.now (shape_in x.0) x.1.now) }
+    ensures none { IfErr result (λ e. e ≢ Memory → ReadsNothing (after_shape tag) wide bytes.now) }
+{
+    match tag {
+        0x60 => {
+            let ((params, results), rest) = <(Vec<ValType, A>, Vec<ValType, A>) as Readable<
+                'a,
+                A,
+            >>::read(bytes, alloc)?;
+            Ok((
+                CompositeInnerType::Func(FuncType::of(params, results)),
+                rest,
+            ))
+        }
+        0x5E => {
+            let (field, rest) = <FieldType as Readable<'a, A>>::read(bytes, alloc)?;
+            Ok((CompositeInnerType::Array(ArrayType(field)), rest))
+        }
+        0x5F => {
+            let (fields, rest) = <Vec<FieldType, A> as Readable<'a, A>>::read(bytes, alloc)?;
+            Ok((CompositeInnerType::Struct(StructType { fields }), rest))
+        }
+        0x5D => {
+            let (index, rest) = read_index(bytes)?;
+            Ok((CompositeInnerType::Cont(ContType(index)), rest))
+        }
+        _ => Err(ReadFault::UnknownTag),
+    }
+}
+
+/// What follows the first byte of an inner type that another may describe.
+#[tactic(auto, using(crate::proofs::ReadShapes::index_steps))]
+fn read_descriptor_after<'a, A: Allocator + Copy>(
+    tag: u8,
+    bytes: &'a [u8],
+    alloc: A,
+) -> Result<((Option<u32>, CompositeInnerType<A>), &'a [u8]), ReadFault>
+    ensures found { IfOk result (λ x. Reads (after_descriptor tag) wide bytes.now (described_of x.0) x.1.now) }
+    ensures none { IfErr result (λ e. e ≢ Memory → ReadsNothing (after_descriptor tag) wide bytes.now) }
+{
+    if tag == 0x4D {
+        let ((index, tag), rest) = <(u32, u8) as Readable<'a, A>>::read(bytes, alloc)?;
+        let (inner, rest) = read_shape_after(tag, rest, alloc)?;
+        Ok(((Some(index), inner), rest))
+    } else {
+        let (inner, rest) = read_shape_after(tag, bytes, alloc)?;
+        Ok(((None, inner), rest))
+    }
+}
+
+/// What follows the first byte of an inner type that may describe another.
+#[tactic(auto, using(crate::proofs::ReadShapes::index_steps))]
+fn read_describes_after<'a, A: Allocator + Copy>(
+    tag: u8,
+    bytes: &'a [u8],
+    alloc: A,
+) -> Result<
+    (
+        (Option<u32>, (Option<u32>, CompositeInnerType<A>)),
+        &'a [u8],
+    ),
+    ReadFault,
+>
+    ensures found { IfOk result (λ x. Reads (after_describes tag) wide bytes.now (describing_of x.0) x.1.now) }
+    ensures none { IfErr result (λ e. e ≢ Memory → ReadsNothing (after_describes tag) wide bytes.now) }
+{
+    if tag == 0x4C {
+        let ((index, tag), rest) = <(u32, u8) as Readable<'a, A>>::read(bytes, alloc)?;
+        let (inner, rest) = read_descriptor_after(tag, rest, alloc)?;
+        Ok(((Some(index), inner), rest))
+    } else {
+        let (inner, rest) = read_descriptor_after(tag, bytes, alloc)?;
+        Ok(((None, inner), rest))
+    }
+}
+
+/// What follows the first byte of a composite type.
+#[tactic(auto, using(crate::proofs::ReadShapes::composite_steps))]
+pub(crate) fn read_composite_after<'a, A: Allocator + Copy>(
+    tag: u8,
+    bytes: &'a [u8],
+    alloc: A,
+) -> Result<(CompositeType<A>, &'a [u8]), ReadFault>
+    ensures found { IfOk result (λ x. Reads (after_composite tag) wide bytes.now (composite_in x.0) x.1.now) }
+    ensures none { IfErr result (λ e. e ≢ Memory → ReadsNothing (after_composite tag) wide bytes.now) }
+{
+    if tag == 0x65 {
+        let (tag, rest) = <u8 as Readable<'a, A>>::read(bytes, alloc)?;
+        let ((describes, (descriptor, inner)), rest) = read_describes_after(tag, rest, alloc)?;
+        let composite = CompositeType {
+            inner,
+            shared: true,
+            descriptor,
+            describes,
+        };
+        Ok((composite, rest))
+    } else {
+        let ((describes, (descriptor, inner)), rest) = read_describes_after(tag, bytes, alloc)?;
+        let composite = CompositeType {
+            inner,
+            shared: false,
+            descriptor,
+            describes,
+        };
+        Ok((composite, rest))
+    }
+}
