@@ -3,7 +3,7 @@ use Rattle.std.proofs.Common.{ℕ, List, ◌++◌, refl}
 use Rattle.wasm_base.specs.Formats.{Format, just, after}
 use Rattle.wasm_base.specs.Numbers.{Mode}
 use Rattle.wasm_base.specs.Reading.{UniqueReading, UniqueWholeReading}
-use Rattle.wasm_base.proofs.FormatLaws.{tagged_unique, mapped_whole, pair_whole}
+use Rattle.wasm_base.proofs.FormatLaws.{mapped_whole, pair_whole}
 
 pub just_unique : {X : Type 0} (x : X) {F : Format X} → UniqueReading F → UniqueReading (just x F)
 just_unique x {F} f = record {
@@ -14,9 +14,6 @@ just_unique x {F} f = record {
     shorter = λ s u h. f.spellings.shorter s x h;
   };
 }
-
-pub after_unique : {X Y : Type 0} (x : X) {F : Format X} {G : Format Y} → UniqueReading F → UniqueReading G → UniqueReading (after x F G)
-after_unique x {F} {G} f g = tagged_unique (λ y. tt {0}) (λ mode u s y h. refl) (just_unique x f) (λ u. g)
 
 pub after_whole : {X Y : Type 0} (x : X) {F : Format X} {G : Format Y} → UniqueReading F → UniqueWholeReading G → UniqueWholeReading (after x F G)
 after_whole x {F} {G} f g = mapped_whole (λ p. p.1) (λ x y e. λ i. (tt, e i)) (pair_whole (just_unique x f) g)

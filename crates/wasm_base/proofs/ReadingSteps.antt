@@ -1,6 +1,6 @@
 -- How a reader's steps make a reading of the whole, or show that there is none.
 use Rattle.std.proofs.Common.{◌≡◌, ℕ, ◌<◌, ◌≤◌, List, [], ◌∷◌, ◌++◌, length, take, drop, slice_index_or, suc, ◌-◌, refl, sym, ap, subst, ◌∙◌, append_assoc, append-nil, arith}
-use Rattle.std.proofs.lemmas.List.{length-append, take-append-drop, length-take-le, take_at, take_all}
+use Rattle.std.proofs.lemmas.List.{length-append, take-append-drop, length-take-le, take_all}
 use Rattle.wasm_base.specs.Numbers.{Mode, wide}
 use Rattle.wasm_base.specs.Formats.{Format, u32, byte, Then, mapped, such, members, vec, frame}
 use Rattle.wasm_base.specs.Reading.{UniqueReading, Reads, ReadsNothing}
@@ -97,13 +97,6 @@ frame_nothing_size h = record { none = λ x last g. h.none (length g.spelled.con
 
 pub frame_nothing_short : {X : Type 0} {F : Format X} {mode : Mode} {bytes rest : List ℕ} {n : ℕ} → Reads u32 mode bytes n rest → length rest < n → ReadsNothing (frame F) mode bytes
 frame_nothing_short h l = record { none = λ x last g. let f = framed h g in omega (arith, ap length f.1, length-append f.0 last, f.2) }
-
-pub frame_nothing_content : {X : Type 0} (F : Format X) {mode : Mode} {bytes rest : List ℕ} {n : ℕ} → Reads u32 mode bytes n rest → ((x : X) → F mode (take n rest) x → ⊥) → ReadsNothing (frame F) mode bytes
-frame_nothing_content F {mode = mode} {n = n} h none = record {
-  none = λ x last g.
-      let f = framed h g in
-      none x (subst (λ z. F mode z x) (sym (ap (take n) f.1 ∙ take_at f.0 last n f.2)) f.3);
-}
 
 pub such_reads : {X : Type 0} (P : X → Type 0) {F : Format X} {mode : Mode} {bytes rest : List ℕ} {x : X} → Reads F mode bytes x rest → P x → Reads (such P F) mode bytes x rest
 such_reads P h p = record { front = h.front; split = h.split; spelled = (h.spelled, p) }

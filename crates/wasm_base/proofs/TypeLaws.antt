@@ -87,9 +87,6 @@ heap_tag (Abstract b ty) = 0x65
 heap_tag (Concrete n) = 0
 heap_tag (Exact n) = 0x62
 
-tagged_heap : Format HeapType
-tagged_heap = tagged byte (choice heap_tags (λ b. impossible))
-
 tagged_heap_unique : UniqueReading (tagged byte (choice heap_tags (λ b. impossible)))
 tagged_heap_unique =
     choice_of byte heap_tag heap_tags byte_unique

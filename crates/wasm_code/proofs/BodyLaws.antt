@@ -1,6 +1,5 @@
 -- Bodies are read uniquely, and go on where they ended.
 use Rattle.std.proofs.Common.{◌≡◌, ◌≢◌, ℕ, List, [], ◌∷◌, ◌++◌, length, false, arith, Ok, Option, refl, sym, ap, subst, ◌∙◌, ◌<◌, append_assoc, append-nil}
-use Rattle.std.specs.List.{All}
 use Rattle.std.specs.Iterator.{Count, Drains, size}
 use Rattle.std.specs.declared.vec.Vec.{Vec}
 use Rattle.wasm_base.specs.Numbers.{Mode, shortest, wide}
@@ -152,9 +151,6 @@ runs_given becomes gives remaining Fits elements it old new made e h =
       too_long = λ told is. absurd (cc is);
       too_many = λ many. absurd (cc (h.too_many (λ i same. subst (λ j. longest < size (remaining j)) (sym same) (many it made))));
     }
-
-pub all_any : {X : Type 0} (P : X → Type 0) → ((x : X) → P x) → (xs : List X) → All P xs
-all_any P f xs = λ k d l. f _
 
 pub ruleset offset = (offsets, finds_added)
 

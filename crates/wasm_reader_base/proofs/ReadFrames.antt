@@ -40,8 +40,6 @@ filled_nothing F bytes content rest h n = record {
   none = λ x last g. n.none x (subst (λ z. F wide z x) (sym (reads_same frame_bytes_unique h (any_frame F bytes last x g)).0) g.spelled.spelled);
 }
 
-pub ruleset filled_steps = (filled_reads, filled_none, filled_nothing)
-
 -- ---- one value at the front of the bytes of a frame
 
 pub none_left : {X : Type 0} (xs : List X) → length xs ≡ 0 → xs ≡ []

@@ -17,7 +17,7 @@ pub(in crate::reader) struct Bytes<'a>(&'a [u8]);
 /// Value = { List ℕ }
 /// format = { vec byte }
 /// view = { λ b. b.0.now }
-/// alone = { vec-bytes-alone }
+/// alone = { vec_bytes_unique }
 /// ```
 impl<'a, A: Allocator + Copy> Readable<'a, A> for Bytes<'a> {
     fn read(bytes: &'a [u8], alloc: A) -> Result<(Bytes<'a>, &'a [u8]), ReadFault> {
@@ -48,7 +48,7 @@ pub enum Segment<'a, A: Allocator = Global> {
 /// Value = { DataItem }
 /// format = { data_item }
 /// view = { segment_of }
-/// alone = { data-alone }
+/// alone = { data_unique }
 /// ```
 impl<'a, A: Allocator + Copy> Readable<'a, A> for Segment<'a, A> {
     fn read(bytes: &'a [u8], alloc: A) -> Result<(Segment<'a, A>, &'a [u8]), ReadFault> {

@@ -48,7 +48,7 @@ impl ElementFlag {
 /// Value = { FlagModel }
 /// format = { numbered flag_code }
 /// view = { element_flag_of }
-/// alone = { element_flag-alone }
+/// alone = { element_flag_unique }
 /// ```
 impl<'a, A: Allocator + Copy> Readable<'a, A> for ElementFlag {
     fn read(bytes: &'a [u8], alloc: A) -> Result<(ElementFlag, &'a [u8]), ReadFault> {
@@ -207,7 +207,7 @@ fn read_elements<'a, A: Allocator + Copy>(
 /// Value = { Segment (List Plain) }
 /// format = { element }
 /// view = { element_of }
-/// alone = { element-alone }
+/// alone = { element_unique }
 /// ```
 impl<'a, A: Allocator + Copy> Readable<'a, A> for ElementItem<A> {
     fn read(bytes: &'a [u8], alloc: A) -> Result<(ElementItem<A>, &'a [u8]), ReadFault> {

@@ -12,7 +12,7 @@ use crate::sections::{Export, ExportKind};
 /// Value = { Kind }
 /// format = { coded kind_code }
 /// view = { λ kind. kind }
-/// alone = { export_kind-alone }
+/// alone = { export_kind_unique }
 /// ```
 impl<'a, A: Allocator + Copy> Item<'a, Here, A> for ExportKind {
     fn read_item(bytes: &'a [u8], alloc: A) -> Result<(ExportKind, &'a [u8]), ReadFault> {
@@ -34,7 +34,7 @@ impl<'a, A: Allocator + Copy> Item<'a, Here, A> for ExportKind {
 /// Value = { ExportItem }
 /// format = { export }
 /// view = { item_of }
-/// alone = { export-alone }
+/// alone = { export_unique }
 /// ```
 impl<'a, A: Allocator + Copy> Item<'a, Here, A> for Export<'a> {
     fn read_item(bytes: &'a [u8], alloc: A) -> Result<(Export<'a>, &'a [u8]), ReadFault> {

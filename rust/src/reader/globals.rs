@@ -22,7 +22,7 @@ struct GlobalFlags {
 /// Value = { GlobalBits }
 /// format = { coded global_code }
 /// view = { global_flags_of }
-/// alone = { global_flags-alone }
+/// alone = { global_flags_unique }
 /// ```
 impl<'a, A: Allocator + Copy> Readable<'a, A> for GlobalFlags {
     fn read(bytes: &'a [u8], alloc: A) -> Result<(GlobalFlags, &'a [u8]), ReadFault> {
@@ -44,7 +44,7 @@ impl<'a, A: Allocator + Copy> Readable<'a, A> for GlobalFlags {
 /// Value = { TypeModel }
 /// format = { global_type }
 /// view = { λ global. global }
-/// alone = { global-alone }
+/// alone = { global_unique }
 /// ```
 impl<'a, A: Allocator + Copy> Item<'a, Here, A> for GlobalType {
     fn read_item(bytes: &'a [u8], alloc: A) -> Result<(GlobalType, &'a [u8]), ReadFault> {
@@ -73,7 +73,7 @@ pub struct GlobalItem<A: Allocator = Global> {
 /// Value = { GlobalModel }
 /// format = { global_item }
 /// view = { global_of }
-/// alone = { global_item-alone }
+/// alone = { global_item_unique }
 /// ```
 impl<'a, A: Allocator + Copy> Readable<'a, A> for GlobalItem<A> {
     fn read(bytes: &'a [u8], alloc: A) -> Result<(GlobalItem<A>, &'a [u8]), ReadFault> {

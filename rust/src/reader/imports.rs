@@ -14,7 +14,7 @@ use crate::sections::{EntityType, GlobalType, Import, ImportCompact, Imports, Me
 /// Value = { EntityModel }
 /// format = { entity }
 /// view = { λ entity. entity }
-/// alone = { entity-alone }
+/// alone = { entity_unique }
 /// ```
 impl<'a, A: Allocator + Copy> Item<'a, Here, A> for EntityType {
     fn read_item(bytes: &'a [u8], alloc: A) -> Result<(EntityType, &'a [u8]), ReadFault> {
@@ -55,7 +55,7 @@ impl<'a, A: Allocator + Copy> Item<'a, Here, A> for EntityType {
 /// Value = { List ℕ × EntityModel }
 /// format = { pair name entity }
 /// view = { compact_item }
-/// alone = { pair-alone name-alone entity-alone }
+/// alone = { pair_unique name_unique entity_unique }
 /// ```
 impl<'a, A: Allocator + Copy> Item<'a, Here, A> for ImportCompact<'a> {
     fn read_item(bytes: &'a [u8], alloc: A) -> Result<(ImportCompact<'a>, &'a [u8]), ReadFault> {
@@ -93,7 +93,7 @@ pub(in crate::reader) fn group_kind(bytes: &[u8]) -> Option<(u8, &[u8])> {
 /// Value = { ImportItem }
 /// format = { import_format }
 /// view = { imports_item }
-/// alone = { import-alone }
+/// alone = { import_unique }
 /// ```
 impl<'a, A: Allocator + Copy> Item<'a, Here, A> for Imports<'a, A> {
     fn read_item(bytes: &'a [u8], alloc: A) -> Result<(Imports<'a, A>, &'a [u8]), ReadFault> {

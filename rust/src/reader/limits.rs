@@ -22,7 +22,7 @@ struct Flags {
 /// Value = { FlagBits }
 /// format = { flags_format }
 /// view = { flags_of }
-/// alone = { flags-alone }
+/// alone = { flags_unique }
 /// ```
 impl<'a, A: Allocator + Copy> Readable<'a, A> for Flags {
     fn read(bytes: &'a [u8], alloc: A) -> Result<(Flags, &'a [u8]), ReadFault> {
@@ -46,7 +46,7 @@ impl<'a, A: Allocator + Copy> Readable<'a, A> for Flags {
 /// Value = { MemoryModel }
 /// format = { memory_type }
 /// view = { λ memory. memory }
-/// alone = { memory-alone }
+/// alone = { memory_unique }
 /// ```
 impl<'a, A: Allocator + Copy> Item<'a, Here, A> for MemoryType {
     fn read_item(bytes: &'a [u8], alloc: A) -> Result<(MemoryType, &'a [u8]), ReadFault> {
@@ -80,7 +80,7 @@ struct Limits {
 /// Value = { LimitsModel }
 /// format = { limits }
 /// view = { limits_of }
-/// alone = { limits-alone }
+/// alone = { limits_unique }
 /// ```
 impl<'a, A: Allocator + Copy> Readable<'a, A> for Limits {
     fn read(bytes: &'a [u8], alloc: A) -> Result<(Limits, &'a [u8]), ReadFault> {
@@ -106,7 +106,7 @@ impl<'a, A: Allocator + Copy> Readable<'a, A> for Limits {
 /// Value = { TableModel }
 /// format = { table_type }
 /// view = { λ table. table }
-/// alone = { table-alone }
+/// alone = { table_unique }
 /// ```
 impl<'a, A: Allocator + Copy> Item<'a, Here, A> for TableType {
     fn read_item(bytes: &'a [u8], alloc: A) -> Result<(TableType, &'a [u8]), ReadFault> {

@@ -6,9 +6,7 @@
 //! read as what its name stands for, or, as any is, as its name and data.
 
 pub mod base;
-pub mod custom;
 pub mod insn;
-pub mod types;
 mod counts;
 mod data;
 mod elements;
@@ -36,9 +34,9 @@ pub use section::{Items, SectionKind, read_section};
 pub use shortest::shorten;
 pub use tables::TableItem;
 pub use crate::reader::base::ReadFault;
-pub use crate::reader::custom::{CoreFrame, LinkItem, NameItem, Symbol};
+pub use wasm_reader_custom::{CoreFrame, LinkItem, NameItem, Symbol};
 pub use crate::reader::insn::{Arg, Body, Code, Expression, Plain};
-pub use crate::reader::types::TypeEntry;
+pub use crate::types::TypeEntry;
 pub use whole::{ModuleFault, Offsets, shorten_module};
 
 /// This crate, which says how items of other crates are read.

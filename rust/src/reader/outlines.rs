@@ -7,7 +7,7 @@ use crate::reader::section::SectionKind;
 use crate::reader::standing::{Standing, read_standing};
 use crate::alloc::Allocator;
 use crate::reader::base::ReadFault;
-use crate::reader::types::read_types;
+use crate::types::read_types;
 
 /// A section of a module, as an outline has it.
 #[derive(Clone, Copy, PartialEq, Eq, Debug)]

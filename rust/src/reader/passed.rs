@@ -18,7 +18,7 @@ use crate::sections::{EntityType, GlobalType, ImportCompact, TableType};
 /// ```text
 /// Value = { GlobalModel }
 /// format = { global_item }
-/// alone = { global_item-alone }
+/// alone = { global_item_unique }
 /// ```
 impl<'a, A: Allocator + Copy> Passed<'a, A> for GlobalItem<A> {
     fn pass(bytes: &'a [u8], alloc: A) -> Result<&'a [u8], ReadFault> {
@@ -34,7 +34,7 @@ impl<'a, A: Allocator + Copy> Passed<'a, A> for GlobalItem<A> {
 /// ```text
 /// Value = { TableModel }
 /// format = { table_item }
-/// alone = { table_item-alone }
+/// alone = { table_item_unique }
 /// ```
 impl<'a, A: Allocator + Copy> Passed<'a, A> for TableItem<A> {
     fn pass(bytes: &'a [u8], alloc: A) -> Result<&'a [u8], ReadFault> {
@@ -59,7 +59,7 @@ impl<'a, A: Allocator + Copy> Passed<'a, A> for TableItem<A> {
 /// ```text
 /// Value = { DataItem }
 /// format = { data_item }
-/// alone = { data-alone }
+/// alone = { data_unique }
 /// ```
 impl<'a, A: Allocator + Copy> Passed<'a, A> for Segment<'a, A> {
     fn pass(bytes: &'a [u8], alloc: A) -> Result<&'a [u8], ReadFault> {
@@ -191,7 +191,7 @@ fn pass_elements<'a, A: Allocator + Copy>(
 /// ```text
 /// Value = { SegmentModel (List Plain) }
 /// format = { element }
-/// alone = { element-alone }
+/// alone = { element_unique }
 /// ```
 impl<'a, A: Allocator + Copy> Passed<'a, A> for ElementItem<A> {
     fn pass(bytes: &'a [u8], alloc: A) -> Result<&'a [u8], ReadFault> {
@@ -210,7 +210,7 @@ pub(in crate::reader) struct PassedImports;
 /// ```text
 /// Value = { ImportItem }
 /// format = { import_format }
-/// alone = { import-alone }
+/// alone = { import_unique }
 /// ```
 impl<'a, A: Allocator + Copy> Passed<'a, A> for PassedImports {
     fn pass(bytes: &'a [u8], alloc: A) -> Result<&'a [u8], ReadFault> {

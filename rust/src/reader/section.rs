@@ -11,9 +11,12 @@ use crate::reader::tables::TableItem;
 use crate::alloc::{Allocator, Global};
 use crate::custom::BranchHint;
 use crate::reader::base::{ReadFault, Readable, read_list, read_whole};
-use crate::reader::custom::{CoreFrame, LinkItem, NameItem, read_hints, read_instances, read_links, read_modules, read_names, read_process, read_producers, read_stack};
+use wasm_reader_custom::{
+    CoreFrame, LinkItem, NameItem, read_hints, read_instances, read_links, read_modules,
+    read_names, read_process, read_producers, read_stack,
+};
 use crate::reader::insn::Body;
-use crate::reader::types::{TypeEntry, read_types};
+use crate::types::{TypeEntry, read_types};
 use crate::sections::{Export, Imports, MemoryType, TagType};
 
 /// What a section is read as.

@@ -7,9 +7,12 @@ use crate::reader::section::{Items, SectionKind, read_content};
 use crate::alloc::Allocator;
 use crate::base::{Encode, R, encode_frame};
 use crate::reader::base::{ReadFault, Readable, Shorten};
-use crate::reader::custom::{append_hints, append_instances, append_links, append_modules, append_names, append_process, append_producers, append_stack};
+use wasm_reader_custom::{
+    append_hints, append_instances, append_links, append_modules, append_names, append_process,
+    append_producers, append_stack,
+};
 use crate::reader::insn::shorten_body;
-use crate::reader::types::append_types;
+use crate::types::append_types;
 
 /// Appends the shortest text of what the frame of a section holds.
 ///

@@ -25,7 +25,7 @@ pub struct TableItem<A: Allocator = Global> {
 /// Value = { TableModel }
 /// format = { table_item }
 /// view = { table_of }
-/// alone = { table_item-alone }
+/// alone = { table_item_unique }
 /// ```
 impl<'a, A: Allocator + Copy> Readable<'a, A> for TableItem<A> {
     fn read(bytes: &'a [u8], alloc: A) -> Result<(TableItem<A>, &'a [u8]), ReadFault> {

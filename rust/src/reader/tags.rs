@@ -12,7 +12,7 @@ use crate::sections::{TagKind, TagType};
 /// Value = { Kind }
 /// format = { coded tag_code }
 /// view = { λ kind. kind }
-/// alone = { tag_kind-alone }
+/// alone = { tag_kind_unique }
 /// ```
 impl<'a, A: Allocator + Copy> Item<'a, Here, A> for TagKind {
     fn read_item(bytes: &'a [u8], alloc: A) -> Result<(TagKind, &'a [u8]), ReadFault> {
@@ -31,7 +31,7 @@ impl<'a, A: Allocator + Copy> Item<'a, Here, A> for TagKind {
 /// Value = { TagModel }
 /// format = { tag_type }
 /// view = { λ tag. tag }
-/// alone = { tag-alone }
+/// alone = { tag_unique }
 /// ```
 impl<'a, A: Allocator + Copy> Item<'a, Here, A> for TagType {
     fn read_item(bytes: &'a [u8], alloc: A) -> Result<(TagType, &'a [u8]), ReadFault> {

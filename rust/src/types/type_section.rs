@@ -1,10 +1,12 @@
 // Written by tools/to-rust from crates/wasm_types/src/type_section.rt: change that.
-// The type section.
+// The type section: built, read, and written in its fewest bytes.
 
-use crate::vec::Sink;
+use crate::vec::{Sink, Vec};
+use crate::types::items::TypeEntry;
 use crate::types::types::{ARRAY, ContType, FUNC, FieldType, FuncType, STRUCT, StorageType, SubType};
 use crate::alloc::{Allocator, Global};
 use crate::base::{Encode, Items, Pieces, R, Section, SectionId, ValType, vec_of};
+use crate::reader::base::{ReadFault, read_whole};
 
 /// The types that a module defines, seen as the bytes of each entry.
 ///
@@ -283,3 +285,32 @@ impl<'a, A: Allocator> CoreTypeEncoder<'a, A> {
 
 /// The byte before a group.
 const REC: u8 = 0x4E;
+
+/// The types behind their number that all of the bytes spell, their numbers padded or not.
+///
+/// # Proved
+///
+/// ```text
+/// ensures found { IfOk result (λ x. vec type_item wide bytes.now (map entry_of x.items)) }
+/// ensures none { IfErr result (λ e. e ≢ Memory → FillsNothing (vec type_item) bytes.now) }
+/// ```
+pub fn read_types<'a, A: Allocator + Copy>(
+    bytes: &'a [u8],
+    alloc: A,
+) -> Result<Vec<TypeEntry<A>, A>, ReadFault> {
+    read_whole::<'a, Vec<TypeEntry<A>, A>, A>(bytes, alloc)
+}
+
+/// Appends the one shortest text of types that were read, behind their number.
+///
+/// # Proved
+///
+/// ```text
+/// ensures { OnOk result (AppendsShortest (vec type_item) (map entry_of types.now) out.old.items out.new.items) }
+/// ```
+pub fn append_types<A: Allocator, B: Sink>(
+    types: &[TypeEntry<A>],
+    out: &mut B,
+) -> R<()> {
+    types.encode(out)
+}

@@ -2,9 +2,8 @@
 // Items of custom sections as plain data.
 
 use dolzhytik::alloc::Global;
-use dolzhytik::custom::{CoreDumpValue, DataSymbolDefinition};
+use dolzhytik::custom::{CoreDumpValue, CoreFrame, DataSymbolDefinition, LinkItem, NameItem, Symbol};
 use dolzhytik::reader::{Items, SectionKind, read_section};
-use dolzhytik::reader::custom::{CoreFrame, LinkItem, NameItem, Symbol};
 
 /// A value of a core dump.
 #[derive(Clone, Copy, PartialEq, Debug)]

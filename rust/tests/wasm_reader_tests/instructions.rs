@@ -7,8 +7,8 @@ use dolzhytik::alloc::Global;
 use crate::host::Abort;
 use dolzhytik::base::ValType;
 use dolzhytik::insn::{Op, Part, Shape};
-use dolzhytik::reader::base::{Filling, Framed, ReadFault, Readable};
-use dolzhytik::reader::insn::{Arg, Body, Code, Expression, Plain};
+use dolzhytik::reader::base::{Framed, ReadFault, Readable};
+use dolzhytik::reader::insn::{Arg, Body, Expression, Plain, read_body, read_code};
 
 /// Which argument it is, and a number that it tells: its own, its offset, or how many members it has.
 fn said(arg: &Arg) -> (&'static str, i128) {
@@ -260,9 +260,19 @@ fn expressions() {
 #[test]
 fn codes() {
     let rt = crate::host::HostRuntime;
-    let Code(code) = Code::fill(&[0x20, 3, 0x1A, 0x0B], rt.alloc()).expect("accepted");
+    let code = read_code(&[0x20, 3, 0x1A, 0x0B], rt.alloc()).expect("accepted");
     check_len(&rt, code.len(), 3);
     check_first(&rt, &code, Op::Byte(0x20), ("u32", 3));
+}
+
+#[test]
+fn bodies_without_their_sizes() {
+    let rt = crate::host::HostRuntime;
+    let body = read_body(&[1, 2, 0x7F, 0x20, 0x81, 0x00, 0x1A, 0x0B], rt.alloc())
+        .expect("accepted");
+    check_len(&rt, body.runs.len(), 1);
+    check_len(&rt, body.code.len(), 3);
+    check_first(&rt, &body.code, Op::Byte(0x20), ("u32", 1));
 }
 
 #[test]

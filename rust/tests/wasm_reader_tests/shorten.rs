@@ -7,7 +7,7 @@ use dolzhytik::alloc::Global;
 use crate::host::Abort;
 use crate::test_support::Refusing;
 use dolzhytik::base::{Refused, ValType};
-use dolzhytik::reader::base::{Filled, Framed, ReadFault, Readable, Shorten};
+use dolzhytik::reader::base::{Framed, ReadFault, Readable, Shorten};
 use dolzhytik::reader::insn::{Body, Expression, Plain, shorten_body};
 
 /// More requests than any call here makes.
@@ -63,7 +63,7 @@ fn parts() {
     check::<(u32, u32)>(&rt, alloc, &[0x81, 0, 0x82, 0], &[1, 2]);
     check::<Vec<u32>>(&rt, alloc, &[0x82, 0, 0x85, 0, 6], &[2, 5, 6]);
     check::<Framed<Vec<u32>>>(&rt, alloc, &[0x84, 0, 1, 0x85, 0x80, 0], &[2, 1, 5]);
-    check_value(&rt, alloc, &Filled(7u32), &[1, 7]);
+    check_value(&rt, alloc, &Framed(7u32), &[1, 7]);
 }
 
 /// Frames whose sizes have two bytes.

@@ -1,5 +1,6 @@
 // Written by tools/to-rust from tests/wasm_types_tests/src/lib.rtt: change that.
-//! Tests of `wasm_types`: bytes that were worked out by hand from the standard, requests for memory that are refused, and lengths that are too long.
+//! Tests of `wasm_types`: bytes that were worked out by hand from the standard, requests for memory that are refused, lengths that
+//! are too long, and what is read of type sections.
 
 #![allow(unused_imports, unused_variables, clippy::all)]
 
@@ -14,10 +15,18 @@ mod calls;
 #[cfg(test)]
 mod checks;
 #[cfg(test)]
+mod faults;
+#[cfg(test)]
 mod lengths;
 #[cfg(test)]
 mod refusals;
 #[cfg(test)]
+mod rows;
+#[cfg(test)]
 mod samples;
+#[cfg(test)]
+mod seen;
+#[cfg(test)]
+mod shortest;
 #[cfg(test)]
 mod texts;

@@ -2,7 +2,7 @@
 // Fixed bytes: a byte, floats, vectors of 128 bits and lanes.
 
 use crate::reader::base::fault::ReadFault;
-use crate::reader::base::readable::Readable;
+use crate::reader::base::readable::{Readable, Spelled};
 use crate::alloc::Allocator;
 use crate::immediates::{Ieee32, Ieee64};
 
@@ -12,8 +12,11 @@ use crate::immediates::{Ieee32, Ieee64};
 /// Value = { ℕ }
 /// format = { byte }
 /// view = { λ b. b }
-/// alone = { byte-alone }
 /// ```
+impl Spelled for u8 {
+    fn laws() {}
+}
+
 impl<'a, A: Allocator + Copy> Readable<'a, A> for u8 {
     #[inline]
     fn read(bytes: &'a [u8], _alloc: A) -> Result<(u8, &'a [u8]), ReadFault> {
@@ -32,8 +35,11 @@ impl<'a, A: Allocator + Copy> Readable<'a, A> for u8 {
 /// Value = { ℕ }
 /// format = { little_endian 4 }
 /// view = { λ float. float.bits }
-/// alone = { little_endian-alone 4 }
 /// ```
+impl Spelled for Ieee32 {
+    fn laws() {}
+}
+
 impl<'a, A: Allocator + Copy> Readable<'a, A> for Ieee32 {
     fn read(bytes: &'a [u8], _alloc: A) -> Result<(Ieee32, &'a [u8]), ReadFault> {
         match bytes.split_first_chunk::<4>() {
@@ -51,8 +57,11 @@ impl<'a, A: Allocator + Copy> Readable<'a, A> for Ieee32 {
 /// Value = { ℕ }
 /// format = { little_endian 8 }
 /// view = { λ float. float.bits }
-/// alone = { little_endian-alone 8 }
 /// ```
+impl Spelled for Ieee64 {
+    fn laws() {}
+}
+
 impl<'a, A: Allocator + Copy> Readable<'a, A> for Ieee64 {
     fn read(bytes: &'a [u8], _alloc: A) -> Result<(Ieee64, &'a [u8]), ReadFault> {
         match bytes.split_first_chunk::<8>() {
@@ -70,8 +79,11 @@ impl<'a, A: Allocator + Copy> Readable<'a, A> for Ieee64 {
 /// Value = { ℤ }
 /// format = { vector_format }
 /// view = { λ v. v }
-/// alone = { vector-alone }
 /// ```
+impl Spelled for i128 {
+    fn laws() {}
+}
+
 impl<'a, A: Allocator + Copy> Readable<'a, A> for i128 {
     fn read(bytes: &'a [u8], _alloc: A) -> Result<(i128, &'a [u8]), ReadFault> {
         match bytes.split_first_chunk::<16>() {
@@ -82,6 +94,10 @@ impl<'a, A: Allocator + Copy> Readable<'a, A> for i128 {
 }
 
 /// Sixteen lanes, a byte each.
+impl Spelled for [u8; 16] {
+    fn laws() {}
+}
+
 impl<'a, A: Allocator + Copy> Readable<'a, A> for [u8; 16] {
     fn read(bytes: &'a [u8], _alloc: A) -> Result<([u8; 16], &'a [u8]), ReadFault> {
         match bytes.split_first_chunk::<16>() {

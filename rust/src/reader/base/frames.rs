@@ -3,7 +3,7 @@
 
 use crate::vec::Sink;
 use crate::reader::base::fault::ReadFault;
-use crate::reader::base::readable::{Filling, Readable};
+use crate::reader::base::readable::{Readable, Spelled};
 use crate::reader::base::shorten::Shorten;
 use crate::alloc::Allocator;
 use crate::base::{Encode, R};
@@ -18,37 +18,23 @@ pub struct Framed<T>(pub T);
 /// Value = { T.Value }
 /// format = { frame T.format }
 /// view = { λ f. T.view f.0 }
-/// alone = { frame-alone (whole_from_alone T.alone) }
 /// ```
+impl<T: Spelled> Spelled for Framed<T> {
+    fn laws() {
+        T::laws();
+    }
+}
+
 impl<'a, A: Allocator + Copy, T: Readable<'a, A>> Readable<'a, A> for Framed<T> {
     fn read(bytes: &'a [u8], alloc: A) -> Result<(Framed<T>, &'a [u8]), ReadFault> {
         let (content, rest) = <&'a [u8] as Readable<'a, A>>::read(bytes, alloc)?;
         let (value, left) = T::read(content, alloc)?;
+        T::laws();
         if left.is_empty() {
             Ok((Framed(value), rest))
         } else {
             Err(ReadFault::SizeMismatch)
         }
-    }
-}
-
-/// A value in a frame, whose bytes spell it together.
-#[derive(Debug)]
-pub struct Filled<T>(pub T);
-
-/// # Defined
-///
-/// ```text
-/// Value = { T.Value }
-/// format = { frame T.format }
-/// view = { λ f. T.view f.0 }
-/// alone = { frame-alone T.whole }
-/// ```
-impl<'a, A: Allocator + Copy, T: Filling<'a, A>> Readable<'a, A> for Filled<T> {
-    fn read(bytes: &'a [u8], alloc: A) -> Result<(Filled<T>, &'a [u8]), ReadFault> {
-        let (content, rest) = <&'a [u8] as Readable<'a, A>>::read(bytes, alloc)?;
-        let value = T::fill(content, alloc)?;
-        Ok((Filled(value), rest))
     }
 }
 
@@ -88,30 +74,9 @@ fn append_framed<T: Shorten, B: Sink>(value: &T, out: &mut B) -> R<()> {
     frame_since(out, start)
 }
 
-/// # Defined
-///
-/// ```text
-/// Value = { T.Value }
-/// format = { frame T.format }
-/// view = { λ f. T.view f.0 }
-/// ```
 impl<T: Shorten> Shorten for Framed<T> {
     fn append_shortest<B: Sink>(&self, out: &mut B) -> R<()> {
         let Framed(value) = self;
         append_framed(value, out)
-    }
-}
-
-/// # Defined
-///
-/// ```text
-/// Value = { T.Value }
-/// format = { frame T.format }
-/// view = { λ f. T.view f.0 }
-/// ```
-impl<T: Shorten> Shorten for Filled<T> {
-    fn append_shortest<B: Sink>(&self, out: &mut B) -> R<()> {
-        let Filled(content) = self;
-        append_framed(content, out)
     }
 }

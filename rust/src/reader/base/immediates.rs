@@ -4,7 +4,7 @@
 use crate::reader::base::fault::ReadFault;
 use crate::reader::base::numbers::read_index;
 use crate::reader::base::optional::read_optional;
-use crate::reader::base::readable::Readable;
+use crate::reader::base::readable::{Readable, Spelled};
 use crate::reader::base::types::read_val_after;
 use crate::alloc::Allocator;
 use crate::immediates::{BlockType, Catch, Handle, MemArg, MemArgOrdering, MemArgTarget, Ordering};
@@ -15,8 +15,11 @@ use crate::immediates::{BlockType, Catch, Handle, MemArg, MemArgOrdering, MemArg
 /// Value = { OrderingModel }
 /// format = { ordering_format }
 /// view = { λ o. o }
-/// alone = { ordering-alone }
 /// ```
+impl Spelled for Ordering {
+    fn laws() {}
+}
+
 impl<'a, A: Allocator + Copy> Readable<'a, A> for Ordering {
     fn read(bytes: &'a [u8], alloc: A) -> Result<(Ordering, &'a [u8]), ReadFault> {
         let (byte, rest) = <u8 as Readable<'a, A>>::read(bytes, alloc)?;
@@ -34,8 +37,11 @@ impl<'a, A: Allocator + Copy> Readable<'a, A> for Ordering {
 /// Value = { MemOrderingModel }
 /// format = { mem_ordering }
 /// view = { λ o. o }
-/// alone = { mem_ordering-alone }
 /// ```
+impl Spelled for MemArgOrdering {
+    fn laws() {}
+}
+
 impl<'a, A: Allocator + Copy> Readable<'a, A> for MemArgOrdering {
     fn read(bytes: &'a [u8], alloc: A) -> Result<(MemArgOrdering, &'a [u8]), ReadFault> {
         let (tag, rest) = <u8 as Readable<'a, A>>::read(bytes, alloc)?;
@@ -120,8 +126,11 @@ fn read_any_memory<'a, A: Allocator + Copy>(
 /// Value = { MemArgModel }
 /// format = { mem_arg }
 /// view = { λ m. m }
-/// alone = { mem_arg-alone }
 /// ```
+impl Spelled for MemArg {
+    fn laws() {}
+}
+
 impl<'a, A: Allocator + Copy> Readable<'a, A> for MemArg {
     #[inline]
     fn read(bytes: &'a [u8], alloc: A) -> Result<(MemArg, &'a [u8]), ReadFault> {
@@ -174,8 +183,11 @@ fn read_any_block<'a, A: Allocator + Copy>(
 /// Value = { BlockModel }
 /// format = { block_type }
 /// view = { λ b. b }
-/// alone = { block-alone }
 /// ```
+impl Spelled for BlockType {
+    fn laws() {}
+}
+
 impl<'a, A: Allocator + Copy> Readable<'a, A> for BlockType {
     #[inline]
     fn read(bytes: &'a [u8], alloc: A) -> Result<(BlockType, &'a [u8]), ReadFault> {
@@ -193,8 +205,11 @@ impl<'a, A: Allocator + Copy> Readable<'a, A> for BlockType {
 /// Value = { CatchModel }
 /// format = { catch_format }
 /// view = { λ c. c }
-/// alone = { catch-alone }
 /// ```
+impl Spelled for Catch {
+    fn laws() {}
+}
+
 impl<'a, A: Allocator + Copy> Readable<'a, A> for Catch {
     fn read(bytes: &'a [u8], alloc: A) -> Result<(Catch, &'a [u8]), ReadFault> {
         let (kind, rest) = <u8 as Readable<'a, A>>::read(bytes, alloc)?;
@@ -226,8 +241,11 @@ impl<'a, A: Allocator + Copy> Readable<'a, A> for Catch {
 /// Value = { HandleModel }
 /// format = { handle_format }
 /// view = { λ h. h }
-/// alone = { handle-alone }
 /// ```
+impl Spelled for Handle {
+    fn laws() {}
+}
+
 impl<'a, A: Allocator + Copy> Readable<'a, A> for Handle {
     fn read(bytes: &'a [u8], alloc: A) -> Result<(Handle, &'a [u8]), ReadFault> {
         let (kind, rest) = <u8 as Readable<'a, A>>::read(bytes, alloc)?;

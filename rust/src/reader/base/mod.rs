@@ -3,14 +3,13 @@
 //! other than [`ReadFault::Memory`] says that no reading exists.
 //!
 //! What is read is a type with [`Readable`]: numbers, fixed bytes, names, frames, pairs, vectors, types and immediates here, and
-//! instructions and sections in the crates above. A content that reaches to the last byte of its frame has [`Filling`], and what is
-//! written in its fewest bytes has [`Shorten`]. What is gone over and not kept has [`Passed`].
+//! instructions and items of sections in the crates above; [`Spelled`] says what bytes spell it. What is written in its fewest bytes has
+//! [`Shorten`]. What is gone over and not kept has [`Passed`].
 
 mod fault;
 mod fixed;
 mod frames;
 mod immediates;
-mod item;
 mod names;
 mod numbers;
 mod optional;
@@ -23,11 +22,10 @@ mod vectors;
 mod whole;
 
 pub use fault::ReadFault;
-pub use frames::{Filled, Framed, frame_since};
-pub use item::{Item, One, read_many, read_to_end};
+pub use frames::{Framed, frame_since};
 pub use optional::read_optional;
 pub use passed::{Dropped, Passed, pass_many};
-pub use readable::{Filling, Readable};
+pub use readable::{Readable, Spelled};
 pub use shorten::Shorten;
 pub use vectors::append_all;
-pub use whole::{read_list, read_whole};
+pub use whole::{read_to_end, read_whole};

@@ -3,7 +3,7 @@
 
 use crate::vec::Sink;
 use crate::reader::base::fault::ReadFault;
-use crate::reader::base::readable::Readable;
+use crate::reader::base::readable::{Readable, Spelled};
 use crate::reader::base::shorten::Shorten;
 use crate::alloc::Allocator;
 use crate::base::{Encode, R, encode_frame};
@@ -16,8 +16,16 @@ use crate::base::{Encode, R, encode_frame};
 /// Value = { List ℕ }
 /// format = { frame any_bytes }
 /// view = { λ b. b.now }
-/// alone = { frame-bytes-alone }
 /// ```
+impl<'a> Spelled for &'a [u8] {
+    /// # Proved
+    ///
+    /// ```text
+    /// ensures { UniqueReading (frame any_bytes) }
+    /// ```
+    fn laws() {}
+}
+
 impl<'a, A: Allocator + Copy> Readable<'a, A> for &'a [u8] {
     fn read(bytes: &'a [u8], alloc: A) -> Result<(&'a [u8], &'a [u8]), ReadFault> {
         let (size, rest) = <u32 as Readable<'a, A>>::read(bytes, alloc)?;
@@ -36,8 +44,16 @@ impl<'a, A: Allocator + Copy> Readable<'a, A> for &'a [u8] {
 /// Value = { List ℕ }
 /// format = { name }
 /// view = { λ s. s.now }
-/// alone = { name-alone }
 /// ```
+impl<'a> Spelled for &'a str {
+    /// # Proved
+    ///
+    /// ```text
+    /// ensures { UniqueReading name }
+    /// ```
+    fn laws() {}
+}
+
 impl<'a, A: Allocator + Copy> Readable<'a, A> for &'a str {
     fn read(bytes: &'a [u8], alloc: A) -> Result<(&'a str, &'a [u8]), ReadFault> {
         let (text, rest) = <&'a [u8] as Readable<'a, A>>::read(bytes, alloc)?;
@@ -48,26 +64,12 @@ impl<'a, A: Allocator + Copy> Readable<'a, A> for &'a str {
     }
 }
 
-/// # Defined
-///
-/// ```text
-/// Value = { List ℕ }
-/// format = { frame any_bytes }
-/// view = { λ b. b.now }
-/// ```
 impl Shorten for &[u8] {
     fn append_shortest<B: Sink>(&self, out: &mut B) -> R<()> {
         encode_frame(out, self)
     }
 }
 
-/// # Defined
-///
-/// ```text
-/// Value = { List ℕ }
-/// format = { name }
-/// view = { λ s. s.now }
-/// ```
 impl Shorten for &str {
     fn append_shortest<B: Sink>(&self, out: &mut B) -> R<()> {
         self.encode(out)

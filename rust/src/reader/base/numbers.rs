@@ -3,7 +3,7 @@
 
 use crate::vec::Sink;
 use crate::reader::base::fault::ReadFault;
-use crate::reader::base::readable::Readable;
+use crate::reader::base::readable::{Readable, Spelled};
 use crate::reader::base::shorten::Shorten;
 use crate::alloc::Allocator;
 use crate::base::{Encode, Groups, NoGroups, R, read_groups};
@@ -207,8 +207,11 @@ fn read_long_i64(bytes: &[u8]) -> Result<(i64, &[u8]), ReadFault> {
 /// Value = { ℕ }
 /// format = { u32_format }
 /// view = { λ n. n }
-/// alone = { u32-alone }
 /// ```
+impl Spelled for u32 {
+    fn laws() {}
+}
+
 impl<'a, A: Allocator + Copy> Readable<'a, A> for u32 {
     #[inline]
     fn read(bytes: &'a [u8], _alloc: A) -> Result<(u32, &'a [u8]), ReadFault> {
@@ -227,8 +230,11 @@ impl<'a, A: Allocator + Copy> Readable<'a, A> for u32 {
 /// Value = { ℕ }
 /// format = { u64_format }
 /// view = { λ n. n }
-/// alone = { u64-alone }
 /// ```
+impl Spelled for u64 {
+    fn laws() {}
+}
+
 impl<'a, A: Allocator + Copy> Readable<'a, A> for u64 {
     #[inline]
     fn read(bytes: &'a [u8], _alloc: A) -> Result<(u64, &'a [u8]), ReadFault> {
@@ -247,8 +253,11 @@ impl<'a, A: Allocator + Copy> Readable<'a, A> for u64 {
 /// Value = { ℤ }
 /// format = { s32 }
 /// view = { λ n. n }
-/// alone = { s32-alone }
 /// ```
+impl Spelled for i32 {
+    fn laws() {}
+}
+
 impl<'a, A: Allocator + Copy> Readable<'a, A> for i32 {
     #[inline]
     fn read(bytes: &'a [u8], _alloc: A) -> Result<(i32, &'a [u8]), ReadFault> {
@@ -267,8 +276,11 @@ impl<'a, A: Allocator + Copy> Readable<'a, A> for i32 {
 /// Value = { ℤ }
 /// format = { s64 }
 /// view = { λ n. n }
-/// alone = { s64-alone }
 /// ```
+impl Spelled for i64 {
+    fn laws() {}
+}
+
 impl<'a, A: Allocator + Copy> Readable<'a, A> for i64 {
     #[inline]
     fn read(bytes: &'a [u8], _alloc: A) -> Result<(i64, &'a [u8]), ReadFault> {
@@ -302,13 +314,6 @@ pub(in crate::reader::base) fn read_index(bytes: &[u8]) -> Result<(u32, &[u8]), 
     }
 }
 
-/// # Defined
-///
-/// ```text
-/// Value = { ℕ }
-/// format = { u32_format }
-/// view = { λ n. n }
-/// ```
 impl Shorten for u32 {
     fn append_shortest<B: Sink>(&self, out: &mut B) -> R<()> {
         self.encode(out)

@@ -13,14 +13,20 @@ use std::marker::PhantomData;
 /// ```text
 /// Value: { Type 0 }
 /// format: { Mode → List ℕ → Value → Type 0 }
-/// alone: { UniqueReading format }
 /// ```
 pub trait Passed<'a, A: Allocator + Copy> {
     // The value without where it lies in memory.
 
     // What bytes spell.
 
-    // One value stands at the front of bytes, whatever follows.
+    /// One value stands at the front of bytes, whatever follows. The function does nothing.
+    ///
+    /// # Proved
+    ///
+    /// ```text
+    /// ensures { UniqueReading format }
+    /// ```
+    fn laws();
 
     /// The bytes after the value at the front, its numbers padded or not.
     ///
@@ -41,9 +47,12 @@ pub struct Dropped<T>(PhantomData<T>);
 /// ```text
 /// Value = { T.Value }
 /// format = { T.format }
-/// alone = { T.alone }
 /// ```
 impl<'a, A: Allocator + Copy, T: Readable<'a, A>> Passed<'a, A> for Dropped<T> {
+    fn laws() {
+        T::laws();
+    }
+
     #[inline]
     fn pass(bytes: &'a [u8], alloc: A) -> Result<&'a [u8], ReadFault> {
         let (_value, rest) = T::read(bytes, alloc)?;
@@ -58,11 +67,16 @@ impl<'a, A: Allocator + Copy, T: Readable<'a, A>> Passed<'a, A> for Dropped<T> {
 /// ```text
 /// Value = { P.Value × Q.Value }
 /// format = { pair P.format Q.format }
-/// alone = { pair-alone P.alone Q.alone }
 /// ```
 impl<'a, A: Allocator + Copy, P: Passed<'a, A>, Q: Passed<'a, A>> Passed<'a, A> for (P, Q) {
+    fn laws() {
+        P::laws();
+        Q::laws();
+    }
+
     fn pass(bytes: &'a [u8], alloc: A) -> Result<&'a [u8], ReadFault> {
         let after = P::pass(bytes, alloc)?;
+        P::laws();
         let rest = Q::pass(after, alloc)?;
         Ok(rest)
     }
@@ -81,6 +95,7 @@ pub fn pass_many<'a, P: Passed<'a, A>, A: Allocator + Copy>(
     alloc: A,
 ) -> Result<(u32, &'a [u8]), ReadFault> {
     let (count, mut rest) = <u32 as Readable<'a, A>>::read(bytes, alloc)?;
+    P::laws();
     for _taken in 0..count {
         rest = P::pass(rest, alloc)?;
     }

@@ -3,7 +3,7 @@
 
 use crate::vec::Sink;
 use crate::reader::base::fault::ReadFault;
-use crate::reader::base::readable::Readable;
+use crate::reader::base::readable::{Readable, Spelled};
 use crate::reader::base::shorten::Shorten;
 use crate::alloc::Allocator;
 use crate::base::R;
@@ -16,24 +16,24 @@ use crate::base::R;
 /// Value = { T.Value × U.Value }
 /// format = { pair T.format U.format }
 /// view = { λ p. (T.view p.0, U.view p.1) }
-/// alone = { pair-alone T.alone U.alone }
 /// ```
+impl<T: Spelled, U: Spelled> Spelled for (T, U) {
+    fn laws() {
+        T::laws();
+        U::laws();
+    }
+}
+
 impl<'a, A: Allocator + Copy, T: Readable<'a, A>, U: Readable<'a, A>> Readable<'a, A> for (T, U) {
     #[inline]
     fn read(bytes: &'a [u8], alloc: A) -> Result<((T, U), &'a [u8]), ReadFault> {
         let (first, rest) = T::read(bytes, alloc)?;
+        T::laws();
         let (second, rest) = U::read(rest, alloc)?;
         Ok(((first, second), rest))
     }
 }
 
-/// # Defined
-///
-/// ```text
-/// Value = { T.Value × U.Value }
-/// format = { pair T.format U.format }
-/// view = { λ p. (T.view p.0, U.view p.1) }
-/// ```
 impl<T: Shorten, U: Shorten> Shorten for (T, U) {
     fn append_shortest<B: Sink>(&self, out: &mut B) -> R<()> {
         self.0.append_shortest(out)?;

@@ -4,7 +4,7 @@
 use crate::vec::Sink;
 use crate::reader::base::fault::ReadFault;
 use crate::reader::base::numbers::read_index;
-use crate::reader::base::readable::Readable;
+use crate::reader::base::readable::{Readable, Spelled};
 use crate::reader::base::shorten::Shorten;
 use crate::alloc::Allocator;
 use crate::base::{AbstractHeapType, Encode, HeapType, R, RefType, ValType};
@@ -42,8 +42,11 @@ fn abstract_of(byte: u8) -> Option<AbstractHeapType> {
 /// Value = { Abstract }
 /// format = { abstract_type }
 /// view = { λ ty. ty }
-/// alone = { abstract-alone }
 /// ```
+impl Spelled for AbstractHeapType {
+    fn laws() {}
+}
+
 impl<'a, A: Allocator + Copy> Readable<'a, A> for AbstractHeapType {
     fn read(bytes: &'a [u8], alloc: A) -> Result<(AbstractHeapType, &'a [u8]), ReadFault> {
         let (byte, rest) = <u8 as Readable<'a, A>>::read(bytes, alloc)?;
@@ -60,8 +63,11 @@ impl<'a, A: Allocator + Copy> Readable<'a, A> for AbstractHeapType {
 /// Value = { Heap }
 /// format = { heap_type }
 /// view = { λ heap. heap }
-/// alone = { heap-alone }
 /// ```
+impl Spelled for HeapType {
+    fn laws() {}
+}
+
 impl<'a, A: Allocator + Copy> Readable<'a, A> for HeapType {
     fn read(bytes: &'a [u8], alloc: A) -> Result<(HeapType, &'a [u8]), ReadFault> {
         let (tag, rest) = <u8 as Readable<'a, A>>::read(bytes, alloc)?;
@@ -152,8 +158,11 @@ fn read_ref_after<'a, A: Allocator + Copy>(
 /// Value = { Ref }
 /// format = { ref_type }
 /// view = { λ r. r }
-/// alone = { ref-alone }
 /// ```
+impl Spelled for RefType {
+    fn laws() {}
+}
+
 impl<'a, A: Allocator + Copy> Readable<'a, A> for RefType {
     fn read(bytes: &'a [u8], alloc: A) -> Result<(RefType, &'a [u8]), ReadFault> {
         let (tag, rest) = <u8 as Readable<'a, A>>::read(bytes, alloc)?;
@@ -193,8 +202,11 @@ pub fn read_val_after<'a, A: Allocator + Copy>(
 /// Value = { Val }
 /// format = { val_type }
 /// view = { λ ty. ty }
-/// alone = { val-alone }
 /// ```
+impl Spelled for ValType {
+    fn laws() {}
+}
+
 impl<'a, A: Allocator + Copy> Readable<'a, A> for ValType {
     fn read(bytes: &'a [u8], alloc: A) -> Result<(ValType, &'a [u8]), ReadFault> {
         let (tag, rest) = <u8 as Readable<'a, A>>::read(bytes, alloc)?;
@@ -202,13 +214,6 @@ impl<'a, A: Allocator + Copy> Readable<'a, A> for ValType {
     }
 }
 
-/// # Defined
-///
-/// ```text
-/// Value = { Val }
-/// format = { val_type }
-/// view = { λ ty. ty }
-/// ```
 impl Shorten for ValType {
     fn append_shortest<B: Sink>(&self, out: &mut B) -> R<()> {
         self.encode(out)

@@ -3,7 +3,7 @@
 
 use crate::vec::{Sink, Vec};
 use crate::reader::base::fault::ReadFault;
-use crate::reader::base::readable::Readable;
+use crate::reader::base::readable::{Readable, Spelled};
 use crate::reader::base::shorten::Shorten;
 use crate::alloc::Allocator;
 use crate::base::{Encode, R};
@@ -16,12 +16,18 @@ use crate::base::{Encode, R};
 /// Value = { List T.Value }
 /// format = { vec T.format }
 /// view = { λ v. map T.view v.items }
-/// alone = { vec-alone T.alone }
 /// ```
+impl<A: Allocator, T: Spelled> Spelled for Vec<T, A> {
+    fn laws() {
+        T::laws();
+    }
+}
+
 impl<'a, A: Allocator + Copy, T: Readable<'a, A>> Readable<'a, A> for Vec<T, A> {
     fn read(bytes: &'a [u8], alloc: A) -> Result<(Vec<T, A>, &'a [u8]), ReadFault> {
         let (count, mut rest) = <u32 as Readable<'a, A>>::read(bytes, alloc)?;
         let mut items = Vec::new(alloc);
+        T::laws();
         for _taken in 0..count {
             let (item, after) = T::read(rest, alloc)?;
             items.push(item)?;
@@ -46,14 +52,6 @@ pub fn append_all<T: Shorten, B: Sink>(items: &[T], out: &mut B) -> R<()> {
 }
 
 /// Appends the shortest texts of the values behind their number.
-///
-/// # Defined
-///
-/// ```text
-/// Value = { List T.Value }
-/// format = { vec T.format }
-/// view = { λ v. map T.view v.items }
-/// ```
 impl<T: Shorten, A: Allocator> Shorten for Vec<T, A> {
     fn append_shortest<B: Sink>(&self, out: &mut B) -> R<()> {
         self.len().encode(out)?;

@@ -3,7 +3,6 @@
 
 use crate::vec::Vec;
 use crate::reader::base::fault::ReadFault;
-use crate::reader::base::item::{Item, read_many};
 use crate::reader::base::readable::Readable;
 use crate::alloc::Allocator;
 
@@ -20,6 +19,7 @@ pub fn read_whole<'a, T: Readable<'a, A>, A: Allocator + Copy>(
     alloc: A,
 ) -> Result<T, ReadFault> {
     let (value, left) = T::read(bytes, alloc)?;
+    T::laws();
     if left.is_empty() {
         Ok(value)
     } else {
@@ -27,22 +27,33 @@ pub fn read_whole<'a, T: Readable<'a, A>, A: Allocator + Copy>(
     }
 }
 
-/// The items behind their number that all of the bytes spell.
+/// Values one after another, up to the last byte, none of which is empty. Memory is taken for values that stand there.
+///
+/// # Asks
+///
+/// ```text
+/// requires { BeginsWith (λ b. Unit {0}) T.format }
+/// ```
 ///
 /// # Proved
 ///
 /// ```text
-/// ensures found { IfOk result (λ x. vec T.format wide bytes.now (map T.view x.items)) }
-/// ensures none { IfErr result (λ e. e ≢ Memory → FillsNothing (vec T.format) bytes.now) }
+/// ensures found { IfOk result (λ x. members T.format wide bytes.now (map T.view x.items)) }
+/// ensures none { IfErr result (λ e. e ≢ Memory → FillsNothing (members T.format) bytes.now) }
 /// ```
-pub fn read_list<'a, T: Item<'a, Here, A>, Here, A: Allocator + Copy>(
+pub fn read_to_end<'a, T: Readable<'a, A>, A: Allocator + Copy>(
     bytes: &'a [u8],
     alloc: A,
 ) -> Result<Vec<T, A>, ReadFault> {
-    let (items, left) = read_many::<'a, T, Here, A>(bytes, alloc)?;
-    if left.is_empty() {
-        Ok(items)
-    } else {
-        Err(ReadFault::SizeMismatch)
+    let mut items = Vec::new(alloc);
+    let mut rest = bytes;
+    T::laws();
+    loop {
+        if rest.is_empty() {
+            return Ok(items);
+        }
+        let (item, after) = T::read(rest, alloc)?;
+        items.push(item)?;
+        rest = after;
     }
 }

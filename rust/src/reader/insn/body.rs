@@ -6,35 +6,32 @@ use crate::reader::insn::instruction::{Plain, append_instruction};
 use crate::reader::insn::walk::Instructions;
 use crate::alloc::{Allocator, Global};
 use crate::base::{R, ValType};
-use crate::reader::base::{Filled, Filling, ReadFault, Readable, Shorten, frame_since};
+use crate::reader::base::{ReadFault, Readable, Shorten, Spelled, frame_since};
 
 /// A list is made with room for an instruction of so many bytes each, and grows where they are shorter.
 const BYTES_OF_ONE: usize = 4;
 
-/// Instructions up to the last byte.
-#[derive(Debug)]
-pub struct Code<A: Allocator = Global>(pub Vec<Plain<A>, A>);
-
-/// # Defined
+/// The instructions up to the last byte.
+///
+/// # Proved
 ///
 /// ```text
-/// Value = { List PlainInstruction }
-/// format = { members (instruction table) }
-/// view = { λ c. map plain_of c.0.items }
-/// whole = { lists-whole }
+/// ensures found { IfOk result (λ x. members (instruction table) wide bytes.now (map plain_of x.items)) }
+/// ensures none { IfErr result (λ e. e ≢ Memory → FillsNothing (members (instruction table)) bytes.now) }
 /// ```
-impl<'a, A: Allocator + Copy> Filling<'a, A> for Code<A> {
-    fn fill(bytes: &'a [u8], alloc: A) -> Result<Code<A>, ReadFault> {
-        let mut items = Vec::with_capacity(alloc, bytes.len() / BYTES_OF_ONE)?;
-        let mut rest = bytes;
-        loop {
-            if rest.is_empty() {
-                return Ok(Code(items));
-            }
-            let (item, after) = <Plain<A> as Readable<'a, A>>::read(rest, alloc)?;
-            items.push(item)?;
-            rest = after;
+pub fn read_code<'a, A: Allocator + Copy>(
+    bytes: &'a [u8],
+    alloc: A,
+) -> Result<Vec<Plain<A>, A>, ReadFault> {
+    let mut items = Vec::with_capacity(alloc, bytes.len() / BYTES_OF_ONE)?;
+    let mut rest = bytes;
+    loop {
+        if rest.is_empty() {
+            return Ok(items);
         }
+        let (item, after) = <Plain<A> as Readable<'a, A>>::read(rest, alloc)?;
+        items.push(item)?;
+        rest = after;
     }
 }
 
@@ -62,22 +59,18 @@ pub struct Body<A: Allocator = Global> {
     pub code: Vec<Plain<A>, A>,
 }
 
-/// The bytes of a body, without its size.
+/// The body that all of the bytes spell, which are those in its frame.
 ///
-/// # Defined
+/// # Proved
 ///
 /// ```text
-/// Value = { BodyModel }
-/// format = { body }
-/// view = { body_of }
-/// whole = { body-whole }
+/// ensures found { IfOk result (λ x. body wide bytes.now (body_of x)) }
+/// ensures none { IfErr result (λ e. e ≢ Memory → FillsNothing body bytes.now) }
 /// ```
-impl<'a, A: Allocator + Copy> Filling<'a, A> for Body<A> {
-    fn fill(bytes: &'a [u8], alloc: A) -> Result<Body<A>, ReadFault> {
-        let (runs, rest) = <Vec<(u32, ValType), A> as Readable<'a, A>>::read(bytes, alloc)?;
-        let Code(code) = <Code<A> as Filling<'a, A>>::fill(rest, alloc)?;
-        Ok(Body { runs, code })
-    }
+pub fn read_body<'a, A: Allocator + Copy>(bytes: &'a [u8], alloc: A) -> Result<Body<A>, ReadFault> {
+    let (runs, rest) = <Vec<(u32, ValType), A> as Readable<'a, A>>::read(bytes, alloc)?;
+    let code = read_code(rest, alloc)?;
+    Ok(Body { runs, code })
 }
 
 /// A body in its frame, as it stands in a code section.
@@ -88,24 +81,19 @@ impl<'a, A: Allocator + Copy> Filling<'a, A> for Body<A> {
 /// Value = { BodyModel }
 /// format = { frame body }
 /// view = { body_of }
-/// alone = { frame-body-alone }
 /// ```
+impl<A: Allocator> Spelled for Body<A> {
+    fn laws() {}
+}
+
 impl<'a, A: Allocator + Copy> Readable<'a, A> for Body<A> {
     fn read(bytes: &'a [u8], alloc: A) -> Result<(Body<A>, &'a [u8]), ReadFault> {
-        let (Filled(body), rest) = <Filled<Body<A>> as Readable<'a, A>>::read(bytes, alloc)?;
+        let (content, rest) = <&'a [u8] as Readable<'a, A>>::read(bytes, alloc)?;
+        let body = read_body(content, alloc)?;
         Ok((body, rest))
     }
 }
 
-/// The same: the text is that of the frame.
-///
-/// # Defined
-///
-/// ```text
-/// Value = { BodyModel }
-/// format = { frame body }
-/// view = { body_of }
-/// ```
 impl<A: Allocator> Shorten for Body<A> {
     fn append_shortest<B: Sink>(&self, out: &mut B) -> R<()> {
         let start = out.len();

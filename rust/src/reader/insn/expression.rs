@@ -6,7 +6,7 @@ use crate::reader::insn::body::append_code;
 use crate::reader::insn::instruction::Plain;
 use crate::alloc::{Allocator, Global};
 use crate::base::R;
-use crate::reader::base::{ReadFault, Readable, Shorten};
+use crate::reader::base::{ReadFault, Readable, Shorten, Spelled};
 
 /// The opcode of `End`.
 pub(in crate::reader::insn) const END: u8 = 0x0B;
@@ -21,8 +21,11 @@ pub struct Expression<A: Allocator = Global>(pub Vec<Plain<A>, A>);
 /// Value = { List PlainInstruction }
 /// format = { expression }
 /// view = { λ e. map plain_of e.0.items }
-/// alone = { expression-alone }
 /// ```
+impl<A: Allocator> Spelled for Expression<A> {
+    fn laws() {}
+}
+
 impl<'a, A: Allocator + Copy> Readable<'a, A> for Expression<A> {
     fn read(bytes: &'a [u8], alloc: A) -> Result<(Expression<A>, &'a [u8]), ReadFault> {
         let mut items = Vec::new(alloc);
@@ -41,13 +44,6 @@ impl<'a, A: Allocator + Copy> Readable<'a, A> for Expression<A> {
     }
 }
 
-/// # Defined
-///
-/// ```text
-/// Value = { List PlainInstruction }
-/// format = { expression }
-/// view = { λ e. map plain_of e.0.items }
-/// ```
 impl<A: Allocator> Shorten for Expression<A> {
     fn append_shortest<B: Sink>(&self, out: &mut B) -> R<()> {
         append_code(&self.0, out)?;

@@ -6,7 +6,7 @@ use crate::reader::insn::arguments::{Arg, append_arguments, read_arguments, read
 use crate::alloc::{Allocator, Global};
 use crate::base::{Encode, R};
 use crate::insn::Op;
-use crate::reader::base::{ReadFault, Readable, Shorten};
+use crate::reader::base::{ReadFault, Readable, Shorten, Spelled};
 
 /// An instruction in normal form: its opcode, and an argument for each part of the opcode's shape.
 #[derive(Debug)]
@@ -45,8 +45,11 @@ pub(in crate::reader::insn) fn read_op<'a, A: Allocator + Copy>(
 /// Value = { PlainInstruction }
 /// format = { instruction table }
 /// view = { plain_of }
-/// alone = { alone }
 /// ```
+impl<A: Allocator> Spelled for Plain<A> {
+    fn laws() {}
+}
+
 impl<'a, A: Allocator + Copy> Readable<'a, A> for Plain<A> {
     fn read(bytes: &'a [u8], alloc: A) -> Result<(Plain<A>, &'a [u8]), ReadFault> {
         let (op, rest) = read_op(bytes, alloc)?;
@@ -96,13 +99,6 @@ pub(in crate::reader::insn) fn append_instruction<A: Allocator, B: Sink>(
     append_arguments(args, out)
 }
 
-/// # Defined
-///
-/// ```text
-/// Value = { PlainInstruction }
-/// format = { instruction table }
-/// view = { plain_of }
-/// ```
 impl<A: Allocator> Shorten for Plain<A> {
     fn append_shortest<B: Sink>(&self, out: &mut B) -> R<()> {
         append_instruction(self.op, &self.args, out)

@@ -184,9 +184,10 @@ fn pass_body<'a, A: Allocator + Copy>(bytes: &'a [u8], alloc: A) -> Result<(), R
 /// ```text
 /// Value = { BodyModel }
 /// format = { frame body }
-/// alone = { frame-body-alone }
 /// ```
 impl<'a, A: Allocator + Copy> Passed<'a, A> for Body<A> {
+    fn laws() {}
+
     fn pass(bytes: &'a [u8], alloc: A) -> Result<&'a [u8], ReadFault> {
         let (framed, rest) = <&'a [u8] as Readable<'a, A>>::read(bytes, alloc)?;
         pass_body(framed, alloc)?;
@@ -201,9 +202,10 @@ impl<'a, A: Allocator + Copy> Passed<'a, A> for Body<A> {
 /// ```text
 /// Value = { List PlainInstruction }
 /// format = { expression }
-/// alone = { expression-alone }
 /// ```
 impl<'a, A: Allocator + Copy> Passed<'a, A> for Expression<A> {
+    fn laws() {}
+
     fn pass(bytes: &'a [u8], alloc: A) -> Result<&'a [u8], ReadFault> {
         let mut rest = bytes;
         loop {

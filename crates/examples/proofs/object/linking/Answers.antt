@@ -1,3 +1,4 @@
+-- Written by tools/answers.
 use Rattle.std.proofs.Common.{refl}
 use Rattle.wasm_custom.proofs.Calls.{new_linking, adds_symbols}
 use Rattle.examples.proofs.object.linking.Goals as goal

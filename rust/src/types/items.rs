@@ -1,11 +1,12 @@
-// Written by tools/to-rust from crates/wasm_reader_types/src/items.rt: change that.
+// Written by tools/to-rust from crates/wasm_types/src/items.rt: change that.
 // Subtypes and groups of them.
 
-use crate::vec::Vec;
-use crate::reader::types::shapes::read_composite_after;
+use crate::vec::{Sink, Vec};
+use crate::types::shapes::read_composite_after;
+use crate::types::types::CompositeType;
 use crate::alloc::{Allocator, Global};
-use crate::reader::base::{ReadFault, Readable};
-use crate::types::CompositeType;
+use crate::base::{Encode, Lent, R};
+use crate::reader::base::{ReadFault, Readable, Spelled};
 
 /// A type that may have supertypes, and subtypes where it isn't final.
 #[derive(Debug)]
@@ -94,8 +95,11 @@ fn read_sub_after<'a, A: Allocator + Copy>(
 /// Value = { Sub }
 /// format = { sub_type }
 /// view = { sub_of }
-/// alone = { sub-alone }
 /// ```
+impl<A: Allocator> Spelled for SubItem<A> {
+    fn laws() {}
+}
+
 impl<'a, A: Allocator + Copy> Readable<'a, A> for SubItem<A> {
     fn read(bytes: &'a [u8], alloc: A) -> Result<(SubItem<A>, &'a [u8]), ReadFault> {
         let (tag, rest) = <u8 as Readable<'a, A>>::read(bytes, alloc)?;
@@ -109,8 +113,11 @@ impl<'a, A: Allocator + Copy> Readable<'a, A> for SubItem<A> {
 /// Value = { Entry }
 /// format = { type_item }
 /// view = { entry_of }
-/// alone = { type-alone }
 /// ```
+impl<A: Allocator> Spelled for TypeEntry<A> {
+    fn laws() {}
+}
+
 impl<'a, A: Allocator + Copy> Readable<'a, A> for TypeEntry<A> {
     fn read(bytes: &'a [u8], alloc: A) -> Result<(TypeEntry<A>, &'a [u8]), ReadFault> {
         let (tag, rest) = <u8 as Readable<'a, A>>::read(bytes, alloc)?;
@@ -120,6 +127,53 @@ impl<'a, A: Allocator + Copy> Readable<'a, A> for TypeEntry<A> {
         } else {
             let (sub, rest) = read_sub_after(tag, rest, alloc)?;
             Ok((TypeEntry::Single(sub), rest))
+        }
+    }
+}
+
+/// What stands before the composite type, and this.
+///
+/// # Defined
+///
+/// ```text
+/// text = { λ s. sub_text (sub_of s) }
+/// fits = { SubItemFits }
+/// ```
+impl<A: Allocator> Encode for SubItem<A> {
+    fn encode<B: Sink>(&self, sink: &mut B) -> R<()> {
+        if !self.is_final {
+            return (
+                0x50u8,
+                self.supertypes.as_slice(),
+                Lent(&self.composite_type),
+            )
+                .encode(sink);
+        }
+        if self.supertypes.is_empty() {
+            return self.composite_type.encode(sink);
+        }
+        (
+            0x4Fu8,
+            self.supertypes.as_slice(),
+            Lent(&self.composite_type),
+        )
+            .encode(sink)
+    }
+}
+
+/// A subtype, or a byte and the vector of subtypes.
+///
+/// # Defined
+///
+/// ```text
+/// text = { entry_text }
+/// fits = { EntryFits }
+/// ```
+impl<A: Allocator> Encode for TypeEntry<A> {
+    fn encode<B: Sink>(&self, sink: &mut B) -> R<()> {
+        match self {
+            TypeEntry::Single(sub) => sub.encode(sink),
+            TypeEntry::Group(subs) => (0x4Eu8, subs.as_slice()).encode(sink),
         }
     }
 }

@@ -1,13 +1,12 @@
-// Written by tools/to-rust from crates/wasm_reader_types/src/shapes.rt: change that.
+// Written by tools/to-rust from crates/wasm_types/src/shapes.rt: change that.
 // Composite types.
 
 use crate::vec::Vec;
-use crate::reader::types::Here;
-use crate::reader::types::fields::read_index;
+use crate::types::fields::read_index;
+use crate::types::types::{ArrayType, CompositeInnerType, CompositeType, ContType, FieldType, FuncType, StructType};
 use crate::alloc::Allocator;
 use crate::base::ValType;
-use crate::reader::base::{Item, ReadFault, Readable, read_many};
-use crate::types::{ArrayType, CompositeInnerType, CompositeType, ContType, FieldType, FuncType, StructType};
+use crate::reader::base::{ReadFault, Readable};
 
 /// What follows the first byte of an inner type.
 ///
@@ -34,11 +33,11 @@ fn read_shape_after<'a, A: Allocator + Copy>(
             ))
         }
         0x5E => {
-            let (field, rest) = <FieldType as Item<'a, Here, A>>::read_item(bytes, alloc)?;
+            let (field, rest) = <FieldType as Readable<'a, A>>::read(bytes, alloc)?;
             Ok((CompositeInnerType::Array(ArrayType(field)), rest))
         }
         0x5F => {
-            let (fields, rest) = read_many::<'a, FieldType, Here, A>(bytes, alloc)?;
+            let (fields, rest) = <Vec<FieldType, A> as Readable<'a, A>>::read(bytes, alloc)?;
             Ok((CompositeInnerType::Struct(StructType { fields }), rest))
         }
         0x5D => {
@@ -109,7 +108,7 @@ fn read_describes_after<'a, A: Allocator + Copy>(
 /// ensures found { IfOk result (λ x. Reads (after_composite tag) wide bytes.now (composite_in x.0) x.1.now) }
 /// ensures none { IfErr result (λ e. e ≢ Memory → ReadsNothing (after_composite tag) wide bytes.now) }
 /// ```
-pub(in crate::reader::types) fn read_composite_after<'a, A: Allocator + Copy>(
+pub(in crate::types) fn read_composite_after<'a, A: Allocator + Copy>(
     tag: u8,
     bytes: &'a [u8],
     alloc: A,

@@ -1,11 +1,10 @@
-// Written by tools/to-rust from crates/wasm_reader_types/src/fields.rt: change that.
+// Written by tools/to-rust from crates/wasm_types/src/fields.rt: change that.
 // Storage and field types.
 
-use crate::reader::types::Here;
+use crate::types::types::{FieldType, StorageType};
 use crate::alloc::Allocator;
 use crate::base::{ValType, read_groups};
-use crate::reader::base::{Item, One, ReadFault, Readable};
-use crate::types::{FieldType, StorageType};
+use crate::reader::base::{ReadFault, Readable, Spelled};
 
 /// An index, spelled as a signed number of 33 bits.
 ///
@@ -15,7 +14,7 @@ use crate::types::{FieldType, StorageType};
 /// ensures found { IfOk result (λ x. Reads s33 wide bytes.now x.0 x.1.now) }
 /// ensures none { IfErr result (λ e. e ≢ Memory → ReadsNothing s33 wide bytes.now) }
 /// ```
-pub(in crate::reader::types) fn read_index(bytes: &[u8]) -> Result<(u32, &[u8]), ReadFault> {
+pub(in crate::types) fn read_index(bytes: &[u8]) -> Result<(u32, &[u8]), ReadFault> {
     let (groups, rest) = read_groups(bytes, 5)?;
     if groups.last >= 0x40 {
         return Err(ReadFault::UnknownTag);
@@ -37,8 +36,11 @@ struct Mutable(bool);
 /// Value = { Bool }
 /// format = { coded mutable_code }
 /// view = { λ m. m.0 }
-/// alone = { mutable-alone }
 /// ```
+impl Spelled for Mutable {
+    fn laws() {}
+}
+
 impl<'a, A: Allocator + Copy> Readable<'a, A> for Mutable {
     fn read(bytes: &'a [u8], alloc: A) -> Result<(Mutable, &'a [u8]), ReadFault> {
         let (code, rest) = <u8 as Readable<'a, A>>::read(bytes, alloc)?;
@@ -56,10 +58,13 @@ impl<'a, A: Allocator + Copy> Readable<'a, A> for Mutable {
 /// Value = { Storage }
 /// format = { storage_type }
 /// view = { λ ty. ty }
-/// alone = { storage-alone }
 /// ```
-impl<'a, A: Allocator + Copy> Item<'a, Here, A> for StorageType {
-    fn read_item(bytes: &'a [u8], alloc: A) -> Result<(StorageType, &'a [u8]), ReadFault> {
+impl Spelled for StorageType {
+    fn laws() {}
+}
+
+impl<'a, A: Allocator + Copy> Readable<'a, A> for StorageType {
+    fn read(bytes: &'a [u8], alloc: A) -> Result<(StorageType, &'a [u8]), ReadFault> {
         let (tag, rest) = <u8 as Readable<'a, A>>::read(bytes, alloc)?;
         match tag {
             0x78 => Ok((StorageType::I8, rest)),
@@ -78,14 +83,17 @@ impl<'a, A: Allocator + Copy> Item<'a, Here, A> for StorageType {
 /// Value = { Field }
 /// format = { field_type }
 /// view = { λ field. field }
-/// alone = { field-alone }
 /// ```
-impl<'a, A: Allocator + Copy> Item<'a, Here, A> for FieldType {
-    fn read_item(bytes: &'a [u8], alloc: A) -> Result<(FieldType, &'a [u8]), ReadFault> {
-        let ((One(element_type, _), Mutable(mutable)), rest) = <(
-            One<StorageType, Here>,
-            Mutable,
-        ) as Readable<'a, A>>::read(bytes, alloc)?;
+impl Spelled for FieldType {
+    fn laws() {}
+}
+
+impl<'a, A: Allocator + Copy> Readable<'a, A> for FieldType {
+    fn read(bytes: &'a [u8], alloc: A) -> Result<(FieldType, &'a [u8]), ReadFault> {
+        let ((element_type, Mutable(mutable)), rest) = <(StorageType, Mutable) as Readable<
+            'a,
+            A,
+        >>::read(bytes, alloc)?;
         let field = FieldType {
             element_type,
             mutable,

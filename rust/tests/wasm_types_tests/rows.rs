@@ -1,4 +1,4 @@
-// Written by tools/to-rust from tests/wasm_reader_types_tests/src/rows.rtt: change that.
+// Written by tools/to-rust from tests/wasm_types_tests/src/rows.rtt: change that.
 // Type sections that are read, behind their size.
 
 use crate::seen::{Section, Seen, Shape, read};

@@ -1,10 +1,10 @@
-// Written by tools/to-rust from tests/wasm_reader_types_tests/src/faults.rtt: change that.
+// Written by tools/to-rust from tests/wasm_types_tests/src/faults.rtt: change that.
 // Bytes that are no types, and the causes.
 
 use dolzhytik::alloc::Global;
 use crate::host::Abort;
 use dolzhytik::reader::base::ReadFault;
-use dolzhytik::reader::types::read_types;
+use dolzhytik::types::read_types;
 
 /// The bytes, and the cause.
 type Row = (&'static [u8], ReadFault);

@@ -1,4 +1,4 @@
-// Written by tools/to-rust from tests/wasm_reader_types_tests/src/shortest.rtt: change that.
+// Written by tools/to-rust from tests/wasm_types_tests/src/shortest.rtt: change that.
 // Types that are read and written again, each request for memory refused in turn.
 
 use dolzhytik::vec::Vec;
@@ -7,7 +7,7 @@ use crate::host::Abort;
 use crate::test_support::Refusing;
 use dolzhytik::base::Refused;
 use dolzhytik::reader::base::ReadFault;
-use dolzhytik::reader::types::{TypeEntry, append_types, read_types};
+use dolzhytik::types::{TypeEntry, append_types, read_types};
 
 /// More requests than any call here makes.
 const MOST: u64 = 100;
