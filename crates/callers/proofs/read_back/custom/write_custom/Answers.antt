@@ -1,3 +1,4 @@
+-- Written by tools/answers.
 use Rattle.std.proofs.Common.{refl}
 use Rattle.wasm_base.specs.Formats.{custom}
 use Rattle.wasm_custom.proofs.Calls.{encodes_custom}

@@ -1,3 +1,4 @@
+-- Written by tools/answers.
 use Rattle.std.proofs.Common.{arith}
 use Rattle.wasm_base.proofs.Calls.{adds_item}
 use Rattle.wasm_sections.proofs.Calls.{new_tags}
@@ -6,5 +7,5 @@ use Rattle.callers.proofs.read_back.declared.tags.Goals as goal
 
 pub returns : goal.returns
 returns g c =
-    let first = adds_item (new_tags c.new-section.ensures) (thrown 0) c.in_ok-tag.ensures.ok (omega arith) in
-    adds_item first (thrown c.args.index) c.in_ok-tag-2.ensures.ok (omega (arith, c.ranges.index.fits))
+    let s1 = adds_item (new_tags c.new-section.ensures) (thrown 0) c.in_ok-tag.ensures.ok (omega arith) in
+    adds_item s1 (thrown c.args.index) c.in_ok-tag-2.ensures.ok (omega (arith, c.ranges.index.fits))

@@ -1,3 +1,4 @@
+-- Written by tools/answers.
 use Rattle.std.proofs.Common.{arith}
 use Rattle.wasm_base.proofs.Calls.{encodes_items}
 use Rattle.wasm_sections.proofs.Calls.{new_exports, adds_export}
@@ -6,5 +7,5 @@ use Rattle.callers.proofs.read_back.declared.write_exports.Goals as goal
 
 pub returns : goal.returns
 returns g c =
-    let section = adds_export (new_exports c.new-section.ensures) (exported c.args.name.now c.args.index) c.in_ok-export.ensures.ok c.in_ok-export.ensures.fitted c.utf8.name (omega (arith, c.ranges.index.fits)) in
-    encodes_items c.encode.ensures.appends c.encode.ensures.read section
+    let s1 = adds_export (new_exports c.new-section.ensures) (exported c.args.name.now c.args.index) c.in_ok-export.ensures.ok c.in_ok-export.ensures.fitted c.utf8.name (omega (arith, c.ranges.index.fits)) in
+    encodes_items c.encode.ensures.appends c.encode.ensures.read s1

@@ -1,3 +1,4 @@
+-- Written by tools/answers.
 use Rattle.wasm_base.proofs.Calls.{encodes_items}
 use Rattle.callers.proofs.read_back.declared.write_tags.Goals as goal
 

@@ -1,3 +1,4 @@
+-- Written by tools/answers.
 use Rattle.std.proofs.Common.{refl}
 use Rattle.std.specs.Prelude.{codes}
 use Rattle.wasm_base.proofs.Calls.{ascii}
@@ -6,5 +7,5 @@ use Rattle.callers.proofs.read_back.dumps.modules.Goals as goal
 
 pub returns : goal.returns
 returns g c =
-    let first = adds_core_module (new_modules c.new-section.ensures) (codes "main") c.in_ok-module.ensures.ok c.in_ok-module.ensures.fitted (ascii refl) in
-    adds_core_module first c.args.name.now c.in_ok-module-2.ensures.ok c.in_ok-module-2.ensures.fitted c.utf8.name
+    let s1 = adds_core_module (new_modules c.new-section.ensures) (codes "main") c.in_ok-module.ensures.ok c.in_ok-module.ensures.fitted (ascii refl) in
+    adds_core_module s1 c.args.name.now c.in_ok-module-2.ensures.ok c.in_ok-module-2.ensures.fitted c.utf8.name

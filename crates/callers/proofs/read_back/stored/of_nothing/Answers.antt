@@ -1,3 +1,4 @@
+-- Written by tools/answers.
 use Rattle.std.proofs.Common.{rules}
 use Rattle.wasm_base.proofs.KnownLengths.{drained_array}
 use Rattle.wasm_code.proofs.Calls.{new_function, lent, writes_instruction}

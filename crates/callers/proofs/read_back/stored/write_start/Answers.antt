@@ -1,5 +1,6 @@
+-- Written by tools/answers.
 use Rattle.std.proofs.Common.{◌≡◌, refl}
-use Rattle.wasm_base.specs.Formats.{u32, frame}
+use Rattle.wasm_base.specs.Formats.{frame, u32}
 use Rattle.wasm_custom.proofs.Calls.{encodes_custom}
 use Rattle.callers.proofs.read_back.stored.write_start.Goals as goal
 
