@@ -3,4 +3,4 @@ use Rattle.wasm_base.proofs.FormatLaws.{byte_unique, such_unique}
 use Rattle.wasm_custom.proofs.hints.HintValueSpelled.laws.Goals as goal
 
 pub returns : goal.returns
-returns g c = such_unique (λ b. b < 128) byte_unique
+returns c = such_unique (λ b. b < 128) byte_unique
