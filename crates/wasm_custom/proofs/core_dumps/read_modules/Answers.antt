@@ -10,8 +10,8 @@ returns-in_err-rest-clause-none g c = fault_stays c.from_residual.result _ c.fro
 pub returns-in_err-names-clause-none : goal.returns-in_err-names-clause-none
 returns-in_err-names-clause-none g c = fault_stays c.from_residual-in_err-names.result _ c.from_residual-in_err-names.ensures.1 λ n. modules_nothing c.args.bytes.now _ c.in_ok-rest.ensures.found (c.in_err-names.ensures.none n)
 
-pub returns-else-is_empty-clause-none : goal.returns-else-is_empty-clause-none
-returns-else-is_empty-clause-none g c = λ n. modules_more c.args.bytes.now _ c.in_ok-names.left.now _ c.in_ok-rest.ensures.found c.in_ok-names.ensures.found (eqb-false _ _ (sym c.is_empty.ensures ∙ c.if-is_empty.false))
+pub returns-clause-none : goal.returns-clause-none
+returns-clause-none g c = λ n. modules_more c.args.bytes.now _ c.in_ok-names.left.now _ c.in_ok-rest.ensures.found c.in_ok-names.ensures.found (eqb-false _ _ (sym c.is_empty.ensures ∙ c.if-is_empty.false))
 
 pub returns-then-is_empty-clause-found : goal.returns-then-is_empty-clause-found
 returns-then-is_empty-clause-found g c = modules_read c.args.bytes.now _ c.in_ok-names.left.now _ c.in_ok-rest.ensures.found c.in_ok-names.ensures.found (eqb-true _ _ (sym c.is_empty.ensures ∙ c.if-is_empty.true))
