@@ -1,5 +1,6 @@
 -- Core dumps: their texts, and what spells them.
 use Rattle.std.specs.Prelude.{◌≡◌, ℕ, ◌^◌, ◌<◌, List, [], ◌∷◌, ◌++◌, IsUtf8, codes}
+use Rattle.std.specs.declared.vec.Vec.{Vec}
 use Rattle.wasm_base.specs.Entries.{Kind}
 use Rattle.wasm_base.specs.Formats.{Format, u32, name, mapped, pair, prefixed, vec}
 use Rattle.wasm_base.specs.Laws.{FitsUnsigned, NameFits}
@@ -74,3 +75,9 @@ instance_items = record { text = instance_text; IsPlain = IsInstance; IsPlainWid
 -- "coreinstances"
 abbrev pub instances_name : List ℕ
 instances_name = codes "coreinstances"
+
+-- ---- what was read
+
+-- an instance of a core dump, without where it lies in memory
+abbrev pub instance_seen : {A : Type 0} → ℕ × Vec ℕ A × Vec ℕ A → Instance
+instance_seen i = record { module_index = i.0; memories = i.1.items; globals = i.2.items }

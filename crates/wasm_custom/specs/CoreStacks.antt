@@ -8,6 +8,7 @@ use Rattle.wasm_custom.specs.CoreDumps.{marked_text, marked_name}
 use Rattle.wasm_custom.specs.CoreValues.{value_text, IsValue, value}
 use Rattle.wasm_custom.specs.Customs.{named_section}
 use Rattle.wasm_custom.specs.declared.core_values.CoreDumpValue.{CoreDumpValue}
+use Rattle.wasm_custom.specs.declared.core_stack.CoreFrame.{CoreFrame}
 
 -- a frame: where it is, its locals, and its part of the stack
 pub record Frame : Type 0 where
@@ -56,3 +57,9 @@ stack_section = named_section stack_name (pair marked_name (vec stack_frame))
 -- The front is the byte 00 and this name of a thread, which is UTF-8, and the entries hold these frames.
 abbrev pub SaysStack : List ℕ → List (List ℕ) → List ℕ × List Frame → Type 0
 SaysStack front frames said = IsUtf8 said.0 × (front ≡ marked_text said.0) × HoldsItems frame_items frames said.1
+
+-- ---- what was read
+
+-- a frame of a stack, without where it lies in memory
+abbrev pub frame_seen : {A : Type 0} → CoreFrame A → Frame
+frame_seen f = record { instance = f.instanceidx; function = f.funcidx; offset = f.codeoffset; locals = f.locals.items; stack = f.stack.items }

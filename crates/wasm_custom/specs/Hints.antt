@@ -1,5 +1,6 @@
 -- Branch hints: their text, and what spells them.
 use Rattle.std.specs.Prelude.{ℕ, ◌^◌, ◌<◌, List, [], ◌∷◌, ◌++◌, codes}
+use Rattle.std.specs.declared.vec.Vec.{Vec}
 use Rattle.wasm_base.specs.Entries.{Kind}
 use Rattle.wasm_base.specs.Formats.{Format, u32, byte, mapped, pair, prefixed, such, vec}
 use Rattle.wasm_base.specs.Numbers.{unsigned_text}
@@ -46,3 +47,9 @@ hint_items = record { text = hints_text; IsPlain = AreHints; IsPlainWide = AreHi
 -- "metadata.code.branch_hint"
 abbrev pub hints_name : List ℕ
 hints_name = codes "metadata.code.branch_hint"
+
+-- ---- what was read
+
+-- the hints of a function, without where they lie in memory
+abbrev pub hints_of : {A : Type 0} → ℕ × Vec BranchHint A → Hints
+hints_of h = (h.0, h.1.items)

@@ -1,10 +1,12 @@
 -- The linking section: its text, and what spells it.
-use Rattle.std.specs.Prelude.{ℕ, List, [], ◌∷◌, IsUtf8, codes}
+use Rattle.std.specs.Prelude.{ℕ, List, [], ◌∷◌, IsUtf8, codes, map}
 use Rattle.wasm_base.specs.Entries.{Kind}
 use Rattle.wasm_base.specs.Formats.{Format, byte, name, impossible, mapped, tagged, choice, vec, frame}
 use Rattle.wasm_base.specs.Texts.{frame_text, vec_text, VecFits}
 use Rattle.wasm_custom.specs.Customs.{subsection_text}
-use Rattle.wasm_custom.specs.Symbols.{Symbol, symbol_text, IsSymbol, symbol}
+use Rattle.wasm_custom.specs.Symbols.{Symbol, symbol_text, IsSymbol, symbol, symbol_of}
+use Rattle.wasm_custom.specs.declared.linking.LinkItem as read
+use Rattle.wasm_custom.specs.declared.linking.LinkItem.TheVariants as items
 
 -- what a subsection says: symbols, or the architecture of the target
 pub data LinkItem : Type 0 where
@@ -40,3 +42,10 @@ linking_name = codes "linking"
 -- the version that stands before the subsections of a linking section
 abbrev pub version : ℕ
 version = 2
+
+-- ---- what was read
+
+-- a subsection of a linking section, without where it lies in memory
+abbrev pub link_of : {A : Type 0} → read.LinkItem A → LinkItem
+link_of (items.Symbols symbols) = Symbols (map symbol_of symbols.items)
+link_of (items.Arch n) = Target n.now

@@ -1,11 +1,17 @@
 -- Names of a module and of its parts.
-use Rattle.std.specs.Prelude.{◌≡◌, ℕ, ◌^◌, ◌<◌, List, [], ◌∷◌, ◌++◌, Bool, true, false, cond, ◌==◌, IsUtf8, codes}
+use Rattle.std.specs.Prelude.{◌≡◌, ℕ, ◌^◌, ◌<◌, List, [], ◌∷◌, ◌++◌, Bool, true, false, cond, ◌==◌, IsUtf8, codes, map}
+use Rattle.std.specs.Borrow.{Bor}
+use Rattle.std.specs.declared.vec.Vec.{Vec}
 use Rattle.wasm_base.specs.Entries.{Kind}
 use Rattle.wasm_base.specs.Formats.{Format, u32, byte, any_bytes, name, mapped, pair, tagged, vec, frame}
 use Rattle.wasm_base.specs.Laws.{NameFits}
 use Rattle.wasm_base.specs.Numbers.{unsigned_text}
 use Rattle.wasm_base.specs.Texts.{frame_text, vec_text, VecFits}
 use Rattle.wasm_custom.specs.Customs.{subsection_text}
+use Rattle.wasm_custom.specs.declared.names.NameItem as read
+use Rattle.wasm_custom.specs.declared.names.NameItem.TheVariants as items
+use Rattle.wasm_custom.specs.declared.names.NameKind as read_kind
+use Rattle.wasm_custom.specs.declared.names.NameKind.TheVariants as kinds
 
 -- name association: an index, and its name
 abbrev pub Naming : Type 0
@@ -110,3 +116,48 @@ name_items = record { text = name_text; IsPlain = IsName; IsPlainWide = IsName; 
 -- "name"
 abbrev pub name_name : List ℕ
 name_name = codes "name"
+
+-- ---- what was read
+
+-- what a subsection holds, as the code tells it apart
+abbrev pub kind_as : read_kind.NameKind → NameKind
+kind_as kinds.Module = of_module
+kind_as kinds.Map = of_map
+kind_as kinds.Indirect = of_indirect
+kind_as kinds.Other = of_other
+
+-- the content of a subsection that holds this
+abbrev pub inside : NameKind → ℕ → Format NameItem
+inside of_module id = mapped Module name
+inside of_map id = mapped (Map id) name_map
+inside of_indirect id = mapped (Indirect id) indirect_map
+inside of_other id = mapped (Other id) any_bytes
+
+-- indices and names, without where they lie in memory
+abbrev pub names_of : List (ℕ × Bor (List ℕ)) → List Naming
+names_of = map (λ n. (n.0, n.1.now))
+
+-- an index, and indices and names, without where they lie in memory
+abbrev pub inside_of : {A : Type 0} → ℕ × Vec (ℕ × Bor (List ℕ)) A → Inside
+inside_of i = (i.0, names_of i.1.items)
+
+-- a subsection of a name section, without where it lies in memory
+abbrev pub name_item_of : {A : Type 0} → read.NameItem A → NameItem
+name_item_of (items.Module n) = Module n.now
+name_item_of (items.Map id ns) = Map id (names_of ns.items)
+name_item_of (items.Indirect id ms) = Indirect id (map inside_of ms.items)
+name_item_of (items.Other id bytes) = Other id bytes.now
+
+-- the id of a subsection
+abbrev pub id_of : NameItem → ℕ
+id_of (Module n) = 0
+id_of (Map id ns) = id
+id_of (Indirect id ms) = id
+id_of (Other id bytes) = id
+
+-- the kind of what a subsection holds
+abbrev pub held_by : NameItem → NameKind
+held_by (Module n) = of_module
+held_by (Map id ns) = of_map
+held_by (Indirect id ms) = of_indirect
+held_by (Other id bytes) = of_other

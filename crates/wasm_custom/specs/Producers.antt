@@ -1,5 +1,7 @@
 -- Producers of a module: their texts, and what spells them.
-use Rattle.std.specs.Prelude.{ℕ, List, ◌++◌, codes}
+use Rattle.std.specs.Prelude.{ℕ, List, ◌++◌, codes, map}
+use Rattle.std.specs.Borrow.{Bor}
+use Rattle.std.specs.declared.vec.Vec.{Vec}
 use Rattle.wasm_base.specs.Entries.{Kind}
 use Rattle.wasm_base.specs.Formats.{Format, name, pair, vec}
 use Rattle.wasm_base.specs.Laws.{NameFits}
@@ -44,3 +46,9 @@ field_items = record { text = field_text; IsPlain = IsField; IsPlainWide = IsFie
 -- "producers"
 abbrev pub producers_name : List ℕ
 producers_name = codes "producers"
+
+-- ---- what was read
+
+-- a field of producers, without where it lies in memory
+abbrev pub field_of : {A : Type 0} → Bor (List ℕ) × Vec (Bor (List ℕ) × Bor (List ℕ)) A → Field
+field_of f = (f.0.now, map (λ v. (v.0.now, v.1.now)) f.1.items)

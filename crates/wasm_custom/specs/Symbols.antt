@@ -1,5 +1,5 @@
 -- Symbols: their texts, and what spells them.
-use Rattle.std.specs.Prelude.{◌≡◌, ℕ, ◌^◌, ◌<◌, List, [], ◌∷◌, ◌++◌, Bool, false, not, cond, Option, IfSome}
+use Rattle.std.specs.Prelude.{◌≡◌, ℕ, ◌^◌, ◌<◌, List, [], ◌∷◌, ◌++◌, Bool, false, not, cond, Option, IfSome, option_map}
 use Rattle.wasm_base.specs.Formats.{Format, u32, byte, name, impossible, mapped, pair, tagged, choice, optional, is_given}
 use Rattle.wasm_base.specs.Laws.{NameFits}
 use Rattle.wasm_base.specs.Numbers.{unsigned_text}
@@ -8,6 +8,8 @@ use Rattle.wasm_immediates.specs.PlainImmediates.{bit}
 use Rattle.wasm_custom.specs.declared.symbols.DataSymbolDefinition.{DataSymbolDefinition}
 use Rattle.wasm_custom.specs.declared.symbols.SymbolKind.{SymbolKind}
 use Rattle.wasm_custom.specs.declared.symbols.SymbolKind.TheVariants.{Function, Global, Table}
+use Rattle.wasm_custom.specs.declared.symbols.Symbol as read
+use Rattle.wasm_custom.specs.declared.symbols.Symbol.TheVariants as items
 
 -- the byte of the kind of a symbol with an index
 abbrev pub kind_code : SymbolKind → ℕ
@@ -96,3 +98,12 @@ symbol_tags = (0x00, indexed_symbol Function) ∷ (0x01, data_symbol) ∷ (0x02,
 -- symbol: a kind, flags, and the parts that these tell of
 abbrev pub symbol : Format Symbol
 symbol = tagged byte (choice symbol_tags (λ b. impossible))
+
+-- ---- what was read
+
+-- a symbol, without where it lies in memory
+abbrev pub symbol_of : read.Symbol → Symbol
+symbol_of (items.Function flags index n) = indexed Function flags index (option_map (λ n. n.now) n)
+symbol_of (items.Global flags index n) = indexed Global flags index (option_map (λ n. n.now) n)
+symbol_of (items.Table flags index n) = indexed Table flags index (option_map (λ n. n.now) n)
+symbol_of (items.DataSymbol flags n d) = of_data flags n.now d

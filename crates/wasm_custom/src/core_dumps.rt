@@ -1,22 +1,30 @@
 // Core dumps: the process, its modules and its instances.
-ghost use Rattle.std.specs.Prelude.{◌≡◌, ◌≢◌, ℕ, List, [], ◌∷◌, ◌++◌, IfOk, true, ⊤};
+ghost use Rattle.std.specs.Prelude.{◌≡◌, ◌≢◌, ℕ, List, [], ◌∷◌, ◌++◌, IfOk, true, ⊤, IfErr, OnOk, map};
 ghost use Rattle.wasm_base.specs.Calls.{Adds, ReadsBack};
 ghost use Rattle.wasm_base.specs.Cow.{items_of, text_of};
-ghost use Rattle.wasm_base.specs.Formats.{fixed};
+ghost use Rattle.wasm_base.specs.Formats.{fixed, vec};
+ghost use Rattle.wasm_base.specs.Going.{FillsNothing};
 ghost use Rattle.wasm_base.specs.Iterators.{HasKnownLength};
-ghost use Rattle.wasm_base.specs.Numbers.{unsigned_text};
+ghost use Rattle.wasm_base.specs.Numbers.{unsigned_text, wide};
+ghost use Rattle.wasm_base.specs.Reading.{Reads, ReadsNothing};
 ghost use Rattle.wasm_base.specs.Texts.{FrameFits, vec_text};
 ghost use Rattle.wasm_base.specs.declared.refused.Refused.TheVariants.{TooLong};
 ghost use Rattle.wasm_custom.specs.Adding.{AddsTwoLists};
-ghost use Rattle.wasm_custom.specs.CoreDumps.{instance_items, module_items, marked_text, core_name, core_section, SaysProcess, IsModule, marked_name, modules_name, Instance, instance_text, IsInstance, instance, instances_name};
+ghost use Rattle.wasm_custom.specs.CoreDumps.{instance_items, module_items, marked_text, core_name, core_section, SaysProcess, IsModule, marked_name, modules_name, Instance, instance_text, IsInstance, instance, instances_name, instance_seen};
 ghost use Rattle.wasm_custom.specs.Customs.{named_text, NamedFits};
 ghost use Rattle.wasm_custom.specs.Entries.{entries_text};
+ghost use Rattle.wasm_custom.specs.Readings.{core_payload, modules_payload, instances_payload};
+ghost use Rattle.wasm_reader_base.specs.Shortest.{AppendsShortest};
+ghost use Rattle.wasm_reader_base.specs.declared.fault.ReadFault.TheVariants.{Memory};
 
 use crate::custom_section::{CustomSection, begin_custom};
 use crate::entries::{CustomEntries, CustomKind};
+use crate::marked::{MarkedName, read_marked};
+use crate::named::after_name;
 use std::alloc::{Allocator, Global};
 use std::marker::Model;
 use wasm_base::{Encode, Items, R, Section, SectionId, vec_of};
+use wasm_reader_base::{ReadFault, Readable, Shorten, read_whole};
 
 /// The process that was dumped, seen as the data of its section: the byte 00, and its name.
 ///
@@ -245,4 +253,193 @@ impl<A: Allocator> CoreDumpInstancesSection<A> {
     {
         self.owned(alloc)
     }
+}
+
+/// The name of the process.
+#[tactic(auto, using(crate::proofs::ReadCoreDumps::process_steps))]
+pub fn read_process<'a, A: Allocator + Copy>(
+    bytes: &'a [u8],
+    alloc: A,
+) -> Result<&'a str, ReadFault>
+    ensures found { IfOk result (λ x. core_payload wide bytes.now x.now) }
+    ensures none { IfErr result (λ e. e ≢ Memory → FillsNothing core_payload bytes.now) }
+{
+    let rest = after_name("core", bytes, alloc)?;
+    let MarkedName(name) = read_whole::<'a, MarkedName<'a>, A>(rest, alloc)?;
+    Ok(name)
+}
+
+/// The names of modules behind their number, and the bytes after them. Memory is taken for names that stand there, and not by the number.
+#[tactic(auto, using(wasm_reader_base::proofs::ReadVectors::vec_steps))]
+fn read_module_names<'a, A: Allocator + Copy>(
+    bytes: &'a [u8],
+    alloc: A,
+) -> Result<(Vec<&'a str, A>, &'a [u8]), ReadFault>
+    ensures found { IfOk result (λ x. Reads (vec marked_name) wide bytes.now (map (λ name. name.now) x.0.items) x.1.now) }
+    ensures none { IfErr result (λ e. e ≢ Memory → ReadsNothing (vec marked_name) wide bytes.now) }
+{
+    let (count, mut rest) = <u32 as Readable<'a, A>>::read(bytes, alloc)?;
+    let mut names = Vec::new(alloc);
+    for _taken in 0..count {
+        let (MarkedName(name), after) = <MarkedName<'a> as Readable<'a, A>>::read(rest, alloc)?;
+        names.push(name)?;
+        rest = after;
+    }
+    Ok((names, rest))
+}
+
+/// The names of the modules.
+#[tactic(auto, using(crate::proofs::ReadCoreDumps::module_steps))]
+pub fn read_modules<'a, A: Allocator + Copy>(
+    bytes: &'a [u8],
+    alloc: A,
+) -> Result<Vec<&'a str, A>, ReadFault>
+    ensures found { IfOk result (λ x. modules_payload wide bytes.now (map (λ name. name.now) x.items)) }
+    ensures none { IfErr result (λ e. e ≢ Memory → FillsNothing modules_payload bytes.now) }
+{
+    let rest = after_name("coremodules", bytes, alloc)?;
+    let (names, left) = read_module_names(rest, alloc)?;
+    if left.is_empty() {
+        Ok(names)
+    } else {
+        Err(ReadFault::SizeMismatch)
+    }
+}
+
+/// An instance: the index of its module, its memories and its globals.
+#[tactic(auto, using(crate::proofs::ReadCoreDumps::instance_steps))]
+fn read_instance<'a, A: Allocator + Copy>(
+    bytes: &'a [u8],
+    alloc: A,
+) -> Result<((u32, Vec<u32, A>, Vec<u32, A>), &'a [u8]), ReadFault>
+    ensures found { IfOk result (λ x. Reads instance wide bytes.now (instance_seen x.0) x.1.now) }
+    ensures none { IfErr result (λ e. e ≢ Memory → ReadsNothing instance wide bytes.now) }
+{
+    let ((module_index, (memories, globals)), rest) = read_marked::<
+        'a,
+        (u32, (Vec<u32, A>, Vec<u32, A>)),
+        A,
+    >(0x00, bytes, alloc)?;
+    Ok(((module_index, memories, globals), rest))
+}
+
+/// Instances behind their number, and the bytes after them. Memory is taken for instances that stand there, and not by the number.
+#[tactic(auto, using(wasm_reader_base::proofs::ReadVectors::vec_steps))]
+fn read_all_instances<'a, A: Allocator + Copy>(
+    bytes: &'a [u8],
+    alloc: A,
+) -> Result<(Vec<(u32, Vec<u32, A>, Vec<u32, A>), A>, &'a [u8]), ReadFault>
+    ensures found { IfOk result (λ x. Reads (vec instance) wide bytes.now (map instance_seen x.0.items) x.1.now) }
+    ensures none { IfErr result (λ e. e ≢ Memory → ReadsNothing (vec instance) wide bytes.now) }
+{
+    let (count, mut rest) = <u32 as Readable<'a, A>>::read(bytes, alloc)?;
+    let mut items = Vec::new(alloc);
+    for _taken in 0..count {
+        let (item, after) = read_instance(rest, alloc)?;
+        items.push(item)?;
+        rest = after;
+    }
+    Ok((items, rest))
+}
+
+/// The instances: the index of the module, the memories and the globals of each.
+#[tactic(auto, using(crate::proofs::ReadCoreDumps::instances_steps))]
+pub fn read_instances<'a, A: Allocator + Copy>(
+    bytes: &'a [u8],
+    alloc: A,
+) -> Result<Vec<(u32, Vec<u32, A>, Vec<u32, A>), A>, ReadFault>
+    ensures found { IfOk result (λ x. instances_payload wide bytes.now (map instance_seen x.items)) }
+    ensures none { IfErr result (λ e. e ≢ Memory → FillsNothing instances_payload bytes.now) }
+{
+    let rest = after_name("coreinstances", bytes, alloc)?;
+    let (instances, left) = read_all_instances(rest, alloc)?;
+    if left.is_empty() {
+        Ok(instances)
+    } else {
+        Err(ReadFault::SizeMismatch)
+    }
+}
+
+/// Appends the byte 00 and a name.
+#[tactic(auto, using(crate::proofs::ShortCustom::marked_appended))]
+pub(crate) fn append_marked<B: Allocator>(name: &str, out: &mut Vec<u8, B>) -> R<()>
+    ensures { OnOk result (AppendsShortest marked_name name.now out.old.items out.new.items) }
+{
+    0x00u8.encode(out)?;
+    name.append_shortest(out)
+}
+
+/// Appends the shortest text of what the section of this process holds, where some bytes are read as it. After a refusal a part of it may
+/// stand there.
+#[tactic(auto, using(crate::proofs::ShortCustom::process_appended))]
+pub fn append_process<B: Allocator>(name: &str, out: &mut Vec<u8, B>) -> R<()>
+    ensures { OnOk result (AppendsShortest core_payload name.now out.old.items out.new.items) }
+{
+    "core".encode(out)?;
+    append_marked(name, out)
+}
+
+/// Appends names, each behind the byte 00, behind their number.
+#[tactic(auto, using(wasm_reader_base::proofs::ShortTexts::members_start))]
+fn append_names<B: Allocator>(items: &[&str], out: &mut Vec<u8, B>) -> R<()>
+    ensures { OnOk result (AppendsShortest (vec marked_name) (map (λ n. n.now) items.now) out.old.items out.new.items) }
+{
+    items.len().encode(out)?;
+    for item in items {
+        append_marked(item, out)?;
+    }
+    Ok(())
+}
+
+/// Appends the shortest text of what a section of these modules holds, where some bytes are read as it. After a refusal a part of it may
+/// stand there.
+#[tactic(auto, using(crate::proofs::ShortCustom::modules_appended))]
+pub fn append_modules<B: Allocator>(names: &[&str], out: &mut Vec<u8, B>) -> R<()>
+    ensures { OnOk result (AppendsShortest modules_payload (map (λ n. n.now) names.now) out.old.items out.new.items) }
+{
+    "coremodules".encode(out)?;
+    append_names(names, out)
+}
+
+/// Appends an instance.
+#[tactic(auto, using(crate::proofs::ShortCustom::instance_appended))]
+fn append_instance<A: Allocator, B: Allocator>(
+    given: &(u32, Vec<u32, A>, Vec<u32, A>),
+    out: &mut Vec<u8, B>,
+) -> R<()>
+    ensures { OnOk result (AppendsShortest instance (instance_seen given.now) out.old.items out.new.items) }
+{
+    let (index, memories, globals) = given;
+    0x00u8.encode(out)?;
+    index.append_shortest(out)?;
+    memories.append_shortest(out)?;
+    globals.append_shortest(out)
+}
+
+/// Appends instances behind their number.
+#[tactic(auto, using(wasm_reader_base::proofs::ShortTexts::members_start))]
+fn append_all_instances<A: Allocator, B: Allocator>(
+    items: &[(u32, Vec<u32, A>, Vec<u32, A>)],
+    out: &mut Vec<u8, B>,
+) -> R<()>
+    ensures { OnOk result (AppendsShortest (vec instance) (map instance_seen items.now) out.old.items out.new.items) }
+{
+    items.len().encode(out)?;
+    for item in items {
+        append_instance(item, out)?;
+    }
+    Ok(())
+}
+
+/// Appends the shortest text of what a section of these instances holds, where some bytes are read as it. After a refusal a part of it may
+/// stand there.
+#[tactic(auto, using(crate::proofs::ShortCustom::instances_appended))]
+pub fn append_instances<A: Allocator, B: Allocator>(
+    instances: &[(u32, Vec<u32, A>, Vec<u32, A>)],
+    out: &mut Vec<u8, B>,
+) -> R<()>
+    ensures { OnOk result (AppendsShortest instances_payload (map instance_seen instances.now) out.old.items out.new.items) }
+{
+    "coreinstances".encode(out)?;
+    append_all_instances(instances, out)
 }

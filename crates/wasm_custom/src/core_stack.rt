@@ -1,24 +1,32 @@
 // The stack of a core dump.
-ghost use Rattle.std.specs.Prelude.{◌≡◌, ◌≢◌, ℕ, List, [], ◌∷◌, ◌++◌, IfOk, true, ⊤};
+ghost use Rattle.std.specs.Prelude.{◌≡◌, ◌≢◌, ℕ, List, [], ◌∷◌, ◌++◌, IfOk, true, ⊤, IfErr, OnOk, map};
 ghost use Rattle.wasm_base.specs.Calls.{ReadsBack};
 ghost use Rattle.wasm_base.specs.Cow.{items_of, text_of};
+ghost use Rattle.wasm_base.specs.Going.{FillsNothing};
 ghost use Rattle.wasm_base.specs.Iterators.{HasKnownLength};
-ghost use Rattle.wasm_base.specs.Numbers.{unsigned_text};
+ghost use Rattle.wasm_base.specs.Numbers.{unsigned_text, wide};
 ghost use Rattle.wasm_base.specs.Texts.{FrameFits, vec_text};
 ghost use Rattle.wasm_base.specs.declared.refused.Refused.TheVariants.{TooLong};
 ghost use Rattle.wasm_custom.specs.Adding.{AddsTwoLists};
 ghost use Rattle.wasm_custom.specs.CoreDumps.{marked_text};
-ghost use Rattle.wasm_custom.specs.CoreStacks.{stack_name, stack_section, SaysStack};
+ghost use Rattle.wasm_custom.specs.CoreStacks.{stack_name, stack_section, SaysStack, Frame, stack_frame, frame_seen};
 ghost use Rattle.wasm_custom.specs.CoreValues.{value_text};
 ghost use Rattle.wasm_custom.specs.Customs.{named_text, NamedFits};
 ghost use Rattle.wasm_custom.specs.Entries.{entries_text};
+ghost use Rattle.wasm_custom.specs.Readings.{stack_payload};
+ghost use Rattle.wasm_reader_base.specs.Shortest.{AppendsShortest};
+ghost use Rattle.wasm_reader_base.specs.declared.fault.ReadFault.TheVariants.{Memory};
 
+use crate::core_dumps::append_marked;
 use crate::core_values::CoreDumpValue;
 use crate::custom_section::CustomSection;
 use crate::entries::{data_of, encode_entries};
+use crate::marked::read_marked;
+use crate::named::after_name;
 use std::alloc::{Allocator, Global};
 use std::marker::Model;
 use wasm_base::{CowSlice, CowStr, Encode, Pieces, R, Section, SectionId, vec_of};
+use wasm_reader_base::{ReadFault, Readable, Shorten, Spelled, read_whole};
 
 /// The stack of a thread, seen as what stands before its frames, which is the byte 00 and the name of the thread, and the bytes of
 /// each frame.
@@ -139,4 +147,87 @@ impl<A: Allocator> Section for CoreDumpStackSection<A> {
     ghost framed = { λ s bytes fits pays. named_framed stack_name (entries_text s.0 true s.1) bytes fits pays };
 
     ghost reads_back = { λ s promised. promised };
+}
+
+/// A frame of a stack.
+#[derive(Debug, Drop)]
+pub struct CoreFrame<A: Allocator = Global> {
+    pub instanceidx: u32,
+    pub funcidx: u32,
+    /// How far into the function it is.
+    pub codeoffset: u32,
+    pub locals: Vec<CoreDumpValue, A>,
+    pub stack: Vec<CoreDumpValue, A>,
+}
+
+impl<A: Allocator> Spelled for CoreFrame<A> {
+    ghost Value = { Frame };
+
+    ghost format = { stack_frame };
+
+    ghost view = { frame_seen };
+
+    #[tactic(auto, using(crate::proofs::CoreStackLaws::frame_unique))]
+    fn laws() {}
+}
+
+impl<'a, A: Allocator + Copy> Readable<'a, A> for CoreFrame<A> {
+    #[tactic(auto, using(crate::proofs::ReadStacks::frame_steps))]
+    fn read(bytes: &'a [u8], alloc: A) -> Result<(CoreFrame<A>, &'a [u8]), ReadFault> {
+        let ((instanceidx, (funcidx, codeoffset)), rest) = read_marked::<'a, (u32, (u32, u32)), A>(
+            0x00, bytes, alloc,
+        )?;
+        let (locals, rest) = <Vec<CoreDumpValue, A> as Readable<'a, A>>::read(rest, alloc)?;
+        let (stack, rest) = <Vec<CoreDumpValue, A> as Readable<'a, A>>::read(rest, alloc)?;
+        let frame = CoreFrame {
+            instanceidx,
+            funcidx,
+            codeoffset,
+            locals,
+            stack,
+        };
+        Ok((frame, rest))
+    }
+}
+
+/// The name of the thread, and the frames of its stack.
+#[tactic(auto, using(crate::proofs::ReadStacks::stack_steps))]
+pub fn read_stack<'a, A: Allocator + Copy>(
+    bytes: &'a [u8],
+    alloc: A,
+) -> Result<(&'a str, Vec<CoreFrame<A>, A>), ReadFault>
+    ensures found { IfOk result (λ x. stack_payload wide bytes.now (x.0.now, map frame_seen x.1.items)) }
+    ensures none { IfErr result (λ e. e ≢ Memory → FillsNothing stack_payload bytes.now) }
+{
+    let rest = after_name("corestack", bytes, alloc)?;
+    let (thread, rest) = read_marked::<'a, &'a str, A>(0x00, rest, alloc)?;
+    let frames = read_whole::<'a, Vec<CoreFrame<A>, A>, A>(rest, alloc)?;
+    Ok((thread, frames))
+}
+
+impl<A: Allocator> Shorten for CoreFrame<A> {
+    #[tactic(auto, using(crate::proofs::ShortCustom::frame_appended))]
+    fn append_shortest<B: Allocator>(&self, out: &mut Vec<u8, B>) -> R<()> {
+        0x00u8.encode(out)?;
+        self.instanceidx.append_shortest(out)?;
+        self.funcidx.append_shortest(out)?;
+        self.codeoffset.append_shortest(out)?;
+        self.locals.as_slice().encode(out)?;
+        self.stack.as_slice().encode(out)
+    }
+}
+
+/// Appends the shortest text of what the section of this stack holds, where some bytes are read as it. After a refusal a part of it may
+/// stand there.
+#[tactic(auto, using(crate::proofs::ShortCustom::stack_appended))]
+pub fn append_stack<A: Allocator, B: Allocator>(
+    thread: &str,
+    frames: &Vec<CoreFrame<A>, A>,
+    out: &mut Vec<u8, B>,
+) -> R<()>
+    ensures { OnOk result (AppendsShortest stack_payload (thread.now, map frame_seen frames.now.items) out.old.items out.new.items) }
+{
+    "corestack".encode(out)?;
+    append_marked(thread, out)?;
+    frames.append_shortest(out)
 }

@@ -1,10 +1,12 @@
 // Values of a core dump.
 ghost use Rattle.std.specs.Prelude.{⊤};
-ghost use Rattle.wasm_custom.specs.CoreValues.{value_text};
+ghost use Rattle.wasm_custom.specs.CoreValues.{value_text, value as value_format};
+ghost use Rattle.wasm_custom.specs.declared.core_values.CoreDumpValue.{CoreDumpValue as ValueModel};
 
 use std::alloc::Allocator;
 use wasm_base::{Encode, R};
 use wasm_immediates::{Ieee32, Ieee64};
+use wasm_reader_base::{ReadFault, Readable, Spelled};
 
 /// A value of a local or of the stack, or none where it was optimised away.
 #[derive(Clone, Copy, Debug)]
@@ -29,6 +31,44 @@ impl Encode for CoreDumpValue {
             CoreDumpValue::I64(value) => (0x7Eu8, value).encode(sink),
             CoreDumpValue::F32(value) => (0x7Du8, value).encode(sink),
             CoreDumpValue::F64(value) => (0x7Cu8, value).encode(sink),
+        }
+    }
+}
+
+impl Spelled for CoreDumpValue {
+    ghost Value = { ValueModel };
+
+    ghost format = { value_format };
+
+    ghost view = { λ value. value };
+
+    #[tactic(auto, using(crate::proofs::CoreStackLaws::value_unique))]
+    fn laws() {}
+}
+
+impl<'a, A: Allocator + Copy> Readable<'a, A> for CoreDumpValue {
+    #[tactic(auto, using(crate::proofs::ReadStacks::value_steps))]
+    fn read(bytes: &'a [u8], alloc: A) -> Result<(CoreDumpValue, &'a [u8]), ReadFault> {
+        let (tag, rest) = <u8 as Readable<'a, A>>::read(bytes, alloc)?;
+        match tag {
+            0x01 => Ok((CoreDumpValue::Missing, rest)),
+            0x7F => {
+                let (value, rest) = <i32 as Readable<'a, A>>::read(rest, alloc)?;
+                Ok((CoreDumpValue::I32(value), rest))
+            }
+            0x7E => {
+                let (value, rest) = <i64 as Readable<'a, A>>::read(rest, alloc)?;
+                Ok((CoreDumpValue::I64(value), rest))
+            }
+            0x7D => {
+                let (value, rest) = <Ieee32 as Readable<'a, A>>::read(rest, alloc)?;
+                Ok((CoreDumpValue::F32(value), rest))
+            }
+            0x7C => {
+                let (value, rest) = <Ieee64 as Readable<'a, A>>::read(rest, alloc)?;
+                Ok((CoreDumpValue::F64(value), rest))
+            }
+            _ => Err(ReadFault::UnknownTag),
         }
     }
 }

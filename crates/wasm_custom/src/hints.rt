@@ -1,15 +1,23 @@
 // Branch hints.
-ghost use Rattle.std.specs.Prelude.{◌≡◌, [], ◌++◌, true, ⊤};
-ghost use Rattle.wasm_base.specs.Formats.{fixed};
+ghost use Rattle.std.specs.Prelude.{◌≡◌, [], ◌++◌, true, ⊤, ◌≢◌, ◌<◌, ℕ, IfOk, IfErr, OnOk, map};
+ghost use Rattle.wasm_base.specs.Formats.{fixed, byte, such, vec};
+ghost use Rattle.wasm_base.specs.Going.{FillsNothing};
 ghost use Rattle.wasm_base.specs.Iterators.{HasKnownLength};
-ghost use Rattle.wasm_base.specs.Numbers.{unsigned_text};
+ghost use Rattle.wasm_base.specs.Numbers.{unsigned_text, wide};
 ghost use Rattle.wasm_base.specs.Texts.{vec_text};
 ghost use Rattle.wasm_custom.specs.Adding.{AddsList};
-ghost use Rattle.wasm_custom.specs.Hints.{hint_items, hint_text, Hints, hints_text, AreHints, hints, hints_name};
+ghost use Rattle.wasm_custom.specs.Hints.{hint_items, hint_text, Hints, hints_text, AreHints, hints, hints_name, hint, hints_of};
+ghost use Rattle.wasm_custom.specs.Readings.{hints_payload};
+ghost use Rattle.wasm_custom.specs.declared.hints.BranchHint.{BranchHint as HintModel};
+ghost use Rattle.wasm_reader_base.specs.Shortest.{AppendsShortest};
+ghost use Rattle.wasm_reader_base.specs.declared.fault.ReadFault.TheVariants.{Memory};
 
 use crate::entries::{CustomEntries, CustomKind};
+use crate::marked::read_marked;
+use crate::named::after_name;
 use std::alloc::{Allocator, Global};
 use wasm_base::{Encode, Items, R, vec_of};
+use wasm_reader_base::{ReadFault, Readable, Shorten, Spelled, read_whole};
 
 /// Which branches are likely to be taken: a list of hints for each function. It stands before the code section.
 ///
@@ -99,4 +107,108 @@ impl<A: Allocator> BranchHints<A> {
         let hints = vec_of(hints)?;
         self.add_once((func, hints))
     }
+}
+
+/// The value of a hint: one byte.
+#[derive(Clone, Copy, Debug)]
+struct HintValue(u8);
+
+impl Spelled for HintValue {
+    ghost Value = { ℕ };
+
+    ghost format = { such (λ b. b < 128) byte };
+
+    ghost view = { λ value. value.0 };
+
+    fn laws() {}
+}
+
+impl<'a, A: Allocator + Copy> Readable<'a, A> for HintValue {
+    #[tactic(auto, using(crate::proofs::ReadHints::value_steps))]
+    fn read(bytes: &'a [u8], alloc: A) -> Result<(HintValue, &'a [u8]), ReadFault> {
+        let (value, rest) = <u8 as Readable<'a, A>>::read(bytes, alloc)?;
+        if value >= 128 {
+            return Err(ReadFault::TooLarge);
+        }
+        Ok((HintValue(value), rest))
+    }
+}
+
+impl Spelled for BranchHint {
+    ghost Value = { HintModel };
+
+    ghost format = { hint };
+
+    ghost view = { λ hint. hint };
+
+    #[tactic(auto, using(crate::proofs::HintLaws::hint_unique))]
+    fn laws() {}
+}
+
+impl<'a, A: Allocator + Copy> Readable<'a, A> for BranchHint {
+    #[tactic(auto, using(crate::proofs::ReadHints::hint_steps))]
+    fn read(bytes: &'a [u8], alloc: A) -> Result<(BranchHint, &'a [u8]), ReadFault> {
+        let (branch_func_offset, rest) = <u32 as Readable<'a, A>>::read(bytes, alloc)?;
+        let (HintValue(value), rest) = read_marked::<'a, HintValue, A>(0x01, rest, alloc)?;
+        let hint = BranchHint {
+            branch_func_offset,
+            branch_hint_value: u32::from(value),
+        };
+        Ok((hint, rest))
+    }
+}
+
+/// The hints of each function: its index, and the hints of its branches.
+#[tactic(auto, using(crate::proofs::ReadHints::section_steps))]
+pub fn read_hints<'a, A: Allocator + Copy>(
+    bytes: &'a [u8],
+    alloc: A,
+) -> Result<Vec<(u32, Vec<BranchHint, A>), A>, ReadFault>
+    ensures found { IfOk result (λ x. hints_payload wide bytes.now (map hints_of x.items)) }
+    ensures none { IfErr result (λ e. e ≢ Memory → FillsNothing hints_payload bytes.now) }
+{
+    let rest = after_name("metadata.code.branch_hint", bytes, alloc)?;
+    let hints = read_whole::<'a, Vec<(u32, Vec<BranchHint, A>), A>, A>(rest, alloc)?;
+    Ok(hints)
+}
+
+/// Appends the hints of a function.
+#[tactic(auto, using(crate::proofs::ShortCustom::function_appended))]
+fn append_function<A: Allocator, B: Allocator>(
+    given: &(u32, Vec<BranchHint, A>),
+    out: &mut Vec<u8, B>,
+) -> R<()>
+    ensures { OnOk result (AppendsShortest hints (hints_of given.now) out.old.items out.new.items) }
+{
+    let (func, of_branches) = given;
+    func.append_shortest(out)?;
+    of_branches.as_slice().encode(out)
+}
+
+/// Appends the hints of functions behind their number.
+#[tactic(auto, using(wasm_reader_base::proofs::ShortTexts::members_start))]
+fn append_functions<A: Allocator, B: Allocator>(
+    items: &[(u32, Vec<BranchHint, A>)],
+    out: &mut Vec<u8, B>,
+) -> R<()>
+    ensures { OnOk result (AppendsShortest (vec hints) (map hints_of items.now) out.old.items out.new.items) }
+{
+    items.len().encode(out)?;
+    for item in items {
+        append_function(item, out)?;
+    }
+    Ok(())
+}
+
+/// Appends the shortest text of what a section of these hints holds, where some bytes are read as it. After a refusal a part of it may
+/// stand there.
+#[tactic(auto, using(crate::proofs::ShortCustom::hints_appended))]
+pub fn append_hints<A: Allocator, B: Allocator>(
+    functions: &[(u32, Vec<BranchHint, A>)],
+    out: &mut Vec<u8, B>,
+) -> R<()>
+    ensures { OnOk result (AppendsShortest hints_payload (map hints_of functions.now) out.old.items out.new.items) }
+{
+    "metadata.code.branch_hint".encode(out)?;
+    append_functions(functions, out)
 }

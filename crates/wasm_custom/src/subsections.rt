@@ -28,10 +28,10 @@ impl Content for &str {
 
 /// Bytes that are spelled already.
 #[derive(Clone, Copy)]
-pub(crate) struct Spelled<'a>(pub &'a [u8]);
+pub(crate) struct RawContent<'a>(pub &'a [u8]);
 
 /// The bytes.
-impl Encode for Spelled<'_> {
+impl Encode for RawContent<'_> {
     ghost text = { λ s. s.0.now };
 
     ghost fits = { λ _. ⊤ };
@@ -42,7 +42,7 @@ impl Encode for Spelled<'_> {
     }
 }
 
-impl Content for Spelled<'_> {
+impl Content for RawContent<'_> {
     fn size(&self) -> usize {
         self.0.len()
     }

@@ -18,16 +18,13 @@ use Rattle.wasm_types.specs.RecTypes.{TypeItem, type_item}
 use Rattle.wasm_types.specs.Items.{entry_of}
 use Rattle.wasm_sections.specs.declared.memory.MemoryType.{MemoryType}
 use Rattle.wasm_sections.specs.declared.tag.TagType.{TagType}
-use Rattle.wasm_custom.specs.CoreDumps.{Instance}
-use Rattle.wasm_custom.specs.CoreStacks.{Frame}
-use Rattle.wasm_custom.specs.Hints.{Hints as FunctionHints}
-use Rattle.wasm_custom.specs.Linking.{LinkItem}
-use Rattle.wasm_custom.specs.Names.{NameItem}
-use Rattle.wasm_custom.specs.Producers.{Field}
+use Rattle.wasm_custom.specs.CoreDumps.{Instance, instance_seen}
+use Rattle.wasm_custom.specs.CoreStacks.{Frame, frame_seen}
+use Rattle.wasm_custom.specs.Hints.{Hints as FunctionHints, hints_of}
+use Rattle.wasm_custom.specs.Linking.{LinkItem, link_of}
+use Rattle.wasm_custom.specs.Names.{NameItem, name_item_of}
+use Rattle.wasm_custom.specs.Producers.{Field, field_of}
 use Rattle.wasm_custom.specs.Readings.{name_payload, linking_payload, producers_payload, hints_payload, core_payload, modules_payload, instances_payload, stack_payload}
-use Rattle.wasm_reader_custom.specs.Items.{field_of, hints_of, instance_of, frame_of}
-use Rattle.wasm_reader_custom.specs.Names.{name_item_of}
-use Rattle.wasm_reader_custom.specs.Symbols.{link_of}
 use Rattle.wasm_reader.specs.Items.{global_of, table_of, segment_of, element_of}
 use Rattle.wasm_reader.specs.declared.section.Items.{Items}
 use Rattle.wasm_reader.specs.declared.section.Items.TheVariants as items
@@ -136,8 +133,8 @@ contents_of (items.Producers v) = Producers (map field_of v.items)
 contents_of (items.Hints v) = Hints (map hints_of v.items)
 contents_of (items.Core n) = Core n.now
 contents_of (items.CoreModules v) = CoreModules (map (λ n. n.now) v.items)
-contents_of (items.CoreInstances v) = CoreInstances (map instance_of v.items)
-contents_of (items.CoreStack n v) = CoreStack (n.now, map frame_of v.items)
+contents_of (items.CoreInstances v) = CoreInstances (map instance_seen v.items)
+contents_of (items.CoreStack n v) = CoreStack (n.now, map frame_seen v.items)
 contents_of (items.Custom n b) = Custom (n.now, b.now)
 contents_of (items.Raw b) = Raw b.now
 contents_of (items.Types v) = Types (map entry_of v.items)

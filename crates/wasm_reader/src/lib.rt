@@ -32,7 +32,7 @@ pub use section::{Items, SectionKind, read_section};
 pub use shortest::shorten;
 pub use tables::TableItem;
 pub use wasm_reader_base::ReadFault;
-pub use wasm_reader_custom::{CoreFrame, LinkItem, NameItem, Symbol};
+pub use wasm_custom::{CoreFrame, LinkItem, NameItem, Symbol};
 pub use wasm_reader_insn::{Arg, Body, Code, Expression, Plain};
 pub use wasm_types::TypeEntry;
 pub use whole::{ModuleFault, Offsets, shorten_module};

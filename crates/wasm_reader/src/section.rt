@@ -13,12 +13,11 @@ use crate::globals::GlobalItem;
 use crate::imports::read_imports;
 use crate::tables::TableItem;
 use std::alloc::{Allocator, Global};
-use wasm_custom::BranchHint;
-use wasm_reader_base::{ReadFault, Readable, read_list, read_whole};
-use wasm_reader_custom::{
-    CoreFrame, LinkItem, NameItem, read_hints, read_instances, read_links, read_modules,
+use wasm_custom::{
+    BranchHint, CoreFrame, LinkItem, NameItem, read_hints, read_instances, read_links, read_modules,
     read_names, read_process, read_producers, read_stack,
 };
+use wasm_reader_base::{ReadFault, Readable, read_list, read_whole};
 use wasm_reader_insn::Body;
 use wasm_types::{TypeEntry, read_types};
 use wasm_sections::{Export, Imports, MemoryType, TagType};

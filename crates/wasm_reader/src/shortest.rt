@@ -13,11 +13,11 @@ use crate::imports::append_imports;
 use crate::section::{Items, SectionKind, read_content};
 use std::alloc::Allocator;
 use wasm_base::{Encode, R, encode_frame};
-use wasm_reader_base::{ReadFault, Readable, Shorten};
-use wasm_reader_custom::{
+use wasm_custom::{
     append_hints, append_instances, append_links, append_modules, append_names, append_process,
     append_producers, append_stack,
 };
+use wasm_reader_base::{ReadFault, Readable, Shorten};
 use wasm_reader_insn::shorten_body;
 use wasm_types::append_types;
 

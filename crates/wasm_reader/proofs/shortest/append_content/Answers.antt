@@ -1,9 +1,10 @@
 use Rattle.std.proofs.Common.{map, sym, ap, ◌∙◌}
 use Rattle.wasm_base.proofs.Outcomes.{on_ok}
 use Rattle.wasm_sections.specs.Imports.{imports_item}
-use Rattle.wasm_reader_custom.specs.Items.{instance_of, hints_of}
-use Rattle.wasm_reader_custom.specs.Names.{name_item_of}
-use Rattle.wasm_reader_custom.specs.Symbols.{link_of}
+use Rattle.wasm_custom.specs.CoreDumps.{instance_seen}
+use Rattle.wasm_custom.specs.Hints.{hints_of}
+use Rattle.wasm_custom.specs.Linking.{link_of}
+use Rattle.wasm_custom.specs.Names.{name_item_of}
 use Rattle.wasm_types.specs.Items.{entry_of}
 use Rattle.wasm_reader.specs.Sections.{Imports, Types, Names, Linking, Hints, CoreModules, CoreInstances, contents_of}
 use Rattle.wasm_reader.proofs.ShortSections.{of_items, bodies, segments, data_count, elements, globals, imports, start, tables, types, names, links, producers, hints, process, modules, instances, stack}
@@ -55,7 +56,7 @@ pub returns-in-CoreModules : goal.returns-in-CoreModules
 returns-in-CoreModules g c = on_ok c.append_modules.result _ _ c.append_modules.ensures λ a. of_items _ _ _ _ (ap contents_of c.in-CoreModules.is ∙ ap (λ v. CoreModules (map (λ n. n.now) v)) (sym c.deref-in-CoreModules.ensures.value)) (modules _ _ _ a)
 
 pub returns-in-CoreInstances : goal.returns-in-CoreInstances
-returns-in-CoreInstances g c = on_ok c.append_instances.result _ _ c.append_instances.ensures λ a. of_items _ _ _ _ (ap contents_of c.in-CoreInstances.is ∙ ap (λ v. CoreInstances (map instance_of v)) (sym c.deref-in-CoreInstances.ensures.value)) (instances _ _ _ a)
+returns-in-CoreInstances g c = on_ok c.append_instances.result _ _ c.append_instances.ensures λ a. of_items _ _ _ _ (ap contents_of c.in-CoreInstances.is ∙ ap (λ v. CoreInstances (map instance_seen v)) (sym c.deref-in-CoreInstances.ensures.value)) (instances _ _ _ a)
 
 pub returns-in-CoreStack : goal.returns-in-CoreStack
 returns-in-CoreStack g c = on_ok c.append_stack.result _ _ c.append_stack.ensures λ a. of_items _ _ _ _ (ap contents_of c.in-CoreStack.is) (stack _ _ _ a)

@@ -1,0 +1,52 @@
+// Values behind a fixed byte.
+ghost use Rattle.std.specs.Prelude.{◌≢◌, ◌∷◌, [], List, ℕ, IfOk, IfErr};
+ghost use Rattle.wasm_base.specs.Formats.{prefixed};
+ghost use Rattle.wasm_base.specs.Numbers.{wide};
+ghost use Rattle.wasm_base.specs.Reading.{UniqueReading, Reads, ReadsNothing};
+ghost use Rattle.wasm_custom.specs.CoreDumps.{marked_name};
+ghost use Rattle.wasm_reader_base.specs.declared.fault.ReadFault.TheVariants.{Memory};
+
+use std::alloc::Allocator;
+use wasm_reader_base::{ReadFault, Readable, Spelled};
+
+/// A value behind this byte, and the bytes after it.
+#[tactic(auto, using(crate::proofs::ReadMarked::marked_steps))]
+pub(crate) fn read_marked<'a, T: Readable<'a, A>, A: Allocator + Copy>(
+    mark: u8,
+    bytes: &'a [u8],
+    alloc: A,
+) -> Result<(T, &'a [u8]), ReadFault>
+    ensures found { IfOk result (λ x. Reads (prefixed (mark ∷ []) T.format) wide bytes.now (T.view x.0) x.1.now) }
+    ensures none { IfErr result (λ e. e ≢ Memory → ReadsNothing (prefixed (mark ∷ []) T.format) wide bytes.now) }
+{
+    let (first, rest) = <u8 as Readable<'a, A>>::read(bytes, alloc)?;
+    if first != mark {
+        return Err(ReadFault::UnknownTag);
+    }
+    let (value, rest) = T::read(rest, alloc)?;
+    Ok((value, rest))
+}
+
+/// The name of a process or a module: the byte 00, and a name.
+#[derive(Clone, Copy, Debug)]
+pub(crate) struct MarkedName<'a>(pub &'a str);
+
+impl<'a> Spelled for MarkedName<'a> {
+    ghost Value = { List ℕ };
+
+    ghost format = { marked_name };
+
+    ghost view = { λ m. m.0.now };
+
+    #[tactic(auto, using(crate::proofs::CoreDumpLaws::marked_unique))]
+    fn laws()
+        ensures { UniqueReading marked_name }
+    {}
+}
+
+impl<'a, A: Allocator + Copy> Readable<'a, A> for MarkedName<'a> {
+    fn read(bytes: &'a [u8], alloc: A) -> Result<(MarkedName<'a>, &'a [u8]), ReadFault> {
+        let (name, rest) = read_marked::<'a, &'a str, A>(0x00, bytes, alloc)?;
+        Ok((MarkedName(name), rest))
+    }
+}
