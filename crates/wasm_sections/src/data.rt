@@ -9,6 +9,7 @@ ghost use Rattle.wasm_base.specs.Going.{FillsNothing};
 ghost use Rattle.wasm_base.specs.Numbers.{wide};
 ghost use Rattle.wasm_reader_base.specs.declared.fault.ReadFault.TheVariants.{Memory};
 ghost use Rattle.wasm_base.specs.Formats.{byte, pair, vec};
+ghost use Rattle.wasm_base.specs.Reading.{UniqueReading};
 ghost use Rattle.wasm_code.specs.Expressions.{expression};
 ghost use Rattle.wasm_reader_base.specs.Shortest.{AppendsShortest};
 ghost use Rattle.wasm_sections.specs.Constants.{instructions_of};
@@ -210,7 +211,9 @@ impl<'a> Spelled for Bytes<'a> {
     ghost view = { λ b. b.0.now };
 
     #[tactic(auto, using(wasm_base::proofs::BaseLaws::vec_bytes_unique))]
-    fn laws() {}
+    fn laws()
+        ensures { UniqueReading (vec byte) }
+    {}
 }
 
 impl<'a, A: Allocator + Copy> Readable<'a, A> for Bytes<'a> {
@@ -245,7 +248,9 @@ impl<'a, A: Allocator> Spelled for Segment<'a, A> {
     ghost view = { segment_view };
 
     #[tactic(auto, using(crate::proofs::DataLaws::data_unique))]
-    fn laws() {}
+    fn laws()
+        ensures { UniqueReading data_item }
+    {}
 }
 
 impl<'a, A: Allocator + Copy> Readable<'a, A> for Segment<'a, A> {
@@ -360,7 +365,9 @@ impl<'a, A: Allocator + Copy> Passed<'a, A> for Segment<'a, A> {
     ghost format = { data_item };
 
     #[tactic(auto, using(crate::proofs::DataLaws::data_unique))]
-    fn laws() {}
+    fn laws()
+        ensures { UniqueReading data_item }
+    {}
 
     #[tactic(auto, using(crate::proofs::ReadData::segment_steps))]
     fn pass(bytes: &'a [u8], alloc: A) -> Result<&'a [u8], ReadFault> {

@@ -6,6 +6,7 @@ ghost use Rattle.wasm_base.specs.Texts.{frame_text, FrameFits};
 ghost use Rattle.wasm_sections.specs.Exports.{export_items, kind_code, export_text, ExportFits, IsExport, ExportItem, item_of, export};
 ghost use Rattle.wasm_sections.specs.declared.export.Export.{Export as Given};
 ghost use Rattle.wasm_base.specs.Formats.{coded};
+ghost use Rattle.wasm_base.specs.Reading.{UniqueReading};
 ghost use Rattle.wasm_sections.specs.declared.export.ExportKind.{ExportKind as Kind};
 
 use crate::counted_section::{CountedSection, ItemKind, RecordOf};
@@ -133,7 +134,9 @@ impl<'a> Spelled for Export<'a> {
     ghost view = { item_of };
 
     #[tactic(auto, using(crate::proofs::ExportLaws::export_unique))]
-    fn laws() {}
+    fn laws()
+        ensures { UniqueReading export }
+    {}
 }
 
 impl<'a, A: Allocator + Copy> Readable<'a, A> for Export<'a> {

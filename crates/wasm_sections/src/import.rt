@@ -8,7 +8,7 @@ ghost use Rattle.wasm_sections.specs.declared.import.EntityType.TheVariants as e
 ghost use Rattle.wasm_base.specs.Formats.{name, pair, prefixed, vec};
 ghost use Rattle.wasm_base.specs.Going.{FillsNothing};
 ghost use Rattle.wasm_base.specs.Numbers.{wide};
-ghost use Rattle.wasm_base.specs.Reading.{ReadsNothing};
+ghost use Rattle.wasm_base.specs.Reading.{UniqueReading, ReadsNothing};
 ghost use Rattle.wasm_sections.specs.declared.import.EntityType.{EntityType as EntityModel};
 ghost use Rattle.wasm_reader_base.specs.declared.fault.ReadFault.TheVariants.{Memory};
 ghost use Rattle.wasm_reader_base.specs.Shortest.{AppendsShortest};
@@ -284,7 +284,9 @@ impl<'a> Spelled for ImportCompact<'a> {
 
     ghost view = { compact_item };
 
-    fn laws() {
+    fn laws()
+        ensures { UniqueReading (pair name entity) }
+    {
         <(&'a str, EntityType) as Spelled>::laws();
     }
 }
@@ -324,7 +326,9 @@ impl<'a, A: Allocator> Spelled for Imports<'a, A> {
     ghost view = { imports_item };
 
     #[tactic(auto, using(crate::proofs::ImportLaws::import_unique))]
-    fn laws() {}
+    fn laws()
+        ensures { UniqueReading import_format }
+    {}
 }
 
 impl<'a, A: Allocator + Copy> Readable<'a, A> for Imports<'a, A> {

@@ -1,4 +1,6 @@
 //! The sections of a WebAssembly module, by the core specification, "Binary Format", "Modules".
+//!
+//! The crate also reads their items, by `Readable` of `wasm_reader_base`, goes over them by `Passed`, and writes those that were read in their fewest bytes, by `Shorten`.
 #![tactic(auto)]
 
 mod counted_section;
