@@ -1,18 +1,18 @@
 // Data segments and the data section.
 ghost use Rattle.std.specs.Prelude.{◌≡◌, ◌≢◌, ℕ, List, ◌++◌, IfOk, ⊤, IfErr, OnOk, map};
 ghost use Rattle.wasm_base.specs.Calls.{Adds};
+ghost use Rattle.wasm_base.specs.Formats.{byte, pair, vec};
+ghost use Rattle.wasm_base.specs.Going.{FillsNothing};
 ghost use Rattle.wasm_base.specs.Iterators.{HasKnownLength};
+ghost use Rattle.wasm_base.specs.Numbers.{wide};
+ghost use Rattle.wasm_base.specs.Reading.{UniqueReading};
 ghost use Rattle.wasm_base.specs.Texts.{frame_text};
 ghost use Rattle.wasm_base.specs.declared.refused.Refused.TheVariants.{TooLong};
-ghost use Rattle.wasm_sections.specs.DataSegments.{data_items, DataItem, active, data_item, segment_view};
-ghost use Rattle.wasm_base.specs.Going.{FillsNothing};
-ghost use Rattle.wasm_base.specs.Numbers.{wide};
-ghost use Rattle.wasm_reader_base.specs.declared.fault.ReadFault.TheVariants.{Memory};
-ghost use Rattle.wasm_base.specs.Formats.{byte, pair, vec};
-ghost use Rattle.wasm_base.specs.Reading.{UniqueReading};
 ghost use Rattle.wasm_code.specs.Expressions.{expression};
 ghost use Rattle.wasm_reader_base.specs.Shortest.{AppendsShortest};
+ghost use Rattle.wasm_reader_base.specs.declared.fault.ReadFault.TheVariants.{Memory};
 ghost use Rattle.wasm_sections.specs.Constants.{instructions_of};
+ghost use Rattle.wasm_sections.specs.DataSegments.{data_items, DataItem, active, data_item, segment_view};
 
 use crate::counted_section::{CountedSection, ItemKind};
 use std::alloc::{Allocator, Global};

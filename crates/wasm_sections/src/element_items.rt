@@ -4,10 +4,10 @@ ghost use Rattle.wasm_base.specs.Formats.{is_given, numbered};
 ghost use Rattle.wasm_base.specs.Numbers.{wide};
 ghost use Rattle.wasm_base.specs.Reading.{Reads, ReadsNothing};
 ghost use Rattle.wasm_insn.specs.Plain.{Plain};
-ghost use Rattle.wasm_reader_base.specs.declared.fault.ReadFault.TheVariants.{Memory};
 ghost use Rattle.wasm_reader_base.specs.Shortest.{AppendsShortest};
-ghost use Rattle.wasm_sections.specs.Elements.{Segment, ElementFlag as FlagModel, flag_code, flag_of, active, functions, expressions, are_expressions, tells_kind, place, elements_as, element, element_flag_view, place_view, list_view, element_view, Place, ElementList as ListModel};
+ghost use Rattle.wasm_reader_base.specs.declared.fault.ReadFault.TheVariants.{Memory};
 ghost use Rattle.wasm_sections.specs.Constants.{instructions_of};
+ghost use Rattle.wasm_sections.specs.Elements.{Segment, ElementFlag as FlagModel, flag_code, flag_of, active, functions, expressions, are_expressions, tells_kind, place, elements_as, element, element_flag_view, place_view, list_view, element_view, Place, ElementList as ListModel};
 
 use std::alloc::{Allocator, Global};
 use wasm_base::{Encode, R, RefType};

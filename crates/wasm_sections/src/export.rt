@@ -1,12 +1,12 @@
 // Exports and the export section.
 ghost use Rattle.std.specs.Prelude.{◌≡◌, ◌∷◌, ◌++◌, [], ⊤};
 ghost use Rattle.wasm_base.specs.Calls.{Adds};
+ghost use Rattle.wasm_base.specs.Formats.{coded};
 ghost use Rattle.wasm_base.specs.Numbers.{unsigned_text};
+ghost use Rattle.wasm_base.specs.Reading.{UniqueReading};
 ghost use Rattle.wasm_base.specs.Texts.{frame_text, FrameFits};
 ghost use Rattle.wasm_sections.specs.Exports.{export_items, kind_code, export_text, ExportFits, IsExport, ExportItem, item_of, export};
 ghost use Rattle.wasm_sections.specs.declared.export.Export.{Export as Given};
-ghost use Rattle.wasm_base.specs.Formats.{coded};
-ghost use Rattle.wasm_base.specs.Reading.{UniqueReading};
 ghost use Rattle.wasm_sections.specs.declared.export.ExportKind.{ExportKind as Kind};
 
 use crate::counted_section::{CountedSection, ItemKind, RecordOf};

@@ -1,9 +1,9 @@
 // Global types and the global section.
 ghost use Rattle.std.specs.Prelude.{◌≡◌, ◌++◌, ⊤};
 ghost use Rattle.wasm_base.specs.Calls.{Adds};
+ghost use Rattle.wasm_base.specs.Formats.{coded};
 ghost use Rattle.wasm_code.specs.Expressions.{expression_text};
 ghost use Rattle.wasm_sections.specs.Globals.{global_items, global_flags, global_code, global_text, GivenGlobal, GlobalItem as GlobalModel, global_item_text, IsGivenGlobal, global_item_of, global_item, GlobalFlags as GlobalBits, global_type, global_flags_view, global_view};
-ghost use Rattle.wasm_base.specs.Formats.{coded};
 ghost use Rattle.wasm_sections.specs.declared.global.GlobalType.{GlobalType as TypeModel};
 
 use crate::counted_section::{CountedSection, ItemKind};

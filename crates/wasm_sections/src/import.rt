@@ -1,17 +1,17 @@
 // Imports and the import section.
 ghost use Rattle.std.specs.Prelude.{◌≡◌, ◌≢◌, ◌++◌, IfOk, ⊤, ◌≤◌, ◌∷◌, [], List, ℕ, IfErr, MatchOption, OnOk, map};
 ghost use Rattle.wasm_base.specs.Calls.{Adds};
-ghost use Rattle.wasm_base.specs.Texts.{frame_text, FrameFits};
-ghost use Rattle.wasm_base.specs.declared.refused.Refused.TheVariants.{TooLong};
-ghost use Rattle.wasm_sections.specs.Imports.{import_items, entity_text, ImportItem, import_text, ImportFits, IsImport, import_format, named_text, import_item, compact_item, imports_item, entity, group};
-ghost use Rattle.wasm_sections.specs.declared.import.EntityType.TheVariants as entities;
 ghost use Rattle.wasm_base.specs.Formats.{name, pair, prefixed, vec};
 ghost use Rattle.wasm_base.specs.Going.{FillsNothing};
 ghost use Rattle.wasm_base.specs.Numbers.{wide};
 ghost use Rattle.wasm_base.specs.Reading.{UniqueReading, ReadsNothing};
-ghost use Rattle.wasm_sections.specs.declared.import.EntityType.{EntityType as EntityModel};
-ghost use Rattle.wasm_reader_base.specs.declared.fault.ReadFault.TheVariants.{Memory};
+ghost use Rattle.wasm_base.specs.Texts.{frame_text, FrameFits};
+ghost use Rattle.wasm_base.specs.declared.refused.Refused.TheVariants.{TooLong};
 ghost use Rattle.wasm_reader_base.specs.Shortest.{AppendsShortest};
+ghost use Rattle.wasm_reader_base.specs.declared.fault.ReadFault.TheVariants.{Memory};
+ghost use Rattle.wasm_sections.specs.Imports.{import_items, entity_text, ImportItem, import_text, ImportFits, IsImport, import_format, named_text, import_item, compact_item, imports_item, entity, group};
+ghost use Rattle.wasm_sections.specs.declared.import.EntityType.{EntityType as EntityModel};
+ghost use Rattle.wasm_sections.specs.declared.import.EntityType.TheVariants as entities;
 
 use crate::counted_section::{CountedSection, ItemKind, RecordOf};
 use crate::global::GlobalType;

@@ -1,10 +1,10 @@
 // Tag types and the tag section.
 ghost use Rattle.std.specs.Prelude.{◌≡◌, ⊤};
 ghost use Rattle.wasm_base.specs.Calls.{Adds};
-ghost use Rattle.wasm_sections.specs.Tags.{tag_items, tag_code, tag_text, IsTag, tag_type};
-ghost use Rattle.wasm_sections.specs.declared.tag.TagType.{TagType as Tag};
 ghost use Rattle.wasm_base.specs.Formats.{coded};
+ghost use Rattle.wasm_sections.specs.Tags.{tag_items, tag_code, tag_text, IsTag, tag_type};
 ghost use Rattle.wasm_sections.specs.declared.tag.TagKind.{TagKind as Kind};
+ghost use Rattle.wasm_sections.specs.declared.tag.TagType.{TagType as Tag};
 
 use crate::counted_section::{CountedSection, ItemKind, RecordOf};
 use std::alloc::{Allocator, Global};
