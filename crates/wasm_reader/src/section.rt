@@ -16,8 +16,8 @@ use wasm_reader_custom::{
 use wasm_reader_insn::Body;
 use wasm_reader_types::{TypeEntry, read_types};
 use wasm_sections::{
-    ElementItem, Export, GlobalItem, Imports, MemoryType, Segment, TableItem, TagType, read_imports,
-    read_segments,
+    ElementItem, Export, GlobalItem, Imports, MemoryType, Segment, TableItem, TagType,
+    read_imports, read_segments,
 };
 
 /// What a section is read as.

@@ -142,10 +142,9 @@ impl<'a> Spelled for Export<'a> {
 impl<'a, A: Allocator + Copy> Readable<'a, A> for Export<'a> {
     #[tactic(auto, using(crate::proofs::ReadItems::export_steps))]
     fn read(bytes: &'a [u8], alloc: A) -> Result<(Export<'a>, &'a [u8]), ReadFault> {
-        let ((name, (kind, index)), rest) = <(
-            &'a str,
-            (ExportKind, u32),
-        ) as Readable<'a, A>>::read(bytes, alloc)?;
+        let ((name, (kind, index)), rest) = <(&'a str, (ExportKind, u32)) as Readable<'a, A>>::read(
+            bytes, alloc,
+        )?;
         Ok((Export { name, kind, index }, rest))
     }
 }

@@ -177,10 +177,9 @@ impl<A: Allocator> Spelled for GlobalItem<A> {
 impl<'a, A: Allocator + Copy> Readable<'a, A> for GlobalItem<A> {
     #[tactic(auto, using(crate::proofs::ReadGlobals::item_steps))]
     fn read(bytes: &'a [u8], alloc: A) -> Result<(GlobalItem<A>, &'a [u8]), ReadFault> {
-        let ((global_type, init), rest) = <(
-            GlobalType,
-            Expression<A>,
-        ) as Readable<'a, A>>::read(bytes, alloc)?;
+        let ((global_type, init), rest) = <(GlobalType, Expression<A>) as Readable<'a, A>>::read(
+            bytes, alloc,
+        )?;
         Ok((GlobalItem { global_type, init }, rest))
     }
 }
@@ -203,9 +202,7 @@ impl<'a, A: Allocator + Copy> Passed<'a, A> for GlobalItem<A> {
 
     #[tactic(auto, using(crate::proofs::ReadGlobals::item_steps))]
     fn pass(bytes: &'a [u8], alloc: A) -> Result<&'a [u8], ReadFault> {
-        let rest = <(Dropped<GlobalType>, Expression<A>) as Passed<'a, A>>::pass(
-            bytes, alloc,
-        )?;
+        let rest = <(Dropped<GlobalType>, Expression<A>) as Passed<'a, A>>::pass(bytes, alloc)?;
         Ok(rest)
     }
 }

@@ -19,7 +19,10 @@ use crate::memory::MemoryType;
 use crate::table::TableType;
 use crate::tag::TagType;
 use std::alloc::{Allocator, Global};
-use wasm_base::{CORE_FUNCTION_EXACT_SORT, CORE_FUNCTION_SORT, CORE_GLOBAL_SORT, CORE_MEMORY_SORT, CORE_TABLE_SORT, CORE_TAG_SORT, CowSlice, Encode, Items, R, SectionId};
+use wasm_base::{
+    CORE_FUNCTION_EXACT_SORT, CORE_FUNCTION_SORT, CORE_GLOBAL_SORT, CORE_MEMORY_SORT,
+    CORE_TABLE_SORT, CORE_TAG_SORT, CowSlice, Encode, Items, R, SectionId,
+};
 use wasm_reader_base::{Dropped, Passed, ReadFault, Readable, Spelled, pass_many, read_whole};
 
 /// What a module imports.
@@ -293,10 +296,7 @@ impl<'a> Spelled for ImportCompact<'a> {
 
 impl<'a, A: Allocator + Copy> Readable<'a, A> for ImportCompact<'a> {
     fn read(bytes: &'a [u8], alloc: A) -> Result<(ImportCompact<'a>, &'a [u8]), ReadFault> {
-        let ((name, ty), rest) = <(&'a str, EntityType) as Readable<
-            'a,
-            A,
-        >>::read(bytes, alloc)?;
+        let ((name, ty), rest) = <(&'a str, EntityType) as Readable<'a, A>>::read(bytes, alloc)?;
         Ok((ImportCompact { name, ty }, rest))
     }
 }
@@ -342,7 +342,9 @@ impl<'a, A: Allocator + Copy> Readable<'a, A> for Imports<'a, A> {
         };
         match kind {
             0x7F => {
-                let (items, rest) = <Vec<ImportCompact<'a>, A> as Readable<'a, A>>::read(rest, alloc)?;
+                let (items, rest) = <Vec<ImportCompact<'a>, A> as Readable<'a, A>>::read(
+                    rest, alloc,
+                )?;
                 let items = CowSlice::Owned(items);
                 Ok((Imports::Compact1 { module, items }, rest))
             }
@@ -404,9 +406,7 @@ impl<'a, A: Allocator + Copy> Passed<'a, A> for PassedImports {
         };
         match kind {
             0x7F => {
-                let (_count, rest) = pass_many::<'a, Dropped<ImportCompact<'a>>, A>(
-                    rest, alloc,
-                )?;
+                let (_count, rest) = pass_many::<'a, Dropped<ImportCompact<'a>>, A>(rest, alloc)?;
                 Ok(rest)
             }
             0x7E => {

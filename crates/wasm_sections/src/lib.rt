@@ -26,8 +26,8 @@ pub use export::{Export, ExportItems, ExportKind, ExportSection};
 pub use functions::{FunctionItems, FunctionSection};
 pub use global::{GlobalItem, GlobalItems, GlobalSection, GlobalType};
 pub use import::{
-    EntityType, Import, ImportCompact, ImportItems, ImportSection, Imports, PassedImports, append_imports,
-    read_imports,
+    EntityType, Import, ImportCompact, ImportItems, ImportSection, Imports, PassedImports,
+    append_imports, read_imports,
 };
 pub use memory::{MemoryItems, MemorySection, MemoryType};
 pub use numbers::{DataCountSection, StartSection};

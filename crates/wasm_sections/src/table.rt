@@ -215,9 +215,7 @@ impl<'a, A: Allocator + Copy> Readable<'a, A> for TableItem<A> {
     fn read(bytes: &'a [u8], alloc: A) -> Result<(TableItem<A>, &'a [u8]), ReadFault> {
         let (first, rest) = <u8 as Readable<'a, A>>::read(bytes, alloc)?;
         if first != 0x40 {
-            let (table_type, rest) = <TableType as Readable<'a, A>>::read(
-                bytes, alloc,
-            )?;
+            let (table_type, rest) = <TableType as Readable<'a, A>>::read(bytes, alloc)?;
             let init = None;
             return Ok((TableItem { table_type, init }, rest));
         }
@@ -225,10 +223,9 @@ impl<'a, A: Allocator + Copy> Readable<'a, A> for TableItem<A> {
         if second != 0x00 {
             return Err(ReadFault::UnknownTag);
         }
-        let ((table_type, init), rest) = <(TableType, Expression<A>) as Readable<
-            'a,
-            A,
-        >>::read(rest, alloc)?;
+        let ((table_type, init), rest) = <(TableType, Expression<A>) as Readable<'a, A>>::read(
+            rest, alloc,
+        )?;
         let init = Some(init);
         Ok((TableItem { table_type, init }, rest))
     }
@@ -265,9 +262,7 @@ impl<'a, A: Allocator + Copy> Passed<'a, A> for TableItem<A> {
         if second != 0x00 {
             return Err(ReadFault::UnknownTag);
         }
-        let rest = <(Dropped<TableType>, Expression<A>) as Passed<'a, A>>::pass(
-            rest, alloc,
-        )?;
+        let rest = <(Dropped<TableType>, Expression<A>) as Passed<'a, A>>::pass(rest, alloc)?;
         Ok(rest)
     }
 }

@@ -131,10 +131,9 @@ impl Spelled for TagType {
 impl<'a, A: Allocator + Copy> Readable<'a, A> for TagType {
     #[tactic(auto, using(crate::proofs::ReadItems::tag_steps))]
     fn read(bytes: &'a [u8], alloc: A) -> Result<(TagType, &'a [u8]), ReadFault> {
-        let ((kind, func_type_idx), rest) = <(TagKind, u32) as Readable<
-            'a,
-            A,
-        >>::read(bytes, alloc)?;
+        let ((kind, func_type_idx), rest) = <(TagKind, u32) as Readable<'a, A>>::read(
+            bytes, alloc,
+        )?;
         let tag = TagType {
             kind,
             func_type_idx,
