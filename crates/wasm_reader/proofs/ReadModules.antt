@@ -15,7 +15,7 @@ use Rattle.wasm_reader.specs.Sections.{Contents, content}
 use Rattle.wasm_reader.specs.declared.modules.Listed.{Listed}
 use Rattle.wasm_reader.specs.declared.section.SectionKind.{SectionKind}
 use Rattle.wasm_reader.specs.declared.section.SectionKind.TheVariants as kinds
-use Rattle.wasm_reader.proofs.Prefixes.{prefixed_reads}
+use Rattle.wasm_sections.proofs.Prefixes.{prefixed_reads}
 use Rattle.wasm_reader_base.proofs.ReadWhole.{whole_reads}
 
 -- ---- the header

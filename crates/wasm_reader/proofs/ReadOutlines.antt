@@ -18,7 +18,7 @@ use Rattle.wasm_reader.specs.declared.outlines.Outlined.{Outlined}
 use Rattle.wasm_reader.specs.declared.section.SectionKind.{SectionKind}
 use Rattle.wasm_reader.specs.declared.section.SectionKind.TheVariants as kinds
 use Rattle.wasm_reader.proofs.ModuleLaws.{one_way}
-use Rattle.wasm_reader.proofs.Prefixes.{prefixed_reads}
+use Rattle.wasm_sections.proofs.Prefixes.{prefixed_reads}
 use Rattle.wasm_reader.proofs.ShortSections.{content_whole}
 
 -- ---- a section as it stands

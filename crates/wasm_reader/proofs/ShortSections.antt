@@ -47,7 +47,7 @@ use Rattle.wasm_reader_base.proofs.ShortTexts.{text_appended, pair_appended, map
 use Rattle.wasm_reader.specs.Sections.{Contents, Bodies, Segments, DataCount, Elements, Exports, Functions, Globals, Imports, Memories, Start, Tables, Tags, Types, Names, Linking, Producers, Hints, Core, CoreModules, CoreInstances, CoreStack, Custom, Raw, content, kind_in, section, Takes, Shortens, HaveOneText}
 use Rattle.wasm_reader.specs.declared.section.SectionKind.{SectionKind}
 use Rattle.wasm_reader.specs.declared.section.SectionKind.TheVariants as kinds
-use Rattle.wasm_reader.proofs.ReadPlain.{memory_is, tag_is, export_short}
+use Rattle.wasm_sections.proofs.ReadPlain.{memory_is, tag_is, export_short}
 use Rattle.wasm_reader.proofs.ReadSections.{takes}
 
 -- ---- contents

@@ -1,4 +1,3 @@
-pub mod Items
 pub mod Sections
 pub mod Modules
 pub mod Outlines

@@ -25,7 +25,10 @@ use Rattle.wasm_custom.specs.Linking.{LinkItem, link_of}
 use Rattle.wasm_custom.specs.Names.{NameItem, name_item_of}
 use Rattle.wasm_custom.specs.Producers.{Field, field_of}
 use Rattle.wasm_custom.specs.Readings.{name_payload, linking_payload, producers_payload, hints_payload, core_payload, modules_payload, instances_payload, stack_payload}
-use Rattle.wasm_reader.specs.Items.{global_of, table_of, segment_of, element_of}
+use Rattle.wasm_sections.specs.Globals.{global_view}
+use Rattle.wasm_sections.specs.Tables.{table_view}
+use Rattle.wasm_sections.specs.DataSegments.{segment_view}
+use Rattle.wasm_sections.specs.Elements.{element_view}
 use Rattle.wasm_reader.specs.declared.section.Items.{Items}
 use Rattle.wasm_reader.specs.declared.section.Items.TheVariants as items
 use Rattle.wasm_reader.specs.declared.section.SectionKind.{SectionKind}
@@ -116,16 +119,16 @@ section kind = frame (content kind)
 -- what items say, without where they lie in memory
 abbrev pub contents_of : {A : Type 0} → Items A → Contents
 contents_of (items.Bodies v) = Bodies (map body_of v.items)
-contents_of (items.Segments v) = Segments (map segment_of v.items)
+contents_of (items.Segments v) = Segments (map segment_view v.items)
 contents_of (items.DataCount n) = DataCount n
-contents_of (items.Elements v) = Elements (map element_of v.items)
+contents_of (items.Elements v) = Elements (map element_view v.items)
 contents_of (items.Exports v) = Exports (map item_of v.items)
 contents_of (items.Functions v) = Functions v.items
-contents_of (items.Globals v) = Globals (map global_of v.items)
+contents_of (items.Globals v) = Globals (map global_view v.items)
 contents_of (items.Imports v) = Imports (map imports_item v.items)
 contents_of (items.Memories v) = Memories v.items
 contents_of (items.Start n) = Start n
-contents_of (items.Tables v) = Tables (map table_of v.items)
+contents_of (items.Tables v) = Tables (map table_view v.items)
 contents_of (items.Tags v) = Tags v.items
 contents_of (items.Names v) = Names (map name_item_of v.items)
 contents_of (items.Linking v) = Linking (map link_of v.items)

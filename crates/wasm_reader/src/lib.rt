@@ -6,37 +6,23 @@
 #![tactic(auto)]
 
 mod counts;
-mod data;
-mod elements;
-mod exports;
-mod globals;
-mod imports;
 pub mod laws;
-mod limits;
 mod modules;
 mod outlines;
-mod passed;
 mod section;
 mod shortest;
 mod standing;
-mod tables;
-mod tags;
 mod whole;
 
-pub use data::Segment;
-pub use elements::{ElementItem, ElementItemMode, ElementList};
-pub use globals::GlobalItem;
 pub use modules::{Listed, list_module};
 pub use outlines::{Outlined, outline};
 pub use section::{Items, SectionKind, read_section};
 pub use shortest::shorten;
-pub use tables::TableItem;
 pub use wasm_reader_base::ReadFault;
 pub use wasm_custom::{CoreFrame, LinkItem, NameItem, Symbol};
-pub use wasm_reader_insn::{Arg, Body, Code, Expression, Plain};
+pub use wasm_reader_insn::{Arg, Body, Expression, Plain};
 pub use wasm_types::TypeEntry;
+pub use wasm_sections::{
+    ElementItem, ElementItemMode, ElementList, GlobalItem, Segment, TableItem,
+};
 pub use whole::{ModuleFault, Offsets, shorten_module};
-
-/// This crate, which says how items of other crates are read.
-#[derive(Clone, Copy, Debug)]
-pub(crate) struct Here;

@@ -8,18 +8,14 @@ ghost use Rattle.wasm_reader_base.specs.declared.fault.ReadFault.TheVariants.{En
 ghost use Rattle.wasm_reader.specs.Modules.{kind_of as kind_of_id, number_in, sized_section, line_of, HasLines, StopsAt};
 ghost use Rattle.wasm_reader.specs.Sections.{Contents, content};
 
-use crate::Here;
 use crate::counts::count_passed;
-use crate::data::Segment;
-use crate::elements::ElementItem;
-use crate::globals::GlobalItem;
-use crate::passed::PassedImports;
 use crate::section::{SectionKind, read_content};
-use crate::tables::TableItem;
 use std::alloc::Allocator;
-use wasm_reader_base::{Dropped, One, ReadFault, Readable};
+use wasm_reader_base::{Dropped, ReadFault, Readable};
 use wasm_reader_insn::Body;
-use wasm_sections::{Export, MemoryType, TagType};
+use wasm_sections::{
+    ElementItem, Export, GlobalItem, MemoryType, PassedImports, Segment, TableItem, TagType,
+};
 
 /// The magic and the version of a module.
 pub(crate) const HEADER: [u8; 8] = [0x00, 0x61, 0x73, 0x6D, 0x01, 0x00, 0x00, 0x00];
@@ -89,17 +85,13 @@ pub(crate) fn read_number<'a, A: Allocator + Copy>(
         SectionKind::Bodies => count_passed::<'a, Body<A>, A>(bytes, alloc),
         SectionKind::Segments => count_passed::<'a, Segment<'a, A>, A>(bytes, alloc),
         SectionKind::Elements => count_passed::<'a, ElementItem<A>, A>(bytes, alloc),
-        SectionKind::Exports => {
-            count_passed::<'a, Dropped<One<Export<'a>, Here>>, A>(bytes, alloc)
-        }
+        SectionKind::Exports => { count_passed::<'a, Dropped<Export<'a>>, A>(bytes, alloc) }
         SectionKind::Functions => count_passed::<'a, Dropped<u32>, A>(bytes, alloc),
         SectionKind::Globals => count_passed::<'a, GlobalItem<A>, A>(bytes, alloc),
         SectionKind::Imports => count_passed::<'a, PassedImports, A>(bytes, alloc),
-        SectionKind::Memories => {
-            count_passed::<'a, Dropped<One<MemoryType, Here>>, A>(bytes, alloc)
-        }
+        SectionKind::Memories => { count_passed::<'a, Dropped<MemoryType>, A>(bytes, alloc) }
         SectionKind::Tables => count_passed::<'a, TableItem<A>, A>(bytes, alloc),
-        SectionKind::Tags => count_passed::<'a, Dropped<One<TagType, Here>>, A>(bytes, alloc),
+        SectionKind::Tags => count_passed::<'a, Dropped<TagType>, A>(bytes, alloc),
         SectionKind::DataCount | SectionKind::Start => {
             drop(read_content(kind, bytes, alloc)?);
             Ok(Some(1))

@@ -6,21 +6,18 @@ ghost use Rattle.wasm_base.specs.Reading.{ReadsNothing};
 ghost use Rattle.wasm_reader_base.specs.declared.fault.ReadFault.TheVariants.{Memory};
 ghost use Rattle.wasm_reader.specs.Sections.{content, section, contents_of, Takes};
 
-use crate::Here;
-use crate::data::{Segment, read_segments};
-use crate::elements::ElementItem;
-use crate::globals::GlobalItem;
-use crate::imports::read_imports;
-use crate::tables::TableItem;
 use std::alloc::{Allocator, Global};
 use wasm_custom::{
     BranchHint, CoreFrame, LinkItem, NameItem, read_hints, read_instances, read_links, read_modules,
     read_names, read_process, read_producers, read_stack,
 };
-use wasm_reader_base::{ReadFault, Readable, read_list, read_whole};
+use wasm_reader_base::{ReadFault, Readable, read_whole};
 use wasm_reader_insn::Body;
 use wasm_types::{TypeEntry, read_types};
-use wasm_sections::{Export, Imports, MemoryType, TagType};
+use wasm_sections::{
+    ElementItem, Export, GlobalItem, Imports, MemoryType, Segment, TableItem, TagType,
+    read_imports, read_segments,
+};
 
 /// What a section is read as.
 #[derive(Clone, Copy, PartialEq, Eq, Debug)]
@@ -134,7 +131,7 @@ pub(crate) fn read_content<'a, A: Allocator + Copy + 'a>(
             Ok(Items::Elements(items))
         }
         SectionKind::Exports => {
-            let items = read_list::<'a, Export<'a>, Here, A>(bytes, alloc)?;
+            let items = read_whole::<'a, Vec<Export<'a>, A>, A>(bytes, alloc)?;
             Ok(Items::Exports(items))
         }
         SectionKind::Functions => {
@@ -150,7 +147,7 @@ pub(crate) fn read_content<'a, A: Allocator + Copy + 'a>(
             Ok(Items::Imports(items))
         }
         SectionKind::Memories => {
-            let items = read_list::<'a, MemoryType, Here, A>(bytes, alloc)?;
+            let items = read_whole::<'a, Vec<MemoryType, A>, A>(bytes, alloc)?;
             Ok(Items::Memories(items))
         }
         SectionKind::Start => {
@@ -162,7 +159,7 @@ pub(crate) fn read_content<'a, A: Allocator + Copy + 'a>(
             Ok(Items::Tables(items))
         }
         SectionKind::Tags => {
-            let items = read_list::<'a, TagType, Here, A>(bytes, alloc)?;
+            let items = read_whole::<'a, Vec<TagType, A>, A>(bytes, alloc)?;
             Ok(Items::Tags(items))
         }
         SectionKind::Names => {

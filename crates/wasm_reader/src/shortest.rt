@@ -9,7 +9,6 @@ ghost use Rattle.wasm_reader_base.specs.Shortest.{AppendsShortest};
 ghost use Rattle.wasm_reader_base.specs.declared.fault.ReadFault.TheVariants.{Memory};
 ghost use Rattle.wasm_reader.specs.Sections.{Contents, content, section, contents_of, kind_in, Shortens};
 
-use crate::imports::append_imports;
 use crate::section::{Items, SectionKind, read_content};
 use std::alloc::Allocator;
 use wasm_base::{Encode, R, encode_frame};
@@ -20,6 +19,7 @@ use wasm_custom::{
 use wasm_reader_base::{ReadFault, Readable, Shorten};
 use wasm_reader_insn::shorten_body;
 use wasm_types::append_types;
+use wasm_sections::append_imports;
 
 /// Appends the shortest text of what the frame of a section holds.
 #[tactic(auto, using(crate::proofs::ShortSections::contents))]

@@ -13,7 +13,13 @@ use Rattle.wasm_base.specs.declared.types.RefType.{RefType}
 use Rattle.wasm_code.specs.Expressions.{expression, expression_text}
 use Rattle.wasm_immediates.specs.Immediates.{where_set}
 use Rattle.wasm_insn.specs.Plain.{Plain}
-use Rattle.wasm_sections.specs.Constants.{Stored, IsStoredIn}
+use Rattle.wasm_sections.specs.Constants.{Stored, IsStoredIn, instructions_of}
+use Rattle.wasm_sections.specs.declared.element_items.ElementFlag.{ElementFlag as ReadFlag}
+use Rattle.wasm_sections.specs.declared.element_items.ElementItem.{ElementItem}
+use Rattle.wasm_sections.specs.declared.element_items.ElementItemMode.{ElementItemMode}
+use Rattle.wasm_sections.specs.declared.element_items.ElementItemMode.TheVariants as modes
+use Rattle.wasm_sections.specs.declared.element_items.ElementList.{ElementList as ReadList}
+use Rattle.wasm_sections.specs.declared.element_items.ElementList.TheVariants as lists
 
 -- ---- tables
 
@@ -235,3 +241,24 @@ element = tagged (numbered flag_code) (λ f. mapped segment_of (pair (place f) (
 -- the kind of element segments
 abbrev pub element_items : Kind (Segment Stored) (Segment (List Plain))
 element_items = record { text = element_text; IsPlain = IsSegment; IsPlainWide = IsSegmentWide; normal_form = element_of; format = element }
+
+-- ---- what was read
+
+-- the flag of an element segment that was read
+abbrev pub element_flag_view : ReadFlag → ElementFlag
+element_flag_view f = record { not_active = f.not_active; second = f.second; expressions = f.expressions }
+
+-- where the elements of a segment that was read go
+abbrev pub place_view : {A : Type 0} → ElementItemMode A → Place (List Plain)
+place_view modes.Passive = passive
+place_view modes.Declared = declared
+place_view (modes.Active table offset) = active table (instructions_of offset)
+
+-- the elements of a segment that was read
+abbrev pub list_view : {A : Type 0} → ReadList A → ElementList (List Plain)
+list_view (lists.Functions fs) = functions fs.items
+list_view (lists.Expressions r es) = expressions r (map instructions_of es.items)
+
+-- the element segment that was read
+abbrev pub element_view : {A : Type 0} → ElementItem A → Segment (List Plain)
+element_view e = record { place = place_view e.mode; elements = list_view e.elements }

@@ -8,8 +8,10 @@ use Rattle.wasm_base.specs.declared.types.ValType.{ValType}
 use Rattle.wasm_code.specs.Expressions.{expression, expression_text}
 use Rattle.wasm_immediates.specs.Immediates.{where_set}
 use Rattle.wasm_insn.specs.Plain.{Plain}
-use Rattle.wasm_sections.specs.Constants.{Stored, IsStoredIn}
+use Rattle.wasm_sections.specs.Constants.{Stored, IsStoredIn, instructions_of}
 use Rattle.wasm_sections.specs.declared.global.GlobalType.{GlobalType}
+use Rattle.wasm_sections.specs.declared.global.GlobalFlags.{GlobalFlags as ReadFlags}
+use Rattle.wasm_sections.specs.declared.global.GlobalItem.{GlobalItem as ReadGlobal}
 
 -- the flags of a global
 pub record GlobalFlags : Type 0 where
@@ -84,3 +86,13 @@ global_item = mapped global_from (pair global_type expression)
 -- the kind of globals
 abbrev pub global_items : Kind GivenGlobal GlobalItem
 global_items = record { text = global_item_text; IsPlain = IsGivenGlobal; IsPlainWide = IsGivenGlobalWide; normal_form = global_item_of; format = global_item }
+
+-- ---- what was read
+
+-- the flags of a global that were read
+abbrev pub global_flags_view : ReadFlags → GlobalFlags
+global_flags_view f = record { mutable = f.mutable; shared = f.shared }
+
+-- the global that was read
+abbrev pub global_view : {A : Type 0} → ReadGlobal A → GlobalItem
+global_view g = record { global_type = g.global_type; init = instructions_of g.init }

@@ -1,5 +1,5 @@
 -- Table types and tables: their texts, and what spells them.
-use Rattle.std.specs.Prelude.{ℕ, ◌^◌, ◌<◌, List, [], ◌∷◌, ◌++◌, Bool, true, false, Option, Some, None, IfSome}
+use Rattle.std.specs.Prelude.{ℕ, ◌^◌, ◌<◌, List, [], ◌∷◌, ◌++◌, Bool, true, false, Option, Some, None, IfSome, option_map}
 use Rattle.wasm_base.specs.Entries.{Kind}
 use Rattle.wasm_base.specs.Formats.{Format, u64, impossible, mapped, tagged, pair, optional, when, one_of, prefixed, is_given}
 use Rattle.wasm_base.specs.Numbers.{Mode, shortest, wide, unsigned_text}
@@ -10,9 +10,11 @@ use Rattle.wasm_base.specs.declared.types.ValType.{ValType}
 use Rattle.wasm_base.specs.declared.types.ValType.TheVariants.{I32, I64}
 use Rattle.wasm_code.specs.Expressions.{expression, expression_text}
 use Rattle.wasm_insn.specs.Plain.{Plain}
-use Rattle.wasm_sections.specs.Constants.{Stored, IsStoredIn}
+use Rattle.wasm_sections.specs.Constants.{Stored, IsStoredIn, instructions_of}
 use Rattle.wasm_sections.specs.Flags.{Flags, flags, flags_code}
 use Rattle.wasm_sections.specs.declared.table.TableType.{TableType}
+use Rattle.wasm_sections.specs.declared.table.Limits.{Limits as ReadLimits}
+use Rattle.wasm_sections.specs.declared.table.TableItem.{TableItem as ReadTable}
 
 -- the flags of a table type, which has no page size
 abbrev pub table_flags : TableType → Flags
@@ -122,3 +124,13 @@ table_item = one_of (mapped without_init table_type) (mapped with_init (prefixed
 -- the kind of tables
 abbrev pub table_items : Kind GivenTable TableItem
 table_items = record { text = table_item_text; IsPlain = IsGivenTable; IsPlainWide = IsGivenTableWide; normal_form = table_item_of; format = table_item }
+
+-- ---- what was read
+
+-- the limits of a table that were read
+abbrev pub limits_view : ReadLimits → Limits
+limits_view l = record { table64 = l.table64; shared = l.shared; minimum = l.minimum; maximum = l.maximum }
+
+-- the table that was read
+abbrev pub table_view : {A : Type 0} → ReadTable A → TableItem
+table_view t = record { table_type = t.table_type; init = option_map instructions_of t.init }

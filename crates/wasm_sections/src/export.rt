@@ -1,14 +1,18 @@
 // Exports and the export section.
 ghost use Rattle.std.specs.Prelude.{◌≡◌, ◌∷◌, ◌++◌, [], ⊤};
 ghost use Rattle.wasm_base.specs.Calls.{Adds};
+ghost use Rattle.wasm_base.specs.Formats.{coded};
 ghost use Rattle.wasm_base.specs.Numbers.{unsigned_text};
+ghost use Rattle.wasm_base.specs.Reading.{UniqueReading};
 ghost use Rattle.wasm_base.specs.Texts.{frame_text, FrameFits};
 ghost use Rattle.wasm_sections.specs.Exports.{export_items, kind_code, export_text, ExportFits, IsExport, ExportItem, item_of, export};
 ghost use Rattle.wasm_sections.specs.declared.export.Export.{Export as Given};
+ghost use Rattle.wasm_sections.specs.declared.export.ExportKind.{ExportKind as Kind};
 
 use crate::counted_section::{CountedSection, ItemKind, RecordOf};
 use std::alloc::{Allocator, Global};
 use wasm_base::{Encode, Items, R, SectionId};
+use wasm_reader_base::{ReadFault, Readable, Spelled};
 
 /// What a module exports.
 ///
@@ -93,5 +97,54 @@ impl<A: Allocator> ExportSection<A> {
         ensures { Adds (frame_text name.now ++ (kind_code kind ∷ [] ++ unsigned_text index)) (FrameFits name.now) self.old self.new result }
     {
         self.add_record(&Export { name, kind, index })
+    }
+}
+
+impl Spelled for ExportKind {
+    ghost Value = { Kind };
+
+    ghost format = { coded kind_code };
+
+    ghost view = { λ kind. kind };
+
+    #[tactic(auto, using(crate::proofs::ExportLaws::export_kind_unique))]
+    fn laws() {}
+}
+
+impl<'a, A: Allocator + Copy> Readable<'a, A> for ExportKind {
+    #[tactic(auto, using(crate::proofs::ReadItems::export_kind_steps))]
+    fn read(bytes: &'a [u8], alloc: A) -> Result<(ExportKind, &'a [u8]), ReadFault> {
+        let (code, rest) = <u8 as Readable<'a, A>>::read(bytes, alloc)?;
+        match code {
+            0x00 => Ok((ExportKind::Func, rest)),
+            0x01 => Ok((ExportKind::Table, rest)),
+            0x02 => Ok((ExportKind::Memory, rest)),
+            0x03 => Ok((ExportKind::Global, rest)),
+            0x04 => Ok((ExportKind::Tag, rest)),
+            _ => Err(ReadFault::UnknownTag),
+        }
+    }
+}
+
+impl<'a> Spelled for Export<'a> {
+    ghost Value = { ExportItem };
+
+    ghost format = { export };
+
+    ghost view = { item_of };
+
+    #[tactic(auto, using(crate::proofs::ExportLaws::export_unique))]
+    fn laws()
+        ensures { UniqueReading export }
+    {}
+}
+
+impl<'a, A: Allocator + Copy> Readable<'a, A> for Export<'a> {
+    #[tactic(auto, using(crate::proofs::ReadItems::export_steps))]
+    fn read(bytes: &'a [u8], alloc: A) -> Result<(Export<'a>, &'a [u8]), ReadFault> {
+        let ((name, (kind, index)), rest) = <(&'a str, (ExportKind, u32)) as Readable<'a, A>>::read(
+            bytes, alloc,
+        )?;
+        Ok((Export { name, kind, index }, rest))
     }
 }

@@ -1,14 +1,18 @@
 // Global types and the global section.
 ghost use Rattle.std.specs.Prelude.{◌≡◌, ◌++◌, ⊤};
 ghost use Rattle.wasm_base.specs.Calls.{Adds};
+ghost use Rattle.wasm_base.specs.Formats.{coded};
 ghost use Rattle.wasm_code.specs.Expressions.{expression_text};
-ghost use Rattle.wasm_sections.specs.Globals.{global_items, global_flags, global_code, global_text, GivenGlobal, GlobalItem, global_item_text, IsGivenGlobal, global_item_of, global_item};
+ghost use Rattle.wasm_sections.specs.Globals.{global_items, global_flags, global_code, global_text, GivenGlobal, GlobalItem as GlobalModel, global_item_text, IsGivenGlobal, global_item_of, global_item, GlobalFlags as GlobalBits, global_type, global_flags_view, global_view};
+ghost use Rattle.wasm_sections.specs.declared.global.GlobalType.{GlobalType as TypeModel};
 
 use crate::counted_section::{CountedSection, ItemKind};
 use crate::flags::where_set;
 use std::alloc::{Allocator, Global};
 use wasm_base::{Encode, Items, Lent, R, SectionId, ValType};
 use wasm_code::ConstExpr;
+use wasm_reader_base::{Dropped, Passed, ReadFault, Readable, Shorten, Spelled};
+use wasm_reader_insn::Expression;
 
 /// The globals that a module defines.
 ///
@@ -58,7 +62,7 @@ impl Encode for GlobalType {
 impl Items for GlobalItems {
     ghost Record = { GivenGlobal };
 
-    ghost Item = { GlobalItem };
+    ghost Item = { GlobalModel };
 
     ghost kind = { global_items };
 
@@ -90,5 +94,115 @@ impl<A: Allocator> GlobalSection<A> {
         ensures { Adds global.now ⊤ self.old self.new result }
     {
         self.add_piece(global)
+    }
+}
+
+/// The flags of a global.
+#[derive(Clone, Copy, Debug)]
+struct GlobalFlags {
+    mutable: bool,
+    shared: bool,
+}
+
+impl Spelled for GlobalFlags {
+    ghost Value = { GlobalBits };
+
+    ghost format = { coded global_code };
+
+    ghost view = { global_flags_view };
+
+    #[tactic(auto, using(crate::proofs::GlobalLaws::global_flags_unique))]
+    fn laws() {}
+}
+
+impl<'a, A: Allocator + Copy> Readable<'a, A> for GlobalFlags {
+    #[tactic(auto, using(crate::proofs::ReadGlobals::flag_steps))]
+    fn read(bytes: &'a [u8], alloc: A) -> Result<(GlobalFlags, &'a [u8]), ReadFault> {
+        let (byte, rest) = <u8 as Readable<'a, A>>::read(bytes, alloc)?;
+        if byte >= 0x04 {
+            return Err(ReadFault::UnknownTag);
+        }
+        let flags = GlobalFlags {
+            mutable: byte % 2 == 1,
+            shared: byte / 2 % 2 == 1,
+        };
+        Ok((flags, rest))
+    }
+}
+
+impl Spelled for GlobalType {
+    ghost Value = { TypeModel };
+
+    ghost format = { global_type };
+
+    ghost view = { λ global. global };
+
+    #[tactic(auto, using(crate::proofs::GlobalLaws::global_unique))]
+    fn laws() {}
+}
+
+impl<'a, A: Allocator + Copy> Readable<'a, A> for GlobalType {
+    #[tactic(auto, using(crate::proofs::ReadGlobals::type_steps))]
+    fn read(bytes: &'a [u8], alloc: A) -> Result<(GlobalType, &'a [u8]), ReadFault> {
+        let ((val_type, flags), rest) = <(ValType, GlobalFlags) as Readable<'a, A>>::read(
+            bytes, alloc,
+        )?;
+        let global_type = GlobalType {
+            val_type,
+            mutable: flags.mutable,
+            shared: flags.shared,
+        };
+        Ok((global_type, rest))
+    }
+}
+
+/// A global: its type, and the expression of its first value.
+#[derive(Debug, Drop)]
+pub struct GlobalItem<A: Allocator = Global> {
+    pub global_type: GlobalType,
+    pub init: Expression<A>,
+}
+
+impl<A: Allocator> Spelled for GlobalItem<A> {
+    ghost Value = { GlobalModel };
+
+    ghost format = { global_item };
+
+    ghost view = { global_view };
+
+    #[tactic(auto, using(crate::proofs::GlobalLaws::global_item_unique))]
+    fn laws() {}
+}
+
+impl<'a, A: Allocator + Copy> Readable<'a, A> for GlobalItem<A> {
+    #[tactic(auto, using(crate::proofs::ReadGlobals::item_steps))]
+    fn read(bytes: &'a [u8], alloc: A) -> Result<(GlobalItem<A>, &'a [u8]), ReadFault> {
+        let ((global_type, init), rest) = <(GlobalType, Expression<A>) as Readable<'a, A>>::read(
+            bytes, alloc,
+        )?;
+        Ok((GlobalItem { global_type, init }, rest))
+    }
+}
+
+impl<A: Allocator> Shorten for GlobalItem<A> {
+    #[tactic(auto, using(crate::proofs::ShortItems::global_appended))]
+    fn append_shortest<B: Allocator>(&self, out: &mut Vec<u8, B>) -> R<()> {
+        self.global_type.encode(out)?;
+        self.init.append_shortest(out)
+    }
+}
+
+impl<'a, A: Allocator + Copy> Passed<'a, A> for GlobalItem<A> {
+    ghost Value = { GlobalModel };
+
+    ghost format = { global_item };
+
+    #[tactic(auto, using(crate::proofs::GlobalLaws::global_item_unique))]
+    fn laws() {}
+
+    #[tactic(auto, using(crate::proofs::ReadGlobals::item_steps))]
+    fn pass(bytes: &'a [u8], alloc: A) -> Result<&'a [u8], ReadFault> {
+        let rest = <(Dropped<GlobalType>, Expression<A>) as Passed<'a, A>>::pass(bytes, alloc)?;
+        Ok(rest)
     }
 }

@@ -1,9 +1,16 @@
 // Imports and the import section.
-ghost use Rattle.std.specs.Prelude.{◌≡◌, ◌≢◌, ◌++◌, IfOk, ⊤};
+ghost use Rattle.std.specs.Prelude.{◌≡◌, ◌≢◌, ◌++◌, IfOk, ⊤, ◌≤◌, ◌∷◌, [], List, ℕ, IfErr, MatchOption, OnOk, map};
 ghost use Rattle.wasm_base.specs.Calls.{Adds};
+ghost use Rattle.wasm_base.specs.Formats.{name, pair, prefixed, vec};
+ghost use Rattle.wasm_base.specs.Going.{FillsNothing};
+ghost use Rattle.wasm_base.specs.Numbers.{wide};
+ghost use Rattle.wasm_base.specs.Reading.{UniqueReading, ReadsNothing};
 ghost use Rattle.wasm_base.specs.Texts.{frame_text, FrameFits};
 ghost use Rattle.wasm_base.specs.declared.refused.Refused.TheVariants.{TooLong};
-ghost use Rattle.wasm_sections.specs.Imports.{import_items, entity_text, ImportItem, import_text, ImportFits, IsImport, import_format, named_text, import_item, compact_item, imports_item};
+ghost use Rattle.wasm_reader_base.specs.Shortest.{AppendsShortest};
+ghost use Rattle.wasm_reader_base.specs.declared.fault.ReadFault.TheVariants.{Memory};
+ghost use Rattle.wasm_sections.specs.Imports.{import_items, entity_text, ImportItem, import_text, ImportFits, IsImport, import_format, named_text, import_item, compact_item, imports_item, entity, group};
+ghost use Rattle.wasm_sections.specs.declared.import.EntityType.{EntityType as EntityModel};
 ghost use Rattle.wasm_sections.specs.declared.import.EntityType.TheVariants as entities;
 
 use crate::counted_section::{CountedSection, ItemKind, RecordOf};
@@ -16,6 +23,7 @@ use wasm_base::{
     CORE_FUNCTION_EXACT_SORT, CORE_FUNCTION_SORT, CORE_GLOBAL_SORT, CORE_MEMORY_SORT,
     CORE_TABLE_SORT, CORE_TAG_SORT, CowSlice, Encode, Items, R, SectionId,
 };
+use wasm_reader_base::{Dropped, Passed, ReadFault, Readable, Spelled, pass_many, read_whole};
 
 /// What a module imports.
 ///
@@ -224,5 +232,189 @@ impl<A: Allocator> ImportSection<A> {
         ensures { Adds (import_text (imports_item imports.entry)) (ImportFits (imports_item imports.entry)) self.old self.new result }
     {
         self.add_record(&imports)
+    }
+}
+
+impl Spelled for EntityType {
+    ghost Value = { EntityModel };
+
+    ghost format = { entity };
+
+    ghost view = { λ entity. entity };
+
+    #[tactic(auto, using(crate::proofs::ImportLaws::entity_unique))]
+    fn laws() {}
+}
+
+impl<'a, A: Allocator + Copy> Readable<'a, A> for EntityType {
+    #[tactic(auto, using(crate::proofs::ReadImports::entity_steps))]
+    fn read(bytes: &'a [u8], alloc: A) -> Result<(EntityType, &'a [u8]), ReadFault> {
+        let (kind, rest) = <u8 as Readable<'a, A>>::read(bytes, alloc)?;
+        match kind {
+            0x00 => {
+                let (index, rest) = <u32 as Readable<'a, A>>::read(rest, alloc)?;
+                Ok((EntityType::Function(index), rest))
+            }
+            0x01 => {
+                let (ty, rest) = <TableType as Readable<'a, A>>::read(rest, alloc)?;
+                Ok((EntityType::Table(ty), rest))
+            }
+            0x02 => {
+                let (ty, rest) = <MemoryType as Readable<'a, A>>::read(rest, alloc)?;
+                Ok((EntityType::Memory(ty), rest))
+            }
+            0x03 => {
+                let (ty, rest) = <GlobalType as Readable<'a, A>>::read(rest, alloc)?;
+                Ok((EntityType::Global(ty), rest))
+            }
+            0x04 => {
+                let (ty, rest) = <TagType as Readable<'a, A>>::read(rest, alloc)?;
+                Ok((EntityType::Tag(ty), rest))
+            }
+            0x20 => {
+                let (index, rest) = <u32 as Readable<'a, A>>::read(rest, alloc)?;
+                Ok((EntityType::FunctionExact(index), rest))
+            }
+            _ => Err(ReadFault::UnknownTag),
+        }
+    }
+}
+
+impl<'a> Spelled for ImportCompact<'a> {
+    ghost Value = { List ℕ × EntityModel };
+
+    ghost format = { pair name entity };
+
+    ghost view = { compact_item };
+
+    fn laws()
+        ensures { UniqueReading (pair name entity) }
+    {
+        <(&'a str, EntityType) as Spelled>::laws();
+    }
+}
+
+impl<'a, A: Allocator + Copy> Readable<'a, A> for ImportCompact<'a> {
+    fn read(bytes: &'a [u8], alloc: A) -> Result<(ImportCompact<'a>, &'a [u8]), ReadFault> {
+        let ((name, ty), rest) = <(&'a str, EntityType) as Readable<'a, A>>::read(bytes, alloc)?;
+        Ok((ImportCompact { name, ty }, rest))
+    }
+}
+
+/// The byte of a group, and what follows it, where no single import stands there: behind an empty name the byte is no entity's.
+#[tactic(auto, using(crate::proofs::ReadImports::group_steps))]
+fn group_kind(bytes: &[u8]) -> Option<(u8, &[u8])>
+    ensures { MatchOption result (ReadsNothing (prefixed (0x00 ∷ []) group) wide bytes.now) (λ x. (bytes.now ≡ 0x00 ∷ x.0 ∷ x.1.now) × (0x7E ≤ x.0)) }
+{
+    let [first, kind, rest @ ..] = bytes else {
+        return None;
+    };
+    if *first != 0x00 {
+        return None;
+    }
+    if *kind < 0x7E {
+        return None;
+    }
+    Some((*kind, rest))
+}
+
+impl<'a, A: Allocator> Spelled for Imports<'a, A> {
+    ghost Value = { ImportItem };
+
+    ghost format = { import_format };
+
+    ghost view = { imports_item };
+
+    #[tactic(auto, using(crate::proofs::ImportLaws::import_unique))]
+    fn laws()
+        ensures { UniqueReading import_format }
+    {}
+}
+
+impl<'a, A: Allocator + Copy> Readable<'a, A> for Imports<'a, A> {
+    #[tactic(auto, using(crate::proofs::ReadImports::import_steps))]
+    fn read(bytes: &'a [u8], alloc: A) -> Result<(Imports<'a, A>, &'a [u8]), ReadFault> {
+        let (module, rest) = <&'a str as Readable<'a, A>>::read(bytes, alloc)?;
+        let Some((kind, rest)) = group_kind(rest) else {
+            let (name, rest) = <&'a str as Readable<'a, A>>::read(rest, alloc)?;
+            let (ty, rest) = <EntityType as Readable<'a, A>>::read(rest, alloc)?;
+            return Ok((Imports::Single(Import { module, name, ty }), rest));
+        };
+        match kind {
+            0x7F => {
+                let (items, rest) = <Vec<ImportCompact<'a>, A> as Readable<'a, A>>::read(
+                    rest, alloc,
+                )?;
+                let items = CowSlice::Owned(items);
+                Ok((Imports::Compact1 { module, items }, rest))
+            }
+            0x7E => {
+                let (ty, rest) = <EntityType as Readable<'a, A>>::read(rest, alloc)?;
+                let (names, rest) = <Vec<&'a str, A> as Readable<'a, A>>::read(rest, alloc)?;
+                let names = CowSlice::Owned(names);
+                Ok((Imports::Compact2 { module, ty, names }, rest))
+            }
+            _ => Err(ReadFault::UnknownTag),
+        }
+    }
+}
+
+/// Imports, and groups of them, behind their number, which all of the bytes spell. Memory is taken for those that stand there, and not by their number.
+pub fn read_imports<'a, A: Allocator + Copy + 'a>(
+    bytes: &'a [u8],
+    alloc: A,
+) -> Result<Vec<Imports<'a, A>, A>, ReadFault>
+    ensures found { IfOk result (λ x. vec import_format wide bytes.now (map imports_item x.items)) }
+    ensures none { IfErr result (λ e. e ≢ Memory → FillsNothing (vec import_format) bytes.now) }
+{
+    read_whole::<'a, Vec<Imports<'a, A>, A>, A>(bytes, alloc)
+}
+
+/// Appends imports, and groups of them, behind their number.
+#[tactic(auto, using(wasm_reader_base::proofs::ShortTexts::members_start))]
+pub fn append_imports<A: Allocator, B: Allocator>(
+    imports: &[Imports<'_, A>],
+    out: &mut Vec<u8, B>,
+) -> R<()>
+    ensures { OnOk result (AppendsShortest (vec import_format) (map imports_item imports.now) out.old.items out.new.items) }
+{
+    imports.len().encode(out)?;
+    for import in imports {
+        import.encode(out)?;
+    }
+    Ok(())
+}
+
+/// An import or a group of imports.
+pub struct PassedImports;
+
+impl<'a, A: Allocator + Copy> Passed<'a, A> for PassedImports {
+    ghost Value = { ImportItem };
+
+    ghost format = { import_format };
+
+    #[tactic(auto, using(crate::proofs::ImportLaws::import_unique))]
+    fn laws() {}
+
+    #[tactic(auto, using(crate::proofs::ReadImports::import_steps))]
+    fn pass(bytes: &'a [u8], alloc: A) -> Result<&'a [u8], ReadFault> {
+        let (_module, rest) = <&'a str as Readable<'a, A>>::read(bytes, alloc)?;
+        let Some((kind, rest)) = group_kind(rest) else {
+            let (_name, rest) = <&'a str as Readable<'a, A>>::read(rest, alloc)?;
+            let (_type, rest) = <EntityType as Readable<'a, A>>::read(rest, alloc)?;
+            return Ok(rest);
+        };
+        match kind {
+            0x7F => {
+                let (_count, rest) = pass_many::<'a, Dropped<ImportCompact<'a>>, A>(rest, alloc)?;
+                Ok(rest)
+            }
+            0x7E => {
+                let (_type, rest) = <EntityType as Readable<'a, A>>::read(rest, alloc)?;
+                let (_count, rest) = pass_many::<'a, Dropped<&'a str>, A>(rest, alloc)?;
+                Ok(rest)
+            }
+            _ => Err(ReadFault::UnknownTag),
+        }
     }
 }

@@ -1,7 +1,7 @@
 // Memory types and the memory section.
 ghost use Rattle.std.specs.Prelude.{◌≡◌, ◌^◌, ◌<◌, ⊤};
 ghost use Rattle.wasm_base.specs.Calls.{Adds};
-ghost use Rattle.wasm_sections.specs.Flags.{flags_code};
+ghost use Rattle.wasm_sections.specs.Flags.{flags_code, Flags as FlagBits, flags as flags_format, flags_view};
 ghost use Rattle.wasm_sections.specs.Memories.{memory_items, memory_flags, memory_text, IsMemory, memory_type, page_exponent};
 ghost use Rattle.wasm_sections.specs.declared.memory.MemoryType.{MemoryType as Memory};
 
@@ -9,6 +9,7 @@ use crate::counted_section::{CountedSection, ItemKind, RecordOf};
 use crate::flags::where_set;
 use std::alloc::{Allocator, Global};
 use wasm_base::{Encode, Items, Optional, R, SectionId};
+use wasm_reader_base::{ReadFault, Readable, Spelled, read_optional};
 
 /// The memories that a module defines.
 ///
@@ -110,5 +111,71 @@ impl<A: Allocator> MemorySection<A> {
         ensures { Adds (memory_text memory_type) ⊤ self.old self.new result }
     {
         self.add_record(&memory_type)
+    }
+}
+
+/// The flags of limits.
+#[derive(Clone, Copy, Debug)]
+pub(crate) struct Flags {
+    pub(crate) has_maximum: bool,
+    pub(crate) shared: bool,
+    pub(crate) is_64: bool,
+    pub(crate) has_page_size: bool,
+}
+
+impl Spelled for Flags {
+    ghost Value = { FlagBits };
+
+    ghost format = { flags_format };
+
+    ghost view = { flags_view };
+
+    #[tactic(auto, using(crate::proofs::FlagLaws::flags_unique))]
+    fn laws() {}
+}
+
+impl<'a, A: Allocator + Copy> Readable<'a, A> for Flags {
+    #[tactic(auto, using(crate::proofs::ReadLimits::flag_steps))]
+    fn read(bytes: &'a [u8], alloc: A) -> Result<(Flags, &'a [u8]), ReadFault> {
+        let (byte, rest) = <u8 as Readable<'a, A>>::read(bytes, alloc)?;
+        if byte >= 0x10 {
+            return Err(ReadFault::UnknownTag);
+        }
+        let flags = Flags {
+            has_maximum: byte % 2 == 1,
+            shared: byte / 2 % 2 == 1,
+            is_64: byte / 4 % 2 == 1,
+            has_page_size: byte / 8 % 2 == 1,
+        };
+        Ok((flags, rest))
+    }
+}
+
+impl Spelled for MemoryType {
+    ghost Value = { Memory };
+
+    ghost format = { memory_type };
+
+    ghost view = { λ memory. memory };
+
+    #[tactic(auto, using(crate::proofs::MemoryLaws::memory_unique))]
+    fn laws() {}
+}
+
+impl<'a, A: Allocator + Copy> Readable<'a, A> for MemoryType {
+    #[tactic(auto, using(crate::proofs::ReadLimits::memory_steps))]
+    fn read(bytes: &'a [u8], alloc: A) -> Result<(MemoryType, &'a [u8]), ReadFault> {
+        let (flags, rest) = <Flags as Readable<'a, A>>::read(bytes, alloc)?;
+        let (minimum, rest) = <u64 as Readable<'a, A>>::read(rest, alloc)?;
+        let (maximum, rest) = read_optional::<'a, u64, A>(flags.has_maximum, rest, alloc)?;
+        let (page_size_log2, rest) = read_optional::<'a, u32, A>(flags.has_page_size, rest, alloc)?;
+        let memory = MemoryType {
+            minimum,
+            maximum,
+            memory64: flags.is_64,
+            shared: flags.shared,
+            page_size_log2,
+        };
+        Ok((memory, rest))
     }
 }

@@ -3,13 +3,17 @@ ghost use Rattle.std.specs.Prelude.{◌≡◌, ◌++◌, ⊤};
 ghost use Rattle.wasm_base.specs.Calls.{Adds};
 ghost use Rattle.wasm_code.specs.Expressions.{expression_text};
 ghost use Rattle.wasm_sections.specs.Flags.{flags_code};
-ghost use Rattle.wasm_sections.specs.Tables.{table_items, table_flags, table_text, GivenTable, TableItem, before_init, table_item_text, IsGivenTable, table_item_of, table_item, index_type_of};
+ghost use Rattle.wasm_sections.specs.Tables.{table_items, table_flags, table_text, GivenTable, TableItem as TableModel, before_init, table_item_text, IsGivenTable, table_item_of, table_item, index_type_of, Limits as LimitsModel, limits, table_type, limits_view, table_view};
+ghost use Rattle.wasm_sections.specs.declared.table.TableType.{TableType as TypeModel};
 
 use crate::counted_section::{CountedSection, ItemKind, RecordOf};
 use crate::flags::where_set;
+use crate::memory::Flags;
 use std::alloc::{Allocator, Global};
 use wasm_base::{Encode, Items, Lent, Optional, R, RefType, SectionId, ValType};
 use wasm_code::ConstExpr;
+use wasm_reader_base::{Dropped, Passed, ReadFault, Readable, Shorten, Spelled, read_optional};
+use wasm_reader_insn::Expression;
 
 /// The tables that a module defines.
 ///
@@ -76,7 +80,7 @@ impl Encode for TableType {
 impl Items for TableItems {
     ghost Record = { GivenTable };
 
-    ghost Item = { TableItem };
+    ghost Item = { TableModel };
 
     ghost kind = { table_items };
 
@@ -115,5 +119,150 @@ impl<A: Allocator> TableSection<A> {
         ensures { Adds (before_init ++ (table_text table_type ++ expression_text init.now)) ⊤ self.old self.new result }
     {
         self.add_record(&([0x40u8, 0x00], table_type, Lent(init)))
+    }
+}
+
+/// The limits of a table: all of its type but the type of its elements.
+#[derive(Clone, Copy, Debug)]
+struct Limits {
+    table64: bool,
+    shared: bool,
+    minimum: u64,
+    maximum: Option<u64>,
+}
+
+impl Spelled for Limits {
+    ghost Value = { LimitsModel };
+
+    ghost format = { limits };
+
+    ghost view = { limits_view };
+
+    #[tactic(auto, using(crate::proofs::TableLaws::limits_unique))]
+    fn laws() {}
+}
+
+impl<'a, A: Allocator + Copy> Readable<'a, A> for Limits {
+    #[tactic(auto, using(crate::proofs::ReadLimits::limits_steps))]
+    fn read(bytes: &'a [u8], alloc: A) -> Result<(Limits, &'a [u8]), ReadFault> {
+        let (flags, rest) = <Flags as Readable<'a, A>>::read(bytes, alloc)?;
+        if flags.has_page_size {
+            return Err(ReadFault::UnknownTag);
+        }
+        let (minimum, rest) = <u64 as Readable<'a, A>>::read(rest, alloc)?;
+        let (maximum, rest) = read_optional::<'a, u64, A>(flags.has_maximum, rest, alloc)?;
+        let limits = Limits {
+            table64: flags.is_64,
+            shared: flags.shared,
+            minimum,
+            maximum,
+        };
+        Ok((limits, rest))
+    }
+}
+
+impl Spelled for TableType {
+    ghost Value = { TypeModel };
+
+    ghost format = { table_type };
+
+    ghost view = { λ table. table };
+
+    #[tactic(auto, using(crate::proofs::TableLaws::table_unique))]
+    fn laws() {}
+}
+
+impl<'a, A: Allocator + Copy> Readable<'a, A> for TableType {
+    #[tactic(auto, using(crate::proofs::ReadLimits::table_steps))]
+    fn read(bytes: &'a [u8], alloc: A) -> Result<(TableType, &'a [u8]), ReadFault> {
+        let ((element_type, limits), rest) = <(RefType, Limits) as Readable<'a, A>>::read(
+            bytes, alloc,
+        )?;
+        let table = TableType {
+            element_type,
+            table64: limits.table64,
+            minimum: limits.minimum,
+            maximum: limits.maximum,
+            shared: limits.shared,
+        };
+        Ok((table, rest))
+    }
+}
+
+/// What stands before a table with a first value.
+const BEFORE_INIT: [u8; 2] = [0x40, 0x00];
+
+/// A table: its type, and the expression of its elements' first value where one is given.
+#[derive(Debug, Drop)]
+pub struct TableItem<A: Allocator = Global> {
+    pub table_type: TableType,
+    pub init: Option<Expression<A>>,
+}
+
+impl<A: Allocator> Spelled for TableItem<A> {
+    ghost Value = { TableModel };
+
+    ghost format = { table_item };
+
+    ghost view = { table_view };
+
+    #[tactic(auto, using(crate::proofs::TableLaws::table_item_unique))]
+    fn laws() {}
+}
+
+impl<'a, A: Allocator + Copy> Readable<'a, A> for TableItem<A> {
+    #[tactic(auto, using(crate::proofs::ReadTables::table_steps))]
+    fn read(bytes: &'a [u8], alloc: A) -> Result<(TableItem<A>, &'a [u8]), ReadFault> {
+        let (first, rest) = <u8 as Readable<'a, A>>::read(bytes, alloc)?;
+        if first != 0x40 {
+            let (table_type, rest) = <TableType as Readable<'a, A>>::read(bytes, alloc)?;
+            let init = None;
+            return Ok((TableItem { table_type, init }, rest));
+        }
+        let (second, rest) = <u8 as Readable<'a, A>>::read(rest, alloc)?;
+        if second != 0x00 {
+            return Err(ReadFault::UnknownTag);
+        }
+        let ((table_type, init), rest) = <(TableType, Expression<A>) as Readable<'a, A>>::read(
+            rest, alloc,
+        )?;
+        let init = Some(init);
+        Ok((TableItem { table_type, init }, rest))
+    }
+}
+
+impl<A: Allocator> Shorten for TableItem<A> {
+    #[tactic(auto, using(crate::proofs::ShortItems::table_appended, crate::proofs::ShortItems::table_init_appended))]
+    fn append_shortest<B: Allocator>(&self, out: &mut Vec<u8, B>) -> R<()> {
+        let Some(init) = &self.init else {
+            return self.table_type.encode(out);
+        };
+        BEFORE_INIT.encode(out)?;
+        self.table_type.encode(out)?;
+        init.append_shortest(out)
+    }
+}
+
+impl<'a, A: Allocator + Copy> Passed<'a, A> for TableItem<A> {
+    ghost Value = { TableModel };
+
+    ghost format = { table_item };
+
+    #[tactic(auto, using(crate::proofs::TableLaws::table_item_unique))]
+    fn laws() {}
+
+    #[tactic(auto, using(crate::proofs::ReadTables::table_steps))]
+    fn pass(bytes: &'a [u8], alloc: A) -> Result<&'a [u8], ReadFault> {
+        let (first, rest) = <u8 as Readable<'a, A>>::read(bytes, alloc)?;
+        if first != 0x40 {
+            let (_type, rest) = <TableType as Readable<'a, A>>::read(bytes, alloc)?;
+            return Ok(rest);
+        }
+        let (second, rest) = <u8 as Readable<'a, A>>::read(rest, alloc)?;
+        if second != 0x00 {
+            return Err(ReadFault::UnknownTag);
+        }
+        let rest = <(Dropped<TableType>, Expression<A>) as Passed<'a, A>>::pass(rest, alloc)?;
+        Ok(rest)
     }
 }

@@ -1,12 +1,15 @@
 // Tag types and the tag section.
 ghost use Rattle.std.specs.Prelude.{◌≡◌, ⊤};
 ghost use Rattle.wasm_base.specs.Calls.{Adds};
+ghost use Rattle.wasm_base.specs.Formats.{coded};
 ghost use Rattle.wasm_sections.specs.Tags.{tag_items, tag_code, tag_text, IsTag, tag_type};
+ghost use Rattle.wasm_sections.specs.declared.tag.TagKind.{TagKind as Kind};
 ghost use Rattle.wasm_sections.specs.declared.tag.TagType.{TagType as Tag};
 
 use crate::counted_section::{CountedSection, ItemKind, RecordOf};
 use std::alloc::{Allocator, Global};
 use wasm_base::{Encode, Items, R, SectionId};
+use wasm_reader_base::{ReadFault, Readable, Spelled};
 
 /// The tags that a module defines.
 ///
@@ -88,5 +91,53 @@ impl<A: Allocator> TagSection<A> {
         ensures { Adds (tag_text tag_type) ⊤ self.old self.new result }
     {
         self.add_record(&tag_type)
+    }
+}
+
+impl Spelled for TagKind {
+    ghost Value = { Kind };
+
+    ghost format = { coded tag_code };
+
+    ghost view = { λ kind. kind };
+
+    #[tactic(auto, using(crate::proofs::TagLaws::tag_kind_unique))]
+    fn laws() {}
+}
+
+impl<'a, A: Allocator + Copy> Readable<'a, A> for TagKind {
+    #[tactic(auto, using(crate::proofs::ReadItems::tag_kind_steps))]
+    fn read(bytes: &'a [u8], alloc: A) -> Result<(TagKind, &'a [u8]), ReadFault> {
+        let (code, rest) = <u8 as Readable<'a, A>>::read(bytes, alloc)?;
+        if code == 0x00 {
+            Ok((TagKind::Exception, rest))
+        } else {
+            Err(ReadFault::UnknownTag)
+        }
+    }
+}
+
+impl Spelled for TagType {
+    ghost Value = { Tag };
+
+    ghost format = { tag_type };
+
+    ghost view = { λ tag. tag };
+
+    #[tactic(auto, using(crate::proofs::TagLaws::tag_unique))]
+    fn laws() {}
+}
+
+impl<'a, A: Allocator + Copy> Readable<'a, A> for TagType {
+    #[tactic(auto, using(crate::proofs::ReadItems::tag_steps))]
+    fn read(bytes: &'a [u8], alloc: A) -> Result<(TagType, &'a [u8]), ReadFault> {
+        let ((kind, func_type_idx), rest) = <(TagKind, u32) as Readable<'a, A>>::read(
+            bytes, alloc,
+        )?;
+        let tag = TagType {
+            kind,
+            func_type_idx,
+        };
+        Ok((tag, rest))
     }
 }

@@ -1,9 +1,0 @@
-use Rattle.wasm_reader_base.proofs.Faults.{fault_stays}
-use Rattle.wasm_reader.proofs.ReadItems.{export_none, export_reads}
-use Rattle.wasm_reader.proofs.exports.ExportItemHere.read_item.Goals as goal
-
-pub returns-in_err-name-clause-none : goal.returns-in_err-name-clause-none
-returns-in_err-name-clause-none g c = fault_stays c.from_residual.result _ c.from_residual.ensures.1 λ n. export_none c.args.bytes.now (c.in_err-name.ensures.none n)
-
-pub returns-clause-found : goal.returns-clause-found
-returns-clause-found g c = search (export_reads, c.in_ok-name.ensures.found)

@@ -1,6 +1,0 @@
-use Rattle.wasm_reader_base.proofs.Faults.{fault_stays}
-use Rattle.wasm_reader.proofs.ReadItems.{export_kind_none}
-use Rattle.wasm_reader.proofs.exports.ExportKindItemHere.read_item.Goals as goal
-
-pub returns-in_err-code-clause-none : goal.returns-in_err-code-clause-none
-returns-in_err-code-clause-none g c = fault_stays c.from_residual.result _ c.from_residual.ensures.1 λ n. export_kind_none c.args.bytes.now (c.in_err-code.ensures.none n)

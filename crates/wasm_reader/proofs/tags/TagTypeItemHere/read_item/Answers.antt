@@ -1,9 +1,0 @@
-use Rattle.wasm_reader_base.proofs.Faults.{fault_stays}
-use Rattle.wasm_reader.proofs.ReadItems.{tag_none, tag_reads}
-use Rattle.wasm_reader.proofs.tags.TagTypeItemHere.read_item.Goals as goal
-
-pub returns-in_err-kind-clause-none : goal.returns-in_err-kind-clause-none
-returns-in_err-kind-clause-none g c = fault_stays c.from_residual.result _ c.from_residual.ensures.1 λ n. tag_none c.args.bytes.now (c.in_err-kind.ensures.none n)
-
-pub returns-clause-found : goal.returns-clause-found
-returns-clause-found g c = search (tag_reads, c.in_ok-kind.ensures.found)

@@ -1,0 +1,22 @@
+use Rattle.wasm_reader_base.proofs.Faults.{fault_stays}
+use Rattle.wasm_sections.proofs.ReadElements.{functions_read, functions_no_kind, functions_other, functions_none, functions_untold, functions_none_untold}
+use Rattle.wasm_sections.proofs.element_items.read_functions.Goals as goal
+
+pub returns-in_err-kind-clause-none : goal.returns-in_err-kind-clause-none
+returns-in_err-kind-clause-none g c = fault_stays c.from_residual.result _ c.from_residual.ensures.1 λ n. functions_no_kind c.args.told c.args.bytes.now c.if-told.true (c.in_err-kind.ensures.none n)
+
+pub returns-then-kind-ne0-clause-none : goal.returns-then-kind-ne0-clause-none
+returns-then-kind-ne0-clause-none g c = λ n. functions_other c.args.told c.args.bytes.now _ _ c.if-told.true c.in_ok-kind.ensures.found c.if-kind-ne0.true
+
+pub returns-in_err-functions-clause-none : goal.returns-in_err-functions-clause-none
+returns-in_err-functions-clause-none g c = fault_stays c.from_residual-in_err-functions.result _ c.from_residual-in_err-functions.ensures.1 λ n.
+    functions_none c.args.told c.args.bytes.now _ _ c.if-told.true c.in_ok-kind.ensures.found c.if-kind-ne0.false (c.in_err-functions.ensures.none n)
+
+pub returns-then-told-clause-found : goal.returns-then-told-clause-found
+returns-then-told-clause-found g c = functions_read c.args.told c.args.bytes.now _ _ _ _ c.if-told.true c.in_ok-kind.ensures.found c.if-kind-ne0.false c.in_ok-functions.ensures.found
+
+pub returns-in_err-functions-2-clause-none : goal.returns-in_err-functions-2-clause-none
+returns-in_err-functions-2-clause-none g c = fault_stays c.from_residual-in_err-functions-2.result _ c.from_residual-in_err-functions-2.ensures.1 λ n. functions_none_untold c.args.told c.args.bytes.now c.if-told.false (c.in_err-functions-2.ensures.none n)
+
+pub returns-clause-found : goal.returns-clause-found
+returns-clause-found g c = functions_untold c.args.told c.args.bytes.now _ _ c.if-told.false c.in_ok-functions-2.ensures.found

@@ -1,0 +1,416 @@
+// Element segments that were read.
+ghost use Rattle.std.specs.Prelude.{◌≡◌, true, false, ◌≢◌, List, IfOk, IfErr, OnOk, map};
+ghost use Rattle.wasm_base.specs.Formats.{is_given, numbered};
+ghost use Rattle.wasm_base.specs.Numbers.{wide};
+ghost use Rattle.wasm_base.specs.Reading.{Reads, ReadsNothing};
+ghost use Rattle.wasm_insn.specs.Plain.{Plain};
+ghost use Rattle.wasm_reader_base.specs.Shortest.{AppendsShortest};
+ghost use Rattle.wasm_reader_base.specs.declared.fault.ReadFault.TheVariants.{Memory};
+ghost use Rattle.wasm_sections.specs.Constants.{instructions_of};
+ghost use Rattle.wasm_sections.specs.Elements.{Segment, ElementFlag as FlagModel, flag_code, flag_of, active, functions, expressions, are_expressions, tells_kind, place, elements_as, element, element_flag_view, place_view, list_view, element_view, Place, ElementList as ListModel};
+
+use std::alloc::{Allocator, Global};
+use wasm_base::{Encode, R, RefType};
+use wasm_reader_base::{Dropped, Passed, ReadFault, Readable, Shorten, Spelled, pass_many};
+use wasm_reader_insn::Expression;
+
+/// What the flag of an element segment says.
+#[derive(Clone, Copy, Debug)]
+struct ElementFlag {
+    not_active: bool,
+    second: bool,
+    expressions: bool,
+}
+
+impl ElementFlag {
+    /// Its number.
+    fn code(self) -> u32
+        ensures { result ≡ flag_code (element_flag_view self) }
+    {
+        let not_active = if self.not_active { 1 } else { 0 };
+        let second = if self.second { 2 } else { 0 };
+        let expressions = if self.expressions { 4 } else { 0 };
+        not_active + second + expressions
+    }
+
+    /// Whether the kind of the elements is told.
+    fn tells_kind(self) -> bool
+        ensures { result ≡ tells_kind (element_flag_view self) }
+    {
+        self.not_active || self.second
+    }
+}
+
+impl Spelled for ElementFlag {
+    ghost Value = { FlagModel };
+
+    ghost format = { numbered flag_code };
+
+    ghost view = { element_flag_view };
+
+    #[tactic(auto, using(crate::proofs::ElementLaws::element_flag_unique))]
+    fn laws() {}
+}
+
+impl<'a, A: Allocator + Copy> Readable<'a, A> for ElementFlag {
+    #[tactic(auto, using(crate::proofs::ReadElements::flag_steps))]
+    fn read(bytes: &'a [u8], alloc: A) -> Result<(ElementFlag, &'a [u8]), ReadFault> {
+        let (number, rest) = <u32 as Readable<'a, A>>::read(bytes, alloc)?;
+        if number >= 8 {
+            return Err(ReadFault::UnknownTag);
+        }
+        let flag = ElementFlag {
+            not_active: number % 2 == 1,
+            second: number / 2 % 2 == 1,
+            expressions: number / 4 % 2 == 1,
+        };
+        Ok((flag, rest))
+    }
+}
+
+/// When the elements of a segment are put in a table.
+#[derive(Debug, Drop)]
+pub enum ElementItemMode<A: Allocator = Global> {
+    /// When an instruction says so.
+    Passive,
+    /// Never: the segment declares that code may refer to these functions.
+    Declared,
+    /// When the module is instantiated.
+    Active {
+        /// `None` where no table is named, which stands for table 0.
+        table: Option<u32>,
+        /// Computes the place of the first element.
+        offset: Expression<A>,
+    },
+}
+
+/// The elements of a segment.
+#[derive(Debug, Drop)]
+pub enum ElementList<A: Allocator = Global> {
+    /// References to the functions of these indices.
+    Functions(Vec<u32, A>),
+    /// References of this type, each computed by an expression.
+    Expressions(RefType, Vec<Expression<A>, A>),
+}
+
+/// An element segment.
+#[derive(Debug, Drop)]
+pub struct ElementItem<A: Allocator = Global> {
+    pub mode: ElementItemMode<A>,
+    pub elements: ElementList<A>,
+}
+
+/// Where the elements go, as the flag tells.
+#[tactic(auto, using(crate::proofs::ReadElements::place_steps))]
+fn read_mode<'a, A: Allocator + Copy>(
+    flag: ElementFlag,
+    bytes: &'a [u8],
+    alloc: A,
+) -> Result<(ElementItemMode<A>, &'a [u8]), ReadFault>
+    ensures found { IfOk result (λ x. Reads (place (element_flag_view flag)) wide bytes.now (place_view x.0) x.1.now) }
+    ensures none { IfErr result (λ e. e ≢ Memory → ReadsNothing (place (element_flag_view flag)) wide bytes.now) }
+{
+    match (flag.not_active, flag.second) {
+        (true, true) => Ok((ElementItemMode::Declared, bytes)),
+        (true, false) => Ok((ElementItemMode::Passive, bytes)),
+        (false, true) => {
+            let ((table, offset), rest) = <(u32, Expression<A>) as Readable<'a, A>>::read(
+                bytes, alloc,
+            )?;
+            let table = Some(table);
+            Ok((ElementItemMode::Active { table, offset }, rest))
+        }
+        (false, false) => {
+            let (offset, rest) = <Expression<A> as Readable<'a, A>>::read(bytes, alloc)?;
+            let table = None;
+            Ok((ElementItemMode::Active { table, offset }, rest))
+        }
+    }
+}
+
+/// The indices of functions, behind the byte of their kind where that is told.
+#[tactic(auto, using(crate::proofs::ReadElements::function_steps))]
+fn read_functions<'a, A: Allocator + Copy>(
+    told: bool,
+    bytes: &'a [u8],
+    alloc: A,
+) -> Result<(ElementList<A>, &'a [u8]), ReadFault>
+    ensures found { IfOk result (λ x. Reads (elements_as told false) wide bytes.now (list_view x.0) x.1.now) }
+    ensures none { IfErr result (λ e. e ≢ Memory → ReadsNothing (elements_as told false) wide bytes.now) }
+{
+    if told {
+        let (kind, rest) = <u8 as Readable<'a, A>>::read(bytes, alloc)?;
+        if kind != 0x00 {
+            return Err(ReadFault::UnknownTag);
+        }
+        let (functions, rest) = <Vec<u32, A> as Readable<'a, A>>::read(rest, alloc)?;
+        return Ok((ElementList::Functions(functions), rest));
+    }
+    let (functions, rest) = <Vec<u32, A> as Readable<'a, A>>::read(bytes, alloc)?;
+    Ok((ElementList::Functions(functions), rest))
+}
+
+/// Expressions, behind their type where that is told.
+#[tactic(auto, using(crate::proofs::ReadElements::expression_steps))]
+fn read_expressions<'a, A: Allocator + Copy>(
+    told: bool,
+    bytes: &'a [u8],
+    alloc: A,
+) -> Result<(ElementList<A>, &'a [u8]), ReadFault>
+    ensures found { IfOk result (λ x. Reads (elements_as told true) wide bytes.now (list_view x.0) x.1.now) }
+    ensures none { IfErr result (λ e. e ≢ Memory → ReadsNothing (elements_as told true) wide bytes.now) }
+{
+    if told {
+        let ((ty, expressions), rest) = <(RefType, Vec<Expression<A>, A>) as Readable<'a, A>>::read(
+            bytes, alloc,
+        )?;
+        return Ok((ElementList::Expressions(ty, expressions), rest));
+    }
+    let (expressions, rest) = <Vec<Expression<A>, A> as Readable<'a, A>>::read(bytes, alloc)?;
+    Ok((
+        ElementList::Expressions(RefType::FUNCREF, expressions),
+        rest,
+    ))
+}
+
+/// The elements, of the kind that the flag tells.
+#[tactic(auto, using(crate::proofs::ReadElements::list_steps))]
+fn read_elements<'a, A: Allocator + Copy>(
+    told: bool,
+    of_expressions: bool,
+    bytes: &'a [u8],
+    alloc: A,
+) -> Result<(ElementList<A>, &'a [u8]), ReadFault>
+    ensures found { IfOk result (λ x. Reads (elements_as told of_expressions) wide bytes.now (list_view x.0) x.1.now) }
+    ensures none { IfErr result (λ e. e ≢ Memory → ReadsNothing (elements_as told of_expressions) wide bytes.now) }
+{
+    if of_expressions {
+        let (elements, rest) = read_expressions(told, bytes, alloc)?;
+        return Ok((elements, rest));
+    }
+    let (elements, rest) = read_functions(told, bytes, alloc)?;
+    Ok((elements, rest))
+}
+
+impl<A: Allocator> Spelled for ElementItem<A> {
+    ghost Value = { Segment (List Plain) };
+
+    ghost format = { element };
+
+    ghost view = { element_view };
+
+    #[tactic(auto, using(crate::proofs::ElementLaws::element_unique))]
+    fn laws() {}
+}
+
+impl<'a, A: Allocator + Copy> Readable<'a, A> for ElementItem<A> {
+    #[tactic(auto, using(crate::proofs::ReadElements::element_steps))]
+    fn read(bytes: &'a [u8], alloc: A) -> Result<(ElementItem<A>, &'a [u8]), ReadFault> {
+        let (flag, rest) = <ElementFlag as Readable<'a, A>>::read(bytes, alloc)?;
+        let (mode, rest) = read_mode(flag, rest, alloc)?;
+        let (elements, rest) = read_elements(flag.tells_kind(), flag.expressions, rest, alloc)?;
+        Ok((ElementItem { mode, elements }, rest))
+    }
+}
+
+/// Appends the indices of functions, behind the byte of their kind where that is told.
+fn append_functions<A: Allocator, B: Allocator>(
+    told: bool,
+    indices: &Vec<u32, A>,
+    out: &mut Vec<u8, B>,
+) -> R<()>
+    ensures { OnOk result (AppendsShortest (elements_as told false) (functions indices.now.items) out.old.items out.new.items) }
+{
+    if told {
+        0x00u8.encode(out)?;
+        return indices.append_shortest(out);
+    }
+    indices.append_shortest(out)
+}
+
+/// Appends expressions, behind their type where that is told.
+fn append_expressions<A: Allocator, B: Allocator>(
+    told: bool,
+    ty: RefType,
+    elements: &Vec<Expression<A>, A>,
+    out: &mut Vec<u8, B>,
+) -> R<()>
+    ensures { OnOk result (AppendsShortest (elements_as told true) (expressions ty (map instructions_of elements.now.items)) out.old.items out.new.items) }
+{
+    if told {
+        ty.encode(out)?;
+        return elements.append_shortest(out);
+    }
+    elements.append_shortest(out)
+}
+
+/// Appends the table that is named, and the place of the first element.
+#[tactic(auto, using(crate::proofs::ShortItems::place_in, crate::proofs::ShortItems::place_in_none))]
+fn append_active<A: Allocator, B: Allocator>(
+    table: Option<u32>,
+    offset: &Expression<A>,
+    out: &mut Vec<u8, B>,
+) -> R<()>
+    ensures { OnOk result (AppendsShortest (place (record { not_active = false; second = is_given table; expressions = false })) (active table (instructions_of offset.now)) out.old.items out.new.items) }
+{
+    match table {
+        Some(table) => {
+            table.encode(out)?;
+            offset.append_shortest(out)
+        }
+        None => offset.append_shortest(out),
+    }
+}
+
+impl<A: Allocator> ElementItem<A> {
+    /// The flag that says what stands in the segment.
+    fn flag(&self) -> ElementFlag
+        ensures { element_flag_view result ≡ flag_of (element_view self.now) }
+    {
+        let not_active = !matches!(self.mode, ElementItemMode::Active { .. });
+        let second = match &self.mode {
+            ElementItemMode::Passive => false,
+            ElementItemMode::Declared => true,
+            ElementItemMode::Active { table, .. } => table.is_some(),
+        };
+        let expressions = matches!(self.elements, ElementList::Expressions(..));
+        ElementFlag {
+            not_active,
+            second,
+            expressions,
+        }
+    }
+
+    /// Appends where the elements go.
+    #[tactic(auto, using(crate::proofs::ShortItems::passive_place, crate::proofs::ShortItems::declared_place))]
+    fn append_place<B: Allocator>(&self, out: &mut Vec<u8, B>) -> R<()>
+        ensures { OnOk result (AppendsShortest (place (flag_of (element_view self.now))) (place_view self.now.mode) out.old.items out.new.items) }
+    {
+        match &self.mode {
+            ElementItemMode::Passive => Ok(()),
+            ElementItemMode::Declared => Ok(()),
+            ElementItemMode::Active { table, offset } => append_active(*table, offset, out),
+        }
+    }
+}
+
+/// Appends the elements, with their kind where that is told.
+fn append_elements<A: Allocator, B: Allocator>(
+    told: bool,
+    elements: &ElementList<A>,
+    out: &mut Vec<u8, B>,
+) -> R<()>
+    ensures { OnOk result (AppendsShortest (elements_as told (are_expressions (list_view elements.now))) (list_view elements.now) out.old.items out.new.items) }
+{
+    match elements {
+        ElementList::Functions(indices) => append_functions(told, indices, out),
+        ElementList::Expressions(ty, elements) => append_expressions(told, *ty, elements, out),
+    }
+}
+
+impl<A: Allocator> Shorten for ElementItem<A> {
+    fn append_shortest<B: Allocator>(&self, out: &mut Vec<u8, B>) -> R<()> {
+        let flag = self.flag();
+        flag.code().encode(out)?;
+        self.append_place(out)?;
+        append_elements(flag.tells_kind(), &self.elements, out)
+    }
+}
+
+/// Goes over where the elements go, as the flag tells.
+#[tactic(auto, using(crate::proofs::ReadElements::place_steps))]
+fn pass_place<'a, A: Allocator + Copy>(
+    flag: ElementFlag,
+    bytes: &'a [u8],
+    alloc: A,
+) -> Result<&'a [u8], ReadFault>
+    ensures found { IfOk result (λ rest. (x : Place (List Plain)) × Reads (place (element_flag_view flag)) wide bytes.now x rest.now) }
+    ensures none { IfErr result (λ e. e ≢ Memory → ReadsNothing (place (element_flag_view flag)) wide bytes.now) }
+{
+    match (flag.not_active, flag.second) {
+        (true, true) => Ok(bytes),
+        (true, false) => Ok(bytes),
+        (false, true) => {
+            let rest = <(Dropped<u32>, Expression<A>) as Passed<'a, A>>::pass(bytes, alloc)?;
+            Ok(rest)
+        }
+        (false, false) => {
+            let rest = <Expression<A> as Passed<'a, A>>::pass(bytes, alloc)?;
+            Ok(rest)
+        }
+    }
+}
+
+/// Goes over the indices of functions, behind the byte of their kind where that is told.
+fn pass_functions<'a, A: Allocator + Copy>(
+    told: bool,
+    bytes: &'a [u8],
+    alloc: A,
+) -> Result<&'a [u8], ReadFault>
+    ensures found { IfOk result (λ rest. (x : ListModel (List Plain)) × Reads (elements_as told false) wide bytes.now x rest.now) }
+    ensures none { IfErr result (λ e. e ≢ Memory → ReadsNothing (elements_as told false) wide bytes.now) }
+{
+    if told {
+        let (kind, rest) = <u8 as Readable<'a, A>>::read(bytes, alloc)?;
+        if kind != 0x00 {
+            return Err(ReadFault::UnknownTag);
+        }
+        let (_count, rest) = pass_many::<'a, Dropped<u32>, A>(rest, alloc)?;
+        return Ok(rest);
+    }
+    let (_count, rest) = pass_many::<'a, Dropped<u32>, A>(bytes, alloc)?;
+    Ok(rest)
+}
+
+/// Goes over expressions, behind their type where that is told.
+fn pass_expressions<'a, A: Allocator + Copy>(
+    told: bool,
+    bytes: &'a [u8],
+    alloc: A,
+) -> Result<&'a [u8], ReadFault>
+    ensures found { IfOk result (λ rest. (x : ListModel (List Plain)) × Reads (elements_as told true) wide bytes.now x rest.now) }
+    ensures none { IfErr result (λ e. e ≢ Memory → ReadsNothing (elements_as told true) wide bytes.now) }
+{
+    if told {
+        let (_type, rest) = <RefType as Readable<'a, A>>::read(bytes, alloc)?;
+        let (_count, rest) = pass_many::<'a, Expression<A>, A>(rest, alloc)?;
+        return Ok(rest);
+    }
+    let (_count, rest) = pass_many::<'a, Expression<A>, A>(bytes, alloc)?;
+    Ok(rest)
+}
+
+/// Goes over the elements, of the kind that the flag tells.
+fn pass_elements<'a, A: Allocator + Copy>(
+    told: bool,
+    of_expressions: bool,
+    bytes: &'a [u8],
+    alloc: A,
+) -> Result<&'a [u8], ReadFault>
+    ensures found { IfOk result (λ rest. (x : ListModel (List Plain)) × Reads (elements_as told of_expressions) wide bytes.now x rest.now) }
+    ensures none { IfErr result (λ e. e ≢ Memory → ReadsNothing (elements_as told of_expressions) wide bytes.now) }
+{
+    if of_expressions {
+        let rest = pass_expressions(told, bytes, alloc)?;
+        return Ok(rest);
+    }
+    let rest = pass_functions(told, bytes, alloc)?;
+    Ok(rest)
+}
+
+impl<'a, A: Allocator + Copy> Passed<'a, A> for ElementItem<A> {
+    ghost Value = { Segment (List Plain) };
+
+    ghost format = { element };
+
+    #[tactic(auto, using(crate::proofs::ElementLaws::element_unique))]
+    fn laws() {}
+
+    #[tactic(auto, using(crate::proofs::ReadElements::element_steps))]
+    fn pass(bytes: &'a [u8], alloc: A) -> Result<&'a [u8], ReadFault> {
+        let (flag, rest) = <ElementFlag as Readable<'a, A>>::read(bytes, alloc)?;
+        let rest = pass_place(flag, rest, alloc)?;
+        let rest = pass_elements(flag.tells_kind(), flag.expressions, rest, alloc)?;
+        Ok(rest)
+    }
+}
