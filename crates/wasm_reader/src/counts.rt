@@ -17,6 +17,7 @@ pub(crate) fn count_passed<'a, P: Passed<'a, A>, A: Allocator + Copy>(
     ensures none { IfErr result (λ e. e ≢ Memory → FillsNothing (vec P.format) bytes.now) }
 {
     let (count, rest) = pass_many::<'a, P, A>(bytes, alloc)?;
+    P::laws();
     if rest.is_empty() {
         Ok(Some(count))
     } else {

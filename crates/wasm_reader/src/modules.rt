@@ -85,11 +85,11 @@ pub(crate) fn read_number<'a, A: Allocator + Copy>(
         SectionKind::Bodies => count_passed::<'a, Body<A>, A>(bytes, alloc),
         SectionKind::Segments => count_passed::<'a, Segment<'a, A>, A>(bytes, alloc),
         SectionKind::Elements => count_passed::<'a, ElementItem<A>, A>(bytes, alloc),
-        SectionKind::Exports => { count_passed::<'a, Dropped<Export<'a>>, A>(bytes, alloc) }
+        SectionKind::Exports => count_passed::<'a, Dropped<Export<'a>>, A>(bytes, alloc),
         SectionKind::Functions => count_passed::<'a, Dropped<u32>, A>(bytes, alloc),
         SectionKind::Globals => count_passed::<'a, GlobalItem<A>, A>(bytes, alloc),
         SectionKind::Imports => count_passed::<'a, PassedImports, A>(bytes, alloc),
-        SectionKind::Memories => { count_passed::<'a, Dropped<MemoryType>, A>(bytes, alloc) }
+        SectionKind::Memories => count_passed::<'a, Dropped<MemoryType>, A>(bytes, alloc),
         SectionKind::Tables => count_passed::<'a, TableItem<A>, A>(bytes, alloc),
         SectionKind::Tags => count_passed::<'a, Dropped<TagType>, A>(bytes, alloc),
         SectionKind::DataCount | SectionKind::Start => {

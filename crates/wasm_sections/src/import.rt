@@ -385,7 +385,7 @@ pub fn append_imports<A: Allocator, B: Allocator>(
     Ok(())
 }
 
-/// An import or a group of imports.
+/// An import or a group of imports, of which nothing is kept.
 pub struct PassedImports;
 
 impl<'a, A: Allocator + Copy> Passed<'a, A> for PassedImports {

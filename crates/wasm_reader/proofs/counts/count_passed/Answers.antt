@@ -12,7 +12,7 @@ returns-in_err-count-clause-none g c = fault_stays c.from_residual.result _ c.fr
 pub returns-else-is_empty-clause-none : goal.returns-else-is_empty-clause-none
 returns-else-is_empty-clause-none g c = λ n.
     let xs = c.in_ok-count.ensures.found in
-    whole_more (vec g.P.Passed.format) c.args.bytes.now _ xs.0 (vec_unique g.P.Passed.alone) xs.1 (eqb-false _ _ (sym c.is_empty.ensures ∙ c.if-is_empty.false))
+    whole_more (vec g.P.Passed.format) c.args.bytes.now _ xs.0 (vec_unique c.laws.ensures) xs.1 (eqb-false _ _ (sym c.is_empty.ensures ∙ c.if-is_empty.false))
 
 pub returns-then-is_empty-clause-found : goal.returns-then-is_empty-clause-found
 returns-then-is_empty-clause-found g c =
