@@ -18,6 +18,7 @@ pub(crate) fn count_passed<'a, P: Passed<'a, A>, A: Allocator + Copy>(
 {
     let (count, rest) = pass_many::<'a, P, A>(bytes, alloc)?;
     P::laws();
+    P::laws();
     if rest.is_empty() {
         Ok(Some(count))
     } else {

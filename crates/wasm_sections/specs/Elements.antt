@@ -15,7 +15,7 @@ use Rattle.wasm_immediates.specs.Immediates.{where_set}
 use Rattle.wasm_insn.specs.Plain.{Plain}
 use Rattle.wasm_sections.specs.Constants.{Stored, IsStoredIn, instructions_of}
 use Rattle.wasm_sections.specs.declared.element_items.ElementFlag.{ElementFlag as ReadFlag}
-use Rattle.wasm_sections.specs.declared.element_items.ElementItem.{ElementItem}
+use Rattle.wasm_sections.specs.declared.element_items.ElementItem.{ElementItem as ReadElement}
 use Rattle.wasm_sections.specs.declared.element_items.ElementItemMode.{ElementItemMode}
 use Rattle.wasm_sections.specs.declared.element_items.ElementItemMode.TheVariants as modes
 use Rattle.wasm_sections.specs.declared.element_items.ElementList.{ElementList as ReadList}
@@ -260,5 +260,5 @@ list_view (lists.Functions fs) = functions fs.items
 list_view (lists.Expressions r es) = expressions r (map instructions_of es.items)
 
 -- the element segment that was read
-abbrev pub element_view : {A : Type 0} → ElementItem A → Segment (List Plain)
+abbrev pub element_view : {A : Type 0} → ReadElement A → Segment (List Plain)
 element_view e = record { place = place_view e.mode; elements = list_view e.elements }
