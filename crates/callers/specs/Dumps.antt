@@ -2,7 +2,7 @@
 use Rattle.std.specs.Prelude.{ℕ, List, [], ◌∷◌, pos, codes}
 use Rattle.wasm_base.specs.Modules.{SectionReading}
 use Rattle.wasm_custom.specs.CoreDumps.{Instance}
-use Rattle.wasm_custom.specs.CoreStacks.{Frame}
+use Rattle.wasm_custom.specs.CoreStacks.{StackFrame}
 use Rattle.wasm_custom.specs.Readings.{core_reading, modules_reading, instances_reading, stack_reading}
 use Rattle.wasm_custom.specs.declared.core_values.CoreDumpValue.TheVariants.{Missing, I32}
 
@@ -15,11 +15,11 @@ abbrev pub other_instance : ℕ → List ℕ → Instance
 other_instance index globals = record { module_index = index; memories = 1 ∷ []; globals = globals }
 
 -- a frame of a missing local and a number
-abbrev pub first_frame : Frame
+abbrev pub first_frame : StackFrame
 first_frame = record { instance = 0; function = 1; offset = 2; locals = Missing ∷ []; stack = I32 (pos 5) ∷ [] }
 
 -- a frame at this offset, of a number alone
-abbrev pub other_frame : ℕ → Frame
+abbrev pub other_frame : ℕ → StackFrame
 other_frame offset = record { instance = 0; function = 0; offset = offset; locals = I32 (pos 5) ∷ []; stack = [] }
 
 -- the sections in order, of a process of this name

@@ -23,7 +23,7 @@ abbrev pub zero_offset : List Plain
 zero_offset = normal_row {A = Global} (I32Const (pos 0)) ∷ []
 
 -- the function 1, put at the front of table 0
-abbrev pub at_front : elements.Segment (List Plain)
+abbrev pub at_front : elements.ElementItem (List Plain)
 at_front = record { place = elements.active None zero_offset; elements = elements.functions (1 ∷ []) }
 
 -- these bytes, put at the front of this memory

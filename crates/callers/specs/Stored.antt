@@ -14,11 +14,11 @@ abbrev pub eight : List Plain
 eight = normal_row {A = Global} (I32Const (pos 8)) ∷ []
 
 -- the function of this index, put at the place 8 of table 0
-abbrev pub function_at_8 : ℕ → elements.Segment (List Plain)
+abbrev pub function_at_8 : ℕ → elements.ElementItem (List Plain)
 function_at_8 index = record { place = elements.active None eight; elements = elements.functions (index ∷ []) }
 
 -- the functions 1 and 2, put in a table when code says so
-abbrev pub later_functions : elements.Segment (List Plain)
+abbrev pub later_functions : elements.ElementItem (List Plain)
 later_functions = record { place = elements.passive; elements = elements.functions (1 ∷ 2 ∷ []) }
 
 -- two bytes, put at the place 8 of memory 0

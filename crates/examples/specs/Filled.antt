@@ -20,11 +20,11 @@ abbrev pub three_places : TableItem
 three_places = record { table_type = record { element_type = FUNCREF; table64 = false; minimum = 3; maximum = None; shared = false }; init = None }
 
 -- the function 0, put at the front of table 0
-abbrev pub ready_at_0 : elements.Segment (List Plain)
+abbrev pub ready_at_0 : elements.ElementItem (List Plain)
 ready_at_0 = record { place = elements.active None (row (I32Const (pos 0)) ∷ []); elements = elements.functions (0 ∷ []) }
 
 -- a reference to the function of this index, put in a table when code says so
-abbrev pub later : ℕ → elements.Segment (List Plain)
+abbrev pub later : ℕ → elements.ElementItem (List Plain)
 later index = record { place = elements.passive; elements = elements.expressions FUNCREF ((row (RefFunc index) ∷ []) ∷ []) }
 
 -- these bytes, put at the place 8 of memory 0

@@ -5,7 +5,7 @@ ghost use Rattle.wasm_base.specs.Numbers.{unsigned_text};
 ghost use Rattle.wasm_base.specs.Texts.{longest, frame_text, FrameFits};
 
 use crate::encode::Encode;
-use crate::numbers::encoding_size;
+use crate::leb128::encoding_size;
 use crate::refused::{R, Refused};
 use std::alloc::Allocator;
 

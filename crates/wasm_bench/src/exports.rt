@@ -3,7 +3,7 @@ ghost use Rattle.std.specs.Prelude.{◌≡◌, length, IfOk, OnErr};
 ghost use Rattle.wasm_bench.specs.Answers.{CountedAnswer, Outcome};
 
 use crate::answers::{Fault, answer, number};
-use crate::kinds::kind_of;
+use crate::kinds::export_kind_of;
 use crate::names::Names;
 use std::alloc::Global;
 use wasm_sections::ExportSection;
@@ -25,7 +25,7 @@ fn build(
     let mut section = ExportSection::new(alloc);
     for i in 0..lens.len() {
         let name = rest.next(lens[i])?;
-        section.export(name, kind_of(kinds[i])?, indices[i])?;
+        section.export(name, export_kind_of(kinds[i])?, indices[i])?;
     }
     if rest.is_empty() {
         Ok(section)

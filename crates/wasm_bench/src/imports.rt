@@ -3,7 +3,7 @@ ghost use Rattle.std.specs.Prelude.{◌≡◌, length, IfOk, OnErr};
 ghost use Rattle.wasm_bench.specs.Answers.{CountedAnswer, Outcome};
 
 use crate::answers::{Fault, answer, number};
-use crate::kinds::kind_of;
+use crate::kinds::export_kind_of;
 use crate::names::Names;
 use std::alloc::Global;
 use wasm_base::{RefType, ValType};
@@ -76,7 +76,7 @@ fn build(
         let [module_len, name_len] = pairs[i];
         let module = rest.next(module_len)?;
         let name = rest.next(name_len)?;
-        let kind = kind_of(kinds[i])?;
+        let kind = export_kind_of(kinds[i])?;
         section.import(module, name, entity(kind, indices[i]))?;
     }
     if rest.is_empty() {

@@ -6,7 +6,7 @@ use crate::answers::Fault;
 use wasm_sections::ExportKind;
 
 /// The kind of this number.
-pub(crate) fn kind_of(number: u8) -> Result<ExportKind, Fault>
+pub(crate) fn export_kind_of(number: u8) -> Result<ExportKind, Fault>
     ensures { MatchResult result (λ kind. kind_code kind ≡ number) (λ _. 4 < number) }
 {
     match number {

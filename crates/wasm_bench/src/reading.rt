@@ -2,7 +2,7 @@
 ghost use Rattle.std.specs.Prelude.{◌≡◌, ◌⊎◌, ⊤, map, IfOk, MatchOption};
 ghost use Rattle.wasm_bench.specs.Readings.{HasRead, HasWalked, instructions_in};
 ghost use Rattle.wasm_bench.specs.declared.answers.TheConstants.{NO_ANSWER as no_answer};
-ghost use Rattle.wasm_reader_insn.specs.Arguments.{body_of};
+ghost use Rattle.wasm_reader_insn.specs.Arguments.{body_view};
 
 use crate::answers::NO_ANSWER;
 use std::alloc::Global;
@@ -12,7 +12,7 @@ use wasm_reader_insn::{Body, Instructions};
 
 /// How many instructions the bodies have together; none where these are more than can be counted.
 fn instructions(bodies: &[Body]) -> Option<u64>
-    ensures { MatchOption result ⊤ (λ n. n ≡ instructions_in (map body_of bodies.now)) }
+    ensures { MatchOption result ⊤ (λ n. n ≡ instructions_in (map body_view bodies.now)) }
 {
     let mut count: u64 = 0;
     for body in bodies {

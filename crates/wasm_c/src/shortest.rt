@@ -12,7 +12,7 @@ use wasm_reader::{SectionKind, shorten};
 const NO_KIND: u32 = 9;
 
 /// The kind of a number, counted from 0 in the order of the kinds.
-fn kind_of(number: u32) -> Option<SectionKind>
+fn section_kind_of(number: u32) -> Option<SectionKind>
     ensures { result ≡ kind_numbered number }
 {
     match number {
@@ -58,7 +58,7 @@ pub extern "C" fn dz_shorten(
 {
     *taken = 0;
     *cause = 0;
-    let Some(kind) = kind_of(kind) else {
+    let Some(kind) = section_kind_of(kind) else {
         *cause = NO_KIND;
         return NO_ANSWER;
     };

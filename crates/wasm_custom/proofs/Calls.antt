@@ -30,14 +30,14 @@ use Rattle.wasm_base.proofs.KnownLengths.{array_items, copied_items}
 use Rattle.wasm_base.proofs.Payloads.{custom-payload}
 use Rattle.wasm_custom.specs.Adding.{AddsList, AddsTwoLists}
 use Rattle.wasm_custom.specs.CoreDumps.{modules_name, instances_name, marked_text, core_name, SaysProcess, marked_name, Instance, instance}
-use Rattle.wasm_custom.specs.CoreStacks.{Frame, stack_name, SaysStack}
+use Rattle.wasm_custom.specs.CoreStacks.{StackFrame, stack_name, SaysStack}
 use Rattle.wasm_custom.specs.CoreValues.{value_text, IsValue}
 use Rattle.wasm_custom.specs.Customs.{named_payload, named_text, NamedFits, NamedPayload, named_framed, subsection_text}
 use Rattle.wasm_custom.specs.Entries.{entries_text}
 use Rattle.wasm_custom.specs.Hints.{hints_name, Hints, hint_text, IsHint, hints}
 use Rattle.wasm_custom.specs.Linking.{linking_name, version, LinkItem, Symbols, Target, link}
 use Rattle.wasm_custom.specs.Lists.{list_text, IsListOf}
-use Rattle.wasm_custom.specs.Names.{name_name, Naming, Inside, NameItem, Module, Map, Indirect, Other, name_map, indirect_map, subsection, of_map, of_indirect, of_other, kind_of}
+use Rattle.wasm_custom.specs.Names.{name_name, Naming, Inside, NameItem, Module, Map, Indirect, Other, name_map, indirect_map, subsection, of_map, of_indirect, of_other, name_kind_of}
 use Rattle.wasm_custom.specs.Producers.{producers_name, Producer, Field, field}
 use Rattle.wasm_custom.specs.Readings.{AreNamings, AreInsides, AreSymbols, AreProducers, HoldsNames, HoldsLinks, HoldsFields, HoldsHints, HoldsModules, HoldsInstances, name_payload, linking_payload, producers_payload, hints_payload, modules_payload, instances_payload, core_payload, stack_payload}
 use Rattle.wasm_custom.specs.Symbols.{Symbol, symbol_text, IsGivenSymbol, IsAsFlagged, IsSymbol}
@@ -118,26 +118,26 @@ adds_module_name before n e utf8 = adds_item before (Module n) e utf8
 
 -- names that a map holds; that the id is one of such a map is `refl`
 pub adds_names : {old new entries : List (List ℕ)} {items : List NameItem} {names : List Naming} → HoldsNames old items → (id : ℕ) → AreNamings entries names → new ≡ old ++ subsection_text id (list_text entries) ∷ []
-    → kind_of id ≡ of_map → HoldsNames new (items ++ Map id names ∷ [])
+    → name_kind_of id ≡ of_map → HoldsNames new (items ++ Map id names ∷ [])
 adds_names {old = old} {names = names} before id held e kind =
     adds_item before (Map id names) (e ∙ ap (λ s. old ++ subsection_text id s ∷ []) (list_vector held)) (kind, held.fits)
 
 -- names of what is inside, that an indirect map holds
 pub adds_names_inside : {old new entries : List (List ℕ)} {items : List NameItem} {insides : List Inside} → HoldsNames old items → (id : ℕ) → AreInsides entries insides → new ≡ old ++ subsection_text id (list_text entries) ∷ []
-    → kind_of id ≡ of_indirect → HoldsNames new (items ++ Indirect id insides ∷ [])
+    → name_kind_of id ≡ of_indirect → HoldsNames new (items ++ Indirect id insides ∷ [])
 adds_names_inside {old = old} {insides = insides} before id held e kind =
     adds_item before (Indirect id insides) (e ∙ ap (λ s. old ++ subsection_text id s ∷ []) (list_vector held)) (kind, held.fits)
 
 -- the bytes of a subsection that no call names
-pub adds_other_names : {old new : List (List ℕ)} {items : List NameItem} → HoldsNames old items → (id : ℕ) (content : List ℕ) → new ≡ old ++ subsection_text id content ∷ [] → kind_of id ≡ of_other → HoldsNames new (items ++ Other id content ∷ [])
+pub adds_other_names : {old new : List (List ℕ)} {items : List NameItem} → HoldsNames old items → (id : ℕ) (content : List ℕ) → new ≡ old ++ subsection_text id content ∷ [] → name_kind_of id ≡ of_other → HoldsNames new (items ++ Other id content ∷ [])
 adds_other_names before id content e kind = adds_item before (Other id content) e kind
 
 -- names that given bytes spell with padded numbers, and names of what is inside
-pub adds_raw_names : {old new : List (List ℕ)} {items : List NameItem} → HoldsWide subsection old items → (id : ℕ) (content : List ℕ) (names : List Naming) → new ≡ old ++ subsection_text id content ∷ [] → FrameFits content × Unit {0} → kind_of id ≡ of_map
+pub adds_raw_names : {old new : List (List ℕ)} {items : List NameItem} → HoldsWide subsection old items → (id : ℕ) (content : List ℕ) (names : List Naming) → new ≡ old ++ subsection_text id content ∷ [] → FrameFits content × Unit {0} → name_kind_of id ≡ of_map
     → name_map wide content names → HoldsWide subsection new (items ++ Map id names ∷ [])
 adds_raw_names before id content names e fits kind spelled = adds_raw_wide name-wide before (Map id names) e (names_wide id content names kind fits.0 spelled)
 
-pub adds_raw_names_inside : {old new : List (List ℕ)} {items : List NameItem} → HoldsWide subsection old items → (id : ℕ) (content : List ℕ) (insides : List Inside) → new ≡ old ++ subsection_text id content ∷ [] → FrameFits content × Unit {0} → kind_of id ≡ of_indirect
+pub adds_raw_names_inside : {old new : List (List ℕ)} {items : List NameItem} → HoldsWide subsection old items → (id : ℕ) (content : List ℕ) (insides : List Inside) → new ≡ old ++ subsection_text id content ∷ [] → FrameFits content × Unit {0} → name_kind_of id ≡ of_indirect
     → indirect_map wide content insides → HoldsWide subsection new (items ++ Indirect id insides ∷ [])
 adds_raw_names_inside before id content insides e fits kind spelled = adds_raw_wide name-wide before (Indirect id insides) e (names_inside_wide id content insides kind fits.0 spelled)
 
@@ -242,7 +242,7 @@ new_stack e utf8 = (utf8, ap (λ s. s.0) e, new_section (ap (λ s. s.1) e))
 
 -- one more frame, whose numbers are in range, and whose locals and part of the stack iterators give
 pub adds_frame_of : {U S V R : Type 0} {becomes : U → S → Type 0} {gives : S → Option CoreDumpValue → S → Type 0} {remaining : S → Count} {first : U} {turns : V → R → Type 0} {hands : R → Option CoreDumpValue → R → Type 0} {left : R → Count} {second : V}
-    {old new : List ℕ × List (List ℕ)} {thread : List ℕ} {frames : List Frame} → SaysStack old.0 old.1 (thread, frames) → (f : Frame)
+    {old new : List ℕ × List (List ℕ)} {thread : List ℕ} {frames : List StackFrame} → SaysStack old.0 old.1 (thread, frames) → (f : StackFrame)
     → AddsTwoLists becomes gives remaining first turns hands left second (λ x. Unit {0}) (λ x. Unit {0})
     (λ xs ys. (0x00 ∷ (unsigned_text f.instance ++ (unsigned_text f.function ++ unsigned_text f.offset))) ++ (vec_text value_text xs ++ vec_text value_text ys)) old.1 new.1 (Ok (tt {0}))
     → new.0 ≡ old.0 → GivesItems becomes gives first f.locals → GivesItems turns hands second f.stack → f.instance < 2 ^ 32 → f.function < 2 ^ 32 → f.offset < 2 ^ 32 → AllByRecursion IsValue f.locals → AllByRecursion IsValue f.stack
@@ -259,7 +259,7 @@ adds_frame_of {old = old} before f added thread are others instance function off
     )
 
 -- those of arrays
-pub adds_frame : {n m : ℕ} {remaining : IntoIter CoreDumpValue n → Count} {left : IntoIter CoreDumpValue m → Count} {old new : List ℕ × List (List ℕ)} {thread : List ℕ} {frames : List Frame} → SaysStack old.0 old.1 (thread, frames) → (f : Frame)
+pub adds_frame : {n m : ℕ} {remaining : IntoIter CoreDumpValue n → Count} {left : IntoIter CoreDumpValue m → Count} {old new : List ℕ × List (List ℕ)} {thread : List ℕ} {frames : List StackFrame} → SaysStack old.0 old.1 (thread, frames) → (f : StackFrame)
     → AddsTwoLists becomes array_steps remaining f.locals becomes array_steps left f.stack (λ x. Unit {0}) (λ x. Unit {0})
     (λ xs ys. (0x00 ∷ (unsigned_text f.instance ++ (unsigned_text f.function ++ unsigned_text f.offset))) ++ (vec_text value_text xs ++ vec_text value_text ys)) old.1 new.1 (Ok (tt {0}))
     → new.0 ≡ old.0 → f.instance < 2 ^ 32 → f.function < 2 ^ 32 → f.offset < 2 ^ 32 → AllByRecursion IsValue f.locals → AllByRecursion IsValue f.stack → SaysStack new.0 new.1 (thread, frames ++ f ∷ [])
@@ -315,7 +315,7 @@ pub gains_process : {readings : List SectionReading} {id : ℕ} {old new content
 gains_process before more fits reads n e utf8 = gains_custom core-payload before _ more fits reads (utf8, e)
 
 -- the stack of a thread
-pub gains_stack : {readings : List SectionReading} {id : ℕ} {old new n : List ℕ} {stack : List ℕ × List (List ℕ)} {frames : List Frame} → ReadsSections readings old
+pub gains_stack : {readings : List SectionReading} {id : ℕ} {old new n : List ℕ} {stack : List ℕ × List (List ℕ)} {frames : List StackFrame} → ReadsSections readings old
     → ReadsOneMore (NamedPayload stack_name (entries_text stack.0 true stack.1)) id old new → NamedFits stack_name (entries_text stack.0 true stack.1)
     → ReadsBack (frame stack_payload) (SaysStack stack.0 stack.1) (named_text stack_name (entries_text stack.0 true stack.1)) → SaysStack stack.0 stack.1 (n, frames) → ReadsSections (readings ++ reading_of id stack_payload (n, frames) ∷ []) new
 gains_stack before more fits reads says = gains_custom stack-payload before _ more fits reads says

@@ -14,7 +14,7 @@ use Rattle.wasm_base.proofs.FormatLaws.{mapped_unique, pair_unique, pair_whole, 
 use Rattle.wasm_base.proofs.NumberLaws.{u32_unique}
 use Rattle.wasm_base.proofs.TextLaws.{reads_alone, tagged_spelled, u32_spelled, s32_spelled, s64_spelled, little_endian_spelled, vec_spelled}
 use Rattle.wasm_custom.specs.CoreDumps.{marked_text, marked_name}
-use Rattle.wasm_custom.specs.CoreStacks.{Frame, frame_entry, IsFrame, Place, frame_of, stack_frame, stack_name, stack_section, SaysStack, frame_items}
+use Rattle.wasm_custom.specs.CoreStacks.{StackFrame, frame_entry, IsFrame, Place, stack_frame_of, stack_frame, stack_name, stack_section, SaysStack, frame_items}
 use Rattle.wasm_custom.specs.CoreValues.{value_text, IsValue, f32_of, f64_of, value_tags, value}
 use Rattle.wasm_custom.specs.Customs.{named_text, NamedFits}
 use Rattle.wasm_custom.specs.Entries.{count_text, entries_text}
@@ -55,12 +55,12 @@ value_spelled (F64 v) plain = tagged_spelled shortest 0x7C (little_endian_text 8
 
 -- ---- frames
 
-pub frame_unique : UniqueReading stack_frame
-frame_unique =
-    mapped_unique frame_of (λ x y e. ap (λ f. ((f.instance, (f.function, f.offset)), (f.locals, f.stack))) e)
+pub stack_frame_unique : UniqueReading stack_frame
+stack_frame_unique =
+    mapped_unique stack_frame_of (λ x y e. ap (λ f. ((f.instance, (f.function, f.offset)), (f.locals, f.stack))) e)
     (pair_unique (prefixed_unique (0x00 ∷ []) (pair_unique u32_unique (pair_unique u32_unique u32_unique))) (pair_unique (vec_unique value_unique) (vec_unique value_unique)))
 
-frame_spelled : (f : Frame) → IsFrame f → stack_frame shortest (frame_entry f) f
+frame_spelled : (f : StackFrame) → IsFrame f → stack_frame shortest (frame_entry f) f
 frame_spelled f plain =
     let numbers = unsigned_text f.function ++ unsigned_text f.offset in
     let last = pair_spelled u32 u32 (unsigned_text f.function) (unsigned_text f.offset) f.function f.offset (u32_spelled f.function plain.function) (u32_spelled f.offset plain.offset) in
@@ -72,13 +72,13 @@ frame_spelled f plain =
     let lists = pair_spelled (vec value) (vec value) locals stack f.locals f.stack (vec_spelled value IsValue value_text value_spelled f.locals plain.locals) (vec_spelled value IsValue value_text value_spelled f.stack plain.stack) in
     ((place, (f.locals, f.stack)), refl, pair_spelled (prefixed (0x00 ∷ []) (pair u32 (pair u32 u32))) (pair (vec value) (vec value)) (0x00 ∷ (unsigned_text f.instance ++ numbers)) (locals ++ stack) place (f.locals, f.stack) front lists)
 
-pub frame_laws : ItemLaws frame_items
-frame_laws = record { alone = frame_unique; spelled = λ f plain fits. frame_spelled f plain }
+pub stack_frame_laws : ItemLaws frame_items
+stack_frame_laws = record { alone = stack_frame_unique; spelled = λ f plain fits. frame_spelled f plain }
 
 -- ---- stacks
 
 pub stack_unique : UniqueReading stack_section
-stack_unique = named_unique stack_name (pair_whole marked_unique (whole_from_alone (vec_unique frame_unique)))
+stack_unique = named_unique stack_name (pair_whole marked_unique (whole_from_alone (vec_unique stack_frame_unique)))
 
 -- what the data are no longer than
 within : (front content : List ℕ) (pieces : List (List ℕ)) → length (front ++ (content ++ joined pieces)) ≤ longest → (length front ≤ longest) × (length (joined pieces) ≤ longest)
@@ -102,7 +102,7 @@ stack_alone front pieces few fits = record {
       let held = map (entry_text frame_entry) holds.entries in
       let listed : AllZip (stack_frame shortest) pieces said.1 =
       subst (λ ps. AllZip (stack_frame shortest) ps said.1) (sym holds.held)
-      (entries_spelled frame_items frame_laws holds.entries said.1 (subst (λ ps. length (joined ps) ≤ longest) holds.held short.1) holds.meant) in
+      (entries_spelled frame_items stack_frame_laws holds.entries said.1 (subst (λ ps. length (joined ps) ≤ longest) holds.held short.1) holds.meant) in
       reads_alone {F = stack_section} stack_unique
       (named_spelled shortest stack_name (pair marked_name (vec stack_frame)) (entries_text front true pieces) said (ascii {bytes = stack_name} refl) fits
       (pair_spelled marked_name (vec stack_frame) front content said.0 said.1 named (listing_spelled shortest true stack_frame pieces said.1 few listed)));

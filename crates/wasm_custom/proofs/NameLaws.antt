@@ -12,7 +12,7 @@ use Rattle.wasm_base.proofs.NumberLaws.{u32_unique}
 use Rattle.wasm_base.proofs.TextLaws.{tagged_spelled, u32_spelled, name_spelled, vec_spelled, frame_in, frame_spelled}
 use Rattle.wasm_custom.specs.Customs.{subsection_text}
 use Rattle.wasm_custom.specs.Entries.{FrameLaws}
-use Rattle.wasm_custom.specs.Names.{Naming, Inside, naming_text, inside_text, IsNaming, IsInside, naming, name_map, indirect_map, NameItem, Module, Map, Indirect, Other, NameKind, of_module, of_map, of_indirect, of_other, is_one_of, map_ids, indirect_ids, kind_of, after_id, subsection, name_text, IsName, name_name, name_items}
+use Rattle.wasm_custom.specs.Names.{Naming, Inside, naming_text, inside_text, IsNaming, IsInside, naming, name_map, indirect_map, NameItem, Module, Map, Indirect, Other, NameKind, of_module, of_map, of_indirect, of_other, is_one_of, map_ids, indirect_ids, name_kind_of, after_id, subsection, name_text, IsName, name_name, name_items}
 use Rattle.wasm_base.proofs.Calls.{ascii}
 use Rattle.wasm_base.proofs.PartLaws.{pair_spelled, tagged_begins}
 use Rattle.wasm_custom.proofs.CustomLaws.{content_fits}
@@ -39,17 +39,17 @@ not_module true b e = absurd (cc e)
 not_module false true e = absurd (cc e)
 not_module false false e = absurd (cc e)
 
-is_zero : (id : ℕ) → kind_of id ≡ of_module → id ≡ 0
+is_zero : (id : ℕ) → name_kind_of id ≡ of_module → id ≡ 0
 is_zero id e = go (eqb id 0) refl e
   where
     go : (test : Bool) → eqb id 0 ≡ test → cond test of_module (cond (is_one_of map_ids id) of_map (cond (is_one_of indirect_ids id) of_indirect of_other)) ≡ of_module → id ≡ 0
     go true t e = eqb-true id 0 t
     go false t e = absurd (not_module (is_one_of map_ids id) (is_one_of indirect_ids id) e)
 
-pub tells : TellsTag (λ id. after_id (kind_of id) id) id_of
-tells mode id s x h = go (kind_of id) refl h
+pub tells : TellsTag (λ id. after_id (name_kind_of id) id) id_of
+tells mode id s x h = go (name_kind_of id) refl h
   where
-    go : (k : NameKind) → kind_of id ≡ k → after_id k id mode s x → id ≡ id_of x
+    go : (k : NameKind) → name_kind_of id ≡ k → after_id k id mode s x → id ≡ id_of x
     go of_module e h = is_zero id e ∙ ap id_of h.1
     go of_map e h = ap id_of h.1
     go of_indirect e h = ap id_of h.1
@@ -62,7 +62,7 @@ after_id_unique of_indirect id = mapped_unique (Indirect id) (λ x y e. cc) (fra
 after_id_unique of_other id = mapped_unique (Other id) (λ x y e. cc) (frame_unique any_bytes_whole)
 
 pub subsection_unique : UniqueReading subsection
-subsection_unique = tagged_unique id_of tells byte_unique (λ id. after_id_unique (kind_of id) id)
+subsection_unique = tagged_unique id_of tells byte_unique (λ id. after_id_unique (name_kind_of id) id)
 
 -- ---- texts
 
@@ -79,8 +79,8 @@ indirect_spelled : (names : List Inside) → VecFits IsInside names → indirect
 indirect_spelled names plain = vec_spelled (pair u32 name_map) IsInside inside_text inside_spelled names plain
 
 -- what follows the id, of the kind that this has
-of_kind : (mode : Mode) (k : NameKind) (id : ℕ) (content : List ℕ) (x : NameItem) → kind_of id ≡ k → after_id k id mode (frame_text content) x → subsection mode (subsection_text id content) x
-of_kind mode k id content x e h = tagged_spelled {G = λ id. after_id (kind_of id) id} mode id (frame_text content) x (subst (λ k. after_id k id mode (frame_text content) x) (sym e) h)
+of_kind : (mode : Mode) (k : NameKind) (id : ℕ) (content : List ℕ) (x : NameItem) → name_kind_of id ≡ k → after_id k id mode (frame_text content) x → subsection mode (subsection_text id content) x
+of_kind mode k id content x e h = tagged_spelled {G = λ id. after_id (name_kind_of id) id} mode id (frame_text content) x (subst (λ k. after_id k id mode (frame_text content) x) (sym e) h)
 
 name_item_spelled : (x : NameItem) → IsName x → FrameFits (name_text x) → subsection shortest (name_text x) x
 name_item_spelled (Module n) plain fits =
@@ -98,10 +98,10 @@ pub name_laws : ItemLaws name_items
 name_laws = record { alone = subsection_unique; spelled = name_item_spelled }
 
 -- with padded numbers: the content of a subsection that is spelled already
-pub names_wide : (id : ℕ) (content : List ℕ) (names : List Naming) → kind_of id ≡ of_map → FrameFits content → name_map wide content names → subsection wide (subsection_text id content) (Map id names)
+pub names_wide : (id : ℕ) (content : List ℕ) (names : List Naming) → name_kind_of id ≡ of_map → FrameFits content → name_map wide content names → subsection wide (subsection_text id content) (Map id names)
 names_wide id content names kind fits h = of_kind wide of_map id content (Map id names) kind (names, refl, frame_in wide name_map content names fits h)
 
-pub names_inside_wide : (id : ℕ) (content : List ℕ) (insides : List Inside) → kind_of id ≡ of_indirect → FrameFits content → indirect_map wide content insides → subsection wide (subsection_text id content) (Indirect id insides)
+pub names_inside_wide : (id : ℕ) (content : List ℕ) (insides : List Inside) → name_kind_of id ≡ of_indirect → FrameFits content → indirect_map wide content insides → subsection wide (subsection_text id content) (Indirect id insides)
 names_inside_wide id content insides kind fits h = of_kind wide of_indirect id content (Indirect id insides) kind (insides, refl, frame_in wide indirect_map content insides fits h)
 
 pub name_frame : FrameLaws subsection name_name [] (fixed [] (tt {0})) false

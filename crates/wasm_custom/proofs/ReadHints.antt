@@ -9,7 +9,7 @@ use Rattle.wasm_base.specs.Reading.{Reads, ReadsNothing}
 use Rattle.wasm_base.proofs.FormatLaws.{byte_unique}
 use Rattle.wasm_base.proofs.NumberLaws.{u32_unique}
 use Rattle.wasm_base.proofs.ReadingSteps.{then_reads, then_nothing_first, then_nothing_second, mapped_reads, mapped_nothing, such_reads, such_none, such_nothing}
-use Rattle.wasm_custom.specs.Hints.{hint_of, hint, hints, hints_name, hints_of}
+use Rattle.wasm_custom.specs.Hints.{hint_of, hint, hints, hints_name, hints_view}
 use Rattle.wasm_custom.specs.Readings.{hints_payload}
 use Rattle.wasm_custom.specs.declared.hints.BranchHint.{BranchHint}
 use Rattle.wasm_custom.proofs.ReadNamed.{named_none, items_fill, no_items}
@@ -48,14 +48,14 @@ pub ruleset hint_steps = (hint_reads, hint_nothing)
 
 -- ---- the hints of functions
 
-pairs_same : {A : Type 0} (items : List (ℕ × Vec BranchHint A)) → map (λ p. (p.0, map (λ h. h) p.1.items)) items ≡ map hints_of items
+pairs_same : {A : Type 0} (items : List (ℕ × Vec BranchHint A)) → map (λ p. (p.0, map (λ h. h) p.1.items)) items ≡ map hints_view items
 pairs_same [] = refl
 pairs_same (p ∷ items) = ap₂ (λ a b. (p.0, a) ∷ b) (map-id p.1.items) (pairs_same items)
 
 -- ---- sections
 
-pub hints_fill : {A : Type 0} (bytes rest : List ℕ) (items : List (ℕ × Vec BranchHint A)) → Reads (just hints_name name) wide bytes tt rest → vec hints wide rest (map (λ p. (p.0, map (λ h. h) p.1.items)) items) → hints_payload wide bytes (map hints_of items)
-hints_fill bytes rest items h g = items_fill hints_name true hints bytes rest (map hints_of items) h (subst (λ z. vec hints wide rest z) (pairs_same items) g)
+pub hints_fill : {A : Type 0} (bytes rest : List ℕ) (items : List (ℕ × Vec BranchHint A)) → Reads (just hints_name name) wide bytes tt rest → vec hints wide rest (map (λ p. (p.0, map (λ h. h) p.1.items)) items) → hints_payload wide bytes (map hints_view items)
+hints_fill bytes rest items h g = items_fill hints_name true hints bytes rest (map hints_view items) h (subst (λ z. vec hints wide rest z) (pairs_same items) g)
 
 pub no_name : (bytes : List ℕ) → ReadsNothing (just hints_name name) wide bytes → FillsNothing hints_payload bytes
 no_name bytes n = named_none hints_name _ bytes n

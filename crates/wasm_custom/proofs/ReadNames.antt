@@ -7,7 +7,7 @@ use Rattle.wasm_base.specs.Reading.{Reads, ReadsNothing}
 use Rattle.wasm_base.proofs.FormatLaws.{byte_unique}
 use Rattle.wasm_base.proofs.Tags.{tagged_reads, tagged_none, tagged_nothing}
 use Rattle.wasm_reader_base.proofs.ReadFrames.{filled_reads, filled_none, filled_nothing}
-use Rattle.wasm_custom.specs.Names.{Naming, Inside, NameItem, Module, Map, Indirect, Other, NameKind, of_module, of_map, of_indirect, of_other, kind_of, after_id, name_map, indirect_map, subsection, name_name}
+use Rattle.wasm_custom.specs.Names.{Naming, Inside, NameItem, Module, Map, Indirect, Other, NameKind, of_module, of_map, of_indirect, of_other, name_kind_of, after_id, name_map, indirect_map, subsection, name_name}
 use Rattle.wasm_custom.specs.Readings.{name_payload}
 use Rattle.wasm_custom.specs.Names.{inside}
 use Rattle.wasm_custom.proofs.ReadNamed.{named_none, items_fill, no_items}
@@ -72,9 +72,9 @@ nothing_behind : (k : NameKind) (id : ℕ) (bytes : List ℕ) → ReadsNothing (
 nothing_behind k id bytes n = record { none = λ x rest h. n.none x rest (reads_behind k id bytes rest x h) }
 
 abbrev behind : ℕ → Format NameItem
-behind id = after_id (kind_of id) id
+behind id = after_id (name_kind_of id) id
 
-pub subsection_reads : (bytes rest content last : List ℕ) (id : ℕ) (k : NameKind) (x : NameItem) → Reads byte wide bytes id rest → Reads (frame any_bytes) wide rest content last → k ≡ kind_of id → inside k id wide content x → Reads subsection wide bytes x last
+pub subsection_reads : (bytes rest content last : List ℕ) (id : ℕ) (k : NameKind) (x : NameItem) → Reads byte wide bytes id rest → Reads (frame any_bytes) wide rest content last → k ≡ name_kind_of id → inside k id wide content x → Reads subsection wide bytes x last
 subsection_reads bytes rest content last id k x h g e s =
     tagged_reads {G = behind} h (subst (λ k. Reads (after_id k id) wide rest x last) e (behind_reads k id rest last x (filled_reads (inside k id) rest content last x g s)))
 
@@ -82,9 +82,9 @@ pub subsection_none : (bytes : List ℕ) → ReadsNothing byte wide bytes → Re
 subsection_none bytes n = tagged_none byte behind bytes n
 
 pub subsection_no_frame : (bytes rest : List ℕ) (id : ℕ) → Reads byte wide bytes id rest → ReadsNothing (frame any_bytes) wide rest → ReadsNothing subsection wide bytes
-subsection_no_frame bytes rest id h n = tagged_nothing {G = behind} byte_unique h (nothing_behind (kind_of id) id rest (filled_none (inside (kind_of id) id) rest n))
+subsection_no_frame bytes rest id h n = tagged_nothing {G = behind} byte_unique h (nothing_behind (name_kind_of id) id rest (filled_none (inside (name_kind_of id) id) rest n))
 
-pub subsection_nothing : (bytes rest content last : List ℕ) (id : ℕ) (k : NameKind) → Reads byte wide bytes id rest → Reads (frame any_bytes) wide rest content last → k ≡ kind_of id → FillsNothing (inside k id) content → ReadsNothing subsection wide bytes
+pub subsection_nothing : (bytes rest content last : List ℕ) (id : ℕ) (k : NameKind) → Reads byte wide bytes id rest → Reads (frame any_bytes) wide rest content last → k ≡ name_kind_of id → FillsNothing (inside k id) content → ReadsNothing subsection wide bytes
 subsection_nothing bytes rest content last id k h g e n =
     tagged_nothing {G = behind} byte_unique h (subst (λ k. ReadsNothing (after_id k id) wide rest) e (nothing_behind k id rest (filled_nothing (inside k id) rest content last g n)))
 

@@ -10,7 +10,7 @@ use Rattle.wasm_base.proofs.NumberLaws.{u32_unique}
 use Rattle.wasm_base.proofs.ReadingSteps.{reads_same, then_reads, then_nothing_first, then_nothing_second, mapped_reads, mapped_nothing}
 use Rattle.wasm_base.proofs.Tags.{tagged_reads, tagged_none, tagged_nothing, no_choice, fixed_reads}
 use Rattle.wasm_custom.specs.CoreDumps.{marked_name}
-use Rattle.wasm_custom.specs.CoreStacks.{Frame, Place, frame_of, stack_frame, stack_name}
+use Rattle.wasm_custom.specs.CoreStacks.{StackFrame, Place, stack_frame_of, stack_frame, stack_name}
 use Rattle.wasm_custom.specs.CoreValues.{f32_of, f64_of, value_tags, value}
 use Rattle.wasm_custom.specs.Readings.{stack_payload}
 use Rattle.wasm_custom.specs.declared.core_values.CoreDumpValue.{CoreDumpValue}
@@ -78,25 +78,25 @@ place_unique = prefixed_unique (0x00 ∷ []) (pair_unique u32_unique (pair_uniqu
 pub frame_reads : (bytes rest next last : List ℕ) (p : Place) (ls ss : List CoreDumpValue) → Reads place wide bytes p rest → Reads (vec value) wide rest (map (λ v. v) ls) next → Reads (vec value) wide next (map (λ v. v) ss) last
     → Reads stack_frame wide bytes (record { instance = p.0; function = p.1.0; offset = p.1.1; locals = ls; stack = ss }) last
 frame_reads bytes rest next last p ls ss h g k =
-    mapped_reads frame_of (then_reads h (then_reads (subst (λ z. Reads (vec value) wide rest z next) (map-id ls) g) (subst (λ z. Reads (vec value) wide next z last) (map-id ss) k)))
+    mapped_reads stack_frame_of (then_reads h (then_reads (subst (λ z. Reads (vec value) wide rest z next) (map-id ls) g) (subst (λ z. Reads (vec value) wide next z last) (map-id ss) k)))
 
 pub frame_no_place : (bytes : List ℕ) → ReadsNothing place wide bytes → ReadsNothing stack_frame wide bytes
-frame_no_place bytes n = mapped_nothing frame_of (then_nothing_first n)
+frame_no_place bytes n = mapped_nothing stack_frame_of (then_nothing_first n)
 
 pub frame_no_locals : (bytes rest : List ℕ) (p : Place) → Reads place wide bytes p rest → ReadsNothing (vec value) wide rest → ReadsNothing stack_frame wide bytes
-frame_no_locals bytes rest p h n = mapped_nothing frame_of (then_nothing_second place_unique h (then_nothing_first n))
+frame_no_locals bytes rest p h n = mapped_nothing stack_frame_of (then_nothing_second place_unique h (then_nothing_first n))
 
 pub frame_no_stack : (bytes rest next : List ℕ) (p : Place) (ls : List CoreDumpValue) → Reads place wide bytes p rest → Reads (vec value) wide rest ls next → ReadsNothing (vec value) wide next → ReadsNothing stack_frame wide bytes
-frame_no_stack bytes rest next p ls h g n = mapped_nothing frame_of (then_nothing_second place_unique h (then_nothing_second (vec_unique value_unique) g n))
+frame_no_stack bytes rest next p ls h g n = mapped_nothing stack_frame_of (then_nothing_second place_unique h (then_nothing_second (vec_unique value_unique) g n))
 
 pub ruleset frame_steps = (frame_reads, frame_no_place, frame_no_locals, frame_no_stack)
 
 -- ---- sections
 
-abbrev threaded : Format (List ℕ × List Frame)
+abbrev threaded : Format (List ℕ × List StackFrame)
 threaded = pair marked_name (vec stack_frame)
 
-pub stack_fills : (bytes rest last thread : List ℕ) (frames : List Frame) → Reads (just stack_name name) wide bytes tt rest → Reads marked_name wide rest thread last → vec stack_frame wide last frames → stack_payload wide bytes (thread, frames)
+pub stack_fills : (bytes rest last thread : List ℕ) (frames : List StackFrame) → Reads (just stack_name name) wide bytes tt rest → Reads marked_name wide rest thread last → vec stack_frame wide last frames → stack_payload wide bytes (thread, frames)
 stack_fills bytes rest last thread frames h g k = named_fills stack_name threaded bytes rest (thread, frames) h (record { front = g.front; back = last; joined = g.split; first = g.spelled; second = k })
 
 pub stack_none : (bytes : List ℕ) → ReadsNothing (just stack_name name) wide bytes → FillsNothing stack_payload bytes

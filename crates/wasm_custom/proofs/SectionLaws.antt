@@ -17,7 +17,7 @@ use Rattle.wasm_custom.specs.Names.{name_name}
 use Rattle.wasm_custom.specs.Producers.{producers_name}
 use Rattle.wasm_custom.specs.Readings.{name_payload, linking_payload, producers_payload, hints_payload, modules_payload, instances_payload, core_payload, stack_payload}
 use Rattle.wasm_custom.proofs.CoreDumpLaws.{marked_unique, module_laws, instance_unique, instance_laws}
-use Rattle.wasm_custom.proofs.CoreStackLaws.{value_unique, frame_unique as stack_frame_unique, frame_laws}
+use Rattle.wasm_custom.proofs.CoreStackLaws.{value_unique, stack_frame_unique as stack_frame_unique, stack_frame_laws}
 use Rattle.wasm_custom.proofs.EntriesLaws.{entries_whole}
 use Rattle.wasm_custom.proofs.HintLaws.{hints_unique, hint_laws}
 use Rattle.wasm_custom.proofs.LinkLaws.{link_unique, link_laws}
@@ -130,7 +130,7 @@ wide-stack = unique_wide stack_section_unique
 pub wide-custom_sections : IsUniqueWide custom
 wide-custom_sections = unique_wide custom_unique
 
-pub ruleset sections = (name_section_unique, linking_section_unique, producers_section_unique, hints_section_unique, modules_section_unique, instances_section_unique, core_section_unique, stack_section_unique, custom_unique, subsection_unique, link_unique, symbol_unique, field_unique, hints_unique, marked_unique, instance_unique, stack_frame_unique, value_unique, name_laws, link_laws, producer_laws, hint_laws, module_laws, instance_laws, frame_laws)
+pub ruleset sections = (name_section_unique, linking_section_unique, producers_section_unique, hints_section_unique, modules_section_unique, instances_section_unique, core_section_unique, stack_section_unique, custom_unique, subsection_unique, link_unique, symbol_unique, field_unique, hints_unique, marked_unique, instance_unique, stack_frame_unique, value_unique, name_laws, link_laws, producer_laws, hint_laws, module_laws, instance_laws, stack_frame_laws)
 
 pub ruleset wide_sections = (wide-name, wide-linking, wide-producers, wide-hints, wide-modules, wide-instances, wide-core, wide-stack, wide-custom_sections)
 

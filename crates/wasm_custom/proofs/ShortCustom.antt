@@ -6,7 +6,7 @@ use Rattle.wasm_base.specs.Formats.{Format, u32, name, just, fixed, pair, prefix
 use Rattle.wasm_base.specs.Texts.{frame_text, FrameFits, vec_text, VecFits}
 use Rattle.wasm_base.proofs.FormatLaws.{AllValues, values_tagged}
 use Rattle.wasm_custom.specs.CoreDumps.{marked_name, core_name, modules_name, Instance, instance, instance_of, instances_name}
-use Rattle.wasm_custom.specs.CoreStacks.{Frame, Place, frame_of, stack_frame, stack_name}
+use Rattle.wasm_custom.specs.CoreStacks.{StackFrame, Place, stack_frame_of, stack_frame, stack_name}
 use Rattle.wasm_custom.specs.CoreValues.{value_text, IsValue, value_tags, value}
 use Rattle.wasm_custom.specs.Customs.{named_payload}
 use Rattle.wasm_custom.specs.Entries.{listing, entries}
@@ -109,9 +109,9 @@ frame_appended n m o ls ss old front first second third fourth new e a b c lf le
     let place : Place = (n, (m, o)) in
     let placed = prefixed_appended (0x00 ∷ []) (pair u32 (pair u32 u32)) place old front third e numbers in
     let lists = pair_appended (vec value) (vec value) (values_appended ls third fourth lf le) (values_appended ss fourth new sf se) in
-    mapped_appended frame_of (pair (prefixed (0x00 ∷ []) (pair u32 (pair u32 u32))) (pair (vec value) (vec value))) (place, (ls, ss)) old new (λ z k. ap (λ f. ((f.instance, (f.function, f.offset)), (f.locals, f.stack))) k)
+    mapped_appended stack_frame_of (pair (prefixed (0x00 ∷ []) (pair u32 (pair u32 u32))) (pair (vec value) (vec value))) (place, (ls, ss)) old new (λ z k. ap (λ f. ((f.instance, (f.function, f.offset)), (f.locals, f.stack))) k)
     (pair_appended (prefixed (0x00 ∷ []) (pair u32 (pair u32 u32))) (pair (vec value) (vec value)) placed lists)
 
-pub stack_appended : (thread : List ℕ) (frames : List Frame) (old front middle new : List ℕ) → FrameFits stack_name → front ≡ old ++ frame_text stack_name → AppendsShortest marked_name thread front middle → AppendsShortest (vec stack_frame) frames middle new
+pub stack_appended : (thread : List ℕ) (frames : List StackFrame) (old front middle new : List ℕ) → FrameFits stack_name → front ≡ old ++ frame_text stack_name → AppendsShortest marked_name thread front middle → AppendsShortest (vec stack_frame) frames middle new
     → AppendsShortest stack_payload (thread, frames) old new
 stack_appended thread frames old front middle new fits e a b = named_appended stack_name (pair marked_name (vec stack_frame)) (thread, frames) fits e (pair_appended marked_name (vec stack_frame) a b)

@@ -3,7 +3,7 @@ use Rattle.std.proofs.Common.{◌≡◌, ℕ, List, [], ◌∷◌, ◌++◌, len
 use Rattle.wasm_base.specs.Numbers.{Mode, shortest, wide}
 use Rattle.wasm_base.specs.Formats.{Format, byte, name, any_bytes, frame, mapped, members}
 use Rattle.wasm_base.specs.Texts.{frame_text, FrameFits}
-use Rattle.wasm_custom.specs.Names.{Naming, Inside, NameItem, Module, Map, Indirect, Other, NameKind, of_module, of_map, of_indirect, of_other, kind_of, after_id, name_map, indirect_map, subsection, name_name}
+use Rattle.wasm_custom.specs.Names.{Naming, Inside, NameItem, Module, Map, Indirect, Other, NameKind, of_module, of_map, of_indirect, of_other, name_kind_of, after_id, name_map, indirect_map, subsection, name_name}
 use Rattle.wasm_custom.specs.Readings.{name_payload}
 use Rattle.wasm_custom.proofs.NameLaws.{tells}
 use Rattle.wasm_reader_base.specs.Shortest.{AppendsShortest}
@@ -33,7 +33,7 @@ held_told of_map id s x h = sym (ap held_by h.1)
 held_told of_indirect id s x h = sym (ap held_by h.1)
 held_told of_other id s x h = sym (ap held_by h.1)
 
-id_told : (x : NameItem) (s : List ℕ) (id : ℕ) → after_id (kind_of id) id wide s x → id ≡ id_of x
+id_told : (x : NameItem) (s : List ℕ) (id : ℕ) → after_id (name_kind_of id) id wide s x → id ≡ id_of x
 id_told (Module n) s id h = tells wide id s (Module n) h
 id_told (Map i names) s id h = tells wide id s (Map i names) h
 id_told (Indirect i maps) s id h = tells wide id s (Indirect i maps) h
@@ -59,13 +59,13 @@ behind of_map id h = image_of_frame (Map id) name_map h
 behind of_indirect id h = image_of_frame (Indirect id) indirect_map h
 behind of_other id h = image_of_frame (Other id) any_bytes h
 
-after_appended : (x : NameItem) (old new : List ℕ) → AppendsShortest (frame (inside (held_by x) (id_of x))) x old new → AppendsShortest (after_id (kind_of (id_of x)) (id_of x)) x old new
+after_appended : (x : NameItem) (old new : List ℕ) → AppendsShortest (frame (inside (held_by x) (id_of x))) x old new → AppendsShortest (after_id (name_kind_of (id_of x)) (id_of x)) x old new
 after_appended x old new a = record {
   text = a.text;
   appended = a.appended;
   spelled = λ s h.
       let id = id_of x in
-      let is = held_told (kind_of id) id s x h in
+      let is = held_told (name_kind_of id) id s x h in
       let given = subst (λ k. after_id k id wide s x) (sym is) h in
       subst (λ k. after_id k id shortest a.text x) is (behind (held_by x) id (a.spelled s (framed (held_by x) id given)));
 }
@@ -73,7 +73,7 @@ after_appended x old new a = record {
 pub subsection_appended : (x : NameItem) (start : ℕ) (old front middle new : List ℕ) → front ≡ old ++ id_of x ∷ [] → start ≡ length front → AppendsShortest (inside (held_by x) (id_of x)) x front middle → FrameFits (drop start middle)
     → new ≡ take start middle ++ frame_text (drop start middle) → AppendsShortest subsection x old new
 subsection_appended x start old front middle new e l a fits is =
-    tagged_appended byte (λ id. after_id (kind_of id) id) (λ s z h. id_told x s z h) (text_appended byte (id_of x) (id_of x ∷ []) old front (λ s h. refl) e)
+    tagged_appended byte (λ id. after_id (name_kind_of id) id) (λ s z h. id_told x s z h) (text_appended byte (id_of x) (id_of x ∷ []) old front (λ s h. refl) e)
     (after_appended x front new (frame_appended (inside (held_by x) (id_of x)) x start front middle new l a fits is))
 
 -- ---- sections

@@ -79,5 +79,5 @@ instances_name = codes "coreinstances"
 -- ---- what was read
 
 -- an instance of a core dump, without where it lies in memory
-abbrev pub instance_seen : {A : Type 0} → ℕ × Vec ℕ A × Vec ℕ A → Instance
-instance_seen i = record { module_index = i.0; memories = i.1.items; globals = i.2.items }
+abbrev pub instance_view : {A : Type 0} → ℕ × Vec ℕ A × Vec ℕ A → Instance
+instance_view i = record { module_index = i.0; memories = i.1.items; globals = i.2.items }

@@ -11,7 +11,7 @@ use Rattle.wasm_custom.specs.declared.core_values.CoreDumpValue.{CoreDumpValue}
 use Rattle.wasm_custom.specs.declared.core_stack.CoreFrame.{CoreFrame}
 
 -- a frame: where it is, its locals, and its part of the stack
-pub record Frame : Type 0 where
+pub record StackFrame : Type 0 where
   pub instance : ℕ
   pub function : ℕ
   pub offset : ℕ
@@ -19,11 +19,11 @@ pub record Frame : Type 0 where
   pub stack : List CoreDumpValue
 
 -- the text of a frame: the byte 00, where it is, and the vectors of its locals and of its part of the stack
-abbrev pub frame_entry : Frame → List ℕ
+abbrev pub frame_entry : StackFrame → List ℕ
 frame_entry f = (0x00 ∷ (unsigned_text f.instance ++ (unsigned_text f.function ++ unsigned_text f.offset))) ++ (vec_text value_text f.locals ++ vec_text value_text f.stack)
 
 -- plain: Its numbers and values are in range, and the lists can be counted.
-pub record IsFrame (f : Frame) : Type 0 where
+pub record IsFrame (f : StackFrame) : Type 0 where
   pub instance : f.instance < 2 ^ 32
   pub function : f.function < 2 ^ 32
   pub offset : f.offset < 2 ^ 32
@@ -35,15 +35,15 @@ abbrev pub Place : Type 0
 Place = ℕ × (ℕ × ℕ)
 
 -- the frame at this place, of these locals and this part of the stack
-abbrev pub frame_of : Place × (List CoreDumpValue × List CoreDumpValue) → Frame
-frame_of p = record { instance = p.0.0; function = p.0.1.0; offset = p.0.1.1; locals = p.1.0; stack = p.1.1 }
+abbrev pub stack_frame_of : Place × (List CoreDumpValue × List CoreDumpValue) → StackFrame
+stack_frame_of p = record { instance = p.0.0; function = p.0.1.0; offset = p.0.1.1; locals = p.1.0; stack = p.1.1 }
 
 -- frame of a stack: the byte 00, where it is, and the vectors of its locals and of its part of the stack
-abbrev pub stack_frame : Format Frame
-stack_frame = mapped frame_of (pair (prefixed (0x00 ∷ []) (pair u32 (pair u32 u32))) (pair (vec value) (vec value)))
+abbrev pub stack_frame : Format StackFrame
+stack_frame = mapped stack_frame_of (pair (prefixed (0x00 ∷ []) (pair u32 (pair u32 u32))) (pair (vec value) (vec value)))
 
 -- the kind of frames of a stack
-abbrev pub frame_items : Kind Frame Frame
+abbrev pub frame_items : Kind StackFrame StackFrame
 frame_items = record { text = frame_entry; IsPlain = IsFrame; IsPlainWide = IsFrame; normal_form = λ frame. frame; format = stack_frame }
 
 -- "corestack"
@@ -51,15 +51,15 @@ abbrev pub stack_name : List ℕ
 stack_name = codes "corestack"
 
 -- the stack: the name of its thread, and its frames
-abbrev pub stack_section : Format (List ℕ × List Frame)
+abbrev pub stack_section : Format (List ℕ × List StackFrame)
 stack_section = named_section stack_name (pair marked_name (vec stack_frame))
 
 -- The front is the byte 00 and this name of a thread, which is UTF-8, and the entries hold these frames.
-abbrev pub SaysStack : List ℕ → List (List ℕ) → List ℕ × List Frame → Type 0
+abbrev pub SaysStack : List ℕ → List (List ℕ) → List ℕ × List StackFrame → Type 0
 SaysStack front frames said = IsUtf8 said.0 × (front ≡ marked_text said.0) × HoldsItems frame_items frames said.1
 
 -- ---- what was read
 
 -- a frame of a stack, without where it lies in memory
-abbrev pub frame_seen : {A : Type 0} → CoreFrame A → Frame
-frame_seen f = record { instance = f.instanceidx; function = f.funcidx; offset = f.codeoffset; locals = f.locals.items; stack = f.stack.items }
+abbrev pub stack_frame_view : {A : Type 0} → CoreFrame A → StackFrame
+stack_frame_view f = record { instance = f.instanceidx; function = f.funcidx; offset = f.codeoffset; locals = f.locals.items; stack = f.stack.items }

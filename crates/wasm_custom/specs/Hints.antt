@@ -51,5 +51,5 @@ hints_name = codes "metadata.code.branch_hint"
 -- ---- what was read
 
 -- the hints of a function, without where they lie in memory
-abbrev pub hints_of : {A : Type 0} → ℕ × Vec BranchHint A → Hints
-hints_of h = (h.0, h.1.items)
+abbrev pub hints_view : {A : Type 0} → ℕ × Vec BranchHint A → Hints
+hints_view h = (h.0, h.1.items)

@@ -4,7 +4,7 @@ use Rattle.wasm_base.specs.Entries.{Kind}
 use Rattle.wasm_base.specs.Formats.{Format, byte, name, impossible, mapped, tagged, choice, vec, frame}
 use Rattle.wasm_base.specs.Texts.{frame_text, vec_text, VecFits}
 use Rattle.wasm_custom.specs.Customs.{subsection_text}
-use Rattle.wasm_custom.specs.Symbols.{Symbol, symbol_text, IsSymbol, symbol, symbol_of}
+use Rattle.wasm_custom.specs.Symbols.{Symbol, symbol_text, IsSymbol, symbol, symbol_view}
 use Rattle.wasm_custom.specs.declared.linking.LinkItem as read
 use Rattle.wasm_custom.specs.declared.linking.LinkItem.TheVariants as items
 
@@ -46,6 +46,6 @@ version = 2
 -- ---- what was read
 
 -- a subsection of a linking section, without where it lies in memory
-abbrev pub link_of : {A : Type 0} → read.LinkItem A → LinkItem
-link_of (items.Symbols symbols) = Symbols (map symbol_of symbols.items)
-link_of (items.Arch n) = Target n.now
+abbrev pub link_view : {A : Type 0} → read.LinkItem A → LinkItem
+link_view (items.Symbols symbols) = Symbols (map symbol_view symbols.items)
+link_view (items.Arch n) = Target n.now

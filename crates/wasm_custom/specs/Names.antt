@@ -79,8 +79,8 @@ abbrev pub indirect_ids : List ℕ
 indirect_ids = 2 ∷ 3 ∷ 10 ∷ 12 ∷ 13 ∷ []
 
 -- what a subsection of the id holds
-abbrev pub kind_of : ℕ → NameKind
-kind_of id = cond (id == 0) of_module (cond (is_one_of map_ids id) of_map (cond (is_one_of indirect_ids id) of_indirect of_other))
+abbrev pub name_kind_of : ℕ → NameKind
+name_kind_of id = cond (id == 0) of_module (cond (is_one_of map_ids id) of_map (cond (is_one_of indirect_ids id) of_indirect of_other))
 
 -- what follows the id of a subsection that holds this
 abbrev pub after_id : NameKind → ℕ → Format NameItem
@@ -91,7 +91,7 @@ after_id of_other id = mapped (Other id) (frame any_bytes)
 
 -- subsection: an id, and the frame of what it holds
 abbrev pub subsection : Format NameItem
-subsection = tagged byte (λ id. after_id (kind_of id) id)
+subsection = tagged byte (λ id. after_id (name_kind_of id) id)
 
 -- ---- texts
 
@@ -105,9 +105,9 @@ name_text (Other id content) = subsection_text id content
 -- plain: The id is one of what the subsection holds, for bytes one that stands for no names. Names are UTF-8, indices in range, and name maps fit.
 abbrev pub IsName : NameItem → Type 0
 IsName (Module n) = IsUtf8 n
-IsName (Map id names) = (kind_of id ≡ of_map) × VecFits IsNaming names
-IsName (Indirect id names) = (kind_of id ≡ of_indirect) × VecFits IsInside names
-IsName (Other id content) = kind_of id ≡ of_other
+IsName (Map id names) = (name_kind_of id ≡ of_map) × VecFits IsNaming names
+IsName (Indirect id names) = (name_kind_of id ≡ of_indirect) × VecFits IsInside names
+IsName (Other id content) = name_kind_of id ≡ of_other
 
 -- the kind of subsections of a name section
 abbrev pub name_items : Kind NameItem NameItem
@@ -134,19 +134,19 @@ inside of_indirect id = mapped (Indirect id) indirect_map
 inside of_other id = mapped (Other id) any_bytes
 
 -- indices and names, without where they lie in memory
-abbrev pub names_of : List (ℕ × Bor (List ℕ)) → List Naming
-names_of = map (λ n. (n.0, n.1.now))
+abbrev pub names_view : List (ℕ × Bor (List ℕ)) → List Naming
+names_view = map (λ n. (n.0, n.1.now))
 
 -- an index, and indices and names, without where they lie in memory
-abbrev pub inside_of : {A : Type 0} → ℕ × Vec (ℕ × Bor (List ℕ)) A → Inside
-inside_of i = (i.0, names_of i.1.items)
+abbrev pub inside_view : {A : Type 0} → ℕ × Vec (ℕ × Bor (List ℕ)) A → Inside
+inside_view i = (i.0, names_view i.1.items)
 
 -- a subsection of a name section, without where it lies in memory
-abbrev pub name_item_of : {A : Type 0} → read.NameItem A → NameItem
-name_item_of (items.Module n) = Module n.now
-name_item_of (items.Map id ns) = Map id (names_of ns.items)
-name_item_of (items.Indirect id ms) = Indirect id (map inside_of ms.items)
-name_item_of (items.Other id bytes) = Other id bytes.now
+abbrev pub name_item_view : {A : Type 0} → read.NameItem A → NameItem
+name_item_view (items.Module n) = Module n.now
+name_item_view (items.Map id ns) = Map id (names_view ns.items)
+name_item_view (items.Indirect id ms) = Indirect id (map inside_view ms.items)
+name_item_view (items.Other id bytes) = Other id bytes.now
 
 -- the id of a subsection
 abbrev pub id_of : NameItem → ℕ

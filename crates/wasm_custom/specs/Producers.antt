@@ -50,5 +50,5 @@ producers_name = codes "producers"
 -- ---- what was read
 
 -- a field of producers, without where it lies in memory
-abbrev pub field_of : {A : Type 0} → Bor (List ℕ) × Vec (Bor (List ℕ) × Bor (List ℕ)) A → Field
-field_of f = (f.0.now, map (λ v. (v.0.now, v.1.now)) f.1.items)
+abbrev pub field_view : {A : Type 0} → Bor (List ℕ) × Vec (Bor (List ℕ) × Bor (List ℕ)) A → Field
+field_view f = (f.0.now, map (λ v. (v.0.now, v.1.now)) f.1.items)

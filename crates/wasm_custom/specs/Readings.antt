@@ -6,7 +6,7 @@ use Rattle.wasm_base.specs.Modules.{SectionReading, reading_of}
 use Rattle.wasm_base.specs.SectionId.{number_of}
 use Rattle.wasm_base.specs.declared.section_id.SectionId.TheVariants as ids
 use Rattle.wasm_custom.specs.CoreDumps.{marked_name, core_name, modules_name, Instance, instance, instances_name, module_items, instance_items}
-use Rattle.wasm_custom.specs.CoreStacks.{Frame, stack_frame, stack_name}
+use Rattle.wasm_custom.specs.CoreStacks.{StackFrame, stack_frame, stack_name}
 use Rattle.wasm_custom.specs.Customs.{named_payload}
 use Rattle.wasm_custom.specs.Entries.{entries}
 use Rattle.wasm_custom.specs.Hints.{Hints, hints, hints_name, hint_items}
@@ -85,7 +85,7 @@ abbrev pub core_payload : Format (List ℕ)
 core_payload = named_payload core_name marked_name
 
 -- what follows the size of a core dump's section of a stack: its name, behind the byte 00 that of the thread, and a vector of frames
-abbrev pub stack_payload : Format (List ℕ × List Frame)
+abbrev pub stack_payload : Format (List ℕ × List StackFrame)
 stack_payload = named_payload stack_name (pair marked_name (vec stack_frame))
 
 -- the name section of these subsections, as a reader finds it
@@ -117,7 +117,7 @@ abbrev pub core_reading : List ℕ → SectionReading
 core_reading n = reading_of (number_of ids.Custom) core_payload n
 
 -- a core dump's section of the stack of the thread of this name, with these frames, as a reader finds it
-abbrev pub stack_reading : List ℕ → List Frame → SectionReading
+abbrev pub stack_reading : List ℕ → List StackFrame → SectionReading
 stack_reading n frames = reading_of (number_of ids.Custom) stack_payload (n, frames)
 
 -- the custom section of this name and these data, as a reader finds it

@@ -102,8 +102,8 @@ symbol = tagged byte (choice symbol_tags (λ b. impossible))
 -- ---- what was read
 
 -- a symbol, without where it lies in memory
-abbrev pub symbol_of : read.Symbol → Symbol
-symbol_of (items.Function flags index n) = indexed Function flags index (option_map (λ n. n.now) n)
-symbol_of (items.Global flags index n) = indexed Global flags index (option_map (λ n. n.now) n)
-symbol_of (items.Table flags index n) = indexed Table flags index (option_map (λ n. n.now) n)
-symbol_of (items.DataSymbol flags n d) = of_data flags n.now d
+abbrev pub symbol_view : read.Symbol → Symbol
+symbol_view (items.Function flags index n) = indexed Function flags index (option_map (λ n. n.now) n)
+symbol_view (items.Global flags index n) = indexed Global flags index (option_map (λ n. n.now) n)
+symbol_view (items.Table flags index n) = indexed Table flags index (option_map (λ n. n.now) n)
+symbol_view (items.DataSymbol flags n d) = of_data flags n.now d

@@ -10,7 +10,7 @@ ghost use Rattle.wasm_base.specs.Reading.{Reads, ReadsNothing};
 ghost use Rattle.wasm_base.specs.Texts.{FrameFits, vec_text};
 ghost use Rattle.wasm_base.specs.declared.refused.Refused.TheVariants.{TooLong};
 ghost use Rattle.wasm_custom.specs.Adding.{AddsTwoLists};
-ghost use Rattle.wasm_custom.specs.CoreDumps.{instance_items, module_items, marked_text, core_name, core_section, SaysProcess, IsModule, marked_name, modules_name, Instance, instance_text, IsInstance, instance, instances_name, instance_seen};
+ghost use Rattle.wasm_custom.specs.CoreDumps.{instance_items, module_items, marked_text, core_name, core_section, SaysProcess, IsModule, marked_name, modules_name, Instance, instance_text, IsInstance, instance, instances_name, instance_view};
 ghost use Rattle.wasm_custom.specs.Customs.{named_text, NamedFits};
 ghost use Rattle.wasm_custom.specs.Entries.{entries_text};
 ghost use Rattle.wasm_custom.specs.Readings.{core_payload, modules_payload, instances_payload};
@@ -23,7 +23,7 @@ use crate::marked::{MarkedName, read_marked};
 use crate::named::after_name;
 use std::alloc::{Allocator, Global};
 use std::marker::Model;
-use wasm_base::{Encode, Items, R, Section, SectionId, vec_of};
+use wasm_base::{Encode, Kind, R, Section, SectionId, vec_of};
 use wasm_reader_base::{ReadFault, Readable, Shorten, read_whole};
 
 /// The process that was dumped, seen as the data of its section: the byte 00, and its name.
@@ -122,7 +122,7 @@ pub type CoreDumpModulesSection<A = Global> = CustomEntries<ModuleItems, A>;
 #[derive(Clone, Copy, Debug)]
 pub struct ModuleItems;
 
-impl Items for ModuleItems {
+impl Kind for ModuleItems {
     ghost Record = { List ℕ };
 
     ghost Item = { List ℕ };
@@ -188,7 +188,7 @@ pub type CoreDumpInstancesSection<A = Global> = CustomEntries<InstanceItems, A>;
 #[derive(Clone, Copy, Debug)]
 pub struct InstanceItems;
 
-impl Items for InstanceItems {
+impl Kind for InstanceItems {
     ghost Record = { Instance };
 
     ghost Item = { Instance };
@@ -312,7 +312,7 @@ fn read_instance<'a, A: Allocator + Copy>(
     bytes: &'a [u8],
     alloc: A,
 ) -> Result<((u32, Vec<u32, A>, Vec<u32, A>), &'a [u8]), ReadFault>
-    ensures found { IfOk result (λ x. Reads instance wide bytes.now (instance_seen x.0) x.1.now) }
+    ensures found { IfOk result (λ x. Reads instance wide bytes.now (instance_view x.0) x.1.now) }
     ensures none { IfErr result (λ e. e ≢ Memory → ReadsNothing instance wide bytes.now) }
 {
     let ((module_index, (memories, globals)), rest) = read_marked::<
@@ -329,7 +329,7 @@ fn read_all_instances<'a, A: Allocator + Copy>(
     bytes: &'a [u8],
     alloc: A,
 ) -> Result<(Vec<(u32, Vec<u32, A>, Vec<u32, A>), A>, &'a [u8]), ReadFault>
-    ensures found { IfOk result (λ x. Reads (vec instance) wide bytes.now (map instance_seen x.0.items) x.1.now) }
+    ensures found { IfOk result (λ x. Reads (vec instance) wide bytes.now (map instance_view x.0.items) x.1.now) }
     ensures none { IfErr result (λ e. e ≢ Memory → ReadsNothing (vec instance) wide bytes.now) }
 {
     let (count, mut rest) = <u32 as Readable<'a, A>>::read(bytes, alloc)?;
@@ -348,7 +348,7 @@ pub fn read_instances<'a, A: Allocator + Copy>(
     bytes: &'a [u8],
     alloc: A,
 ) -> Result<Vec<(u32, Vec<u32, A>, Vec<u32, A>), A>, ReadFault>
-    ensures found { IfOk result (λ x. instances_payload wide bytes.now (map instance_seen x.items)) }
+    ensures found { IfOk result (λ x. instances_payload wide bytes.now (map instance_view x.items)) }
     ensures none { IfErr result (λ e. e ≢ Memory → FillsNothing instances_payload bytes.now) }
 {
     let rest = after_name("coreinstances", bytes, alloc)?;
@@ -407,7 +407,7 @@ fn append_instance<A: Allocator, B: Allocator>(
     given: &(u32, Vec<u32, A>, Vec<u32, A>),
     out: &mut Vec<u8, B>,
 ) -> R<()>
-    ensures { OnOk result (AppendsShortest instance (instance_seen given.now) out.old.items out.new.items) }
+    ensures { OnOk result (AppendsShortest instance (instance_view given.now) out.old.items out.new.items) }
 {
     let (index, memories, globals) = given;
     0x00u8.encode(out)?;
@@ -422,7 +422,7 @@ fn append_all_instances<A: Allocator, B: Allocator>(
     items: &[(u32, Vec<u32, A>, Vec<u32, A>)],
     out: &mut Vec<u8, B>,
 ) -> R<()>
-    ensures { OnOk result (AppendsShortest (vec instance) (map instance_seen items.now) out.old.items out.new.items) }
+    ensures { OnOk result (AppendsShortest (vec instance) (map instance_view items.now) out.old.items out.new.items) }
 {
     items.len().encode(out)?;
     for item in items {
@@ -438,7 +438,7 @@ pub fn append_instances<A: Allocator, B: Allocator>(
     instances: &[(u32, Vec<u32, A>, Vec<u32, A>)],
     out: &mut Vec<u8, B>,
 ) -> R<()>
-    ensures { OnOk result (AppendsShortest instances_payload (map instance_seen instances.now) out.old.items out.new.items) }
+    ensures { OnOk result (AppendsShortest instances_payload (map instance_view instances.now) out.old.items out.new.items) }
 {
     "coreinstances".encode(out)?;
     append_all_instances(instances, out)

@@ -9,7 +9,7 @@ ghost use Rattle.wasm_base.specs.Texts.{FrameFits, vec_text};
 ghost use Rattle.wasm_base.specs.declared.refused.Refused.TheVariants.{TooLong};
 ghost use Rattle.wasm_custom.specs.Adding.{AddsTwoLists};
 ghost use Rattle.wasm_custom.specs.CoreDumps.{marked_text};
-ghost use Rattle.wasm_custom.specs.CoreStacks.{stack_name, stack_section, SaysStack, Frame, stack_frame, frame_seen};
+ghost use Rattle.wasm_custom.specs.CoreStacks.{stack_name, stack_section, SaysStack, StackFrame, stack_frame, stack_frame_view};
 ghost use Rattle.wasm_custom.specs.CoreValues.{value_text};
 ghost use Rattle.wasm_custom.specs.Customs.{named_text, NamedFits};
 ghost use Rattle.wasm_custom.specs.Entries.{entries_text};
@@ -126,13 +126,13 @@ impl<A: Allocator> Encode for CoreDumpStackSection<A> {
 impl<A: Allocator> Section for CoreDumpStackSection<A> {
     ghost use Rattle.wasm_base.specs.SectionId.{number_of};
     ghost use Rattle.wasm_base.specs.declared.section_id.SectionId.TheVariants as ids;
-    ghost use Rattle.wasm_custom.specs.CoreStacks.{Frame, stack_name, stack_section, SaysStack};
+    ghost use Rattle.wasm_custom.specs.CoreStacks.{StackFrame, stack_name, stack_section, SaysStack};
     ghost use Rattle.wasm_custom.specs.Customs.{NamedPayload, named_framed};
     ghost use Rattle.wasm_custom.specs.Entries.{entries_text};
 
     ghost id_of = { λ _. number_of ids.Custom };
 
-    ghost Items = { List ℕ × List Frame };
+    ghost Items = { List ℕ × List StackFrame };
 
     ghost format = { stack_section };
 
@@ -161,11 +161,11 @@ pub struct CoreFrame<A: Allocator = Global> {
 }
 
 impl<A: Allocator> Spelled for CoreFrame<A> {
-    ghost Value = { Frame };
+    ghost Value = { StackFrame };
 
     ghost format = { stack_frame };
 
-    ghost view = { frame_seen };
+    ghost view = { stack_frame_view };
 
     #[tactic(auto, using(crate::proofs::CoreStackLaws::frame_unique))]
     fn laws() {}
@@ -196,7 +196,7 @@ pub fn read_stack<'a, A: Allocator + Copy>(
     bytes: &'a [u8],
     alloc: A,
 ) -> Result<(&'a str, Vec<CoreFrame<A>, A>), ReadFault>
-    ensures found { IfOk result (λ x. stack_payload wide bytes.now (x.0.now, map frame_seen x.1.items)) }
+    ensures found { IfOk result (λ x. stack_payload wide bytes.now (x.0.now, map stack_frame_view x.1.items)) }
     ensures none { IfErr result (λ e. e ≢ Memory → FillsNothing stack_payload bytes.now) }
 {
     let rest = after_name("corestack", bytes, alloc)?;
@@ -225,7 +225,7 @@ pub fn append_stack<A: Allocator, B: Allocator>(
     frames: &Vec<CoreFrame<A>, A>,
     out: &mut Vec<u8, B>,
 ) -> R<()>
-    ensures { OnOk result (AppendsShortest stack_payload (thread.now, map frame_seen frames.now.items) out.old.items out.new.items) }
+    ensures { OnOk result (AppendsShortest stack_payload (thread.now, map stack_frame_view frames.now.items) out.old.items out.new.items) }
 {
     "corestack".encode(out)?;
     append_marked(thread, out)?;

@@ -15,11 +15,11 @@ use crate::custom_section::{CustomSection, begin_custom};
 use std::alloc::{Allocator, Global};
 use std::marker::{Model, PhantomData};
 use wasm_base::{
-    CowSlice, CowStr, Encode, EncodeOnce, Items, Pieces, R, Section, SectionId, encoding_size,
+    CowSlice, CowStr, Encode, EncodeOnce, Kind, Pieces, R, Section, SectionId, encoding_size,
 };
 
 /// A kind of custom section: its items, its name, what stands before its entries, and whether these are counted.
-pub trait CustomKind: Items {
+pub trait CustomKind: Kind {
     /// The name of the section.
     ghost name: { List ℕ };
 

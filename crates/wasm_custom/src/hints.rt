@@ -6,7 +6,7 @@ ghost use Rattle.wasm_base.specs.Iterators.{HasKnownLength};
 ghost use Rattle.wasm_base.specs.Numbers.{unsigned_text, wide};
 ghost use Rattle.wasm_base.specs.Texts.{vec_text};
 ghost use Rattle.wasm_custom.specs.Adding.{AddsList};
-ghost use Rattle.wasm_custom.specs.Hints.{hint_items, hint_text, Hints, hints_text, AreHints, hints, hints_name, hint, hints_of};
+ghost use Rattle.wasm_custom.specs.Hints.{hint_items, hint_text, Hints, hints_text, AreHints, hints, hints_name, hint, hints_view};
 ghost use Rattle.wasm_custom.specs.Readings.{hints_payload};
 ghost use Rattle.wasm_custom.specs.declared.hints.BranchHint.{BranchHint as HintModel};
 ghost use Rattle.wasm_reader_base.specs.Shortest.{AppendsShortest};
@@ -16,7 +16,7 @@ use crate::entries::{CustomEntries, CustomKind};
 use crate::marked::read_marked;
 use crate::named::after_name;
 use std::alloc::{Allocator, Global};
-use wasm_base::{Encode, Items, R, vec_of};
+use wasm_base::{Encode, Kind, R, vec_of};
 use wasm_reader_base::{ReadFault, Readable, Shorten, Spelled, read_whole};
 
 /// Which branches are likely to be taken: a list of hints for each function. It stands before the code section.
@@ -55,7 +55,7 @@ impl Encode for BranchHint {
     }
 }
 
-impl Items for HintItems {
+impl Kind for HintItems {
     ghost Record = { Hints };
 
     ghost Item = { Hints };
@@ -164,7 +164,7 @@ pub fn read_hints<'a, A: Allocator + Copy>(
     bytes: &'a [u8],
     alloc: A,
 ) -> Result<Vec<(u32, Vec<BranchHint, A>), A>, ReadFault>
-    ensures found { IfOk result (λ x. hints_payload wide bytes.now (map hints_of x.items)) }
+    ensures found { IfOk result (λ x. hints_payload wide bytes.now (map hints_view x.items)) }
     ensures none { IfErr result (λ e. e ≢ Memory → FillsNothing hints_payload bytes.now) }
 {
     let rest = after_name("metadata.code.branch_hint", bytes, alloc)?;
@@ -178,7 +178,7 @@ fn append_function<A: Allocator, B: Allocator>(
     given: &(u32, Vec<BranchHint, A>),
     out: &mut Vec<u8, B>,
 ) -> R<()>
-    ensures { OnOk result (AppendsShortest hints (hints_of given.now) out.old.items out.new.items) }
+    ensures { OnOk result (AppendsShortest hints (hints_view given.now) out.old.items out.new.items) }
 {
     let (func, of_branches) = given;
     func.append_shortest(out)?;
@@ -191,7 +191,7 @@ fn append_functions<A: Allocator, B: Allocator>(
     items: &[(u32, Vec<BranchHint, A>)],
     out: &mut Vec<u8, B>,
 ) -> R<()>
-    ensures { OnOk result (AppendsShortest (vec hints) (map hints_of items.now) out.old.items out.new.items) }
+    ensures { OnOk result (AppendsShortest (vec hints) (map hints_view items.now) out.old.items out.new.items) }
 {
     items.len().encode(out)?;
     for item in items {
@@ -207,7 +207,7 @@ pub fn append_hints<A: Allocator, B: Allocator>(
     functions: &[(u32, Vec<BranchHint, A>)],
     out: &mut Vec<u8, B>,
 ) -> R<()>
-    ensures { OnOk result (AppendsShortest hints_payload (map hints_of functions.now) out.old.items out.new.items) }
+    ensures { OnOk result (AppendsShortest hints_payload (map hints_view functions.now) out.old.items out.new.items) }
 {
     "metadata.code.branch_hint".encode(out)?;
     append_functions(functions, out)

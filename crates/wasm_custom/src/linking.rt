@@ -7,7 +7,7 @@ ghost use Rattle.wasm_base.specs.Numbers.{wide};
 ghost use Rattle.wasm_base.specs.Reading.{UniqueReading, Reads, ReadsNothing};
 ghost use Rattle.wasm_base.specs.Texts.{frame_text, FrameFits};
 ghost use Rattle.wasm_custom.specs.Customs.{subsection_text};
-ghost use Rattle.wasm_custom.specs.Linking.{link_items, LinkItem as LinkModel, link_text, IsLink, link, linking_name, version, link_of};
+ghost use Rattle.wasm_custom.specs.Linking.{link_items, LinkItem as LinkModel, link_text, IsLink, link, linking_name, version, link_view};
 ghost use Rattle.wasm_custom.specs.Lists.{list_text};
 ghost use Rattle.wasm_custom.specs.Readings.{linking_payload};
 ghost use Rattle.wasm_reader_base.specs.Shortest.{AppendsShortest};
@@ -18,7 +18,7 @@ use crate::named::after_name;
 use crate::subsections::Subsection;
 use crate::symbols::{Symbol, SymbolTable};
 use std::alloc::{Allocator, Global};
-use wasm_base::{Encode, Items, R};
+use wasm_base::{Encode, Kind, R};
 use wasm_reader_base::{
     Framed, ReadFault, Readable, Shorten, Spelled, append_all, frame_since, read_to_end, read_whole,
 };
@@ -38,7 +38,7 @@ pub type LinkingSection<A = Global> = CustomEntries<LinkingItems, A>;
 #[derive(Clone, Copy, Debug)]
 pub struct LinkingItems;
 
-impl Items for LinkingItems {
+impl Kind for LinkingItems {
     ghost Record = { LinkModel };
 
     ghost Item = { LinkModel };
@@ -112,7 +112,7 @@ impl<'a, A: Allocator> Spelled for LinkItem<'a, A> {
 
     ghost format = { link };
 
-    ghost view = { link_of };
+    ghost view = { link_view };
 
     #[tactic(auto, using(crate::proofs::LinkLaws::link_unique))]
     fn laws()
@@ -159,7 +159,7 @@ pub fn read_links<'a, A: Allocator + Copy + 'a>(
     bytes: &'a [u8],
     alloc: A,
 ) -> Result<Vec<LinkItem<'a, A>, A>, ReadFault>
-    ensures found { IfOk result (λ x. linking_payload wide bytes.now (map link_of x.items)) }
+    ensures found { IfOk result (λ x. linking_payload wide bytes.now (map link_view x.items)) }
     ensures none { IfErr result (λ e. e ≢ Memory → FillsNothing linking_payload bytes.now) }
 {
     let rest = after_name("linking", bytes, alloc)?;
@@ -193,7 +193,7 @@ pub fn append_links<A: Allocator, B: Allocator>(
     items: &[LinkItem<'_, A>],
     out: &mut Vec<u8, B>,
 ) -> R<()>
-    ensures { OnOk result (AppendsShortest linking_payload (map link_of items.now) out.old.items out.new.items) }
+    ensures { OnOk result (AppendsShortest linking_payload (map link_view items.now) out.old.items out.new.items) }
 {
     "linking".encode(out)?;
     VERSION.encode(out)?;

@@ -10,7 +10,7 @@ ghost use Rattle.wasm_base.specs.Reading.{UniqueReading};
 ghost use Rattle.wasm_base.specs.Texts.{frame_text, FrameFits};
 ghost use Rattle.wasm_custom.specs.Customs.{subsection_text};
 ghost use Rattle.wasm_custom.specs.Lists.{list_text};
-ghost use Rattle.wasm_custom.specs.Names.{name_items, Naming, naming_text, IsNaming, Inside, inside_text, IsInside, NameItem as NameModel, name_text, IsName, subsection, name_name, kind_of as kind_of_id, kind_as, inside, held_by, id_of, name_item_of};
+ghost use Rattle.wasm_custom.specs.Names.{name_items, Naming, naming_text, IsNaming, Inside, inside_text, IsInside, NameItem as NameModel, name_text, IsName, subsection, name_name, name_kind_of as kind_of_id, kind_as, inside, held_by, id_of, name_item_view};
 ghost use Rattle.wasm_custom.specs.Readings.{name_payload};
 ghost use Rattle.wasm_reader_base.specs.Shortest.{AppendsShortest};
 ghost use Rattle.wasm_reader_base.specs.declared.fault.ReadFault.TheVariants.{Memory};
@@ -21,7 +21,7 @@ use crate::lists::{CountedList, ListKind};
 use crate::named::after_name;
 use crate::subsections::{RawContent, Subsection};
 use std::alloc::{Allocator, Global};
-use wasm_base::{CowSlice, CowStr, Encode, Items, Lent, R};
+use wasm_base::{CowSlice, CowStr, Encode, Kind, Lent, R};
 use wasm_reader_base::{
     ReadFault, Readable, Shorten, Spelled, append_all, frame_since, read_to_end, read_whole,
 };
@@ -92,7 +92,7 @@ pub type NameSection<A = Global> = CustomEntries<NameItems, A>;
 #[derive(Clone, Copy, Debug)]
 pub struct NameItems;
 
-impl Items for NameItems {
+impl Kind for NameItems {
     ghost Record = { NameModel };
 
     ghost Item = { NameModel };
@@ -305,7 +305,7 @@ enum NameKind {
 }
 
 /// What a subsection of the id holds.
-fn kind_of(id: u8) -> NameKind
+fn name_kind_of(id: u8) -> NameKind
     ensures { kind_as result ≡ kind_of_id id }
 {
     match id {
@@ -324,7 +324,7 @@ fn fill_subsection<'a, A: Allocator + Copy + 'a>(
     bytes: &'a [u8],
     alloc: A,
 ) -> Result<NameItem<'a, A>, ReadFault>
-    ensures found { IfOk result (λ x. inside (kind_as kind) id wide bytes.now (name_item_of x)) }
+    ensures found { IfOk result (λ x. inside (kind_as kind) id wide bytes.now (name_item_view x)) }
     ensures none { IfErr result (λ e. e ≢ Memory → FillsNothing (inside (kind_as kind) id) bytes.now) }
 {
     match kind {
@@ -349,7 +349,7 @@ impl<'a, A: Allocator> Spelled for NameItem<'a, A> {
 
     ghost format = { subsection };
 
-    ghost view = { name_item_of };
+    ghost view = { name_item_view };
 
     #[tactic(auto, using(crate::proofs::NameLaws::subsection_unique))]
     fn laws()
@@ -362,7 +362,7 @@ impl<'a, A: Allocator + Copy + 'a> Readable<'a, A> for NameItem<'a, A> {
     fn read(bytes: &'a [u8], alloc: A) -> Result<(NameItem<'a, A>, &'a [u8]), ReadFault> {
         let (id, rest) = <u8 as Readable<'a, A>>::read(bytes, alloc)?;
         let (content, rest) = <&'a [u8] as Readable<'a, A>>::read(rest, alloc)?;
-        let item = fill_subsection(kind_of(id), id, content, alloc)?;
+        let item = fill_subsection(name_kind_of(id), id, content, alloc)?;
         Ok((item, rest))
     }
 }
@@ -373,7 +373,7 @@ pub fn read_names<'a, A: Allocator + Copy + 'a>(
     bytes: &'a [u8],
     alloc: A,
 ) -> Result<Vec<NameItem<'a, A>, A>, ReadFault>
-    ensures found { IfOk result (λ x. name_payload wide bytes.now (map name_item_of x.items)) }
+    ensures found { IfOk result (λ x. name_payload wide bytes.now (map name_item_view x.items)) }
     ensures none { IfErr result (λ e. e ≢ Memory → FillsNothing name_payload bytes.now) }
 {
     let rest = after_name("name", bytes, alloc)?;
@@ -384,7 +384,7 @@ pub fn read_names<'a, A: Allocator + Copy + 'a>(
 impl<'a, A: Allocator> NameItem<'a, A> {
     /// The id of the subsection.
     fn id(&self) -> u8
-        ensures { result ≡ id_of (name_item_of self.now) }
+        ensures { result ≡ id_of (name_item_view self.now) }
     {
         match self {
             NameItem::Module(_) => 0,
@@ -397,7 +397,7 @@ impl<'a, A: Allocator> NameItem<'a, A> {
     /// Appends what the frame of the subsection holds.
     #[tactic(auto, using(crate::proofs::ShortNames::module_appended, crate::proofs::ShortNames::map_appended, crate::proofs::ShortNames::indirect_appended, crate::proofs::ShortNames::other_appended))]
     fn append_content<B: Allocator>(&self, out: &mut Vec<u8, B>) -> R<()>
-        ensures { OnOk result (AppendsShortest (inside (held_by (name_item_of self.now)) (id_of (name_item_of self.now))) (name_item_of self.now) out.old.items out.new.items) }
+        ensures { OnOk result (AppendsShortest (inside (held_by (name_item_view self.now)) (id_of (name_item_view self.now))) (name_item_view self.now) out.old.items out.new.items) }
     {
         match self {
             NameItem::Module(name) => name.append_shortest(out),
@@ -428,7 +428,7 @@ pub fn append_names<A: Allocator, B: Allocator>(
     items: &[NameItem<'_, A>],
     out: &mut Vec<u8, B>,
 ) -> R<()>
-    ensures { OnOk result (AppendsShortest name_payload (map name_item_of items.now) out.old.items out.new.items) }
+    ensures { OnOk result (AppendsShortest name_payload (map name_item_view items.now) out.old.items out.new.items) }
 {
     "name".encode(out)?;
     append_all(items, out)

@@ -6,7 +6,7 @@ ghost use Rattle.wasm_base.specs.Going.{FillsNothing};
 ghost use Rattle.wasm_base.specs.Numbers.{wide};
 ghost use Rattle.wasm_base.specs.Texts.{frame_text, FrameFits};
 ghost use Rattle.wasm_custom.specs.Lists.{list_text};
-ghost use Rattle.wasm_custom.specs.Producers.{field_items, Producer, producer_text, IsProducer, Field, field_text, IsField, field, producers_name, field_of};
+ghost use Rattle.wasm_custom.specs.Producers.{field_items, Producer, producer_text, IsProducer, Field, field_text, IsField, field, producers_name, field_view};
 ghost use Rattle.wasm_custom.specs.Readings.{producers_payload};
 ghost use Rattle.wasm_reader_base.specs.Shortest.{AppendsShortest};
 ghost use Rattle.wasm_reader_base.specs.declared.fault.ReadFault.TheVariants.{Memory};
@@ -15,7 +15,7 @@ use crate::entries::{CustomEntries, CustomKind};
 use crate::lists::{CountedList, ListKind};
 use crate::named::after_name;
 use std::alloc::{Allocator, Global};
-use wasm_base::{Encode, Items, Lent, R};
+use wasm_base::{Encode, Kind, Lent, R};
 use wasm_reader_base::{ReadFault, Shorten, read_whole};
 
 /// The values of a field: what has produced the module, and in which version.
@@ -57,7 +57,7 @@ pub type ProducersSection<A = Global> = CustomEntries<ProducerItems, A>;
 #[derive(Clone, Copy, Debug)]
 pub struct ProducerItems;
 
-impl Items for ProducerItems {
+impl Kind for ProducerItems {
     ghost Record = { Field };
 
     ghost Item = { Field };
@@ -108,7 +108,7 @@ pub fn read_producers<'a, A: Allocator + Copy + 'a>(
     bytes: &'a [u8],
     alloc: A,
 ) -> Result<Vec<(&'a str, Vec<(&'a str, &'a str), A>), A>, ReadFault>
-    ensures found { IfOk result (λ x. producers_payload wide bytes.now (map field_of x.items)) }
+    ensures found { IfOk result (λ x. producers_payload wide bytes.now (map field_view x.items)) }
     ensures none { IfErr result (λ e. e ≢ Memory → FillsNothing producers_payload bytes.now) }
 {
     let rest = after_name("producers", bytes, alloc)?;
@@ -123,7 +123,7 @@ pub fn append_producers<'a, A: Allocator, B: Allocator>(
     fields: &Vec<(&'a str, Vec<(&'a str, &'a str), A>), A>,
     out: &mut Vec<u8, B>,
 ) -> R<()>
-    ensures { OnOk result (AppendsShortest producers_payload (map field_of fields.now.items) out.old.items out.new.items) }
+    ensures { OnOk result (AppendsShortest producers_payload (map field_view fields.now.items) out.old.items out.new.items) }
 {
     "producers".encode(out)?;
     fields.append_shortest(out)

@@ -5,7 +5,7 @@ ghost use Rattle.wasm_base.specs.Formats.{name as name_format, optional};
 ghost use Rattle.wasm_base.specs.Numbers.{wide};
 ghost use Rattle.wasm_base.specs.Reading.{UniqueReading, Reads, ReadsNothing};
 ghost use Rattle.wasm_base.specs.Texts.{frame_text, FrameFits, optional_text};
-ghost use Rattle.wasm_custom.specs.Symbols.{kind_code, indexed_text, of_data_text, definition_text, Symbol as SymbolModel, symbol_text, IsDefinition, IsGivenSymbol, indexed, of_data, has_name as flags_name, has_definition as flags_definition, definition as definition_format, indexed_symbol, data_symbol, symbol, symbol_of};
+ghost use Rattle.wasm_custom.specs.Symbols.{kind_code, indexed_text, of_data_text, definition_text, Symbol as SymbolModel, symbol_text, IsDefinition, IsGivenSymbol, indexed, of_data, has_name as flags_name, has_definition as flags_definition, definition as definition_format, indexed_symbol, data_symbol, symbol, symbol_view};
 ghost use Rattle.wasm_custom.specs.declared.symbols.DataSymbolDefinition.{DataSymbolDefinition as DefinitionModel};
 ghost use Rattle.wasm_custom.specs.declared.symbols.SymbolKind.TheVariants as kinds;
 ghost use Rattle.wasm_reader_base.specs.Shortest.{AppendsShortest};
@@ -212,7 +212,7 @@ fn read_indexed<'a, A: Allocator + Copy>(
     bytes: &'a [u8],
     alloc: A,
 ) -> Result<(Symbol<'a>, &'a [u8]), ReadFault>
-    ensures found { IfOk result (λ x. Reads (indexed_symbol kind) wide bytes.now (symbol_of x.0) x.1.now) }
+    ensures found { IfOk result (λ x. Reads (indexed_symbol kind) wide bytes.now (symbol_view x.0) x.1.now) }
     ensures none { IfErr result (λ e. e ≢ Memory → ReadsNothing (indexed_symbol kind) wide bytes.now) }
 {
     let (flags, rest) = <u32 as Readable<'a, A>>::read(bytes, alloc)?;
@@ -276,7 +276,7 @@ fn read_data<'a, A: Allocator + Copy>(
     bytes: &'a [u8],
     alloc: A,
 ) -> Result<(Symbol<'a>, &'a [u8]), ReadFault>
-    ensures found { IfOk result (λ x. Reads data_symbol wide bytes.now (symbol_of x.0) x.1.now) }
+    ensures found { IfOk result (λ x. Reads data_symbol wide bytes.now (symbol_view x.0) x.1.now) }
     ensures none { IfErr result (λ e. e ≢ Memory → ReadsNothing data_symbol wide bytes.now) }
 {
     let (flags, rest) = <u32 as Readable<'a, A>>::read(bytes, alloc)?;
@@ -297,7 +297,7 @@ impl<'a> Spelled for Symbol<'a> {
 
     ghost format = { symbol };
 
-    ghost view = { symbol_of };
+    ghost view = { symbol_view };
 
     #[tactic(auto, using(crate::proofs::SymbolLaws::symbol_unique))]
     fn laws()

@@ -6,7 +6,7 @@ use Rattle.wasm_base.specs.Formats.{Format, byte, fixed, header, members}
 use Rattle.wasm_base.specs.Reading.{Reads, ReadsNothing, IsReadAlone, BeginsWith}
 use Rattle.wasm_base.proofs.BaseLaws.{frame_bytes_unique}
 use Rattle.wasm_base.proofs.FormatLaws.{byte_unique, begins_then, same_pair}
-use Rattle.wasm_reader.specs.Modules.{kind_of, sized_section, sized_module, line_of, HasLines, StopsAt, HaveOneListing}
+use Rattle.wasm_reader.specs.Modules.{kind_of_id, sized_section, sized_module, line_of, HasLines, StopsAt, HaveOneListing}
 use Rattle.wasm_reader.specs.Sections.{Contents, content}
 use Rattle.wasm_reader.specs.declared.modules.Listed.{Listed}
 use Rattle.wasm_reader.proofs.ShortSections.{content_whole}
@@ -19,8 +19,8 @@ sized_unique s t r q x y h g e =
     let a = h.second in
     let b = g.second in
     let framed = frame_bytes_unique.alone wide h.back g.back r q a.payload b.payload a.framed b.framed id.2 in
-    let held : content (kind_of x.0) wide a.payload y.1.1 = subst (λ z. content (kind_of z) wide a.payload y.1.1) (sym id.0) (subst (λ z. content (kind_of y.0) wide z y.1.1) (sym framed.0) b.holds) in
-    let same : x.1.1 ≡ y.1.1 = (content_whole (kind_of x.0)).whole wide a.payload x.1.1 y.1.1 a.holds held in
+    let held : content (kind_of_id x.0) wide a.payload y.1.1 = subst (λ z. content (kind_of_id z) wide a.payload y.1.1) (sym id.0) (subst (λ z. content (kind_of_id y.0) wide z y.1.1) (sym framed.0) b.holds) in
+    let same : x.1.1 ≡ y.1.1 = (content_whole (kind_of_id x.0)).whole wide a.payload x.1.1 y.1.1 a.holds held in
     let size : x.1.0 ≡ y.1.0 = sym a.size ∙ ap length framed.0 ∙ b.size in (
       same_pair x y id.0 (same_pair x.1 y.1 size same),
       h.joined ∙ ap (λ z. z ++ h.back) id.1 ∙ ap (λ z. g.front ++ z) framed.1 ∙ sym g.joined,

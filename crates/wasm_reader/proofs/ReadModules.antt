@@ -10,7 +10,7 @@ use Rattle.wasm_base.proofs.BaseLaws.{frame_bytes_unique}
 use Rattle.wasm_base.proofs.FormatLaws.{byte_unique, begins_then}
 use Rattle.wasm_base.proofs.ReadingSteps.{reads_same, then_reads, then_nothing_first, then_nothing_second, members_start, members_step}
 use Rattle.wasm_reader_base.proofs.ReadWhole.{member_shorter}
-use Rattle.wasm_reader.specs.Modules.{kind_among, known_kinds, kind_of, Sized, sized_section, sized_module, line_of, HasLines, StopsBehind}
+use Rattle.wasm_reader.specs.Modules.{kind_among, known_kinds, kind_of_id, Sized, sized_section, sized_module, line_of, HasLines, StopsBehind}
 use Rattle.wasm_reader.specs.Sections.{Contents, content}
 use Rattle.wasm_reader.specs.declared.modules.Listed.{Listed}
 use Rattle.wasm_reader.specs.declared.section.SectionKind.{SectionKind}
@@ -44,7 +44,7 @@ pub unknown_kind : (ks : List (ℕ × SectionKind)) (id : ℕ) → IsUnknown ks 
 unknown_kind [] id h = refl
 unknown_kind (k ∷ ks) id h = unknown_kind ks id h.1 ∙ ap (λ t. cond t k.1 (kind_among ks id)) (sym (ne_eqb id k.0 h.0))
 
-pub raw_kind : (id : ℕ) → id ≢ 0 → id ≢ 2 → id ≢ 3 → id ≢ 4 → id ≢ 5 → id ≢ 6 → id ≢ 7 → id ≢ 8 → id ≢ 9 → id ≢ 10 → id ≢ 11 → id ≢ 12 → id ≢ 13 → kinds.Raw ≡ kind_of id
+pub raw_kind : (id : ℕ) → id ≢ 0 → id ≢ 2 → id ≢ 3 → id ≢ 4 → id ≢ 5 → id ≢ 6 → id ≢ 7 → id ≢ 8 → id ≢ 9 → id ≢ 10 → id ≢ 11 → id ≢ 12 → id ≢ 13 → kinds.Raw ≡ kind_of_id id
 raw_kind id a b c d e f g h i j k l m = unknown_kind known_kinds id (a, (b, (c, (d, (e, (f, (g, (h, (i, (j, (k, (l, (m, tt)))))))))))))
 
 pub ruleset kind_steps = (raw_kind)
@@ -54,10 +54,10 @@ pub ruleset kind_steps = (raw_kind)
 pub framed_small : (bytes rest framed : List ℕ) → Reads (frame any_bytes) wide bytes framed rest → length framed < 2 ^ 32
 framed_small bytes rest framed h = let s = h.spelled in subst (λ z. length z < 2 ^ 32) s.spelled s.size.range
 
-pub line_reads : (bytes rest framed after : List ℕ) (id : ℕ) (x : Contents) → Reads byte wide bytes id rest → Reads (frame any_bytes) wide rest framed after → content (kind_of id) wide framed x → Reads sized_section wide bytes (id, (length framed, x)) after
+pub line_reads : (bytes rest framed after : List ℕ) (id : ℕ) (x : Contents) → Reads byte wide bytes id rest → Reads (frame any_bytes) wide rest framed after → content (kind_of_id id) wide framed x → Reads sized_section wide bytes (id, (length framed, x)) after
 line_reads bytes rest framed after id x h g k =
-    let sized : Reads (Sized (kind_of id)) wide rest (length framed, x) after = record { front = g.front; split = g.split; spelled = record { payload = framed; framed = g.spelled; size = refl; holds = k } } in
-    then_reads {G = λ i. Sized (kind_of i)} h sized
+    let sized : Reads (Sized (kind_of_id id)) wide rest (length framed, x) after = record { front = g.front; split = g.split; spelled = record { payload = framed; framed = g.spelled; size = refl; holds = k } } in
+    then_reads {G = λ i. Sized (kind_of_id i)} h sized
 
 pub line_none : (bytes : List ℕ) → ReadsNothing byte wide bytes → ReadsNothing sized_section wide bytes
 line_none bytes n = then_nothing_first n
@@ -66,12 +66,12 @@ as_frame : {kind : SectionKind} {bytes rest : List ℕ} {p : ℕ × Contents} �
 as_frame h = record { front = h.front; split = h.split; spelled = h.spelled.framed }
 
 pub line_no_frame : (bytes rest : List ℕ) (id : ℕ) → Reads byte wide bytes id rest → ReadsNothing (frame any_bytes) wide rest → ReadsNothing sized_section wide bytes
-line_no_frame bytes rest id h n = then_nothing_second {G = λ i. Sized (kind_of i)} byte_unique h (record { none = λ p last g. n.none g.spelled.payload last (as_frame g) })
+line_no_frame bytes rest id h n = then_nothing_second {G = λ i. Sized (kind_of_id i)} byte_unique h (record { none = λ p last g. n.none g.spelled.payload last (as_frame g) })
 
-pub line_nothing : (bytes rest framed after : List ℕ) (id : ℕ) → Reads byte wide bytes id rest → Reads (frame any_bytes) wide rest framed after → FillsNothing (content (kind_of id)) framed → ReadsNothing sized_section wide bytes
+pub line_nothing : (bytes rest framed after : List ℕ) (id : ℕ) → Reads byte wide bytes id rest → Reads (frame any_bytes) wide rest framed after → FillsNothing (content (kind_of_id id)) framed → ReadsNothing sized_section wide bytes
 line_nothing bytes rest framed after id h g n =
-    then_nothing_second {G = λ i. Sized (kind_of i)} byte_unique h (record {
-      none = λ p last k. n.none p.1 (subst (λ z. content (kind_of id) wide z p.1) (sym (reads_same frame_bytes_unique g (as_frame k)).0) k.spelled.holds);
+    then_nothing_second {G = λ i. Sized (kind_of_id i)} byte_unique h (record {
+      none = λ p last k. n.none p.1 (subst (λ z. content (kind_of_id id) wide z p.1) (sym (reads_same frame_bytes_unique g (as_frame k)).0) k.spelled.holds);
     })
 
 pub ruleset line_steps = (line_nothing)

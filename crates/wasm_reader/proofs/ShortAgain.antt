@@ -16,7 +16,7 @@ use Rattle.wasm_custom.specs.Hints.{hints_name}
 use Rattle.wasm_custom.specs.Linking.{linking_name}
 use Rattle.wasm_custom.specs.Names.{name_name}
 use Rattle.wasm_custom.specs.Producers.{producers_name}
-use Rattle.wasm_reader.specs.Outlines.{Section, IsSection, IsNameOf, bytes_of, kind_named, kind_at, kind_of}
+use Rattle.wasm_reader.specs.Outlines.{Section, IsSection, IsNameOf, bytes_of, kind_named, kind_at, section_kind_of}
 use Rattle.wasm_reader.specs.Sections.{Contents, content, section, Shortens}
 use Rattle.wasm_reader.specs.Shortening.{holds_offsets, IsWritten, Rewrite, IsRewrite, written, written_as, AreSettled}
 use Rattle.wasm_reader.specs.declared.section.SectionKind.{SectionKind}
@@ -139,12 +139,12 @@ module _ (offsets : Offsets) (w v : Rewrite) (i : IsSection w.section) (j : IsSe
   same_name Kept h n = one_name w.section.id w.section.payload v.section.name w.section.name (subst (λ z. IsNameOf z w.section.payload v.section.name) (sym s.id) (subst (λ z. IsNameOf v.section.id z v.section.name) (same_payload h.0.0) j.named)) i.named
   same_name LeftOut h n = absurd (n refl)
 
-  same_kind : (how : How) → IsWritten offsets how w.section w.text → how ≢ LeftOut → kind_of v.section ≡ kind_of w.section
+  same_kind : (how : How) → IsWritten offsets how w.section w.text → how ≢ LeftOut → section_kind_of v.section ≡ section_kind_of w.section
   same_kind how h n = ap (λ z. kind_at v.section.id z) (same_name how h n) ∙ ap (λ z. kind_at z w.section.name) (sym s.id)
 
-  shortest_again : (how : How) → IsWritten offsets how w.section w.text → how ≢ LeftOut → Shortens (kind_of v.section) v.section.framed (length v.section.framed) [] v.text → v.text ≡ v.section.framed
+  shortest_again : (how : How) → IsWritten offsets how w.section w.text → how ≢ LeftOut → Shortens (section_kind_of v.section) v.section.framed (length v.section.framed) [] v.text → v.text ≡ v.section.framed
   shortest_again Shortest h n g =
-      let kind = kind_of w.section in
+      let kind = section_kind_of w.section in
       let k : Shortens kind v.section.framed (length v.section.framed) [] v.text = subst (λ z. Shortens z v.section.framed (length v.section.framed) [] v.text) (same_kind Shortest h n) g in
       let alone = section_unique kind in
       let first : section kind shortest v.section.framed h.0.value = subst (λ z. section kind shortest z h.0.value) (sym h.0.appended ∙ s.text) h.0.spelled in
@@ -152,7 +152,7 @@ module _ (offsets : Offsets) (w v : Rewrite) (i : IsSection w.section) (j : IsSe
       let same : h.0.value ≡ k.value = (alone.alone wide v.section.framed v.section.framed [] [] h.0.value k.value (alone.spellings.wider v.section.framed h.0.value first) read.whole refl).0 in
       k.appended ∙ alone.spellings.one k.text v.section.framed k.value k.spelled (subst (λ z. section kind shortest v.section.framed z) same first)
   shortest_again Kept h n g =
-      let kind = kind_of w.section in
+      let kind = section_kind_of w.section in
       let k : Shortens kind v.section.framed (length v.section.framed) [] v.text = subst (λ z. Shortens z v.section.framed (length v.section.framed) [] v.text) (same_kind Kept h n) g in
       let none : ReadsNothing (section kind) wide v.section.framed = subst (λ z. ReadsNothing (section kind) wide z) (sym h.0.0 ∙ s.text) h.0.1 in
       absurd (none.none k.value (drop (length v.section.framed) v.section.framed) k.takes.reads)

@@ -14,7 +14,7 @@ use Rattle.wasm_code.specs.Bodies.{Body, body}
 use Rattle.wasm_code.proofs.BodyLaws.{frame_body_unique}
 use Rattle.wasm_insn.specs.Plain.{Plain}
 use Rattle.wasm_sections.specs.DataSegments.{DataItem, data_item}
-use Rattle.wasm_sections.specs.Elements.{Segment, element}
+use Rattle.wasm_sections.specs.Elements.{ElementItem, element}
 use Rattle.wasm_sections.specs.Exports.{ExportFits, export_text, item_of, export}
 use Rattle.wasm_sections.specs.Globals.{GlobalItem, global_item}
 use Rattle.wasm_sections.specs.Imports.{ImportItem, import_format}
@@ -35,7 +35,7 @@ use Rattle.wasm_sections.proofs.TagLaws.{tag_unique, tag_spelled}
 use Rattle.wasm_types.specs.RecTypes.{TypeItem, type_item}
 use Rattle.wasm_types.proofs.TypeLaws.{type_unique}
 use Rattle.wasm_custom.specs.CoreDumps.{Instance}
-use Rattle.wasm_custom.specs.CoreStacks.{Frame}
+use Rattle.wasm_custom.specs.CoreStacks.{StackFrame}
 use Rattle.wasm_custom.specs.Hints.{Hints as FunctionHints}
 use Rattle.wasm_custom.specs.Linking.{LinkItem}
 use Rattle.wasm_custom.specs.Names.{NameItem}
@@ -61,7 +61,7 @@ segments xs old new a = mapped_appended Segments (vec data_item) xs old new (λ 
 pub data_count : (n : ℕ) (old new : List ℕ) → AppendsShortest u32 n old new → AppendsShortest (content kinds.DataCount) (DataCount n) old new
 data_count n old new a = mapped_appended DataCount u32 n old new (λ z e. cc e) a
 
-pub elements : (xs : List (Segment (List Plain))) (old new : List ℕ) → AppendsShortest (vec element) xs old new → AppendsShortest (content kinds.Elements) (Elements xs) old new
+pub elements : (xs : List (ElementItem (List Plain))) (old new : List ℕ) → AppendsShortest (vec element) xs old new → AppendsShortest (content kinds.Elements) (Elements xs) old new
 elements xs old new a = mapped_appended Elements (vec element) xs old new (λ z e. cc e) a
 
 pub exports : (es : List Export) (old new : List ℕ) → VecFits ExportFits es → new ≡ old ++ vec_text export_text es → AppendsShortest (content kinds.Exports) (Exports (map item_of es)) old new
@@ -113,7 +113,7 @@ modules x old new a = mapped_appended CoreModules modules_payload x old new (λ 
 pub instances : (x : List Instance) (old new : List ℕ) → AppendsShortest instances_payload x old new → AppendsShortest (content kinds.CoreInstances) (CoreInstances x) old new
 instances x old new a = mapped_appended CoreInstances instances_payload x old new (λ z e. cc e) a
 
-pub stack : (x : List ℕ × List Frame) (old new : List ℕ) → AppendsShortest stack_payload x old new → AppendsShortest (content kinds.CoreStack) (CoreStack x) old new
+pub stack : (x : List ℕ × List StackFrame) (old new : List ℕ) → AppendsShortest stack_payload x old new → AppendsShortest (content kinds.CoreStack) (CoreStack x) old new
 stack x old new a = mapped_appended CoreStack stack_payload x old new (λ z e. cc e) a
 
 pub custom : (n bytes old middle new : List ℕ) → AppendsShortest name n old middle → new ≡ middle ++ bytes → AppendsShortest (content kinds.Custom) (Custom (n, bytes)) old new

@@ -31,8 +31,8 @@ known_kinds =
     ∷ []
 
 -- the kind of a section of the id: type sections and those of ids past 13 are of any bytes
-abbrev pub kind_of : ℕ → SectionKind
-kind_of id = kind_among known_kinds id
+abbrev pub kind_of_id : ℕ → SectionKind
+kind_of_id id = kind_among known_kinds id
 
 -- ---- sections
 
@@ -71,7 +71,7 @@ pub record Sized (kind : SectionKind) (mode : Mode) (s : List ℕ) (p : ℕ × C
 
 -- a section: its id, and beside its size what a section of the id's kind holds
 abbrev pub sized_section : Format (ℕ × (ℕ × Contents))
-sized_section = Then byte (λ id. Sized (kind_of id))
+sized_section = Then byte (λ id. Sized (kind_of_id id))
 
 -- module: the header, and sections up to the last byte
 abbrev pub sized_module : Format (List (ℕ × (ℕ × Contents)))

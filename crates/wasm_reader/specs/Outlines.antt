@@ -73,8 +73,8 @@ kind_at id (Some n) = kind_named n
 kind_at id None = kind_among ((number_of ids.Types, kinds.Types) ∷ known_kinds) id
 
 -- the kind of a section
-abbrev pub kind_of : Section → SectionKind
-kind_of s = kind_at s.id s.name
+abbrev pub section_kind_of : Section → SectionKind
+section_kind_of s = kind_at s.id s.name
 
 -- ---- outlines
 
@@ -93,7 +93,7 @@ pub record IsOutline (place : ℕ) (s : Section) (line : Outlined) : Type 0 wher
   pub id : line.id ≡ s.id
   pub offset : line.offset + length s.payload ≡ place + length (bytes_of s)
   pub size : line.size ≡ length s.payload
-  pub items : IsCount (kind_of s) s.payload line.items
+  pub items : IsCount (section_kind_of s) s.payload line.items
   pub name : option_map (λ n. n.now) line.name ≡ s.name
 
 -- The lines tell of the sections, the first of which stands at this place.

@@ -5,9 +5,9 @@ use Rattle.wasm_base.specs.Formats.{Format, u32, name, any_bytes, mapped, pair, 
 use Rattle.wasm_base.specs.Reading.{Reads}
 use Rattle.wasm_code.specs.Bodies.{Body, body}
 use Rattle.wasm_insn.specs.Plain.{Plain}
-use Rattle.wasm_reader_insn.specs.Arguments.{body_of}
+use Rattle.wasm_reader_insn.specs.Arguments.{body_view}
 use Rattle.wasm_sections.specs.DataSegments.{DataItem, data_item}
-use Rattle.wasm_sections.specs.Elements.{Segment, element}
+use Rattle.wasm_sections.specs.Elements.{ElementItem, element}
 use Rattle.wasm_sections.specs.Exports.{ExportItem, item_of, export}
 use Rattle.wasm_sections.specs.Globals.{GlobalItem, global_item}
 use Rattle.wasm_sections.specs.Imports.{ImportItem, imports_item, import_format}
@@ -15,15 +15,15 @@ use Rattle.wasm_sections.specs.Memories.{memory_type}
 use Rattle.wasm_sections.specs.Tables.{TableItem, table_item}
 use Rattle.wasm_sections.specs.Tags.{tag_type}
 use Rattle.wasm_types.specs.RecTypes.{TypeItem, type_item}
-use Rattle.wasm_types.specs.Items.{entry_of}
+use Rattle.wasm_types.specs.Items.{entry_view}
 use Rattle.wasm_sections.specs.declared.memory.MemoryType.{MemoryType}
 use Rattle.wasm_sections.specs.declared.tag.TagType.{TagType}
-use Rattle.wasm_custom.specs.CoreDumps.{Instance, instance_seen}
-use Rattle.wasm_custom.specs.CoreStacks.{Frame, frame_seen}
-use Rattle.wasm_custom.specs.Hints.{Hints as FunctionHints, hints_of}
-use Rattle.wasm_custom.specs.Linking.{LinkItem, link_of}
-use Rattle.wasm_custom.specs.Names.{NameItem, name_item_of}
-use Rattle.wasm_custom.specs.Producers.{Field, field_of}
+use Rattle.wasm_custom.specs.CoreDumps.{Instance, instance_view}
+use Rattle.wasm_custom.specs.CoreStacks.{StackFrame, stack_frame_view}
+use Rattle.wasm_custom.specs.Hints.{Hints as FunctionHints, hints_view}
+use Rattle.wasm_custom.specs.Linking.{LinkItem, link_view}
+use Rattle.wasm_custom.specs.Names.{NameItem, name_item_view}
+use Rattle.wasm_custom.specs.Producers.{Field, field_view}
 use Rattle.wasm_custom.specs.Readings.{name_payload, linking_payload, producers_payload, hints_payload, core_payload, modules_payload, instances_payload, stack_payload}
 use Rattle.wasm_sections.specs.Globals.{global_view}
 use Rattle.wasm_sections.specs.Tables.{table_view}
@@ -39,7 +39,7 @@ pub data Contents : Type 0 where
   Bodies : List Body → Contents
   Segments : List DataItem → Contents
   DataCount : ℕ → Contents
-  Elements : List (Segment (List Plain)) → Contents
+  Elements : List (ElementItem (List Plain)) → Contents
   Exports : List ExportItem → Contents
   Functions : List ℕ → Contents
   Globals : List GlobalItem → Contents
@@ -55,7 +55,7 @@ pub data Contents : Type 0 where
   Core : List ℕ → Contents
   CoreModules : List (List ℕ) → Contents
   CoreInstances : List Instance → Contents
-  CoreStack : List ℕ × List Frame → Contents
+  CoreStack : List ℕ × List StackFrame → Contents
   Custom : List ℕ × List ℕ → Contents
   Raw : List ℕ → Contents
   Types : List TypeItem → Contents
@@ -118,7 +118,7 @@ section kind = frame (content kind)
 
 -- what items say, without where they lie in memory
 abbrev pub contents_of : {A : Type 0} → Items A → Contents
-contents_of (items.Bodies v) = Bodies (map body_of v.items)
+contents_of (items.Bodies v) = Bodies (map body_view v.items)
 contents_of (items.Segments v) = Segments (map segment_view v.items)
 contents_of (items.DataCount n) = DataCount n
 contents_of (items.Elements v) = Elements (map element_view v.items)
@@ -130,17 +130,17 @@ contents_of (items.Memories v) = Memories v.items
 contents_of (items.Start n) = Start n
 contents_of (items.Tables v) = Tables (map table_view v.items)
 contents_of (items.Tags v) = Tags v.items
-contents_of (items.Names v) = Names (map name_item_of v.items)
-contents_of (items.Linking v) = Linking (map link_of v.items)
-contents_of (items.Producers v) = Producers (map field_of v.items)
-contents_of (items.Hints v) = Hints (map hints_of v.items)
+contents_of (items.Names v) = Names (map name_item_view v.items)
+contents_of (items.Linking v) = Linking (map link_view v.items)
+contents_of (items.Producers v) = Producers (map field_view v.items)
+contents_of (items.Hints v) = Hints (map hints_view v.items)
 contents_of (items.Core n) = Core n.now
 contents_of (items.CoreModules v) = CoreModules (map (λ n. n.now) v.items)
-contents_of (items.CoreInstances v) = CoreInstances (map instance_seen v.items)
-contents_of (items.CoreStack n v) = CoreStack (n.now, map frame_seen v.items)
+contents_of (items.CoreInstances v) = CoreInstances (map instance_view v.items)
+contents_of (items.CoreStack n v) = CoreStack (n.now, map stack_frame_view v.items)
 contents_of (items.Custom n b) = Custom (n.now, b.now)
 contents_of (items.Raw b) = Raw b.now
-contents_of (items.Types v) = Types (map entry_of v.items)
+contents_of (items.Types v) = Types (map entry_view v.items)
 
 -- A section of the kind stands at the front of the bytes, and takes so many of them.
 pub record Takes (kind : SectionKind) (bytes : List ℕ) (x : Contents) (n : ℕ) : Type 0 where

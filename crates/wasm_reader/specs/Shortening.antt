@@ -9,7 +9,7 @@ use Rattle.wasm_base.specs.Reading.{Reads, ReadsNothing}
 use Rattle.wasm_base.specs.SectionId.{number_of}
 use Rattle.wasm_base.specs.declared.section_id.SectionId.TheVariants as ids
 use Rattle.wasm_custom.specs.Linking.{linking_name}
-use Rattle.wasm_reader.specs.Outlines.{Section, bytes_of, kind_of, IsSection, HasSections, EndsAt}
+use Rattle.wasm_reader.specs.Outlines.{Section, bytes_of, section_kind_of, IsSection, HasSections, EndsAt}
 use Rattle.wasm_reader.specs.Sections.{section, Shortens}
 use Rattle.wasm_reader.specs.declared.whole.How.{How}
 use Rattle.wasm_reader.specs.declared.whole.How.TheVariants.{Shortest, Kept, LeftOut}
@@ -51,8 +51,8 @@ pub record Rewrite : Type 0 where
 
 -- The text is the one shortest text of the section, or the frame as it stands, since that is not read as its kind.
 abbrev pub IsTextFor : How → Section → List ℕ → Type 0
-IsTextFor Shortest s text = Shortens (kind_of s) s.framed (length s.framed) [] text
-IsTextFor Kept s text = (text ≡ s.framed) × ReadsNothing (section (kind_of s)) wide s.framed
+IsTextFor Shortest s text = Shortens (section_kind_of s) s.framed (length s.framed) [] text
+IsTextFor Kept s text = (text ≡ s.framed) × ReadsNothing (section (section_kind_of s)) wide s.framed
 IsTextFor LeftOut s text = ⊥
 
 -- The section is written so; or it holds offsets, and is left out, as is done with these.

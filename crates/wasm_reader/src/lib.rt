@@ -18,11 +18,11 @@ pub use modules::{Listed, list_module};
 pub use outlines::{Outlined, outline};
 pub use section::{Items, SectionKind, read_section};
 pub use shortest::shorten;
-pub use wasm_reader_base::ReadFault;
 pub use wasm_custom::{CoreFrame, LinkItem, NameItem, Symbol};
+pub use wasm_reader_base::ReadFault;
 pub use wasm_reader_insn::{Arg, Body, Expression, Plain};
-pub use wasm_types::TypeEntry;
 pub use wasm_sections::{
     ElementItem, ElementItemMode, ElementList, GlobalItem, Segment, TableItem,
 };
+pub use wasm_types::TypeEntry;
 pub use whole::{ModuleFault, Offsets, shorten_module};

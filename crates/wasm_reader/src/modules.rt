@@ -5,7 +5,7 @@ ghost use Rattle.wasm_base.specs.Going.{FillsNothing};
 ghost use Rattle.wasm_base.specs.Numbers.{wide};
 ghost use Rattle.wasm_base.specs.Reading.{Reads, ReadsNothing};
 ghost use Rattle.wasm_reader_base.specs.declared.fault.ReadFault.TheVariants.{Ended, UnknownTag, Memory};
-ghost use Rattle.wasm_reader.specs.Modules.{kind_of as kind_of_id, number_in, sized_section, line_of, HasLines, StopsAt};
+ghost use Rattle.wasm_reader.specs.Modules.{kind_of_id as kind_of_id, number_in, sized_section, line_of, HasLines, StopsAt};
 ghost use Rattle.wasm_reader.specs.Sections.{Contents, content};
 
 use crate::counts::count_passed;
@@ -51,7 +51,7 @@ pub(crate) fn read_header(bytes: &[u8]) -> Result<&[u8], ReadFault>
 
 /// The kind of a section of the id.
 #[tactic(auto, using(crate::proofs::ReadModules::kind_steps))]
-pub(crate) fn kind_of(id: u8) -> SectionKind
+pub(crate) fn kind_of_id(id: u8) -> SectionKind
     ensures { result ≡ kind_of_id id }
 {
     match id {
@@ -124,7 +124,7 @@ fn read_line<'a, A: Allocator + Copy>(
 {
     let (id, rest) = <u8 as Readable<'a, A>>::read(bytes, alloc)?;
     let (framed, rest) = <&'a [u8] as Readable<'a, A>>::read(rest, alloc)?;
-    let items = read_number(kind_of(id), framed, alloc)?;
+    let items = read_number(kind_of_id(id), framed, alloc)?;
     let size = framed.len() as u32;
     Ok((Listed { id, size, items }, rest))
 }

@@ -5,7 +5,7 @@ ghost use Rattle.wasm_base.specs.Going.{FillsNothing};
 ghost use Rattle.wasm_base.specs.Numbers.{wide};
 ghost use Rattle.wasm_base.specs.Reading.{ReadsNothing};
 ghost use Rattle.wasm_reader_base.specs.declared.fault.ReadFault.TheVariants.{Memory};
-ghost use Rattle.wasm_reader.specs.Outlines.{Section, section_of, bytes_of, kind_of, IsCount, IsSection, IsOutline, HasOutline, EndsAt};
+ghost use Rattle.wasm_reader.specs.Outlines.{Section, section_of, bytes_of, section_kind_of, IsCount, IsSection, IsOutline, HasOutline, EndsAt};
 ghost use Rattle.wasm_reader.specs.declared.section.SectionKind.TheVariants as kinds;
 
 use crate::modules::{read_header, read_number};
@@ -42,7 +42,7 @@ fn count_types<A: Allocator + Copy>(bytes: &[u8], alloc: A) -> Result<Option<u32
 /// The number of items of a section, where it is read as its kind and these are counted.
 #[tactic(auto, using(crate::proofs::ReadOutlines::count_steps))]
 fn count<A: Allocator + Copy>(section: &Standing<'_>, alloc: A) -> Result<Option<u32>, ReadFault>
-    ensures found { IfOk result (λ count. IsCount (kind_of (section_of section.now)) section.now.payload.now count) }
+    ensures found { IfOk result (λ count. IsCount (section_kind_of (section_of section.now)) section.now.payload.now count) }
     ensures memory { IfErr result (λ e. e ≡ Memory) }
 {
     let kind = section.kind();

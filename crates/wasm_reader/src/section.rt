@@ -8,16 +8,16 @@ ghost use Rattle.wasm_reader.specs.Sections.{content, section, contents_of, Take
 
 use std::alloc::{Allocator, Global};
 use wasm_custom::{
-    BranchHint, CoreFrame, LinkItem, NameItem, read_hints, read_instances, read_links, read_modules,
-    read_names, read_process, read_producers, read_stack,
+    BranchHint, CoreFrame, LinkItem, NameItem, read_hints, read_instances, read_links,
+    read_modules, read_names, read_process, read_producers, read_stack,
 };
 use wasm_reader_base::{ReadFault, Readable, read_whole};
 use wasm_reader_insn::Body;
-use wasm_types::{TypeEntry, read_types};
 use wasm_sections::{
     ElementItem, Export, GlobalItem, Imports, MemoryType, Segment, TableItem, TagType,
     read_imports, read_segments,
 };
+use wasm_types::{TypeEntry, read_types};
 
 /// What a section is read as.
 #[derive(Clone, Copy, PartialEq, Eq, Debug)]

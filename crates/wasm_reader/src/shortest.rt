@@ -18,8 +18,8 @@ use wasm_custom::{
 };
 use wasm_reader_base::{ReadFault, Readable, Shorten};
 use wasm_reader_insn::shorten_body;
-use wasm_types::append_types;
 use wasm_sections::append_imports;
+use wasm_types::append_types;
 
 /// Appends the shortest text of what the frame of a section holds.
 #[tactic(auto, using(crate::proofs::ShortSections::contents))]

@@ -4,9 +4,9 @@ ghost use Rattle.wasm_base.specs.Formats.{any_section};
 ghost use Rattle.wasm_base.specs.Numbers.{wide};
 ghost use Rattle.wasm_base.specs.Reading.{ReadsNothing};
 ghost use Rattle.wasm_reader_base.specs.declared.fault.ReadFault.TheVariants.{Memory};
-ghost use Rattle.wasm_reader.specs.Outlines.{section_of, IsSection, IsNameOf, bytes_of, kind_named, kind_of as kind_of_section};
+ghost use Rattle.wasm_reader.specs.Outlines.{section_of, IsSection, IsNameOf, bytes_of, kind_named, section_kind_of as kind_of_section};
 
-use crate::modules::kind_of;
+use crate::modules::kind_of_id;
 use crate::section::SectionKind;
 use std::alloc::Allocator;
 use wasm_reader_base::{ReadFault, Readable};
@@ -48,7 +48,7 @@ impl Standing<'_> {
         match self.name {
             Some(name) => kind_of_name(name),
             None if self.id == 1 => SectionKind::Types,
-            None => kind_of(self.id),
+            None => kind_of_id(self.id),
         }
     }
 }

@@ -1,6 +1,6 @@
 -- Why nothing was read.
-use Rattle.wasm_base.specs.declared.groups.NoGroups.{NoGroups}
-use Rattle.wasm_base.specs.declared.groups.NoGroups.TheVariants as groups
+use Rattle.wasm_base.specs.declared.leb128.NoGroups.{NoGroups}
+use Rattle.wasm_base.specs.declared.leb128.NoGroups.TheVariants as groups
 use Rattle.wasm_reader_base.specs.declared.fault.ReadFault.{ReadFault}
 use Rattle.wasm_reader_base.specs.declared.fault.ReadFault.TheVariants as faults
 

@@ -13,7 +13,7 @@ ghost use Rattle.wasm_immediates.specs.declared.control.Handle.{Handle as Handle
 ghost use Rattle.wasm_reader_base.specs.declared.fault.ReadFault.TheVariants.{Memory};
 
 use crate::fault::ReadFault;
-use crate::numbers::read_index;
+use crate::leb128::read_index;
 use crate::optional::read_optional;
 use crate::readable::{Readable, Spelled};
 use crate::types::read_val_after;

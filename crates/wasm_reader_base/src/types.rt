@@ -11,7 +11,7 @@ ghost use Rattle.wasm_base.specs.declared.types.ValType.{ValType as Val};
 ghost use Rattle.wasm_reader_base.specs.declared.fault.ReadFault.TheVariants.{Memory};
 
 use crate::fault::ReadFault;
-use crate::numbers::read_index;
+use crate::leb128::read_index;
 use crate::readable::{Readable, Spelled};
 use crate::shorten::Shorten;
 use std::alloc::Allocator;

@@ -24,7 +24,7 @@ use Rattle.wasm_immediates.specs.declared.block_type.BlockType.{BlockType}
 use Rattle.wasm_immediates.specs.declared.control.Catch.{Catch}
 use Rattle.wasm_immediates.specs.declared.control.Handle.{Handle}
 use Rattle.wasm_immediates.specs.PlainImmediates.{ordering_format, vector_format, block_type, mem_arg, catch, handle}
-use Rattle.wasm_reader_insn.specs.Arguments.{argument_of}
+use Rattle.wasm_reader_insn.specs.Arguments.{argument_view}
 use Rattle.wasm_base.specs.Going.{GoesOn}
 use Rattle.wasm_reader_insn.specs.declared.arguments.Arg.{Arg}
 use Rattle.wasm_base.proofs.ReadingSteps.{then_reads, then_nothing_first, then_nothing_second, mapped_reads, mapped_nothing, such_reads, such_none, such_nothing}
@@ -78,12 +78,12 @@ pub ruleset shape_steps = (shape_reads, shape_nothing)
 -- ---- a shape of one part
 
 module _ (shape : Shape) (p : Part) (e : parts_of shape ≡ p ∷ []) (bytes : List ℕ) where
-  pub one_read : {A : Type 0} (rest last : List ℕ) (x : Arg A) (items : List (Arg A)) → Reads (part p) wide bytes (argument_of x) rest → items ≡ x ∷ [] → last ≡ rest → Reads (arguments (parts_of shape)) wide bytes (map argument_of items) last
+  pub one_read : {A : Type 0} (rest last : List ℕ) (x : Arg A) (items : List (Arg A)) → Reads (part p) wide bytes (argument_view x) rest → items ≡ x ∷ [] → last ≡ rest → Reads (arguments (parts_of shape)) wide bytes (map argument_view items) last
   one_read rest last x items h i l =
       let none : List Argument = [] in
-      let one : Reads (arguments (p ∷ [])) wide bytes (argument_of x ∷ none) rest = mapped_reads cons (then_reads h (fixed_reads rest none)) in
-      let listed : Reads (arguments (p ∷ [])) wide bytes (map argument_of items) rest = subst (λ z. Reads (arguments (p ∷ [])) wide bytes (map argument_of z) rest) (sym i) one in
-      subst (λ ps. Reads (arguments ps) wide bytes (map argument_of items) last) (sym e) (subst (λ z. Reads (arguments (p ∷ [])) wide bytes (map argument_of items) z) (sym l) listed)
+      let one : Reads (arguments (p ∷ [])) wide bytes (argument_view x ∷ none) rest = mapped_reads cons (then_reads h (fixed_reads rest none)) in
+      let listed : Reads (arguments (p ∷ [])) wide bytes (map argument_view items) rest = subst (λ z. Reads (arguments (p ∷ [])) wide bytes (map argument_view z) rest) (sym i) one in
+      subst (λ ps. Reads (arguments ps) wide bytes (map argument_view items) last) (sym e) (subst (λ z. Reads (arguments (p ∷ [])) wide bytes (map argument_view items) z) (sym l) listed)
 
   -- of which nothing is kept
   pub one_passed : (rest : List ℕ) (x : Argument) → Reads (part p) wide bytes x rest → (xs : List Argument) × Reads (arguments (parts_of shape)) wide bytes xs rest

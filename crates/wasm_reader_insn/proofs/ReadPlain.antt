@@ -20,7 +20,7 @@ use Rattle.wasm_insn.proofs.PlainLaws.{plain_spelled}
 use Rattle.wasm_reader_base.specs.Shortest.{AppendsShortest}
 use Rattle.wasm_reader_base.proofs.ReadPlain.{little_endian_below, heap_is, val_type_is, memory_is, block_is, catch_is, handle_is, vec_is}
 use Rattle.wasm_reader_insn.specs.declared.arguments.Arg.{Arg}
-use Rattle.wasm_reader_insn.specs.Arguments.{argument_of}
+use Rattle.wasm_reader_insn.specs.Arguments.{argument_view}
 
 -- plain, in normal form, and of this part
 abbrev IsRead : Part → Argument → Type 0
@@ -81,15 +81,15 @@ instruction_is mode s i h = subst IsNormal h.1 (go (shape_of table h.0.0) refl h
 instruction_spelled : (i : Plain) (s : List ℕ) → instruction table wide s i → instruction table shortest (plain_text i) i
 instruction_spelled i s h = let is = instruction_is wide s i h in subst (λ j. instruction table shortest (plain_text i) j) is.1 (plain_spelled table i is.0)
 
-arguments_text_of : {A : Type 0} (xs : List (Arg A)) → flat_map (λ a. argument_text (argument_of a)) xs ≡ arguments_text (map argument_of xs)
+arguments_text_of : {A : Type 0} (xs : List (Arg A)) → flat_map (λ a. argument_text (argument_view a)) xs ≡ arguments_text (map argument_view xs)
 arguments_text_of [] = refl
-arguments_text_of (x ∷ xs) = ap (λ z. argument_text (argument_of x) ++ z) (arguments_text_of xs)
+arguments_text_of (x ∷ xs) = ap (λ z. argument_text (argument_view x) ++ z) (arguments_text_of xs)
 
 -- the op is appended, and then the arguments
-pub instruction_appended : {A : Type 0} (op : Op) (xs : List (Arg A)) (old middle new : List ℕ) → middle ≡ old ++ op_text op → new ≡ middle ++ flat_map (λ a. argument_text (argument_of a)) xs
-    → AppendsShortest (instruction table) (plain_of (op, map argument_of xs)) old new
+pub instruction_appended : {A : Type 0} (op : Op) (xs : List (Arg A)) (old middle new : List ℕ) → middle ≡ old ++ op_text op → new ≡ middle ++ flat_map (λ a. argument_text (argument_view a)) xs
+    → AppendsShortest (instruction table) (plain_of (op, map argument_view xs)) old new
 instruction_appended op xs old middle new e f = record {
-  text = plain_text (plain_of (op, map argument_of xs));
-  appended = f ∙ ap (λ z. z ++ flat_map (λ a. argument_text (argument_of a)) xs) e ∙ append_assoc old (op_text op) (flat_map (λ a. argument_text (argument_of a)) xs) ∙ ap (λ z. old ++ (op_text op ++ z)) (arguments_text_of xs);
-  spelled = λ s h. instruction_spelled (plain_of (op, map argument_of xs)) s h;
+  text = plain_text (plain_of (op, map argument_view xs));
+  appended = f ∙ ap (λ z. z ++ flat_map (λ a. argument_text (argument_view a)) xs) e ∙ append_assoc old (op_text op) (flat_map (λ a. argument_text (argument_view a)) xs) ∙ ap (λ z. old ++ (op_text op ++ z)) (arguments_text_of xs);
+  spelled = λ s h. instruction_spelled (plain_of (op, map argument_view xs)) s h;
 }

@@ -9,29 +9,29 @@ use Rattle.wasm_reader_insn.specs.declared.instruction.Plain.{Plain}
 use Rattle.wasm_reader_insn.specs.declared.body.Body.{Body}
 
 -- an argument
-abbrev pub argument_of : {A : Type 0} → Arg A → Argument
-argument_of (args.U32 n) = unsigned n
-argument_of (args.S32 v) = signed32 v
-argument_of (args.S64 v) = signed64 v
-argument_of (args.F32 float) = float32 float
-argument_of (args.F64 float) = float64 float
-argument_of (args.V128 v) = vector v
-argument_of (args.Mem m) = memory m
-argument_of (args.Lane n) = lane n
-argument_of (args.Lanes ns) = lanes ns
-argument_of (args.Block type) = block type
-argument_of (args.Heap type) = heap type
-argument_of (args.Order o) = ordering o
-argument_of (args.Labels ns) = labels ns.items
-argument_of (args.Catches cs) = catches cs.items
-argument_of (args.Types ts) = types ts.items
-argument_of (args.Handles hs) = handles hs.items
-argument_of (args.Flag n) = flag n
+abbrev pub argument_view : {A : Type 0} → Arg A → Argument
+argument_view (args.U32 n) = unsigned n
+argument_view (args.S32 v) = signed32 v
+argument_view (args.S64 v) = signed64 v
+argument_view (args.F32 float) = float32 float
+argument_view (args.F64 float) = float64 float
+argument_view (args.V128 v) = vector v
+argument_view (args.Mem m) = memory m
+argument_view (args.Lane n) = lane n
+argument_view (args.Lanes ns) = lanes ns
+argument_view (args.Block type) = block type
+argument_view (args.Heap type) = heap type
+argument_view (args.Order o) = ordering o
+argument_view (args.Labels ns) = labels ns.items
+argument_view (args.Catches cs) = catches cs.items
+argument_view (args.Types ts) = types ts.items
+argument_view (args.Handles hs) = handles hs.items
+argument_view (args.Flag n) = flag n
 
 -- an instruction
-abbrev pub plain_of : {A : Type 0} → Plain A → PlainInstruction
-plain_of i = record { op = i.op; arguments = map argument_of i.args.items }
+abbrev pub plain_view : {A : Type 0} → Plain A → PlainInstruction
+plain_view i = record { op = i.op; arguments = map argument_view i.args.items }
 
 -- a body
-abbrev pub body_of : {A : Type 0} → Body A → BodyModel
-body_of b = record { runs = b.runs.items; code = map plain_of b.code.items }
+abbrev pub body_view : {A : Type 0} → Body A → BodyModel
+body_view b = record { runs = b.runs.items; code = map plain_view b.code.items }

@@ -7,7 +7,7 @@ ghost use Rattle.wasm_insn.specs.Parts.{parts_of};
 ghost use Rattle.wasm_insn.specs.declared.part.Part.TheVariants as parts;
 ghost use Rattle.wasm_insn.specs.Arguments.{argument_text};
 ghost use Rattle.wasm_insn.specs.Plain.{part, arguments};
-ghost use Rattle.wasm_reader_insn.specs.Arguments.{argument_of};
+ghost use Rattle.wasm_reader_insn.specs.Arguments.{argument_view};
 ghost use Rattle.wasm_reader_base.specs.declared.fault.ReadFault.TheVariants.{Memory};
 
 use std::alloc::{Allocator, Global};
@@ -51,7 +51,7 @@ pub(crate) fn read_unsigned<'a, A: Allocator + Copy>(
     bytes: &'a [u8],
     alloc: A,
 ) -> Result<(Arg<A>, &'a [u8]), ReadFault>
-    ensures found { IfOk result (λ x. Reads (part parts.Unsigned) wide bytes.now (argument_of x.0) x.1.now) }
+    ensures found { IfOk result (λ x. Reads (part parts.Unsigned) wide bytes.now (argument_view x.0) x.1.now) }
     ensures none { IfErr result (λ e. e ≢ Memory → ReadsNothing (part parts.Unsigned) wide bytes.now) }
 {
     let (value, rest) = <u32 as Readable<'a, A>>::read(bytes, alloc)?;
@@ -65,7 +65,7 @@ pub(crate) fn read_signed32<'a, A: Allocator + Copy>(
     bytes: &'a [u8],
     alloc: A,
 ) -> Result<(Arg<A>, &'a [u8]), ReadFault>
-    ensures found { IfOk result (λ x. Reads (part parts.Signed32) wide bytes.now (argument_of x.0) x.1.now) }
+    ensures found { IfOk result (λ x. Reads (part parts.Signed32) wide bytes.now (argument_view x.0) x.1.now) }
     ensures none { IfErr result (λ e. e ≢ Memory → ReadsNothing (part parts.Signed32) wide bytes.now) }
 {
     let (value, rest) = <i32 as Readable<'a, A>>::read(bytes, alloc)?;
@@ -79,7 +79,7 @@ pub(crate) fn read_signed64<'a, A: Allocator + Copy>(
     bytes: &'a [u8],
     alloc: A,
 ) -> Result<(Arg<A>, &'a [u8]), ReadFault>
-    ensures found { IfOk result (λ x. Reads (part parts.Signed64) wide bytes.now (argument_of x.0) x.1.now) }
+    ensures found { IfOk result (λ x. Reads (part parts.Signed64) wide bytes.now (argument_view x.0) x.1.now) }
     ensures none { IfErr result (λ e. e ≢ Memory → ReadsNothing (part parts.Signed64) wide bytes.now) }
 {
     let (value, rest) = <i64 as Readable<'a, A>>::read(bytes, alloc)?;
@@ -93,7 +93,7 @@ fn read_float32<'a, A: Allocator + Copy>(
     bytes: &'a [u8],
     alloc: A,
 ) -> Result<(Arg<A>, &'a [u8]), ReadFault>
-    ensures found { IfOk result (λ x. Reads (part parts.Float32) wide bytes.now (argument_of x.0) x.1.now) }
+    ensures found { IfOk result (λ x. Reads (part parts.Float32) wide bytes.now (argument_view x.0) x.1.now) }
     ensures none { IfErr result (λ e. e ≢ Memory → ReadsNothing (part parts.Float32) wide bytes.now) }
 {
     let (value, rest) = <Ieee32 as Readable<'a, A>>::read(bytes, alloc)?;
@@ -107,7 +107,7 @@ fn read_float64<'a, A: Allocator + Copy>(
     bytes: &'a [u8],
     alloc: A,
 ) -> Result<(Arg<A>, &'a [u8]), ReadFault>
-    ensures found { IfOk result (λ x. Reads (part parts.Float64) wide bytes.now (argument_of x.0) x.1.now) }
+    ensures found { IfOk result (λ x. Reads (part parts.Float64) wide bytes.now (argument_view x.0) x.1.now) }
     ensures none { IfErr result (λ e. e ≢ Memory → ReadsNothing (part parts.Float64) wide bytes.now) }
 {
     let (value, rest) = <Ieee64 as Readable<'a, A>>::read(bytes, alloc)?;
@@ -121,7 +121,7 @@ fn read_vector<'a, A: Allocator + Copy>(
     bytes: &'a [u8],
     alloc: A,
 ) -> Result<(Arg<A>, &'a [u8]), ReadFault>
-    ensures found { IfOk result (λ x. Reads (part parts.Vector) wide bytes.now (argument_of x.0) x.1.now) }
+    ensures found { IfOk result (λ x. Reads (part parts.Vector) wide bytes.now (argument_view x.0) x.1.now) }
     ensures none { IfErr result (λ e. e ≢ Memory → ReadsNothing (part parts.Vector) wide bytes.now) }
 {
     let (value, rest) = <i128 as Readable<'a, A>>::read(bytes, alloc)?;
@@ -135,7 +135,7 @@ pub(crate) fn read_memory<'a, A: Allocator + Copy>(
     bytes: &'a [u8],
     alloc: A,
 ) -> Result<(Arg<A>, &'a [u8]), ReadFault>
-    ensures found { IfOk result (λ x. Reads (part parts.Memory) wide bytes.now (argument_of x.0) x.1.now) }
+    ensures found { IfOk result (λ x. Reads (part parts.Memory) wide bytes.now (argument_view x.0) x.1.now) }
     ensures none { IfErr result (λ e. e ≢ Memory → ReadsNothing (part parts.Memory) wide bytes.now) }
 {
     let (value, rest) = <MemArg as Readable<'a, A>>::read(bytes, alloc)?;
@@ -148,7 +148,7 @@ fn read_lane<'a, A: Allocator + Copy>(
     bytes: &'a [u8],
     alloc: A,
 ) -> Result<(Arg<A>, &'a [u8]), ReadFault>
-    ensures found { IfOk result (λ x. Reads (part parts.Lane) wide bytes.now (argument_of x.0) x.1.now) }
+    ensures found { IfOk result (λ x. Reads (part parts.Lane) wide bytes.now (argument_view x.0) x.1.now) }
     ensures none { IfErr result (λ e. e ≢ Memory → ReadsNothing (part parts.Lane) wide bytes.now) }
 {
     let (value, rest) = <u8 as Readable<'a, A>>::read(bytes, alloc)?;
@@ -162,7 +162,7 @@ fn read_lanes<'a, A: Allocator + Copy>(
     bytes: &'a [u8],
     alloc: A,
 ) -> Result<(Arg<A>, &'a [u8]), ReadFault>
-    ensures found { IfOk result (λ x. Reads (part parts.Lanes) wide bytes.now (argument_of x.0) x.1.now) }
+    ensures found { IfOk result (λ x. Reads (part parts.Lanes) wide bytes.now (argument_view x.0) x.1.now) }
     ensures none { IfErr result (λ e. e ≢ Memory → ReadsNothing (part parts.Lanes) wide bytes.now) }
 {
     let (value, rest) = <[u8; 16] as Readable<'a, A>>::read(bytes, alloc)?;
@@ -176,7 +176,7 @@ pub(crate) fn read_block<'a, A: Allocator + Copy>(
     bytes: &'a [u8],
     alloc: A,
 ) -> Result<(Arg<A>, &'a [u8]), ReadFault>
-    ensures found { IfOk result (λ x. Reads (part parts.Block) wide bytes.now (argument_of x.0) x.1.now) }
+    ensures found { IfOk result (λ x. Reads (part parts.Block) wide bytes.now (argument_view x.0) x.1.now) }
     ensures none { IfErr result (λ e. e ≢ Memory → ReadsNothing (part parts.Block) wide bytes.now) }
 {
     let (value, rest) = <BlockType as Readable<'a, A>>::read(bytes, alloc)?;
@@ -190,7 +190,7 @@ fn read_heap<'a, A: Allocator + Copy>(
     bytes: &'a [u8],
     alloc: A,
 ) -> Result<(Arg<A>, &'a [u8]), ReadFault>
-    ensures found { IfOk result (λ x. Reads (part parts.Heap) wide bytes.now (argument_of x.0) x.1.now) }
+    ensures found { IfOk result (λ x. Reads (part parts.Heap) wide bytes.now (argument_view x.0) x.1.now) }
     ensures none { IfErr result (λ e. e ≢ Memory → ReadsNothing (part parts.Heap) wide bytes.now) }
 {
     let (value, rest) = <HeapType as Readable<'a, A>>::read(bytes, alloc)?;
@@ -204,7 +204,7 @@ fn read_ordering<'a, A: Allocator + Copy>(
     bytes: &'a [u8],
     alloc: A,
 ) -> Result<(Arg<A>, &'a [u8]), ReadFault>
-    ensures found { IfOk result (λ x. Reads (part parts.Ordering) wide bytes.now (argument_of x.0) x.1.now) }
+    ensures found { IfOk result (λ x. Reads (part parts.Ordering) wide bytes.now (argument_view x.0) x.1.now) }
     ensures none { IfErr result (λ e. e ≢ Memory → ReadsNothing (part parts.Ordering) wide bytes.now) }
 {
     let (value, rest) = <Ordering as Readable<'a, A>>::read(bytes, alloc)?;
@@ -218,7 +218,7 @@ fn read_labels<'a, A: Allocator + Copy>(
     bytes: &'a [u8],
     alloc: A,
 ) -> Result<(Arg<A>, &'a [u8]), ReadFault>
-    ensures found { IfOk result (λ x. Reads (part parts.Labels) wide bytes.now (argument_of x.0) x.1.now) }
+    ensures found { IfOk result (λ x. Reads (part parts.Labels) wide bytes.now (argument_view x.0) x.1.now) }
     ensures none { IfErr result (λ e. e ≢ Memory → ReadsNothing (part parts.Labels) wide bytes.now) }
 {
     let (value, rest) = <Vec<u32, A> as Readable<'a, A>>::read(bytes, alloc)?;
@@ -232,7 +232,7 @@ fn read_catches<'a, A: Allocator + Copy>(
     bytes: &'a [u8],
     alloc: A,
 ) -> Result<(Arg<A>, &'a [u8]), ReadFault>
-    ensures found { IfOk result (λ x. Reads (part parts.Catches) wide bytes.now (argument_of x.0) x.1.now) }
+    ensures found { IfOk result (λ x. Reads (part parts.Catches) wide bytes.now (argument_view x.0) x.1.now) }
     ensures none { IfErr result (λ e. e ≢ Memory → ReadsNothing (part parts.Catches) wide bytes.now) }
 {
     let (value, rest) = <Vec<Catch, A> as Readable<'a, A>>::read(bytes, alloc)?;
@@ -246,7 +246,7 @@ fn read_types<'a, A: Allocator + Copy>(
     bytes: &'a [u8],
     alloc: A,
 ) -> Result<(Arg<A>, &'a [u8]), ReadFault>
-    ensures found { IfOk result (λ x. Reads (part parts.Types) wide bytes.now (argument_of x.0) x.1.now) }
+    ensures found { IfOk result (λ x. Reads (part parts.Types) wide bytes.now (argument_view x.0) x.1.now) }
     ensures none { IfErr result (λ e. e ≢ Memory → ReadsNothing (part parts.Types) wide bytes.now) }
 {
     let (value, rest) = <Vec<ValType, A> as Readable<'a, A>>::read(bytes, alloc)?;
@@ -260,7 +260,7 @@ fn read_handles<'a, A: Allocator + Copy>(
     bytes: &'a [u8],
     alloc: A,
 ) -> Result<(Arg<A>, &'a [u8]), ReadFault>
-    ensures found { IfOk result (λ x. Reads (part parts.Handles) wide bytes.now (argument_of x.0) x.1.now) }
+    ensures found { IfOk result (λ x. Reads (part parts.Handles) wide bytes.now (argument_view x.0) x.1.now) }
     ensures none { IfErr result (λ e. e ≢ Memory → ReadsNothing (part parts.Handles) wide bytes.now) }
 {
     let (value, rest) = <Vec<Handle, A> as Readable<'a, A>>::read(bytes, alloc)?;
@@ -273,7 +273,7 @@ fn read_flag<'a, A: Allocator + Copy>(
     bytes: &'a [u8],
     alloc: A,
 ) -> Result<(Arg<A>, &'a [u8]), ReadFault>
-    ensures found { IfOk result (λ x. Reads (part parts.Flag) wide bytes.now (argument_of x.0) x.1.now) }
+    ensures found { IfOk result (λ x. Reads (part parts.Flag) wide bytes.now (argument_view x.0) x.1.now) }
     ensures none { IfErr result (λ e. e ≢ Memory → ReadsNothing (part parts.Flag) wide bytes.now) }
 {
     let (value, rest) = <u8 as Readable<'a, A>>::read(bytes, alloc)?;
@@ -290,7 +290,7 @@ pub(crate) fn read_part<'a, A: Allocator + Copy>(
     bytes: &'a [u8],
     alloc: A,
 ) -> Result<(Arg<A>, &'a [u8]), ReadFault>
-    ensures found { IfOk result (λ x. Reads (part wanted) wide bytes.now (argument_of x.0) x.1.now) }
+    ensures found { IfOk result (λ x. Reads (part wanted) wide bytes.now (argument_view x.0) x.1.now) }
     ensures none { IfErr result (λ e. e ≢ Memory → ReadsNothing (part wanted) wide bytes.now) }
 {
     match wanted {
@@ -322,7 +322,7 @@ fn read_parts<'a, A: Allocator + Copy>(
     args: &mut Vec<Arg<A>, A>,
 ) -> Result<&'a [u8], ReadFault>
     requires { args.old.items ≡ [] }
-    ensures found { IfOk result (λ rest. Reads (arguments wanted.now) wide bytes.now (map argument_of args.new.items) rest.now) }
+    ensures found { IfOk result (λ rest. Reads (arguments wanted.now) wide bytes.now (map argument_view args.new.items) rest.now) }
     ensures none { IfErr result (λ e. e ≢ Memory → ReadsNothing (arguments wanted.now) wide bytes.now) }
 {
     let mut rest = bytes;
@@ -342,7 +342,7 @@ fn read_any<'a, A: Allocator + Copy>(
     bytes: &'a [u8],
     alloc: A,
 ) -> Result<(Vec<Arg<A>, A>, &'a [u8]), ReadFault>
-    ensures found { IfOk result (λ x. Reads (arguments (parts_of shape)) wide bytes.now (map argument_of x.0.items) x.1.now) }
+    ensures found { IfOk result (λ x. Reads (arguments (parts_of shape)) wide bytes.now (map argument_view x.0.items) x.1.now) }
     ensures none { IfErr result (λ e. e ≢ Memory → ReadsNothing (arguments (parts_of shape)) wide bytes.now) }
 {
     let wanted = shape.parts();
@@ -373,7 +373,7 @@ pub(crate) fn read_arguments<'a, A: Allocator + Copy>(
     bytes: &'a [u8],
     alloc: A,
 ) -> Result<(Vec<Arg<A>, A>, &'a [u8]), ReadFault>
-    ensures found { IfOk result (λ x. Reads (arguments (parts_of shape)) wide bytes.now (map argument_of x.0.items) x.1.now) }
+    ensures found { IfOk result (λ x. Reads (arguments (parts_of shape)) wide bytes.now (map argument_view x.0.items) x.1.now) }
     ensures none { IfErr result (λ e. e ≢ Memory → ReadsNothing (arguments (parts_of shape)) wide bytes.now) }
 {
     match shape {
@@ -396,7 +396,7 @@ fn read_any_into<'a, A: Allocator + Copy>(
     alloc: A,
     args: &mut Vec<Arg<A>, A>,
 ) -> Result<&'a [u8], ReadFault>
-    ensures found { IfOk result (λ rest. Reads (arguments (parts_of shape)) wide bytes.now (map argument_of args.new.items) rest.now) }
+    ensures found { IfOk result (λ rest. Reads (arguments (parts_of shape)) wide bytes.now (map argument_view args.new.items) rest.now) }
     ensures none { IfErr result (λ e. e ≢ Memory → ReadsNothing (arguments (parts_of shape)) wide bytes.now) }
 {
     args.clear();
@@ -430,7 +430,7 @@ pub(crate) fn read_arguments_into<'a, A: Allocator + Copy>(
     alloc: A,
     args: &mut Vec<Arg<A>, A>,
 ) -> Result<&'a [u8], ReadFault>
-    ensures found { IfOk result (λ rest. Reads (arguments (parts_of shape)) wide bytes.now (map argument_of args.new.items) rest.now) }
+    ensures found { IfOk result (λ rest. Reads (arguments (parts_of shape)) wide bytes.now (map argument_view args.new.items) rest.now) }
     ensures none { IfErr result (λ e. e ≢ Memory → ReadsNothing (arguments (parts_of shape)) wide bytes.now) }
 {
     match shape {
@@ -450,7 +450,7 @@ pub(crate) fn read_arguments_into<'a, A: Allocator + Copy>(
 /// Appends the text of the argument.
 #[tactic(auto, using(wasm_immediates::proofs::FixedBytes::vector_bytes))]
 fn append_argument<A: Allocator, B: Allocator>(arg: &Arg<A>, out: &mut Vec<u8, B>) -> R<()>
-    ensures { OnOk result (out.new.items ≡ out.old.items ++ argument_text (argument_of arg.now)) }
+    ensures { OnOk result (out.new.items ≡ out.old.items ++ argument_text (argument_view arg.now)) }
 {
     match arg {
         Arg::U32(n) => n.encode(out),
@@ -478,7 +478,7 @@ pub(crate) fn append_arguments<A: Allocator, B: Allocator>(
     args: &[Arg<A>],
     out: &mut Vec<u8, B>,
 ) -> R<()>
-    ensures { OnOk result (out.new.items ≡ out.old.items ++ flat_map (λ a. argument_text (argument_of a)) args.now) }
+    ensures { OnOk result (out.new.items ≡ out.old.items ++ flat_map (λ a. argument_text (argument_view a)) args.now) }
 {
     for arg in args {
         append_argument(arg, out)?;

@@ -8,7 +8,7 @@ ghost use Rattle.wasm_insn.specs.Table.{table};
 ghost use Rattle.wasm_code.specs.Bodies.{Body as BodyModel, body};
 ghost use Rattle.wasm_reader_base.specs.Shortest.{AppendsShortest};
 ghost use Rattle.wasm_reader_base.specs.declared.fault.ReadFault.TheVariants.{Memory};
-ghost use Rattle.wasm_reader_insn.specs.Arguments.{plain_of, body_of};
+ghost use Rattle.wasm_reader_insn.specs.Arguments.{plain_view, body_view};
 
 use crate::instruction::{Plain, append_instruction};
 use crate::walk::Instructions;
@@ -24,7 +24,7 @@ pub fn read_code<'a, A: Allocator + Copy>(
     bytes: &'a [u8],
     alloc: A,
 ) -> Result<Vec<Plain<A>, A>, ReadFault>
-    ensures found { IfOk result (λ x. members (instruction table) wide bytes.now (map plain_of x.items)) }
+    ensures found { IfOk result (λ x. members (instruction table) wide bytes.now (map plain_view x.items)) }
     ensures none { IfErr result (λ e. e ≢ Memory → FillsNothing (members (instruction table)) bytes.now) }
 {
     let mut items = Vec::with_capacity(alloc, bytes.len() / BYTES_OF_ONE)?;
@@ -45,7 +45,7 @@ pub(crate) fn append_code<A: Allocator, B: Allocator>(
     code: &[Plain<A>],
     out: &mut Vec<u8, B>,
 ) -> R<()>
-    ensures { OnOk result (AppendsShortest (members (instruction table)) (map plain_of code.now) out.old.items out.new.items) }
+    ensures { OnOk result (AppendsShortest (members (instruction table)) (map plain_view code.now) out.old.items out.new.items) }
 {
     for instruction in code {
         instruction.append_shortest(out)?;
@@ -63,7 +63,7 @@ pub struct Body<A: Allocator = Global> {
 /// The body that all of the bytes spell, which are those in its frame.
 #[tactic(auto, using(crate::proofs::ReadLists::body_steps))]
 pub fn read_body<'a, A: Allocator + Copy>(bytes: &'a [u8], alloc: A) -> Result<Body<A>, ReadFault>
-    ensures found { IfOk result (λ x. body wide bytes.now (body_of x)) }
+    ensures found { IfOk result (λ x. body wide bytes.now (body_view x)) }
     ensures none { IfErr result (λ e. e ≢ Memory → FillsNothing body bytes.now) }
 {
     let (runs, rest) = <Vec<(u32, ValType), A> as Readable<'a, A>>::read(bytes, alloc)?;
@@ -77,7 +77,7 @@ impl<A: Allocator> Spelled for Body<A> {
 
     ghost format = { frame body };
 
-    ghost view = { body_of };
+    ghost view = { body_view };
 
     #[tactic(auto, using(wasm_code::proofs::BodyLaws::frame_body_unique))]
     fn laws() {}

@@ -2,7 +2,7 @@
 ghost use Rattle.std.specs.Prelude.{List, map};
 ghost use Rattle.wasm_insn.specs.Plain.{Plain as PlainInstruction};
 ghost use Rattle.wasm_code.specs.Expressions.{expression};
-ghost use Rattle.wasm_reader_insn.specs.Arguments.{plain_of};
+ghost use Rattle.wasm_reader_insn.specs.Arguments.{plain_view};
 
 use crate::body::append_code;
 use crate::instruction::Plain;
@@ -22,7 +22,7 @@ impl<A: Allocator> Spelled for Expression<A> {
 
     ghost format = { expression };
 
-    ghost view = { λ e. map plain_of e.0.items };
+    ghost view = { λ e. map plain_view e.0.items };
 
     #[tactic(auto, using(wasm_code::proofs::ExpressionLaws::expression_unique))]
     fn laws() {}

@@ -7,7 +7,7 @@ ghost use Rattle.wasm_insn.specs.Table.{table};
 ghost use Rattle.wasm_insn.proofs.PlainLaws.{opcode_unique};
 ghost use Rattle.wasm_reader_base.specs.Shortest.{AppendsShortest};
 ghost use Rattle.wasm_reader_base.specs.declared.fault.ReadFault.TheVariants.{Memory};
-ghost use Rattle.wasm_reader_insn.specs.Arguments.{argument_of, plain_of};
+ghost use Rattle.wasm_reader_insn.specs.Arguments.{argument_view, plain_view};
 
 use crate::arguments::{Arg, append_arguments, read_arguments, read_arguments_into};
 use std::alloc::{Allocator, Global};
@@ -48,7 +48,7 @@ impl<A: Allocator> Spelled for Plain<A> {
 
     ghost format = { instruction table };
 
-    ghost view = { plain_of };
+    ghost view = { plain_view };
 
     #[tactic(auto, using(wasm_insn::proofs::InstructionLaws::alone))]
     fn laws() {}
@@ -74,7 +74,7 @@ pub(crate) fn read_instruction_into<'a, A: Allocator + Copy>(
     alloc: A,
     args: &mut Vec<Arg<A>, A>,
 ) -> Result<(Op, &'a [u8]), ReadFault>
-    ensures found { IfOk result (λ x. Reads (instruction table) wide bytes.now (record { op = x.0; arguments = map argument_of args.new.items }) x.1.now) }
+    ensures found { IfOk result (λ x. Reads (instruction table) wide bytes.now (record { op = x.0; arguments = map argument_view args.new.items }) x.1.now) }
     ensures none { IfErr result (λ e. e ≢ Memory → ReadsNothing (instruction table) wide bytes.now) }
 {
     let (op, rest) = read_op(bytes, alloc)?;
@@ -91,7 +91,7 @@ pub(crate) fn append_instruction<A: Allocator, B: Allocator>(
     args: &[Arg<A>],
     out: &mut Vec<u8, B>,
 ) -> R<()>
-    ensures { OnOk result (AppendsShortest (instruction table) (record { op = op; arguments = map argument_of args.now }) out.old.items out.new.items) }
+    ensures { OnOk result (AppendsShortest (instruction table) (record { op = op; arguments = map argument_view args.now }) out.old.items out.new.items) }
 {
     op.encode(out)?;
     append_arguments(args, out)

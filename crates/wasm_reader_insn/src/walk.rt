@@ -10,7 +10,7 @@ ghost use Rattle.wasm_insn.specs.Table.{table};
 ghost use Rattle.wasm_code.specs.Bodies.{body};
 ghost use Rattle.wasm_code.specs.Expressions.{IsNoEnd, expression};
 ghost use Rattle.wasm_reader_base.specs.declared.fault.ReadFault.TheVariants.{Memory};
-ghost use Rattle.wasm_reader_insn.specs.Arguments.{argument_of};
+ghost use Rattle.wasm_reader_insn.specs.Arguments.{argument_view};
 ghost use Rattle.wasm_reader_insn.specs.Walks.{Walking, ahead};
 
 use crate::arguments::Arg;
@@ -41,7 +41,7 @@ pub struct Instructions<'a, A: Allocator = Global> {
 impl<'a, A: Allocator> Model for Instructions<'a, A> {
     ghost Value = { Walking };
 
-    ghost view = { λ w. record { bytes = w.bytes.now; place = w.place; arguments = map argument_of w.args.items } };
+    ghost view = { λ w. record { bytes = w.bytes.now; place = w.place; arguments = map argument_view w.args.items } };
 
     ghost invariant = { λ w. w.place ≤ length w.bytes.now };
 }
@@ -142,7 +142,7 @@ impl<'a, A: Allocator + Copy> Instructions<'a, A> {
 
     /// The arguments of the instruction that was gone over last. After an error they say nothing.
     pub fn args(&self) -> &[Arg<A>]
-        ensures { map argument_of result.now ≡ self.now.arguments }
+        ensures { map argument_view result.now ≡ self.now.arguments }
     {
         &self.args
     }

@@ -29,7 +29,7 @@ use Rattle.wasm_code.proofs.Calls.{all_of}
 use Rattle.wasm_code.specs.Expressions.{expression_text, StoresInstructions, StoresWide}
 use Rattle.wasm_sections.specs.Constants.{Stored, IsStored}
 use Rattle.wasm_sections.specs.DataSegments.{AddsBytes, active_text, passive_text, DataItem, active, passive, given_active, given_passive, data_item}
-use Rattle.wasm_sections.specs.Elements.{Segment, Place, functions, expressions, ElementsFit, IsPlace, settled, settled_text, elements_by, stored_by, IsSegment, IsSegmentWide, element_of, element}
+use Rattle.wasm_sections.specs.Elements.{ElementItem, Place, functions, expressions, ElementsFit, IsPlace, settled, settled_text, elements_by, stored_by, IsSegment, IsSegmentWide, element_of, element}
 use Rattle.wasm_sections.specs.Exports.{kind_code, ExportItem, export}
 use Rattle.wasm_sections.specs.Globals.{global_text, IsGlobal, GlobalItem, global_item}
 use Rattle.wasm_sections.specs.Imports.{ImportItem, alike, import_text, ImportFits, IsEntity, import_format}
@@ -106,18 +106,18 @@ adds_export before item e fits utf8 range =
     adds_raw before item e spelled
 
 -- a segment of references, whose expressions are stored
-pub adds_element : {old new : List (List ℕ)} {items : List (Segment (List Plain))} → HoldsElements old items → (given : Segment Stored) → new ≡ old ++ settled_text expression_text (settled (stored_by given)) ∷ []
+pub adds_element : {old new : List (List ℕ)} {items : List (ElementItem (List Plain))} → HoldsElements old items → (given : ElementItem Stored) → new ≡ old ++ settled_text expression_text (settled (stored_by given)) ∷ []
     → IsSegment given → HoldsElements new (items ++ element_of given ∷ [])
 adds_element {old = old} {new = new} before given e plain = adds_item before given (subst (λ s. new ≡ old ++ s ∷ []) (sym (stored_same given)) e) plain
 
 -- a segment of functions, and one of expressions, whose numbers the call has counted
-pub adds_functions : {old new : List (List ℕ)} {items : List (Segment (List Plain))} → HoldsElements old items → (place : Place Stored) (indices : List ℕ)
+pub adds_functions : {old new : List (List ℕ)} {items : List (ElementItem (List Plain))} → HoldsElements old items → (place : Place Stored) (indices : List ℕ)
     → new ≡ old ++ settled_text expression_text (settled (stored_by (record { place = place; elements = functions indices }))) ∷ [] → ElementsFit {E = List ℕ} (functions indices) → IsPlace place → AllByRecursion (λ f. f < 2 ^ 32) indices
     → HoldsElements new (items ++ element_of (record { place = place; elements = functions indices }) ∷ [])
 adds_functions before place indices e fits placed are =
     adds_element before (record { place = place; elements = functions indices }) e (record { place = placed; elements = record { count = fits.count; members = all_of (λ f. f < 2 ^ 32) indices are } })
 
-pub adds_expressions : {old new : List (List ℕ)} {items : List (Segment (List Plain))} → HoldsElements old items → (place : Place Stored) (ty : RefType) (stored : List Stored)
+pub adds_expressions : {old new : List (List ℕ)} {items : List (ElementItem (List Plain))} → HoldsElements old items → (place : Place Stored) (ty : RefType) (stored : List Stored)
     → new ≡ old ++ settled_text expression_text (settled (stored_by (record { place = place; elements = expressions ty stored }))) ∷ [] → ElementsFit (elements_by (expressions ty stored)) → IsPlace place → IsRef ty → AllByRecursion IsStored stored
     → HoldsElements new (items ++ element_of (record { place = place; elements = expressions ty stored }) ∷ [])
 adds_expressions before place ty stored e fits placed range are =
@@ -167,7 +167,7 @@ pub adds_global_wide : {old new : List (List ℕ)} {items : List GlobalItem} →
 adds_global_wide before global bytes e plain stored =
     adds_item_wide globals-wide before (record { global_type = global.global_type; init = record { bytes = bytes; instructions = global.init } }) e (record { global_type = plain; init = stored })
 
-pub adds_element_wide : {old new : List (List ℕ)} {items : List (Segment (List Plain))} → HoldsWide element old items → (given : Segment Stored) → new ≡ old ++ settled_text expression_text (settled (stored_by given)) ∷ []
+pub adds_element_wide : {old new : List (List ℕ)} {items : List (ElementItem (List Plain))} → HoldsWide element old items → (given : ElementItem Stored) → new ≡ old ++ settled_text expression_text (settled (stored_by given)) ∷ []
     → IsSegmentWide given → HoldsWide element new (items ++ element_of given ∷ [])
 adds_element_wide {old = old} {new = new} before given e plain = adds_item_wide elements-wide before given (subst (λ s. new ≡ old ++ s ∷ []) (sym (stored_same given)) e) plain
 
@@ -197,7 +197,7 @@ pub gains_exports : {readings : List SectionReading} {id : ℕ} {old new : List 
     → ReadsBackBoth (counted_format export) (HoldsExports entries) (HoldsWide export entries) (section_text entries) → HoldsExports entries items → ReadsSections (readings ++ reading_of id (vec export) items ∷ []) new
 gains_exports before more fits reads holds = gains_items exports-payload before more fits reads holds
 
-pub gains_elements : {readings : List SectionReading} {id : ℕ} {old new : List ℕ} {entries : List (List ℕ)} {items : List (Segment (List Plain))} → ReadsSections readings old → ReadsOneMore (SectionPayload entries) id old new → SectionFits entries
+pub gains_elements : {readings : List SectionReading} {id : ℕ} {old new : List ℕ} {entries : List (List ℕ)} {items : List (ElementItem (List Plain))} → ReadsSections readings old → ReadsOneMore (SectionPayload entries) id old new → SectionFits entries
     → ReadsBackBoth (counted_format element) (HoldsElements entries) (HoldsWide element entries) (section_text entries) → HoldsElements entries items → ReadsSections (readings ++ reading_of id (vec element) items ∷ []) new
 gains_elements before more fits reads holds = gains_items elements-payload before more fits reads holds
 

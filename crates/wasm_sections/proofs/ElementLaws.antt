@@ -25,7 +25,7 @@ use Rattle.wasm_immediates.specs.Immediates.{where_set}
 use Rattle.wasm_immediates.specs.PlainImmediates.{bit}
 use Rattle.wasm_insn.specs.Plain.{Plain}
 use Rattle.wasm_sections.specs.Constants.{Stored, IsStoredIn}
-use Rattle.wasm_sections.specs.Elements.{is_nullable_func, is_funcref, Place, passive, declared, active, ElementList, functions, expressions, Segment, needs_table, settled_place, settled, ElementFlag, flag_code, tells_kind, is_inactive, is_second, are_expressions, flag_of, place_text, elements_text, settled_text, stored_text, element_text, IsPlaceIn, AreElementsIn, IsSegmentIn, stored_by, place_of, elements_of, said_by, element_of, in_no_table, in_table, place, list_of, elements_as, segment_of, element, element_items}
+use Rattle.wasm_sections.specs.Elements.{is_nullable_func, is_funcref, Place, passive, declared, active, ElementList, functions, expressions, ElementItem, needs_table, settled_place, settled, ElementFlag, flag_code, tells_kind, is_inactive, is_second, are_expressions, flag_of, place_text, elements_text, settled_text, stored_text, element_text, IsPlaceIn, AreElementsIn, IsSegmentIn, stored_by, place_of, elements_of, said_by, element_of, in_no_table, in_table, place, list_of, elements_as, segment_of, element, element_items}
 use Rattle.wasm_base.proofs.PartLaws.{pair_in, flag_spelled, numbered_unique}
 use Rattle.wasm_sections.specs.GivenElements.{HaveOneText}
 use Rattle.wasm_sections.specs.declared.element.ElementSegment.{ElementSegment}
@@ -166,7 +166,7 @@ elements_spelled mode false (expressions r es) plain short =
     let said = map (λ e. e.instructions) es in
     ((r, said), refl, pair_in mode (fixed [] FUNCREF) (vec expression) [] (vec_text stored_text es) r said (refl, funcref_of r (short refl)) (all_spelled mode es plain.1))
 
-settled_spelled : (mode : Mode) (s : Segment Stored) → IsSegmentIn mode s → (tells_kind (flag_of s) ≡ false → needs_table s.elements ≡ false) → element mode (settled_text stored_text s) (said_by s)
+settled_spelled : (mode : Mode) (s : ElementItem Stored) → IsSegmentIn mode s → (tells_kind (flag_of s) ≡ false → needs_table s.elements ≡ false) → element mode (settled_text stored_text s) (said_by s)
 settled_spelled mode s plain short =
     let f = flag_of s in
     let told = tells_kind f in
@@ -203,7 +203,7 @@ settled_place-plain mode needed (active (Some table) offset) plain = plain
 settled_place-plain mode true (active None offset) plain = (omega arith, plain.1)
 settled_place-plain mode false (active None offset) plain = plain
 
-pub element_spelled : (mode : Mode) (s : Segment Stored) → IsSegmentIn mode s → element mode (element_text s) (element_of s)
+pub element_spelled : (mode : Mode) (s : ElementItem Stored) → IsSegmentIn mode s → element mode (element_text s) (element_of s)
 element_spelled mode s plain =
     settled_spelled mode (settled s) (record { place = settled_place-plain mode (needs_table s.elements) s.place plain.place; elements = plain.elements }) (kind_told (needs_table s.elements) s.place)
 
@@ -213,7 +213,7 @@ element_laws = record { alone = element_unique; spelled = λ s plain fits. eleme
 -- ---- the bytes of a segment's expressions
 
 -- Both have one text.
-pub stored_same : (s : Segment Stored) → element_text s ≡ settled_text expression_text (settled (stored_by s))
+pub stored_same : (s : ElementItem Stored) → element_text s ≡ settled_text expression_text (settled (stored_by s))
 stored_same s = same s.place s.elements
   where
     all_same : (es : List Stored) → vec_text stored_text es ≡ vec_text expression_text (map (λ e. e.bytes) es)
@@ -229,5 +229,5 @@ stored_same s = same s.place s.elements
         let s = settled (record { place = active table offset; elements = expressions r es }) in
         ap (λ v. flag_code (flag_of s) ∷ (place_text stored_text s.place ++ (cond (tells_kind (flag_of s)) (ref_text r) [] ++ v))) (all_same es)
 
-pub given_element : {A : Type 0} (s : ElementSegment A) (given : Segment Stored) → HaveOneText s given
+pub given_element : {A : Type 0} (s : ElementSegment A) (given : ElementItem Stored) → HaveOneText s given
 given_element s given = record { same = λ e. ap (λ x. settled_text expression_text (settled x)) e ∙ sym (stored_same given) }

@@ -14,7 +14,7 @@ use Rattle.wasm_base.proofs.Tags.{tagged_reads, tagged_none, tagged_nothing, fix
 use Rattle.wasm_code.specs.Expressions.{expression}
 use Rattle.wasm_immediates.proofs.ImmediateLaws.{bit_value}
 use Rattle.wasm_insn.specs.Plain.{Plain}
-use Rattle.wasm_sections.specs.Elements.{Place, passive, declared, active, ElementList, functions, expressions, Segment, ElementFlag, flag_code, tells_kind, in_no_table, in_table, place, list_of, elements_as, segment_of, element}
+use Rattle.wasm_sections.specs.Elements.{Place, passive, declared, active, ElementList, functions, expressions, ElementItem, ElementFlag, flag_code, tells_kind, in_no_table, in_table, place, list_of, elements_as, segment_of, element}
 use Rattle.wasm_sections.proofs.ElementLaws.{element_flag_unique, place_unique}
 use Rattle.wasm_sections.proofs.FlagLaws.{weight_is, bit_low}
 use Rattle.wasm_sections.proofs.Prefixes.{prefixed_reads, prefixed_nothing, prefixed_other}
@@ -161,7 +161,7 @@ pub ruleset list_steps = (as_expressions)
 
 -- ---- segments
 
-abbrev after_flag : ElementFlag → Format (Segment (List Plain))
+abbrev after_flag : ElementFlag → Format (ElementItem (List Plain))
 after_flag f = mapped segment_of (pair (place f) (elements_as (tells_kind f) f.expressions))
 
 pub element_reads : (bytes start middle last : List ℕ) (f : ElementFlag) (p : Place (List Plain)) (x : ElementList (List Plain)) (told : Bool) → Reads (numbered flag_code) wide bytes f start → Reads (place f) wide start p middle → told ≡ tells_kind f

@@ -14,7 +14,7 @@ use Rattle.wasm_code.specs.Expressions.{expression}
 use Rattle.wasm_insn.specs.Plain.{Plain}
 use Rattle.wasm_sections.specs.DataSegments.{DataItem, active, passive, in_first, in_memory, data_tags, data_item}
 use Rattle.wasm_sections.specs.Elements as elements
-use Rattle.wasm_sections.specs.Elements.{Place, ElementList, functions, expressions, Segment, ElementFlag, flag_code, tells_kind, are_expressions, in_no_table, in_table, place, list_of, elements_as, segment_of, element}
+use Rattle.wasm_sections.specs.Elements.{Place, ElementList, functions, expressions, ElementItem, ElementFlag, flag_code, tells_kind, are_expressions, in_no_table, in_table, place, list_of, elements_as, segment_of, element}
 use Rattle.wasm_sections.specs.Elements.{flag_of as element_flag}
 use Rattle.wasm_sections.specs.Globals.{global_type, global_text, IsGlobal, global_from, global_item}
 use Rattle.wasm_sections.specs.Tables.{IsTable, table_type, table_text, before_init, without_init, with_init, table_item}
@@ -118,7 +118,7 @@ other_appended memory offset bytes old middle new other e a =
 
 -- ---- element segments
 
-pub element_appended : (x : Segment (List Plain)) (old flag middle new : List ℕ) → flag ≡ old ++ unsigned_text (flag_code (element_flag x)) → AppendsShortest (place (element_flag x)) x.place flag middle → AppendsShortest (elements_as (tells_kind (element_flag x)) (are_expressions x.elements)) x.elements middle new → AppendsShortest element x old new
+pub element_appended : (x : ElementItem (List Plain)) (old flag middle new : List ℕ) → flag ≡ old ++ unsigned_text (flag_code (element_flag x)) → AppendsShortest (place (element_flag x)) x.place flag middle → AppendsShortest (elements_as (tells_kind (element_flag x)) (are_expressions x.elements)) x.elements middle new → AppendsShortest element x old new
 element_appended x old flag middle new e a b =
     let f = element_flag x in
     let inside = pair_appended (place f) (elements_as (tells_kind f) f.expressions) a b in
@@ -127,7 +127,7 @@ element_appended x old flag middle new e a b =
     (text_appended (numbered flag_code) f (unsigned_text (flag_code f)) old flag (λ s h. u32_spelled (flag_code f) h.range) e) rest
 
 -- the place of a segment, and what stands beside it
-abbrev at_place : Place (List Plain) → ElementList (List Plain) → Segment (List Plain)
+abbrev at_place : Place (List Plain) → ElementList (List Plain) → ElementItem (List Plain)
 at_place p l = record { place = p; elements = l }
 
 pub passive_place : (p : Place (List Plain)) (l : ElementList (List Plain)) (old : List ℕ) → p ≡ elements.passive → AppendsShortest (place (element_flag (at_place p l))) p old old

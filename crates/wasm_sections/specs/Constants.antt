@@ -3,7 +3,7 @@ use Rattle.std.specs.Prelude.{ℕ, List, map}
 use Rattle.wasm_base.specs.Numbers.{Mode, shortest, wide}
 use Rattle.wasm_code.specs.Expressions.{StoresIn}
 use Rattle.wasm_insn.specs.Plain.{Plain}
-use Rattle.wasm_reader_insn.specs.Arguments.{plain_of}
+use Rattle.wasm_reader_insn.specs.Arguments.{plain_view}
 use Rattle.wasm_reader_insn.specs.declared.expression.Expression.{Expression}
 
 -- an expression that a call handed in: its stored bytes, and beside them the instructions that these are to spell
@@ -24,5 +24,5 @@ abbrev pub IsStoredWide : Stored → Type 0
 IsStoredWide e = IsStoredIn wide e
 
 -- the instructions of an expression that was read
-abbrev pub instructions_of : {A : Type 0} → Expression A → List Plain
-instructions_of e = map plain_of e.0.items
+abbrev pub instructions_view : {A : Type 0} → Expression A → List Plain
+instructions_view e = map plain_view e.0.items

@@ -13,7 +13,7 @@ use Rattle.wasm_base.specs.declared.types.RefType.{RefType}
 use Rattle.wasm_code.specs.Expressions.{expression, expression_text}
 use Rattle.wasm_immediates.specs.Immediates.{where_set}
 use Rattle.wasm_insn.specs.Plain.{Plain}
-use Rattle.wasm_sections.specs.Constants.{Stored, IsStoredIn, instructions_of}
+use Rattle.wasm_sections.specs.Constants.{Stored, IsStoredIn, instructions_view}
 use Rattle.wasm_sections.specs.declared.element_items.ElementFlag.{ElementFlag as ReadFlag}
 use Rattle.wasm_sections.specs.declared.element_items.ElementItem.{ElementItem as ReadElement}
 use Rattle.wasm_sections.specs.declared.element_items.ElementItemMode.{ElementItemMode}
@@ -52,7 +52,7 @@ pub data ElementList (E : Type 0) : Type 0 where
   expressions : RefType → List E → ElementList E
 
 -- an element segment: where its elements go, and what they are
-pub record Segment (E : Type 0) : Type 0 where
+pub record ElementItem (E : Type 0) : Type 0 where
   pub place : Place E
   pub elements : ElementList E
 
@@ -70,7 +70,7 @@ settled_place needed declared = declared
 settled_place needed (active table offset) = active (settled_table needed table) offset
 
 -- the segment, with table 0 where it is active, needs a table and has none
-abbrev pub settled : {E : Type 0} → Segment E → Segment E
+abbrev pub settled : {E : Type 0} → ElementItem E → ElementItem E
 settled s = record { place = settled_place (needs_table s.elements) s.place; elements = s.elements }
 
 -- ---- flags
@@ -107,7 +107,7 @@ are_expressions (functions fs) = false
 are_expressions (expressions r es) = true
 
 -- the flag of an element segment, by its place and its elements
-abbrev pub flag_of : {E : Type 0} → Segment E → ElementFlag
+abbrev pub flag_of : {E : Type 0} → ElementItem E → ElementFlag
 flag_of s = record { not_active = is_inactive s.place; second = is_second s.place; expressions = are_expressions s.elements }
 
 -- ---- text
@@ -125,7 +125,7 @@ module _ {E : Type 0} (text : E → List ℕ) where
   elements_text told (expressions r es) = cond told (ref_text r) [] ++ vec_text text es
 
   -- the text of a segment that is settled: the flag, the place, and the elements
-  abbrev pub settled_text : Segment E → List ℕ
+  abbrev pub settled_text : ElementItem E → List ℕ
   settled_text s = flag_code (flag_of s) ∷ (place_text s.place ++ elements_text (tells_kind (flag_of s)) s.elements)
 
 -- The number of the elements can be spelled.
@@ -140,7 +140,7 @@ abbrev pub stored_text : Stored → List ℕ
 stored_text e = expression_text e.bytes
 
 -- the text of the element segment that a call hands in, once it is settled
-abbrev pub element_text : Segment Stored → List ℕ
+abbrev pub element_text : ElementItem Stored → List ℕ
 element_text s = settled_text stored_text (settled s)
 
 -- Where the segment is active, its table is in range if one is given, and the bytes of the expression spell its instructions.
@@ -155,7 +155,7 @@ AreElementsIn mode (functions fs) = VecFits (FitsUnsigned 32) fs
 AreElementsIn mode (expressions r es) = IsRef r × VecFits (IsStoredIn mode) es
 
 -- The numbers are in range, and the bytes of the expressions spell their instructions.
-pub record IsSegmentIn (mode : Mode) (s : Segment Stored) : Type 0 where
+pub record IsSegmentIn (mode : Mode) (s : ElementItem Stored) : Type 0 where
   pub place : IsPlaceIn mode s.place
   pub elements : AreElementsIn mode s.elements
 
@@ -164,11 +164,11 @@ abbrev pub IsPlace : Place Stored → Type 0
 IsPlace p = IsPlaceIn shortest p
 
 -- The numbers are in range, and the expressions are plain.
-abbrev pub IsSegment : Segment Stored → Type 0
+abbrev pub IsSegment : ElementItem Stored → Type 0
 IsSegment s = IsSegmentIn shortest s
 
 -- The numbers are in range, and the expressions are plain but for padded numbers.
-abbrev pub IsSegmentWide : Segment Stored → Type 0
+abbrev pub IsSegmentWide : ElementItem Stored → Type 0
 IsSegmentWide s = IsSegmentIn wide s
 
 -- the same place, with the bytes of its expression
@@ -183,7 +183,7 @@ elements_by (functions fs) = functions fs
 elements_by (expressions r es) = expressions r (map (λ e. e.bytes) es)
 
 -- the same segment, with the bytes of its expressions
-abbrev pub stored_by : Segment Stored → Segment (List ℕ)
+abbrev pub stored_by : ElementItem Stored → ElementItem (List ℕ)
 stored_by s = record { place = place_by s.place; elements = elements_by s.elements }
 
 -- the same place, with the instructions of its expression
@@ -198,11 +198,11 @@ elements_of (functions fs) = functions fs
 elements_of (expressions r es) = expressions r (map (λ e. e.instructions) es)
 
 -- what the segment says: the same segment, with the instructions of its expressions
-abbrev pub said_by : Segment Stored → Segment (List Plain)
+abbrev pub said_by : ElementItem Stored → ElementItem (List Plain)
 said_by s = record { place = place_of s.place; elements = elements_of s.elements }
 
 -- normal form: what the segment says, settled
-abbrev pub element_of : Segment Stored → Segment (List Plain)
+abbrev pub element_of : ElementItem Stored → ElementItem (List Plain)
 element_of s = said_by (settled s)
 
 -- ---- format
@@ -231,15 +231,15 @@ elements_as told of_expressions =
     (mapped functions (prefixed (cond told (0x00 ∷ []) []) (vec u32)))
 
 -- an element segment of this place and these elements
-abbrev pub segment_of : Place (List Plain) × ElementList (List Plain) → Segment (List Plain)
+abbrev pub segment_of : Place (List Plain) × ElementList (List Plain) → ElementItem (List Plain)
 segment_of parts = record { place = parts.0; elements = parts.1 }
 
 -- element segment: a flag, and what it tells of
-abbrev pub element : Format (Segment (List Plain))
+abbrev pub element : Format (ElementItem (List Plain))
 element = tagged (numbered flag_code) (λ f. mapped segment_of (pair (place f) (elements_as (tells_kind f) f.expressions)))
 
 -- the kind of element segments
-abbrev pub element_items : Kind (Segment Stored) (Segment (List Plain))
+abbrev pub element_items : Kind (ElementItem Stored) (ElementItem (List Plain))
 element_items = record { text = element_text; IsPlain = IsSegment; IsPlainWide = IsSegmentWide; normal_form = element_of; format = element }
 
 -- ---- what was read
@@ -252,13 +252,13 @@ element_flag_view f = record { not_active = f.not_active; second = f.second; exp
 abbrev pub place_view : {A : Type 0} → ElementItemMode A → Place (List Plain)
 place_view modes.Passive = passive
 place_view modes.Declared = declared
-place_view (modes.Active table offset) = active table (instructions_of offset)
+place_view (modes.Active table offset) = active table (instructions_view offset)
 
 -- the elements of a segment that was read
 abbrev pub list_view : {A : Type 0} → ReadList A → ElementList (List Plain)
 list_view (lists.Functions fs) = functions fs.items
-list_view (lists.Expressions r es) = expressions r (map instructions_of es.items)
+list_view (lists.Expressions r es) = expressions r (map instructions_view es.items)
 
 -- the element segment that was read
-abbrev pub element_view : {A : Type 0} → ReadElement A → Segment (List Plain)
+abbrev pub element_view : {A : Type 0} → ReadElement A → ElementItem (List Plain)
 element_view e = record { place = place_view e.mode; elements = list_view e.elements }

@@ -3,7 +3,7 @@ use Rattle.std.specs.Prelude.{◌≡◌, ℕ, List}
 use Rattle.wasm_base.specs.Cow.{items_of}
 use Rattle.wasm_code.specs.Expressions.{expression_text}
 use Rattle.wasm_sections.specs.Constants.{Stored}
-use Rattle.wasm_sections.specs.Elements.{Place, passive, declared, active, ElementList, functions, expressions, Segment, settled, settled_text, element_text, stored_by}
+use Rattle.wasm_sections.specs.Elements.{Place, passive, declared, active, ElementList, functions, expressions, ElementItem, settled, settled_text, element_text, stored_by}
 use Rattle.wasm_sections.specs.declared.element.ElementMode.{ElementMode}
 use Rattle.wasm_sections.specs.declared.element.ElementMode.TheVariants as modes
 use Rattle.wasm_sections.specs.declared.element.ElementSegment.{ElementSegment}
@@ -22,7 +22,7 @@ list_in (lists.Functions fs) = functions (items_of fs)
 list_in (lists.Expressions r es) = expressions r (items_of es)
 
 -- the element segment that a call hands in, with the stored bytes of its expressions
-abbrev pub segment_in : {A : Type 0} → ElementSegment A → Segment (List ℕ)
+abbrev pub segment_in : {A : Type 0} → ElementSegment A → ElementItem (List ℕ)
 segment_in s = record { place = mode_of s.mode; elements = list_in s.elements }
 
 -- the text of the element segment that a call hands in, once it is settled
@@ -30,5 +30,5 @@ abbrev pub given_text : {A : Type 0} → ElementSegment A → List ℕ
 given_text s = settled_text expression_text (settled (segment_in s))
 
 -- Where the record has the segment's place and elements, with the same bytes of expressions, both have one text.
-pub record HaveOneText {A : Type 0} (s : ElementSegment A) (given : Segment Stored) : Type 0 where
+pub record HaveOneText {A : Type 0} (s : ElementSegment A) (given : ElementItem Stored) : Type 0 where
   pub same : segment_in s ≡ stored_by given → given_text s ≡ element_text given

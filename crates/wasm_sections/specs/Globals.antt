@@ -8,7 +8,7 @@ use Rattle.wasm_base.specs.declared.types.ValType.{ValType}
 use Rattle.wasm_code.specs.Expressions.{expression, expression_text}
 use Rattle.wasm_immediates.specs.Immediates.{where_set}
 use Rattle.wasm_insn.specs.Plain.{Plain}
-use Rattle.wasm_sections.specs.Constants.{Stored, IsStoredIn, instructions_of}
+use Rattle.wasm_sections.specs.Constants.{Stored, IsStoredIn, instructions_view}
 use Rattle.wasm_sections.specs.declared.global.GlobalType.{GlobalType}
 use Rattle.wasm_sections.specs.declared.global.GlobalFlags.{GlobalFlags as ReadFlags}
 use Rattle.wasm_sections.specs.declared.global.GlobalItem.{GlobalItem as ReadGlobal}
@@ -95,4 +95,4 @@ global_flags_view f = record { mutable = f.mutable; shared = f.shared }
 
 -- the global that was read
 abbrev pub global_view : {A : Type 0} → ReadGlobal A → GlobalItem
-global_view g = record { global_type = g.global_type; init = instructions_of g.init }
+global_view g = record { global_type = g.global_type; init = instructions_view g.init }

@@ -7,7 +7,7 @@ use Rattle.wasm_base.specs.SectionId.{number_of}
 use Rattle.wasm_base.specs.declared.section_id.SectionId.TheVariants as ids
 use Rattle.wasm_insn.specs.Plain.{Plain}
 use Rattle.wasm_sections.specs.DataSegments.{DataItem, data_item, data_items}
-use Rattle.wasm_sections.specs.Elements.{Segment, element, element_items}
+use Rattle.wasm_sections.specs.Elements.{ElementItem, element, element_items}
 use Rattle.wasm_sections.specs.Exports.{ExportItem, export, export_items}
 use Rattle.wasm_sections.specs.Globals.{GlobalItem, global_item, global_items}
 use Rattle.wasm_sections.specs.Imports.{ImportItem, import_format, import_items}
@@ -39,7 +39,7 @@ abbrev pub HoldsExports : List (List ℕ) → List ExportItem → Type 0
 HoldsExports = HoldsItems export_items
 
 -- The entries hold these element segments.
-abbrev pub HoldsElements : List (List ℕ) → List (Segment (List Plain)) → Type 0
+abbrev pub HoldsElements : List (List ℕ) → List (ElementItem (List Plain)) → Type 0
 HoldsElements = HoldsItems element_items
 
 -- The entries hold these data segments.
@@ -75,7 +75,7 @@ abbrev pub export_reading : List ExportItem → SectionReading
 export_reading exports = reading_of (number_of ids.Export) (vec export) exports
 
 -- the element section of these element segments, as a reader finds it
-abbrev pub element_reading : List (Segment (List Plain)) → SectionReading
+abbrev pub element_reading : List (ElementItem (List Plain)) → SectionReading
 element_reading segments = reading_of (number_of ids.Element) (vec element) segments
 
 -- the data section of these data segments, as a reader finds it

@@ -10,7 +10,7 @@ use Rattle.wasm_base.specs.declared.types.ValType.{ValType}
 use Rattle.wasm_base.specs.declared.types.ValType.TheVariants.{I32, I64}
 use Rattle.wasm_code.specs.Expressions.{expression, expression_text}
 use Rattle.wasm_insn.specs.Plain.{Plain}
-use Rattle.wasm_sections.specs.Constants.{Stored, IsStoredIn, instructions_of}
+use Rattle.wasm_sections.specs.Constants.{Stored, IsStoredIn, instructions_view}
 use Rattle.wasm_sections.specs.Flags.{Flags, flags, flags_code}
 use Rattle.wasm_sections.specs.declared.table.TableType.{TableType}
 use Rattle.wasm_sections.specs.declared.table.Limits.{Limits as ReadLimits}
@@ -133,4 +133,4 @@ limits_view l = record { table64 = l.table64; shared = l.shared; minimum = l.min
 
 -- the table that was read
 abbrev pub table_view : {A : Type 0} → ReadTable A → TableItem
-table_view t = record { table_type = t.table_type; init = option_map instructions_of t.init }
+table_view t = record { table_type = t.table_type; init = option_map instructions_view t.init }

@@ -10,10 +10,10 @@ ghost use Rattle.wasm_base.specs.declared.refused.Refused.TheVariants.{TooLong};
 
 use std::alloc::{Allocator, Global};
 use std::marker::{Model, PhantomData};
-use wasm_base::{Counted, Encode, EncodeOnce, Items, Pieces, R, Section};
+use wasm_base::{Counted, Encode, EncodeOnce, Kind, Pieces, R, Section};
 
 /// A kind of items that a section counts.
-pub trait ItemKind: Items {
+pub trait ItemKind: Kind {
     /// The id of the section of these items.
     ghost section_id: { ℕ };
 

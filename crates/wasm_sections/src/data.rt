@@ -11,12 +11,12 @@ ghost use Rattle.wasm_base.specs.declared.refused.Refused.TheVariants.{TooLong};
 ghost use Rattle.wasm_code.specs.Expressions.{expression};
 ghost use Rattle.wasm_reader_base.specs.Shortest.{AppendsShortest};
 ghost use Rattle.wasm_reader_base.specs.declared.fault.ReadFault.TheVariants.{Memory};
-ghost use Rattle.wasm_sections.specs.Constants.{instructions_of};
+ghost use Rattle.wasm_sections.specs.Constants.{instructions_view};
 ghost use Rattle.wasm_sections.specs.DataSegments.{data_items, DataItem, active, data_item, segment_view};
 
 use crate::counted_section::{CountedSection, ItemKind};
 use std::alloc::{Allocator, Global};
-use wasm_base::{Encode, Items, Lent, R, SectionId, bytes_of, encode_frame};
+use wasm_base::{Encode, Kind, Lent, R, SectionId, bytes_of, encode_frame};
 use wasm_code::ConstExpr;
 use wasm_reader_base::{Dropped, Passed, ReadFault, Readable, Shorten, Spelled, read_whole};
 use wasm_reader_insn::Expression;
@@ -88,7 +88,7 @@ impl<'a, D: Clone, A: Allocator> DataSegment<'a, D, A> {
     }
 }
 
-impl Items for DataItems {
+impl Kind for DataItems {
     ghost use Rattle.wasm_sections.specs.DataSegments.{GivenData, data_text, IsGivenData, data_of};
 
     ghost Record = { GivenData };
@@ -318,7 +318,7 @@ fn append_placed<A: Allocator, B: Allocator>(
     bytes: &[u8],
     out: &mut Vec<u8, B>,
 ) -> R<()>
-    ensures { OnOk result (AppendsShortest (pair expression (vec byte)) (instructions_of offset.now, bytes.now) out.old.items out.new.items) }
+    ensures { OnOk result (AppendsShortest (pair expression (vec byte)) (instructions_view offset.now, bytes.now) out.old.items out.new.items) }
 {
     offset.append_shortest(out)?;
     encode_frame(out, bytes)
@@ -332,7 +332,7 @@ fn append_active<A: Allocator, B: Allocator>(
     bytes: &[u8],
     out: &mut Vec<u8, B>,
 ) -> R<()>
-    ensures { OnOk result (AppendsShortest data_item (active memory (instructions_of offset.now) bytes.now) out.old.items out.new.items) }
+    ensures { OnOk result (AppendsShortest data_item (active memory (instructions_view offset.now) bytes.now) out.old.items out.new.items) }
 {
     if memory == 0 {
         0u32.encode(out)?;

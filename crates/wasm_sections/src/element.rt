@@ -10,7 +10,7 @@ ghost use Rattle.wasm_code.specs.Expressions.{expression_text};
 use crate::counted_section::{CountedSection, ItemKind};
 use crate::flags::where_set;
 use std::alloc::{Allocator, Global};
-use wasm_base::{AbstractHeapType, CowSlice, Encode, HeapType, Items, Lent, R, RefType, SectionId};
+use wasm_base::{AbstractHeapType, CowSlice, Encode, HeapType, Kind, Lent, R, RefType, SectionId};
 use wasm_code::ConstExpr;
 
 /// The references that a module puts in tables.
@@ -281,15 +281,15 @@ impl<A: Allocator> Encode for ElementSegment<'_, A> {
     }
 }
 
-impl Items for ElementItems {
+impl Kind for ElementItems {
     ghost use Rattle.std.specs.Prelude.{List};
     ghost use Rattle.wasm_insn.specs.Plain.{Plain};
     ghost use Rattle.wasm_sections.specs.Constants.{Stored};
-    ghost use Rattle.wasm_sections.specs.Elements.{Segment, element_text, IsSegment, element_of, element};
+    ghost use Rattle.wasm_sections.specs.Elements.{ElementItem, element_text, IsSegment, element_of, element};
 
-    ghost Record = { Segment Stored };
+    ghost Record = { ElementItem Stored };
 
-    ghost Item = { Segment (List Plain) };
+    ghost Item = { ElementItem (List Plain) };
 
     ghost kind = { element_items };
 

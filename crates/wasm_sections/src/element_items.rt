@@ -6,8 +6,8 @@ ghost use Rattle.wasm_base.specs.Reading.{Reads, ReadsNothing};
 ghost use Rattle.wasm_insn.specs.Plain.{Plain};
 ghost use Rattle.wasm_reader_base.specs.Shortest.{AppendsShortest};
 ghost use Rattle.wasm_reader_base.specs.declared.fault.ReadFault.TheVariants.{Memory};
-ghost use Rattle.wasm_sections.specs.Constants.{instructions_of};
-ghost use Rattle.wasm_sections.specs.Elements.{Segment, ElementFlag as FlagModel, flag_code, flag_of, active, functions, expressions, are_expressions, tells_kind, place, elements_as, element, element_flag_view, place_view, list_view, element_view, Place, ElementList as ListModel};
+ghost use Rattle.wasm_sections.specs.Constants.{instructions_view};
+ghost use Rattle.wasm_sections.specs.Elements.{ElementItem, ElementFlag as FlagModel, flag_code, flag_of, active, functions, expressions, are_expressions, tells_kind, place, elements_as, element, element_flag_view, place_view, list_view, element_view, Place, ElementList as ListModel};
 
 use std::alloc::{Allocator, Global};
 use wasm_base::{Encode, R, RefType};
@@ -193,7 +193,7 @@ fn read_elements<'a, A: Allocator + Copy>(
 }
 
 impl<A: Allocator> Spelled for ElementItem<A> {
-    ghost Value = { Segment (List Plain) };
+    ghost Value = { ElementItem (List Plain) };
 
     ghost format = { element };
 
@@ -235,7 +235,7 @@ fn append_expressions<A: Allocator, B: Allocator>(
     elements: &Vec<Expression<A>, A>,
     out: &mut Vec<u8, B>,
 ) -> R<()>
-    ensures { OnOk result (AppendsShortest (elements_as told true) (expressions ty (map instructions_of elements.now.items)) out.old.items out.new.items) }
+    ensures { OnOk result (AppendsShortest (elements_as told true) (expressions ty (map instructions_view elements.now.items)) out.old.items out.new.items) }
 {
     if told {
         ty.encode(out)?;
@@ -251,7 +251,7 @@ fn append_active<A: Allocator, B: Allocator>(
     offset: &Expression<A>,
     out: &mut Vec<u8, B>,
 ) -> R<()>
-    ensures { OnOk result (AppendsShortest (place (record { not_active = false; second = is_given table; expressions = false })) (active table (instructions_of offset.now)) out.old.items out.new.items) }
+    ensures { OnOk result (AppendsShortest (place (record { not_active = false; second = is_given table; expressions = false })) (active table (instructions_view offset.now)) out.old.items out.new.items) }
 {
     match table {
         Some(table) => {
@@ -399,7 +399,7 @@ fn pass_elements<'a, A: Allocator + Copy>(
 }
 
 impl<'a, A: Allocator + Copy> Passed<'a, A> for ElementItem<A> {
-    ghost Value = { Segment (List Plain) };
+    ghost Value = { ElementItem (List Plain) };
 
     ghost format = { element };
 

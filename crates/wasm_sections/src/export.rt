@@ -11,7 +11,7 @@ ghost use Rattle.wasm_sections.specs.declared.export.ExportKind.{ExportKind as K
 
 use crate::counted_section::{CountedSection, ItemKind, RecordOf};
 use std::alloc::{Allocator, Global};
-use wasm_base::{Encode, Items, R, SectionId};
+use wasm_base::{Encode, Kind, R, SectionId};
 use wasm_reader_base::{ReadFault, Readable, Spelled};
 
 /// What a module exports.
@@ -67,7 +67,7 @@ impl Encode for Export<'_> {
     }
 }
 
-impl Items for ExportItems {
+impl Kind for ExportItems {
     ghost Record = { Given };
 
     ghost Item = { ExportItem };

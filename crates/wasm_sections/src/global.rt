@@ -9,7 +9,7 @@ ghost use Rattle.wasm_sections.specs.declared.global.GlobalType.{GlobalType as T
 use crate::counted_section::{CountedSection, ItemKind};
 use crate::flags::where_set;
 use std::alloc::{Allocator, Global};
-use wasm_base::{Encode, Items, Lent, R, SectionId, ValType};
+use wasm_base::{Encode, Kind, Lent, R, SectionId, ValType};
 use wasm_code::ConstExpr;
 use wasm_reader_base::{Dropped, Passed, ReadFault, Readable, Shorten, Spelled};
 use wasm_reader_insn::Expression;
@@ -59,7 +59,7 @@ impl Encode for GlobalType {
     }
 }
 
-impl Items for GlobalItems {
+impl Kind for GlobalItems {
     ghost Record = { GivenGlobal };
 
     ghost Item = { GlobalModel };

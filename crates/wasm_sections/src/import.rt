@@ -21,7 +21,7 @@ use crate::tag::TagType;
 use std::alloc::{Allocator, Global};
 use wasm_base::{
     CORE_FUNCTION_EXACT_SORT, CORE_FUNCTION_SORT, CORE_GLOBAL_SORT, CORE_MEMORY_SORT,
-    CORE_TABLE_SORT, CORE_TAG_SORT, CowSlice, Encode, Items, R, SectionId,
+    CORE_TABLE_SORT, CORE_TAG_SORT, CowSlice, Encode, Kind, R, SectionId,
 };
 use wasm_reader_base::{Dropped, Passed, ReadFault, Readable, Spelled, pass_many, read_whole};
 
@@ -195,7 +195,7 @@ impl<A: Allocator> Encode for Imports<'_, A> {
     }
 }
 
-impl Items for ImportItems {
+impl Kind for ImportItems {
     ghost Record = { ImportItem };
 
     ghost Item = { ImportItem };

@@ -8,7 +8,7 @@ ghost use Rattle.wasm_base.specs.Modules.{ReadsPayloads, ReadsPayloadsWide};
 ghost use Rattle.wasm_base.specs.Reading.{UniqueReading, IsUniqueWide};
 ghost use Rattle.wasm_sections.specs.Constants.{Stored};
 ghost use Rattle.wasm_sections.specs.DataSegments.{data_item, data_items};
-ghost use Rattle.wasm_sections.specs.Elements.{Segment, element_text, element, element_items};
+ghost use Rattle.wasm_sections.specs.Elements.{ElementItem, element_text, element, element_items};
 ghost use Rattle.wasm_sections.specs.Exports.{IsExport, export, export_items};
 ghost use Rattle.wasm_sections.specs.GivenElements.{HaveOneText};
 ghost use Rattle.wasm_sections.specs.Globals.{global_type, IsGlobal, global_item, global_items};
@@ -106,7 +106,7 @@ pub fn wide_calls()
 /// with the same bytes of expressions.
 #[tactic(auto, using(crate::proofs::ElementLaws::given_element))]
 pub fn given_elements<A: Allocator>()
-    ensures { (segment : ElementSegment A) (given : Segment Stored) → HaveOneText segment given }
+    ensures { (segment : ElementSegment A) (given : ElementItem Stored) → HaveOneText segment given }
 {}
 
 /// Where a module is read as ids and payloads, and a section as its items alone, its payload is read as these alone.

@@ -9,12 +9,12 @@ mod element;
 mod element_items;
 mod export;
 mod flags;
-mod functions;
+mod function;
 mod global;
 mod import;
 pub mod laws;
 mod memory;
-mod numbers;
+mod start;
 mod table;
 mod tag;
 
@@ -23,13 +23,13 @@ pub use data::{DataItems, DataSection, DataSegment, DataSegmentMode, Segment, re
 pub use element::{ElementItems, ElementMode, ElementSection, ElementSegment, Elements};
 pub use element_items::{ElementItem, ElementItemMode, ElementList};
 pub use export::{Export, ExportItems, ExportKind, ExportSection};
-pub use functions::{FunctionItems, FunctionSection};
+pub use function::{FunctionItems, FunctionSection};
 pub use global::{GlobalItem, GlobalItems, GlobalSection, GlobalType};
 pub use import::{
     EntityType, Import, ImportCompact, ImportItems, ImportSection, Imports, PassedImports,
     append_imports, read_imports,
 };
 pub use memory::{MemoryItems, MemorySection, MemoryType};
-pub use numbers::{DataCountSection, StartSection};
+pub use start::{DataCountSection, StartSection};
 pub use table::{TableItem, TableItems, TableSection, TableType};
 pub use tag::{TagItems, TagKind, TagSection, TagType};

@@ -8,7 +8,7 @@ ghost use Rattle.wasm_sections.specs.declared.memory.MemoryType.{MemoryType as M
 use crate::counted_section::{CountedSection, ItemKind, RecordOf};
 use crate::flags::where_set;
 use std::alloc::{Allocator, Global};
-use wasm_base::{Encode, Items, Optional, R, SectionId};
+use wasm_base::{Encode, Kind, Optional, R, SectionId};
 use wasm_reader_base::{ReadFault, Readable, Spelled, read_optional};
 
 /// The memories that a module defines.
@@ -81,7 +81,7 @@ impl Encode for MemoryType {
     }
 }
 
-impl Items for MemoryItems {
+impl Kind for MemoryItems {
     ghost Record = { Memory };
 
     ghost Item = { Memory };

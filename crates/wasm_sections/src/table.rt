@@ -10,7 +10,7 @@ use crate::counted_section::{CountedSection, ItemKind, RecordOf};
 use crate::flags::where_set;
 use crate::memory::Flags;
 use std::alloc::{Allocator, Global};
-use wasm_base::{Encode, Items, Lent, Optional, R, RefType, SectionId, ValType};
+use wasm_base::{Encode, Kind, Lent, Optional, R, RefType, SectionId, ValType};
 use wasm_code::ConstExpr;
 use wasm_reader_base::{Dropped, Passed, ReadFault, Readable, Shorten, Spelled, read_optional};
 use wasm_reader_insn::Expression;
@@ -77,7 +77,7 @@ impl Encode for TableType {
     }
 }
 
-impl Items for TableItems {
+impl Kind for TableItems {
     ghost Record = { GivenTable };
 
     ghost Item = { TableModel };

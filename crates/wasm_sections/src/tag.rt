@@ -8,7 +8,7 @@ ghost use Rattle.wasm_sections.specs.declared.tag.TagType.{TagType as Tag};
 
 use crate::counted_section::{CountedSection, ItemKind, RecordOf};
 use std::alloc::{Allocator, Global};
-use wasm_base::{Encode, Items, R, SectionId};
+use wasm_base::{Encode, Kind, R, SectionId};
 use wasm_reader_base::{ReadFault, Readable, Spelled};
 
 /// The tags that a module defines.
@@ -61,7 +61,7 @@ impl Encode for TagType {
     }
 }
 
-impl Items for TagItems {
+impl Kind for TagItems {
     ghost Record = { Tag };
 
     ghost Item = { Tag };

@@ -119,8 +119,8 @@ data_entry (place ∷ hex ∷ more) = from_signed (signed_of place) (λ z. from_
 data_entry words = Err MissingWord
 
 -- what a word says that names what is exported
-abbrev pub kind_of : List ℕ → Option ExportKind
-kind_of word =
+abbrev pub export_kind_of : List ℕ → Option ExportKind
+export_kind_of word =
     if bytes_eq word (codes "func") then Some kinds.Func
     else if bytes_eq word (codes "table") then Some kinds.Table
     else if bytes_eq word (codes "memory") then Some kinds.Memory
@@ -136,7 +136,7 @@ from_kind None make = Err UnknownCommand
 -- `export NAME KIND N`: an export
 abbrev pub export_entry : List (List ℕ) → Result (List Addition) RecipeCause
 export_entry (name ∷ kind ∷ index ∷ more) =
-    from_kind (kind_of kind) (λ k. from_number (decimal_of 32 index) (λ n. adds 7 (frame_text name ++ (kind_code k ∷ [] ++ unsigned_text n))))
+    from_kind (export_kind_of kind) (λ k. from_number (decimal_of 32 index) (λ n. adds 7 (frame_text name ++ (kind_code k ∷ [] ++ unsigned_text n))))
 export_entry words = Err MissingWord
 
 -- `start N`: the function that the module runs when it is instantiated

@@ -21,7 +21,7 @@ ghost use Rattle.wasm_tool.specs.Recipe.{
   body_entry,
   data_entry,
   name_entry,
-  kind_of,
+  export_kind_of,
   decimal_of,
   signed_of,
   IsGood,
@@ -115,7 +115,7 @@ fn signed(word: &str) -> Result<i32, RecipeCause>
 
 /// What a word names that can be exported.
 fn export_kind(word: &str) -> Option<ExportKind>
-    ensures { result ≡ kind_of word.now }
+    ensures { result ≡ export_kind_of word.now }
 {
     match word {
         "func" => Some(ExportKind::Func),

@@ -21,7 +21,7 @@ use Rattle.wasm_reader_base.proofs.ReadPlain.{val_type_is, vec_is}
 use Rattle.wasm_reader_base.proofs.ShortTexts.{records_appended}
 use Rattle.wasm_types.specs.RecTypes.{Shape, Composite, single, group, before_text, sub_text, type_text, IsStorage, IsField, IsShape, IsGivenIndex, IsComposite, IsSub, IsType, storage_tags, storage_val, storage_type, field_type, shape_tags, after_shape, with_index, given_index, no_index, after_descriptor, after_describes, composite_of, after_composite, composite_type, sub_tags, after_sub, alone_of, sub_type, after_type, type_item}
 use Rattle.wasm_types.proofs.TypeLaws.{type_spelled}
-use Rattle.wasm_types.specs.Items.{sub_of, entry_of, entry_text, SubItemFits, EntryFits}
+use Rattle.wasm_types.specs.Items.{sub_view, entry_view, entry_text, SubItemFits, EntryFits}
 use Rattle.wasm_types.specs.declared.items.SubItem.{SubItem}
 use Rattle.wasm_types.specs.declared.items.TypeEntry.{TypeEntry}
 use Rattle.wasm_types.specs.declared.items.TypeEntry.TheVariants as entries
@@ -134,23 +134,23 @@ flat_map-map : {X Y : Type 0} (text : Y → List ℕ) (f : X → Y) (xs : List X
 flat_map-map text f [] = refl
 flat_map-map text f (x ∷ xs) = ap (λ s. text (f x) ++ s) (flat_map-map text f xs)
 
-entry_is : {A : Type 0} (t : TypeEntry A) → entry_text t ≡ type_text (entry_of t)
+entry_is : {A : Type 0} (t : TypeEntry A) → entry_text t ≡ type_text (entry_view t)
 entry_is (entries.Single s) = refl
-entry_is (entries.Group v) = ap₂ (λ n s. 0x4E ∷ (unsigned_text n ++ s)) (sym (length-map v.items sub_of)) (flat_map-map sub_text sub_of v.items)
+entry_is (entries.Group v) = ap₂ (λ n s. 0x4E ∷ (unsigned_text n ++ s)) (sym (length-map v.items sub_view)) (flat_map-map sub_text sub_view v.items)
 
-entry_short : {A : Type 0} (t : TypeEntry A) (s : List ℕ) → type_item wide s (entry_of t) → type_item shortest (entry_text t) (entry_of t)
-entry_short t s h = subst (λ z. type_item shortest z (entry_of t)) (sym (entry_is t)) (type_spelled (entry_of t) (type_is wide s (entry_of t) h))
+entry_short : {A : Type 0} (t : TypeEntry A) (s : List ℕ) → type_item wide s (entry_view t) → type_item shortest (entry_text t) (entry_view t)
+entry_short t s h = subst (λ z. type_item shortest z (entry_view t)) (sym (entry_is t)) (type_spelled (entry_view t) (type_is wide s (entry_view t) h))
 
-pub types_appended : {A : Type 0} (Fits : TypeEntry A → Type 0) (xs : List (TypeEntry A)) (old new : List ℕ) → VecFits Fits xs → new ≡ old ++ vec_text entry_text xs → AppendsShortest (vec type_item) (map entry_of xs) old new
-types_appended Fits xs old new fits e = records_appended type_item entry_of entry_text Fits xs old new (λ t p s h. entry_short t s h) fits e
+pub types_appended : {A : Type 0} (Fits : TypeEntry A → Type 0) (xs : List (TypeEntry A)) (old new : List ℕ) → VecFits Fits xs → new ≡ old ++ vec_text entry_text xs → AppendsShortest (vec type_item) (map entry_view xs) old new
+types_appended Fits xs old new fits e = records_appended type_item entry_view entry_text Fits xs old new (λ t p s h. entry_short t s h) fits e
 
 -- ---- calls
 
 -- a group, by the slice of its subtypes
 pub group_appended : {A B : Type 0} (subs slice : List (SubItem A)) {old new : Vec ℕ B} {result : Result (Unit {0}) Refused} → slice ≡ subs
-    → Appends (0x4E ∷ vec_text (λ s. sub_text (sub_of s)) slice) (Unit {0} × VecFits SubItemFits slice) old new result → Appends (0x4E ∷ vec_text (λ s. sub_text (sub_of s)) subs) (VecFits SubItemFits subs) old new result
+    → Appends (0x4E ∷ vec_text (λ s. sub_text (sub_view s)) slice) (Unit {0} × VecFits SubItemFits slice) old new result → Appends (0x4E ∷ vec_text (λ s. sub_text (sub_view s)) subs) (VecFits SubItemFits subs) old new result
 group_appended subs slice {old = old} {new = new} {result = result} e a =
-    subst (λ xs. Appends (0x4E ∷ vec_text (λ s. sub_text (sub_of s)) xs) (VecFits SubItemFits xs) old new result) e (record {
+    subst (λ xs. Appends (0x4E ∷ vec_text (λ s. sub_text (sub_view s)) xs) (VecFits SubItemFits xs) old new result) e (record {
       ok = a.ok;
       err = a.err;
       fitted = on_ok result _ _ a.fitted (λ p. p.1);
@@ -161,6 +161,6 @@ group_appended subs slice {old = old} {new = new} {result = result} e a =
 
 -- entries behind their number
 pub each_appended : {A B : Type 0} (xs : List (TypeEntry A)) {old new : Vec ℕ B} {result : Result (Unit {0}) Refused} → Appends (vec_text entry_text xs) (VecFits EntryFits xs) old new result
-    → OnOk result (AppendsShortest (vec type_item) (map entry_of xs) old.items new.items)
+    → OnOk result (AppendsShortest (vec type_item) (map entry_view xs) old.items new.items)
 each_appended xs {old = old} {new = new} {result = Ok u} a = types_appended EntryFits xs old.items new.items a.fitted a.ok
 each_appended xs {result = Err e} a = tt

@@ -9,21 +9,21 @@ use Rattle.wasm_types.specs.declared.items.TypeEntry.{TypeEntry}
 use Rattle.wasm_types.specs.declared.items.TypeEntry.TheVariants as entries
 
 -- a shape, with the type that describes it
-abbrev pub described_of : {A : Type 0} → Option ℕ × CompositeInnerType A → Option ℕ × Shape
-described_of p = (p.0, shape_in p.1)
+abbrev pub described_view : {A : Type 0} → Option ℕ × CompositeInnerType A → Option ℕ × Shape
+described_view p = (p.0, shape_in p.1)
 
 -- the same, with the type that it describes
-abbrev pub describing_of : {A : Type 0} → Option ℕ × (Option ℕ × CompositeInnerType A) → Option ℕ × (Option ℕ × Shape)
-describing_of p = (p.0, described_of p.1)
+abbrev pub describing_view : {A : Type 0} → Option ℕ × (Option ℕ × CompositeInnerType A) → Option ℕ × (Option ℕ × Shape)
+describing_view p = (p.0, described_view p.1)
 
 -- a subtype
-abbrev pub sub_of : {A : Type 0} → SubItem A → Sub
-sub_of s = record { is_final = s.is_final; supertypes = s.supertypes.items; composite = composite_in s.composite_type }
+abbrev pub sub_view : {A : Type 0} → SubItem A → Sub
+sub_view s = record { is_final = s.is_final; supertypes = s.supertypes.items; composite = composite_in s.composite_type }
 
 -- an entry
-abbrev pub entry_of : {A : Type 0} → TypeEntry A → TypeItem
-entry_of (entries.Single s) = single (sub_of s)
-entry_of (entries.Group v) = group (map sub_of v.items)
+abbrev pub entry_view : {A : Type 0} → TypeEntry A → TypeItem
+entry_view (entries.Single s) = single (sub_view s)
+entry_view (entries.Group v) = group (map sub_view v.items)
 
 -- Every count in the text of the subtype can be spelled.
 abbrev pub SubItemFits : {A : Type 0} → SubItem A → Type 0
@@ -31,8 +31,8 @@ SubItemFits s = VecFits (λ i. Unit {0}) s.supertypes.items × ShapeFits (shape_
 
 -- the text of an entry
 abbrev pub entry_text : {A : Type 0} → TypeEntry A → List ℕ
-entry_text (entries.Single s) = sub_text (sub_of s)
-entry_text (entries.Group v) = 0x4E ∷ vec_text (λ s. sub_text (sub_of s)) v.items
+entry_text (entries.Single s) = sub_text (sub_view s)
+entry_text (entries.Group v) = 0x4E ∷ vec_text (λ s. sub_text (sub_view s)) v.items
 
 -- Every count in it can be spelled.
 abbrev pub EntryFits : {A : Type 0} → TypeEntry A → Type 0

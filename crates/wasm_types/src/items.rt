@@ -6,7 +6,7 @@ ghost use Rattle.wasm_base.specs.Reading.{Reads, ReadsNothing};
 ghost use Rattle.wasm_reader_base.specs.declared.fault.ReadFault.TheVariants.{Memory};
 ghost use Rattle.wasm_types.specs.Given.{composite_in};
 ghost use Rattle.wasm_types.specs.RecTypes.{supertypes_and, after_sub, sub_text, sub_type, type_item, Sub, TypeItem as Entry};
-ghost use Rattle.wasm_types.specs.Items.{sub_of, SubItemFits, entry_of};
+ghost use Rattle.wasm_types.specs.Items.{sub_view, SubItemFits, entry_view};
 
 use crate::shapes::read_composite_after;
 use crate::types::CompositeType;
@@ -51,7 +51,7 @@ fn read_sub_after<'a, A: Allocator + Copy>(
     bytes: &'a [u8],
     alloc: A,
 ) -> Result<(SubItem<A>, &'a [u8]), ReadFault>
-    ensures found { IfOk result (λ x. Reads (after_sub tag) wide bytes.now (sub_of x.0) x.1.now) }
+    ensures found { IfOk result (λ x. Reads (after_sub tag) wide bytes.now (sub_view x.0) x.1.now) }
     ensures none { IfErr result (λ e. e ≢ Memory → ReadsNothing (after_sub tag) wide bytes.now) }
 {
     match tag {
@@ -93,7 +93,7 @@ impl<A: Allocator> Spelled for SubItem<A> {
 
     ghost format = { sub_type };
 
-    ghost view = { sub_of };
+    ghost view = { sub_view };
 
     #[tactic(auto, using(crate::proofs::TypeLaws::sub_unique))]
     fn laws() {}
@@ -111,7 +111,7 @@ impl<A: Allocator> Spelled for TypeEntry<A> {
 
     ghost format = { type_item };
 
-    ghost view = { entry_of };
+    ghost view = { entry_view };
 
     #[tactic(auto, using(crate::proofs::TypeLaws::type_unique))]
     fn laws() {}
@@ -132,7 +132,7 @@ impl<'a, A: Allocator + Copy> Readable<'a, A> for TypeEntry<A> {
 
 /// What stands before the composite type, and this.
 impl<A: Allocator> Encode for SubItem<A> {
-    ghost text = { λ s. sub_text (sub_of s) };
+    ghost text = { λ s. sub_text (sub_view s) };
 
     ghost fits = { SubItemFits };
 

@@ -5,7 +5,7 @@ ghost use Rattle.wasm_base.specs.Reading.{Reads, ReadsNothing};
 ghost use Rattle.wasm_reader_base.specs.declared.fault.ReadFault.TheVariants.{Memory};
 ghost use Rattle.wasm_types.specs.Given.{shape_in, composite_in};
 ghost use Rattle.wasm_types.specs.RecTypes.{after_shape, after_descriptor, after_describes, after_composite};
-ghost use Rattle.wasm_types.specs.Items.{described_of, describing_of};
+ghost use Rattle.wasm_types.specs.Items.{described_view, describing_view};
 
 use crate::fields::read_index;
 use crate::types::{
@@ -59,7 +59,7 @@ fn read_descriptor_after<'a, A: Allocator + Copy>(
     bytes: &'a [u8],
     alloc: A,
 ) -> Result<((Option<u32>, CompositeInnerType<A>), &'a [u8]), ReadFault>
-    ensures found { IfOk result (λ x. Reads (after_descriptor tag) wide bytes.now (described_of x.0) x.1.now) }
+    ensures found { IfOk result (λ x. Reads (after_descriptor tag) wide bytes.now (described_view x.0) x.1.now) }
     ensures none { IfErr result (λ e. e ≢ Memory → ReadsNothing (after_descriptor tag) wide bytes.now) }
 {
     if tag == 0x4D {
@@ -85,7 +85,7 @@ fn read_describes_after<'a, A: Allocator + Copy>(
     ),
     ReadFault,
 >
-    ensures found { IfOk result (λ x. Reads (after_describes tag) wide bytes.now (describing_of x.0) x.1.now) }
+    ensures found { IfOk result (λ x. Reads (after_describes tag) wide bytes.now (describing_view x.0) x.1.now) }
     ensures none { IfErr result (λ e. e ≢ Memory → ReadsNothing (after_describes tag) wide bytes.now) }
 {
     if tag == 0x4C {

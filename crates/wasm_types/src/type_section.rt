@@ -13,7 +13,7 @@ ghost use Rattle.wasm_base.specs.declared.refused.Refused.TheVariants.{TooLong};
 ghost use Rattle.wasm_reader_base.specs.Shortest.{AppendsShortest};
 ghost use Rattle.wasm_reader_base.specs.declared.fault.ReadFault.TheVariants.{Memory};
 ghost use Rattle.wasm_types.specs.Calls.{AddsListed, AddsTwoListed};
-ghost use Rattle.wasm_types.specs.Items.{entry_of};
+ghost use Rattle.wasm_types.specs.Items.{entry_view};
 ghost use Rattle.wasm_types.specs.RecTypes.{type_items, TypeItem as Item, type_text, IsType, type_item, field_text, func_text, struct_text, cont_text, sub_text};
 ghost use Rattle.wasm_types.specs.Readings.{HoldsTypes};
 
@@ -21,7 +21,7 @@ use crate::items::TypeEntry;
 use crate::types::{ARRAY, ContType, FUNC, FieldType, FuncType, STRUCT, StorageType, SubType};
 use std::alloc::{Allocator, Global};
 use std::marker::Model;
-use wasm_base::{Encode, Items, Pieces, R, Section, SectionId, ValType, vec_of};
+use wasm_base::{Encode, Kind, Pieces, R, Section, SectionId, ValType, vec_of};
 use wasm_reader_base::{ReadFault, read_whole};
 
 /// The types that a module defines, seen as the bytes of each entry.
@@ -46,7 +46,7 @@ impl<A: Allocator> Model for TypeSection<A> {
 #[derive(Clone, Copy, Debug)]
 pub struct TypeItems;
 
-impl Items for TypeItems {
+impl Kind for TypeItems {
     ghost Record = { Item };
 
     ghost Item = { Item };
@@ -244,7 +244,7 @@ pub fn read_types<'a, A: Allocator + Copy>(
     bytes: &'a [u8],
     alloc: A,
 ) -> Result<Vec<TypeEntry<A>, A>, ReadFault>
-    ensures found { IfOk result (λ x. vec type_item wide bytes.now (map entry_of x.items)) }
+    ensures found { IfOk result (λ x. vec type_item wide bytes.now (map entry_view x.items)) }
     ensures none { IfErr result (λ e. e ≢ Memory → FillsNothing (vec type_item) bytes.now) }
 {
     read_whole::<'a, Vec<TypeEntry<A>, A>, A>(bytes, alloc)
@@ -256,7 +256,7 @@ pub fn append_types<A: Allocator, B: Allocator>(
     types: &[TypeEntry<A>],
     out: &mut Vec<u8, B>,
 ) -> R<()>
-    ensures { OnOk result (AppendsShortest (vec type_item) (map entry_of types.now) out.old.items out.new.items) }
+    ensures { OnOk result (AppendsShortest (vec type_item) (map entry_view types.now) out.old.items out.new.items) }
 {
     types.encode(out)
 }

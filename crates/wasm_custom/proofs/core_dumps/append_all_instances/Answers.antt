@@ -1,14 +1,14 @@
 use Rattle.wasm_reader_base.proofs.ShortTexts.{next_appended, all_appended, vec_appended}
 use Rattle.wasm_custom.specs.CoreDumps.{instance}
-use Rattle.wasm_custom.specs.CoreDumps.{instance_seen}
+use Rattle.wasm_custom.specs.CoreDumps.{instance_view}
 use Rattle.wasm_custom.proofs.core_dumps.append_all_instances.Goals as goal
 
 pub loop-item-preserved : goal.loop-item-preserved
 loop-item-preserved g c =
-    next_appended instance instance_seen c.args.items.now c.loop-item.item-index c.item-item.result _ c.loop-item.out.items _ c.loop-item-test.true c.item-item.is c.loop-item.invariant c.in_ok-append_instance.ensures
+    next_appended instance instance_view c.args.items.now c.loop-item.item-index c.item-item.result _ c.loop-item.out.items _ c.loop-item-test.true c.item-item.is c.loop-item.invariant c.in_ok-append_instance.ensures
 
 pub returns : goal.returns
 returns g c =
     let old = c.args.out.now.items in
-    vec_appended instance instance_seen c.args.items.now old c.encode.new.sink.items c.loop-item.out.items c.in_ok-encode.ensures.appends.ok
-    (all_appended instance instance_seen c.args.items.now c.loop-item.item-index c.encode.new.sink.items c.loop-item.out.items c.loop-item-test.false c.loop-item.invariant)
+    vec_appended instance instance_view c.args.items.now old c.encode.new.sink.items c.loop-item.out.items c.in_ok-encode.ensures.appends.ok
+    (all_appended instance instance_view c.args.items.now c.loop-item.item-index c.encode.new.sink.items c.loop-item.out.items c.loop-item-test.false c.loop-item.invariant)

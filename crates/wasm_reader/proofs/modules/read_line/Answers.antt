@@ -16,6 +16,6 @@ returns-clause-found g c =
     let framed = c.in_ok-framed.framed.now in
     let x = c.in_ok-items.ensures.found in (
       (c.in_ok-id.id, (length framed, x.0)),
-      line_reads c.args.bytes.now _ framed c.in_ok-framed.rest.now c.in_ok-id.id x.0 c.in_ok-id.ensures.found c.in_ok-framed.ensures.found (subst (λ kind. content kind wide framed x.0) c.kind_of.ensures x.1),
+      line_reads c.args.bytes.now _ framed c.in_ok-framed.rest.now c.in_ok-id.id x.0 c.in_ok-id.ensures.found c.in_ok-framed.ensures.found (subst (λ kind. content kind wide framed x.0) c.kind_of_id.ensures x.1),
       ap (λ n. record { id = c.in_ok-id.id; size = length framed; items = n }) x.2,
     )

@@ -1,11 +1,11 @@
 use Rattle.std.proofs.Common.{map, sym, ap, ◌∙◌}
 use Rattle.wasm_base.proofs.Outcomes.{on_ok}
 use Rattle.wasm_sections.specs.Imports.{imports_item}
-use Rattle.wasm_custom.specs.CoreDumps.{instance_seen}
-use Rattle.wasm_custom.specs.Hints.{hints_of}
-use Rattle.wasm_custom.specs.Linking.{link_of}
-use Rattle.wasm_custom.specs.Names.{name_item_of}
-use Rattle.wasm_types.specs.Items.{entry_of}
+use Rattle.wasm_custom.specs.CoreDumps.{instance_view}
+use Rattle.wasm_custom.specs.Hints.{hints_view}
+use Rattle.wasm_custom.specs.Linking.{link_view}
+use Rattle.wasm_custom.specs.Names.{name_item_view}
+use Rattle.wasm_types.specs.Items.{entry_view}
 use Rattle.wasm_reader.specs.Sections.{Imports, Types, Names, Linking, Hints, CoreModules, CoreInstances, contents_of}
 use Rattle.wasm_reader.proofs.ShortSections.{of_items, bodies, segments, data_count, elements, globals, imports, start, tables, types, names, links, producers, hints, process, modules, instances, stack}
 use Rattle.wasm_reader.proofs.shortest.append_content.Goals as goal
@@ -35,19 +35,19 @@ pub returns-in-Tables : goal.returns-in-Tables
 returns-in-Tables g c = on_ok c.append_shortest-in-Tables.result _ _ c.append_shortest-in-Tables.ensures λ a. of_items _ _ _ _ (ap contents_of c.in-Tables.is) (tables _ _ _ a)
 
 pub returns-in-Types : goal.returns-in-Types
-returns-in-Types g c = on_ok c.append_types.result _ _ c.append_types.ensures λ a. of_items _ _ _ _ (ap contents_of c.in-Types.is ∙ ap (λ v. Types (map entry_of v)) (sym c.deref-in-Types.ensures.value)) (types _ _ _ a)
+returns-in-Types g c = on_ok c.append_types.result _ _ c.append_types.ensures λ a. of_items _ _ _ _ (ap contents_of c.in-Types.is ∙ ap (λ v. Types (map entry_view v)) (sym c.deref-in-Types.ensures.value)) (types _ _ _ a)
 
 pub returns-in-Names : goal.returns-in-Names
-returns-in-Names g c = on_ok c.append_names.result _ _ c.append_names.ensures λ a. of_items _ _ _ _ (ap contents_of c.in-Names.is ∙ ap (λ v. Names (map name_item_of v)) (sym c.deref-in-Names.ensures.value)) (names _ _ _ a)
+returns-in-Names g c = on_ok c.append_names.result _ _ c.append_names.ensures λ a. of_items _ _ _ _ (ap contents_of c.in-Names.is ∙ ap (λ v. Names (map name_item_view v)) (sym c.deref-in-Names.ensures.value)) (names _ _ _ a)
 
 pub returns-in-Linking : goal.returns-in-Linking
-returns-in-Linking g c = on_ok c.append_links.result _ _ c.append_links.ensures λ a. of_items _ _ _ _ (ap contents_of c.in-Linking.is ∙ ap (λ v. Linking (map link_of v)) (sym c.deref-in-Linking.ensures.value)) (links _ _ _ a)
+returns-in-Linking g c = on_ok c.append_links.result _ _ c.append_links.ensures λ a. of_items _ _ _ _ (ap contents_of c.in-Linking.is ∙ ap (λ v. Linking (map link_view v)) (sym c.deref-in-Linking.ensures.value)) (links _ _ _ a)
 
 pub returns-in-Producers : goal.returns-in-Producers
 returns-in-Producers g c = on_ok c.append_producers.result _ _ c.append_producers.ensures λ a. of_items _ _ _ _ (ap contents_of c.in-Producers.is) (producers _ _ _ a)
 
 pub returns-in-Hints : goal.returns-in-Hints
-returns-in-Hints g c = on_ok c.append_hints.result _ _ c.append_hints.ensures λ a. of_items _ _ _ _ (ap contents_of c.in-Hints.is ∙ ap (λ v. Hints (map hints_of v)) (sym c.deref-in-Hints.ensures.value)) (hints _ _ _ a)
+returns-in-Hints g c = on_ok c.append_hints.result _ _ c.append_hints.ensures λ a. of_items _ _ _ _ (ap contents_of c.in-Hints.is ∙ ap (λ v. Hints (map hints_view v)) (sym c.deref-in-Hints.ensures.value)) (hints _ _ _ a)
 
 pub returns-in-Core : goal.returns-in-Core
 returns-in-Core g c = on_ok c.append_process.result _ _ c.append_process.ensures λ a. of_items _ _ _ _ (ap contents_of c.in-Core.is) (process _ _ _ a)
@@ -56,7 +56,7 @@ pub returns-in-CoreModules : goal.returns-in-CoreModules
 returns-in-CoreModules g c = on_ok c.append_modules.result _ _ c.append_modules.ensures λ a. of_items _ _ _ _ (ap contents_of c.in-CoreModules.is ∙ ap (λ v. CoreModules (map (λ n. n.now) v)) (sym c.deref-in-CoreModules.ensures.value)) (modules _ _ _ a)
 
 pub returns-in-CoreInstances : goal.returns-in-CoreInstances
-returns-in-CoreInstances g c = on_ok c.append_instances.result _ _ c.append_instances.ensures λ a. of_items _ _ _ _ (ap contents_of c.in-CoreInstances.is ∙ ap (λ v. CoreInstances (map instance_seen v)) (sym c.deref-in-CoreInstances.ensures.value)) (instances _ _ _ a)
+returns-in-CoreInstances g c = on_ok c.append_instances.result _ _ c.append_instances.ensures λ a. of_items _ _ _ _ (ap contents_of c.in-CoreInstances.is ∙ ap (λ v. CoreInstances (map instance_view v)) (sym c.deref-in-CoreInstances.ensures.value)) (instances _ _ _ a)
 
 pub returns-in-CoreStack : goal.returns-in-CoreStack
 returns-in-CoreStack g c = on_ok c.append_stack.result _ _ c.append_stack.ensures λ a. of_items _ _ _ _ (ap contents_of c.in-CoreStack.is) (stack _ _ _ a)

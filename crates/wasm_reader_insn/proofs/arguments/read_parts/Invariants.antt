@@ -1,7 +1,7 @@
 use Rattle.std.proofs.Common.{map}
-use Rattle.wasm_reader_insn.specs.Arguments.{argument_of}
+use Rattle.wasm_reader_insn.specs.Arguments.{argument_view}
 use Rattle.wasm_reader_insn.proofs.ReadArguments.{HasArguments}
 use Rattle.wasm_reader_insn.proofs.arguments.read_parts.Given as goal
 
 abbrev pub invariant-loop-part : goal.invariant-loop-part
-invariant-loop-part g l = HasArguments l.wanted l.part-index l.bytes (map argument_of l.args.items) l.rest
+invariant-loop-part g l = HasArguments l.wanted l.part-index l.bytes (map argument_view l.args.items) l.rest

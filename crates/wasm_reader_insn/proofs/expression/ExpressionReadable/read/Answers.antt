@@ -6,7 +6,7 @@ use Rattle.wasm_insn.specs.Table.{table}
 use Rattle.wasm_insn.proofs.InstructionLaws.{alone}
 use Rattle.wasm_code.specs.Expressions.{IsNoEnd}
 use Rattle.wasm_insn.proofs.InstructionLaws.{any_begins}
-use Rattle.wasm_reader_insn.specs.Arguments.{plain_of}
+use Rattle.wasm_reader_insn.specs.Arguments.{plain_view}
 use Rattle.wasm_reader_base.proofs.Faults.{fault_stays, memory_stays}
 use Rattle.wasm_reader_base.proofs.ReadFrames.{none_left}
 use Rattle.wasm_base.proofs.ReadingSteps.{such_none}
@@ -17,12 +17,12 @@ use Rattle.wasm_reader_insn.proofs.expression.ExpressionReadable.read.Goals as g
 
 pub returns-then-first-eq-END-clause-found : goal.returns-then-first-eq-END-clause-found
 returns-then-first-eq-END-clause-found g c =
-    ended_done 11 (such IsNoEnd (instruction table)) plain_of c.args.bytes.now c.loop-rest.rest.now _ c.loop-rest.items.items c.loop-rest.invariant
+    ended_done 11 (such IsNoEnd (instruction table)) plain_view c.args.bytes.now c.loop-rest.rest.now _ c.loop-rest.items.items c.loop-rest.invariant
     (front_is 11 c.loop-rest.rest.now c.in-len1-up.len_at_least c.if-first-eq-END.true)
 
 pub returns-in_err-item-clause-none : goal.returns-in_err-item-clause-none
 returns-in_err-item-clause-none g c = fault_stays c.from_residual.result _ c.from_residual.ensures.1 λ n.
-    ended_fail 11 (such IsNoEnd (instruction table)) plain_of c.args.bytes.now _ c.loop-rest.rest.now _ c.loop-rest.items.items c.loop-rest.invariant
+    ended_fail 11 (such IsNoEnd (instruction table)) plain_view c.args.bytes.now _ c.loop-rest.rest.now _ c.loop-rest.items.items c.loop-rest.invariant
     (front_and_rest c.loop-rest.rest.now c.in-len1-up.len_at_least) c.if-first-eq-END.false (such_none IsNoEnd (c.in_err-item.ensures.none n))
 
 pub returns-in_err-push-clause-none : goal.returns-in_err-push-clause-none
@@ -31,13 +31,13 @@ returns-in_err-push-clause-none g c = memory_stays _ c.from_residual-in_err-push
 pub loop-rest-preserved : goal.loop-rest-preserved
 loop-rest-preserved g c =
     let split = front_and_rest c.loop-rest.rest.now c.in-len1-up.len_at_least in
-    subst (λ z. HasEnded 11 (such IsNoEnd (instruction table)) plain_of c.args.bytes.now z c.in_ok-item.after.now) (sym c.in_ok-push.ensures.items)
-    (ended_step 11 (such IsNoEnd (instruction table)) plain_of c.args.bytes.now (such_unique IsNoEnd alone) _ c.loop-rest.rest.now _ c.in_ok-item.after.now c.loop-rest.items.items c.in_ok-item.item c.loop-rest.invariant split c.if-first-eq-END.false
-    (not_end c.loop-rest.rest.now _ c.in_ok-item.after.now _ (plain_of c.in_ok-item.item) split c.if-first-eq-END.false c.in_ok-item.ensures.found))
+    subst (λ z. HasEnded 11 (such IsNoEnd (instruction table)) plain_view c.args.bytes.now z c.in_ok-item.after.now) (sym c.in_ok-push.ensures.items)
+    (ended_step 11 (such IsNoEnd (instruction table)) plain_view c.args.bytes.now (such_unique IsNoEnd alone) _ c.loop-rest.rest.now _ c.in_ok-item.after.now c.loop-rest.items.items c.in_ok-item.item c.loop-rest.invariant split c.if-first-eq-END.false
+    (not_end c.loop-rest.rest.now _ c.in_ok-item.after.now _ (plain_view c.in_ok-item.item) split c.if-first-eq-END.false c.in_ok-item.ensures.found))
 
 pub loop-rest-smaller : goal.loop-rest-smaller
-loop-rest-smaller g c = member_shorter (instruction table) c.loop-rest.rest.now c.in_ok-item.after.now (plain_of c.in_ok-item.item) any_begins c.in_ok-item.ensures.found
+loop-rest-smaller g c = member_shorter (instruction table) c.loop-rest.rest.now c.in_ok-item.after.now (plain_view c.in_ok-item.item) any_begins c.in_ok-item.ensures.found
 
 pub returns-in_default-clause-none : goal.returns-in_default-clause-none
 returns-in_default-clause-none g c = λ n.
-    ended_short 11 (such IsNoEnd (instruction table)) plain_of c.args.bytes.now (begins_such (λ b. Unit {0}) IsNoEnd any_begins) c.loop-rest.rest.now c.loop-rest.items.items c.loop-rest.invariant (none_left c.loop-rest.rest.now (omega (arith, c.in_default.len_below)))
+    ended_short 11 (such IsNoEnd (instruction table)) plain_view c.args.bytes.now (begins_such (λ b. Unit {0}) IsNoEnd any_begins) c.loop-rest.rest.now c.loop-rest.items.items c.loop-rest.invariant (none_left c.loop-rest.rest.now (omega (arith, c.in_default.len_below)))

@@ -1,7 +1,0 @@
-use Rattle.std.proofs.Common.{arith}
-use Rattle.std.proofs.lemmas.Grind.{common_steps}
-use Rattle.wasm_base.proofs.NumberTexts.{two_groups}
-use Rattle.wasm_base.proofs.numbers.put_two_groups.Goals as goal
-
-pub returns-clause-items : goal.returns-clause-items
-returns-clause-items g c = grind (arith, common_steps, two_groups)

@@ -1,5 +1,0 @@
-use Rattle.wasm_reader_base.proofs.ReadNumbers.{HasBegun}
-use Rattle.wasm_reader_base.proofs.numbers.read_few_groups.Given as goal
-
-abbrev pub invariant-loop-group : goal.invariant-loop-group
-invariant-loop-group l = HasBegun l._group l.bytes l.rest l.sum l.power

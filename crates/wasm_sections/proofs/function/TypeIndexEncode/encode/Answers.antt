@@ -1,0 +1,14 @@
+use Rattle.std.proofs.Common.{rules, arith}
+use Rattle.std.proofs.lemmas.Grind.{common_steps}
+use Rattle.wasm_sections.proofs.FunctionLaws.{two_bytes}
+use Rattle.wasm_sections.proofs.function.TypeIndexEncode.encode.Goals as goal
+
+pub returns-then-capacity-len-ge2-clause-appends : goal.returns-then-capacity-len-ge2-clause-appends
+returns-then-capacity-len-ge2-clause-appends g c = record {
+  ok = grind (arith, common_steps, two_bytes);
+  err = search rules;
+  fitted = search rules;
+  too_long = search rules;
+  room = search rules;
+  capacity = omega arith;
+}

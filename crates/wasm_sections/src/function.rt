@@ -1,0 +1,82 @@
+// The function section.
+ghost use Rattle.std.specs.Prelude.{◌≡◌, ℕ, ⊤};
+ghost use Rattle.wasm_base.specs.Calls.{Adds};
+ghost use Rattle.wasm_base.specs.Numbers.{unsigned_text};
+ghost use Rattle.wasm_sections.specs.Functions.{function_items};
+
+use crate::counted_section::{CountedSection, ItemKind, RecordOf};
+use std::alloc::{Allocator, Global};
+use wasm_base::{Encode, Kind, R, SectionId};
+
+/// The types of the functions that a module defines, in the order of their bodies.
+///
+/// ```rust
+/// let mut functions = FunctionSection::new(alloc);
+/// functions.function(0)?;
+/// module.section(&functions)?;
+/// ```
+pub type FunctionSection<A = Global> = CountedSection<FunctionItems, A>;
+
+/// The items of a function section: the index of a type for each function.
+#[derive(Clone, Copy, Debug)]
+pub struct FunctionItems;
+
+impl Kind for FunctionItems {
+    ghost Record = { ℕ };
+
+    ghost Item = { ℕ };
+
+    ghost kind = { function_items };
+
+    #[tactic(auto, using(crate::proofs::FunctionLaws::function_laws))]
+    fn laws() {}
+}
+
+impl ItemKind for FunctionItems {
+    ghost use Rattle.wasm_base.specs.SectionId.{number_of};
+    ghost use Rattle.wasm_base.specs.declared.section_id.SectionId.TheVariants as ids;
+
+    ghost section_id = { number_of ids.Function };
+
+    fn id() -> u8 {
+        SectionId::Function.into()
+    }
+}
+
+impl RecordOf<FunctionItems> for u32 {}
+
+/// The index of a type. Many have two bytes, which are written in place too.
+#[derive(Clone, Copy)]
+struct TypeIndex {
+    index: u32,
+}
+
+impl Encode for TypeIndex {
+    ghost text = { λ given. unsigned_text given.index };
+
+    ghost fits = { λ _. ⊤ };
+
+    #[tactic(auto, using(crate::proofs::FunctionLaws::two_bytes))]
+    #[inline]
+    fn encode<A: Allocator>(&self, sink: &mut Vec<u8, A>) -> R<()> {
+        let index = self.index;
+        if index < 0x80 {
+            return index.encode(sink);
+        }
+        if index < 0x4000 && sink.capacity() - sink.len() >= 2 {
+            sink.push_reserved((index % 0x80) as u8 + 0x80);
+            sink.push_reserved((index / 0x80) as u8);
+            return Ok(());
+        }
+        index.encode(sink)
+    }
+}
+
+impl<A: Allocator> FunctionSection<A> {
+    /// Adds a function of the type of this index. A refused call leaves the section as it was.
+    pub fn function(&mut self, type_index: u32) -> R<()>
+        ensures { Adds (unsigned_text type_index) ⊤ self.old self.new result }
+    {
+        self.add_record(&TypeIndex { index: type_index })
+    }
+}
