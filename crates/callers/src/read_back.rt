@@ -8,8 +8,9 @@ ghost use Rattle.wasm_custom.specs.Readings.{name_payload};
 ghost use Rattle.wasm_reader_base.specs.declared.fault.ReadFault.TheVariants.{Memory};
 ghost use Rattle.wasm_base.specs.Numbers.{wide};
 ghost use Rattle.wasm_base.specs.Reading.{Reads, ReadsNothing};
-ghost use Rattle.wasm_reader.specs.Sections.{Functions, Names, contents_of, section, Takes, Shortens};
-ghost use Rattle.wasm_reader.specs.declared.section.SectionKind.TheVariants as kinds;
+ghost use Rattle.wasm_reader.specs.Kinds.{Functions, Names, contents_of};
+ghost use Rattle.wasm_reader.specs.Sections.{section, Takes, Shortens};
+ghost use Rattle.wasm_reader.specs.declared.kinds.SectionKind.TheVariants as kinds;
 
 pub mod custom;
 pub mod declared;

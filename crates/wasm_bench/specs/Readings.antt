@@ -3,8 +3,9 @@ use Rattle.std.specs.Prelude.{◌≡◌, ℕ, List, length}
 use Rattle.std.specs.List.{flat_map}
 use Rattle.wasm_base.specs.Numbers.{wide}
 use Rattle.wasm_code.specs.Bodies.{Body, body}
-use Rattle.wasm_reader.specs.Sections.{Bodies, Takes}
-use Rattle.wasm_reader.specs.declared.section.SectionKind.TheVariants as kinds
+use Rattle.wasm_reader.specs.Kinds.{Bodies}
+use Rattle.wasm_reader.specs.Sections.{Takes}
+use Rattle.wasm_reader.specs.declared.kinds.SectionKind.TheVariants as kinds
 
 -- how many instructions the bodies have together
 abbrev pub instructions_in : List Body → ℕ

@@ -6,8 +6,8 @@ use Rattle.wasm_base.specs.Reading.{ReadsNothing}
 use Rattle.wasm_reader_base.specs.declared.fault.ReadFault.{ReadFault}
 use Rattle.wasm_reader_base.specs.declared.fault.ReadFault.TheVariants.{Memory}
 use Rattle.wasm_reader.specs.Sections.{section, Shortens}
-use Rattle.wasm_reader.specs.declared.section.SectionKind.{SectionKind}
-use Rattle.wasm_reader.specs.declared.section.SectionKind.TheVariants.{Bodies, Segments, DataCount, Elements, Exports, Functions, Globals, Imports, Memories, Start, Tables, Tags, Names, Linking, Producers, Hints, Core, CoreModules, CoreInstances, CoreStack, Custom, Raw, Types}
+use Rattle.wasm_reader.specs.declared.kinds.SectionKind.{SectionKind}
+use Rattle.wasm_reader.specs.declared.kinds.SectionKind.TheVariants.{Bodies, Segments, DataCount, Elements, Exports, Functions, Globals, Imports, Memories, Start, Tables, Tags, Names, Linking, Producers, Hints, Core, CoreModules, CoreInstances, CoreStack, Custom, Raw, Types}
 use Rattle.wasm_c.specs.Assembled.{Gives}
 use Rattle.wasm_c.specs.Listing.{fault_number}
 use Rattle.wasm_c.specs.declared.TheConstants.{NO_ANSWER}

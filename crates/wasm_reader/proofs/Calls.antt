@@ -4,9 +4,10 @@ use Rattle.wasm_base.specs.Formats.{Format, frame, mapped, wasm_module}
 use Rattle.wasm_base.specs.Modules.{GainsReading, GainsReadingWide}
 use Rattle.wasm_base.specs.Numbers.{shortest, wide}
 use Rattle.wasm_base.specs.Reading.{Reads, ReadsNothing}
-use Rattle.wasm_reader.specs.Sections.{Contents, section, Takes, Shortens}
+use Rattle.wasm_reader.specs.Kinds.{Contents}
+use Rattle.wasm_reader.specs.Sections.{section, Takes, Shortens}
 use Rattle.wasm_reader.specs.Shortening.{ShortensModule, AreSettled}
-use Rattle.wasm_reader.specs.declared.section.SectionKind.{SectionKind}
+use Rattle.wasm_reader.specs.declared.kinds.SectionKind.{SectionKind}
 use Rattle.wasm_reader.specs.declared.whole.Offsets.{Offsets}
 use Rattle.wasm_reader.proofs.ShortSections.{section_unique}
 

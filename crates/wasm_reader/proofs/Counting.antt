@@ -8,9 +8,8 @@ use Rattle.wasm_base.proofs.FormatLaws.{vec_unique}
 use Rattle.wasm_reader_base.proofs.ReadPassed.{HasPassed, passed_reads, passed_nothing}
 use Rattle.wasm_reader_base.proofs.ReadVectors.{vec_nothing_count}
 use Rattle.wasm_reader_base.specs.declared.fault.ReadFault.{ReadFault}
-use Rattle.wasm_reader.specs.Modules.{number_in}
-use Rattle.wasm_reader.specs.Sections.{Contents, content}
-use Rattle.wasm_reader.specs.declared.section.SectionKind.{SectionKind}
+use Rattle.wasm_reader.specs.Kinds.{number_in, Contents, content}
+use Rattle.wasm_reader.specs.declared.kinds.SectionKind.{SectionKind}
 use Rattle.wasm_reader_base.proofs.ReadWhole.{whole_more, whole_nothing}
 
 module _ {X : Type 0} (F : Format X) where

@@ -6,8 +6,8 @@ use Rattle.wasm_base.specs.Formats.{Format, byte, fixed, header, members}
 use Rattle.wasm_base.specs.Reading.{Reads, ReadsNothing, IsReadAlone, BeginsWith}
 use Rattle.wasm_base.proofs.BaseLaws.{frame_bytes_unique}
 use Rattle.wasm_base.proofs.FormatLaws.{byte_unique, begins_then, same_pair}
-use Rattle.wasm_reader.specs.Modules.{kind_of_id, sized_section, sized_module, line_of, HasLines, StopsAt, HaveOneListing}
-use Rattle.wasm_reader.specs.Sections.{Contents, content}
+use Rattle.wasm_reader.specs.Kinds.{kind_of_id, Contents, content}
+use Rattle.wasm_reader.specs.Modules.{sized_section, sized_module, line_of, HasLines, StopsAt, HaveOneListing}
 use Rattle.wasm_reader.specs.declared.modules.Listed.{Listed}
 use Rattle.wasm_reader.proofs.ShortSections.{content_whole}
 

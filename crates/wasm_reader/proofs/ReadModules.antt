@@ -1,4 +1,6 @@
 -- How a list of a module's sections is made.
+use Rattle.wasm_reader.specs.Kinds.{kind_among, known_kinds, kind_of_id, Contents, content}
+use Rattle.wasm_reader.proofs.KindLaws.{content_whole, kind_is, of_kind, none_of_kind, says_nothing, keeps_name, counted_alike, contents}
 use Rattle.std.proofs.Common.{◌≡◌, ◌≢◌, ℕ, ◌<◌, ◌^◌, List, [], ◌∷◌, ◌++◌, length, map, take, drop, cond, refl, sym, ap, subst, ◌∙◌, arith}
 use Rattle.std.proofs.lemmas.Bool.{ne_eqb}
 use Rattle.std.proofs.lemmas.List.{map-append, take-append-drop, take_at, length-append, length-map}
@@ -10,11 +12,10 @@ use Rattle.wasm_base.proofs.BaseLaws.{frame_bytes_unique}
 use Rattle.wasm_base.proofs.FormatLaws.{byte_unique, begins_then}
 use Rattle.wasm_base.proofs.ReadingSteps.{reads_same, then_reads, then_nothing_first, then_nothing_second, members_start, members_step}
 use Rattle.wasm_reader_base.proofs.ReadWhole.{member_shorter}
-use Rattle.wasm_reader.specs.Modules.{kind_among, known_kinds, kind_of_id, Sized, sized_section, sized_module, line_of, HasLines, StopsBehind}
-use Rattle.wasm_reader.specs.Sections.{Contents, content}
+use Rattle.wasm_reader.specs.Modules.{Sized, sized_section, sized_module, line_of, HasLines, StopsBehind}
 use Rattle.wasm_reader.specs.declared.modules.Listed.{Listed}
-use Rattle.wasm_reader.specs.declared.section.SectionKind.{SectionKind}
-use Rattle.wasm_reader.specs.declared.section.SectionKind.TheVariants as kinds
+use Rattle.wasm_reader.specs.declared.kinds.SectionKind.{SectionKind}
+use Rattle.wasm_reader.specs.declared.kinds.SectionKind.TheVariants as kinds
 use Rattle.wasm_sections.proofs.Prefixes.{prefixed_reads}
 use Rattle.wasm_reader_base.proofs.ReadWhole.{whole_reads}
 
@@ -36,18 +37,7 @@ pub ruleset header_steps = (header_found, header_short, header_other)
 
 -- ---- kinds
 
-abbrev IsUnknown : List (ℕ × SectionKind) → ℕ → Type 0
-IsUnknown [] id = Unit {0}
-IsUnknown (k ∷ ks) id = (id ≢ k.0) × IsUnknown ks id
 
-pub unknown_kind : (ks : List (ℕ × SectionKind)) (id : ℕ) → IsUnknown ks id → kinds.Raw ≡ kind_among ks id
-unknown_kind [] id h = refl
-unknown_kind (k ∷ ks) id h = unknown_kind ks id h.1 ∙ ap (λ t. cond t k.1 (kind_among ks id)) (sym (ne_eqb id k.0 h.0))
-
-pub raw_kind : (id : ℕ) → id ≢ 0 → id ≢ 2 → id ≢ 3 → id ≢ 4 → id ≢ 5 → id ≢ 6 → id ≢ 7 → id ≢ 8 → id ≢ 9 → id ≢ 10 → id ≢ 11 → id ≢ 12 → id ≢ 13 → kinds.Raw ≡ kind_of_id id
-raw_kind id a b c d e f g h i j k l m = unknown_kind known_kinds id (a, (b, (c, (d, (e, (f, (g, (h, (i, (j, (k, (l, (m, tt)))))))))))))
-
-pub ruleset kind_steps = (raw_kind)
 
 -- ---- lines
 

@@ -1,4 +1,6 @@
 -- How an outline of a module is made.
+use Rattle.wasm_reader.specs.Kinds.{number_in, Contents, Types, content}
+use Rattle.wasm_reader.proofs.KindLaws.{content_whole, kind_is, of_kind, none_of_kind, says_nothing, keeps_name, counted_alike, contents}
 use Rattle.std.proofs.Common.{◌≡◌, ◌≢◌, ℕ, ◌<◌, ◌^◌, ◌+◌, ◌-◌, suc, List, [], ◌∷◌, ◌++◌, length, map, take, Option, Some, None, refl, sym, ap, subst, ◌∙◌, append_assoc, append-nil, arith}
 use Rattle.std.specs.List.{AllByRecursion, flat_map}
 use Rattle.std.proofs.lemmas.Grind.{flat_map-append}
@@ -11,12 +13,10 @@ use Rattle.wasm_base.proofs.FormatLaws.{byte_unique, begins_then}
 use Rattle.wasm_base.proofs.ModuleLaws.{section_unique}
 use Rattle.wasm_base.proofs.ReadingSteps.{then_nothing_first, then_nothing_second}
 use Rattle.wasm_types.specs.RecTypes.{TypeItem, type_item}
-use Rattle.wasm_reader.specs.Modules.{number_in}
 use Rattle.wasm_reader.specs.Outlines.{Section, IsSection, bytes_of, count_in, IsCount, IsOutline, AreOutlines, HasOutline, EndsAt}
-use Rattle.wasm_reader.specs.Sections.{Contents, Types, content}
 use Rattle.wasm_reader.specs.declared.outlines.Outlined.{Outlined}
-use Rattle.wasm_reader.specs.declared.section.SectionKind.{SectionKind}
-use Rattle.wasm_reader.specs.declared.section.SectionKind.TheVariants as kinds
+use Rattle.wasm_reader.specs.declared.kinds.SectionKind.{SectionKind}
+use Rattle.wasm_reader.specs.declared.kinds.SectionKind.TheVariants as kinds
 use Rattle.wasm_reader.proofs.ModuleLaws.{one_way}
 use Rattle.wasm_sections.proofs.Prefixes.{prefixed_reads}
 use Rattle.wasm_reader.proofs.ShortSections.{content_whole}
@@ -61,32 +61,7 @@ types_few payload types h = h.first.range
 
 -- A number that a list of a module tells, of a kind other than types.
 pub listed_count : (kind : SectionKind) (payload : List ℕ) (x : Contents) (number : Option ℕ) → kind ≢ kinds.Types → content kind wide payload x → number ≡ number_in x → IsCount kind payload number
-listed_count kind payload x number other h e = same_count kind payload x number h (told kind x other h ∙ sym e)
-  where
-    told : (kind : SectionKind) (x : Contents) → kind ≢ kinds.Types → content kind wide payload x → count_in x ≡ number_in x
-    told kinds.Types x other h = absurd (other refl)
-    told kinds.Bodies x other h = ap count_in (sym h.1) ∙ ap number_in h.1
-    told kinds.Segments x other h = ap count_in (sym h.1) ∙ ap number_in h.1
-    told kinds.DataCount x other h = ap count_in (sym h.1) ∙ ap number_in h.1
-    told kinds.Elements x other h = ap count_in (sym h.1) ∙ ap number_in h.1
-    told kinds.Exports x other h = ap count_in (sym h.1) ∙ ap number_in h.1
-    told kinds.Functions x other h = ap count_in (sym h.1) ∙ ap number_in h.1
-    told kinds.Globals x other h = ap count_in (sym h.1) ∙ ap number_in h.1
-    told kinds.Imports x other h = ap count_in (sym h.1) ∙ ap number_in h.1
-    told kinds.Memories x other h = ap count_in (sym h.1) ∙ ap number_in h.1
-    told kinds.Start x other h = ap count_in (sym h.1) ∙ ap number_in h.1
-    told kinds.Tables x other h = ap count_in (sym h.1) ∙ ap number_in h.1
-    told kinds.Tags x other h = ap count_in (sym h.1) ∙ ap number_in h.1
-    told kinds.Names x other h = ap count_in (sym h.1) ∙ ap number_in h.1
-    told kinds.Linking x other h = ap count_in (sym h.1) ∙ ap number_in h.1
-    told kinds.Producers x other h = ap count_in (sym h.1) ∙ ap number_in h.1
-    told kinds.Hints x other h = ap count_in (sym h.1) ∙ ap number_in h.1
-    told kinds.Core x other h = ap count_in (sym h.1) ∙ ap number_in h.1
-    told kinds.CoreModules x other h = ap count_in (sym h.1) ∙ ap number_in h.1
-    told kinds.CoreInstances x other h = ap count_in (sym h.1) ∙ ap number_in h.1
-    told kinds.CoreStack x other h = ap count_in (sym h.1) ∙ ap number_in h.1
-    told kinds.Custom x other h = ap count_in (sym h.1) ∙ ap number_in h.1
-    told kinds.Raw x other h = ap count_in (sym h.1) ∙ ap number_in h.1
+listed_count kind payload x number other h e = same_count kind payload x number h (counted_alike kind x other h ∙ sym e)
 
 -- Nothing is counted where nothing is read.
 pub not_counted : (kind : SectionKind) (payload : List ℕ) → FillsNothing (content kind) payload → IsCount kind payload None

@@ -1,4 +1,6 @@
 -- How the content of a section is read.
+use Rattle.wasm_reader.specs.Kinds.{Contents, Functions, Memories, Start, Tags, Names, Custom, Raw, content}
+use Rattle.wasm_reader.proofs.KindLaws.{content_whole, kind_is, of_kind, none_of_kind, says_nothing, keeps_name, counted_alike, contents}
 use Rattle.std.proofs.Common.{◌≡◌, ℕ, ◌≤◌, ◌+◌, List, length, map, drop, refl, sym, ap, subst, ◌∙◌, arith}
 use Rattle.std.proofs.lemmas.List.{map-id, length-append, drop_at}
 use Rattle.wasm_base.specs.Going.{FillsNothing}
@@ -12,47 +14,9 @@ use Rattle.wasm_sections.specs.declared.memory.MemoryType.{MemoryType}
 use Rattle.wasm_sections.specs.declared.tag.TagType.{TagType}
 use Rattle.wasm_custom.specs.Names.{NameItem}
 use Rattle.wasm_custom.specs.Readings.{name_payload}
-use Rattle.wasm_reader.specs.Sections.{Contents, Functions, Memories, Start, Tags, Names, Custom, Raw, content, section, Takes}
-use Rattle.wasm_reader.specs.declared.section.SectionKind.{SectionKind}
-use Rattle.wasm_reader.specs.declared.section.SectionKind.TheVariants as kinds
-
--- ---- the content of each kind
-
--- As the kind is told by a case of a match.
-pub of_kind : {kind k : SectionKind} (bytes : List ℕ) (x : Contents) → kind ≡ k → content k wide bytes x → content kind wide bytes x
-of_kind bytes x e h = subst (λ z. content z wide bytes x) (sym e) h
-
-pub none_of_kind : {kind k : SectionKind} (bytes : List ℕ) → kind ≡ k → FillsNothing (content k) bytes → FillsNothing (content kind) bytes
-none_of_kind bytes e n = subst (λ z. FillsNothing (content z) bytes) (sym e) n
-
-pub says_nothing : {X Y : Type 0} (f : X → Y) {F : Format X} {bytes : List ℕ} → FillsNothing F bytes → FillsNothing (mapped f F) bytes
-says_nothing f n = record { none = λ y h. n.none h.0 h.2 }
-
-pub functions_fill : (bytes : List ℕ) (x : List ℕ) → vec u32 wide bytes (map (λ n. n) x) → content kinds.Functions wide bytes (Functions x)
-functions_fill bytes x h = (x, refl, subst (λ z. vec u32 wide bytes z) (map-id x) h)
-
-pub memories_fill : (bytes : List ℕ) (x : List MemoryType) → vec memory_type wide bytes (map (λ m. m) x) → content kinds.Memories wide bytes (Memories x)
-memories_fill bytes x h = (x, refl, subst (λ z. vec memory_type wide bytes z) (map-id x) h)
-
-pub start_fills : (bytes : List ℕ) (x : ℕ) → u32 wide bytes x → content kinds.Start wide bytes (Start x)
-start_fills bytes x h = (x, refl, h)
-
-pub tags_fill : (bytes : List ℕ) (x : List TagType) → vec tag_type wide bytes (map (λ t. t) x) → content kinds.Tags wide bytes (Tags x)
-tags_fill bytes x h = (x, refl, subst (λ z. vec tag_type wide bytes z) (map-id x) h)
-
-pub names_fill : (bytes : List ℕ) (x : List NameItem) → name_payload wide bytes x → content kinds.Names wide bytes (Names x)
-names_fill bytes x h = (x, refl, h)
-
-pub custom_fills : (bytes rest text : List ℕ) → Reads name wide bytes text rest → content kinds.Custom wide bytes (Custom (text, rest))
-custom_fills bytes rest text h = ((text, rest), refl, record { front = h.front; back = rest; joined = h.split; first = h.spelled; second = refl })
-
-pub no_custom : (bytes : List ℕ) → ReadsNothing name wide bytes → FillsNothing (content kinds.Custom) bytes
-no_custom bytes n = record { none = λ y h. let s = h.2 in n.none h.0.0 s.back (record { front = s.front; split = s.joined; spelled = s.first }) }
-
-pub raw_fills : (bytes : List ℕ) → content kinds.Raw wide bytes (Raw bytes)
-raw_fills bytes = (bytes, refl, refl)
-
-pub ruleset content_steps = (start_fills, names_fill, raw_fills)
+use Rattle.wasm_reader.specs.Sections.{section, Takes}
+use Rattle.wasm_reader.specs.declared.kinds.SectionKind.{SectionKind}
+use Rattle.wasm_reader.specs.declared.kinds.SectionKind.TheVariants as kinds
 
 -- ---- sections
 

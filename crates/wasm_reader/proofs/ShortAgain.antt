@@ -1,4 +1,6 @@
 -- What is as short as can be stays as it is.
+use Rattle.wasm_reader.specs.Kinds.{kind_named, Contents, content}
+use Rattle.wasm_reader.proofs.KindLaws.{content_whole, kind_is, of_kind, none_of_kind, says_nothing, keeps_name, counted_alike, contents}
 use Rattle.std.proofs.Common.{◌≡◌, ◌≢◌, ℕ, List, [], ◌∷◌, ◌++◌, length, drop, Bool, true, false, if◌then◌else◌, Option, Some, None, refl, sym, ap, subst, ◌∙◌, append-nil}
 use Rattle.std.specs.List.{AllByRecursion, flat_map}
 use Rattle.std.specs.Str.{bytes_eq}
@@ -16,11 +18,11 @@ use Rattle.wasm_custom.specs.Hints.{hints_name}
 use Rattle.wasm_custom.specs.Linking.{linking_name}
 use Rattle.wasm_custom.specs.Names.{name_name}
 use Rattle.wasm_custom.specs.Producers.{producers_name}
-use Rattle.wasm_reader.specs.Outlines.{Section, IsSection, IsNameOf, bytes_of, kind_named, kind_at, section_kind_of}
-use Rattle.wasm_reader.specs.Sections.{Contents, content, section, Shortens}
+use Rattle.wasm_reader.specs.Outlines.{Section, IsSection, IsNameOf, bytes_of, kind_at, section_kind_of}
+use Rattle.wasm_reader.specs.Sections.{section, Shortens}
 use Rattle.wasm_reader.specs.Shortening.{holds_offsets, IsWritten, Rewrite, IsRewrite, written, written_as, AreSettled}
-use Rattle.wasm_reader.specs.declared.section.SectionKind.{SectionKind}
-use Rattle.wasm_reader.specs.declared.section.SectionKind.TheVariants as kinds
+use Rattle.wasm_reader.specs.declared.kinds.SectionKind.{SectionKind}
+use Rattle.wasm_reader.specs.declared.kinds.SectionKind.TheVariants as kinds
 use Rattle.wasm_reader.specs.declared.whole.How.{How}
 use Rattle.wasm_reader.specs.declared.whole.How.TheVariants.{Shortest, Kept, LeftOut}
 use Rattle.wasm_reader.specs.declared.whole.Offsets.{Offsets}
@@ -29,51 +31,6 @@ use Rattle.wasm_reader.proofs.ShortModules.{sections_of, bytes_joined}
 use Rattle.wasm_reader.proofs.ShortSections.{section_unique}
 
 -- ---- names
-
-for_if : (P : SectionKind → Type 0) (b : Bool) {x y : SectionKind} → P x → P y → P (if b then x else y)
-for_if P true p q = p
-for_if P false p q = q
-
--- What holds of each kind that a name may stand for holds of a name's.
-for_named : (P : SectionKind → Type 0) → P kinds.Names → P kinds.Linking → P kinds.Producers → P kinds.Hints → P kinds.Core → P kinds.CoreModules → P kinds.CoreInstances → P kinds.CoreStack → P kinds.Custom → (n : List ℕ) → P (kind_named n)
-for_named P a b c d e f g h i n =
-    for_if P (bytes_eq n name_name) a
-    (for_if P (bytes_eq n linking_name) b
-    (for_if P (bytes_eq n producers_name) c
-    (for_if P (bytes_eq n hints_name) d
-    (for_if P (bytes_eq n core_name) e
-    (for_if P (bytes_eq n modules_name) f
-    (for_if P (bytes_eq n instances_name) g
-    (for_if P (bytes_eq n stack_name) h i)))))))
-
--- The name at the front of what is read as a kind is at the front of its shortest text.
-abbrev pub KeepsName : List ℕ → SectionKind → Type 0
-KeepsName n kind = (s t rest : List ℕ) (x : Contents) → content kind wide s x → content kind shortest t x → Reads name wide s n rest → (last : List ℕ) × Reads name wide t n last
-
-named_front : {X : Type 0} (m : List ℕ) (F : Format X) (s t rest n : List ℕ) (x y : X) → named_payload m F wide s x → named_payload m F shortest t y → Reads name wide s n rest → (last : List ℕ) × Reads name wide t n last
-named_front m F s t rest n x y h g r =
-    let a = h.2 in
-    let b = g.2 in
-    let same : n ≡ m = (reads_same name_unique r (record { front = a.front; split = a.joined; spelled = a.first })).0 in
-    (b.back, subst (λ z. Reads name wide t z b.back) (sym same) (record { front = b.front; split = b.joined; spelled = name_unique.spellings.wider b.front m b.first }))
-
-keeps_name : (n : List ℕ) → KeepsName n (kind_named n)
-keeps_name n = for_named (KeepsName n)
-    (λ s t rest x h g r. named_front name_name _ s t rest n h.0 g.0 h.2 g.2 r)
-    (λ s t rest x h g r. named_front linking_name _ s t rest n h.0 g.0 h.2 g.2 r)
-    (λ s t rest x h g r. named_front producers_name _ s t rest n h.0 g.0 h.2 g.2 r)
-    (λ s t rest x h g r. named_front hints_name _ s t rest n h.0 g.0 h.2 g.2 r)
-    (λ s t rest x h g r. named_front core_name _ s t rest n h.0 g.0 h.2 g.2 r)
-    (λ s t rest x h g r. named_front modules_name _ s t rest n h.0 g.0 h.2 g.2 r)
-    (λ s t rest x h g r. named_front instances_name _ s t rest n h.0 g.0 h.2 g.2 r)
-    (λ s t rest x h g r. named_front stack_name _ s t rest n h.0 g.0 h.2 g.2 r)
-    (λ s t rest x h g r.
-    let a = h.2 in
-    let b = g.2 in
-    let same : n ≡ h.0.0 = (reads_same name_unique r (record { front = a.front; split = a.joined; spelled = a.first })).0 in
-    let told : h.0 ≡ g.0 = cc (h.1 ∙ sym g.1) in
-    (b.back, subst (λ z. Reads name wide t z b.back) (sym (same ∙ ap (λ z. z.0) told)) (record { front = b.front; split = b.joined; spelled = name_unique.spellings.wider b.front g.0.0 b.first })))
-    n
 
 one_name : (id : ℕ) (payload : List ℕ) (a b : Option (List ℕ)) → IsNameOf id payload a → IsNameOf id payload b → a ≡ b
 one_name id payload None None h g = refl

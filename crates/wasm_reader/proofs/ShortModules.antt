@@ -15,7 +15,7 @@ use Rattle.wasm_base.proofs.ReadingSteps.{reads_same}
 use Rattle.wasm_reader.specs.Outlines.{Section, IsSection, IsNameOf, HasSections, bytes_of, EndsAt}
 use Rattle.wasm_reader.specs.Sections.{Takes, Shortens}
 use Rattle.wasm_reader.specs.Shortening.{holds_offsets, IsLedInto, StaysInPlace, IsTextFor, IsWritten, Rewrite, IsRewrite, written, written_as, id_written, keeps, count_kept, IsMoved, IsUnmoved, HoldsNoOffsets, ShortensModule, LosesOffsets, GainsSection, IsFirstHolder, first_of, leaves_out, lost_at, HasTally, Rewrites, StopsAfter, IsFrontOf}
-use Rattle.wasm_reader.specs.declared.section.SectionKind.{SectionKind}
+use Rattle.wasm_reader.specs.declared.kinds.SectionKind.{SectionKind}
 use Rattle.wasm_reader.specs.declared.whole.How.{How}
 use Rattle.wasm_reader.specs.declared.whole.How.TheVariants.{Shortest, Kept, LeftOut}
 use Rattle.wasm_reader.specs.declared.whole.Offsets.{Offsets}

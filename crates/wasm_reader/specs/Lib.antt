@@ -1,3 +1,4 @@
+pub mod Kinds
 pub mod Sections
 pub mod Modules
 pub mod Outlines

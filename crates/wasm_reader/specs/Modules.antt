@@ -5,62 +5,12 @@ use Rattle.wasm_base.specs.Formats.{Format, byte, any_bytes, fixed, frame, heade
 use Rattle.wasm_base.specs.Reading.{Reads, ReadsNothing}
 use Rattle.wasm_base.specs.SectionId.{number_of}
 use Rattle.wasm_base.specs.declared.section_id.SectionId.TheVariants as ids
-use Rattle.wasm_reader.specs.Sections.{Contents, Bodies, Segments, DataCount, Elements, Exports, Functions, Globals, Imports, Memories, Start, Tables, Tags, Names, Linking, Producers, Hints, Core, CoreModules, CoreInstances, CoreStack, Custom, Raw, Types, content}
+use Rattle.wasm_reader.specs.Kinds.{Contents, Bodies, Segments, DataCount, Elements, Exports, Functions, Globals, Imports, Memories, Start, Tables, Tags, Names, Linking, Producers, Hints, Core, CoreModules, CoreInstances, CoreStack, Custom, Raw, Types, content}
 use Rattle.wasm_reader.specs.declared.modules.Listed.{Listed}
-use Rattle.wasm_reader.specs.declared.section.SectionKind.{SectionKind}
-use Rattle.wasm_reader.specs.declared.section.SectionKind.TheVariants as kinds
-
--- ---- kinds
-
--- the kind that stands beside the id, and `Raw` where none does
-abbrev pub kind_among : List (ℕ × SectionKind) → ℕ → SectionKind
-kind_among [] id = kinds.Raw
-kind_among (k ∷ ks) id = cond (id == k.0) k.1 (kind_among ks id)
-
--- the kinds of sections beside their ids: a custom section is of the kind `Custom`, whatever its name
-abbrev pub known_kinds : List (ℕ × SectionKind)
-known_kinds =
-    (number_of ids.Custom, kinds.Custom) ∷ (number_of ids.Import, kinds.Imports) ∷ (number_of ids.Function, kinds.Functions) ∷ (number_of ids.Table, kinds.Tables) ∷ (number_of ids.Memory, kinds.Memories) ∷ (number_of ids.Global, kinds.Globals)
-    ∷ (number_of ids.Export, kinds.Exports)
-    ∷ (number_of ids.Start, kinds.Start)
-    ∷ (number_of ids.Element, kinds.Elements)
-    ∷ (number_of ids.Code, kinds.Bodies)
-    ∷ (number_of ids.Data, kinds.Segments)
-    ∷ (number_of ids.DataCount, kinds.DataCount)
-    ∷ (number_of ids.Tag, kinds.Tags)
-    ∷ []
-
--- the kind of a section of the id: type sections and those of ids past 13 are of any bytes
-abbrev pub kind_of_id : ℕ → SectionKind
-kind_of_id id = kind_among known_kinds id
+use Rattle.wasm_reader.specs.declared.kinds.SectionKind.{SectionKind}
+use Rattle.wasm_reader.specs.declared.kinds.SectionKind.TheVariants as kinds
 
 -- ---- sections
-
--- the number of items, where a list of a module tells it
-abbrev pub number_in : Contents → Option ℕ
-number_in (Bodies xs) = Some (length xs)
-number_in (Segments xs) = Some (length xs)
-number_in (DataCount n) = Some 1
-number_in (Elements xs) = Some (length xs)
-number_in (Exports xs) = Some (length xs)
-number_in (Functions xs) = Some (length xs)
-number_in (Globals xs) = Some (length xs)
-number_in (Imports xs) = Some (length xs)
-number_in (Memories xs) = Some (length xs)
-number_in (Start n) = Some 1
-number_in (Tables xs) = Some (length xs)
-number_in (Tags xs) = Some (length xs)
-number_in (Names x) = None
-number_in (Linking x) = None
-number_in (Producers x) = None
-number_in (Hints x) = None
-number_in (Core x) = None
-number_in (CoreModules x) = None
-number_in (CoreInstances x) = None
-number_in (CoreStack x) = None
-number_in (Custom x) = None
-number_in (Raw x) = None
-number_in (Types xs) = None
 
 -- a frame of so many bytes, which spell what a section of the kind holds
 pub record Sized (kind : SectionKind) (mode : Mode) (s : List ℕ) (p : ℕ × Contents) : Type 0 where

@@ -13,11 +13,10 @@ use Rattle.wasm_custom.specs.Hints.{hints_name}
 use Rattle.wasm_custom.specs.Linking.{linking_name}
 use Rattle.wasm_custom.specs.Names.{name_name}
 use Rattle.wasm_custom.specs.Producers.{producers_name}
-use Rattle.wasm_reader.specs.Modules.{kind_among, known_kinds, number_in}
-use Rattle.wasm_reader.specs.Sections.{Contents, Types, content}
+use Rattle.wasm_reader.specs.Kinds.{kind_among, known_kinds, number_in, Contents, Types, content}
 use Rattle.wasm_reader.specs.declared.outlines.Outlined.{Outlined}
-use Rattle.wasm_reader.specs.declared.section.SectionKind.{SectionKind}
-use Rattle.wasm_reader.specs.declared.section.SectionKind.TheVariants as kinds
+use Rattle.wasm_reader.specs.declared.kinds.SectionKind.{SectionKind}
+use Rattle.wasm_reader.specs.declared.kinds.SectionKind.TheVariants as kinds
 use Rattle.wasm_reader.specs.declared.standing.Standing.{Standing}
 
 -- ---- sections as they stand
@@ -53,19 +52,6 @@ pub record HasSections (bytes : List ℕ) (sections : List Section) : Type 0 whe
   pub each : AllByRecursion IsSection sections
 
 -- ---- kinds
-
--- the kind of a custom section of the name
-abbrev pub kind_named : List ℕ → SectionKind
-kind_named n =
-    if bytes_eq n name_name then kinds.Names
-    else if bytes_eq n linking_name then kinds.Linking
-    else if bytes_eq n producers_name then kinds.Producers
-    else if bytes_eq n hints_name then kinds.Hints
-    else if bytes_eq n core_name then kinds.Core
-    else if bytes_eq n modules_name then kinds.CoreModules
-    else if bytes_eq n instances_name then kinds.CoreInstances
-    else if bytes_eq n stack_name then kinds.CoreStack
-    else kinds.Custom
 
 -- the kind of a section of the id and the name: type sections have one here
 abbrev pub kind_at : ℕ → Option (List ℕ) → SectionKind

@@ -6,6 +6,7 @@
 #![tactic(auto)]
 
 mod counts;
+mod kinds;
 pub mod laws;
 mod modules;
 mod outlines;
@@ -14,9 +15,10 @@ mod shortest;
 mod standing;
 mod whole;
 
+pub use kinds::{Items, SectionKind};
 pub use modules::{Listed, list_module};
 pub use outlines::{Outlined, outline};
-pub use section::{Items, SectionKind, read_section};
+pub use section::read_section;
 pub use shortest::shorten;
 pub use wasm_custom::{CoreFrame, LinkItem, NameItem, Symbol};
 pub use wasm_reader_base::ReadFault;

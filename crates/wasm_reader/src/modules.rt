@@ -5,11 +5,11 @@ ghost use Rattle.wasm_base.specs.Going.{FillsNothing};
 ghost use Rattle.wasm_base.specs.Numbers.{wide};
 ghost use Rattle.wasm_base.specs.Reading.{Reads, ReadsNothing};
 ghost use Rattle.wasm_reader_base.specs.declared.fault.ReadFault.TheVariants.{Ended, UnknownTag, Memory};
-ghost use Rattle.wasm_reader.specs.Modules.{kind_of_id as kind_of_id, number_in, sized_section, line_of, HasLines, StopsAt};
-ghost use Rattle.wasm_reader.specs.Sections.{Contents, content};
+ghost use Rattle.wasm_reader.specs.Kinds.{number_in, Contents, content};
+ghost use Rattle.wasm_reader.specs.Modules.{sized_section, line_of, HasLines, StopsAt};
 
 use crate::counts::count_passed;
-use crate::section::{SectionKind, read_content};
+use crate::kinds::{SectionKind, kind_of_id, read_content};
 use std::alloc::Allocator;
 use wasm_reader_base::{Dropped, ReadFault, Readable};
 use wasm_reader_insn::Body;
@@ -49,29 +49,6 @@ pub(crate) fn read_header(bytes: &[u8]) -> Result<&[u8], ReadFault>
     }
 }
 
-/// The kind of a section of the id.
-#[tactic(auto, using(crate::proofs::ReadModules::kind_steps))]
-pub(crate) fn kind_of_id(id: u8) -> SectionKind
-    ensures { result ≡ kind_of_id id }
-{
-    match id {
-        0 => SectionKind::Custom,
-        2 => SectionKind::Imports,
-        3 => SectionKind::Functions,
-        4 => SectionKind::Tables,
-        5 => SectionKind::Memories,
-        6 => SectionKind::Globals,
-        7 => SectionKind::Exports,
-        8 => SectionKind::Start,
-        9 => SectionKind::Elements,
-        10 => SectionKind::Bodies,
-        11 => SectionKind::Segments,
-        12 => SectionKind::DataCount,
-        13 => SectionKind::Tags,
-        _ => SectionKind::Raw,
-    }
-}
-
 /// The number of items of a section of the kind, from what its frame holds. Nothing is kept of what is counted.
 pub(crate) fn read_number<'a, A: Allocator + Copy>(
     kind: SectionKind,
@@ -96,17 +73,7 @@ pub(crate) fn read_number<'a, A: Allocator + Copy>(
             drop(read_content(kind, bytes, alloc)?);
             Ok(Some(1))
         }
-        SectionKind::Names
-        | SectionKind::Linking
-        | SectionKind::Producers
-        | SectionKind::Hints
-        | SectionKind::Core
-        | SectionKind::CoreModules
-        | SectionKind::CoreInstances
-        | SectionKind::CoreStack
-        | SectionKind::Custom
-        | SectionKind::Raw
-        | SectionKind::Types => {
+        _ => {
             drop(read_content(kind, bytes, alloc)?);
             Ok(None)
         }

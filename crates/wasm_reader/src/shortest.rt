@@ -7,58 +7,14 @@ ghost use Rattle.wasm_base.specs.Reading.{ReadsNothing};
 ghost use Rattle.wasm_code.specs.Bodies.{Body, body};
 ghost use Rattle.wasm_reader_base.specs.Shortest.{AppendsShortest};
 ghost use Rattle.wasm_reader_base.specs.declared.fault.ReadFault.TheVariants.{Memory};
-ghost use Rattle.wasm_reader.specs.Sections.{Contents, content, section, contents_of, kind_in, Shortens};
+ghost use Rattle.wasm_reader.specs.Kinds.{Contents, content, contents_of, kind_in};
+ghost use Rattle.wasm_reader.specs.Sections.{section, Shortens};
 
-use crate::section::{Items, SectionKind, read_content};
+use crate::kinds::{Items, SectionKind, append_content, read_content};
 use std::alloc::Allocator;
 use wasm_base::{Encode, R, encode_frame};
-use wasm_custom::{
-    append_hints, append_instances, append_links, append_modules, append_names, append_process,
-    append_producers, append_stack,
-};
 use wasm_reader_base::{ReadFault, Readable, Shorten};
 use wasm_reader_insn::shorten_body;
-use wasm_sections::append_imports;
-use wasm_types::append_types;
-
-/// Appends the shortest text of what the frame of a section holds.
-#[tactic(auto, using(crate::proofs::ShortSections::contents))]
-fn append_content<A: Allocator, B: Allocator>(items: Items<'_, A>, out: &mut Vec<u8, B>) -> R<()>
-    ensures { OnOk result (AppendsShortest (content (kind_in (contents_of items.entry))) (contents_of items.entry) out.old.items out.new.items) }
-{
-    match items {
-        Items::Bodies(items) => items.append_shortest(out),
-        Items::Segments(items) => items.append_shortest(out),
-        Items::DataCount(count) => count.append_shortest(out),
-        Items::Elements(items) => items.append_shortest(out),
-        Items::Exports(items) => items.as_slice().encode(out),
-        Items::Functions(items) => items.append_shortest(out),
-        Items::Globals(items) => items.append_shortest(out),
-        Items::Imports(items) => append_imports(&items, out),
-        Items::Memories(items) => items.as_slice().encode(out),
-        Items::Start(index) => index.append_shortest(out),
-        Items::Tables(items) => items.append_shortest(out),
-        Items::Tags(items) => items.as_slice().encode(out),
-        Items::Names(items) => append_names(&items, out),
-        Items::Linking(items) => append_links(&items, out),
-        Items::Producers(items) => append_producers(&items, out),
-        Items::Hints(items) => append_hints(&items, out),
-        Items::Core(name) => append_process(name, out),
-        Items::CoreModules(items) => append_modules(&items, out),
-        Items::CoreInstances(items) => append_instances(&items, out),
-        Items::CoreStack { thread, frames } => append_stack(thread, &frames, out),
-        Items::Custom { name, bytes } => {
-            name.append_shortest(out)?;
-            out.extend_from_slice(bytes)?;
-            Ok(())
-        }
-        Items::Raw(bytes) => {
-            out.extend_from_slice(bytes)?;
-            Ok(())
-        }
-        Items::Types(items) => append_types(&items, out),
-    }
-}
 
 /// Appends the shortest texts of the bodies behind their number, which all of the bytes spell. It keeps none of them.
 fn shorten_bodies<A: Allocator + Copy>(

@@ -4,10 +4,10 @@ ghost use Rattle.wasm_base.specs.Formats.{any_section};
 ghost use Rattle.wasm_base.specs.Numbers.{wide};
 ghost use Rattle.wasm_base.specs.Reading.{ReadsNothing};
 ghost use Rattle.wasm_reader_base.specs.declared.fault.ReadFault.TheVariants.{Memory};
-ghost use Rattle.wasm_reader.specs.Outlines.{section_of, IsSection, IsNameOf, bytes_of, kind_named, section_kind_of as kind_of_section};
+ghost use Rattle.wasm_reader.specs.Kinds.{kind_named};
+ghost use Rattle.wasm_reader.specs.Outlines.{section_of, IsSection, IsNameOf, bytes_of, section_kind_of as kind_of_section};
 
-use crate::modules::kind_of_id;
-use crate::section::SectionKind;
+use crate::kinds::{SectionKind, kind_of_id, kind_of_name};
 use std::alloc::Allocator;
 use wasm_reader_base::{ReadFault, Readable};
 
@@ -21,23 +21,6 @@ pub(crate) struct Standing<'a> {
     pub(crate) payload: &'a [u8],
     /// The name at the front of a custom section, where one stands there.
     pub(crate) name: Option<&'a str>,
-}
-
-/// The kind of a custom section of the name.
-fn kind_of_name(name: &str) -> SectionKind
-    ensures { result ≡ kind_named name.now }
-{
-    match name {
-        "name" => SectionKind::Names,
-        "linking" => SectionKind::Linking,
-        "producers" => SectionKind::Producers,
-        "metadata.code.branch_hint" => SectionKind::Hints,
-        "core" => SectionKind::Core,
-        "coremodules" => SectionKind::CoreModules,
-        "coreinstances" => SectionKind::CoreInstances,
-        "corestack" => SectionKind::CoreStack,
-        _ => SectionKind::Custom,
-    }
 }
 
 impl Standing<'_> {

@@ -3,9 +3,9 @@ ghost use Rattle.std.specs.Prelude.{◌≡◌, ◌≢◌, [], ◌∷◌, IfOk, I
 ghost use Rattle.wasm_base.specs.Formats.{frame, custom as custom_format};
 ghost use Rattle.wasm_base.specs.Modules.{GainsReading};
 ghost use Rattle.wasm_custom.specs.Readings.{AreSymbols, name_payload, linking_payload, producers_payload, hints_payload};
-ghost use Rattle.wasm_reader.specs.Sections.{Names, Linking, Producers, Hints, Custom, contents_of};
 ghost use Rattle.wasm_reader_base.specs.declared.fault.ReadFault.TheVariants.{Memory};
 ghost use Rattle.callers.specs.Customs.{name_and_more, data_symbol, links, language, likely_hints};
+ghost use Rattle.wasm_reader.specs.Kinds.{Names, Linking, Producers, Hints, Custom, contents_of};
 
 use crate::read_back::read_and_shorten;
 use std::alloc::Allocator;

@@ -2,7 +2,6 @@
 ghost use Rattle.std.specs.Prelude.{◌≡◌, ◌≢◌, [], ◌∷◌, IfOk, IfErr, OnOk};
 ghost use Rattle.wasm_base.specs.Entries.{counted_format};
 ghost use Rattle.wasm_base.specs.Modules.{GainsReading};
-ghost use Rattle.wasm_reader.specs.Sections.{Types, Imports, Tables, Memories, Tags, Exports, contents_of};
 ghost use Rattle.wasm_reader_base.specs.declared.fault.ReadFault.TheVariants.{Memory};
 ghost use Rattle.wasm_sections.specs.Exports.{export};
 ghost use Rattle.wasm_sections.specs.Imports.{import_format};
@@ -13,6 +12,7 @@ ghost use Rattle.wasm_sections.specs.Tags.{tag_type};
 ghost use Rattle.wasm_types.specs.RecTypes.{type_item};
 ghost use Rattle.callers.specs.Declarations.{byte_types, imported_function, pages, two_pages, thrown, exported};
 ghost use Rattle.callers.specs.FirstValues.{null_table, nulled_table};
+ghost use Rattle.wasm_reader.specs.Kinds.{Types, Imports, Tables, Memories, Tags, Exports, contents_of};
 
 use crate::first_values::encode_null_tables;
 use crate::read_back::read_and_shorten;

@@ -4,9 +4,9 @@ ghost use Rattle.wasm_base.specs.Formats.{frame};
 ghost use Rattle.wasm_base.specs.Modules.{GainsReading, ReadsSections};
 ghost use Rattle.wasm_custom.specs.CoreStacks.{SaysStack};
 ghost use Rattle.wasm_custom.specs.Readings.{HoldsModules, HoldsInstances, core_payload, modules_payload, instances_payload, stack_payload};
-ghost use Rattle.wasm_reader.specs.Sections.{Core, CoreModules, CoreInstances, CoreStack, contents_of};
 ghost use Rattle.wasm_reader_base.specs.declared.fault.ReadFault.TheVariants.{Memory};
 ghost use Rattle.callers.specs.Dumps.{first_instance, other_instance, first_frame, other_frame, dump_sections};
+ghost use Rattle.wasm_reader.specs.Kinds.{Core, CoreModules, CoreInstances, CoreStack, contents_of};
 
 use crate::read_back::read_and_shorten;
 use std::alloc::Allocator;

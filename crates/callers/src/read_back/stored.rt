@@ -5,12 +5,12 @@ ghost use Rattle.wasm_base.specs.Formats.{u32 as u32_format, frame};
 ghost use Rattle.wasm_base.specs.Modules.{GainsReading};
 ghost use Rattle.wasm_code.specs.Bodies.{IsPlainBody};
 ghost use Rattle.wasm_code.specs.Code.{code_section};
-ghost use Rattle.wasm_reader.specs.Sections.{Globals, Segments, Bodies, Start, DataCount, contents_of};
 ghost use Rattle.wasm_reader_base.specs.declared.fault.ReadFault.TheVariants.{Memory};
 ghost use Rattle.wasm_sections.specs.DataSegments.{data_item};
 ghost use Rattle.wasm_sections.specs.Elements.{element};
 ghost use Rattle.wasm_sections.specs.Globals.{global_item};
-ghost use Rattle.wasm_reader.specs.Sections as held;
+ghost use Rattle.wasm_reader.specs.Kinds.{Globals, Segments, Bodies, Start, DataCount, contents_of};
+ghost use Rattle.wasm_reader.specs.Kinds as held;
 ghost use Rattle.callers.specs.FirstValues.{copied};
 ghost use Rattle.callers.specs.Stored.{function_at_8, later_functions, bytes_at_8, byte_later, of_two_locals, empty_body};
 

@@ -1,6 +1,6 @@
 use Rattle.wasm_reader_base.proofs.Faults.{fault_stays}
-use Rattle.wasm_reader.specs.Sections.{Functions}
-use Rattle.wasm_reader.specs.declared.section.SectionKind.TheVariants as kinds
+use Rattle.wasm_reader.specs.Kinds.{Functions}
+use Rattle.wasm_reader.specs.declared.kinds.SectionKind.TheVariants as kinds
 use Rattle.wasm_reader.proofs.Calls.{written, reads_padded, padded_stands, shortens_padded}
 use Rattle.callers.proofs.read_back.padded_function.Goals as goal
 

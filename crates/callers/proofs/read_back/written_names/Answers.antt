@@ -2,8 +2,9 @@ use Rattle.std.proofs.Common.{List, [], ◌∷◌, sym, subst}
 use Rattle.wasm_base.specs.Numbers.{shortest}
 use Rattle.wasm_custom.specs.Names.{NameItem, Module, Map}
 use Rattle.wasm_reader_base.proofs.Faults.{fault_stays}
-use Rattle.wasm_reader.specs.Sections.{Names, section}
-use Rattle.wasm_reader.specs.declared.section.SectionKind.TheVariants as kinds
+use Rattle.wasm_reader.specs.Kinds.{Names}
+use Rattle.wasm_reader.specs.Sections.{section}
+use Rattle.wasm_reader.specs.declared.kinds.SectionKind.TheVariants as kinds
 use Rattle.wasm_reader.proofs.Calls.{written, reads_written, written_stands}
 use Rattle.callers.proofs.read_back.written_names.Goals as goal
 

@@ -1,7 +1,7 @@
 use Rattle.std.proofs.Common.{length, ap, subst}
 use Rattle.wasm_base.specs.Numbers.{wide}
 use Rattle.wasm_reader_base.proofs.Faults.{fault_stays}
-use Rattle.wasm_reader.specs.Sections.{content}
+use Rattle.wasm_reader.specs.Kinds.{content}
 use Rattle.wasm_reader.proofs.ReadModules.{line_reads, line_none, line_no_frame}
 use Rattle.wasm_reader.proofs.modules.read_line.Goals as goal
 

@@ -1,5 +1,5 @@
 use Rattle.std.proofs.Common.{refl}
-use Rattle.wasm_reader.specs.Sections.{Bodies, Segments, Elements, Exports, Functions, Globals, Imports, Memories, Tables, Tags}
+use Rattle.wasm_reader.specs.Kinds.{Bodies, Segments, Elements, Exports, Functions, Globals, Imports, Memories, Tables, Tags}
 use Rattle.wasm_reader.proofs.Counting.{vector_counted}
 use Rattle.wasm_reader.proofs.modules.read_number.Goals as goal
 

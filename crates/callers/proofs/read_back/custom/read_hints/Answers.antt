@@ -1,8 +1,8 @@
 -- Written by tools/answers.
 use Rattle.std.proofs.Common.{◌++◌, ap, ◌∙◌}
 use Rattle.wasm_reader_base.proofs.Faults.{fault_stays}
-use Rattle.wasm_reader.specs.Sections.{Hints}
-use Rattle.wasm_reader.specs.declared.section.SectionKind.TheVariants as kinds
+use Rattle.wasm_reader.specs.Kinds.{Hints}
+use Rattle.wasm_reader.specs.declared.kinds.SectionKind.TheVariants as kinds
 use Rattle.wasm_reader.proofs.Calls.{written, reads_written, written_stands, shortens_written}
 use Rattle.callers.proofs.read_back.custom.read_hints.Goals as goal
 

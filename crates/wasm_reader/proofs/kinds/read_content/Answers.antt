@@ -1,8 +1,8 @@
 use Rattle.std.proofs.Common.{refl}
 use Rattle.wasm_reader_base.proofs.Faults.{fault_stays}
-use Rattle.wasm_reader.specs.Sections.{Bodies, Segments, DataCount, Elements, Exports, Functions, Globals, Imports, Memories, Start, Tables, Tags, Types, Names, Linking, Producers, Hints, Core, CoreModules, CoreInstances, CoreStack}
-use Rattle.wasm_reader.proofs.ReadSections.{of_kind, none_of_kind, says_nothing, functions_fill, memories_fill, tags_fill, custom_fills, no_custom}
-use Rattle.wasm_reader.proofs.section.read_content.Goals as goal
+use Rattle.wasm_reader.specs.Kinds.{Bodies, Segments, DataCount, Elements, Exports, Functions, Globals, Imports, Memories, Start, Tables, Tags, Types, Names, Linking, Producers, Hints, Core, CoreModules, CoreInstances, CoreStack}
+use Rattle.wasm_reader.proofs.KindLaws.{of_kind, none_of_kind, says_nothing, functions_fill, memories_fill, tags_fill, custom_fills, no_custom}
+use Rattle.wasm_reader.proofs.kinds.read_content.Goals as goal
 
 pub returns-in_err-items-in-Bodies-clause-none : goal.returns-in_err-items-in-Bodies-clause-none
 returns-in_err-items-in-Bodies-clause-none g c = fault_stays c.from_residual.result _ c.from_residual.ensures.1 λ n. none_of_kind c.args.bytes.now c.in-Bodies.is (says_nothing Bodies (c.in_err-items-in-Bodies.ensures.none n))

@@ -1,0 +1,191 @@
+-- Kinds of sections: what the frame of each holds, and what a reader's items say.
+use Rattle.std.specs.Prelude.{ℕ, List, [], ◌∷◌, length, map, Option, Some, None, cond, ◌==◌, if◌then◌else◌}
+use Rattle.std.specs.Str.{bytes_eq}
+use Rattle.wasm_base.specs.Formats.{Format, u32, name, any_bytes, mapped, pair, vec, frame}
+use Rattle.wasm_base.specs.SectionId.{number_of}
+use Rattle.wasm_base.specs.declared.section_id.SectionId.TheVariants as ids
+use Rattle.wasm_code.specs.Bodies.{Body, body}
+use Rattle.wasm_insn.specs.Plain.{Plain}
+use Rattle.wasm_reader_insn.specs.Arguments.{body_view}
+use Rattle.wasm_sections.specs.DataSegments.{DataItem, data_item}
+use Rattle.wasm_sections.specs.Elements.{ElementItem, element}
+use Rattle.wasm_sections.specs.Exports.{ExportItem, item_of, export}
+use Rattle.wasm_sections.specs.Globals.{GlobalItem, global_item}
+use Rattle.wasm_sections.specs.Imports.{ImportItem, imports_item, import_format}
+use Rattle.wasm_sections.specs.Memories.{memory_type}
+use Rattle.wasm_sections.specs.Tables.{TableItem, table_item}
+use Rattle.wasm_sections.specs.Tags.{tag_type}
+use Rattle.wasm_types.specs.RecTypes.{TypeItem, type_item}
+use Rattle.wasm_types.specs.Items.{entry_view}
+use Rattle.wasm_sections.specs.declared.memory.MemoryType.{MemoryType}
+use Rattle.wasm_sections.specs.declared.tag.TagType.{TagType}
+use Rattle.wasm_custom.specs.CoreDumps.{Instance, core_name, modules_name, instances_name, instance_view}
+use Rattle.wasm_custom.specs.CoreStacks.{StackFrame, stack_name, stack_frame_view}
+use Rattle.wasm_custom.specs.Hints.{Hints as FunctionHints, hints_name, hints_view}
+use Rattle.wasm_custom.specs.Linking.{LinkItem, linking_name, link_view}
+use Rattle.wasm_custom.specs.Names.{NameItem, name_name, name_item_view}
+use Rattle.wasm_custom.specs.Producers.{Field, producers_name, field_view}
+use Rattle.wasm_custom.specs.Readings.{name_payload, linking_payload, producers_payload, hints_payload, core_payload, modules_payload, instances_payload, stack_payload}
+use Rattle.wasm_sections.specs.Globals.{global_view}
+use Rattle.wasm_sections.specs.Tables.{table_view}
+use Rattle.wasm_sections.specs.DataSegments.{segment_view}
+use Rattle.wasm_sections.specs.Elements.{element_view}
+use Rattle.wasm_reader.specs.declared.kinds.Items.{Items}
+use Rattle.wasm_reader.specs.declared.kinds.Items.TheVariants as items
+use Rattle.wasm_reader.specs.declared.kinds.SectionKind.{SectionKind}
+use Rattle.wasm_reader.specs.declared.kinds.SectionKind.TheVariants as kinds
+
+-- what a section holds
+pub data Contents : Type 0 where
+  Bodies : List Body → Contents
+  Segments : List DataItem → Contents
+  DataCount : ℕ → Contents
+  Elements : List (ElementItem (List Plain)) → Contents
+  Exports : List ExportItem → Contents
+  Functions : List ℕ → Contents
+  Globals : List GlobalItem → Contents
+  Imports : List ImportItem → Contents
+  Memories : List MemoryType → Contents
+  Start : ℕ → Contents
+  Tables : List TableItem → Contents
+  Tags : List TagType → Contents
+  Names : List NameItem → Contents
+  Linking : List LinkItem → Contents
+  Producers : List Field → Contents
+  Hints : List FunctionHints → Contents
+  Core : List ℕ → Contents
+  CoreModules : List (List ℕ) → Contents
+  CoreInstances : List Instance → Contents
+  CoreStack : List ℕ × List StackFrame → Contents
+  Custom : List ℕ × List ℕ → Contents
+  Raw : List ℕ → Contents
+  Types : List TypeItem → Contents
+
+-- what the frame of a section of the kind holds
+abbrev pub content : SectionKind → Format Contents
+content kinds.Bodies = mapped Bodies (vec (frame body))
+content kinds.Segments = mapped Segments (vec data_item)
+content kinds.DataCount = mapped DataCount u32
+content kinds.Elements = mapped Elements (vec element)
+content kinds.Exports = mapped Exports (vec export)
+content kinds.Functions = mapped Functions (vec u32)
+content kinds.Globals = mapped Globals (vec global_item)
+content kinds.Imports = mapped Imports (vec import_format)
+content kinds.Memories = mapped Memories (vec memory_type)
+content kinds.Start = mapped Start u32
+content kinds.Tables = mapped Tables (vec table_item)
+content kinds.Tags = mapped Tags (vec tag_type)
+content kinds.Names = mapped Names name_payload
+content kinds.Linking = mapped Linking linking_payload
+content kinds.Producers = mapped Producers producers_payload
+content kinds.Hints = mapped Hints hints_payload
+content kinds.Core = mapped Core core_payload
+content kinds.CoreModules = mapped CoreModules modules_payload
+content kinds.CoreInstances = mapped CoreInstances instances_payload
+content kinds.CoreStack = mapped CoreStack stack_payload
+content kinds.Custom = mapped Custom (pair name any_bytes)
+content kinds.Raw = mapped Raw any_bytes
+content kinds.Types = mapped Types (vec type_item)
+
+-- the kind of a section that holds this
+abbrev pub kind_in : Contents → SectionKind
+kind_in (Bodies xs) = kinds.Bodies
+kind_in (Segments xs) = kinds.Segments
+kind_in (DataCount n) = kinds.DataCount
+kind_in (Elements xs) = kinds.Elements
+kind_in (Exports xs) = kinds.Exports
+kind_in (Functions xs) = kinds.Functions
+kind_in (Globals xs) = kinds.Globals
+kind_in (Imports xs) = kinds.Imports
+kind_in (Memories xs) = kinds.Memories
+kind_in (Start n) = kinds.Start
+kind_in (Tables xs) = kinds.Tables
+kind_in (Tags xs) = kinds.Tags
+kind_in (Names x) = kinds.Names
+kind_in (Linking x) = kinds.Linking
+kind_in (Producers x) = kinds.Producers
+kind_in (Hints x) = kinds.Hints
+kind_in (Core x) = kinds.Core
+kind_in (CoreModules x) = kinds.CoreModules
+kind_in (CoreInstances x) = kinds.CoreInstances
+kind_in (CoreStack x) = kinds.CoreStack
+kind_in (Custom x) = kinds.Custom
+kind_in (Raw x) = kinds.Raw
+kind_in (Types xs) = kinds.Types
+
+-- what items say, without where they lie in memory
+abbrev pub contents_of : {A : Type 0} → Items A → Contents
+contents_of (items.Bodies v) = Bodies (map body_view v.items)
+contents_of (items.Segments v) = Segments (map segment_view v.items)
+contents_of (items.DataCount n) = DataCount n
+contents_of (items.Elements v) = Elements (map element_view v.items)
+contents_of (items.Exports v) = Exports (map item_of v.items)
+contents_of (items.Functions v) = Functions v.items
+contents_of (items.Globals v) = Globals (map global_view v.items)
+contents_of (items.Imports v) = Imports (map imports_item v.items)
+contents_of (items.Memories v) = Memories v.items
+contents_of (items.Start n) = Start n
+contents_of (items.Tables v) = Tables (map table_view v.items)
+contents_of (items.Tags v) = Tags v.items
+contents_of (items.Names v) = Names (map name_item_view v.items)
+contents_of (items.Linking v) = Linking (map link_view v.items)
+contents_of (items.Producers v) = Producers (map field_view v.items)
+contents_of (items.Hints v) = Hints (map hints_view v.items)
+contents_of (items.Core n) = Core n.now
+contents_of (items.CoreModules v) = CoreModules (map (λ n. n.now) v.items)
+contents_of (items.CoreInstances v) = CoreInstances (map instance_view v.items)
+contents_of (items.CoreStack n v) = CoreStack (n.now, map stack_frame_view v.items)
+contents_of (items.Custom n b) = Custom (n.now, b.now)
+contents_of (items.Raw b) = Raw b.now
+contents_of (items.Types v) = Types (map entry_view v.items)
+
+-- the kind that stands beside the id, and `Raw` where none does
+abbrev pub kind_among : List (ℕ × SectionKind) → ℕ → SectionKind
+kind_among [] id = kinds.Raw
+kind_among (k ∷ ks) id = cond (id == k.0) k.1 (kind_among ks id)
+
+-- the kinds of sections beside their ids: a custom section is of the kind `Custom`, whatever its name
+abbrev pub known_kinds : List (ℕ × SectionKind)
+known_kinds =
+    (number_of ids.Custom, kinds.Custom) ∷ (number_of ids.Import, kinds.Imports) ∷ (number_of ids.Function, kinds.Functions) ∷ (number_of ids.Table, kinds.Tables) ∷ (number_of ids.Memory, kinds.Memories) ∷ (number_of ids.Global, kinds.Globals)
+    ∷ (number_of ids.Export, kinds.Exports)
+    ∷ (number_of ids.Start, kinds.Start)
+    ∷ (number_of ids.Element, kinds.Elements)
+    ∷ (number_of ids.Code, kinds.Bodies)
+    ∷ (number_of ids.Data, kinds.Segments)
+    ∷ (number_of ids.DataCount, kinds.DataCount)
+    ∷ (number_of ids.Tag, kinds.Tags)
+    ∷ []
+
+-- the kind of a section of the id: type sections and those of ids past 13 are of any bytes
+abbrev pub kind_of_id : ℕ → SectionKind
+kind_of_id id = kind_among known_kinds id
+
+-- the kind of a custom section of the name
+abbrev pub kind_named : List ℕ → SectionKind
+kind_named n =
+    if bytes_eq n name_name then kinds.Names
+    else if bytes_eq n linking_name then kinds.Linking
+    else if bytes_eq n producers_name then kinds.Producers
+    else if bytes_eq n hints_name then kinds.Hints
+    else if bytes_eq n core_name then kinds.Core
+    else if bytes_eq n modules_name then kinds.CoreModules
+    else if bytes_eq n instances_name then kinds.CoreInstances
+    else if bytes_eq n stack_name then kinds.CoreStack
+    else kinds.Custom
+
+-- the number of items, where a list of a module tells it
+abbrev pub number_in : Contents → Option ℕ
+number_in (Bodies xs) = Some (length xs)
+number_in (Segments xs) = Some (length xs)
+number_in (DataCount n) = Some 1
+number_in (Elements xs) = Some (length xs)
+number_in (Exports xs) = Some (length xs)
+number_in (Functions xs) = Some (length xs)
+number_in (Globals xs) = Some (length xs)
+number_in (Imports xs) = Some (length xs)
+number_in (Memories xs) = Some (length xs)
+number_in (Start n) = Some 1
+number_in (Tables xs) = Some (length xs)
+number_in (Tags xs) = Some (length xs)
+number_in x = None
