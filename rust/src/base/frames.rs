@@ -3,7 +3,7 @@
 
 use crate::vec::Sink;
 use crate::base::encode::Encode;
-use crate::base::numbers::encoding_size;
+use crate::base::leb128::encoding_size;
 use crate::base::refused::{R, Refused};
 
 /// Appends the size of a frame, and makes room for the bytes that are to follow.

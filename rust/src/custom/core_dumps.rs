@@ -4,8 +4,11 @@
 use crate::vec::{Sink, Vec};
 use crate::custom::custom_section::{CustomSection, begin_custom};
 use crate::custom::entries::{CustomEntries, CustomKind};
+use crate::custom::marked::{MarkedName, read_marked};
+use crate::custom::named::after_name;
 use crate::alloc::{Allocator, Global};
-use crate::base::{Encode, Items, R, Section, SectionId, vec_of};
+use crate::base::{Encode, Kind, R, Section, SectionId, vec_of};
+use crate::reader::base::{ReadFault, Readable, Shorten, read_whole};
 
 /// The process that was dumped, seen as the data of its section: the byte 00, and its name.
 ///
@@ -120,7 +123,7 @@ pub struct ModuleItems;
 /// Item = { List ℕ }
 /// kind = { module_items }
 /// ```
-impl Items for ModuleItems {
+impl Kind for ModuleItems {
     fn laws() {}
 }
 
@@ -200,7 +203,7 @@ pub struct InstanceItems;
 /// Item = { Instance }
 /// kind = { instance_items }
 /// ```
-impl Items for InstanceItems {
+impl Kind for InstanceItems {
     fn laws() {}
 }
 
@@ -271,4 +274,232 @@ impl<A: Allocator> CoreDumpInstancesSection<A> {
     pub fn as_custom<B: Allocator>(&self, alloc: B) -> R<CustomSection<'_, B>> {
         self.owned(alloc)
     }
+}
+
+/// The name of the process.
+///
+/// # Proved
+///
+/// ```text
+/// ensures found { IfOk result (λ x. core_payload wide bytes.now x.now) }
+/// ensures none { IfErr result (λ e. e ≢ Memory → FillsNothing core_payload bytes.now) }
+/// ```
+pub fn read_process<'a, A: Allocator + Copy>(
+    bytes: &'a [u8],
+    alloc: A,
+) -> Result<&'a str, ReadFault> {
+    let rest = after_name("core", bytes, alloc)?;
+    let MarkedName(name) = read_whole::<'a, MarkedName<'a>, A>(rest, alloc)?;
+    Ok(name)
+}
+
+/// The names of modules behind their number, and the bytes after them. Memory is taken for names that stand there, and not by the number.
+///
+/// # Proved
+///
+/// ```text
+/// ensures found { IfOk result (λ x. Reads (vec marked_name) wide bytes.now (map (λ name. name.now) x.0.items) x.1.now) }
+/// ensures none { IfErr result (λ e. e ≢ Memory → ReadsNothing (vec marked_name) wide bytes.now) }
+/// ```
+fn read_module_names<'a, A: Allocator + Copy>(
+    bytes: &'a [u8],
+    alloc: A,
+) -> Result<(Vec<&'a str, A>, &'a [u8]), ReadFault> {
+    let (count, mut rest) = <u32 as Readable<'a, A>>::read(bytes, alloc)?;
+    let mut names = Vec::new(alloc);
+    for _taken in 0..count {
+        let (MarkedName(name), after) = <MarkedName<'a> as Readable<'a, A>>::read(rest, alloc)?;
+        names.push(name)?;
+        rest = after;
+    }
+    Ok((names, rest))
+}
+
+/// The names of the modules.
+///
+/// # Proved
+///
+/// ```text
+/// ensures found { IfOk result (λ x. modules_payload wide bytes.now (map (λ name. name.now) x.items)) }
+/// ensures none { IfErr result (λ e. e ≢ Memory → FillsNothing modules_payload bytes.now) }
+/// ```
+pub fn read_modules<'a, A: Allocator + Copy>(
+    bytes: &'a [u8],
+    alloc: A,
+) -> Result<Vec<&'a str, A>, ReadFault> {
+    let rest = after_name("coremodules", bytes, alloc)?;
+    let (names, left) = read_module_names(rest, alloc)?;
+    if left.is_empty() {
+        Ok(names)
+    } else {
+        Err(ReadFault::SizeMismatch)
+    }
+}
+
+/// An instance: the index of its module, its memories and its globals.
+///
+/// # Proved
+///
+/// ```text
+/// ensures found { IfOk result (λ x. Reads instance wide bytes.now (instance_view x.0) x.1.now) }
+/// ensures none { IfErr result (λ e. e ≢ Memory → ReadsNothing instance wide bytes.now) }
+/// ```
+fn read_instance<'a, A: Allocator + Copy>(
+    bytes: &'a [u8],
+    alloc: A,
+) -> Result<((u32, Vec<u32, A>, Vec<u32, A>), &'a [u8]), ReadFault> {
+    let ((module_index, (memories, globals)), rest) = read_marked::<
+        'a,
+        (u32, (Vec<u32, A>, Vec<u32, A>)),
+        A,
+    >(0x00, bytes, alloc)?;
+    Ok(((module_index, memories, globals), rest))
+}
+
+/// Instances behind their number, and the bytes after them. Memory is taken for instances that stand there, and not by the number.
+///
+/// # Proved
+///
+/// ```text
+/// ensures found { IfOk result (λ x. Reads (vec instance) wide bytes.now (map instance_view x.0.items) x.1.now) }
+/// ensures none { IfErr result (λ e. e ≢ Memory → ReadsNothing (vec instance) wide bytes.now) }
+/// ```
+fn read_all_instances<'a, A: Allocator + Copy>(
+    bytes: &'a [u8],
+    alloc: A,
+) -> Result<(Vec<(u32, Vec<u32, A>, Vec<u32, A>), A>, &'a [u8]), ReadFault> {
+    let (count, mut rest) = <u32 as Readable<'a, A>>::read(bytes, alloc)?;
+    let mut items = Vec::new(alloc);
+    for _taken in 0..count {
+        let (item, after) = read_instance(rest, alloc)?;
+        items.push(item)?;
+        rest = after;
+    }
+    Ok((items, rest))
+}
+
+/// The instances: the index of the module, the memories and the globals of each.
+///
+/// # Proved
+///
+/// ```text
+/// ensures found { IfOk result (λ x. instances_payload wide bytes.now (map instance_view x.items)) }
+/// ensures none { IfErr result (λ e. e ≢ Memory → FillsNothing instances_payload bytes.now) }
+/// ```
+pub fn read_instances<'a, A: Allocator + Copy>(
+    bytes: &'a [u8],
+    alloc: A,
+) -> Result<Vec<(u32, Vec<u32, A>, Vec<u32, A>), A>, ReadFault> {
+    let rest = after_name("coreinstances", bytes, alloc)?;
+    let (instances, left) = read_all_instances(rest, alloc)?;
+    if left.is_empty() {
+        Ok(instances)
+    } else {
+        Err(ReadFault::SizeMismatch)
+    }
+}
+
+/// Appends the byte 00 and a name.
+///
+/// # Proved
+///
+/// ```text
+/// ensures { OnOk result (AppendsShortest marked_name name.now out.old.items out.new.items) }
+/// ```
+pub(in crate::custom) fn append_marked<B: Sink>(name: &str, out: &mut B) -> R<()> {
+    0x00u8.encode(out)?;
+    name.append_shortest(out)
+}
+
+/// Appends the shortest text of what the section of this process holds, where some bytes are read as it. After a refusal a part of it may
+/// stand there.
+///
+/// # Proved
+///
+/// ```text
+/// ensures { OnOk result (AppendsShortest core_payload name.now out.old.items out.new.items) }
+/// ```
+pub fn append_process<B: Sink>(name: &str, out: &mut B) -> R<()> {
+    "core".encode(out)?;
+    append_marked(name, out)
+}
+
+/// Appends names, each behind the byte 00, behind their number.
+///
+/// # Proved
+///
+/// ```text
+/// ensures { OnOk result (AppendsShortest (vec marked_name) (map (λ n. n.now) items.now) out.old.items out.new.items) }
+/// ```
+fn append_names<B: Sink>(items: &[&str], out: &mut B) -> R<()> {
+    items.len().encode(out)?;
+    for item in items {
+        append_marked(item, out)?;
+    }
+    Ok(())
+}
+
+/// Appends the shortest text of what a section of these modules holds, where some bytes are read as it. After a refusal a part of it may
+/// stand there.
+///
+/// # Proved
+///
+/// ```text
+/// ensures { OnOk result (AppendsShortest modules_payload (map (λ n. n.now) names.now) out.old.items out.new.items) }
+/// ```
+pub fn append_modules<B: Sink>(names: &[&str], out: &mut B) -> R<()> {
+    "coremodules".encode(out)?;
+    append_names(names, out)
+}
+
+/// Appends an instance.
+///
+/// # Proved
+///
+/// ```text
+/// ensures { OnOk result (AppendsShortest instance (instance_view given.now) out.old.items out.new.items) }
+/// ```
+fn append_instance<A: Allocator, B: Sink>(
+    given: &(u32, Vec<u32, A>, Vec<u32, A>),
+    out: &mut B,
+) -> R<()> {
+    let (index, memories, globals) = given;
+    0x00u8.encode(out)?;
+    index.append_shortest(out)?;
+    memories.append_shortest(out)?;
+    globals.append_shortest(out)
+}
+
+/// Appends instances behind their number.
+///
+/// # Proved
+///
+/// ```text
+/// ensures { OnOk result (AppendsShortest (vec instance) (map instance_view items.now) out.old.items out.new.items) }
+/// ```
+fn append_all_instances<A: Allocator, B: Sink>(
+    items: &[(u32, Vec<u32, A>, Vec<u32, A>)],
+    out: &mut B,
+) -> R<()> {
+    items.len().encode(out)?;
+    for item in items {
+        append_instance(item, out)?;
+    }
+    Ok(())
+}
+
+/// Appends the shortest text of what a section of these instances holds, where some bytes are read as it. After a refusal a part of it may
+/// stand there.
+///
+/// # Proved
+///
+/// ```text
+/// ensures { OnOk result (AppendsShortest instances_payload (map instance_view instances.now) out.old.items out.new.items) }
+/// ```
+pub fn append_instances<A: Allocator, B: Sink>(
+    instances: &[(u32, Vec<u32, A>, Vec<u32, A>)],
+    out: &mut B,
+) -> R<()> {
+    "coreinstances".encode(out)?;
+    append_all_instances(instances, out)
 }

@@ -2,11 +2,15 @@
 // The stack of a core dump.
 
 use crate::vec::{Sink, Vec};
+use crate::custom::core_dumps::append_marked;
 use crate::custom::core_values::CoreDumpValue;
 use crate::custom::custom_section::CustomSection;
 use crate::custom::entries::{data_of, encode_entries};
+use crate::custom::marked::read_marked;
+use crate::custom::named::after_name;
 use crate::alloc::{Allocator, Global};
 use crate::base::{CowSlice, CowStr, Encode, Pieces, R, Section, SectionId, vec_of};
+use crate::reader::base::{ReadFault, Readable, Shorten, Spelled, read_whole};
 
 /// The stack of a thread, seen as what stands before its frames, which is the byte 00 and the name of the thread, and the bytes of
 /// each frame.
@@ -131,7 +135,7 @@ impl<A: Allocator> Encode for CoreDumpStackSection<A> {
 ///
 /// ```text
 /// id_of = { λ _. number_of ids.Custom }
-/// Items = { List ℕ × List Frame }
+/// Items = { List ℕ × List StackFrame }
 /// format = { stack_section }
 /// says = { λ s. SaysStack s.0 s.1 }
 /// payload = { λ s. NamedPayload stack_name (entries_text s.0 true s.1) }
@@ -142,4 +146,91 @@ impl<A: Allocator> Section for CoreDumpStackSection<A> {
     fn id(&self) -> u8 {
         SectionId::Custom.into()
     }
+}
+
+/// A frame of a stack.
+#[derive(Debug)]
+pub struct CoreFrame<A: Allocator = Global> {
+    pub instanceidx: u32,
+    pub funcidx: u32,
+    /// How far into the function it is.
+    pub codeoffset: u32,
+    pub locals: Vec<CoreDumpValue, A>,
+    pub stack: Vec<CoreDumpValue, A>,
+}
+
+/// # Defined
+///
+/// ```text
+/// Value = { StackFrame }
+/// format = { stack_frame }
+/// view = { stack_frame_view }
+/// ```
+impl<A: Allocator> Spelled for CoreFrame<A> {
+    fn laws() {}
+}
+
+impl<'a, A: Allocator + Copy> Readable<'a, A> for CoreFrame<A> {
+    fn read(bytes: &'a [u8], alloc: A) -> Result<(CoreFrame<A>, &'a [u8]), ReadFault> {
+        let ((instanceidx, (funcidx, codeoffset)), rest) = read_marked::<'a, (u32, (u32, u32)), A>(
+            0x00, bytes, alloc,
+        )?;
+        let (locals, rest) = <Vec<CoreDumpValue, A> as Readable<'a, A>>::read(rest, alloc)?;
+        let (stack, rest) = <Vec<CoreDumpValue, A> as Readable<'a, A>>::read(rest, alloc)?;
+        let frame = CoreFrame {
+            instanceidx,
+            funcidx,
+            codeoffset,
+            locals,
+            stack,
+        };
+        Ok((frame, rest))
+    }
+}
+
+/// The name of the thread, and the frames of its stack.
+///
+/// # Proved
+///
+/// ```text
+/// ensures found { IfOk result (λ x. stack_payload wide bytes.now (x.0.now, map stack_frame_view x.1.items)) }
+/// ensures none { IfErr result (λ e. e ≢ Memory → FillsNothing stack_payload bytes.now) }
+/// ```
+pub fn read_stack<'a, A: Allocator + Copy>(
+    bytes: &'a [u8],
+    alloc: A,
+) -> Result<(&'a str, Vec<CoreFrame<A>, A>), ReadFault> {
+    let rest = after_name("corestack", bytes, alloc)?;
+    let (thread, rest) = read_marked::<'a, &'a str, A>(0x00, rest, alloc)?;
+    let frames = read_whole::<'a, Vec<CoreFrame<A>, A>, A>(rest, alloc)?;
+    Ok((thread, frames))
+}
+
+impl<A: Allocator> Shorten for CoreFrame<A> {
+    fn append_shortest<B: Sink>(&self, out: &mut B) -> R<()> {
+        0x00u8.encode(out)?;
+        self.instanceidx.append_shortest(out)?;
+        self.funcidx.append_shortest(out)?;
+        self.codeoffset.append_shortest(out)?;
+        self.locals.as_slice().encode(out)?;
+        self.stack.as_slice().encode(out)
+    }
+}
+
+/// Appends the shortest text of what the section of this stack holds, where some bytes are read as it. After a refusal a part of it may
+/// stand there.
+///
+/// # Proved
+///
+/// ```text
+/// ensures { OnOk result (AppendsShortest stack_payload (thread.now, map stack_frame_view frames.now.items) out.old.items out.new.items) }
+/// ```
+pub fn append_stack<A: Allocator, B: Sink>(
+    thread: &str,
+    frames: &Vec<CoreFrame<A>, A>,
+    out: &mut B,
+) -> R<()> {
+    "corestack".encode(out)?;
+    append_marked(thread, out)?;
+    frames.append_shortest(out)
 }

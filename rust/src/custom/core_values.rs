@@ -2,8 +2,10 @@
 // Values of a core dump.
 
 use crate::vec::Sink;
+use crate::alloc::Allocator;
 use crate::base::{Encode, R};
 use crate::immediates::{Ieee32, Ieee64};
+use crate::reader::base::{ReadFault, Readable, Spelled};
 
 /// A value of a local or of the stack, or none where it was optimised away.
 #[derive(Clone, Copy, Debug)]
@@ -31,6 +33,43 @@ impl Encode for CoreDumpValue {
             CoreDumpValue::I64(value) => (0x7Eu8, value).encode(sink),
             CoreDumpValue::F32(value) => (0x7Du8, value).encode(sink),
             CoreDumpValue::F64(value) => (0x7Cu8, value).encode(sink),
+        }
+    }
+}
+
+/// # Defined
+///
+/// ```text
+/// Value = { ValueModel }
+/// format = { value_format }
+/// view = { λ value. value }
+/// ```
+impl Spelled for CoreDumpValue {
+    fn laws() {}
+}
+
+impl<'a, A: Allocator + Copy> Readable<'a, A> for CoreDumpValue {
+    fn read(bytes: &'a [u8], alloc: A) -> Result<(CoreDumpValue, &'a [u8]), ReadFault> {
+        let (tag, rest) = <u8 as Readable<'a, A>>::read(bytes, alloc)?;
+        match tag {
+            0x01 => Ok((CoreDumpValue::Missing, rest)),
+            0x7F => {
+                let (value, rest) = <i32 as Readable<'a, A>>::read(rest, alloc)?;
+                Ok((CoreDumpValue::I32(value), rest))
+            }
+            0x7E => {
+                let (value, rest) = <i64 as Readable<'a, A>>::read(rest, alloc)?;
+                Ok((CoreDumpValue::I64(value), rest))
+            }
+            0x7D => {
+                let (value, rest) = <Ieee32 as Readable<'a, A>>::read(rest, alloc)?;
+                Ok((CoreDumpValue::F32(value), rest))
+            }
+            0x7C => {
+                let (value, rest) = <Ieee64 as Readable<'a, A>>::read(rest, alloc)?;
+                Ok((CoreDumpValue::F64(value), rest))
+            }
+            _ => Err(ReadFault::UnknownTag),
         }
     }
 }

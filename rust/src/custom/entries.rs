@@ -5,7 +5,7 @@ use crate::vec::{Sink, Vec};
 use crate::custom::custom_section::{CustomSection, begin_custom};
 use crate::alloc::{Allocator, Global};
 use std::marker::PhantomData;
-use crate::base::{CowSlice, CowStr, Encode, EncodeOnce, Items, Pieces, R, Section, SectionId, encoding_size};
+use crate::base::{CowSlice, CowStr, Encode, EncodeOnce, Kind, Pieces, R, Section, SectionId, encoding_size};
 
 /// A kind of custom section: its items, its name, what stands before its entries, and whether these are counted.
 ///
@@ -20,7 +20,7 @@ use crate::base::{CowSlice, CowStr, Encode, EncodeOnce, Items, Pieces, R, Sectio
 /// // Whether the number of entries stands before them.
 /// counted: { Bool }
 /// ```
-pub trait CustomKind: Items {
+pub trait CustomKind: Kind {
     /// The name of the section.
     ///
     /// # Proved

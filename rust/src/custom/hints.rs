@@ -1,10 +1,13 @@
 // Written by tools/to-rust from crates/wasm_custom/src/hints.rt: change that.
 // Branch hints.
 
-use crate::vec::Sink;
+use crate::vec::{Sink, Vec};
 use crate::custom::entries::{CustomEntries, CustomKind};
+use crate::custom::marked::read_marked;
+use crate::custom::named::after_name;
 use crate::alloc::{Allocator, Global};
-use crate::base::{Encode, Items, R, vec_of};
+use crate::base::{Encode, Kind, R, vec_of};
+use crate::reader::base::{ReadFault, Readable, Shorten, Spelled, read_whole};
 
 /// Which branches are likely to be taken: a list of hints for each function. It stands before the code section.
 ///
@@ -58,7 +61,7 @@ impl Encode for BranchHint {
 /// Item = { Hints }
 /// kind = { hint_items }
 /// ```
-impl Items for HintItems {
+impl Kind for HintItems {
     fn laws() {}
 }
 
@@ -112,4 +115,119 @@ impl<A: Allocator> BranchHints<A> {
         let hints = vec_of(hints)?;
         self.add_once((func, hints))
     }
+}
+
+/// The value of a hint: one byte.
+#[derive(Clone, Copy, Debug)]
+struct HintValue(u8);
+
+/// # Defined
+///
+/// ```text
+/// Value = { ℕ }
+/// format = { such (λ b. b < 128) byte }
+/// view = { λ value. value.0 }
+/// ```
+impl Spelled for HintValue {
+    fn laws() {}
+}
+
+impl<'a, A: Allocator + Copy> Readable<'a, A> for HintValue {
+    fn read(bytes: &'a [u8], alloc: A) -> Result<(HintValue, &'a [u8]), ReadFault> {
+        let (value, rest) = <u8 as Readable<'a, A>>::read(bytes, alloc)?;
+        if value >= 128 {
+            return Err(ReadFault::TooLarge);
+        }
+        Ok((HintValue(value), rest))
+    }
+}
+
+/// # Defined
+///
+/// ```text
+/// Value = { HintModel }
+/// format = { hint }
+/// view = { λ hint. hint }
+/// ```
+impl Spelled for BranchHint {
+    fn laws() {}
+}
+
+impl<'a, A: Allocator + Copy> Readable<'a, A> for BranchHint {
+    fn read(bytes: &'a [u8], alloc: A) -> Result<(BranchHint, &'a [u8]), ReadFault> {
+        let (branch_func_offset, rest) = <u32 as Readable<'a, A>>::read(bytes, alloc)?;
+        let (HintValue(value), rest) = read_marked::<'a, HintValue, A>(0x01, rest, alloc)?;
+        let hint = BranchHint {
+            branch_func_offset,
+            branch_hint_value: u32::from(value),
+        };
+        Ok((hint, rest))
+    }
+}
+
+/// The hints of each function: its index, and the hints of its branches.
+///
+/// # Proved
+///
+/// ```text
+/// ensures found { IfOk result (λ x. hints_payload wide bytes.now (map hints_view x.items)) }
+/// ensures none { IfErr result (λ e. e ≢ Memory → FillsNothing hints_payload bytes.now) }
+/// ```
+pub fn read_hints<'a, A: Allocator + Copy>(
+    bytes: &'a [u8],
+    alloc: A,
+) -> Result<Vec<(u32, Vec<BranchHint, A>), A>, ReadFault> {
+    let rest = after_name("metadata.code.branch_hint", bytes, alloc)?;
+    let hints = read_whole::<'a, Vec<(u32, Vec<BranchHint, A>), A>, A>(rest, alloc)?;
+    Ok(hints)
+}
+
+/// Appends the hints of a function.
+///
+/// # Proved
+///
+/// ```text
+/// ensures { OnOk result (AppendsShortest hints (hints_view given.now) out.old.items out.new.items) }
+/// ```
+fn append_function<A: Allocator, B: Sink>(
+    given: &(u32, Vec<BranchHint, A>),
+    out: &mut B,
+) -> R<()> {
+    let (func, of_branches) = given;
+    func.append_shortest(out)?;
+    of_branches.as_slice().encode(out)
+}
+
+/// Appends the hints of functions behind their number.
+///
+/// # Proved
+///
+/// ```text
+/// ensures { OnOk result (AppendsShortest (vec hints) (map hints_view items.now) out.old.items out.new.items) }
+/// ```
+fn append_functions<A: Allocator, B: Sink>(
+    items: &[(u32, Vec<BranchHint, A>)],
+    out: &mut B,
+) -> R<()> {
+    items.len().encode(out)?;
+    for item in items {
+        append_function(item, out)?;
+    }
+    Ok(())
+}
+
+/// Appends the shortest text of what a section of these hints holds, where some bytes are read as it. After a refusal a part of it may
+/// stand there.
+///
+/// # Proved
+///
+/// ```text
+/// ensures { OnOk result (AppendsShortest hints_payload (map hints_view functions.now) out.old.items out.new.items) }
+/// ```
+pub fn append_hints<A: Allocator, B: Sink>(
+    functions: &[(u32, Vec<BranchHint, A>)],
+    out: &mut B,
+) -> R<()> {
+    "metadata.code.branch_hint".encode(out)?;
+    append_functions(functions, out)
 }

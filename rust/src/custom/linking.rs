@@ -1,11 +1,14 @@
 // Written by tools/to-rust from crates/wasm_custom/src/linking.rt: change that.
 // The linking section.
 
+use crate::vec::{Sink, Vec};
 use crate::custom::entries::{CustomEntries, CustomKind};
+use crate::custom::named::after_name;
 use crate::custom::subsections::Subsection;
-use crate::custom::symbols::SymbolTable;
+use crate::custom::symbols::{Symbol, SymbolTable};
 use crate::alloc::{Allocator, Global};
-use crate::base::{Items, R};
+use crate::base::{Encode, Kind, R};
+use crate::reader::base::{Framed, ReadFault, Readable, Shorten, Spelled, append_all, frame_since, read_to_end, read_whole};
 
 /// What a linker needs to know of a module: the version 2 of the format, and a subsection for each call. `new` takes no memory.
 ///
@@ -32,11 +35,11 @@ pub struct LinkingItems;
 /// # Defined
 ///
 /// ```text
-/// Record = { LinkItem }
-/// Item = { LinkItem }
+/// Record = { LinkModel }
+/// Item = { LinkModel }
 /// kind = { link_items }
 /// ```
-impl Items for LinkingItems {
+impl Kind for LinkingItems {
     fn laws() {}
 }
 
@@ -92,4 +95,118 @@ impl<A: Allocator> LinkingSection<A> {
             content: &name,
         })
     }
+}
+
+/// The version of linking sections.
+const VERSION: u32 = 2;
+
+/// What a subsection of a linking section says.
+#[derive(Debug)]
+pub enum LinkItem<'a, A: Allocator = Global> {
+    Symbols(Vec<Symbol<'a>, A>),
+    /// The architecture of the target.
+    Arch(&'a str),
+}
+
+/// # Defined
+///
+/// ```text
+/// Value = { LinkModel }
+/// format = { link }
+/// view = { link_view }
+/// ```
+impl<'a, A: Allocator> Spelled for LinkItem<'a, A> {
+    /// # Proved
+    ///
+    /// ```text
+    /// ensures { UniqueReading link }
+    /// ```
+    fn laws() {}
+}
+
+impl<'a, A: Allocator + Copy + 'a> Readable<'a, A> for LinkItem<'a, A> {
+    fn read(bytes: &'a [u8], alloc: A) -> Result<(LinkItem<'a, A>, &'a [u8]), ReadFault> {
+        let (id, rest) = <u8 as Readable<'a, A>>::read(bytes, alloc)?;
+        match id {
+            8 => {
+                let (content, rest) = <&'a [u8] as Readable<'a, A>>::read(rest, alloc)?;
+                let symbols = read_whole::<'a, Vec<Symbol<'a>, A>, A>(content, alloc)?;
+                Ok((LinkItem::Symbols(symbols), rest))
+            }
+            9 => {
+                let (Framed(name), rest) = <Framed<&'a str> as Readable<'a, A>>::read(rest, alloc)?;
+                Ok((LinkItem::Arch(name), rest))
+            }
+            _ => Err(ReadFault::UnknownTag),
+        }
+    }
+}
+
+/// The bytes behind the version.
+///
+/// # Proved
+///
+/// ```text
+/// ensures found { IfOk result (λ rest. Reads (just version u32_format) wide bytes.now tt rest.now) }
+/// ensures none { IfErr result (λ e. e ≢ Memory → ReadsNothing (just version u32_format) wide bytes.now) }
+/// ```
+fn after_version<'a, A: Allocator + Copy>(bytes: &'a [u8], alloc: A) -> Result<&'a [u8], ReadFault> {
+    let (told, rest) = <u32 as Readable<'a, A>>::read(bytes, alloc)?;
+    if told == VERSION {
+        Ok(rest)
+    } else {
+        Err(ReadFault::UnknownTag)
+    }
+}
+
+/// The subsections of a linking section.
+///
+/// # Proved
+///
+/// ```text
+/// ensures found { IfOk result (λ x. linking_payload wide bytes.now (map link_view x.items)) }
+/// ensures none { IfErr result (λ e. e ≢ Memory → FillsNothing linking_payload bytes.now) }
+/// ```
+pub fn read_links<'a, A: Allocator + Copy + 'a>(
+    bytes: &'a [u8],
+    alloc: A,
+) -> Result<Vec<LinkItem<'a, A>, A>, ReadFault> {
+    let rest = after_name("linking", bytes, alloc)?;
+    let rest = after_version(rest, alloc)?;
+    let items = read_to_end::<'a, LinkItem<'a, A>, A>(rest, alloc)?;
+    Ok(items)
+}
+
+impl<'a, A: Allocator> Shorten for LinkItem<'a, A> {
+    fn append_shortest<B: Sink>(&self, out: &mut B) -> R<()> {
+        match self {
+            LinkItem::Symbols(symbols) => {
+                8u8.encode(out)?;
+                let start = out.len();
+                symbols.append_shortest(out)?;
+                frame_since(out, start)
+            }
+            LinkItem::Arch(name) => {
+                9u8.encode(out)?;
+                Framed(*name).append_shortest(out)
+            }
+        }
+    }
+}
+
+/// Appends the shortest text of what a linking section of these subsections holds, where some bytes are read as it. After a refusal a part of it may
+/// stand there.
+///
+/// # Proved
+///
+/// ```text
+/// ensures { OnOk result (AppendsShortest linking_payload (map link_view items.now) out.old.items out.new.items) }
+/// ```
+pub fn append_links<A: Allocator, B: Sink>(
+    items: &[LinkItem<'_, A>],
+    out: &mut B,
+) -> R<()> {
+    "linking".encode(out)?;
+    VERSION.encode(out)?;
+    append_all(items, out)
 }

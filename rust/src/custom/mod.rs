@@ -1,8 +1,14 @@
 // Written by tools/to-rust from crates/wasm_custom/src/lib.rt: change that.
 //! The custom sections of a WebAssembly module: names, linking, producers, branch hints and core dumps.
 //!
+//! The crate also reads these sections and writes them in their fewest bytes. A call that reads takes what the frame of a section holds, its
+//! name and its items up to the last byte: an answer is the items that the grammar reads there, with padded numbers too, and a cause other
+//! than [`ReadFault::Memory`] says that no reading exists.
+//!
 //! The name section is that of the WebAssembly core specification, "Custom Sections", with further subsections; linking, producers and core
 //! dumps are those of the tool conventions, and branch hints those of their proposal.
+//!
+//! [`ReadFault::Memory`]: crate::reader::base::ReadFault::Memory
 
 mod core_dumps;
 mod core_stack;
@@ -13,6 +19,8 @@ mod hints;
 pub mod laws;
 mod linking;
 mod lists;
+mod marked;
+mod named;
 mod names;
 mod producers;
 mod raw_custom;
@@ -21,15 +29,21 @@ mod symbols;
 
 pub use core_dumps::{
     CoreDumpInstancesSection, CoreDumpModulesSection, CoreDumpSection, InstanceItems, ModuleItems,
+    append_instances, append_modules, append_process, read_instances, read_modules, read_process,
 };
-pub use core_stack::CoreDumpStackSection;
+pub use core_stack::{CoreDumpStackSection, CoreFrame, append_stack, read_stack};
 pub use core_values::CoreDumpValue;
 pub use custom_section::CustomSection;
 pub use entries::{CustomEntries, CustomKind};
-pub use hints::{BranchHint, BranchHints, HintItems};
-pub use linking::{LinkingItems, LinkingSection};
+pub use hints::{BranchHint, BranchHints, HintItems, append_hints, read_hints};
+pub use linking::{LinkItem, LinkingItems, LinkingSection, append_links, read_links};
 pub use lists::{CountedList, ListKind};
-pub use names::{IndirectMembers, IndirectNameMap, NameItems, NameMap, NameMembers, NameSection};
-pub use producers::{ProducerItems, ProducersField, ProducersSection, ValueMembers};
+pub use names::{
+    IndirectMembers, IndirectNameMap, NameItem, NameItems, NameMap, NameMembers, NameSection,
+    append_names, read_names,
+};
+pub use producers::{
+    ProducerItems, ProducersField, ProducersSection, ValueMembers, append_producers, read_producers,
+};
 pub use raw_custom::RawCustomSection;
-pub use symbols::{DataSymbolDefinition, SymbolKind, SymbolMembers, SymbolTable};
+pub use symbols::{DataSymbolDefinition, Symbol, SymbolKind, SymbolMembers, SymbolTable};

@@ -1,12 +1,15 @@
 // Written by tools/to-rust from crates/wasm_custom/src/names.rt: change that.
 // Names of a module and of its parts.
 
+use crate::vec::{Sink, Vec};
 use crate::custom::custom_section::CustomSection;
 use crate::custom::entries::{CustomEntries, CustomKind};
 use crate::custom::lists::{CountedList, ListKind};
-use crate::custom::subsections::{Spelled, Subsection};
+use crate::custom::named::after_name;
+use crate::custom::subsections::{RawContent, Subsection};
 use crate::alloc::{Allocator, Global};
-use crate::base::{CowSlice, CowStr, Items, Lent, R};
+use crate::base::{CowSlice, CowStr, Encode, Kind, Lent, R};
+use crate::reader::base::{ReadFault, Readable, Shorten, Spelled, append_all, frame_since, read_to_end, read_whole};
 
 /// Names, each of which belongs to an index. Neither their order nor whether an index is repeated is looked at.
 pub type NameMap<A = Global> = CountedList<NameMembers, A>;
@@ -94,11 +97,11 @@ pub struct NameItems;
 /// # Defined
 ///
 /// ```text
-/// Record = { NameItem }
-/// Item = { NameItem }
+/// Record = { NameModel }
+/// Item = { NameModel }
 /// kind = { name_items }
 /// ```
-impl Items for NameItems {
+impl Kind for NameItems {
     fn laws() {}
 }
 
@@ -327,7 +330,7 @@ impl<A: Allocator> NameSection<A> {
     pub fn raw(&mut self, id: u8, content: &[u8]) -> R<()> {
         self.add_record(&Subsection {
             id,
-            content: &Spelled(content),
+            content: &RawContent(content),
         })
     }
 
@@ -345,4 +348,186 @@ impl<A: Allocator> NameSection<A> {
             bytes: CowSlice::Borrowed(self.content()),
         }
     }
+}
+
+/// What a subsection of a name section says.
+#[derive(Debug)]
+pub enum NameItem<'a, A: Allocator = Global> {
+    /// The name of the module.
+    Module(&'a str),
+    /// Indices of what the id stands for, as functions, and their names.
+    Map {
+        id: u8,
+        names: Vec<(u32, &'a str), A>,
+    },
+    /// Indices of that in which they stand, as functions for locals, and the indices and names of each.
+    Indirect {
+        id: u8,
+        maps: Vec<(u32, Vec<(u32, &'a str), A>), A>,
+    },
+    /// A subsection of another id.
+    Other {
+        id: u8,
+        bytes: &'a [u8],
+    },
+}
+
+/// What a subsection holds.
+#[derive(Clone, Copy, Debug)]
+enum NameKind {
+    Module,
+    Map,
+    Indirect,
+    Other,
+}
+
+/// What a subsection of the id holds.
+///
+/// # Proved
+///
+/// ```text
+/// ensures { kind_as result ≡ kind_of_id id }
+/// ```
+fn name_kind_of(id: u8) -> NameKind {
+    match id {
+        0 => NameKind::Module,
+        1 | 4..=9 | 11 => NameKind::Map,
+        2 | 3 | 10 | 12 | 13 => NameKind::Indirect,
+        _ => NameKind::Other,
+    }
+}
+
+/// What a subsection of the id says, which holds this.
+///
+/// # Proved
+///
+/// ```text
+/// ensures found { IfOk result (λ x. inside (kind_as kind) id wide bytes.now (name_item_view x)) }
+/// ensures none { IfErr result (λ e. e ≢ Memory → FillsNothing (inside (kind_as kind) id) bytes.now) }
+/// ```
+fn fill_subsection<'a, A: Allocator + Copy + 'a>(
+    kind: NameKind,
+    id: u8,
+    bytes: &'a [u8],
+    alloc: A,
+) -> Result<NameItem<'a, A>, ReadFault> {
+    match kind {
+        NameKind::Module => {
+            let name = read_whole::<'a, &'a str, A>(bytes, alloc)?;
+            Ok(NameItem::Module(name))
+        }
+        NameKind::Map => {
+            let names = read_whole::<'a, Vec<(u32, &'a str), A>, A>(bytes, alloc)?;
+            Ok(NameItem::Map { id, names })
+        }
+        NameKind::Indirect => {
+            let maps = read_whole::<'a, Vec<(u32, Vec<(u32, &'a str), A>), A>, A>(bytes, alloc)?;
+            Ok(NameItem::Indirect { id, maps })
+        }
+        NameKind::Other => Ok(NameItem::Other { id, bytes }),
+    }
+}
+
+/// # Defined
+///
+/// ```text
+/// Value = { NameModel }
+/// format = { subsection }
+/// view = { name_item_view }
+/// ```
+impl<'a, A: Allocator> Spelled for NameItem<'a, A> {
+    /// # Proved
+    ///
+    /// ```text
+    /// ensures { UniqueReading subsection }
+    /// ```
+    fn laws() {}
+}
+
+impl<'a, A: Allocator + Copy + 'a> Readable<'a, A> for NameItem<'a, A> {
+    fn read(bytes: &'a [u8], alloc: A) -> Result<(NameItem<'a, A>, &'a [u8]), ReadFault> {
+        let (id, rest) = <u8 as Readable<'a, A>>::read(bytes, alloc)?;
+        let (content, rest) = <&'a [u8] as Readable<'a, A>>::read(rest, alloc)?;
+        let item = fill_subsection(name_kind_of(id), id, content, alloc)?;
+        Ok((item, rest))
+    }
+}
+
+/// The subsections of a name section.
+///
+/// # Proved
+///
+/// ```text
+/// ensures found { IfOk result (λ x. name_payload wide bytes.now (map name_item_view x.items)) }
+/// ensures none { IfErr result (λ e. e ≢ Memory → FillsNothing name_payload bytes.now) }
+/// ```
+pub fn read_names<'a, A: Allocator + Copy + 'a>(
+    bytes: &'a [u8],
+    alloc: A,
+) -> Result<Vec<NameItem<'a, A>, A>, ReadFault> {
+    let rest = after_name("name", bytes, alloc)?;
+    let items = read_to_end::<'a, NameItem<'a, A>, A>(rest, alloc)?;
+    Ok(items)
+}
+
+impl<'a, A: Allocator> NameItem<'a, A> {
+    /// The id of the subsection.
+    ///
+    /// # Proved
+    ///
+    /// ```text
+    /// ensures { result ≡ id_of (name_item_view self.now) }
+    /// ```
+    fn id(&self) -> u8 {
+        match self {
+            NameItem::Module(_) => 0,
+            NameItem::Map { id, .. } => *id,
+            NameItem::Indirect { id, .. } => *id,
+            NameItem::Other { id, .. } => *id,
+        }
+    }
+
+    /// Appends what the frame of the subsection holds.
+    ///
+    /// # Proved
+    ///
+    /// ```text
+    /// ensures { OnOk result (AppendsShortest (inside (held_by (name_item_view self.now)) (id_of (name_item_view self.now))) (name_item_view self.now) out.old.items out.new.items) }
+    /// ```
+    fn append_content<B: Sink>(&self, out: &mut B) -> R<()> {
+        match self {
+            NameItem::Module(name) => name.append_shortest(out),
+            NameItem::Map { names, .. } => names.append_shortest(out),
+            NameItem::Indirect { maps, .. } => maps.append_shortest(out),
+            NameItem::Other { bytes, .. } => {
+                out.extend_from_slice(bytes)?;
+                Ok(())
+            }
+        }
+    }
+}
+
+impl<'a, A: Allocator> Shorten for NameItem<'a, A> {
+    fn append_shortest<B: Sink>(&self, out: &mut B) -> R<()> {
+        self.id().encode(out)?;
+        let start = out.len();
+        self.append_content(out)?;
+        frame_since(out, start)
+    }
+}
+
+/// Appends the shortest text of what a name section of these subsections holds, where some bytes are read as it. After a refusal a part of it may
+/// stand there.
+///
+/// # Proved
+///
+/// ```text
+/// ensures { OnOk result (AppendsShortest name_payload (map name_item_view items.now) out.old.items out.new.items) }
+/// ```
+pub fn append_names<A: Allocator, B: Sink>(
+    items: &[NameItem<'_, A>],
+    out: &mut B,
+) -> R<()> {
+    "name".encode(out)?;
+    append_all(items, out)
 }

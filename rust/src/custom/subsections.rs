@@ -30,7 +30,7 @@ impl Content for &str {
 
 /// Bytes that are spelled already.
 #[derive(Clone, Copy)]
-pub(in crate::custom) struct Spelled<'a>(pub &'a [u8]);
+pub(in crate::custom) struct RawContent<'a>(pub &'a [u8]);
 
 /// The bytes.
 ///
@@ -40,14 +40,14 @@ pub(in crate::custom) struct Spelled<'a>(pub &'a [u8]);
 /// text = { λ s. s.0.now }
 /// fits = { λ _. ⊤ }
 /// ```
-impl Encode for Spelled<'_> {
+impl Encode for RawContent<'_> {
     fn encode<A: Sink>(&self, sink: &mut A) -> R<()> {
         sink.extend_from_slice(self.0)?;
         Ok(())
     }
 }
 
-impl Content for Spelled<'_> {
+impl Content for RawContent<'_> {
     fn size(&self) -> usize {
         self.0.len()
     }

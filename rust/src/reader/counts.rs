@@ -17,6 +17,8 @@ pub(in crate::reader) fn count_passed<'a, P: Passed<'a, A>, A: Allocator + Copy>
     alloc: A,
 ) -> Result<Option<u32>, ReadFault> {
     let (count, rest) = pass_many::<'a, P, A>(bytes, alloc)?;
+    P::laws();
+    P::laws();
     if rest.is_empty() {
         Ok(Some(count))
     } else {

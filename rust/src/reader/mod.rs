@@ -8,37 +8,25 @@
 pub mod base;
 pub mod insn;
 mod counts;
-mod data;
-mod elements;
-mod exports;
-mod globals;
-mod imports;
+mod kinds;
 pub mod laws;
-mod limits;
 mod modules;
 mod outlines;
-mod passed;
 mod section;
 mod shortest;
 mod standing;
-mod tables;
-mod tags;
 mod whole;
 
-pub use data::Segment;
-pub use elements::{ElementItem, ElementItemMode, ElementList};
-pub use globals::GlobalItem;
+pub use kinds::{Items, SectionKind};
 pub use modules::{Listed, list_module};
 pub use outlines::{Outlined, outline};
-pub use section::{Items, SectionKind, read_section};
+pub use section::read_section;
 pub use shortest::shorten;
-pub use tables::TableItem;
+pub use crate::custom::{CoreFrame, LinkItem, NameItem, Symbol};
 pub use crate::reader::base::ReadFault;
-pub use wasm_reader_custom::{CoreFrame, LinkItem, NameItem, Symbol};
-pub use crate::reader::insn::{Arg, Body, Code, Expression, Plain};
+pub use crate::reader::insn::{Arg, Body, Expression, Plain};
+pub use crate::sections::{
+    ElementItem, ElementItemMode, ElementList, GlobalItem, Segment, TableItem,
+};
 pub use crate::types::TypeEntry;
 pub use whole::{ModuleFault, Offsets, shorten_module};
-
-/// This crate, which says how items of other crates are read.
-#[derive(Clone, Copy, Debug)]
-pub(in crate::reader) struct Here;

@@ -2,18 +2,12 @@
 // Modules: a line for each section.
 
 use crate::vec::Vec;
-use crate::reader::Here;
 use crate::reader::counts::count_passed;
-use crate::reader::data::Segment;
-use crate::reader::elements::ElementItem;
-use crate::reader::globals::GlobalItem;
-use crate::reader::passed::PassedImports;
-use crate::reader::section::{SectionKind, read_content};
-use crate::reader::tables::TableItem;
+use crate::reader::kinds::{SectionKind, kind_of_id, read_content};
 use crate::alloc::Allocator;
-use crate::reader::base::{Dropped, One, ReadFault, Readable};
+use crate::reader::base::{Dropped, ReadFault, Readable};
 use crate::reader::insn::Body;
-use crate::sections::{Export, MemoryType, TagType};
+use crate::sections::{ElementItem, Export, GlobalItem, MemoryType, PassedImports, Segment, TableItem, TagType};
 
 /// The magic and the version of a module.
 pub(in crate::reader) const HEADER: [u8; 8] = [0x00, 0x61, 0x73, 0x6D, 0x01, 0x00, 0x00, 0x00];
@@ -50,32 +44,6 @@ pub(in crate::reader) fn read_header(bytes: &[u8]) -> Result<&[u8], ReadFault> {
     }
 }
 
-/// The kind of a section of the id.
-///
-/// # Proved
-///
-/// ```text
-/// ensures { result ≡ kind_of_id id }
-/// ```
-pub(in crate::reader) fn kind_of(id: u8) -> SectionKind {
-    match id {
-        0 => SectionKind::Custom,
-        2 => SectionKind::Imports,
-        3 => SectionKind::Functions,
-        4 => SectionKind::Tables,
-        5 => SectionKind::Memories,
-        6 => SectionKind::Globals,
-        7 => SectionKind::Exports,
-        8 => SectionKind::Start,
-        9 => SectionKind::Elements,
-        10 => SectionKind::Bodies,
-        11 => SectionKind::Segments,
-        12 => SectionKind::DataCount,
-        13 => SectionKind::Tags,
-        _ => SectionKind::Raw,
-    }
-}
-
 /// The number of items of a section of the kind, from what its frame holds. Nothing is kept of what is counted.
 ///
 /// # Proved
@@ -93,32 +61,18 @@ pub(in crate::reader) fn read_number<'a, A: Allocator + Copy>(
         SectionKind::Bodies => count_passed::<'a, Body<A>, A>(bytes, alloc),
         SectionKind::Segments => count_passed::<'a, Segment<'a, A>, A>(bytes, alloc),
         SectionKind::Elements => count_passed::<'a, ElementItem<A>, A>(bytes, alloc),
-        SectionKind::Exports => {
-            count_passed::<'a, Dropped<One<Export<'a>, Here>>, A>(bytes, alloc)
-        }
+        SectionKind::Exports => count_passed::<'a, Dropped<Export<'a>>, A>(bytes, alloc),
         SectionKind::Functions => count_passed::<'a, Dropped<u32>, A>(bytes, alloc),
         SectionKind::Globals => count_passed::<'a, GlobalItem<A>, A>(bytes, alloc),
         SectionKind::Imports => count_passed::<'a, PassedImports, A>(bytes, alloc),
-        SectionKind::Memories => {
-            count_passed::<'a, Dropped<One<MemoryType, Here>>, A>(bytes, alloc)
-        }
+        SectionKind::Memories => count_passed::<'a, Dropped<MemoryType>, A>(bytes, alloc),
         SectionKind::Tables => count_passed::<'a, TableItem<A>, A>(bytes, alloc),
-        SectionKind::Tags => count_passed::<'a, Dropped<One<TagType, Here>>, A>(bytes, alloc),
+        SectionKind::Tags => count_passed::<'a, Dropped<TagType>, A>(bytes, alloc),
         SectionKind::DataCount | SectionKind::Start => {
             drop(read_content(kind, bytes, alloc)?);
             Ok(Some(1))
         }
-        SectionKind::Names
-        | SectionKind::Linking
-        | SectionKind::Producers
-        | SectionKind::Hints
-        | SectionKind::Core
-        | SectionKind::CoreModules
-        | SectionKind::CoreInstances
-        | SectionKind::CoreStack
-        | SectionKind::Custom
-        | SectionKind::Raw
-        | SectionKind::Types => {
+        _ => {
             drop(read_content(kind, bytes, alloc)?);
             Ok(None)
         }
@@ -139,7 +93,7 @@ fn read_line<'a, A: Allocator + Copy>(
 ) -> Result<(Listed, &'a [u8]), ReadFault> {
     let (id, rest) = <u8 as Readable<'a, A>>::read(bytes, alloc)?;
     let (framed, rest) = <&'a [u8] as Readable<'a, A>>::read(rest, alloc)?;
-    let items = read_number(kind_of(id), framed, alloc)?;
+    let items = read_number(kind_of_id(id), framed, alloc)?;
     let size = framed.len() as u32;
     Ok((Listed { id, size, items }, rest))
 }

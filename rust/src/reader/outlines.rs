@@ -3,7 +3,7 @@
 
 use crate::vec::Vec;
 use crate::reader::modules::{read_header, read_number};
-use crate::reader::section::SectionKind;
+use crate::reader::kinds::SectionKind;
 use crate::reader::standing::{Standing, read_standing};
 use crate::alloc::Allocator;
 use crate::reader::base::ReadFault;
@@ -41,7 +41,7 @@ fn count_types<A: Allocator + Copy>(bytes: &[u8], alloc: A) -> Result<Option<u32
 /// # Proved
 ///
 /// ```text
-/// ensures found { IfOk result (λ count. IsCount (kind_of (section_of section.now)) section.now.payload.now count) }
+/// ensures found { IfOk result (λ count. IsCount (section_kind_of (section_of section.now)) section.now.payload.now count) }
 /// ensures memory { IfErr result (λ e. e ≡ Memory) }
 /// ```
 fn count<A: Allocator + Copy>(section: &Standing<'_>, alloc: A) -> Result<Option<u32>, ReadFault> {

@@ -1,60 +1,12 @@
 // Written by tools/to-rust from crates/wasm_reader/src/shortest.rt: change that.
 // Sections, written as shortly as can be.
 
-use crate::vec::{Sink, Vec};
-use crate::reader::imports::append_imports;
-use crate::reader::section::{Items, SectionKind, read_content};
+use crate::vec::Vec;
+use crate::reader::kinds::{SectionKind, append_content, read_content};
 use crate::alloc::Allocator;
-use crate::base::{Encode, R, encode_frame};
+use crate::base::{Encode, encode_frame};
 use crate::reader::base::{ReadFault, Readable, Shorten};
-use wasm_reader_custom::{
-    append_hints, append_instances, append_links, append_modules, append_names, append_process,
-    append_producers, append_stack,
-};
 use crate::reader::insn::shorten_body;
-use crate::types::append_types;
-
-/// Appends the shortest text of what the frame of a section holds.
-///
-/// # Proved
-///
-/// ```text
-/// ensures { OnOk result (AppendsShortest (content (kind_in (contents_of items.entry))) (contents_of items.entry) out.old.items out.new.items) }
-/// ```
-fn append_content<A: Allocator, B: Sink>(items: Items<'_, A>, out: &mut B) -> R<()> {
-    match items {
-        Items::Bodies(items) => items.append_shortest(out),
-        Items::Segments(items) => items.append_shortest(out),
-        Items::DataCount(count) => count.append_shortest(out),
-        Items::Elements(items) => items.append_shortest(out),
-        Items::Exports(items) => items.as_slice().encode(out),
-        Items::Functions(items) => items.append_shortest(out),
-        Items::Globals(items) => items.append_shortest(out),
-        Items::Imports(items) => append_imports(&items, out),
-        Items::Memories(items) => items.as_slice().encode(out),
-        Items::Start(index) => index.append_shortest(out),
-        Items::Tables(items) => items.append_shortest(out),
-        Items::Tags(items) => items.as_slice().encode(out),
-        Items::Names(items) => append_names(&items, out),
-        Items::Linking(items) => append_links(&items, out),
-        Items::Producers(items) => append_producers(&items, out),
-        Items::Hints(items) => append_hints(&items, out),
-        Items::Core(name) => append_process(name, out),
-        Items::CoreModules(items) => append_modules(&items, out),
-        Items::CoreInstances(items) => append_instances(&items, out),
-        Items::CoreStack { thread, frames } => append_stack(thread, &frames, out),
-        Items::Custom { name, bytes } => {
-            name.append_shortest(out)?;
-            out.extend_from_slice(bytes)?;
-            Ok(())
-        }
-        Items::Raw(bytes) => {
-            out.extend_from_slice(bytes)?;
-            Ok(())
-        }
-        Items::Types(items) => append_types(&items, out),
-    }
-}
 
 /// Appends the shortest texts of the bodies behind their number, which all of the bytes spell. It keeps none of them.
 ///

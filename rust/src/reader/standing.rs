@@ -1,8 +1,7 @@
 // Written by tools/to-rust from crates/wasm_reader/src/standing.rt: change that.
 // Sections of a module as they stand there, whatever they hold.
 
-use crate::reader::modules::kind_of;
-use crate::reader::section::SectionKind;
+use crate::reader::kinds::{SectionKind, kind_of_id, kind_of_name};
 use crate::alloc::Allocator;
 use crate::reader::base::{ReadFault, Readable};
 
@@ -18,27 +17,6 @@ pub(in crate::reader) struct Standing<'a> {
     pub(in crate::reader) name: Option<&'a str>,
 }
 
-/// The kind of a custom section of the name.
-///
-/// # Proved
-///
-/// ```text
-/// ensures { result ≡ kind_named name.now }
-/// ```
-fn kind_of_name(name: &str) -> SectionKind {
-    match name {
-        "name" => SectionKind::Names,
-        "linking" => SectionKind::Linking,
-        "producers" => SectionKind::Producers,
-        "metadata.code.branch_hint" => SectionKind::Hints,
-        "core" => SectionKind::Core,
-        "coremodules" => SectionKind::CoreModules,
-        "coreinstances" => SectionKind::CoreInstances,
-        "corestack" => SectionKind::CoreStack,
-        _ => SectionKind::Custom,
-    }
-}
-
 impl Standing<'_> {
     /// What it is read as.
     ///
@@ -51,7 +29,7 @@ impl Standing<'_> {
         match self.name {
             Some(name) => kind_of_name(name),
             None if self.id == 1 => SectionKind::Types,
-            None => kind_of(self.id),
+            None => kind_of_id(self.id),
         }
     }
 }

@@ -100,7 +100,7 @@ fn signed(word: &str) -> Result<i32, RecipeCause> {
 /// # Proved
 ///
 /// ```text
-/// ensures { result ≡ kind_of word.now }
+/// ensures { result ≡ export_kind_of word.now }
 /// ```
 fn export_kind(word: &str) -> Option<ExportKind> {
     match word {

@@ -4,7 +4,7 @@
 use crate::vec::Sink;
 use crate::alloc::{Allocator, Global};
 use std::marker::PhantomData;
-use crate::base::{Counted, Encode, EncodeOnce, Items, Pieces, R, Section};
+use crate::base::{Counted, Encode, EncodeOnce, Kind, Pieces, R, Section};
 
 /// A kind of items that a section counts.
 ///
@@ -14,7 +14,7 @@ use crate::base::{Counted, Encode, EncodeOnce, Items, Pieces, R, Section};
 /// // The id of the section of these items.
 /// section_id: { ℕ }
 /// ```
-pub trait ItemKind: Items {
+pub trait ItemKind: Kind {
     /// The id of the section of these items.
     ///
     /// # Proved

@@ -4,7 +4,7 @@
 use crate::vec::{Sink, Vec};
 use crate::sections::counted_section::{CountedSection, ItemKind};
 use crate::alloc::{Allocator, Global};
-use crate::base::{AbstractHeapType, CowSlice, Encode, HeapType, Items, Lent, R, RefType, SectionId};
+use crate::base::{AbstractHeapType, CowSlice, Encode, HeapType, Kind, Lent, R, RefType, SectionId};
 use crate::code::ConstExpr;
 
 /// The references that a module puts in tables.
@@ -312,11 +312,11 @@ impl<A: Allocator> Encode for ElementSegment<'_, A> {
 /// # Defined
 ///
 /// ```text
-/// Record = { Segment Stored }
-/// Item = { Segment (List Plain) }
+/// Record = { ElementItem Stored }
+/// Item = { ElementItem (List Plain) }
 /// kind = { element_items }
 /// ```
-impl Items for ElementItems {
+impl Kind for ElementItems {
     fn laws() {}
 }
 

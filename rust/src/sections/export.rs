@@ -4,7 +4,8 @@
 use crate::vec::Sink;
 use crate::sections::counted_section::{CountedSection, ItemKind, RecordOf};
 use crate::alloc::{Allocator, Global};
-use crate::base::{Encode, Items, R, SectionId};
+use crate::base::{Encode, Kind, R, SectionId};
+use crate::reader::base::{ReadFault, Readable, Spelled};
 
 /// What a module exports.
 ///
@@ -79,7 +80,7 @@ impl Encode for Export<'_> {
 /// Item = { ExportItem }
 /// kind = { export_items }
 /// ```
-impl Items for ExportItems {
+impl Kind for ExportItems {
     fn laws() {}
 }
 
@@ -106,5 +107,55 @@ impl<A: Allocator> ExportSection<A> {
     /// ```
     pub fn export(&mut self, name: &str, kind: ExportKind, index: u32) -> R<()> {
         self.add_record(&Export { name, kind, index })
+    }
+}
+
+/// # Defined
+///
+/// ```text
+/// Value = { Kind }
+/// format = { coded kind_code }
+/// view = { λ kind. kind }
+/// ```
+impl Spelled for ExportKind {
+    fn laws() {}
+}
+
+impl<'a, A: Allocator + Copy> Readable<'a, A> for ExportKind {
+    fn read(bytes: &'a [u8], alloc: A) -> Result<(ExportKind, &'a [u8]), ReadFault> {
+        let (code, rest) = <u8 as Readable<'a, A>>::read(bytes, alloc)?;
+        match code {
+            0x00 => Ok((ExportKind::Func, rest)),
+            0x01 => Ok((ExportKind::Table, rest)),
+            0x02 => Ok((ExportKind::Memory, rest)),
+            0x03 => Ok((ExportKind::Global, rest)),
+            0x04 => Ok((ExportKind::Tag, rest)),
+            _ => Err(ReadFault::UnknownTag),
+        }
+    }
+}
+
+/// # Defined
+///
+/// ```text
+/// Value = { ExportItem }
+/// format = { export }
+/// view = { item_of }
+/// ```
+impl<'a> Spelled for Export<'a> {
+    /// # Proved
+    ///
+    /// ```text
+    /// ensures { UniqueReading export }
+    /// ```
+    fn laws() {}
+}
+
+impl<'a, A: Allocator + Copy> Readable<'a, A> for Export<'a> {
+    fn read(bytes: &'a [u8], alloc: A) -> Result<(Export<'a>, &'a [u8]), ReadFault> {
+        let ((name, (kind, index)), rest) = <(&'a str, (ExportKind, u32)) as Readable<'a, A>>::read(
+            bytes, alloc,
+        )?;
+        Ok((Export { name, kind, index }, rest))
     }
 }

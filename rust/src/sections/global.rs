@@ -5,8 +5,10 @@ use crate::vec::Sink;
 use crate::sections::counted_section::{CountedSection, ItemKind};
 use crate::sections::flags::where_set;
 use crate::alloc::{Allocator, Global};
-use crate::base::{Encode, Items, Lent, R, SectionId, ValType};
+use crate::base::{Encode, Kind, Lent, R, SectionId, ValType};
 use crate::code::ConstExpr;
+use crate::reader::base::{Dropped, Passed, ReadFault, Readable, Shorten, Spelled};
+use crate::reader::insn::Expression;
 
 /// The globals that a module defines.
 ///
@@ -71,10 +73,10 @@ impl Encode for GlobalType {
 ///
 /// ```text
 /// Record = { GivenGlobal }
-/// Item = { GlobalItem }
+/// Item = { GlobalModel }
 /// kind = { global_items }
 /// ```
-impl Items for GlobalItems {
+impl Kind for GlobalItems {
     fn laws() {}
 }
 
@@ -110,5 +112,111 @@ impl<A: Allocator> GlobalSection<A> {
     /// ```
     pub fn raw(&mut self, global: &[u8]) -> R<()> {
         self.add_piece(global)
+    }
+}
+
+/// The flags of a global.
+#[derive(Clone, Copy, Debug)]
+struct GlobalFlags {
+    mutable: bool,
+    shared: bool,
+}
+
+/// # Defined
+///
+/// ```text
+/// Value = { GlobalBits }
+/// format = { coded global_code }
+/// view = { global_flags_view }
+/// ```
+impl Spelled for GlobalFlags {
+    fn laws() {}
+}
+
+impl<'a, A: Allocator + Copy> Readable<'a, A> for GlobalFlags {
+    fn read(bytes: &'a [u8], alloc: A) -> Result<(GlobalFlags, &'a [u8]), ReadFault> {
+        let (byte, rest) = <u8 as Readable<'a, A>>::read(bytes, alloc)?;
+        if byte >= 0x04 {
+            return Err(ReadFault::UnknownTag);
+        }
+        let flags = GlobalFlags {
+            mutable: byte % 2 == 1,
+            shared: byte / 2 % 2 == 1,
+        };
+        Ok((flags, rest))
+    }
+}
+
+/// # Defined
+///
+/// ```text
+/// Value = { TypeModel }
+/// format = { global_type }
+/// view = { λ global. global }
+/// ```
+impl Spelled for GlobalType {
+    fn laws() {}
+}
+
+impl<'a, A: Allocator + Copy> Readable<'a, A> for GlobalType {
+    fn read(bytes: &'a [u8], alloc: A) -> Result<(GlobalType, &'a [u8]), ReadFault> {
+        let ((val_type, flags), rest) = <(ValType, GlobalFlags) as Readable<'a, A>>::read(
+            bytes, alloc,
+        )?;
+        let global_type = GlobalType {
+            val_type,
+            mutable: flags.mutable,
+            shared: flags.shared,
+        };
+        Ok((global_type, rest))
+    }
+}
+
+/// A global: its type, and the expression of its first value.
+#[derive(Debug)]
+pub struct GlobalItem<A: Allocator = Global> {
+    pub global_type: GlobalType,
+    pub init: Expression<A>,
+}
+
+/// # Defined
+///
+/// ```text
+/// Value = { GlobalModel }
+/// format = { global_item }
+/// view = { global_view }
+/// ```
+impl<A: Allocator> Spelled for GlobalItem<A> {
+    fn laws() {}
+}
+
+impl<'a, A: Allocator + Copy> Readable<'a, A> for GlobalItem<A> {
+    fn read(bytes: &'a [u8], alloc: A) -> Result<(GlobalItem<A>, &'a [u8]), ReadFault> {
+        let ((global_type, init), rest) = <(GlobalType, Expression<A>) as Readable<'a, A>>::read(
+            bytes, alloc,
+        )?;
+        Ok((GlobalItem { global_type, init }, rest))
+    }
+}
+
+impl<A: Allocator> Shorten for GlobalItem<A> {
+    fn append_shortest<B: Sink>(&self, out: &mut B) -> R<()> {
+        self.global_type.encode(out)?;
+        self.init.append_shortest(out)
+    }
+}
+
+/// # Defined
+///
+/// ```text
+/// Value = { GlobalModel }
+/// format = { global_item }
+/// ```
+impl<'a, A: Allocator + Copy> Passed<'a, A> for GlobalItem<A> {
+    fn laws() {}
+
+    fn pass(bytes: &'a [u8], alloc: A) -> Result<&'a [u8], ReadFault> {
+        let rest = <(Dropped<GlobalType>, Expression<A>) as Passed<'a, A>>::pass(bytes, alloc)?;
+        Ok(rest)
     }
 }

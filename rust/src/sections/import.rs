@@ -1,14 +1,15 @@
 // Written by tools/to-rust from crates/wasm_sections/src/import.rt: change that.
 // Imports and the import section.
 
-use crate::vec::Sink;
+use crate::vec::{Sink, Vec};
 use crate::sections::counted_section::{CountedSection, ItemKind, RecordOf};
 use crate::sections::global::GlobalType;
 use crate::sections::memory::MemoryType;
 use crate::sections::table::TableType;
 use crate::sections::tag::TagType;
 use crate::alloc::{Allocator, Global};
-use crate::base::{CORE_FUNCTION_EXACT_SORT, CORE_FUNCTION_SORT, CORE_GLOBAL_SORT, CORE_MEMORY_SORT, CORE_TABLE_SORT, CORE_TAG_SORT, CowSlice, Encode, Items, R, SectionId};
+use crate::base::{CORE_FUNCTION_EXACT_SORT, CORE_FUNCTION_SORT, CORE_GLOBAL_SORT, CORE_MEMORY_SORT, CORE_TABLE_SORT, CORE_TAG_SORT, CowSlice, Encode, Kind, R, SectionId};
+use crate::reader::base::{Dropped, Passed, ReadFault, Readable, Spelled, pass_many, read_whole};
 
 /// What a module imports.
 ///
@@ -222,7 +223,7 @@ impl<A: Allocator> Encode for Imports<'_, A> {
 /// Item = { ImportItem }
 /// kind = { import_items }
 /// ```
-impl Items for ImportItems {
+impl Kind for ImportItems {
     fn laws() {}
 }
 
@@ -260,5 +261,204 @@ impl<A: Allocator> ImportSection<A> {
     /// ```
     pub fn imports(&mut self, imports: Imports<'_, A>) -> R<()> {
         self.add_record(&imports)
+    }
+}
+
+/// # Defined
+///
+/// ```text
+/// Value = { EntityModel }
+/// format = { entity }
+/// view = { λ entity. entity }
+/// ```
+impl Spelled for EntityType {
+    fn laws() {}
+}
+
+impl<'a, A: Allocator + Copy> Readable<'a, A> for EntityType {
+    fn read(bytes: &'a [u8], alloc: A) -> Result<(EntityType, &'a [u8]), ReadFault> {
+        let (kind, rest) = <u8 as Readable<'a, A>>::read(bytes, alloc)?;
+        match kind {
+            0x00 => {
+                let (index, rest) = <u32 as Readable<'a, A>>::read(rest, alloc)?;
+                Ok((EntityType::Function(index), rest))
+            }
+            0x01 => {
+                let (ty, rest) = <TableType as Readable<'a, A>>::read(rest, alloc)?;
+                Ok((EntityType::Table(ty), rest))
+            }
+            0x02 => {
+                let (ty, rest) = <MemoryType as Readable<'a, A>>::read(rest, alloc)?;
+                Ok((EntityType::Memory(ty), rest))
+            }
+            0x03 => {
+                let (ty, rest) = <GlobalType as Readable<'a, A>>::read(rest, alloc)?;
+                Ok((EntityType::Global(ty), rest))
+            }
+            0x04 => {
+                let (ty, rest) = <TagType as Readable<'a, A>>::read(rest, alloc)?;
+                Ok((EntityType::Tag(ty), rest))
+            }
+            0x20 => {
+                let (index, rest) = <u32 as Readable<'a, A>>::read(rest, alloc)?;
+                Ok((EntityType::FunctionExact(index), rest))
+            }
+            _ => Err(ReadFault::UnknownTag),
+        }
+    }
+}
+
+/// # Defined
+///
+/// ```text
+/// Value = { List ℕ × EntityModel }
+/// format = { pair name entity }
+/// view = { compact_item }
+/// ```
+impl<'a> Spelled for ImportCompact<'a> {
+    /// # Proved
+    ///
+    /// ```text
+    /// ensures { UniqueReading (pair name entity) }
+    /// ```
+    fn laws() {
+        <(&'a str, EntityType) as Spelled>::laws();
+    }
+}
+
+impl<'a, A: Allocator + Copy> Readable<'a, A> for ImportCompact<'a> {
+    fn read(bytes: &'a [u8], alloc: A) -> Result<(ImportCompact<'a>, &'a [u8]), ReadFault> {
+        let ((name, ty), rest) = <(&'a str, EntityType) as Readable<'a, A>>::read(bytes, alloc)?;
+        Ok((ImportCompact { name, ty }, rest))
+    }
+}
+
+/// The byte of a group, and what follows it, where no single import stands there: behind an empty name the byte is no entity's.
+///
+/// # Proved
+///
+/// ```text
+/// ensures { MatchOption result (ReadsNothing (prefixed (0x00 ∷ []) group) wide bytes.now) (λ x. (bytes.now ≡ 0x00 ∷ x.0 ∷ x.1.now) × (0x7E ≤ x.0)) }
+/// ```
+fn group_kind(bytes: &[u8]) -> Option<(u8, &[u8])> {
+    let [first, kind, rest @ ..] = bytes else {
+        return None;
+    };
+    if *first != 0x00 {
+        return None;
+    }
+    if *kind < 0x7E {
+        return None;
+    }
+    Some((*kind, rest))
+}
+
+/// # Defined
+///
+/// ```text
+/// Value = { ImportItem }
+/// format = { import_format }
+/// view = { imports_item }
+/// ```
+impl<'a, A: Allocator> Spelled for Imports<'a, A> {
+    /// # Proved
+    ///
+    /// ```text
+    /// ensures { UniqueReading import_format }
+    /// ```
+    fn laws() {}
+}
+
+impl<'a, A: Allocator + Copy> Readable<'a, A> for Imports<'a, A> {
+    fn read(bytes: &'a [u8], alloc: A) -> Result<(Imports<'a, A>, &'a [u8]), ReadFault> {
+        let (module, rest) = <&'a str as Readable<'a, A>>::read(bytes, alloc)?;
+        let Some((kind, rest)) = group_kind(rest) else {
+            let (name, rest) = <&'a str as Readable<'a, A>>::read(rest, alloc)?;
+            let (ty, rest) = <EntityType as Readable<'a, A>>::read(rest, alloc)?;
+            return Ok((Imports::Single(Import { module, name, ty }), rest));
+        };
+        match kind {
+            0x7F => {
+                let (items, rest) = <Vec<ImportCompact<'a>, A> as Readable<'a, A>>::read(
+                    rest, alloc,
+                )?;
+                let items = CowSlice::Owned(items);
+                Ok((Imports::Compact1 { module, items }, rest))
+            }
+            0x7E => {
+                let (ty, rest) = <EntityType as Readable<'a, A>>::read(rest, alloc)?;
+                let (names, rest) = <Vec<&'a str, A> as Readable<'a, A>>::read(rest, alloc)?;
+                let names = CowSlice::Owned(names);
+                Ok((Imports::Compact2 { module, ty, names }, rest))
+            }
+            _ => Err(ReadFault::UnknownTag),
+        }
+    }
+}
+
+/// Imports, and groups of them, behind their number, which all of the bytes spell. Memory is taken for those that stand there, and not by their number.
+///
+/// # Proved
+///
+/// ```text
+/// ensures found { IfOk result (λ x. vec import_format wide bytes.now (map imports_item x.items)) }
+/// ensures none { IfErr result (λ e. e ≢ Memory → FillsNothing (vec import_format) bytes.now) }
+/// ```
+pub fn read_imports<'a, A: Allocator + Copy + 'a>(
+    bytes: &'a [u8],
+    alloc: A,
+) -> Result<Vec<Imports<'a, A>, A>, ReadFault> {
+    read_whole::<'a, Vec<Imports<'a, A>, A>, A>(bytes, alloc)
+}
+
+/// Appends imports, and groups of them, behind their number.
+///
+/// # Proved
+///
+/// ```text
+/// ensures { OnOk result (AppendsShortest (vec import_format) (map imports_item imports.now) out.old.items out.new.items) }
+/// ```
+pub fn append_imports<A: Allocator, B: Sink>(
+    imports: &[Imports<'_, A>],
+    out: &mut B,
+) -> R<()> {
+    imports.len().encode(out)?;
+    for import in imports {
+        import.encode(out)?;
+    }
+    Ok(())
+}
+
+/// An import or a group of imports, of which nothing is kept.
+pub struct PassedImports;
+
+/// # Defined
+///
+/// ```text
+/// Value = { ImportItem }
+/// format = { import_format }
+/// ```
+impl<'a, A: Allocator + Copy> Passed<'a, A> for PassedImports {
+    fn laws() {}
+
+    fn pass(bytes: &'a [u8], alloc: A) -> Result<&'a [u8], ReadFault> {
+        let (_module, rest) = <&'a str as Readable<'a, A>>::read(bytes, alloc)?;
+        let Some((kind, rest)) = group_kind(rest) else {
+            let (_name, rest) = <&'a str as Readable<'a, A>>::read(rest, alloc)?;
+            let (_type, rest) = <EntityType as Readable<'a, A>>::read(rest, alloc)?;
+            return Ok(rest);
+        };
+        match kind {
+            0x7F => {
+                let (_count, rest) = pass_many::<'a, Dropped<ImportCompact<'a>>, A>(rest, alloc)?;
+                Ok(rest)
+            }
+            0x7E => {
+                let (_type, rest) = <EntityType as Readable<'a, A>>::read(rest, alloc)?;
+                let (_count, rest) = pass_many::<'a, Dropped<&'a str>, A>(rest, alloc)?;
+                Ok(rest)
+            }
+            _ => Err(ReadFault::UnknownTag),
+        }
     }
 }

@@ -102,7 +102,7 @@ pub fn wide_calls() {}
 /// # Proved
 ///
 /// ```text
-/// ensures { (segment : ElementSegment A) (given : Segment Stored) → HaveOneText segment given }
+/// ensures { (segment : ElementSegment A) (given : ElementItem Stored) → HaveOneText segment given }
 /// ```
 pub fn given_elements<A: Allocator>() {}
 

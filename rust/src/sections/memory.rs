@@ -5,7 +5,8 @@ use crate::vec::Sink;
 use crate::sections::counted_section::{CountedSection, ItemKind, RecordOf};
 use crate::sections::flags::where_set;
 use crate::alloc::{Allocator, Global};
-use crate::base::{Encode, Items, Optional, R, SectionId};
+use crate::base::{Encode, Kind, Optional, R, SectionId};
+use crate::reader::base::{ReadFault, Readable, Spelled, read_optional};
 
 /// The memories that a module defines.
 ///
@@ -111,7 +112,7 @@ impl Encode for MemoryType {
 /// Item = { Memory }
 /// kind = { memory_items }
 /// ```
-impl Items for MemoryItems {
+impl Kind for MemoryItems {
     fn laws() {}
 }
 
@@ -138,5 +139,69 @@ impl<A: Allocator> MemorySection<A> {
     /// ```
     pub fn memory(&mut self, memory_type: MemoryType) -> R<()> {
         self.add_record(&memory_type)
+    }
+}
+
+/// The flags of limits.
+#[derive(Clone, Copy, Debug)]
+pub(in crate::sections) struct Flags {
+    pub(in crate::sections) has_maximum: bool,
+    pub(in crate::sections) shared: bool,
+    pub(in crate::sections) is_64: bool,
+    pub(in crate::sections) has_page_size: bool,
+}
+
+/// # Defined
+///
+/// ```text
+/// Value = { FlagBits }
+/// format = { flags_format }
+/// view = { flags_view }
+/// ```
+impl Spelled for Flags {
+    fn laws() {}
+}
+
+impl<'a, A: Allocator + Copy> Readable<'a, A> for Flags {
+    fn read(bytes: &'a [u8], alloc: A) -> Result<(Flags, &'a [u8]), ReadFault> {
+        let (byte, rest) = <u8 as Readable<'a, A>>::read(bytes, alloc)?;
+        if byte >= 0x10 {
+            return Err(ReadFault::UnknownTag);
+        }
+        let flags = Flags {
+            has_maximum: byte % 2 == 1,
+            shared: byte / 2 % 2 == 1,
+            is_64: byte / 4 % 2 == 1,
+            has_page_size: byte / 8 % 2 == 1,
+        };
+        Ok((flags, rest))
+    }
+}
+
+/// # Defined
+///
+/// ```text
+/// Value = { Memory }
+/// format = { memory_type }
+/// view = { λ memory. memory }
+/// ```
+impl Spelled for MemoryType {
+    fn laws() {}
+}
+
+impl<'a, A: Allocator + Copy> Readable<'a, A> for MemoryType {
+    fn read(bytes: &'a [u8], alloc: A) -> Result<(MemoryType, &'a [u8]), ReadFault> {
+        let (flags, rest) = <Flags as Readable<'a, A>>::read(bytes, alloc)?;
+        let (minimum, rest) = <u64 as Readable<'a, A>>::read(rest, alloc)?;
+        let (maximum, rest) = read_optional::<'a, u64, A>(flags.has_maximum, rest, alloc)?;
+        let (page_size_log2, rest) = read_optional::<'a, u32, A>(flags.has_page_size, rest, alloc)?;
+        let memory = MemoryType {
+            minimum,
+            maximum,
+            memory64: flags.is_64,
+            shared: flags.shared,
+            page_size_log2,
+        };
+        Ok((memory, rest))
     }
 }

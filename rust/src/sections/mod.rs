@@ -1,28 +1,35 @@
 // Written by tools/to-rust from crates/wasm_sections/src/lib.rt: change that.
 //! The sections of a WebAssembly module, by the core specification, "Binary Format", "Modules".
+//!
+//! The crate also reads their items, by `Readable` of `wasm_reader_base`, goes over them by `Passed`, and writes those that were read in their fewest bytes, by `Shorten`.
 
 mod counted_section;
 mod data;
 mod element;
+mod element_items;
 mod export;
 mod flags;
-mod functions;
+mod function;
 mod global;
 mod import;
 pub mod laws;
 mod memory;
-mod numbers;
+mod start;
 mod table;
 mod tag;
 
 pub use counted_section::{CountedSection, ItemKind, RecordOf};
-pub use data::{DataItems, DataSection, DataSegment, DataSegmentMode};
+pub use data::{DataItems, DataSection, DataSegment, DataSegmentMode, Segment, read_segments};
 pub use element::{ElementItems, ElementMode, ElementSection, ElementSegment, Elements};
+pub use element_items::{ElementItem, ElementItemMode, ElementList};
 pub use export::{Export, ExportItems, ExportKind, ExportSection};
-pub use functions::{FunctionItems, FunctionSection};
-pub use global::{GlobalItems, GlobalSection, GlobalType};
-pub use import::{EntityType, Import, ImportCompact, ImportItems, ImportSection, Imports};
+pub use function::{FunctionItems, FunctionSection};
+pub use global::{GlobalItem, GlobalItems, GlobalSection, GlobalType};
+pub use import::{
+    EntityType, Import, ImportCompact, ImportItems, ImportSection, Imports, PassedImports,
+    append_imports, read_imports,
+};
 pub use memory::{MemoryItems, MemorySection, MemoryType};
-pub use numbers::{DataCountSection, StartSection};
-pub use table::{TableItems, TableSection, TableType};
+pub use start::{DataCountSection, StartSection};
+pub use table::{TableItem, TableItems, TableSection, TableType};
 pub use tag::{TagItems, TagKind, TagSection, TagType};

@@ -4,9 +4,12 @@
 use crate::vec::Sink;
 use crate::sections::counted_section::{CountedSection, ItemKind, RecordOf};
 use crate::sections::flags::where_set;
+use crate::sections::memory::Flags;
 use crate::alloc::{Allocator, Global};
-use crate::base::{Encode, Items, Lent, Optional, R, RefType, SectionId, ValType};
+use crate::base::{Encode, Kind, Lent, Optional, R, RefType, SectionId, ValType};
 use crate::code::ConstExpr;
+use crate::reader::base::{Dropped, Passed, ReadFault, Readable, Shorten, Spelled, read_optional};
+use crate::reader::insn::Expression;
 
 /// The tables that a module defines.
 ///
@@ -92,10 +95,10 @@ impl Encode for TableType {
 ///
 /// ```text
 /// Record = { GivenTable }
-/// Item = { TableItem }
+/// Item = { TableModel }
 /// kind = { table_items }
 /// ```
-impl Items for TableItems {
+impl Kind for TableItems {
     fn laws() {}
 }
 
@@ -138,5 +141,146 @@ impl<A: Allocator> TableSection<A> {
         init: &ConstExpr<B>,
     ) -> R<()> {
         self.add_record(&([0x40u8, 0x00], table_type, Lent(init)))
+    }
+}
+
+/// The limits of a table: all of its type but the type of its elements.
+#[derive(Clone, Copy, Debug)]
+struct Limits {
+    table64: bool,
+    shared: bool,
+    minimum: u64,
+    maximum: Option<u64>,
+}
+
+/// # Defined
+///
+/// ```text
+/// Value = { LimitsModel }
+/// format = { limits }
+/// view = { limits_view }
+/// ```
+impl Spelled for Limits {
+    fn laws() {}
+}
+
+impl<'a, A: Allocator + Copy> Readable<'a, A> for Limits {
+    fn read(bytes: &'a [u8], alloc: A) -> Result<(Limits, &'a [u8]), ReadFault> {
+        let (flags, rest) = <Flags as Readable<'a, A>>::read(bytes, alloc)?;
+        if flags.has_page_size {
+            return Err(ReadFault::UnknownTag);
+        }
+        let (minimum, rest) = <u64 as Readable<'a, A>>::read(rest, alloc)?;
+        let (maximum, rest) = read_optional::<'a, u64, A>(flags.has_maximum, rest, alloc)?;
+        let limits = Limits {
+            table64: flags.is_64,
+            shared: flags.shared,
+            minimum,
+            maximum,
+        };
+        Ok((limits, rest))
+    }
+}
+
+/// # Defined
+///
+/// ```text
+/// Value = { TypeModel }
+/// format = { table_type }
+/// view = { λ table. table }
+/// ```
+impl Spelled for TableType {
+    fn laws() {}
+}
+
+impl<'a, A: Allocator + Copy> Readable<'a, A> for TableType {
+    fn read(bytes: &'a [u8], alloc: A) -> Result<(TableType, &'a [u8]), ReadFault> {
+        let ((element_type, limits), rest) = <(RefType, Limits) as Readable<'a, A>>::read(
+            bytes, alloc,
+        )?;
+        let table = TableType {
+            element_type,
+            table64: limits.table64,
+            minimum: limits.minimum,
+            maximum: limits.maximum,
+            shared: limits.shared,
+        };
+        Ok((table, rest))
+    }
+}
+
+/// What stands before a table with a first value.
+const BEFORE_INIT: [u8; 2] = [0x40, 0x00];
+
+/// A table: its type, and the expression of its elements' first value where one is given.
+#[derive(Debug)]
+pub struct TableItem<A: Allocator = Global> {
+    pub table_type: TableType,
+    pub init: Option<Expression<A>>,
+}
+
+/// # Defined
+///
+/// ```text
+/// Value = { TableModel }
+/// format = { table_item }
+/// view = { table_view }
+/// ```
+impl<A: Allocator> Spelled for TableItem<A> {
+    fn laws() {}
+}
+
+impl<'a, A: Allocator + Copy> Readable<'a, A> for TableItem<A> {
+    fn read(bytes: &'a [u8], alloc: A) -> Result<(TableItem<A>, &'a [u8]), ReadFault> {
+        let (first, rest) = <u8 as Readable<'a, A>>::read(bytes, alloc)?;
+        if first != 0x40 {
+            let (table_type, rest) = <TableType as Readable<'a, A>>::read(bytes, alloc)?;
+            let init = None;
+            return Ok((TableItem { table_type, init }, rest));
+        }
+        let (second, rest) = <u8 as Readable<'a, A>>::read(rest, alloc)?;
+        if second != 0x00 {
+            return Err(ReadFault::UnknownTag);
+        }
+        let ((table_type, init), rest) = <(TableType, Expression<A>) as Readable<'a, A>>::read(
+            rest, alloc,
+        )?;
+        let init = Some(init);
+        Ok((TableItem { table_type, init }, rest))
+    }
+}
+
+impl<A: Allocator> Shorten for TableItem<A> {
+    fn append_shortest<B: Sink>(&self, out: &mut B) -> R<()> {
+        let Some(init) = &self.init else {
+            return self.table_type.encode(out);
+        };
+        BEFORE_INIT.encode(out)?;
+        self.table_type.encode(out)?;
+        init.append_shortest(out)
+    }
+}
+
+/// # Defined
+///
+/// ```text
+/// Value = { TableModel }
+/// format = { table_item }
+/// ```
+impl<'a, A: Allocator + Copy> Passed<'a, A> for TableItem<A> {
+    fn laws() {}
+
+    fn pass(bytes: &'a [u8], alloc: A) -> Result<&'a [u8], ReadFault> {
+        let (first, rest) = <u8 as Readable<'a, A>>::read(bytes, alloc)?;
+        if first != 0x40 {
+            let (_type, rest) = <TableType as Readable<'a, A>>::read(bytes, alloc)?;
+            return Ok(rest);
+        }
+        let (second, rest) = <u8 as Readable<'a, A>>::read(rest, alloc)?;
+        if second != 0x00 {
+            return Err(ReadFault::UnknownTag);
+        }
+        let rest = <(Dropped<TableType>, Expression<A>) as Passed<'a, A>>::pass(rest, alloc)?;
+        Ok(rest)
     }
 }

@@ -4,7 +4,8 @@
 use crate::vec::Sink;
 use crate::sections::counted_section::{CountedSection, ItemKind, RecordOf};
 use crate::alloc::{Allocator, Global};
-use crate::base::{Encode, Items, R, SectionId};
+use crate::base::{Encode, Kind, R, SectionId};
+use crate::reader::base::{ReadFault, Readable, Spelled};
 
 /// The tags that a module defines.
 ///
@@ -77,7 +78,7 @@ impl Encode for TagType {
 /// Item = { Tag }
 /// kind = { tag_items }
 /// ```
-impl Items for TagItems {
+impl Kind for TagItems {
     fn laws() {}
 }
 
@@ -104,5 +105,51 @@ impl<A: Allocator> TagSection<A> {
     /// ```
     pub fn tag(&mut self, tag_type: TagType) -> R<()> {
         self.add_record(&tag_type)
+    }
+}
+
+/// # Defined
+///
+/// ```text
+/// Value = { Kind }
+/// format = { coded tag_code }
+/// view = { λ kind. kind }
+/// ```
+impl Spelled for TagKind {
+    fn laws() {}
+}
+
+impl<'a, A: Allocator + Copy> Readable<'a, A> for TagKind {
+    fn read(bytes: &'a [u8], alloc: A) -> Result<(TagKind, &'a [u8]), ReadFault> {
+        let (code, rest) = <u8 as Readable<'a, A>>::read(bytes, alloc)?;
+        if code == 0x00 {
+            Ok((TagKind::Exception, rest))
+        } else {
+            Err(ReadFault::UnknownTag)
+        }
+    }
+}
+
+/// # Defined
+///
+/// ```text
+/// Value = { Tag }
+/// format = { tag_type }
+/// view = { λ tag. tag }
+/// ```
+impl Spelled for TagType {
+    fn laws() {}
+}
+
+impl<'a, A: Allocator + Copy> Readable<'a, A> for TagType {
+    fn read(bytes: &'a [u8], alloc: A) -> Result<(TagType, &'a [u8]), ReadFault> {
+        let ((kind, func_type_idx), rest) = <(TagKind, u32) as Readable<'a, A>>::read(
+            bytes, alloc,
+        )?;
+        let tag = TagType {
+            kind,
+            func_type_idx,
+        };
+        Ok((tag, rest))
     }
 }

@@ -47,7 +47,7 @@ fn read_supertypes_and<'a, A: Allocator + Copy>(
 /// # Proved
 ///
 /// ```text
-/// ensures found { IfOk result (λ x. Reads (after_sub tag) wide bytes.now (sub_of x.0) x.1.now) }
+/// ensures found { IfOk result (λ x. Reads (after_sub tag) wide bytes.now (sub_view x.0) x.1.now) }
 /// ensures none { IfErr result (λ e. e ≢ Memory → ReadsNothing (after_sub tag) wide bytes.now) }
 /// ```
 fn read_sub_after<'a, A: Allocator + Copy>(
@@ -94,7 +94,7 @@ fn read_sub_after<'a, A: Allocator + Copy>(
 /// ```text
 /// Value = { Sub }
 /// format = { sub_type }
-/// view = { sub_of }
+/// view = { sub_view }
 /// ```
 impl<A: Allocator> Spelled for SubItem<A> {
     fn laws() {}
@@ -112,7 +112,7 @@ impl<'a, A: Allocator + Copy> Readable<'a, A> for SubItem<A> {
 /// ```text
 /// Value = { Entry }
 /// format = { type_item }
-/// view = { entry_of }
+/// view = { entry_view }
 /// ```
 impl<A: Allocator> Spelled for TypeEntry<A> {
     fn laws() {}
@@ -136,7 +136,7 @@ impl<'a, A: Allocator + Copy> Readable<'a, A> for TypeEntry<A> {
 /// # Defined
 ///
 /// ```text
-/// text = { λ s. sub_text (sub_of s) }
+/// text = { λ s. sub_text (sub_view s) }
 /// fits = { SubItemFits }
 /// ```
 impl<A: Allocator> Encode for SubItem<A> {

@@ -53,7 +53,7 @@ fn read_shape_after<'a, A: Allocator + Copy>(
 /// # Proved
 ///
 /// ```text
-/// ensures found { IfOk result (λ x. Reads (after_descriptor tag) wide bytes.now (described_of x.0) x.1.now) }
+/// ensures found { IfOk result (λ x. Reads (after_descriptor tag) wide bytes.now (described_view x.0) x.1.now) }
 /// ensures none { IfErr result (λ e. e ≢ Memory → ReadsNothing (after_descriptor tag) wide bytes.now) }
 /// ```
 fn read_descriptor_after<'a, A: Allocator + Copy>(
@@ -76,7 +76,7 @@ fn read_descriptor_after<'a, A: Allocator + Copy>(
 /// # Proved
 ///
 /// ```text
-/// ensures found { IfOk result (λ x. Reads (after_describes tag) wide bytes.now (describing_of x.0) x.1.now) }
+/// ensures found { IfOk result (λ x. Reads (after_describes tag) wide bytes.now (describing_view x.0) x.1.now) }
 /// ensures none { IfErr result (λ e. e ≢ Memory → ReadsNothing (after_describes tag) wide bytes.now) }
 /// ```
 fn read_describes_after<'a, A: Allocator + Copy>(

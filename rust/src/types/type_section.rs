@@ -5,7 +5,7 @@ use crate::vec::{Sink, Vec};
 use crate::types::items::TypeEntry;
 use crate::types::types::{ARRAY, ContType, FUNC, FieldType, FuncType, STRUCT, StorageType, SubType};
 use crate::alloc::{Allocator, Global};
-use crate::base::{Encode, Items, Pieces, R, Section, SectionId, ValType, vec_of};
+use crate::base::{Encode, Kind, Pieces, R, Section, SectionId, ValType, vec_of};
 use crate::reader::base::{ReadFault, read_whole};
 
 /// The types that a module defines, seen as the bytes of each entry.
@@ -38,7 +38,7 @@ pub struct TypeItems;
 /// Item = { Item }
 /// kind = { type_items }
 /// ```
-impl Items for TypeItems {
+impl Kind for TypeItems {
     fn laws() {}
 }
 
@@ -291,7 +291,7 @@ const REC: u8 = 0x4E;
 /// # Proved
 ///
 /// ```text
-/// ensures found { IfOk result (λ x. vec type_item wide bytes.now (map entry_of x.items)) }
+/// ensures found { IfOk result (λ x. vec type_item wide bytes.now (map entry_view x.items)) }
 /// ensures none { IfErr result (λ e. e ≢ Memory → FillsNothing (vec type_item) bytes.now) }
 /// ```
 pub fn read_types<'a, A: Allocator + Copy>(
@@ -306,7 +306,7 @@ pub fn read_types<'a, A: Allocator + Copy>(
 /// # Proved
 ///
 /// ```text
-/// ensures { OnOk result (AppendsShortest (vec type_item) (map entry_of types.now) out.old.items out.new.items) }
+/// ensures { OnOk result (AppendsShortest (vec type_item) (map entry_view types.now) out.old.items out.new.items) }
 /// ```
 pub fn append_types<A: Allocator, B: Sink>(
     types: &[TypeEntry<A>],

@@ -3,11 +3,11 @@
 
 use dolzhytik::vec::Vec;
 use dolzhytik::string::String;
-use crate::checks::{Heap, MOST, check_answer};
+use crate::checks::check_answer;
 use crate::further_entries::{Growing, check_further};
 use crate::refusals::{check_append_to, check_copy, check_encode, check_written};
 use crate::host::Abort;
-use crate::test_support::Refusing;
+use crate::test_support::{Heap, MOST, Refusing};
 use dolzhytik::base::{CowSlice, CowStr, Encode, R};
 use dolzhytik::custom::{BranchHint, CoreDumpInstancesSection, CoreDumpModulesSection, CoreDumpSection, CoreDumpStackSection, CoreDumpValue, CustomSection, DataSymbolDefinition, RawCustomSection};
 

@@ -4,19 +4,8 @@
 use dolzhytik::vec::Vec;
 use dolzhytik::alloc::Global;
 use crate::host::Abort;
-use crate::test_support::Refusing;
+use crate::test_support::{Heap, MOST, Refusing, check_bytes};
 use dolzhytik::base::{Encode, R, Refused};
-
-/// More requests than any call here makes.
-pub(crate) const MOST: u64 = 100;
-
-/// An allocator that refuses, lent.
-pub(crate) type Heap<'a> = &'a Refusing<Global>;
-
-/// The bytes are these.
-pub(crate) fn check_bytes(rt: &impl Abort, bytes: &[u8], expected: &[u8]) {
-    assert_eq!(rt; bytes, expected);
-}
 
 /// The call was refused for want of memory.
 pub(crate) fn check_refused(rt: &impl Abort, refused: Option<Refused>) {

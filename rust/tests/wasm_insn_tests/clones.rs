@@ -2,10 +2,10 @@
 //! A clone takes memory for the lists that an instruction owns, and answers `Memory` where it is refused.
 
 use dolzhytik::vec::Vec;
-use crate::checks::{Heap, check_refused, check_row};
+use crate::checks::{check_refused, check_row};
 use dolzhytik::alloc::Global;
 use crate::host::Abort;
-use crate::test_support::Refusing;
+use crate::test_support::{Heap, Refusing};
 use dolzhytik::base::{CowSlice, R, ValType};
 use dolzhytik::insn::{BlockType, Catch, Handle, Instruction};
 

@@ -3,9 +3,9 @@
 
 use dolzhytik::vec::Vec;
 use dolzhytik::string::String;
-use crate::checks::{Heap, check, check_refused};
+use crate::checks::{check, check_refused};
 use crate::host::Abort;
-use crate::test_support::Refusing;
+use crate::test_support::{Heap, Refusing};
 use dolzhytik::base::{CowSlice, CowStr};
 
 /// The slice is 1 and 128.

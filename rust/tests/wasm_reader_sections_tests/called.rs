@@ -2,15 +2,17 @@
 // The worked callers, each called once.
 
 use dolzhytik::vec::Vec;
-use crate::checks::check_bytes;
+use crate::callers::handed::{code_of, encode_listed_exports};
 use crate::callers::instructions::{append_call, append_end, append_sum, block};
 use crate::callers::read_back::{shortened_function, write_function, write_names, written_function, written_names};
 use crate::callers::readings::{load_of_alignment_16, pieces_of_a_constant};
 use crate::examples::{encode_given_import, encode_memories, grow, grow_by_each};
+use crate::test_support::{MOST, Refusing, check_bytes};
+use dolzhytik::base::Encode;
 use dolzhytik::code::Function;
 use dolzhytik::insn::Instruction;
 use dolzhytik::reader::Items;
-use dolzhytik::sections::{EntityType, Import, MemoryType};
+use dolzhytik::sections::{EntityType, Export, ExportKind, Import, MemoryType};
 
 /// The name section of a module `m`, whose first function is `f`, without its id.
 const NAMES: &[u8] = &[
@@ -97,4 +99,57 @@ fn handed_in() {
     let mut sink = Vec::new(rt.alloc());
     encode_memories(&mut sink, &[memory]).expect("accepted");
     check_bytes(&rt, &sink, &[3, 1, 0, 1])
+}
+
+#[test]
+fn listed() {
+    let rt = crate::host::HostRuntime;
+    let alloc = rt.alloc();
+    let mut first = Function::new(alloc, []).expect("accepted");
+    first
+        .instruction(&Instruction::End)
+        .expect("accepted");
+    let second = Function::new(alloc, []).expect("accepted");
+    let code = code_of(alloc, &[first, second]).expect("accepted");
+    let mut bytes = Vec::new(alloc);
+    code.encode(&mut bytes).expect("accepted");
+    check_bytes(&rt, &bytes, &[6, 2, 2, 0, 0x0B, 1, 0]);
+    let mut bytes = Vec::new(alloc);
+    let export = Export {
+        name: "e",
+        kind: ExportKind::Func,
+        index: 3,
+    };
+    encode_listed_exports(&mut bytes, &[export]).expect("accepted");
+    check_bytes(&rt, &bytes, &[5, 1, 1, b'e', 0, 3])
+}
+
+/// Each request for memory is refused in turn.
+#[test]
+fn listed_and_refused() {
+    let rt = crate::host::HostRuntime;
+    let heap = Refusing::new(rt.alloc());
+    let function = Function::new(&heap, []).expect("accepted");
+    let functions = [function];
+    let export = Export {
+        name: "e",
+        kind: ExportKind::Func,
+        index: 3,
+    };
+    for nth in 1..MOST {
+        heap.refuse(nth);
+        let code = code_of(&heap, &functions);
+        let code_granted = heap.is_waiting();
+        assert!(rt; code.is_ok() == code_granted);
+        heap.refuse(nth);
+        let mut bytes = Vec::new(&heap);
+        let listed = encode_listed_exports(&mut bytes, &[export]);
+        let granted = heap.is_waiting();
+        assert!(rt; listed.is_ok() == granted);
+        if code_granted && granted {
+            assert!(rt; nth > 1);
+            return;
+        }
+    }
+    assert!(rt; false, "a request is granted in the end")
 }

@@ -1,11 +1,10 @@
 // Written by tools/to-rust from tests/wasm_reader_sections_tests/src/refusals.rtt: change that.
 // Each request for memory refused in turn: the cause is `Memory`.
 
-use crate::checks::MOST;
 use crate::faults;
 use dolzhytik::alloc::Global;
 use crate::host::Abort;
-use crate::test_support::Refusing;
+use crate::test_support::{MOST, Refusing};
 use dolzhytik::reader::{SectionKind, list_module, read_section};
 use dolzhytik::reader::base::ReadFault;
 

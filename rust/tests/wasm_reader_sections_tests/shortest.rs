@@ -2,13 +2,12 @@
 // Sections that are shortened.
 
 use dolzhytik::vec::Vec;
-use crate::checks::{MOST, check_bytes};
 use crate::rows::before_data;
 use crate::{custom_rows, faults, rows};
 use crate::callers::read_back::padded_function;
 use dolzhytik::alloc::Global;
 use crate::host::Abort;
-use crate::test_support::Refusing;
+use crate::test_support::{MOST, Refusing, check_bytes};
 use dolzhytik::base::R;
 use dolzhytik::reader::{SectionKind, shorten};
 use dolzhytik::reader::base::ReadFault;

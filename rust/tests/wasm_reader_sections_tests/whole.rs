@@ -2,11 +2,10 @@
 // Whole modules: outlines, and shortest texts.
 
 use dolzhytik::vec::Vec;
-use crate::checks::{MOST, check_bytes};
 use crate::callers::read_back::{shortened_twice, smaller_module};
 use dolzhytik::alloc::Global;
 use crate::host::Abort;
-use crate::test_support::Refusing;
+use crate::test_support::{MOST, Refusing, check_bytes};
 use dolzhytik::base::R;
 use dolzhytik::reader::{ModuleFault, Offsets, Outlined, ReadFault, outline, shorten_module};
 

@@ -4,6 +4,7 @@
 use dolzhytik::vec::Vec;
 use dolzhytik::alloc::Global;
 use crate::host::Abort;
+use crate::test_support::check_bytes;
 use dolzhytik::base::Encode;
 use dolzhytik::reader::base::{ReadFault, Readable};
 
@@ -51,11 +52,6 @@ pub(crate) fn check_read<'a, T: Readable<'a, Global> + Copy + PartialEq>(
     let (value, rest) = T::read(bytes, alloc).expect("accepted");
     assert!(rt; value == expected);
     check_left(rt, rest, left);
-}
-
-/// The bytes are these.
-pub(crate) fn check_bytes(rt: &impl Abort, given: &[u8], expected: &[u8]) {
-    assert_eq!(rt; given, expected);
 }
 
 /// The value of the type `T` that is read has this text, of fewest bytes, and so many bytes follow it.

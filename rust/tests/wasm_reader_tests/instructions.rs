@@ -268,8 +268,9 @@ fn codes() {
 #[test]
 fn bodies_without_their_sizes() {
     let rt = crate::host::HostRuntime;
-    let body = read_body(&[1, 2, 0x7F, 0x20, 0x81, 0x00, 0x1A, 0x0B], rt.alloc())
-        .expect("accepted");
+    let body = read_body(&[1, 2, 0x7F, 0x20, 0x81, 0x00, 0x1A, 0x0B], rt.alloc()).expect(
+        "accepted",
+    );
     check_len(&rt, body.runs.len(), 1);
     check_len(&rt, body.code.len(), 3);
     check_first(&rt, &body.code, Op::Byte(0x20), ("u32", 1));

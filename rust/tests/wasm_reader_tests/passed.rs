@@ -2,15 +2,11 @@
 // Values that are gone over and not kept: each request for memory is refused, so that none is made.
 
 use crate::checks::{check_cause, check_left};
-use dolzhytik::alloc::Global;
 use crate::host::Abort;
-use crate::test_support::Refusing;
+use crate::test_support::{Heap, Refusing};
 use dolzhytik::base::ValType;
 use dolzhytik::reader::base::{Dropped, Passed, ReadFault, pass_many};
 use dolzhytik::reader::insn::{Body, Expression};
-
-/// Where the memory of a test comes from.
-type Heap<'a> = &'a Refusing<Global>;
 
 /// A value of the kind stands there, and so many bytes are after it.
 fn check<'a, P: Passed<'a, Heap<'a>>>(

@@ -5,13 +5,10 @@ use dolzhytik::vec::Vec;
 use crate::checks::check_cause;
 use dolzhytik::alloc::Global;
 use crate::host::Abort;
-use crate::test_support::Refusing;
+use crate::test_support::{MOST, Refusing};
 use dolzhytik::insn::Op;
 use dolzhytik::reader::base::{Framed, ReadFault, Readable};
 use dolzhytik::reader::insn::{Body, Expression, Instructions, Plain, Step};
-
-/// More requests than any call here makes.
-const MOST: u64 = 100;
 
 /// Nothing was refused.
 fn check_read(rt: &impl Abort, given: Option<ReadFault>) {

@@ -4,28 +4,12 @@
 use dolzhytik::vec::Vec;
 use dolzhytik::alloc::Global;
 use crate::host::Abort;
-use crate::test_support::Refusing;
+use crate::test_support::{Heap, check_bytes};
 use dolzhytik::base::{Encode, R, Refused};
-
-/// More requests than any call here makes, and more reads and writes.
-pub(crate) const MOST: u64 = 100;
-
-/// An allocator that refuses, lent.
-pub(crate) type Heap<'a> = &'a Refusing<Global>;
-
-/// It is so.
-pub(crate) fn check_that(rt: &impl Abort, holds: bool) {
-    assert!(rt; holds);
-}
 
 /// The number is this.
 pub(crate) fn check_number(rt: &impl Abort, number: usize, expected: usize) {
     assert_eq!(rt; number, expected);
-}
-
-/// The bytes are these.
-pub(crate) fn check_bytes(rt: &impl Abort, bytes: &[u8], expected: &[u8]) {
-    assert_eq!(rt; bytes, expected);
 }
 
 /// The entry is of these bytes.

@@ -1,25 +1,7 @@
 // Written by tools/to-rust from tests/wasm_tool_tests/src/checks.rtt: change that.
 // What tests compare, over plain data: an assertion beside values that own memory takes far longer to prove.
 
-use dolzhytik::alloc::Global;
 use crate::host::Abort;
-use crate::test_support::Refusing;
-
-/// More requests than any call here makes, and more reads and writes.
-pub(crate) const MOST: u64 = 100;
-
-/// An allocator that refuses, lent.
-pub(crate) type Heap<'a> = &'a Refusing<Global>;
-
-/// It is so.
-pub(crate) fn check_that(rt: &impl Abort, holds: bool) {
-    assert!(rt; holds);
-}
-
-/// The bytes are these.
-pub(crate) fn check_bytes(rt: &impl Abort, bytes: &[u8], expected: &[u8]) {
-    assert_eq!(rt; bytes, expected);
-}
 
 /// What the program answered and wrote.
 pub(crate) fn check_run(

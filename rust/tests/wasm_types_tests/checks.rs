@@ -4,25 +4,9 @@
 use dolzhytik::vec::Vec;
 use dolzhytik::alloc::Global;
 use crate::host::Abort;
-use crate::test_support::Refusing;
+use crate::test_support::{Heap, check_bytes};
 use dolzhytik::base::{Encode, R, Refused, Section};
 use dolzhytik::types::TypeSection;
-
-/// More requests than any call here makes.
-pub(crate) const MOST: u64 = 100;
-
-/// An allocator that refuses, lent.
-pub(crate) type Heap<'a> = &'a Refusing<Global>;
-
-/// It is so.
-pub(crate) fn check_that(rt: &impl Abort, holds: bool) {
-    assert!(rt; holds);
-}
-
-/// The bytes are these.
-pub(crate) fn check_bytes(rt: &impl Abort, bytes: &[u8], expected: &[u8]) {
-    assert_eq!(rt; bytes, expected);
-}
 
 /// There are so many entries.
 pub(crate) fn check_len(rt: &impl Abort, len: u32, is_empty: bool, expected: u32) {

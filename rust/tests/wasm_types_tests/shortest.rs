@@ -2,15 +2,11 @@
 // Types that are read and written again, each request for memory refused in turn.
 
 use dolzhytik::vec::Vec;
-use dolzhytik::alloc::Global;
 use crate::host::Abort;
-use crate::test_support::Refusing;
+use crate::test_support::{Heap, MOST, Refusing};
 use dolzhytik::base::Refused;
 use dolzhytik::reader::base::ReadFault;
 use dolzhytik::types::{TypeEntry, append_types, read_types};
-
-/// More requests than any call here makes.
-const MOST: u64 = 100;
 
 /// Bytes, and the shortest text of the types that stand there.
 type Row = (&'static [u8], &'static [u8]);
@@ -44,9 +40,6 @@ static ROWS: [Row; 7] = [
         &[1, 0x4E, 2, 0x60, 1, 0x7F, 0, 0x50, 0, 0x5F, 0],
     ),
 ];
-
-/// An allocator that refuses, lent.
-type Heap<'a> = &'a Refusing<Global>;
 
 /// The call was granted, or refused for want of memory.
 fn check_read(rt: &impl Abort, fault: Option<ReadFault>, granted: bool) {

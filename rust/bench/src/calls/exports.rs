@@ -2,7 +2,7 @@
 // The export section.
 
 use crate::calls::answers::{Fault, answer, number};
-use crate::calls::kinds::kind_of;
+use crate::calls::kinds::export_kind_of;
 use crate::calls::names::Names;
 use dolzhytik::alloc::Global;
 use dolzhytik::sections::ExportSection;
@@ -28,7 +28,7 @@ fn build(
     let mut section = ExportSection::new(alloc);
     for i in 0..lens.len() {
         let name = rest.next(lens[i])?;
-        section.export(name, kind_of(kinds[i])?, indices[i])?;
+        section.export(name, export_kind_of(kinds[i])?, indices[i])?;
     }
     if rest.is_empty() {
         Ok(section)

@@ -2,7 +2,7 @@
 // The import section.
 
 use crate::calls::answers::{Fault, answer, number};
-use crate::calls::kinds::kind_of;
+use crate::calls::kinds::export_kind_of;
 use crate::calls::names::Names;
 use dolzhytik::alloc::Global;
 use dolzhytik::base::{RefType, ValType};
@@ -77,7 +77,7 @@ fn build(
         let [module_len, name_len] = pairs[i];
         let module = rest.next(module_len)?;
         let name = rest.next(name_len)?;
-        let kind = kind_of(kinds[i])?;
+        let kind = export_kind_of(kinds[i])?;
         section.import(module, name, entity(kind, indices[i]))?;
     }
     if rest.is_empty() {

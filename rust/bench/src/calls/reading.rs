@@ -12,7 +12,7 @@ use dolzhytik::reader::insn::{Body, Instructions};
 /// # Proved
 ///
 /// ```text
-/// ensures { MatchOption result ⊤ (λ n. n ≡ instructions_in (map body_of bodies.now)) }
+/// ensures { MatchOption result ⊤ (λ n. n ≡ instructions_in (map body_view bodies.now)) }
 /// ```
 fn instructions(bodies: &[Body]) -> Option<u64> {
     let mut count: u64 = 0;

@@ -18,7 +18,7 @@ const NO_KIND: u32 = 9;
 /// ```text
 /// ensures { result ≡ kind_numbered number }
 /// ```
-fn kind_of(number: u32) -> Option<SectionKind> {
+fn section_kind_of(number: u32) -> Option<SectionKind> {
     match number {
         0 => Some(SectionKind::Bodies),
         1 => Some(SectionKind::Segments),
@@ -65,7 +65,7 @@ pub fn dz_shorten(
 ) -> u64 {
     *taken = 0;
     *cause = 0;
-    let Some(kind) = kind_of(kind) else {
+    let Some(kind) = section_kind_of(kind) else {
         *cause = NO_KIND;
         return NO_ANSWER;
     };

@@ -2,7 +2,7 @@
 // What follows opcodes: orderings, memory arguments, block types, and clauses that catch and handle.
 
 use crate::reader::base::fault::ReadFault;
-use crate::reader::base::numbers::read_index;
+use crate::reader::base::leb128::read_index;
 use crate::reader::base::optional::read_optional;
 use crate::reader::base::readable::{Readable, Spelled};
 use crate::reader::base::types::read_val_after;

@@ -3,7 +3,7 @@
 
 use crate::vec::Sink;
 use crate::reader::base::fault::ReadFault;
-use crate::reader::base::numbers::read_index;
+use crate::reader::base::leb128::read_index;
 use crate::reader::base::readable::{Readable, Spelled};
 use crate::reader::base::shorten::Shorten;
 use crate::alloc::Allocator;

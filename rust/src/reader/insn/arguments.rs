@@ -41,7 +41,7 @@ pub enum Arg<A: Allocator = Global> {
 /// # Proved
 ///
 /// ```text
-/// ensures found { IfOk result (λ x. Reads (part parts.Unsigned) wide bytes.now (argument_of x.0) x.1.now) }
+/// ensures found { IfOk result (λ x. Reads (part parts.Unsigned) wide bytes.now (argument_view x.0) x.1.now) }
 /// ensures none { IfErr result (λ e. e ≢ Memory → ReadsNothing (part parts.Unsigned) wide bytes.now) }
 /// ```
 #[inline(always)]
@@ -58,7 +58,7 @@ pub(in crate::reader::insn) fn read_unsigned<'a, A: Allocator + Copy>(
 /// # Proved
 ///
 /// ```text
-/// ensures found { IfOk result (λ x. Reads (part parts.Signed32) wide bytes.now (argument_of x.0) x.1.now) }
+/// ensures found { IfOk result (λ x. Reads (part parts.Signed32) wide bytes.now (argument_view x.0) x.1.now) }
 /// ensures none { IfErr result (λ e. e ≢ Memory → ReadsNothing (part parts.Signed32) wide bytes.now) }
 /// ```
 #[inline(always)]
@@ -75,7 +75,7 @@ pub(in crate::reader::insn) fn read_signed32<'a, A: Allocator + Copy>(
 /// # Proved
 ///
 /// ```text
-/// ensures found { IfOk result (λ x. Reads (part parts.Signed64) wide bytes.now (argument_of x.0) x.1.now) }
+/// ensures found { IfOk result (λ x. Reads (part parts.Signed64) wide bytes.now (argument_view x.0) x.1.now) }
 /// ensures none { IfErr result (λ e. e ≢ Memory → ReadsNothing (part parts.Signed64) wide bytes.now) }
 /// ```
 #[inline(always)]
@@ -92,7 +92,7 @@ pub(in crate::reader::insn) fn read_signed64<'a, A: Allocator + Copy>(
 /// # Proved
 ///
 /// ```text
-/// ensures found { IfOk result (λ x. Reads (part parts.Float32) wide bytes.now (argument_of x.0) x.1.now) }
+/// ensures found { IfOk result (λ x. Reads (part parts.Float32) wide bytes.now (argument_view x.0) x.1.now) }
 /// ensures none { IfErr result (λ e. e ≢ Memory → ReadsNothing (part parts.Float32) wide bytes.now) }
 /// ```
 #[inline(never)]
@@ -109,7 +109,7 @@ fn read_float32<'a, A: Allocator + Copy>(
 /// # Proved
 ///
 /// ```text
-/// ensures found { IfOk result (λ x. Reads (part parts.Float64) wide bytes.now (argument_of x.0) x.1.now) }
+/// ensures found { IfOk result (λ x. Reads (part parts.Float64) wide bytes.now (argument_view x.0) x.1.now) }
 /// ensures none { IfErr result (λ e. e ≢ Memory → ReadsNothing (part parts.Float64) wide bytes.now) }
 /// ```
 #[inline(never)]
@@ -126,7 +126,7 @@ fn read_float64<'a, A: Allocator + Copy>(
 /// # Proved
 ///
 /// ```text
-/// ensures found { IfOk result (λ x. Reads (part parts.Vector) wide bytes.now (argument_of x.0) x.1.now) }
+/// ensures found { IfOk result (λ x. Reads (part parts.Vector) wide bytes.now (argument_view x.0) x.1.now) }
 /// ensures none { IfErr result (λ e. e ≢ Memory → ReadsNothing (part parts.Vector) wide bytes.now) }
 /// ```
 #[inline(never)]
@@ -143,7 +143,7 @@ fn read_vector<'a, A: Allocator + Copy>(
 /// # Proved
 ///
 /// ```text
-/// ensures found { IfOk result (λ x. Reads (part parts.Memory) wide bytes.now (argument_of x.0) x.1.now) }
+/// ensures found { IfOk result (λ x. Reads (part parts.Memory) wide bytes.now (argument_view x.0) x.1.now) }
 /// ensures none { IfErr result (λ e. e ≢ Memory → ReadsNothing (part parts.Memory) wide bytes.now) }
 /// ```
 #[inline(always)]
@@ -160,7 +160,7 @@ pub(in crate::reader::insn) fn read_memory<'a, A: Allocator + Copy>(
 /// # Proved
 ///
 /// ```text
-/// ensures found { IfOk result (λ x. Reads (part parts.Lane) wide bytes.now (argument_of x.0) x.1.now) }
+/// ensures found { IfOk result (λ x. Reads (part parts.Lane) wide bytes.now (argument_view x.0) x.1.now) }
 /// ensures none { IfErr result (λ e. e ≢ Memory → ReadsNothing (part parts.Lane) wide bytes.now) }
 /// ```
 fn read_lane<'a, A: Allocator + Copy>(
@@ -176,7 +176,7 @@ fn read_lane<'a, A: Allocator + Copy>(
 /// # Proved
 ///
 /// ```text
-/// ensures found { IfOk result (λ x. Reads (part parts.Lanes) wide bytes.now (argument_of x.0) x.1.now) }
+/// ensures found { IfOk result (λ x. Reads (part parts.Lanes) wide bytes.now (argument_view x.0) x.1.now) }
 /// ensures none { IfErr result (λ e. e ≢ Memory → ReadsNothing (part parts.Lanes) wide bytes.now) }
 /// ```
 #[inline(never)]
@@ -193,7 +193,7 @@ fn read_lanes<'a, A: Allocator + Copy>(
 /// # Proved
 ///
 /// ```text
-/// ensures found { IfOk result (λ x. Reads (part parts.Block) wide bytes.now (argument_of x.0) x.1.now) }
+/// ensures found { IfOk result (λ x. Reads (part parts.Block) wide bytes.now (argument_view x.0) x.1.now) }
 /// ensures none { IfErr result (λ e. e ≢ Memory → ReadsNothing (part parts.Block) wide bytes.now) }
 /// ```
 #[inline(always)]
@@ -210,7 +210,7 @@ pub(in crate::reader::insn) fn read_block<'a, A: Allocator + Copy>(
 /// # Proved
 ///
 /// ```text
-/// ensures found { IfOk result (λ x. Reads (part parts.Heap) wide bytes.now (argument_of x.0) x.1.now) }
+/// ensures found { IfOk result (λ x. Reads (part parts.Heap) wide bytes.now (argument_view x.0) x.1.now) }
 /// ensures none { IfErr result (λ e. e ≢ Memory → ReadsNothing (part parts.Heap) wide bytes.now) }
 /// ```
 #[inline(never)]
@@ -227,7 +227,7 @@ fn read_heap<'a, A: Allocator + Copy>(
 /// # Proved
 ///
 /// ```text
-/// ensures found { IfOk result (λ x. Reads (part parts.Ordering) wide bytes.now (argument_of x.0) x.1.now) }
+/// ensures found { IfOk result (λ x. Reads (part parts.Ordering) wide bytes.now (argument_view x.0) x.1.now) }
 /// ensures none { IfErr result (λ e. e ≢ Memory → ReadsNothing (part parts.Ordering) wide bytes.now) }
 /// ```
 #[inline(never)]
@@ -244,7 +244,7 @@ fn read_ordering<'a, A: Allocator + Copy>(
 /// # Proved
 ///
 /// ```text
-/// ensures found { IfOk result (λ x. Reads (part parts.Labels) wide bytes.now (argument_of x.0) x.1.now) }
+/// ensures found { IfOk result (λ x. Reads (part parts.Labels) wide bytes.now (argument_view x.0) x.1.now) }
 /// ensures none { IfErr result (λ e. e ≢ Memory → ReadsNothing (part parts.Labels) wide bytes.now) }
 /// ```
 #[inline(never)]
@@ -261,7 +261,7 @@ fn read_labels<'a, A: Allocator + Copy>(
 /// # Proved
 ///
 /// ```text
-/// ensures found { IfOk result (λ x. Reads (part parts.Catches) wide bytes.now (argument_of x.0) x.1.now) }
+/// ensures found { IfOk result (λ x. Reads (part parts.Catches) wide bytes.now (argument_view x.0) x.1.now) }
 /// ensures none { IfErr result (λ e. e ≢ Memory → ReadsNothing (part parts.Catches) wide bytes.now) }
 /// ```
 #[inline(never)]
@@ -278,7 +278,7 @@ fn read_catches<'a, A: Allocator + Copy>(
 /// # Proved
 ///
 /// ```text
-/// ensures found { IfOk result (λ x. Reads (part parts.Types) wide bytes.now (argument_of x.0) x.1.now) }
+/// ensures found { IfOk result (λ x. Reads (part parts.Types) wide bytes.now (argument_view x.0) x.1.now) }
 /// ensures none { IfErr result (λ e. e ≢ Memory → ReadsNothing (part parts.Types) wide bytes.now) }
 /// ```
 #[inline(never)]
@@ -295,7 +295,7 @@ fn read_types<'a, A: Allocator + Copy>(
 /// # Proved
 ///
 /// ```text
-/// ensures found { IfOk result (λ x. Reads (part parts.Handles) wide bytes.now (argument_of x.0) x.1.now) }
+/// ensures found { IfOk result (λ x. Reads (part parts.Handles) wide bytes.now (argument_view x.0) x.1.now) }
 /// ensures none { IfErr result (λ e. e ≢ Memory → ReadsNothing (part parts.Handles) wide bytes.now) }
 /// ```
 #[inline(never)]
@@ -312,7 +312,7 @@ fn read_handles<'a, A: Allocator + Copy>(
 /// # Proved
 ///
 /// ```text
-/// ensures found { IfOk result (λ x. Reads (part parts.Flag) wide bytes.now (argument_of x.0) x.1.now) }
+/// ensures found { IfOk result (λ x. Reads (part parts.Flag) wide bytes.now (argument_view x.0) x.1.now) }
 /// ensures none { IfErr result (λ e. e ≢ Memory → ReadsNothing (part parts.Flag) wide bytes.now) }
 /// ```
 fn read_flag<'a, A: Allocator + Copy>(
@@ -332,7 +332,7 @@ fn read_flag<'a, A: Allocator + Copy>(
 /// # Proved
 ///
 /// ```text
-/// ensures found { IfOk result (λ x. Reads (part wanted) wide bytes.now (argument_of x.0) x.1.now) }
+/// ensures found { IfOk result (λ x. Reads (part wanted) wide bytes.now (argument_view x.0) x.1.now) }
 /// ensures none { IfErr result (λ e. e ≢ Memory → ReadsNothing (part wanted) wide bytes.now) }
 /// ```
 pub(in crate::reader::insn) fn read_part<'a, A: Allocator + Copy>(
@@ -372,7 +372,7 @@ pub(in crate::reader::insn) fn read_part<'a, A: Allocator + Copy>(
 /// # Proved
 ///
 /// ```text
-/// ensures found { IfOk result (λ rest. Reads (arguments wanted.now) wide bytes.now (map argument_of args.new.items) rest.now) }
+/// ensures found { IfOk result (λ rest. Reads (arguments wanted.now) wide bytes.now (map argument_view args.new.items) rest.now) }
 /// ensures none { IfErr result (λ e. e ≢ Memory → ReadsNothing (arguments wanted.now) wide bytes.now) }
 /// ```
 fn read_parts<'a, A: Allocator + Copy>(
@@ -395,7 +395,7 @@ fn read_parts<'a, A: Allocator + Copy>(
 /// # Proved
 ///
 /// ```text
-/// ensures found { IfOk result (λ x. Reads (arguments (parts_of shape)) wide bytes.now (map argument_of x.0.items) x.1.now) }
+/// ensures found { IfOk result (λ x. Reads (arguments (parts_of shape)) wide bytes.now (map argument_view x.0.items) x.1.now) }
 /// ensures none { IfErr result (λ e. e ≢ Memory → ReadsNothing (arguments (parts_of shape)) wide bytes.now) }
 /// ```
 #[inline(never)]
@@ -434,7 +434,7 @@ fn list_one<'a, A: Allocator + Copy>(
 /// # Proved
 ///
 /// ```text
-/// ensures found { IfOk result (λ x. Reads (arguments (parts_of shape)) wide bytes.now (map argument_of x.0.items) x.1.now) }
+/// ensures found { IfOk result (λ x. Reads (arguments (parts_of shape)) wide bytes.now (map argument_view x.0.items) x.1.now) }
 /// ensures none { IfErr result (λ e. e ≢ Memory → ReadsNothing (arguments (parts_of shape)) wide bytes.now) }
 /// ```
 #[inline]
@@ -459,7 +459,7 @@ pub(in crate::reader::insn) fn read_arguments<'a, A: Allocator + Copy>(
 /// # Proved
 ///
 /// ```text
-/// ensures found { IfOk result (λ rest. Reads (arguments (parts_of shape)) wide bytes.now (map argument_of args.new.items) rest.now) }
+/// ensures found { IfOk result (λ rest. Reads (arguments (parts_of shape)) wide bytes.now (map argument_view args.new.items) rest.now) }
 /// ensures none { IfErr result (λ e. e ≢ Memory → ReadsNothing (arguments (parts_of shape)) wide bytes.now) }
 /// ```
 #[inline(never)]
@@ -501,7 +501,7 @@ fn keep_one<'a, A: Allocator + Copy>(
 /// # Proved
 ///
 /// ```text
-/// ensures found { IfOk result (λ rest. Reads (arguments (parts_of shape)) wide bytes.now (map argument_of args.new.items) rest.now) }
+/// ensures found { IfOk result (λ rest. Reads (arguments (parts_of shape)) wide bytes.now (map argument_view args.new.items) rest.now) }
 /// ensures none { IfErr result (λ e. e ≢ Memory → ReadsNothing (arguments (parts_of shape)) wide bytes.now) }
 /// ```
 #[inline]
@@ -530,7 +530,7 @@ pub(in crate::reader::insn) fn read_arguments_into<'a, A: Allocator + Copy>(
 /// # Proved
 ///
 /// ```text
-/// ensures { OnOk result (out.new.items ≡ out.old.items ++ argument_text (argument_of arg.now)) }
+/// ensures { OnOk result (out.new.items ≡ out.old.items ++ argument_text (argument_view arg.now)) }
 /// ```
 fn append_argument<A: Allocator, B: Sink>(arg: &Arg<A>, out: &mut B) -> R<()> {
     match arg {
@@ -559,7 +559,7 @@ fn append_argument<A: Allocator, B: Sink>(arg: &Arg<A>, out: &mut B) -> R<()> {
 /// # Proved
 ///
 /// ```text
-/// ensures { OnOk result (out.new.items ≡ out.old.items ++ flat_map (λ a. argument_text (argument_of a)) args.now) }
+/// ensures { OnOk result (out.new.items ≡ out.old.items ++ flat_map (λ a. argument_text (argument_view a)) args.now) }
 /// ```
 pub(in crate::reader::insn) fn append_arguments<A: Allocator, B: Sink>(
     args: &[Arg<A>],

@@ -16,7 +16,7 @@ const BYTES_OF_ONE: usize = 4;
 /// # Proved
 ///
 /// ```text
-/// ensures found { IfOk result (λ x. members (instruction table) wide bytes.now (map plain_of x.items)) }
+/// ensures found { IfOk result (λ x. members (instruction table) wide bytes.now (map plain_view x.items)) }
 /// ensures none { IfErr result (λ e. e ≢ Memory → FillsNothing (members (instruction table)) bytes.now) }
 /// ```
 pub fn read_code<'a, A: Allocator + Copy>(
@@ -40,7 +40,7 @@ pub fn read_code<'a, A: Allocator + Copy>(
 /// # Proved
 ///
 /// ```text
-/// ensures { OnOk result (AppendsShortest (members (instruction table)) (map plain_of code.now) out.old.items out.new.items) }
+/// ensures { OnOk result (AppendsShortest (members (instruction table)) (map plain_view code.now) out.old.items out.new.items) }
 /// ```
 pub(in crate::reader::insn) fn append_code<A: Allocator, B: Sink>(
     code: &[Plain<A>],
@@ -64,7 +64,7 @@ pub struct Body<A: Allocator = Global> {
 /// # Proved
 ///
 /// ```text
-/// ensures found { IfOk result (λ x. body wide bytes.now (body_of x)) }
+/// ensures found { IfOk result (λ x. body wide bytes.now (body_view x)) }
 /// ensures none { IfErr result (λ e. e ≢ Memory → FillsNothing body bytes.now) }
 /// ```
 pub fn read_body<'a, A: Allocator + Copy>(bytes: &'a [u8], alloc: A) -> Result<Body<A>, ReadFault> {
@@ -80,7 +80,7 @@ pub fn read_body<'a, A: Allocator + Copy>(bytes: &'a [u8], alloc: A) -> Result<B
 /// ```text
 /// Value = { BodyModel }
 /// format = { frame body }
-/// view = { body_of }
+/// view = { body_view }
 /// ```
 impl<A: Allocator> Spelled for Body<A> {
     fn laws() {}

@@ -20,7 +20,7 @@ pub struct Expression<A: Allocator = Global>(pub Vec<Plain<A>, A>);
 /// ```text
 /// Value = { List PlainInstruction }
 /// format = { expression }
-/// view = { λ e. map plain_of e.0.items }
+/// view = { λ e. map plain_view e.0.items }
 /// ```
 impl<A: Allocator> Spelled for Expression<A> {
     fn laws() {}

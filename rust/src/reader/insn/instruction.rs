@@ -44,7 +44,7 @@ pub(in crate::reader::insn) fn read_op<'a, A: Allocator + Copy>(
 /// ```text
 /// Value = { PlainInstruction }
 /// format = { instruction table }
-/// view = { plain_of }
+/// view = { plain_view }
 /// ```
 impl<A: Allocator> Spelled for Plain<A> {
     fn laws() {}
@@ -67,7 +67,7 @@ impl<'a, A: Allocator + Copy> Readable<'a, A> for Plain<A> {
 /// # Proved
 ///
 /// ```text
-/// ensures found { IfOk result (λ x. Reads (instruction table) wide bytes.now (record { op = x.0; arguments = map argument_of args.new.items }) x.1.now) }
+/// ensures found { IfOk result (λ x. Reads (instruction table) wide bytes.now (record { op = x.0; arguments = map argument_view args.new.items }) x.1.now) }
 /// ensures none { IfErr result (λ e. e ≢ Memory → ReadsNothing (instruction table) wide bytes.now) }
 /// ```
 pub(in crate::reader::insn) fn read_instruction_into<'a, A: Allocator + Copy>(
@@ -88,7 +88,7 @@ pub(in crate::reader::insn) fn read_instruction_into<'a, A: Allocator + Copy>(
 /// # Proved
 ///
 /// ```text
-/// ensures { OnOk result (AppendsShortest (instruction table) (record { op = op; arguments = map argument_of args.now }) out.old.items out.new.items) }
+/// ensures { OnOk result (AppendsShortest (instruction table) (record { op = op; arguments = map argument_view args.now }) out.old.items out.new.items) }
 /// ```
 pub(in crate::reader::insn) fn append_instruction<A: Allocator, B: Sink>(
     op: Op,

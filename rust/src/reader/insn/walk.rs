@@ -144,7 +144,7 @@ impl<'a, A: Allocator + Copy> Instructions<'a, A> {
     /// # Proved
     ///
     /// ```text
-    /// ensures { map argument_of result.now ≡ self.now.arguments }
+    /// ensures { map argument_view result.now ≡ self.now.arguments }
     /// ```
     pub fn args(&self) -> &[Arg<A>] {
         &self.args

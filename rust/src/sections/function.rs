@@ -1,10 +1,10 @@
-// Written by tools/to-rust from crates/wasm_sections/src/functions.rt: change that.
+// Written by tools/to-rust from crates/wasm_sections/src/function.rt: change that.
 // The function section.
 
 use crate::vec::Sink;
 use crate::sections::counted_section::{CountedSection, ItemKind, RecordOf};
 use crate::alloc::{Allocator, Global};
-use crate::base::{Encode, Items, R, SectionId};
+use crate::base::{Encode, Kind, R, SectionId};
 
 /// The types of the functions that a module defines, in the order of their bodies.
 ///
@@ -33,7 +33,7 @@ pub struct FunctionItems;
 /// Item = { ℕ }
 /// kind = { function_items }
 /// ```
-impl Items for FunctionItems {
+impl Kind for FunctionItems {
     fn laws() {}
 }
 

@@ -1,4 +1,4 @@
-// Written by tools/to-rust from crates/wasm_sections/src/numbers.rt: change that.
+// Written by tools/to-rust from crates/wasm_sections/src/start.rt: change that.
 // Sections of one number.
 
 use crate::vec::Sink;

@@ -1,18 +1,18 @@
-// Written by tools/to-rust from crates/wasm_reader/src/elements.rt: change that.
-// Element segments.
+// Written by tools/to-rust from crates/wasm_sections/src/element_items.rt: change that.
+// Element segments that were read.
 
 use crate::vec::{Sink, Vec};
 use crate::alloc::{Allocator, Global};
 use crate::base::{Encode, R, RefType};
-use crate::reader::base::{ReadFault, Readable, Shorten};
+use crate::reader::base::{Dropped, Passed, ReadFault, Readable, Shorten, Spelled, pass_many};
 use crate::reader::insn::Expression;
 
 /// What the flag of an element segment says.
 #[derive(Clone, Copy, Debug)]
-pub(in crate::reader) struct ElementFlag {
-    pub(in crate::reader) not_active: bool,
-    pub(in crate::reader) second: bool,
-    pub(in crate::reader) expressions: bool,
+struct ElementFlag {
+    not_active: bool,
+    second: bool,
+    expressions: bool,
 }
 
 impl ElementFlag {
@@ -21,7 +21,7 @@ impl ElementFlag {
     /// # Proved
     ///
     /// ```text
-    /// ensures { result ≡ flag_code (element_flag_of self) }
+    /// ensures { result ≡ flag_code (element_flag_view self) }
     /// ```
     fn code(self) -> u32 {
         let not_active = if self.not_active { 1 } else { 0 };
@@ -35,9 +35,9 @@ impl ElementFlag {
     /// # Proved
     ///
     /// ```text
-    /// ensures { result ≡ tells_kind (element_flag_of self) }
+    /// ensures { result ≡ tells_kind (element_flag_view self) }
     /// ```
-    pub(in crate::reader) fn tells_kind(self) -> bool {
+    fn tells_kind(self) -> bool {
         self.not_active || self.second
     }
 }
@@ -47,9 +47,12 @@ impl ElementFlag {
 /// ```text
 /// Value = { FlagModel }
 /// format = { numbered flag_code }
-/// view = { element_flag_of }
-/// alone = { element_flag_unique }
+/// view = { element_flag_view }
 /// ```
+impl Spelled for ElementFlag {
+    fn laws() {}
+}
+
 impl<'a, A: Allocator + Copy> Readable<'a, A> for ElementFlag {
     fn read(bytes: &'a [u8], alloc: A) -> Result<(ElementFlag, &'a [u8]), ReadFault> {
         let (number, rest) = <u32 as Readable<'a, A>>::read(bytes, alloc)?;
@@ -102,8 +105,8 @@ pub struct ElementItem<A: Allocator = Global> {
 /// # Proved
 ///
 /// ```text
-/// ensures found { IfOk result (λ x. Reads (place (element_flag_of flag)) wide bytes.now (place_of x.0) x.1.now) }
-/// ensures none { IfErr result (λ e. e ≢ Memory → ReadsNothing (place (element_flag_of flag)) wide bytes.now) }
+/// ensures found { IfOk result (λ x. Reads (place (element_flag_view flag)) wide bytes.now (place_view x.0) x.1.now) }
+/// ensures none { IfErr result (λ e. e ≢ Memory → ReadsNothing (place (element_flag_view flag)) wide bytes.now) }
 /// ```
 fn read_mode<'a, A: Allocator + Copy>(
     flag: ElementFlag,
@@ -133,7 +136,7 @@ fn read_mode<'a, A: Allocator + Copy>(
 /// # Proved
 ///
 /// ```text
-/// ensures found { IfOk result (λ x. Reads (elements_as told false) wide bytes.now (list_of x.0) x.1.now) }
+/// ensures found { IfOk result (λ x. Reads (elements_as told false) wide bytes.now (list_view x.0) x.1.now) }
 /// ensures none { IfErr result (λ e. e ≢ Memory → ReadsNothing (elements_as told false) wide bytes.now) }
 /// ```
 fn read_functions<'a, A: Allocator + Copy>(
@@ -158,7 +161,7 @@ fn read_functions<'a, A: Allocator + Copy>(
 /// # Proved
 ///
 /// ```text
-/// ensures found { IfOk result (λ x. Reads (elements_as told true) wide bytes.now (list_of x.0) x.1.now) }
+/// ensures found { IfOk result (λ x. Reads (elements_as told true) wide bytes.now (list_view x.0) x.1.now) }
 /// ensures none { IfErr result (λ e. e ≢ Memory → ReadsNothing (elements_as told true) wide bytes.now) }
 /// ```
 fn read_expressions<'a, A: Allocator + Copy>(
@@ -184,7 +187,7 @@ fn read_expressions<'a, A: Allocator + Copy>(
 /// # Proved
 ///
 /// ```text
-/// ensures found { IfOk result (λ x. Reads (elements_as told of_expressions) wide bytes.now (list_of x.0) x.1.now) }
+/// ensures found { IfOk result (λ x. Reads (elements_as told of_expressions) wide bytes.now (list_view x.0) x.1.now) }
 /// ensures none { IfErr result (λ e. e ≢ Memory → ReadsNothing (elements_as told of_expressions) wide bytes.now) }
 /// ```
 fn read_elements<'a, A: Allocator + Copy>(
@@ -204,11 +207,14 @@ fn read_elements<'a, A: Allocator + Copy>(
 /// # Defined
 ///
 /// ```text
-/// Value = { Segment (List Plain) }
+/// Value = { ElementItem (List Plain) }
 /// format = { element }
-/// view = { element_of }
-/// alone = { element_unique }
+/// view = { element_view }
 /// ```
+impl<A: Allocator> Spelled for ElementItem<A> {
+    fn laws() {}
+}
+
 impl<'a, A: Allocator + Copy> Readable<'a, A> for ElementItem<A> {
     fn read(bytes: &'a [u8], alloc: A) -> Result<(ElementItem<A>, &'a [u8]), ReadFault> {
         let (flag, rest) = <ElementFlag as Readable<'a, A>>::read(bytes, alloc)?;
@@ -242,7 +248,7 @@ fn append_functions<A: Allocator, B: Sink>(
 /// # Proved
 ///
 /// ```text
-/// ensures { OnOk result (AppendsShortest (elements_as told true) (expressions ty (map instructions_of elements.now.items)) out.old.items out.new.items) }
+/// ensures { OnOk result (AppendsShortest (elements_as told true) (expressions ty (map instructions_view elements.now.items)) out.old.items out.new.items) }
 /// ```
 fn append_expressions<A: Allocator, B: Sink>(
     told: bool,
@@ -262,7 +268,7 @@ fn append_expressions<A: Allocator, B: Sink>(
 /// # Proved
 ///
 /// ```text
-/// ensures { OnOk result (AppendsShortest (place (record { not_active = false; second = is_given table; expressions = false })) (active table (instructions_of offset.now)) out.old.items out.new.items) }
+/// ensures { OnOk result (AppendsShortest (place (record { not_active = false; second = is_given table; expressions = false })) (active table (instructions_view offset.now)) out.old.items out.new.items) }
 /// ```
 fn append_active<A: Allocator, B: Sink>(
     table: Option<u32>,
@@ -284,7 +290,7 @@ impl<A: Allocator> ElementItem<A> {
     /// # Proved
     ///
     /// ```text
-    /// ensures { element_flag_of result ≡ flag_of (element_of self.now) }
+    /// ensures { element_flag_view result ≡ flag_of (element_view self.now) }
     /// ```
     fn flag(&self) -> ElementFlag {
         let not_active = !matches!(self.mode, ElementItemMode::Active { .. });
@@ -306,7 +312,7 @@ impl<A: Allocator> ElementItem<A> {
     /// # Proved
     ///
     /// ```text
-    /// ensures { OnOk result (AppendsShortest (place (flag_of (element_of self.now))) (place_of self.now.mode) out.old.items out.new.items) }
+    /// ensures { OnOk result (AppendsShortest (place (flag_of (element_view self.now))) (place_view self.now.mode) out.old.items out.new.items) }
     /// ```
     fn append_place<B: Sink>(&self, out: &mut B) -> R<()> {
         match &self.mode {
@@ -322,7 +328,7 @@ impl<A: Allocator> ElementItem<A> {
 /// # Proved
 ///
 /// ```text
-/// ensures { OnOk result (AppendsShortest (elements_as told (are_expressions (list_of elements.now))) (list_of elements.now) out.old.items out.new.items) }
+/// ensures { OnOk result (AppendsShortest (elements_as told (are_expressions (list_view elements.now))) (list_view elements.now) out.old.items out.new.items) }
 /// ```
 fn append_elements<A: Allocator, B: Sink>(
     told: bool,
@@ -335,18 +341,124 @@ fn append_elements<A: Allocator, B: Sink>(
     }
 }
 
-/// # Defined
-///
-/// ```text
-/// Value = { Segment (List Plain) }
-/// format = { element }
-/// view = { element_of }
-/// ```
 impl<A: Allocator> Shorten for ElementItem<A> {
     fn append_shortest<B: Sink>(&self, out: &mut B) -> R<()> {
         let flag = self.flag();
         flag.code().encode(out)?;
         self.append_place(out)?;
         append_elements(flag.tells_kind(), &self.elements, out)
+    }
+}
+
+/// Goes over where the elements go, as the flag tells.
+///
+/// # Proved
+///
+/// ```text
+/// ensures found { IfOk result (λ rest. (x : Place (List Plain)) × Reads (place (element_flag_view flag)) wide bytes.now x rest.now) }
+/// ensures none { IfErr result (λ e. e ≢ Memory → ReadsNothing (place (element_flag_view flag)) wide bytes.now) }
+/// ```
+fn pass_place<'a, A: Allocator + Copy>(
+    flag: ElementFlag,
+    bytes: &'a [u8],
+    alloc: A,
+) -> Result<&'a [u8], ReadFault> {
+    match (flag.not_active, flag.second) {
+        (true, true) => Ok(bytes),
+        (true, false) => Ok(bytes),
+        (false, true) => {
+            let rest = <(Dropped<u32>, Expression<A>) as Passed<'a, A>>::pass(bytes, alloc)?;
+            Ok(rest)
+        }
+        (false, false) => {
+            let rest = <Expression<A> as Passed<'a, A>>::pass(bytes, alloc)?;
+            Ok(rest)
+        }
+    }
+}
+
+/// Goes over the indices of functions, behind the byte of their kind where that is told.
+///
+/// # Proved
+///
+/// ```text
+/// ensures found { IfOk result (λ rest. (x : ListModel (List Plain)) × Reads (elements_as told false) wide bytes.now x rest.now) }
+/// ensures none { IfErr result (λ e. e ≢ Memory → ReadsNothing (elements_as told false) wide bytes.now) }
+/// ```
+fn pass_functions<'a, A: Allocator + Copy>(
+    told: bool,
+    bytes: &'a [u8],
+    alloc: A,
+) -> Result<&'a [u8], ReadFault> {
+    if told {
+        let (kind, rest) = <u8 as Readable<'a, A>>::read(bytes, alloc)?;
+        if kind != 0x00 {
+            return Err(ReadFault::UnknownTag);
+        }
+        let (_count, rest) = pass_many::<'a, Dropped<u32>, A>(rest, alloc)?;
+        return Ok(rest);
+    }
+    let (_count, rest) = pass_many::<'a, Dropped<u32>, A>(bytes, alloc)?;
+    Ok(rest)
+}
+
+/// Goes over expressions, behind their type where that is told.
+///
+/// # Proved
+///
+/// ```text
+/// ensures found { IfOk result (λ rest. (x : ListModel (List Plain)) × Reads (elements_as told true) wide bytes.now x rest.now) }
+/// ensures none { IfErr result (λ e. e ≢ Memory → ReadsNothing (elements_as told true) wide bytes.now) }
+/// ```
+fn pass_expressions<'a, A: Allocator + Copy>(
+    told: bool,
+    bytes: &'a [u8],
+    alloc: A,
+) -> Result<&'a [u8], ReadFault> {
+    if told {
+        let (_type, rest) = <RefType as Readable<'a, A>>::read(bytes, alloc)?;
+        let (_count, rest) = pass_many::<'a, Expression<A>, A>(rest, alloc)?;
+        return Ok(rest);
+    }
+    let (_count, rest) = pass_many::<'a, Expression<A>, A>(bytes, alloc)?;
+    Ok(rest)
+}
+
+/// Goes over the elements, of the kind that the flag tells.
+///
+/// # Proved
+///
+/// ```text
+/// ensures found { IfOk result (λ rest. (x : ListModel (List Plain)) × Reads (elements_as told of_expressions) wide bytes.now x rest.now) }
+/// ensures none { IfErr result (λ e. e ≢ Memory → ReadsNothing (elements_as told of_expressions) wide bytes.now) }
+/// ```
+fn pass_elements<'a, A: Allocator + Copy>(
+    told: bool,
+    of_expressions: bool,
+    bytes: &'a [u8],
+    alloc: A,
+) -> Result<&'a [u8], ReadFault> {
+    if of_expressions {
+        let rest = pass_expressions(told, bytes, alloc)?;
+        return Ok(rest);
+    }
+    let rest = pass_functions(told, bytes, alloc)?;
+    Ok(rest)
+}
+
+/// # Defined
+///
+/// ```text
+/// Value = { ElementItem (List Plain) }
+/// format = { element }
+/// ```
+impl<'a, A: Allocator + Copy> Passed<'a, A> for ElementItem<A> {
+    fn laws() {}
+
+    fn pass(bytes: &'a [u8], alloc: A) -> Result<&'a [u8], ReadFault> {
+        let (flag, rest) = <ElementFlag as Readable<'a, A>>::read(bytes, alloc)?;
+        let rest = pass_place(flag, rest, alloc)?;
+        let rest = pass_elements(flag.tells_kind(), flag.expressions, rest, alloc)?;
+        Ok(rest)
     }
 }

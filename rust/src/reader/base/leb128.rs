@@ -1,4 +1,4 @@
-// Written by tools/to-rust from crates/wasm_reader_base/src/numbers.rt: change that.
+// Written by tools/to-rust from crates/wasm_reader_base/src/leb128.rt: change that.
 // Numbers in LEB128, padded or not. One byte is read in place, up to five in 64 bits.
 
 use crate::vec::Sink;

@@ -1,0 +1,53 @@
+// Written by tools/to-rust from crates/wasm_custom/src/marked.rt: change that.
+// Values behind a fixed byte.
+
+use crate::alloc::Allocator;
+use crate::reader::base::{ReadFault, Readable, Spelled};
+
+/// A value behind this byte, and the bytes after it.
+///
+/// # Proved
+///
+/// ```text
+/// ensures found { IfOk result (λ x. Reads (prefixed (mark ∷ []) T.format) wide bytes.now (T.view x.0) x.1.now) }
+/// ensures none { IfErr result (λ e. e ≢ Memory → ReadsNothing (prefixed (mark ∷ []) T.format) wide bytes.now) }
+/// ```
+pub(in crate::custom) fn read_marked<'a, T: Readable<'a, A>, A: Allocator + Copy>(
+    mark: u8,
+    bytes: &'a [u8],
+    alloc: A,
+) -> Result<(T, &'a [u8]), ReadFault> {
+    let (first, rest) = <u8 as Readable<'a, A>>::read(bytes, alloc)?;
+    if first != mark {
+        return Err(ReadFault::UnknownTag);
+    }
+    let (value, rest) = T::read(rest, alloc)?;
+    Ok((value, rest))
+}
+
+/// The name of a process or a module: the byte 00, and a name.
+#[derive(Clone, Copy, Debug)]
+pub(in crate::custom) struct MarkedName<'a>(pub &'a str);
+
+/// # Defined
+///
+/// ```text
+/// Value = { List ℕ }
+/// format = { marked_name }
+/// view = { λ m. m.0.now }
+/// ```
+impl<'a> Spelled for MarkedName<'a> {
+    /// # Proved
+    ///
+    /// ```text
+    /// ensures { UniqueReading marked_name }
+    /// ```
+    fn laws() {}
+}
+
+impl<'a, A: Allocator + Copy> Readable<'a, A> for MarkedName<'a> {
+    fn read(bytes: &'a [u8], alloc: A) -> Result<(MarkedName<'a>, &'a [u8]), ReadFault> {
+        let (name, rest) = read_marked::<'a, &'a str, A>(0x00, bytes, alloc)?;
+        Ok((MarkedName(name), rest))
+    }
+}
