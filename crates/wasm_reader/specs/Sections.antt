@@ -6,13 +6,13 @@ use Rattle.wasm_base.specs.Reading.{Reads}
 use Rattle.wasm_code.specs.Bodies.{Body, body}
 use Rattle.wasm_insn.specs.Plain.{Plain}
 use Rattle.wasm_reader_insn.specs.Arguments.{body_of}
-use Rattle.wasm_sections.specs.DataSegments.{DataItem, data_item}
-use Rattle.wasm_sections.specs.Elements.{Segment, element}
+use Rattle.wasm_sections.specs.DataSegments.{DataItem, data_item, segment_view}
+use Rattle.wasm_sections.specs.Elements.{Segment, element, element_view}
 use Rattle.wasm_sections.specs.Exports.{ExportItem, item_of, export}
-use Rattle.wasm_sections.specs.Globals.{GlobalItem, global_item}
+use Rattle.wasm_sections.specs.Globals.{GlobalItem, global_item, global_view}
 use Rattle.wasm_sections.specs.Imports.{ImportItem, imports_item, import_format}
 use Rattle.wasm_sections.specs.Memories.{memory_type}
-use Rattle.wasm_sections.specs.Tables.{TableItem, table_item}
+use Rattle.wasm_sections.specs.Tables.{TableItem, table_item, table_view}
 use Rattle.wasm_sections.specs.Tags.{tag_type}
 use Rattle.wasm_types.specs.RecTypes.{TypeItem, type_item}
 use Rattle.wasm_reader_types.specs.Items.{entry_of}
@@ -28,10 +28,6 @@ use Rattle.wasm_custom.specs.Readings.{name_payload, linking_payload, producers_
 use Rattle.wasm_reader_custom.specs.Items.{field_of, hints_of, instance_of, frame_of}
 use Rattle.wasm_reader_custom.specs.Names.{name_item_of}
 use Rattle.wasm_reader_custom.specs.Symbols.{link_of}
-use Rattle.wasm_sections.specs.Globals.{global_view}
-use Rattle.wasm_sections.specs.Tables.{table_view}
-use Rattle.wasm_sections.specs.DataSegments.{segment_view}
-use Rattle.wasm_sections.specs.Elements.{element_view}
 use Rattle.wasm_reader.specs.declared.section.Items.{Items}
 use Rattle.wasm_reader.specs.declared.section.Items.TheVariants as items
 use Rattle.wasm_reader.specs.declared.section.SectionKind.{SectionKind}
