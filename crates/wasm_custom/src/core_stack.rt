@@ -167,7 +167,7 @@ impl<A: Allocator> Spelled for CoreFrame<A> {
 
     ghost view = { stack_frame_view };
 
-    #[tactic(auto, using(crate::proofs::CoreStackLaws::frame_unique))]
+    #[tactic(auto, using(crate::proofs::CoreStackLaws::stack_frame_unique))]
     fn laws() {}
 }
 

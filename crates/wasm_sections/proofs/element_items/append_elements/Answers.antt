@@ -1,8 +1,7 @@
 use Rattle.std.proofs.Common.{subst, sym}
 use Rattle.wasm_base.proofs.Outcomes.{on_ok}
 use Rattle.wasm_reader_base.specs.Shortest.{AppendsShortest}
-use Rattle.wasm_sections.specs.Elements.{are_expressions, elements_as}
-use Rattle.wasm_sections.specs.Elements.{list_view}
+use Rattle.wasm_sections.specs.Elements.{are_expressions, elements_as, list_view}
 use Rattle.wasm_sections.proofs.element_items.append_elements.Goals as goal
 
 pub returns-in-Functions : goal.returns-in-Functions

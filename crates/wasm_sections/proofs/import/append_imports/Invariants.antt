@@ -1,8 +1,7 @@
 use Rattle.std.proofs.Common.{map, take}
 use Rattle.wasm_base.specs.Formats.{members}
 use Rattle.wasm_reader_base.specs.Shortest.{AppendsShortest}
-use Rattle.wasm_sections.specs.Imports.{import_format}
-use Rattle.wasm_sections.specs.Imports.{imports_item}
+use Rattle.wasm_sections.specs.Imports.{import_format, imports_item}
 use Rattle.wasm_sections.proofs.import.append_imports.Given as goal
 
 abbrev pub invariant-loop-import : goal.invariant-loop-import

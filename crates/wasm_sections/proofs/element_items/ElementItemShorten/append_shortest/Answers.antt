@@ -2,8 +2,7 @@ use Rattle.std.proofs.Common.{◌++◌, ap, subst, ◌∙◌}
 use Rattle.wasm_base.specs.Numbers.{unsigned_text}
 use Rattle.wasm_base.proofs.Outcomes.{on_ok}
 use Rattle.wasm_reader_base.specs.Shortest.{AppendsShortest}
-use Rattle.wasm_sections.specs.Elements.{are_expressions, elements_as, flag_code, tells_kind}
-use Rattle.wasm_sections.specs.Elements.{element_view}
+use Rattle.wasm_sections.specs.Elements.{are_expressions, elements_as, flag_code, tells_kind, element_view}
 use Rattle.wasm_sections.proofs.ShortItems.{element_appended}
 use Rattle.wasm_sections.proofs.element_items.ElementItemShorten.append_shortest.Goals as goal
 
