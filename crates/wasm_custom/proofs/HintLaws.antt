@@ -1,19 +1,25 @@
 -- Branch hints are read uniquely.
-use Rattle.std.proofs.Common.{◌<◌, [], ◌∷◌, true, false, refl, ap}
+use Rattle.std.proofs.Common.{◌<◌, [], ◌∷◌, true, false, refl, ap, ℕ, ◌≤◌, ◌≡◌, List, map, ap₂, subst, arith}
 use Rattle.wasm_base.specs.Entries.{ItemLaws}
-use Rattle.wasm_base.specs.Formats.{u32, byte, prefixed, such, vec, fixed}
-use Rattle.wasm_base.specs.Numbers.{shortest, unsigned_text}
-use Rattle.wasm_base.specs.Reading.{UniqueReading}
+use Rattle.wasm_base.specs.Formats.{u32, byte, prefixed, such, vec, fixed, Format, name, just}
+use Rattle.wasm_base.specs.Numbers.{shortest, unsigned_text, wide}
+use Rattle.wasm_base.specs.Reading.{UniqueReading, Reads, ReadsNothing}
 use Rattle.wasm_base.specs.Texts.{vec_text}
 use Rattle.wasm_base.proofs.FormatLaws.{mapped_unique, pair_unique, vec_unique, byte_unique, such_unique, prefixed_unique, fixed_unique}
 use Rattle.wasm_base.proofs.NumberLaws.{u32_unique}
 use Rattle.wasm_base.proofs.NumberTexts.{groups_text-last}
 use Rattle.wasm_base.proofs.TextLaws.{u32_spelled, vec_spelled}
 use Rattle.wasm_custom.specs.Entries.{FrameLaws}
-use Rattle.wasm_custom.specs.Hints.{hint_text, IsHint, Hints, hints_text, AreHints, hint_of, hint, hints, hints_name, hint_items}
+use Rattle.wasm_custom.specs.Hints.{hint_text, IsHint, Hints, hints_text, AreHints, hint_of, hint, hints, hints_name, hint_items, hints_view}
 use Rattle.wasm_custom.specs.declared.hints.BranchHint.{BranchHint}
 use Rattle.wasm_base.proofs.Calls.{ascii}
 use Rattle.wasm_base.proofs.PartLaws.{pair_spelled, prefixed_spelled}
+use Rattle.std.proofs.lemmas.List.{map-id}
+use Rattle.std.specs.declared.vec.Vec.{Vec}
+use Rattle.wasm_base.specs.Going.{FillsNothing}
+use Rattle.wasm_base.proofs.ReadingSteps.{then_reads, then_nothing_first, then_nothing_second, mapped_reads, mapped_nothing, such_reads, such_none, such_nothing}
+use Rattle.wasm_custom.specs.Readings.{hints_payload}
+use Rattle.wasm_custom.proofs.ReadNamed.{named_none, items_fill, no_items}
 
 pub hint_unique : UniqueReading hint
 hint_unique = mapped_unique hint_of (λ x y e. ap (λ h. (h.branch_func_offset, h.branch_hint_value)) e) (pair_unique u32_unique (prefixed_unique (0x01 ∷ []) (such_unique (λ b. b < 128) byte_unique)))
@@ -41,3 +47,56 @@ hint_frame = record {
   front_spelled = (refl, refl);
   begins = λ e. absurd (cc e);
 }
+
+-- ---- how branch hints are read
+
+-- ---- values
+
+abbrev value : Format ℕ
+value = such (λ b. b < 128) byte
+
+pub value_reads : (bytes rest : List ℕ) (b : ℕ) → Reads byte wide bytes b rest → b < 128 → Reads value wide bytes b rest
+value_reads bytes rest b h l = such_reads (λ b. b < 128) h l
+
+pub value_none : (bytes : List ℕ) → ReadsNothing byte wide bytes → ReadsNothing value wide bytes
+value_none bytes n = such_none (λ b. b < 128) n
+
+pub value_large : (bytes rest : List ℕ) (b : ℕ) → Reads byte wide bytes b rest → 128 ≤ b → ReadsNothing value wide bytes
+value_large bytes rest b h l = such_nothing (λ b. b < 128) byte_unique h (λ p. omega (arith, p, l))
+
+pub ruleset value_steps = (value_reads, value_large)
+
+-- ---- hints
+
+abbrev marked_value : Format ℕ
+marked_value = prefixed (0x01 ∷ []) value
+
+pub hint_reads : (bytes rest last : List ℕ) (n v : ℕ) → Reads u32 wide bytes n rest → Reads marked_value wide rest v last → Reads hint wide bytes (record { branch_func_offset = n; branch_hint_value = v }) last
+hint_reads bytes rest last n v h g = mapped_reads hint_of (then_reads h g)
+
+pub hint_none : (bytes : List ℕ) → ReadsNothing u32 wide bytes → ReadsNothing hint wide bytes
+hint_none bytes n = mapped_nothing hint_of (then_nothing_first n)
+
+pub hint_nothing : (bytes rest : List ℕ) (n : ℕ) → Reads u32 wide bytes n rest → ReadsNothing marked_value wide rest → ReadsNothing hint wide bytes
+hint_nothing bytes rest n h none = mapped_nothing hint_of (then_nothing_second u32_unique h none)
+
+pub ruleset hint_steps = (hint_reads, hint_nothing)
+
+-- ---- the hints of functions
+
+pairs_same : {A : Type 0} (items : List (ℕ × Vec BranchHint A)) → map (λ p. (p.0, map (λ h. h) p.1.items)) items ≡ map hints_view items
+pairs_same [] = refl
+pairs_same (p ∷ items) = ap₂ (λ a b. (p.0, a) ∷ b) (map-id p.1.items) (pairs_same items)
+
+-- ---- sections
+
+pub hints_fill : {A : Type 0} (bytes rest : List ℕ) (items : List (ℕ × Vec BranchHint A)) → Reads (just hints_name name) wide bytes tt rest → vec hints wide rest (map (λ p. (p.0, map (λ h. h) p.1.items)) items) → hints_payload wide bytes (map hints_view items)
+hints_fill bytes rest items h g = items_fill hints_name true hints bytes rest (map hints_view items) h (subst (λ z. vec hints wide rest z) (pairs_same items) g)
+
+pub no_name : (bytes : List ℕ) → ReadsNothing (just hints_name name) wide bytes → FillsNothing hints_payload bytes
+no_name bytes n = named_none hints_name _ bytes n
+
+pub no_hints : (bytes rest : List ℕ) → Reads (just hints_name name) wide bytes tt rest → FillsNothing (vec hints) rest → FillsNothing hints_payload bytes
+no_hints bytes rest h n = no_items hints_name true hints bytes rest h n
+
+pub ruleset section_steps = (hints_fill, no_name, no_hints)

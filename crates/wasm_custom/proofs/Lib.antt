@@ -13,16 +13,6 @@ pub mod SectionLaws
 pub mod HeldLaws
 pub mod NothingLaws
 pub mod Calls
-pub mod ReadCoreDumps
-pub mod ReadHints
-pub mod ReadLinks
 pub mod ReadMarked
 pub mod ReadNamed
-pub mod ReadNames
-pub mod ReadProducers
-pub mod ReadStacks
-pub mod ReadSymbols
 pub mod ShortCustom
-pub mod ShortLinks
-pub mod ShortNames
-pub mod ShortSymbols

@@ -1,10 +1,10 @@
 -- Names are read uniquely.
-use Rattle.std.proofs.Common.{◌≡◌, ℕ, List, [], length, Bool, true, false, cond, eqb, refl, sym, ap, subst, ◌∙◌, arith, length-append}
+use Rattle.std.proofs.Common.{◌≡◌, ℕ, List, [], length, Bool, true, false, cond, eqb, refl, sym, ap, subst, ◌∙◌, arith, length-append, ◌∷◌, ◌++◌, take, drop}
 use Rattle.std.proofs.lemmas.Bool.{eqb-true}
 use Rattle.wasm_base.specs.Entries.{ItemLaws}
-use Rattle.wasm_base.specs.Formats.{u32, any_bytes, name, pair, fixed}
+use Rattle.wasm_base.specs.Formats.{u32, any_bytes, name, pair, fixed, Format, byte, just, frame, mapped, members}
 use Rattle.wasm_base.specs.Numbers.{Mode, shortest, wide, unsigned_text}
-use Rattle.wasm_base.specs.Reading.{UniqueReading}
+use Rattle.wasm_base.specs.Reading.{UniqueReading, Reads, ReadsNothing}
 use Rattle.wasm_base.specs.Texts.{frame_text, FrameFits, vec_text, VecFits}
 use Rattle.wasm_base.proofs.BaseLaws.{name_unique}
 use Rattle.wasm_base.proofs.FormatLaws.{TellsTag, mapped_unique, pair_unique, vec_unique, frame_unique, whole_from_alone, byte_unique, any_bytes_whole, tagged_unique, fixed_unique}
@@ -12,10 +12,18 @@ use Rattle.wasm_base.proofs.NumberLaws.{u32_unique}
 use Rattle.wasm_base.proofs.TextLaws.{tagged_spelled, u32_spelled, name_spelled, vec_spelled, frame_in, frame_spelled}
 use Rattle.wasm_custom.specs.Customs.{subsection_text}
 use Rattle.wasm_custom.specs.Entries.{FrameLaws}
-use Rattle.wasm_custom.specs.Names.{Naming, Inside, naming_text, inside_text, IsNaming, IsInside, naming, name_map, indirect_map, NameItem, Module, Map, Indirect, Other, NameKind, of_module, of_map, of_indirect, of_other, is_one_of, map_ids, indirect_ids, name_kind_of, after_id, subsection, name_text, IsName, name_name, name_items}
+use Rattle.wasm_custom.specs.Names.{Naming, Inside, naming_text, inside_text, IsNaming, IsInside, naming, name_map, indirect_map, NameItem, Module, Map, Indirect, Other, NameKind, of_module, of_map, of_indirect, of_other, is_one_of, map_ids, indirect_ids, name_kind_of, after_id, subsection, name_text, IsName, name_name, name_items, inside, id_of, held_by}
 use Rattle.wasm_base.proofs.Calls.{ascii}
 use Rattle.wasm_base.proofs.PartLaws.{pair_spelled, tagged_begins}
 use Rattle.wasm_custom.proofs.CustomLaws.{content_fits}
+use Rattle.wasm_base.specs.Going.{FillsNothing}
+use Rattle.wasm_base.proofs.Tags.{tagged_reads, tagged_none, tagged_nothing}
+use Rattle.wasm_reader_base.proofs.ReadFrames.{filled_reads, filled_none, filled_nothing}
+use Rattle.wasm_custom.specs.Readings.{name_payload}
+use Rattle.wasm_custom.proofs.ReadNamed.{named_none, items_fill, no_items}
+use Rattle.wasm_reader_base.specs.Shortest.{AppendsShortest}
+use Rattle.wasm_reader_base.proofs.ShortTexts.{text_appended, tagged_appended, mapped_appended, frame_appended}
+use Rattle.wasm_custom.proofs.ShortCustom.{items_appended}
 
 pub naming_unique : UniqueReading naming
 naming_unique = pair_unique u32_unique name_unique
@@ -27,12 +35,6 @@ pub indirect_unique : UniqueReading indirect_map
 indirect_unique = vec_unique (pair_unique u32_unique map_unique)
 
 -- ---- subsections
-
-abbrev id_of : NameItem → ℕ
-id_of (Module n) = 0
-id_of (Map id names) = id
-id_of (Indirect id names) = id
-id_of (Other id content) = id
 
 not_module : (a b : Bool) → cond a of_map (cond b of_indirect of_other) ≡ of_module → ⊥
 not_module true b e = absurd (cc e)
@@ -111,3 +113,166 @@ name_frame = record {
   front_spelled = (refl, refl);
   begins = λ e. tagged_begins;
 }
+
+-- ---- how names are read
+
+-- ---- images
+
+-- Images of what a frame holds, and of what it spells, are the same.
+module _ {X Y : Type 0} (f : X → Y) (F : Format X) {bytes rest : List ℕ} {y : Y} where
+  image_of_frame : Reads (frame (mapped f F)) wide bytes y rest → Reads (mapped f (frame F)) wide bytes y rest
+  image_of_frame h =
+      let s = h.spelled in
+      record { front = h.front; split = h.split; spelled = (s.spelled.0, s.spelled.1, record { front = s.front; content = s.content; joined = s.joined; size = s.size; spelled = s.spelled.2 }) }
+
+  frame_of_image : Reads (mapped f (frame F)) wide bytes y rest → Reads (frame (mapped f F)) wide bytes y rest
+  frame_of_image h =
+      let s = h.spelled.2 in
+      record { front = h.front; split = h.split; spelled = record { front = s.front; content = s.content; joined = s.joined; size = s.size; spelled = (h.spelled.0, h.spelled.1, s.spelled) } }
+
+image_nothing : {X Y : Type 0} (f : X → Y) {F : Format X} {bytes : List ℕ} → FillsNothing F bytes → FillsNothing (mapped f F) bytes
+image_nothing f n = record { none = λ y h. n.none h.0 h.2 }
+
+-- ---- the content of a subsection
+
+pub module_fills : (bytes : List ℕ) (id : ℕ) (n : List ℕ) → name wide bytes n → inside of_module id wide bytes (Module n)
+module_fills bytes id n h = (n, refl, h)
+
+pub no_module : (bytes : List ℕ) (id : ℕ) → FillsNothing name bytes → FillsNothing (inside of_module id) bytes
+no_module bytes id n = image_nothing Module n
+
+pub map_fills : (bytes : List ℕ) (id : ℕ) (names : List Naming) → name_map wide bytes names → inside of_map id wide bytes (Map id names)
+map_fills bytes id names h = (names, refl, h)
+
+pub no_map : (bytes : List ℕ) (id : ℕ) → FillsNothing name_map bytes → FillsNothing (inside of_map id) bytes
+no_map bytes id n = image_nothing (Map id) n
+
+pub indirect_fills : (bytes : List ℕ) (id : ℕ) (maps : List Inside) → indirect_map wide bytes maps → inside of_indirect id wide bytes (Indirect id maps)
+indirect_fills bytes id maps h = (maps, refl, h)
+
+pub no_indirect : (bytes : List ℕ) (id : ℕ) → FillsNothing indirect_map bytes → FillsNothing (inside of_indirect id) bytes
+no_indirect bytes id n = image_nothing (Indirect id) n
+
+pub other_fills : (bytes : List ℕ) (id : ℕ) → inside of_other id wide bytes (Other id bytes)
+other_fills bytes id = (bytes, refl, refl)
+
+pub ruleset kind_steps = (module_fills, no_module, map_fills, no_map, indirect_fills, no_indirect, other_fills)
+
+-- ---- subsections
+
+behind_reads : (k : NameKind) (id : ℕ) (bytes rest : List ℕ) (x : NameItem) → Reads (frame (inside k id)) wide bytes x rest → Reads (after_id k id) wide bytes x rest
+behind_reads of_module id bytes rest x h = image_of_frame Module name h
+behind_reads of_map id bytes rest x h = image_of_frame (Map id) name_map h
+behind_reads of_indirect id bytes rest x h = image_of_frame (Indirect id) indirect_map h
+behind_reads of_other id bytes rest x h = image_of_frame (Other id) any_bytes h
+
+reads_behind : (k : NameKind) (id : ℕ) (bytes rest : List ℕ) (x : NameItem) → Reads (after_id k id) wide bytes x rest → Reads (frame (inside k id)) wide bytes x rest
+reads_behind of_module id bytes rest x h = frame_of_image Module name h
+reads_behind of_map id bytes rest x h = frame_of_image (Map id) name_map h
+reads_behind of_indirect id bytes rest x h = frame_of_image (Indirect id) indirect_map h
+reads_behind of_other id bytes rest x h = frame_of_image (Other id) any_bytes h
+
+nothing_behind : (k : NameKind) (id : ℕ) (bytes : List ℕ) → ReadsNothing (frame (inside k id)) wide bytes → ReadsNothing (after_id k id) wide bytes
+nothing_behind k id bytes n = record { none = λ x rest h. n.none x rest (reads_behind k id bytes rest x h) }
+
+abbrev behind : ℕ → Format NameItem
+behind id = after_id (name_kind_of id) id
+
+pub subsection_reads : (bytes rest content last : List ℕ) (id : ℕ) (k : NameKind) (x : NameItem) → Reads byte wide bytes id rest → Reads (frame any_bytes) wide rest content last → k ≡ name_kind_of id → inside k id wide content x → Reads subsection wide bytes x last
+subsection_reads bytes rest content last id k x h g e s =
+    tagged_reads {G = behind} h (subst (λ k. Reads (after_id k id) wide rest x last) e (behind_reads k id rest last x (filled_reads (inside k id) rest content last x g s)))
+
+pub subsection_none : (bytes : List ℕ) → ReadsNothing byte wide bytes → ReadsNothing subsection wide bytes
+subsection_none bytes n = tagged_none byte behind bytes n
+
+pub subsection_no_frame : (bytes rest : List ℕ) (id : ℕ) → Reads byte wide bytes id rest → ReadsNothing (frame any_bytes) wide rest → ReadsNothing subsection wide bytes
+subsection_no_frame bytes rest id h n = tagged_nothing {G = behind} byte_unique h (nothing_behind (name_kind_of id) id rest (filled_none (inside (name_kind_of id) id) rest n))
+
+pub subsection_nothing : (bytes rest content last : List ℕ) (id : ℕ) (k : NameKind) → Reads byte wide bytes id rest → Reads (frame any_bytes) wide rest content last → k ≡ name_kind_of id → FillsNothing (inside k id) content → ReadsNothing subsection wide bytes
+subsection_nothing bytes rest content last id k h g e n =
+    tagged_nothing {G = behind} byte_unique h (subst (λ k. ReadsNothing (after_id k id) wide rest) e (nothing_behind k id rest (filled_nothing (inside k id) rest content last g n)))
+
+-- ---- sections
+
+pub names_fill : (bytes rest : List ℕ) (items : List NameItem) → Reads (just name_name name) wide bytes tt rest → members subsection wide rest items → name_payload wide bytes items
+names_fill bytes rest items h g = items_fill name_name false subsection bytes rest items h g
+
+pub names_none : (bytes : List ℕ) → ReadsNothing (just name_name name) wide bytes → FillsNothing name_payload bytes
+names_none bytes n = named_none name_name _ bytes n
+
+pub no_names : (bytes rest : List ℕ) → Reads (just name_name name) wide bytes tt rest → FillsNothing (members subsection) rest → FillsNothing name_payload bytes
+no_names bytes rest h n = no_items name_name false subsection bytes rest h n
+
+pub ruleset name_steps = (names_fill, names_none, no_names)
+
+-- ---- the one shortest text of names that were read
+
+-- ---- the content of a subsection
+
+pub module_appended : (n old new : List ℕ) → AppendsShortest name n old new → AppendsShortest (inside of_module 0) (Module n) old new
+module_appended n old new a = mapped_appended Module name n old new (λ z k. cc k) a
+
+pub map_appended : (id : ℕ) (names : List Naming) (old new : List ℕ) → AppendsShortest name_map names old new → AppendsShortest (inside of_map id) (Map id names) old new
+map_appended id names old new a = mapped_appended (Map id) name_map names old new (λ z k. cc k) a
+
+pub indirect_appended : (id : ℕ) (maps : List Inside) (old new : List ℕ) → AppendsShortest indirect_map maps old new → AppendsShortest (inside of_indirect id) (Indirect id maps) old new
+indirect_appended id maps old new a = mapped_appended (Indirect id) indirect_map maps old new (λ z k. cc k) a
+
+pub other_appended : (id : ℕ) (bytes old new : List ℕ) → new ≡ old ++ bytes → AppendsShortest (inside of_other id) (Other id bytes) old new
+other_appended id bytes old new e = mapped_appended (Other id) any_bytes bytes old new (λ z k. cc k) (text_appended any_bytes bytes bytes old new (λ s h. refl) e)
+
+-- ---- subsections
+
+held_told : (k : NameKind) (id : ℕ) (s : List ℕ) (x : NameItem) → after_id k id wide s x → held_by x ≡ k
+held_told of_module id s x h = sym (ap held_by h.1)
+held_told of_map id s x h = sym (ap held_by h.1)
+held_told of_indirect id s x h = sym (ap held_by h.1)
+held_told of_other id s x h = sym (ap held_by h.1)
+
+id_told : (x : NameItem) (s : List ℕ) (id : ℕ) → after_id (name_kind_of id) id wide s x → id ≡ id_of x
+id_told (Module n) s id h = tells wide id s (Module n) h
+id_told (Map i names) s id h = tells wide id s (Map i names) h
+id_told (Indirect i maps) s id h = tells wide id s (Indirect i maps) h
+id_told (Other i bytes) s id h = tells wide id s (Other i bytes) h
+
+-- Images of what a frame holds, and of what it spells, are the same.
+module _ {X : Type 0} (f : X → NameItem) (F : Format X) {mode : Mode} {s : List ℕ} {x : NameItem} where
+  spelled_image : frame (mapped f F) mode s x → mapped f (frame F) mode s x
+  spelled_image h = (h.spelled.0, h.spelled.1, record { front = h.front; content = h.content; joined = h.joined; size = h.size; spelled = h.spelled.2 })
+
+  spelled_frame : mapped f (frame F) mode s x → frame (mapped f F) mode s x
+  spelled_frame h = record { front = h.2.front; content = h.2.content; joined = h.2.joined; size = h.2.size; spelled = (h.0, h.1, h.2.spelled) }
+
+framed : (k : NameKind) (id : ℕ) {mode : Mode} {s : List ℕ} {x : NameItem} → after_id k id mode s x → frame (inside k id) mode s x
+framed of_module id h = spelled_frame Module name h
+framed of_map id h = spelled_frame (Map id) name_map h
+framed of_indirect id h = spelled_frame (Indirect id) indirect_map h
+framed of_other id h = spelled_frame (Other id) any_bytes h
+
+behind_content : (k : NameKind) (id : ℕ) {mode : Mode} {s : List ℕ} {x : NameItem} → frame (inside k id) mode s x → after_id k id mode s x
+behind_content of_module id h = spelled_image Module name h
+behind_content of_map id h = spelled_image (Map id) name_map h
+behind_content of_indirect id h = spelled_image (Indirect id) indirect_map h
+behind_content of_other id h = spelled_image (Other id) any_bytes h
+
+after_appended : (x : NameItem) (old new : List ℕ) → AppendsShortest (frame (inside (held_by x) (id_of x))) x old new → AppendsShortest (after_id (name_kind_of (id_of x)) (id_of x)) x old new
+after_appended x old new a = record {
+  text = a.text;
+  appended = a.appended;
+  spelled = λ s h.
+      let id = id_of x in
+      let is = held_told (name_kind_of id) id s x h in
+      let given = subst (λ k. after_id k id wide s x) (sym is) h in
+      subst (λ k. after_id k id shortest a.text x) is (behind_content (held_by x) id (a.spelled s (framed (held_by x) id given)));
+}
+
+pub subsection_appended : (x : NameItem) (start : ℕ) (old front middle new : List ℕ) → front ≡ old ++ id_of x ∷ [] → start ≡ length front → AppendsShortest (inside (held_by x) (id_of x)) x front middle → FrameFits (drop start middle)
+    → new ≡ take start middle ++ frame_text (drop start middle) → AppendsShortest subsection x old new
+subsection_appended x start old front middle new e l a fits is =
+    tagged_appended byte (λ id. after_id (name_kind_of id) id) (λ s z h. id_told x s z h) (text_appended byte (id_of x) (id_of x ∷ []) old front (λ s h. refl) e)
+    (after_appended x front new (frame_appended (inside (held_by x) (id_of x)) x start front middle new l a fits is))
+
+-- ---- sections
+
+pub names_appended : (xs : List NameItem) (old middle new : List ℕ) → FrameFits name_name → middle ≡ old ++ frame_text name_name → AppendsShortest (members subsection) xs middle new → AppendsShortest name_payload xs old new
+names_appended xs old middle new fits e a = items_appended name_name false subsection xs fits e a

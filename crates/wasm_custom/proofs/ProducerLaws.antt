@@ -1,9 +1,9 @@
 -- Producers are read uniquely.
-use Rattle.std.proofs.Common.{[], true, refl}
+use Rattle.std.proofs.Common.{[], true, refl, ℕ, List}
 use Rattle.wasm_base.specs.Entries.{ItemLaws}
-use Rattle.wasm_base.specs.Formats.{name, vec, fixed}
-use Rattle.wasm_base.specs.Numbers.{shortest}
-use Rattle.wasm_base.specs.Reading.{UniqueReading}
+use Rattle.wasm_base.specs.Formats.{name, vec, fixed, just}
+use Rattle.wasm_base.specs.Numbers.{shortest, wide}
+use Rattle.wasm_base.specs.Reading.{UniqueReading, Reads, ReadsNothing}
 use Rattle.wasm_base.specs.Texts.{frame_text, vec_text}
 use Rattle.wasm_base.proofs.BaseLaws.{name_unique}
 use Rattle.wasm_base.proofs.Calls.{ascii}
@@ -12,6 +12,9 @@ use Rattle.wasm_base.proofs.PartLaws.{pair_spelled}
 use Rattle.wasm_base.proofs.TextLaws.{name_spelled, vec_spelled}
 use Rattle.wasm_custom.specs.Entries.{FrameLaws}
 use Rattle.wasm_custom.specs.Producers.{Producer, producer_text, IsProducer, Field, field_text, IsField, producer, field, producers_name, field_items}
+use Rattle.wasm_base.specs.Going.{FillsNothing}
+use Rattle.wasm_custom.specs.Readings.{producers_payload}
+use Rattle.wasm_custom.proofs.ReadNamed.{named_none, items_fill, no_items}
 
 pub field_unique : UniqueReading field
 field_unique = pair_unique name_unique (vec_unique (pair_unique name_unique name_unique))
@@ -33,3 +36,16 @@ producer_frame = record {
   front_spelled = (refl, refl);
   begins = λ e. absurd (cc e);
 }
+
+-- ---- how producers are read
+
+pub producers_fill : (bytes rest : List ℕ) (fields : List Field) → Reads (just producers_name name) wide bytes tt rest → vec field wide rest fields → producers_payload wide bytes fields
+producers_fill bytes rest fields h g = items_fill producers_name true field bytes rest fields h g
+
+pub producers_none : (bytes : List ℕ) → ReadsNothing (just producers_name name) wide bytes → FillsNothing producers_payload bytes
+producers_none bytes n = named_none producers_name _ bytes n
+
+pub no_producers : (bytes rest : List ℕ) → Reads (just producers_name name) wide bytes tt rest → FillsNothing (vec field) rest → FillsNothing producers_payload bytes
+no_producers bytes rest h n = no_items producers_name true field bytes rest h n
+
+pub ruleset producer_steps = (producers_fill, producers_none, no_producers)

@@ -256,7 +256,7 @@ impl<A: Allocator> CoreDumpInstancesSection<A> {
 }
 
 /// The name of the process.
-#[tactic(auto, using(crate::proofs::ReadCoreDumps::process_steps))]
+#[tactic(auto, using(crate::proofs::CoreDumpLaws::process_steps))]
 pub fn read_process<'a, A: Allocator + Copy>(
     bytes: &'a [u8],
     alloc: A,
@@ -289,7 +289,7 @@ fn read_module_names<'a, A: Allocator + Copy>(
 }
 
 /// The names of the modules.
-#[tactic(auto, using(crate::proofs::ReadCoreDumps::module_steps))]
+#[tactic(auto, using(crate::proofs::CoreDumpLaws::module_steps))]
 pub fn read_modules<'a, A: Allocator + Copy>(
     bytes: &'a [u8],
     alloc: A,
@@ -307,7 +307,7 @@ pub fn read_modules<'a, A: Allocator + Copy>(
 }
 
 /// An instance: the index of its module, its memories and its globals.
-#[tactic(auto, using(crate::proofs::ReadCoreDumps::instance_steps))]
+#[tactic(auto, using(crate::proofs::CoreDumpLaws::instance_steps))]
 fn read_instance<'a, A: Allocator + Copy>(
     bytes: &'a [u8],
     alloc: A,
@@ -343,7 +343,7 @@ fn read_all_instances<'a, A: Allocator + Copy>(
 }
 
 /// The instances: the index of the module, the memories and the globals of each.
-#[tactic(auto, using(crate::proofs::ReadCoreDumps::instances_steps))]
+#[tactic(auto, using(crate::proofs::CoreDumpLaws::instances_steps))]
 pub fn read_instances<'a, A: Allocator + Copy>(
     bytes: &'a [u8],
     alloc: A,

@@ -172,7 +172,7 @@ impl<A: Allocator> Spelled for CoreFrame<A> {
 }
 
 impl<'a, A: Allocator + Copy> Readable<'a, A> for CoreFrame<A> {
-    #[tactic(auto, using(crate::proofs::ReadStacks::frame_steps))]
+    #[tactic(auto, using(crate::proofs::CoreStackLaws::frame_steps))]
     fn read(bytes: &'a [u8], alloc: A) -> Result<(CoreFrame<A>, &'a [u8]), ReadFault> {
         let ((instanceidx, (funcidx, codeoffset)), rest) = read_marked::<'a, (u32, (u32, u32)), A>(
             0x00, bytes, alloc,
@@ -191,7 +191,7 @@ impl<'a, A: Allocator + Copy> Readable<'a, A> for CoreFrame<A> {
 }
 
 /// The name of the thread, and the frames of its stack.
-#[tactic(auto, using(crate::proofs::ReadStacks::stack_steps))]
+#[tactic(auto, using(crate::proofs::CoreStackLaws::stack_steps))]
 pub fn read_stack<'a, A: Allocator + Copy>(
     bytes: &'a [u8],
     alloc: A,

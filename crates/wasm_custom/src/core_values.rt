@@ -47,7 +47,7 @@ impl Spelled for CoreDumpValue {
 }
 
 impl<'a, A: Allocator + Copy> Readable<'a, A> for CoreDumpValue {
-    #[tactic(auto, using(crate::proofs::ReadStacks::value_steps))]
+    #[tactic(auto, using(crate::proofs::CoreStackLaws::value_steps))]
     fn read(bytes: &'a [u8], alloc: A) -> Result<(CoreDumpValue, &'a [u8]), ReadFault> {
         let (tag, rest) = <u8 as Readable<'a, A>>::read(bytes, alloc)?;
         match tag {

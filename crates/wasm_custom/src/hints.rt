@@ -124,7 +124,7 @@ impl Spelled for HintValue {
 }
 
 impl<'a, A: Allocator + Copy> Readable<'a, A> for HintValue {
-    #[tactic(auto, using(crate::proofs::ReadHints::value_steps))]
+    #[tactic(auto, using(crate::proofs::HintLaws::value_steps))]
     fn read(bytes: &'a [u8], alloc: A) -> Result<(HintValue, &'a [u8]), ReadFault> {
         let (value, rest) = <u8 as Readable<'a, A>>::read(bytes, alloc)?;
         if value >= 128 {
@@ -146,7 +146,7 @@ impl Spelled for BranchHint {
 }
 
 impl<'a, A: Allocator + Copy> Readable<'a, A> for BranchHint {
-    #[tactic(auto, using(crate::proofs::ReadHints::hint_steps))]
+    #[tactic(auto, using(crate::proofs::HintLaws::hint_steps))]
     fn read(bytes: &'a [u8], alloc: A) -> Result<(BranchHint, &'a [u8]), ReadFault> {
         let (branch_func_offset, rest) = <u32 as Readable<'a, A>>::read(bytes, alloc)?;
         let (HintValue(value), rest) = read_marked::<'a, HintValue, A>(0x01, rest, alloc)?;
@@ -159,7 +159,7 @@ impl<'a, A: Allocator + Copy> Readable<'a, A> for BranchHint {
 }
 
 /// The hints of each function: its index, and the hints of its branches.
-#[tactic(auto, using(crate::proofs::ReadHints::section_steps))]
+#[tactic(auto, using(crate::proofs::HintLaws::section_steps))]
 pub fn read_hints<'a, A: Allocator + Copy>(
     bytes: &'a [u8],
     alloc: A,

@@ -121,7 +121,7 @@ impl<'a, A: Allocator> Spelled for LinkItem<'a, A> {
 }
 
 impl<'a, A: Allocator + Copy + 'a> Readable<'a, A> for LinkItem<'a, A> {
-    #[tactic(auto, using(crate::proofs::ReadLinks::link_steps))]
+    #[tactic(auto, using(crate::proofs::LinkLaws::link_steps))]
     fn read(bytes: &'a [u8], alloc: A) -> Result<(LinkItem<'a, A>, &'a [u8]), ReadFault> {
         let (id, rest) = <u8 as Readable<'a, A>>::read(bytes, alloc)?;
         match id {
@@ -140,7 +140,7 @@ impl<'a, A: Allocator + Copy + 'a> Readable<'a, A> for LinkItem<'a, A> {
 }
 
 /// The bytes behind the version.
-#[tactic(auto, using(crate::proofs::ReadLinks::version_steps))]
+#[tactic(auto, using(crate::proofs::LinkLaws::version_steps))]
 fn after_version<'a, A: Allocator + Copy>(bytes: &'a [u8], alloc: A) -> Result<&'a [u8], ReadFault>
     ensures found { IfOk result (λ rest. Reads (just version u32_format) wide bytes.now tt rest.now) }
     ensures none { IfErr result (λ e. e ≢ Memory → ReadsNothing (just version u32_format) wide bytes.now) }
@@ -154,7 +154,7 @@ fn after_version<'a, A: Allocator + Copy>(bytes: &'a [u8], alloc: A) -> Result<&
 }
 
 /// The subsections of a linking section.
-#[tactic(auto, using(crate::proofs::ReadLinks::section_steps))]
+#[tactic(auto, using(crate::proofs::LinkLaws::section_steps))]
 pub fn read_links<'a, A: Allocator + Copy + 'a>(
     bytes: &'a [u8],
     alloc: A,
@@ -169,7 +169,7 @@ pub fn read_links<'a, A: Allocator + Copy + 'a>(
 }
 
 impl<'a, A: Allocator> Shorten for LinkItem<'a, A> {
-    #[tactic(auto, using(crate::proofs::ShortLinks::symbols_appended, crate::proofs::ShortLinks::arch_appended))]
+    #[tactic(auto, using(crate::proofs::LinkLaws::symbols_appended, crate::proofs::LinkLaws::arch_appended))]
     fn append_shortest<B: Allocator>(&self, out: &mut Vec<u8, B>) -> R<()> {
         match self {
             LinkItem::Symbols(symbols) => {
@@ -188,7 +188,7 @@ impl<'a, A: Allocator> Shorten for LinkItem<'a, A> {
 
 /// Appends the shortest text of what a linking section of these subsections holds, where some bytes are read as it. After a refusal a part of it may
 /// stand there.
-#[tactic(auto, using(crate::proofs::ShortLinks::links_appended))]
+#[tactic(auto, using(crate::proofs::LinkLaws::links_appended))]
 pub fn append_links<A: Allocator, B: Allocator>(
     items: &[LinkItem<'_, A>],
     out: &mut Vec<u8, B>,

@@ -317,7 +317,7 @@ fn name_kind_of(id: u8) -> NameKind
 }
 
 /// What a subsection of the id says, which holds this.
-#[tactic(auto, using(crate::proofs::ReadNames::kind_steps))]
+#[tactic(auto, using(crate::proofs::NameLaws::kind_steps))]
 fn fill_subsection<'a, A: Allocator + Copy + 'a>(
     kind: NameKind,
     id: u8,
@@ -358,7 +358,7 @@ impl<'a, A: Allocator> Spelled for NameItem<'a, A> {
 }
 
 impl<'a, A: Allocator + Copy + 'a> Readable<'a, A> for NameItem<'a, A> {
-    #[tactic(auto, using(crate::proofs::ReadNames::subsection_reads))]
+    #[tactic(auto, using(crate::proofs::NameLaws::subsection_reads))]
     fn read(bytes: &'a [u8], alloc: A) -> Result<(NameItem<'a, A>, &'a [u8]), ReadFault> {
         let (id, rest) = <u8 as Readable<'a, A>>::read(bytes, alloc)?;
         let (content, rest) = <&'a [u8] as Readable<'a, A>>::read(rest, alloc)?;
@@ -368,7 +368,7 @@ impl<'a, A: Allocator + Copy + 'a> Readable<'a, A> for NameItem<'a, A> {
 }
 
 /// The subsections of a name section.
-#[tactic(auto, using(crate::proofs::ReadNames::name_steps))]
+#[tactic(auto, using(crate::proofs::NameLaws::name_steps))]
 pub fn read_names<'a, A: Allocator + Copy + 'a>(
     bytes: &'a [u8],
     alloc: A,
@@ -395,7 +395,7 @@ impl<'a, A: Allocator> NameItem<'a, A> {
     }
 
     /// Appends what the frame of the subsection holds.
-    #[tactic(auto, using(crate::proofs::ShortNames::module_appended, crate::proofs::ShortNames::map_appended, crate::proofs::ShortNames::indirect_appended, crate::proofs::ShortNames::other_appended))]
+    #[tactic(auto, using(crate::proofs::NameLaws::module_appended, crate::proofs::NameLaws::map_appended, crate::proofs::NameLaws::indirect_appended, crate::proofs::NameLaws::other_appended))]
     fn append_content<B: Allocator>(&self, out: &mut Vec<u8, B>) -> R<()>
         ensures { OnOk result (AppendsShortest (inside (held_by (name_item_view self.now)) (id_of (name_item_view self.now))) (name_item_view self.now) out.old.items out.new.items) }
     {
@@ -412,7 +412,7 @@ impl<'a, A: Allocator> NameItem<'a, A> {
 }
 
 impl<'a, A: Allocator> Shorten for NameItem<'a, A> {
-    #[tactic(auto, using(crate::proofs::ShortNames::subsection_appended))]
+    #[tactic(auto, using(crate::proofs::NameLaws::subsection_appended))]
     fn append_shortest<B: Allocator>(&self, out: &mut Vec<u8, B>) -> R<()> {
         self.id().encode(out)?;
         let start = out.len();
@@ -423,7 +423,7 @@ impl<'a, A: Allocator> Shorten for NameItem<'a, A> {
 
 /// Appends the shortest text of what a name section of these subsections holds, where some bytes are read as it. After a refusal a part of it may
 /// stand there.
-#[tactic(auto, using(crate::proofs::ShortNames::names_appended))]
+#[tactic(auto, using(crate::proofs::NameLaws::names_appended))]
 pub fn append_names<A: Allocator, B: Allocator>(
     items: &[NameItem<'_, A>],
     out: &mut Vec<u8, B>,

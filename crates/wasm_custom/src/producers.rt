@@ -103,7 +103,7 @@ impl<A: Allocator> ProducersSection<A> {
 }
 
 /// The fields of a producers section: their names, and their values, each a name and a version.
-#[tactic(auto, using(crate::proofs::ReadProducers::producer_steps))]
+#[tactic(auto, using(crate::proofs::ProducerLaws::producer_steps))]
 pub fn read_producers<'a, A: Allocator + Copy + 'a>(
     bytes: &'a [u8],
     alloc: A,

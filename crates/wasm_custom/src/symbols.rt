@@ -206,7 +206,7 @@ fn has_definition(flags: u32) -> bool
 }
 
 /// A symbol of an index, behind its kind.
-#[tactic(auto, using(crate::proofs::ReadSymbols::indexed_reads))]
+#[tactic(auto, using(crate::proofs::SymbolLaws::indexed_reads))]
 fn read_indexed<'a, A: Allocator + Copy>(
     kind: SymbolKind,
     bytes: &'a [u8],
@@ -238,7 +238,7 @@ impl Spelled for DataSymbolDefinition {
 }
 
 impl<'a, A: Allocator + Copy> Readable<'a, A> for DataSymbolDefinition {
-    #[tactic(auto, using(crate::proofs::ReadSymbols::definition_reads))]
+    #[tactic(auto, using(crate::proofs::SymbolLaws::definition_reads))]
     fn read(bytes: &'a [u8], alloc: A) -> Result<(DataSymbolDefinition, &'a [u8]), ReadFault> {
         let ((index, (offset, size)), rest) = <(u32, (u32, u32)) as Readable<'a, A>>::read(
             bytes, alloc,
@@ -271,7 +271,7 @@ fn read_definition<'a, A: Allocator + Copy>(
 }
 
 /// A symbol of data, behind its kind.
-#[tactic(auto, using(crate::proofs::ReadSymbols::data_steps))]
+#[tactic(auto, using(crate::proofs::SymbolLaws::data_steps))]
 fn read_data<'a, A: Allocator + Copy>(
     bytes: &'a [u8],
     alloc: A,
@@ -306,7 +306,7 @@ impl<'a> Spelled for Symbol<'a> {
 }
 
 impl<'a, A: Allocator + Copy> Readable<'a, A> for Symbol<'a> {
-    #[tactic(auto, using(crate::proofs::ReadSymbols::symbol_steps))]
+    #[tactic(auto, using(crate::proofs::SymbolLaws::symbol_steps))]
     fn read(bytes: &'a [u8], alloc: A) -> Result<(Symbol<'a>, &'a [u8]), ReadFault> {
         let (kind, rest) = <u8 as Readable<'a, A>>::read(bytes, alloc)?;
         match kind {
@@ -332,7 +332,7 @@ impl<'a, A: Allocator + Copy> Readable<'a, A> for Symbol<'a> {
 }
 
 /// Appends a name where one is given.
-#[tactic(auto, using(crate::proofs::ShortSymbols::name_appended, crate::proofs::ShortSymbols::no_name_appended))]
+#[tactic(auto, using(crate::proofs::SymbolLaws::name_appended, crate::proofs::SymbolLaws::no_name_appended))]
 fn append_name<B: Allocator>(flags: u32, name: Option<&str>, out: &mut Vec<u8, B>) -> R<()>
     ensures { OnOk result (AppendsShortest (optional (flags_name flags) name_format) (option_map (λ n. n.now) name.entry) out.old.items out.new.items) }
 {
@@ -343,7 +343,7 @@ fn append_name<B: Allocator>(flags: u32, name: Option<&str>, out: &mut Vec<u8, B
 }
 
 /// Appends a symbol of an index.
-#[tactic(auto, using(crate::proofs::ShortSymbols::indexed_appended))]
+#[tactic(auto, using(crate::proofs::SymbolLaws::indexed_appended))]
 fn append_indexed<B: Allocator>(
     kind: SymbolKind,
     flags: u32,
@@ -360,7 +360,7 @@ fn append_indexed<B: Allocator>(
 }
 
 /// Appends a definition where one is given.
-#[tactic(auto, using(crate::proofs::ShortSymbols::definition_appended, crate::proofs::ShortSymbols::no_definition_appended))]
+#[tactic(auto, using(crate::proofs::SymbolLaws::definition_appended, crate::proofs::SymbolLaws::no_definition_appended))]
 fn append_definition<B: Allocator>(
     flags: u32,
     definition: Option<DataSymbolDefinition>,
@@ -375,7 +375,7 @@ fn append_definition<B: Allocator>(
 }
 
 /// Appends a symbol of data.
-#[tactic(auto, using(crate::proofs::ShortSymbols::data_appended))]
+#[tactic(auto, using(crate::proofs::SymbolLaws::data_appended))]
 fn append_data<B: Allocator>(
     flags: u32,
     name: &str,

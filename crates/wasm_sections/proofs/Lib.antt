@@ -18,10 +18,5 @@ pub mod NothingLaws
 pub mod Prefixes
 pub mod ReadPlain
 pub mod ReadItems
-pub mod ReadGlobals
 pub mod ReadLimits
-pub mod ReadTables
-pub mod ReadImports
-pub mod ReadData
-pub mod ReadElements
 pub mod ShortItems

@@ -217,7 +217,7 @@ impl<'a> Spelled for Bytes<'a> {
 }
 
 impl<'a, A: Allocator + Copy> Readable<'a, A> for Bytes<'a> {
-    #[tactic(auto, using(crate::proofs::ReadData::bytes_steps))]
+    #[tactic(auto, using(crate::proofs::DataLaws::bytes_steps))]
     fn read(bytes: &'a [u8], alloc: A) -> Result<(Bytes<'a>, &'a [u8]), ReadFault> {
         let (bytes, rest) = <&'a [u8] as Readable<'a, A>>::read(bytes, alloc)?;
         Ok((Bytes(bytes), rest))
@@ -254,7 +254,7 @@ impl<'a, A: Allocator> Spelled for Segment<'a, A> {
 }
 
 impl<'a, A: Allocator + Copy> Readable<'a, A> for Segment<'a, A> {
-    #[tactic(auto, using(crate::proofs::ReadData::segment_steps))]
+    #[tactic(auto, using(crate::proofs::DataLaws::segment_steps))]
     fn read(bytes: &'a [u8], alloc: A) -> Result<(Segment<'a, A>, &'a [u8]), ReadFault> {
         let (flag, rest) = <u32 as Readable<'a, A>>::read(bytes, alloc)?;
         match flag {
@@ -369,7 +369,7 @@ impl<'a, A: Allocator + Copy> Passed<'a, A> for Segment<'a, A> {
         ensures { UniqueReading data_item }
     {}
 
-    #[tactic(auto, using(crate::proofs::ReadData::segment_steps))]
+    #[tactic(auto, using(crate::proofs::DataLaws::segment_steps))]
     fn pass(bytes: &'a [u8], alloc: A) -> Result<&'a [u8], ReadFault> {
         let (flag, rest) = <u32 as Readable<'a, A>>::read(bytes, alloc)?;
         match flag {

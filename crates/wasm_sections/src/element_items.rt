@@ -53,7 +53,7 @@ impl Spelled for ElementFlag {
 }
 
 impl<'a, A: Allocator + Copy> Readable<'a, A> for ElementFlag {
-    #[tactic(auto, using(crate::proofs::ReadElements::flag_steps))]
+    #[tactic(auto, using(crate::proofs::ElementLaws::flag_steps))]
     fn read(bytes: &'a [u8], alloc: A) -> Result<(ElementFlag, &'a [u8]), ReadFault> {
         let (number, rest) = <u32 as Readable<'a, A>>::read(bytes, alloc)?;
         if number >= 8 {
@@ -101,7 +101,7 @@ pub struct ElementItem<A: Allocator = Global> {
 }
 
 /// Where the elements go, as the flag tells.
-#[tactic(auto, using(crate::proofs::ReadElements::place_steps))]
+#[tactic(auto, using(crate::proofs::ElementLaws::place_steps))]
 fn read_mode<'a, A: Allocator + Copy>(
     flag: ElementFlag,
     bytes: &'a [u8],
@@ -129,7 +129,7 @@ fn read_mode<'a, A: Allocator + Copy>(
 }
 
 /// The indices of functions, behind the byte of their kind where that is told.
-#[tactic(auto, using(crate::proofs::ReadElements::function_steps))]
+#[tactic(auto, using(crate::proofs::ElementLaws::function_steps))]
 fn read_functions<'a, A: Allocator + Copy>(
     told: bool,
     bytes: &'a [u8],
@@ -151,7 +151,7 @@ fn read_functions<'a, A: Allocator + Copy>(
 }
 
 /// Expressions, behind their type where that is told.
-#[tactic(auto, using(crate::proofs::ReadElements::expression_steps))]
+#[tactic(auto, using(crate::proofs::ElementLaws::expression_steps))]
 fn read_expressions<'a, A: Allocator + Copy>(
     told: bool,
     bytes: &'a [u8],
@@ -174,7 +174,7 @@ fn read_expressions<'a, A: Allocator + Copy>(
 }
 
 /// The elements, of the kind that the flag tells.
-#[tactic(auto, using(crate::proofs::ReadElements::list_steps))]
+#[tactic(auto, using(crate::proofs::ElementLaws::list_steps))]
 fn read_elements<'a, A: Allocator + Copy>(
     told: bool,
     of_expressions: bool,
@@ -204,7 +204,7 @@ impl<A: Allocator> Spelled for ElementItem<A> {
 }
 
 impl<'a, A: Allocator + Copy> Readable<'a, A> for ElementItem<A> {
-    #[tactic(auto, using(crate::proofs::ReadElements::element_steps))]
+    #[tactic(auto, using(crate::proofs::ElementLaws::element_steps))]
     fn read(bytes: &'a [u8], alloc: A) -> Result<(ElementItem<A>, &'a [u8]), ReadFault> {
         let (flag, rest) = <ElementFlag as Readable<'a, A>>::read(bytes, alloc)?;
         let (mode, rest) = read_mode(flag, rest, alloc)?;
@@ -318,7 +318,7 @@ impl<A: Allocator> Shorten for ElementItem<A> {
 }
 
 /// Goes over where the elements go, as the flag tells.
-#[tactic(auto, using(crate::proofs::ReadElements::place_steps))]
+#[tactic(auto, using(crate::proofs::ElementLaws::place_steps))]
 fn pass_place<'a, A: Allocator + Copy>(
     flag: ElementFlag,
     bytes: &'a [u8],
@@ -406,7 +406,7 @@ impl<'a, A: Allocator + Copy> Passed<'a, A> for ElementItem<A> {
     #[tactic(auto, using(crate::proofs::ElementLaws::element_unique))]
     fn laws() {}
 
-    #[tactic(auto, using(crate::proofs::ReadElements::element_steps))]
+    #[tactic(auto, using(crate::proofs::ElementLaws::element_steps))]
     fn pass(bytes: &'a [u8], alloc: A) -> Result<&'a [u8], ReadFault> {
         let (flag, rest) = <ElementFlag as Readable<'a, A>>::read(bytes, alloc)?;
         let rest = pass_place(flag, rest, alloc)?;

@@ -116,7 +116,7 @@ impl Spelled for GlobalFlags {
 }
 
 impl<'a, A: Allocator + Copy> Readable<'a, A> for GlobalFlags {
-    #[tactic(auto, using(crate::proofs::ReadGlobals::flag_steps))]
+    #[tactic(auto, using(crate::proofs::GlobalLaws::flag_steps))]
     fn read(bytes: &'a [u8], alloc: A) -> Result<(GlobalFlags, &'a [u8]), ReadFault> {
         let (byte, rest) = <u8 as Readable<'a, A>>::read(bytes, alloc)?;
         if byte >= 0x04 {
@@ -142,7 +142,7 @@ impl Spelled for GlobalType {
 }
 
 impl<'a, A: Allocator + Copy> Readable<'a, A> for GlobalType {
-    #[tactic(auto, using(crate::proofs::ReadGlobals::type_steps))]
+    #[tactic(auto, using(crate::proofs::GlobalLaws::type_steps))]
     fn read(bytes: &'a [u8], alloc: A) -> Result<(GlobalType, &'a [u8]), ReadFault> {
         let ((val_type, flags), rest) = <(ValType, GlobalFlags) as Readable<'a, A>>::read(
             bytes, alloc,
@@ -175,7 +175,7 @@ impl<A: Allocator> Spelled for GlobalItem<A> {
 }
 
 impl<'a, A: Allocator + Copy> Readable<'a, A> for GlobalItem<A> {
-    #[tactic(auto, using(crate::proofs::ReadGlobals::item_steps))]
+    #[tactic(auto, using(crate::proofs::GlobalLaws::item_steps))]
     fn read(bytes: &'a [u8], alloc: A) -> Result<(GlobalItem<A>, &'a [u8]), ReadFault> {
         let ((global_type, init), rest) = <(GlobalType, Expression<A>) as Readable<'a, A>>::read(
             bytes, alloc,
@@ -200,7 +200,7 @@ impl<'a, A: Allocator + Copy> Passed<'a, A> for GlobalItem<A> {
     #[tactic(auto, using(crate::proofs::GlobalLaws::global_item_unique))]
     fn laws() {}
 
-    #[tactic(auto, using(crate::proofs::ReadGlobals::item_steps))]
+    #[tactic(auto, using(crate::proofs::GlobalLaws::item_steps))]
     fn pass(bytes: &'a [u8], alloc: A) -> Result<&'a [u8], ReadFault> {
         let rest = <(Dropped<GlobalType>, Expression<A>) as Passed<'a, A>>::pass(bytes, alloc)?;
         Ok(rest)

@@ -247,7 +247,7 @@ impl Spelled for EntityType {
 }
 
 impl<'a, A: Allocator + Copy> Readable<'a, A> for EntityType {
-    #[tactic(auto, using(crate::proofs::ReadImports::entity_steps))]
+    #[tactic(auto, using(crate::proofs::ImportLaws::entity_steps))]
     fn read(bytes: &'a [u8], alloc: A) -> Result<(EntityType, &'a [u8]), ReadFault> {
         let (kind, rest) = <u8 as Readable<'a, A>>::read(bytes, alloc)?;
         match kind {
@@ -302,7 +302,7 @@ impl<'a, A: Allocator + Copy> Readable<'a, A> for ImportCompact<'a> {
 }
 
 /// The byte of a group, and what follows it, where no single import stands there: behind an empty name the byte is no entity's.
-#[tactic(auto, using(crate::proofs::ReadImports::group_steps))]
+#[tactic(auto, using(crate::proofs::ImportLaws::group_steps))]
 fn group_kind(bytes: &[u8]) -> Option<(u8, &[u8])>
     ensures { MatchOption result (ReadsNothing (prefixed (0x00 ∷ []) group) wide bytes.now) (λ x. (bytes.now ≡ 0x00 ∷ x.0 ∷ x.1.now) × (0x7E ≤ x.0)) }
 {
@@ -332,7 +332,7 @@ impl<'a, A: Allocator> Spelled for Imports<'a, A> {
 }
 
 impl<'a, A: Allocator + Copy> Readable<'a, A> for Imports<'a, A> {
-    #[tactic(auto, using(crate::proofs::ReadImports::import_steps))]
+    #[tactic(auto, using(crate::proofs::ImportLaws::import_steps))]
     fn read(bytes: &'a [u8], alloc: A) -> Result<(Imports<'a, A>, &'a [u8]), ReadFault> {
         let (module, rest) = <&'a str as Readable<'a, A>>::read(bytes, alloc)?;
         let Some((kind, rest)) = group_kind(rest) else {
@@ -396,7 +396,7 @@ impl<'a, A: Allocator + Copy> Passed<'a, A> for PassedImports {
     #[tactic(auto, using(crate::proofs::ImportLaws::import_unique))]
     fn laws() {}
 
-    #[tactic(auto, using(crate::proofs::ReadImports::import_steps))]
+    #[tactic(auto, using(crate::proofs::ImportLaws::import_steps))]
     fn pass(bytes: &'a [u8], alloc: A) -> Result<&'a [u8], ReadFault> {
         let (_module, rest) = <&'a str as Readable<'a, A>>::read(bytes, alloc)?;
         let Some((kind, rest)) = group_kind(rest) else {

@@ -211,7 +211,7 @@ impl<A: Allocator> Spelled for TableItem<A> {
 }
 
 impl<'a, A: Allocator + Copy> Readable<'a, A> for TableItem<A> {
-    #[tactic(auto, using(crate::proofs::ReadTables::table_steps))]
+    #[tactic(auto, using(crate::proofs::TableLaws::table_steps))]
     fn read(bytes: &'a [u8], alloc: A) -> Result<(TableItem<A>, &'a [u8]), ReadFault> {
         let (first, rest) = <u8 as Readable<'a, A>>::read(bytes, alloc)?;
         if first != 0x40 {
@@ -251,7 +251,7 @@ impl<'a, A: Allocator + Copy> Passed<'a, A> for TableItem<A> {
     #[tactic(auto, using(crate::proofs::TableLaws::table_item_unique))]
     fn laws() {}
 
-    #[tactic(auto, using(crate::proofs::ReadTables::table_steps))]
+    #[tactic(auto, using(crate::proofs::TableLaws::table_steps))]
     fn pass(bytes: &'a [u8], alloc: A) -> Result<&'a [u8], ReadFault> {
         let (first, rest) = <u8 as Readable<'a, A>>::read(bytes, alloc)?;
         if first != 0x40 {

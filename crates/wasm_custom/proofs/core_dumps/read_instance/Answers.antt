@@ -1,5 +1,5 @@
 use Rattle.wasm_reader_base.proofs.Faults.{fault_stays}
-use Rattle.wasm_custom.proofs.ReadCoreDumps.{instance_none, instance_reads}
+use Rattle.wasm_custom.proofs.CoreDumpLaws.{instance_none, instance_reads}
 use Rattle.wasm_custom.proofs.core_dumps.read_instance.Goals as goal
 
 pub returns-in_err-module_index-clause-none : goal.returns-in_err-module_index-clause-none

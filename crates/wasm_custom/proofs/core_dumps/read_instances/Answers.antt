@@ -1,7 +1,7 @@
 use Rattle.std.proofs.Common.{sym, ◌∙◌}
 use Rattle.std.proofs.lemmas.Bool.{eqb-false, eqb-true}
 use Rattle.wasm_reader_base.proofs.Faults.{fault_stays}
-use Rattle.wasm_custom.proofs.ReadCoreDumps.{instances_none, instances_nothing, instances_more, instances_read}
+use Rattle.wasm_custom.proofs.CoreDumpLaws.{instances_none, instances_nothing, instances_more, instances_read}
 use Rattle.wasm_custom.proofs.core_dumps.read_instances.Goals as goal
 
 pub returns-in_err-rest-clause-none : goal.returns-in_err-rest-clause-none

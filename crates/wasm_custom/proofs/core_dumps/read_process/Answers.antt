@@ -1,5 +1,5 @@
 use Rattle.wasm_reader_base.proofs.Faults.{fault_stays}
-use Rattle.wasm_custom.proofs.ReadCoreDumps.{process_none, process_fills, process_nothing}
+use Rattle.wasm_custom.proofs.CoreDumpLaws.{process_none, process_fills, process_nothing}
 use Rattle.wasm_custom.proofs.core_dumps.read_process.Goals as goal
 
 pub returns-in_err-rest-clause-none : goal.returns-in_err-rest-clause-none

@@ -1,5 +1,5 @@
 use Rattle.wasm_reader_base.proofs.Faults.{fault_stays}
-use Rattle.wasm_custom.proofs.ReadHints.{no_name, no_hints, hints_fill}
+use Rattle.wasm_custom.proofs.HintLaws.{no_name, no_hints, hints_fill}
 use Rattle.wasm_custom.proofs.hints.read_hints.Goals as goal
 
 pub returns-in_err-rest-clause-none : goal.returns-in_err-rest-clause-none

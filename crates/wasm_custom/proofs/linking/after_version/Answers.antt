@@ -1,5 +1,5 @@
 use Rattle.wasm_reader_base.proofs.Faults.{fault_stays}
-use Rattle.wasm_custom.proofs.ReadLinks.{version_none}
+use Rattle.wasm_custom.proofs.LinkLaws.{version_none}
 use Rattle.wasm_custom.proofs.linking.after_version.Goals as goal
 
 pub returns-in_err-told-clause-none : goal.returns-in_err-told-clause-none

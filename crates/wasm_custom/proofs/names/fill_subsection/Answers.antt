@@ -2,7 +2,7 @@ use Rattle.wasm_reader_base.proofs.Faults.{fault_stays}
 use Rattle.std.proofs.Common.{sym, subst}
 use Rattle.wasm_base.specs.Going.{FillsNothing}
 use Rattle.wasm_custom.specs.Names.{kind_as, inside}
-use Rattle.wasm_custom.proofs.ReadNames.{no_module}
+use Rattle.wasm_custom.proofs.NameLaws.{no_module}
 use Rattle.wasm_custom.proofs.names.fill_subsection.Goals as goal
 
 pub returns-in_err-name-in-Module-clause-none : goal.returns-in_err-name-in-Module-clause-none

@@ -1,6 +1,5 @@
 use Rattle.wasm_reader_base.proofs.Faults.{fault_stays}
-use Rattle.wasm_custom.proofs.ReadProducers.{producers_none, producers_fill}
-use Rattle.wasm_custom.proofs.ReadProducers.{no_producers}
+use Rattle.wasm_custom.proofs.ProducerLaws.{producers_none, producers_fill, no_producers}
 use Rattle.wasm_custom.proofs.producers.read_producers.Goals as goal
 
 pub returns-in_err-rest-clause-none : goal.returns-in_err-rest-clause-none

@@ -3,7 +3,7 @@ use Rattle.wasm_base.specs.Formats.{name, optional}
 use Rattle.wasm_base.specs.Numbers.{wide}
 use Rattle.wasm_base.specs.Reading.{ReadsNothing}
 use Rattle.wasm_reader_base.proofs.Faults.{fault_stays}
-use Rattle.wasm_custom.proofs.ReadSymbols.{indexed_none, indexed_no_index, indexed_no_name}
+use Rattle.wasm_custom.proofs.SymbolLaws.{indexed_none, indexed_no_index, indexed_no_name}
 use Rattle.wasm_custom.proofs.symbols.read_indexed.Goals as goal
 
 pub returns-in_err-flags-clause-none : goal.returns-in_err-flags-clause-none

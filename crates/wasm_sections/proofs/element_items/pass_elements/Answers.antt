@@ -1,5 +1,5 @@
 use Rattle.wasm_reader_base.proofs.Faults.{fault_stays}
-use Rattle.wasm_sections.proofs.ReadElements.{as_expressions, no_expressions, no_functions, as_functions}
+use Rattle.wasm_sections.proofs.ElementLaws.{as_expressions, no_expressions, no_functions, as_functions}
 use Rattle.wasm_sections.proofs.element_items.pass_elements.Goals as goal
 
 pub returns-in_err-rest-clause-none : goal.returns-in_err-rest-clause-none

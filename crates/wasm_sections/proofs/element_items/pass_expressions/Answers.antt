@@ -1,7 +1,7 @@
 use Rattle.wasm_reader_base.proofs.Faults.{fault_stays}
 use Rattle.wasm_base.proofs.ReadingSteps.{then_reads, then_nothing_first, then_nothing_second}
 use Rattle.wasm_base.proofs.TypeLaws.{ref_unique}
-use Rattle.wasm_sections.proofs.ReadElements.{expressions_read, expressions_none, expressions_none_untold, expressions_untold}
+use Rattle.wasm_sections.proofs.ElementLaws.{expressions_read, expressions_none, expressions_none_untold, expressions_untold}
 use Rattle.wasm_sections.proofs.element_items.pass_expressions.Goals as goal
 
 pub returns-in_err-_type-clause-none : goal.returns-in_err-_type-clause-none

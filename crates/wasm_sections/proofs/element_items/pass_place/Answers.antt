@@ -1,6 +1,6 @@
 use Rattle.wasm_reader_base.proofs.Faults.{fault_stays}
 use Rattle.wasm_sections.specs.Elements.{element_flag_view}
-use Rattle.wasm_sections.proofs.ReadElements.{place_declared, place_passive, place_in_table, place_no_table, place_untold, place_no_offset}
+use Rattle.wasm_sections.proofs.ElementLaws.{place_declared, place_passive, place_in_table, place_no_table, place_untold, place_no_offset}
 use Rattle.wasm_sections.proofs.element_items.pass_place.Goals as goal
 
 pub returns-in-true-true-clause-found : goal.returns-in-true-true-clause-found

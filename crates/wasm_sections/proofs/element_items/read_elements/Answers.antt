@@ -1,5 +1,5 @@
 use Rattle.wasm_reader_base.proofs.Faults.{fault_stays}
-use Rattle.wasm_sections.proofs.ReadElements.{no_expressions, no_functions, as_functions}
+use Rattle.wasm_sections.proofs.ElementLaws.{no_expressions, no_functions, as_functions}
 use Rattle.wasm_sections.proofs.element_items.read_elements.Goals as goal
 
 pub returns-in_err-elements-clause-none : goal.returns-in_err-elements-clause-none

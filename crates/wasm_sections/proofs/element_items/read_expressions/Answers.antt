@@ -1,5 +1,5 @@
 use Rattle.wasm_reader_base.proofs.Faults.{fault_stays}
-use Rattle.wasm_sections.proofs.ReadElements.{expressions_none, expressions_none_untold, expressions_untold}
+use Rattle.wasm_sections.proofs.ElementLaws.{expressions_none, expressions_none_untold, expressions_untold}
 use Rattle.wasm_sections.proofs.element_items.read_expressions.Goals as goal
 
 pub returns-in_err-ty-clause-none : goal.returns-in_err-ty-clause-none

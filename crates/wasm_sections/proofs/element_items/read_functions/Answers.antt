@@ -1,5 +1,5 @@
 use Rattle.wasm_reader_base.proofs.Faults.{fault_stays}
-use Rattle.wasm_sections.proofs.ReadElements.{functions_read, functions_no_kind, functions_other, functions_none, functions_untold, functions_none_untold}
+use Rattle.wasm_sections.proofs.ElementLaws.{functions_read, functions_no_kind, functions_other, functions_none, functions_untold, functions_none_untold}
 use Rattle.wasm_sections.proofs.element_items.read_functions.Goals as goal
 
 pub returns-in_err-kind-clause-none : goal.returns-in_err-kind-clause-none

@@ -1,6 +1,6 @@
 use Rattle.wasm_reader_base.proofs.Faults.{fault_stays}
 use Rattle.wasm_sections.specs.Elements.{element_flag_view}
-use Rattle.wasm_sections.proofs.ReadElements.{place_no_table, place_no_offset}
+use Rattle.wasm_sections.proofs.ElementLaws.{place_no_table, place_no_offset}
 use Rattle.wasm_sections.proofs.element_items.read_mode.Goals as goal
 
 pub returns-in_err-table-in-false-true-clause-none : goal.returns-in_err-table-in-false-true-clause-none

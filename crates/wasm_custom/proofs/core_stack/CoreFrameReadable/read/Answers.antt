@@ -1,5 +1,5 @@
 use Rattle.wasm_reader_base.proofs.Faults.{fault_stays}
-use Rattle.wasm_custom.proofs.ReadStacks.{frame_reads, frame_no_place, frame_no_locals, frame_no_stack}
+use Rattle.wasm_custom.proofs.CoreStackLaws.{frame_reads, frame_no_place, frame_no_locals, frame_no_stack}
 use Rattle.wasm_custom.proofs.core_stack.CoreFrameReadable.read.Goals as goal
 
 pub returns-in_err-instanceidx-clause-none : goal.returns-in_err-instanceidx-clause-none

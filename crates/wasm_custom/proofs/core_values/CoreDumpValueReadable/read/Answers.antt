@@ -3,9 +3,8 @@ use Rattle.wasm_base.specs.Numbers.{wide}
 use Rattle.wasm_base.specs.Reading.{Reads}
 use Rattle.wasm_custom.specs.CoreValues.{value}
 use Rattle.wasm_custom.specs.declared.core_values.CoreDumpValue.TheVariants as values
-use Rattle.wasm_custom.proofs.ReadStacks.{i32_reads, i64_reads}
+use Rattle.wasm_custom.proofs.CoreStackLaws.{i32_reads, i64_reads, value_none, i32_none, i64_none, f32_reads, f32_none, f64_reads, f64_none}
 use Rattle.wasm_reader_base.proofs.Faults.{fault_stays}
-use Rattle.wasm_custom.proofs.ReadStacks.{value_none, i32_none, i64_none, f32_reads, f32_none, f64_reads, f64_none}
 use Rattle.wasm_custom.proofs.core_values.CoreDumpValueReadable.read.Goals as goal
 
 pub returns-in_ok-value-in-127-clause-found : goal.returns-in_ok-value-in-127-clause-found

@@ -1,5 +1,5 @@
 use Rattle.wasm_reader_base.proofs.Faults.{fault_stays}
-use Rattle.wasm_custom.proofs.ReadHints.{hint_none, hint_nothing, hint_reads}
+use Rattle.wasm_custom.proofs.HintLaws.{hint_none, hint_nothing, hint_reads}
 use Rattle.wasm_custom.proofs.hints.BranchHintReadable.read.Goals as goal
 
 pub returns-in_err-branch_func_offset-clause-none : goal.returns-in_err-branch_func_offset-clause-none

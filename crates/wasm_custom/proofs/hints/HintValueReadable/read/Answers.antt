@@ -1,5 +1,5 @@
 use Rattle.wasm_reader_base.proofs.Faults.{fault_stays}
-use Rattle.wasm_custom.proofs.ReadHints.{value_none}
+use Rattle.wasm_custom.proofs.HintLaws.{value_none}
 use Rattle.wasm_custom.proofs.hints.HintValueReadable.read.Goals as goal
 
 pub returns-in_err-value-clause-none : goal.returns-in_err-value-clause-none

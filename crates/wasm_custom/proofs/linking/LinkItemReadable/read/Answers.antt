@@ -1,5 +1,5 @@
 use Rattle.wasm_reader_base.proofs.Faults.{fault_stays}
-use Rattle.wasm_custom.proofs.ReadLinks.{link_none, symbols_read, symbols_no_frame, symbols_nothing}
+use Rattle.wasm_custom.proofs.LinkLaws.{link_none, symbols_read, symbols_no_frame, symbols_nothing}
 use Rattle.wasm_custom.proofs.linking.LinkItemReadable.read.Goals as goal
 
 pub returns-in_err-id-clause-none : goal.returns-in_err-id-clause-none

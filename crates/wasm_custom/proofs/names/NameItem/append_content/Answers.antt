@@ -2,7 +2,7 @@ use Rattle.std.proofs.Common.{sym, subst, map}
 use Rattle.wasm_base.proofs.Outcomes.{on_ok}
 use Rattle.wasm_reader_base.specs.Shortest.{AppendsShortest}
 use Rattle.wasm_custom.specs.Names.{inside, id_of, held_by, names_view, inside_view, name_item_view}
-use Rattle.wasm_custom.proofs.ShortNames.{map_appended, indirect_appended}
+use Rattle.wasm_custom.proofs.NameLaws.{map_appended, indirect_appended}
 use Rattle.wasm_custom.proofs.names.NameItem.append_content.Goals as goal
 
 pub returns-in-Map : goal.returns-in-Map

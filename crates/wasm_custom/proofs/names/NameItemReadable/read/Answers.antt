@@ -1,5 +1,5 @@
 use Rattle.wasm_reader_base.proofs.Faults.{fault_stays}
-use Rattle.wasm_custom.proofs.ReadNames.{subsection_none, subsection_no_frame, subsection_nothing, subsection_reads}
+use Rattle.wasm_custom.proofs.NameLaws.{subsection_none, subsection_no_frame, subsection_nothing, subsection_reads}
 use Rattle.wasm_custom.proofs.names.NameItemReadable.read.Goals as goal
 
 pub returns-in_err-id-clause-none : goal.returns-in_err-id-clause-none

@@ -1,5 +1,5 @@
 use Rattle.wasm_reader_base.proofs.Faults.{fault_stays}
-use Rattle.wasm_custom.proofs.ReadSymbols.{definition_none, definition_reads}
+use Rattle.wasm_custom.proofs.SymbolLaws.{definition_none, definition_reads}
 use Rattle.wasm_custom.proofs.symbols.DataSymbolDefinitionReadable.read.Goals as goal
 
 pub returns-in_err-index-clause-none : goal.returns-in_err-index-clause-none

@@ -1,5 +1,5 @@
 use Rattle.wasm_reader_base.proofs.Faults.{fault_stays}
-use Rattle.wasm_custom.proofs.ReadSymbols.{symbol_none, function_reads, function_none, of_data_reads, of_data_none, global_reads, global_none}
+use Rattle.wasm_custom.proofs.SymbolLaws.{symbol_none, function_reads, function_none, of_data_reads, of_data_none, global_reads, global_none}
 use Rattle.wasm_custom.proofs.symbols.SymbolReadable.read.Goals as goal
 
 pub returns-in_err-kind-clause-none : goal.returns-in_err-kind-clause-none

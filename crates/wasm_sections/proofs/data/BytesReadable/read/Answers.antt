@@ -1,5 +1,5 @@
 use Rattle.wasm_reader_base.proofs.Faults.{fault_stays}
-use Rattle.wasm_sections.proofs.ReadData.{bytes_none, bytes_read}
+use Rattle.wasm_sections.proofs.DataLaws.{bytes_none, bytes_read}
 use Rattle.wasm_sections.proofs.data.BytesReadable.read.Goals as goal
 
 pub returns-in_err-bytes-clause-none : goal.returns-in_err-bytes-clause-none

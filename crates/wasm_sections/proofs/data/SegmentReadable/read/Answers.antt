@@ -1,6 +1,6 @@
 use Rattle.wasm_reader_base.proofs.Faults.{fault_stays}
 use Rattle.wasm_sections.specs.Constants.{instructions_view}
-use Rattle.wasm_sections.proofs.ReadData.{segment_none, first_none, passive_none, passive_reads, other_no_memory, other_none, other_reads, first_reads}
+use Rattle.wasm_sections.proofs.DataLaws.{segment_none, first_none, passive_none, passive_reads, other_no_memory, other_none, other_reads, first_reads}
 use Rattle.wasm_sections.proofs.data.SegmentReadable.read.Goals as goal
 
 pub returns-in_err-flag-clause-none : goal.returns-in_err-flag-clause-none

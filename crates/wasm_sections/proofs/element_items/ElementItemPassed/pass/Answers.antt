@@ -3,7 +3,7 @@ use Rattle.std.proofs.Common.{subst}
 use Rattle.wasm_base.specs.Numbers.{wide}
 use Rattle.wasm_base.specs.Reading.{ReadsNothing}
 use Rattle.wasm_sections.specs.Elements.{elements_as, element_flag_view}
-use Rattle.wasm_sections.proofs.ReadElements.{element_none, element_no_place, element_no_list, element_reads}
+use Rattle.wasm_sections.proofs.ElementLaws.{element_none, element_no_place, element_no_list, element_reads}
 use Rattle.wasm_sections.proofs.element_items.ElementItemPassed.pass.Goals as goal
 
 pub returns-in_err-flag-clause-none : goal.returns-in_err-flag-clause-none

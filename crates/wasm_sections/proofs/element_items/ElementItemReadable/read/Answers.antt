@@ -1,5 +1,5 @@
 use Rattle.wasm_reader_base.proofs.Faults.{fault_stays}
-use Rattle.wasm_sections.proofs.ReadElements.{element_none, element_no_place, element_reads}
+use Rattle.wasm_sections.proofs.ElementLaws.{element_none, element_no_place, element_reads}
 use Rattle.wasm_sections.specs.Elements.{element_flag_view}
 use Rattle.wasm_sections.proofs.element_items.ElementItemReadable.read.Goals as goal
 

@@ -1,5 +1,5 @@
 use Rattle.wasm_reader_base.proofs.Faults.{fault_stays}
-use Rattle.wasm_sections.proofs.ReadGlobals.{item_none, item_reads}
+use Rattle.wasm_sections.proofs.GlobalLaws.{item_none, item_reads}
 use Rattle.wasm_sections.proofs.global.GlobalItemReadable.read.Goals as goal
 
 pub returns-in_err-global_type-clause-none : goal.returns-in_err-global_type-clause-none

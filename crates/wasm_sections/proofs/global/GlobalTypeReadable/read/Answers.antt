@@ -1,5 +1,5 @@
 use Rattle.wasm_reader_base.proofs.Faults.{fault_stays}
-use Rattle.wasm_sections.proofs.ReadGlobals.{type_none, type_reads}
+use Rattle.wasm_sections.proofs.GlobalLaws.{type_none, type_reads}
 use Rattle.wasm_sections.proofs.global.GlobalTypeReadable.read.Goals as goal
 
 pub returns-in_err-val_type-clause-none : goal.returns-in_err-val_type-clause-none

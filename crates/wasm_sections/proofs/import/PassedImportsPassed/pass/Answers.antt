@@ -1,6 +1,6 @@
 use Rattle.std.proofs.Common.{rules}
 use Rattle.wasm_reader_base.proofs.Faults.{fault_stays}
-use Rattle.wasm_sections.proofs.ReadImports.{import_no_module, single_no_name, single_no_type, single_reads, named_reads, named_none, alike_reads, alike_no_type, alike_no_names, group_unknown}
+use Rattle.wasm_sections.proofs.ImportLaws.{import_no_module, single_no_name, single_no_type, single_reads, named_reads, named_none, alike_reads, alike_no_type, alike_no_names, group_unknown}
 use Rattle.wasm_sections.proofs.import.PassedImportsPassed.pass.Goals as goal
 
 pub returns-in_err-_module-clause-none : goal.returns-in_err-_module-clause-none

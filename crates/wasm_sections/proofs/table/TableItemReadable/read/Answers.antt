@@ -1,5 +1,5 @@
 use Rattle.wasm_reader_base.proofs.Faults.{fault_stays}
-use Rattle.wasm_sections.proofs.ReadTables.{table_reads, table_none, table_no_type, table_with, table_no_second, table_no_with}
+use Rattle.wasm_sections.proofs.TableLaws.{table_reads, table_none, table_no_type, table_with, table_no_second, table_no_with}
 use Rattle.wasm_sections.proofs.table.TableItemReadable.read.Goals as goal
 
 pub returns-in_err-first-clause-none : goal.returns-in_err-first-clause-none
