@@ -1,25 +1,17 @@
 -- What a kind of sections owes: what is read as it and written of it, and the ids and names that stand for it.
-use Rattle.std.proofs.Common.{◌≡◌, ℕ, ◌+◌, List, [], ◌++◌, length, drop, map, refl, sym, ap, subst, ◌∙◌, arith, ◌≤◌, ◌≢◌, ◌<◌, ◌^◌, ◌-◌, suc, ◌∷◌, take, Option, Some, None, append_assoc, append-nil, Bool, true, false, if◌then◌else◌, cond}
-use Rattle.std.proofs.lemmas.List.{length-append, length-drop, append_cancel_left, map-id, drop_at, length-map, take_at, map-append, take-append-drop}
+use Rattle.std.proofs.Common.{◌≡◌, ℕ, List, [], ◌++◌, map, refl, sym, ap, subst, ◌∙◌, ◌≢◌, ◌∷◌, Bool, true, false, if◌then◌else◌, cond}
+use Rattle.std.proofs.lemmas.List.{map-id}
 use Rattle.wasm_base.specs.Numbers.{shortest, wide}
-use Rattle.wasm_base.specs.Formats.{u32, name, any_bytes, frame, pair, vec, Format, mapped, any_section, byte, fixed, header, members, wasm_module}
-use Rattle.wasm_base.specs.Reading.{UniqueReading, UniqueWholeReading, Reads, ReadsNothing, BeginsWith}
-use Rattle.wasm_base.specs.Texts.{frame_text, FrameFits, vec_text, VecFits}
-use Rattle.wasm_base.proofs.BaseLaws.{name_unique, frame_bytes_unique}
-use Rattle.wasm_base.proofs.FormatLaws.{vec_unique, frame_unique, whole_from_alone, mapped_whole, pair_whole, any_bytes_whole, byte_unique, begins_then}
+use Rattle.wasm_base.specs.Formats.{u32, name, any_bytes, pair, vec, Format, mapped}
+use Rattle.wasm_base.specs.Reading.{UniqueWholeReading, Reads, ReadsNothing}
+use Rattle.wasm_base.specs.Texts.{vec_text, VecFits}
+use Rattle.wasm_base.proofs.BaseLaws.{name_unique}
+use Rattle.wasm_base.proofs.FormatLaws.{vec_unique, whole_from_alone, mapped_whole, pair_whole, any_bytes_whole}
 use Rattle.wasm_base.proofs.NumberLaws.{u32_unique}
-use Rattle.wasm_base.proofs.ReadingSteps.{reads_same, then_nothing_first, then_nothing_second, then_reads, members_start, members_step}
-use Rattle.wasm_base.proofs.TextLaws.{frame_spelled}
-use Rattle.wasm_code.specs.Bodies.{Body, body}
+use Rattle.wasm_base.proofs.ReadingSteps.{reads_same}
 use Rattle.wasm_code.proofs.BodyLaws.{frame_body_unique}
-use Rattle.wasm_insn.specs.Plain.{Plain}
-use Rattle.wasm_sections.specs.DataSegments.{DataItem, data_item}
-use Rattle.wasm_sections.specs.Elements.{ElementItem, element}
 use Rattle.wasm_sections.specs.Exports.{ExportFits, export_text, item_of, export}
-use Rattle.wasm_sections.specs.Globals.{GlobalItem, global_item}
-use Rattle.wasm_sections.specs.Imports.{ImportItem, import_format}
 use Rattle.wasm_sections.specs.Memories.{memory_text, memory_type}
-use Rattle.wasm_sections.specs.Tables.{TableItem, table_item}
 use Rattle.wasm_sections.specs.Tags.{tag_text, tag_type}
 use Rattle.wasm_sections.specs.declared.export.Export.{Export}
 use Rattle.wasm_sections.specs.declared.memory.MemoryType.{MemoryType}
@@ -32,42 +24,26 @@ use Rattle.wasm_sections.proofs.ImportLaws.{import_unique}
 use Rattle.wasm_sections.proofs.MemoryLaws.{memory_unique, memory_spelled}
 use Rattle.wasm_sections.proofs.TableLaws.{table_item_unique}
 use Rattle.wasm_sections.proofs.TagLaws.{tag_unique, tag_spelled}
-use Rattle.wasm_types.specs.RecTypes.{TypeItem, type_item}
 use Rattle.wasm_types.proofs.TypeLaws.{type_unique}
-use Rattle.wasm_custom.specs.CoreDumps.{Instance, core_name, modules_name, instances_name}
-use Rattle.wasm_custom.specs.CoreStacks.{StackFrame, stack_name}
-use Rattle.wasm_custom.specs.Hints.{Hints as FunctionHints, hints_name}
-use Rattle.wasm_custom.specs.Linking.{LinkItem, linking_name}
+use Rattle.wasm_custom.specs.CoreDumps.{core_name, modules_name, instances_name}
+use Rattle.wasm_custom.specs.CoreStacks.{stack_name}
+use Rattle.wasm_custom.specs.Hints.{hints_name}
+use Rattle.wasm_custom.specs.Linking.{linking_name}
 use Rattle.wasm_custom.specs.Names.{NameItem, name_name}
-use Rattle.wasm_custom.specs.Producers.{Field, producers_name}
-use Rattle.wasm_custom.specs.Readings.{name_payload, linking_payload, producers_payload, hints_payload, core_payload, modules_payload, instances_payload, stack_payload}
+use Rattle.wasm_custom.specs.Producers.{producers_name}
+use Rattle.wasm_custom.specs.Readings.{name_payload}
 use Rattle.wasm_custom.proofs.SectionLaws.{name_whole, linking_whole, producers_whole, hints_whole, modules_whole, instances_whole, core_whole, stack_whole}
 use Rattle.wasm_reader_base.specs.Shortest.{AppendsShortest}
 use Rattle.wasm_reader_base.proofs.ShortTexts.{text_appended, pair_appended, mapped_appended, records_appended}
 use Rattle.wasm_reader.specs.Kinds.{Contents, Bodies, Segments, DataCount, Elements, Exports, Functions, Globals, Imports, Memories, Start, Tables, Tags, Types, Names, Linking, Producers, Hints, Core, CoreModules, CoreInstances, CoreStack, Custom, Raw, content, kind_in, number_in, kind_among, known_kinds, kind_of_id, kind_named}
-use Rattle.wasm_reader.specs.Sections.{section, Takes, Shortens, HaveOneText}
 use Rattle.wasm_reader.specs.declared.kinds.SectionKind.{SectionKind}
 use Rattle.wasm_reader.specs.declared.kinds.SectionKind.TheVariants as kinds
 use Rattle.wasm_sections.proofs.ReadPlain.{memory_is, tag_is, export_short}
 use Rattle.wasm_base.specs.Going.{FillsNothing}
-use Rattle.wasm_reader_base.proofs.ReadFrames.{filled_reads, filled_none, filled_nothing}
-use Rattle.std.specs.List.{AllByRecursion, flat_map}
-use Rattle.std.proofs.lemmas.Grind.{flat_map-append}
-use Rattle.wasm_base.proofs.ModuleLaws.{section_unique}
-use Rattle.wasm_reader.specs.Modules.{Sized, sized_section, sized_module, line_of, HasLines, StopsBehind}
-use Rattle.wasm_reader.specs.Outlines.{Section, IsSection, bytes_of, count_in, IsCount, IsOutline, AreOutlines, HasOutline, EndsAt, IsNameOf, kind_at, section_kind_of}
-use Rattle.wasm_reader.specs.declared.outlines.Outlined.{Outlined}
-use Rattle.wasm_sections.proofs.Prefixes.{prefixed_reads}
+use Rattle.wasm_reader.specs.Outlines.{count_in}
 use Rattle.std.specs.Str.{bytes_eq}
 use Rattle.wasm_custom.specs.Customs.{named_payload}
-use Rattle.wasm_reader.specs.Shortening.{holds_offsets, IsWritten, Rewrite, IsRewrite, written, written_as, AreSettled}
-use Rattle.wasm_reader.specs.declared.whole.How.{How}
-use Rattle.wasm_reader.specs.declared.whole.How.TheVariants.{Shortest, Kept, LeftOut}
-use Rattle.wasm_reader.specs.declared.whole.Offsets.{Offsets}
-use Rattle.wasm_reader.specs.declared.whole.Offsets.TheVariants.{LeaveOut}
 use Rattle.std.proofs.lemmas.Bool.{ne_eqb}
-use Rattle.wasm_reader_base.proofs.ReadWhole.{member_shorter, whole_reads}
-use Rattle.wasm_reader.specs.declared.modules.Listed.{Listed}
 
 -- ---- contents
 
@@ -204,6 +180,7 @@ pub raw_kind : (id : ℕ) → id ≢ 0 → id ≢ 2 → id ≢ 3 → id ≢ 4 �
 raw_kind id a b c d e f g h i j k l m = unknown_kind known_kinds id (a, (b, (c, (d, (e, (f, (g, (h, (i, (j, (k, (l, (m, tt)))))))))))))
 
 pub ruleset kind_steps = (raw_kind)
+
 for_if : (P : SectionKind → Type 0) (b : Bool) {x y : SectionKind} → P x → P y → P (if b then x else y)
 for_if P true p q = p
 for_if P false p q = q
@@ -252,27 +229,27 @@ keeps_name n = for_named (KeepsName n)
 -- ---- numbers of items
 
 -- All kinds but types have as many items in an outline as in a list.
-pub counted_alike : (kind : SectionKind) (x : Contents) → kind ≢ kinds.Types → content kind wide payload x → count_in x ≡ number_in x
-counted_alike kinds.Types x other h = absurd (other refl)
-counted_alike kinds.Bodies x other h = ap count_in (sym h.1) ∙ ap number_in h.1
-counted_alike kinds.Segments x other h = ap count_in (sym h.1) ∙ ap number_in h.1
-counted_alike kinds.DataCount x other h = ap count_in (sym h.1) ∙ ap number_in h.1
-counted_alike kinds.Elements x other h = ap count_in (sym h.1) ∙ ap number_in h.1
-counted_alike kinds.Exports x other h = ap count_in (sym h.1) ∙ ap number_in h.1
-counted_alike kinds.Functions x other h = ap count_in (sym h.1) ∙ ap number_in h.1
-counted_alike kinds.Globals x other h = ap count_in (sym h.1) ∙ ap number_in h.1
-counted_alike kinds.Imports x other h = ap count_in (sym h.1) ∙ ap number_in h.1
-counted_alike kinds.Memories x other h = ap count_in (sym h.1) ∙ ap number_in h.1
-counted_alike kinds.Start x other h = ap count_in (sym h.1) ∙ ap number_in h.1
-counted_alike kinds.Tables x other h = ap count_in (sym h.1) ∙ ap number_in h.1
-counted_alike kinds.Tags x other h = ap count_in (sym h.1) ∙ ap number_in h.1
-counted_alike kinds.Names x other h = ap count_in (sym h.1) ∙ ap number_in h.1
-counted_alike kinds.Linking x other h = ap count_in (sym h.1) ∙ ap number_in h.1
-counted_alike kinds.Producers x other h = ap count_in (sym h.1) ∙ ap number_in h.1
-counted_alike kinds.Hints x other h = ap count_in (sym h.1) ∙ ap number_in h.1
-counted_alike kinds.Core x other h = ap count_in (sym h.1) ∙ ap number_in h.1
-counted_alike kinds.CoreModules x other h = ap count_in (sym h.1) ∙ ap number_in h.1
-counted_alike kinds.CoreInstances x other h = ap count_in (sym h.1) ∙ ap number_in h.1
-counted_alike kinds.CoreStack x other h = ap count_in (sym h.1) ∙ ap number_in h.1
-counted_alike kinds.Custom x other h = ap count_in (sym h.1) ∙ ap number_in h.1
-counted_alike kinds.Raw x other h = ap count_in (sym h.1) ∙ ap number_in h.1
+pub counted_alike : (kind : SectionKind) (payload : List ℕ) (x : Contents) → kind ≢ kinds.Types → content kind wide payload x → count_in x ≡ number_in x
+counted_alike kinds.Types payload x other h = absurd (other refl)
+counted_alike kinds.Bodies payload x other h = ap count_in (sym h.1) ∙ ap number_in h.1
+counted_alike kinds.Segments payload x other h = ap count_in (sym h.1) ∙ ap number_in h.1
+counted_alike kinds.DataCount payload x other h = ap count_in (sym h.1) ∙ ap number_in h.1
+counted_alike kinds.Elements payload x other h = ap count_in (sym h.1) ∙ ap number_in h.1
+counted_alike kinds.Exports payload x other h = ap count_in (sym h.1) ∙ ap number_in h.1
+counted_alike kinds.Functions payload x other h = ap count_in (sym h.1) ∙ ap number_in h.1
+counted_alike kinds.Globals payload x other h = ap count_in (sym h.1) ∙ ap number_in h.1
+counted_alike kinds.Imports payload x other h = ap count_in (sym h.1) ∙ ap number_in h.1
+counted_alike kinds.Memories payload x other h = ap count_in (sym h.1) ∙ ap number_in h.1
+counted_alike kinds.Start payload x other h = ap count_in (sym h.1) ∙ ap number_in h.1
+counted_alike kinds.Tables payload x other h = ap count_in (sym h.1) ∙ ap number_in h.1
+counted_alike kinds.Tags payload x other h = ap count_in (sym h.1) ∙ ap number_in h.1
+counted_alike kinds.Names payload x other h = ap count_in (sym h.1) ∙ ap number_in h.1
+counted_alike kinds.Linking payload x other h = ap count_in (sym h.1) ∙ ap number_in h.1
+counted_alike kinds.Producers payload x other h = ap count_in (sym h.1) ∙ ap number_in h.1
+counted_alike kinds.Hints payload x other h = ap count_in (sym h.1) ∙ ap number_in h.1
+counted_alike kinds.Core payload x other h = ap count_in (sym h.1) ∙ ap number_in h.1
+counted_alike kinds.CoreModules payload x other h = ap count_in (sym h.1) ∙ ap number_in h.1
+counted_alike kinds.CoreInstances payload x other h = ap count_in (sym h.1) ∙ ap number_in h.1
+counted_alike kinds.CoreStack payload x other h = ap count_in (sym h.1) ∙ ap number_in h.1
+counted_alike kinds.Custom payload x other h = ap count_in (sym h.1) ∙ ap number_in h.1
+counted_alike kinds.Raw payload x other h = ap count_in (sym h.1) ∙ ap number_in h.1

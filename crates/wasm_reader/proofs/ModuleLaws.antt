@@ -9,7 +9,7 @@ use Rattle.wasm_base.proofs.FormatLaws.{byte_unique, begins_then, same_pair}
 use Rattle.wasm_reader.specs.Kinds.{kind_of_id, Contents, content}
 use Rattle.wasm_reader.specs.Modules.{sized_section, sized_module, line_of, HasLines, StopsAt, HaveOneListing}
 use Rattle.wasm_reader.specs.declared.modules.Listed.{Listed}
-use Rattle.wasm_reader.proofs.ShortSections.{content_whole}
+use Rattle.wasm_reader.proofs.KindLaws.{content_whole}
 
 -- ---- a section
 

@@ -1,8 +1,6 @@
 -- How a list of a module's sections is made.
-use Rattle.wasm_reader.specs.Kinds.{kind_among, known_kinds, kind_of_id, Contents, content}
-use Rattle.wasm_reader.proofs.KindLaws.{content_whole, kind_is, of_kind, none_of_kind, says_nothing, keeps_name, counted_alike, contents}
-use Rattle.std.proofs.Common.{◌≡◌, ◌≢◌, ℕ, ◌<◌, ◌^◌, List, [], ◌∷◌, ◌++◌, length, map, take, drop, cond, refl, sym, ap, subst, ◌∙◌, arith}
-use Rattle.std.proofs.lemmas.Bool.{ne_eqb}
+use Rattle.wasm_reader.specs.Kinds.{kind_of_id, Contents, content}
+use Rattle.std.proofs.Common.{◌≡◌, ◌≢◌, ℕ, ◌<◌, ◌^◌, List, [], ◌∷◌, ◌++◌, length, map, take, drop, refl, sym, ap, subst, ◌∙◌, arith}
 use Rattle.std.proofs.lemmas.List.{map-append, take-append-drop, take_at, length-append, length-map}
 use Rattle.wasm_base.specs.Going.{FillsNothing}
 use Rattle.wasm_base.specs.Numbers.{wide}
@@ -15,7 +13,6 @@ use Rattle.wasm_reader_base.proofs.ReadWhole.{member_shorter}
 use Rattle.wasm_reader.specs.Modules.{Sized, sized_section, sized_module, line_of, HasLines, StopsBehind}
 use Rattle.wasm_reader.specs.declared.modules.Listed.{Listed}
 use Rattle.wasm_reader.specs.declared.kinds.SectionKind.{SectionKind}
-use Rattle.wasm_reader.specs.declared.kinds.SectionKind.TheVariants as kinds
 use Rattle.wasm_sections.proofs.Prefixes.{prefixed_reads}
 use Rattle.wasm_reader_base.proofs.ReadWhole.{whole_reads}
 
@@ -36,8 +33,6 @@ header_other bytes front f other = record { none = λ u rest h. other (f ∙ ap 
 pub ruleset header_steps = (header_found, header_short, header_other)
 
 -- ---- kinds
-
-
 
 -- ---- lines
 

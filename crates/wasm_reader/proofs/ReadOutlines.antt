@@ -1,6 +1,6 @@
 -- How an outline of a module is made.
 use Rattle.wasm_reader.specs.Kinds.{number_in, Contents, Types, content}
-use Rattle.wasm_reader.proofs.KindLaws.{content_whole, kind_is, of_kind, none_of_kind, says_nothing, keeps_name, counted_alike, contents}
+use Rattle.wasm_reader.proofs.KindLaws.{content_whole, counted_alike}
 use Rattle.std.proofs.Common.{◌≡◌, ◌≢◌, ℕ, ◌<◌, ◌^◌, ◌+◌, ◌-◌, suc, List, [], ◌∷◌, ◌++◌, length, map, take, Option, Some, None, refl, sym, ap, subst, ◌∙◌, append_assoc, append-nil, arith}
 use Rattle.std.specs.List.{AllByRecursion, flat_map}
 use Rattle.std.proofs.lemmas.Grind.{flat_map-append}
@@ -19,7 +19,6 @@ use Rattle.wasm_reader.specs.declared.kinds.SectionKind.{SectionKind}
 use Rattle.wasm_reader.specs.declared.kinds.SectionKind.TheVariants as kinds
 use Rattle.wasm_reader.proofs.ModuleLaws.{one_way}
 use Rattle.wasm_sections.proofs.Prefixes.{prefixed_reads}
-use Rattle.wasm_reader.proofs.ShortSections.{content_whole}
 
 -- ---- a section as it stands
 
@@ -61,7 +60,7 @@ types_few payload types h = h.first.range
 
 -- A number that a list of a module tells, of a kind other than types.
 pub listed_count : (kind : SectionKind) (payload : List ℕ) (x : Contents) (number : Option ℕ) → kind ≢ kinds.Types → content kind wide payload x → number ≡ number_in x → IsCount kind payload number
-listed_count kind payload x number other h e = same_count kind payload x number h (counted_alike kind x other h ∙ sym e)
+listed_count kind payload x number other h e = same_count kind payload x number h (counted_alike kind payload x other h ∙ sym e)
 
 -- Nothing is counted where nothing is read.
 pub not_counted : (kind : SectionKind) (payload : List ℕ) → FillsNothing (content kind) payload → IsCount kind payload None

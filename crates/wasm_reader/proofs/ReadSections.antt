@@ -1,22 +1,14 @@
 -- How the content of a section is read.
-use Rattle.wasm_reader.specs.Kinds.{Contents, Functions, Memories, Start, Tags, Names, Custom, Raw, content}
-use Rattle.wasm_reader.proofs.KindLaws.{content_whole, kind_is, of_kind, none_of_kind, says_nothing, keeps_name, counted_alike, contents}
-use Rattle.std.proofs.Common.{◌≡◌, ℕ, ◌≤◌, ◌+◌, List, length, map, drop, refl, sym, ap, subst, ◌∙◌, arith}
-use Rattle.std.proofs.lemmas.List.{map-id, length-append, drop_at}
+use Rattle.wasm_reader.specs.Kinds.{Contents, content}
+use Rattle.std.proofs.Common.{◌≡◌, ℕ, ◌≤◌, ◌+◌, List, length, drop, sym, ap, subst, ◌∙◌, arith}
+use Rattle.std.proofs.lemmas.List.{length-append, drop_at}
 use Rattle.wasm_base.specs.Going.{FillsNothing}
 use Rattle.wasm_base.specs.Numbers.{wide}
-use Rattle.wasm_base.specs.Formats.{Format, u32, any_bytes, frame, mapped, name, vec}
+use Rattle.wasm_base.specs.Formats.{Format, any_bytes, frame}
 use Rattle.wasm_base.specs.Reading.{Reads, ReadsNothing}
 use Rattle.wasm_reader_base.proofs.ReadFrames.{filled_reads, filled_none, filled_nothing}
-use Rattle.wasm_sections.specs.Memories.{memory_type}
-use Rattle.wasm_sections.specs.Tags.{tag_type}
-use Rattle.wasm_sections.specs.declared.memory.MemoryType.{MemoryType}
-use Rattle.wasm_sections.specs.declared.tag.TagType.{TagType}
-use Rattle.wasm_custom.specs.Names.{NameItem}
-use Rattle.wasm_custom.specs.Readings.{name_payload}
 use Rattle.wasm_reader.specs.Sections.{section, Takes}
 use Rattle.wasm_reader.specs.declared.kinds.SectionKind.{SectionKind}
-use Rattle.wasm_reader.specs.declared.kinds.SectionKind.TheVariants as kinds
 
 -- ---- sections
 

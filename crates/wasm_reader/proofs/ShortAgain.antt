@@ -1,23 +1,15 @@
 -- What is as short as can be stays as it is.
 use Rattle.wasm_reader.specs.Kinds.{kind_named, Contents, content}
-use Rattle.wasm_reader.proofs.KindLaws.{content_whole, kind_is, of_kind, none_of_kind, says_nothing, keeps_name, counted_alike, contents}
-use Rattle.std.proofs.Common.{◌≡◌, ◌≢◌, ℕ, List, [], ◌∷◌, ◌++◌, length, drop, Bool, true, false, if◌then◌else◌, Option, Some, None, refl, sym, ap, subst, ◌∙◌, append-nil}
+use Rattle.wasm_reader.proofs.KindLaws.{keeps_name}
+use Rattle.std.proofs.Common.{◌≡◌, ◌≢◌, ℕ, List, [], ◌∷◌, ◌++◌, length, drop, false, Option, Some, None, refl, sym, ap, subst, ◌∙◌, append-nil}
 use Rattle.std.specs.List.{AllByRecursion, flat_map}
-use Rattle.std.specs.Str.{bytes_eq}
 use Rattle.std.proofs.lemmas.List.{append_cancel_left}
 use Rattle.wasm_base.specs.Numbers.{shortest, wide}
-use Rattle.wasm_base.specs.Formats.{Format, any_bytes, frame, header, name}
+use Rattle.wasm_base.specs.Formats.{any_bytes, frame, header, name}
 use Rattle.wasm_base.specs.Reading.{Reads, ReadsNothing}
 use Rattle.wasm_base.proofs.BaseLaws.{frame_bytes_unique, name_unique}
 use Rattle.wasm_base.proofs.NumberLaws.{u32_unique}
 use Rattle.wasm_base.proofs.ReadingSteps.{reads_same}
-use Rattle.wasm_custom.specs.Customs.{named_payload}
-use Rattle.wasm_custom.specs.CoreDumps.{core_name, modules_name, instances_name}
-use Rattle.wasm_custom.specs.CoreStacks.{stack_name}
-use Rattle.wasm_custom.specs.Hints.{hints_name}
-use Rattle.wasm_custom.specs.Linking.{linking_name}
-use Rattle.wasm_custom.specs.Names.{name_name}
-use Rattle.wasm_custom.specs.Producers.{producers_name}
 use Rattle.wasm_reader.specs.Outlines.{Section, IsSection, IsNameOf, bytes_of, kind_at, section_kind_of}
 use Rattle.wasm_reader.specs.Sections.{section, Shortens}
 use Rattle.wasm_reader.specs.Shortening.{holds_offsets, IsWritten, Rewrite, IsRewrite, written, written_as, AreSettled}

@@ -1,55 +1,21 @@
 -- The one shortest text of sections that were read.
-use Rattle.wasm_reader.specs.Kinds.{Contents, Bodies, Segments, DataCount, Elements, Exports, Functions, Globals, Imports, Memories, Start, Tables, Tags, Types, Names, Linking, Producers, Hints, Core, CoreModules, CoreInstances, CoreStack, Custom, Raw, content, kind_in}
-use Rattle.wasm_reader.proofs.KindLaws.{content_whole, kind_is, of_kind, none_of_kind, says_nothing, keeps_name, counted_alike, contents}
-use Rattle.std.proofs.Common.{◌≡◌, ℕ, ◌+◌, List, [], ◌++◌, length, drop, map, refl, sym, ap, subst, ◌∙◌, arith}
-use Rattle.std.proofs.lemmas.List.{length-append, length-drop, append_cancel_left, map-id}
+use Rattle.wasm_reader.specs.Kinds.{Contents, Bodies, content, kind_in}
+use Rattle.wasm_reader.proofs.KindLaws.{content_whole, kind_is}
+use Rattle.std.proofs.Common.{◌≡◌, ℕ, ◌+◌, List, [], ◌++◌, length, drop, refl, sym, ap, subst, ◌∙◌, arith}
+use Rattle.std.proofs.lemmas.List.{length-append, length-drop, append_cancel_left}
 use Rattle.wasm_base.specs.Numbers.{shortest, wide}
-use Rattle.wasm_base.specs.Formats.{u32, name, any_bytes, frame, pair, vec}
-use Rattle.wasm_base.specs.Reading.{UniqueReading, UniqueWholeReading, Reads}
-use Rattle.wasm_base.specs.Texts.{frame_text, FrameFits, vec_text, VecFits}
-use Rattle.wasm_base.proofs.BaseLaws.{name_unique}
-use Rattle.wasm_base.proofs.FormatLaws.{vec_unique, frame_unique, whole_from_alone, mapped_whole, pair_whole, any_bytes_whole}
-use Rattle.wasm_base.proofs.NumberLaws.{u32_unique}
+use Rattle.wasm_base.specs.Formats.{any_bytes, frame, vec}
+use Rattle.wasm_base.specs.Reading.{UniqueReading, Reads}
+use Rattle.wasm_base.specs.Texts.{frame_text, FrameFits}
+use Rattle.wasm_base.proofs.FormatLaws.{frame_unique}
 use Rattle.wasm_base.proofs.ReadingSteps.{reads_same}
 use Rattle.wasm_base.proofs.TextLaws.{frame_spelled}
 use Rattle.wasm_code.specs.Bodies.{Body, body}
-use Rattle.wasm_code.proofs.BodyLaws.{frame_body_unique}
-use Rattle.wasm_insn.specs.Plain.{Plain}
-use Rattle.wasm_sections.specs.DataSegments.{DataItem, data_item}
-use Rattle.wasm_sections.specs.Elements.{ElementItem, element}
-use Rattle.wasm_sections.specs.Exports.{ExportFits, export_text, item_of, export}
-use Rattle.wasm_sections.specs.Globals.{GlobalItem, global_item}
-use Rattle.wasm_sections.specs.Imports.{ImportItem, import_format}
-use Rattle.wasm_sections.specs.Memories.{memory_text, memory_type}
-use Rattle.wasm_sections.specs.Tables.{TableItem, table_item}
-use Rattle.wasm_sections.specs.Tags.{tag_text, tag_type}
-use Rattle.wasm_sections.specs.declared.export.Export.{Export}
-use Rattle.wasm_sections.specs.declared.memory.MemoryType.{MemoryType}
-use Rattle.wasm_sections.specs.declared.tag.TagType.{TagType}
-use Rattle.wasm_sections.proofs.DataLaws.{data_unique}
-use Rattle.wasm_sections.proofs.ElementLaws.{element_unique}
-use Rattle.wasm_sections.proofs.ExportLaws.{export_unique}
-use Rattle.wasm_sections.proofs.GlobalLaws.{global_item_unique}
-use Rattle.wasm_sections.proofs.ImportLaws.{import_unique}
-use Rattle.wasm_sections.proofs.MemoryLaws.{memory_unique, memory_spelled}
-use Rattle.wasm_sections.proofs.TableLaws.{table_item_unique}
-use Rattle.wasm_sections.proofs.TagLaws.{tag_unique, tag_spelled}
-use Rattle.wasm_types.specs.RecTypes.{TypeItem, type_item}
-use Rattle.wasm_types.proofs.TypeLaws.{type_unique}
-use Rattle.wasm_custom.specs.CoreDumps.{Instance}
-use Rattle.wasm_custom.specs.CoreStacks.{StackFrame}
-use Rattle.wasm_custom.specs.Hints.{Hints as FunctionHints}
-use Rattle.wasm_custom.specs.Linking.{LinkItem}
-use Rattle.wasm_custom.specs.Names.{NameItem}
-use Rattle.wasm_custom.specs.Producers.{Field}
-use Rattle.wasm_custom.specs.Readings.{name_payload, linking_payload, producers_payload, hints_payload, core_payload, modules_payload, instances_payload, stack_payload}
-use Rattle.wasm_custom.proofs.SectionLaws.{name_whole, linking_whole, producers_whole, hints_whole, modules_whole, instances_whole, core_whole, stack_whole}
 use Rattle.wasm_reader_base.specs.Shortest.{AppendsShortest}
-use Rattle.wasm_reader_base.proofs.ShortTexts.{text_appended, pair_appended, mapped_appended, records_appended}
+use Rattle.wasm_reader_base.proofs.ShortTexts.{mapped_appended}
 use Rattle.wasm_reader.specs.Sections.{section, Takes, Shortens, HaveOneText}
 use Rattle.wasm_reader.specs.declared.kinds.SectionKind.{SectionKind}
 use Rattle.wasm_reader.specs.declared.kinds.SectionKind.TheVariants as kinds
-use Rattle.wasm_sections.proofs.ReadPlain.{memory_is, tag_is, export_short}
 use Rattle.wasm_reader.proofs.ReadSections.{takes}
 
 -- ---- sections
@@ -62,7 +28,7 @@ abbrev pub IsShortened : SectionKind → List ℕ → List ℕ → List ℕ → 
 IsShortened kind framed old new = (x : Contents) × content kind wide framed x × AppendsShortest (content kind) x old new
 
 pub bodies_shortened : (kind : SectionKind) (framed old new : List ℕ) → kind ≡ kinds.Bodies → (xs : List Body) × vec (frame body) wide framed xs × AppendsShortest (vec (frame body)) xs old new → IsShortened kind framed old new
-bodies_shortened kind framed old new e h = subst (λ k. IsShortened k framed old new) (sym e) (Bodies h.0, (h.0, refl, h.1), bodies h.0 old new h.2)
+bodies_shortened kind framed old new e h = subst (λ k. IsShortened k framed old new) (sym e) (Bodies h.0, (h.0, refl, h.1), mapped_appended Bodies (vec (frame body)) h.0 old new (λ z k. cc k) h.2)
 
 pub items_shortened : (kind : SectionKind) (framed old new : List ℕ) (x : Contents) → content kind wide framed x → AppendsShortest (content (kind_in x)) x old new → IsShortened kind framed old new
 items_shortened kind framed old new x h a = (x, h, subst (λ k. AppendsShortest (content k) x old new) (kind_is kind framed x h) a)

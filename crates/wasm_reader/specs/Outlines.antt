@@ -1,19 +1,12 @@
 -- Modules, as an outline of their sections goes over them: each section as it stands, whether it is read as its kind or not.
-use Rattle.std.specs.Prelude.{◌≡◌, ◌≢◌, ℕ, zero, suc, ◌+◌, List, [], ◌∷◌, ◌++◌, length, Option, Some, None, option_map, if◌then◌else◌}
+use Rattle.std.specs.Prelude.{◌≡◌, ◌≢◌, ℕ, zero, suc, ◌+◌, List, [], ◌∷◌, ◌++◌, length, Option, Some, None, option_map}
 use Rattle.std.specs.List.{AllByRecursion, flat_map}
-use Rattle.std.specs.Str.{bytes_eq}
 use Rattle.wasm_base.specs.Numbers.{wide}
 use Rattle.wasm_base.specs.Formats.{any_bytes, any_section, fixed, frame, header, name, wasm_module}
 use Rattle.wasm_base.specs.Reading.{Reads, ReadsNothing}
 use Rattle.wasm_base.specs.SectionId.{number_of}
 use Rattle.wasm_base.specs.declared.section_id.SectionId.TheVariants as ids
-use Rattle.wasm_custom.specs.CoreDumps.{core_name, modules_name, instances_name}
-use Rattle.wasm_custom.specs.CoreStacks.{stack_name}
-use Rattle.wasm_custom.specs.Hints.{hints_name}
-use Rattle.wasm_custom.specs.Linking.{linking_name}
-use Rattle.wasm_custom.specs.Names.{name_name}
-use Rattle.wasm_custom.specs.Producers.{producers_name}
-use Rattle.wasm_reader.specs.Kinds.{kind_among, known_kinds, number_in, Contents, Types, content}
+use Rattle.wasm_reader.specs.Kinds.{kind_among, known_kinds, kind_named, number_in, Contents, Types, content}
 use Rattle.wasm_reader.specs.declared.outlines.Outlined.{Outlined}
 use Rattle.wasm_reader.specs.declared.kinds.SectionKind.{SectionKind}
 use Rattle.wasm_reader.specs.declared.kinds.SectionKind.TheVariants as kinds

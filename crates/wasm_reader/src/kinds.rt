@@ -250,7 +250,10 @@ pub(crate) fn read_content<'a, A: Allocator + Copy + 'a>(
 
 /// Appends the shortest text of what the frame of a section holds.
 #[tactic(auto, using(crate::proofs::KindLaws::contents))]
-pub(crate) fn append_content<A: Allocator, B: Allocator>(items: Items<'_, A>, out: &mut Vec<u8, B>) -> R<()>
+pub(crate) fn append_content<A: Allocator, B: Allocator>(
+    items: Items<'_, A>,
+    out: &mut Vec<u8, B>,
+) -> R<()>
     ensures { OnOk result (AppendsShortest (content (kind_in (contents_of items.entry))) (contents_of items.entry) out.old.items out.new.items) }
 {
     match items {

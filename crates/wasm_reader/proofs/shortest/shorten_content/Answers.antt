@@ -1,7 +1,7 @@
 use Rattle.wasm_base.proofs.Outcomes.{on_ok}
 use Rattle.wasm_reader_base.proofs.Faults.{if_err_more}
 use Rattle.wasm_reader.specs.Kinds.{Bodies}
-use Rattle.wasm_reader.proofs.ReadSections.{none_of_kind, says_nothing}
+use Rattle.wasm_reader.proofs.KindLaws.{none_of_kind, says_nothing}
 use Rattle.wasm_reader.proofs.ShortSections.{bodies_shortened}
 use Rattle.wasm_reader.proofs.shortest.shorten_content.Goals as goal
 
