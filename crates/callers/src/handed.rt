@@ -13,7 +13,8 @@ use std::alloc::Allocator;
 use wasm_base::{CowSlice, CowStr, Encode, Module, R, add_all};
 use wasm_code::{CodeSection, Function};
 use wasm_custom::{CustomSection, RawCustomSection};
-use wasm_sections::{Export, ExportSection, laws::plain_exports};
+use wasm_sections::laws::plain_exports;
+use wasm_sections::{Export, ExportSection};
 
 /// A code section of a raw body.
 fn code<A: Allocator + Copy>(alloc: A, body: &[u8]) -> R<CodeSection<A>>

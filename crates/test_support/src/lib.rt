@@ -1,12 +1,12 @@
-//! What the tests of other crates share: an allocator that refuses requests, readers and writers that fail, and what is compared.
+//! What the tests of other crates share: an allocator that refuses requests, and readers and writers that fail.
 #![tactic(auto)]
 
-mod checks;
 mod memory;
+mod refusals;
 mod streams;
 #[cfg(test)]
 mod tests;
 
-pub use checks::{Heap, MOST, check_bytes, check_that};
 pub use memory::Refusing;
+pub use refusals::{Heap, MOST};
 pub use streams::{EndlessReader, FailingReader, FailingWriter};

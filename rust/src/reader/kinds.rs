@@ -254,7 +254,10 @@ pub(in crate::reader) fn read_content<'a, A: Allocator + Copy + 'a>(
 /// ```text
 /// ensures { OnOk result (AppendsShortest (content (kind_in (contents_of items.entry))) (contents_of items.entry) out.old.items out.new.items) }
 /// ```
-pub(in crate::reader) fn append_content<A: Allocator, B: Sink>(items: Items<'_, A>, out: &mut B) -> R<()> {
+pub(in crate::reader) fn append_content<A: Allocator, B: Sink>(
+    items: Items<'_, A>,
+    out: &mut B,
+) -> R<()> {
     match items {
         Items::Bodies(items) => items.append_shortest(out),
         Items::Segments(items) => items.append_shortest(out),

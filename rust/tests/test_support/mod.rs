@@ -1,10 +1,10 @@
-//! What the tests share: an allocator that refuses requests, readers and writers that fail, and what is compared.
+//! What the tests share: an allocator that refuses requests, and readers and writers that fail.
 #![allow(dead_code, unused_imports, reason = "no test program uses all of it")]
 
-mod checks;
 mod memory;
+mod refusals;
 mod streams;
 
-pub use checks::{Heap, MOST, check_bytes, check_that};
+pub use refusals::{Heap, MOST};
 pub use memory::Refusing;
 pub use streams::{EndlessReader, FailingReader, FailingWriter};

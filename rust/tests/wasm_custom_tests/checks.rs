@@ -4,8 +4,18 @@
 use dolzhytik::vec::Vec;
 use dolzhytik::alloc::Global;
 use crate::host::Abort;
-use crate::test_support::{Heap, check_bytes};
+use crate::test_support::Heap;
 use dolzhytik::base::{Encode, R, Refused, Section};
+
+/// It is so.
+pub(crate) fn check_that(rt: &impl Abort, holds: bool) {
+    assert!(rt; holds);
+}
+
+/// The bytes are these.
+pub(crate) fn check_bytes(rt: &impl Abort, bytes: &[u8], expected: &[u8]) {
+    assert_eq!(rt; bytes, expected);
+}
 
 /// There are so many entries.
 pub(crate) fn check_len(rt: &impl Abort, len: u32, is_empty: bool, expected: u32) {

@@ -1,10 +1,9 @@
 // Written by tools/to-rust from tests/wasm_custom_tests/src/core_dumps.rtt: change that.
 // Core dumps: each call once, with ample memory.
 
-use crate::checks::{check, check_len, check_text};
+use crate::checks::{check, check_bytes, check_len, check_text};
 use dolzhytik::alloc::Global;
 use crate::host::Abort;
-use crate::test_support::check_bytes;
 use dolzhytik::custom::{CoreDumpInstancesSection, CoreDumpModulesSection, CoreDumpSection, CoreDumpStackSection, CoreDumpValue, CustomSection};
 use dolzhytik::immediates::{Ieee32, Ieee64};
 

@@ -2,9 +2,10 @@
 // Adds to sections and lists that hold entries, each request for memory refused in turn.
 
 use dolzhytik::vec::Vec;
+use crate::checks::check_that;
 use crate::refusals::{LentEntries, LentList, ListCalls, SectionCalls, check_written};
 use crate::host::Abort;
-use crate::test_support::{Heap, MOST, check_that};
+use crate::test_support::{Heap, MOST};
 use dolzhytik::base::{Encode, R, Refused};
 
 /// What entries are added to.

@@ -1,8 +1,7 @@
 // Written by tools/to-rust from tests/wasm_custom_tests/src/names.rtt: change that.
 // The name section and its maps: each call once, with ample memory. Calls that take a map stand in `refusals.rt`, where each is granted all in the end.
 
-use crate::checks::{check, check_len, check_text};
-use crate::test_support::{check_bytes, check_that};
+use crate::checks::{check, check_bytes, check_len, check_text, check_that};
 use dolzhytik::custom::{IndirectNameMap, NameMap, NameSection};
 
 #[test]

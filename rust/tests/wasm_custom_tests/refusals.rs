@@ -2,11 +2,11 @@
 // Each request of an adding call for memory refused in turn: the answer is `Memory`, and what was given is as before.
 
 use dolzhytik::vec::Vec;
-use crate::checks::{check_answer, check_refused};
+use crate::checks::{check_answer, check_bytes, check_refused, check_that};
 use crate::further_entries::check_further;
 use dolzhytik::alloc::Global;
 use crate::host::Abort;
-use crate::test_support::{Heap, MOST, Refusing, check_bytes, check_that};
+use crate::test_support::{Heap, MOST, Refusing};
 use dolzhytik::base::{Encode, R, Section};
 use dolzhytik::custom::{BranchHint, CountedList, CustomEntries, CustomKind, DataSymbolDefinition, HintItems, IndirectMembers, IndirectNameMap, InstanceItems, LinkingItems, ListKind, ModuleItems, NameItems, NameMap, NameMembers, ProducerItems, ProducersField, SymbolMembers, SymbolTable, ValueMembers};
 

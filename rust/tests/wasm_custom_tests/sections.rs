@@ -3,10 +3,9 @@
 
 use dolzhytik::vec::Vec;
 use dolzhytik::string::String;
-use crate::checks::{check, check_len, check_text};
+use crate::checks::{check, check_len, check_text, check_that};
 use dolzhytik::alloc::Global;
 use crate::host::Abort;
-use crate::test_support::check_that;
 use dolzhytik::base::{CowSlice, CowStr, R};
 use dolzhytik::custom::{BranchHint, BranchHints, CustomSection, DataSymbolDefinition, LinkingSection, ProducersField, ProducersSection, RawCustomSection, SymbolTable, laws};
 

@@ -2,10 +2,10 @@
 // Each request of `wasm_base` for memory refused in turn: the answer is `Memory`, and what was given is as before.
 
 use dolzhytik::vec::Vec;
-use crate::checks::{check_call, check_refusals, check_refused};
+use crate::checks::{check_bytes, check_call, check_refusals, check_refused};
 use dolzhytik::alloc::Global;
 use crate::host::Abort;
-use crate::test_support::{MOST, Refusing, check_bytes};
+use crate::test_support::{MOST, Refusing};
 use dolzhytik::base::{Encode, Module, Pieces, R, RawSection, Refused, Section, encode_section, encode_vec};
 
 const TYPES: RawSection<'static> = RawSection {

@@ -4,8 +4,13 @@
 use dolzhytik::vec::Vec;
 use dolzhytik::alloc::Global;
 use crate::host::Abort;
-use crate::test_support::{Heap, MOST, Refusing, check_bytes};
+use crate::test_support::{Heap, MOST, Refusing};
 use dolzhytik::base::{Encode, R, Refused};
+
+/// The bytes are these.
+pub(crate) fn check_bytes(rt: &impl Abort, bytes: &[u8], expected: &[u8]) {
+    assert_eq!(rt; bytes, expected);
+}
 
 /// The call was refused for want of memory.
 pub(crate) fn check_refused(rt: &impl Abort, refused: Option<Refused>) {

@@ -2,12 +2,13 @@
 // The worked callers, each called once.
 
 use dolzhytik::vec::Vec;
+use crate::checks::check_bytes;
 use crate::callers::handed::{code_of, encode_listed_exports};
 use crate::callers::instructions::{append_call, append_end, append_sum, block};
 use crate::callers::read_back::{shortened_function, write_function, write_names, written_function, written_names};
 use crate::callers::readings::{load_of_alignment_16, pieces_of_a_constant};
 use crate::examples::{encode_given_import, encode_memories, grow, grow_by_each};
-use crate::test_support::{MOST, Refusing, check_bytes};
+use crate::test_support::{MOST, Refusing};
 use dolzhytik::base::Encode;
 use dolzhytik::code::Function;
 use dolzhytik::insn::Instruction;
@@ -106,9 +107,7 @@ fn listed() {
     let rt = crate::host::HostRuntime;
     let alloc = rt.alloc();
     let mut first = Function::new(alloc, []).expect("accepted");
-    first
-        .instruction(&Instruction::End)
-        .expect("accepted");
+    first.instruction(&Instruction::End).expect("accepted");
     let second = Function::new(alloc, []).expect("accepted");
     let code = code_of(alloc, &[first, second]).expect("accepted");
     let mut bytes = Vec::new(alloc);

@@ -2,10 +2,11 @@
 // Each example once, with ample memory.
 
 use dolzhytik::vec::Vec;
+use crate::checks::check_bytes;
 use crate::examples::{adding_module, choice, encode_exports, encode_group, encode_import, encode_local, encode_padded_body, encode_padded_globals, encode_padded_names, encode_reference, encode_sum, encode_sum_and_padded, factorial, filled_module, first_module, named_module, padded_module, whole_module};
 use dolzhytik::alloc::Global;
 use crate::host::Abort;
-use crate::test_support::{MOST, Refusing, check_bytes};
+use crate::test_support::{MOST, Refusing};
 use dolzhytik::base::{R, Refused};
 use dolzhytik::sections::{Export, ExportKind};
 

@@ -2,10 +2,11 @@
 // Examples once with ample memory, and with each request refused.
 
 use dolzhytik::vec::Vec;
+use crate::checks::check_bytes;
 use crate::examples::{Expr, Operation, Operator, Statement, compile, compile_tree, compiled_module, large_module, lower, object_module};
 use dolzhytik::alloc::Global;
 use crate::host::Abort;
-use crate::test_support::{MOST, Refusing, check_bytes};
+use crate::test_support::{MOST, Refusing};
 use dolzhytik::base::{Encode, R, Refused};
 
 /// Each operation and each operator once.

@@ -2,6 +2,7 @@
 // What the callers write, read and shorten, once with ample memory, and with each request refused.
 
 use dolzhytik::vec::Vec;
+use crate::checks::check_bytes;
 use crate::callers::handed::handed_module;
 use crate::callers::padded::{padded_entries, read_padded_segment, write_padded_bodies};
 use crate::callers::read_back::custom::{read_custom, read_hints, read_linking, read_more_names, read_producers};
@@ -10,7 +11,7 @@ use crate::callers::read_back::dumps::{core_dump, read_instances, read_modules, 
 use crate::callers::read_back::stored::{read_bodies, read_data_count, read_elements, read_globals, read_segments, read_start};
 use dolzhytik::alloc::Global;
 use crate::host::Abort;
-use crate::test_support::{MOST, Refusing, check_bytes};
+use crate::test_support::{MOST, Refusing};
 use dolzhytik::base::{R, Refused};
 use dolzhytik::reader::Items;
 use dolzhytik::reader::base::ReadFault;

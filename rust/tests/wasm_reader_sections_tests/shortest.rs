@@ -2,12 +2,13 @@
 // Sections that are shortened.
 
 use dolzhytik::vec::Vec;
+use crate::checks::check_bytes;
 use crate::rows::before_data;
 use crate::{custom_rows, faults, rows};
 use crate::callers::read_back::padded_function;
 use dolzhytik::alloc::Global;
 use crate::host::Abort;
-use crate::test_support::{MOST, Refusing, check_bytes};
+use crate::test_support::{MOST, Refusing};
 use dolzhytik::base::R;
 use dolzhytik::reader::{SectionKind, shorten};
 use dolzhytik::reader::base::ReadFault;

@@ -2,10 +2,11 @@
 // Whole modules: outlines, and shortest texts.
 
 use dolzhytik::vec::Vec;
+use crate::checks::check_bytes;
 use crate::callers::read_back::{shortened_twice, smaller_module};
 use dolzhytik::alloc::Global;
 use crate::host::Abort;
-use crate::test_support::{MOST, Refusing, check_bytes};
+use crate::test_support::{MOST, Refusing};
 use dolzhytik::base::R;
 use dolzhytik::reader::{ModuleFault, Offsets, Outlined, ReadFault, outline, shorten_module};
 

@@ -4,9 +4,13 @@
 use dolzhytik::vec::Vec;
 use dolzhytik::alloc::Global;
 use crate::host::Abort;
-use crate::test_support::check_bytes;
 use dolzhytik::base::Encode;
 use dolzhytik::reader::base::{ReadFault, Readable};
+
+/// The bytes are these.
+pub(crate) fn check_bytes(rt: &impl Abort, bytes: &[u8], expected: &[u8]) {
+    assert_eq!(rt; bytes, expected);
+}
 
 /// The cause is this.
 pub(crate) fn check_cause(rt: &impl Abort, given: Option<ReadFault>, expected: ReadFault) {

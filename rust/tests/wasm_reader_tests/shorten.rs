@@ -2,10 +2,10 @@
 // What was read is written in its fewest bytes.
 
 use dolzhytik::vec::Vec;
-use crate::checks::check_cause;
+use crate::checks::{check_bytes, check_cause};
 use dolzhytik::alloc::Global;
 use crate::host::Abort;
-use crate::test_support::{MOST, Refusing, check_bytes};
+use crate::test_support::{MOST, Refusing};
 use dolzhytik::base::{Refused, ValType};
 use dolzhytik::reader::base::{Framed, ReadFault, Readable, Shorten};
 use dolzhytik::reader::insn::{Body, Expression, Plain, shorten_body};

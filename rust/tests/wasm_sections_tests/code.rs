@@ -2,12 +2,11 @@
 // Code: bytes that the format gives.
 
 use dolzhytik::vec::Vec;
-use crate::checks::{check, check_number, check_piece};
+use crate::checks::{check, check_bytes, check_number, check_piece, check_that};
 use crate::functions::without_locals;
 use crate::callers::bodies::branch_on_one;
 use dolzhytik::alloc::Global;
 use crate::host::Abort;
-use crate::test_support::{check_bytes, check_that};
 use dolzhytik::base::{HeapType, R, Section, ValType, add_all};
 use dolzhytik::code::{CodeSection, ConstExpr, Function};
 use dolzhytik::insn::{Instruction, MemArg, MemArgTarget};

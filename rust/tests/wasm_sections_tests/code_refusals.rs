@@ -2,11 +2,13 @@
 // Each request of `wasm_code` for memory refused in turn: the answer is `Memory`, and what was given is as before.
 
 use dolzhytik::vec::Vec;
-use crate::checks::{check_answer, check_piece, check_refused, check_sink};
+use crate::checks::{
+    check_answer, check_bytes, check_piece, check_refused, check_sink, check_that,
+};
 use crate::functions::without_locals;
 use dolzhytik::alloc::Global;
 use crate::host::Abort;
-use crate::test_support::{Heap, MOST, Refusing, check_bytes, check_that};
+use crate::test_support::{Heap, MOST, Refusing};
 use dolzhytik::base::{Counted, Encode, HeapType, R, Section, ValType};
 use dolzhytik::code::{CodeSection, ConstExpr, Function};
 use dolzhytik::insn::{Ieee32, Ieee64, Instruction};

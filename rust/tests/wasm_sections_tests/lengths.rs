@@ -1,10 +1,10 @@
 // Written by tools/to-rust from tests/wasm_sections_tests/src/lengths.rtt: change that.
 // Lengths that are too long are answered before any item is asked for.
 
+use crate::checks::check_bytes;
 use dolzhytik::alloc::Global;
 use std::cell::Cell;
 use crate::host::Abort;
-use crate::test_support::check_bytes;
 use dolzhytik::base::{Refused, ValType};
 use dolzhytik::code::Function;
 

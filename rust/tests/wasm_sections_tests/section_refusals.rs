@@ -2,11 +2,11 @@
 // Each request of `wasm_sections` for memory refused in turn: the answer is `Memory`, and what was given is as before.
 
 use dolzhytik::vec::Vec;
-use crate::checks::{check_answer, check_refused, check_sink};
+use crate::checks::{check_answer, check_bytes, check_refused, check_sink, check_that};
 use crate::samples::{GLOBAL, LIMITED_MEMORY, LIMITED_TABLE, SET_GLOBAL, TABLE, TAG};
 use dolzhytik::alloc::Global;
 use crate::host::Abort;
-use crate::test_support::{MOST, Refusing, check_bytes, check_that};
+use crate::test_support::{MOST, Refusing};
 use dolzhytik::base::{Counted, CowSlice, Encode, HeapType, R, Refused, Section, add_all};
 use dolzhytik::code::ConstExpr;
 use dolzhytik::sections::{CountedSection, DataCountSection, EntityType, Export, ExportItems, ExportKind, ExportSection, FunctionItems, FunctionSection, GlobalItems, Import, ImportCompact, ImportItems, Imports, ItemKind, MemoryItems, StartSection, TableItems, TagItems};

@@ -2,12 +2,11 @@
 // Each call of `wasm_sections` once, with ample memory.
 
 use dolzhytik::vec::Vec;
-use crate::checks::check_piece;
+use crate::checks::{check_bytes, check_piece, check_that};
 use crate::samples::{GLOBAL, LIMITED_MEMORY, LIMITED_TABLE, MEMORY, SET_GLOBAL, TABLE, TAG};
 use crate::callers::first_values::{encode_copied, encode_null_tables};
 use dolzhytik::alloc::Global;
 use crate::host::Abort;
-use crate::test_support::{check_bytes, check_that};
 use dolzhytik::base::{Counted, CowSlice, Encode, HeapType, Section, ValType, add_all};
 use dolzhytik::code::ConstExpr;
 use dolzhytik::insn::Instruction;

@@ -2,12 +2,12 @@
 // Requests for memory that are refused to calls that add segments, and lengths that are too long.
 
 use dolzhytik::vec::Vec;
-use crate::checks::{check_answer, check_number, check_refused};
+use crate::checks::{check_answer, check_bytes, check_number, check_refused, check_that};
 use crate::section_refusals::{OnHeap, SectionCalls, check_calls, check_part};
 use dolzhytik::alloc::Global;
 use std::cell::Cell;
 use crate::host::Abort;
-use crate::test_support::{MOST, Refusing, check_bytes, check_that};
+use crate::test_support::{MOST, Refusing};
 use dolzhytik::base::{CowSlice, Encode, R, RefType, Refused};
 use dolzhytik::code::ConstExpr;
 use dolzhytik::sections::{DataItems, DataSection, DataSegment, DataSegmentMode, ElementItems, ElementMode, ElementSegment, Elements};

@@ -2,10 +2,10 @@
 // Each call that adds a segment once, with ample memory.
 
 use dolzhytik::vec::Vec;
+use crate::checks::check_bytes;
 use crate::sections::check;
 use dolzhytik::alloc::Global;
 use crate::host::Abort;
-use crate::test_support::check_bytes;
 use dolzhytik::base::{CowSlice, Encode, R, RefType};
 use dolzhytik::code::ConstExpr;
 use dolzhytik::sections::{DataSection, DataSegment, DataSegmentMode, ElementMode, ElementSection, ElementSegment, Elements, GlobalSection};

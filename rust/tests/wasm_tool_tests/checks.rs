@@ -3,6 +3,16 @@
 
 use crate::host::Abort;
 
+/// It is so.
+pub(crate) fn check_that(rt: &impl Abort, holds: bool) {
+    assert!(rt; holds);
+}
+
+/// The bytes are these.
+pub(crate) fn check_bytes(rt: &impl Abort, bytes: &[u8], expected: &[u8]) {
+    assert_eq!(rt; bytes, expected);
+}
+
 /// What the program answered and wrote.
 pub(crate) fn check_run(
     rt: &impl Abort,

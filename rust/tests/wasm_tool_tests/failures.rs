@@ -1,10 +1,11 @@
 // Written by tools/to-rust from tests/wasm_tool_tests/src/failures.rtt: change that.
 // Requests for memory that are refused, and reads and writes that fail in mid-stream.
 
+use crate::checks::check_that;
 use dolzhytik::alloc::Global;
 use std::io::{Read, Write};
 use crate::host::Abort;
-use crate::test_support::{EndlessReader, FailingReader, FailingWriter, Heap, MOST, Refusing, check_that};
+use crate::test_support::{EndlessReader, FailingReader, FailingWriter, Heap, MOST, Refusing};
 use dolzhytik::recipe::{RecipeCause, RecipeFault, assemble, run};
 
 /// A recipe, and what the program writes of it.

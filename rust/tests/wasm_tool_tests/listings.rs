@@ -3,10 +3,10 @@
 
 use dolzhytik::vec::Vec;
 use dolzhytik::string::String;
-use crate::checks::check_run;
+use crate::checks::{check_run, check_that};
 use dolzhytik::alloc::Global;
 use crate::host::Abort;
-use crate::test_support::{FailingReader, FailingWriter, MOST, Refusing, check_that};
+use crate::test_support::{FailingReader, FailingWriter, MOST, Refusing};
 use dolzhytik::recipe::run;
 
 /// A module of two sections, and its lines.

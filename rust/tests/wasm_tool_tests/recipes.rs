@@ -3,10 +3,9 @@
 
 use dolzhytik::vec::Vec;
 use dolzhytik::string::String;
-use crate::checks::check_run;
+use crate::checks::{check_bytes, check_run};
 use dolzhytik::alloc::Global;
 use crate::host::Abort;
-use crate::test_support::check_bytes;
 use dolzhytik::recipe::{RecipeCause, RecipeFault, assemble, run};
 
 /// What the program answers and writes for a text.

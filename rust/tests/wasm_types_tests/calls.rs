@@ -1,9 +1,8 @@
 // Written by tools/to-rust from tests/wasm_types_tests/src/calls.rtt: change that.
 // Each call of a type section once, with ample memory.
 
-use crate::checks::{check, check_len, check_piece};
+use crate::checks::{check, check_bytes, check_len, check_piece};
 use crate::samples::{BYTE, FLOAT, bytes, continuation, described, function, sub};
-use crate::test_support::check_bytes;
 use dolzhytik::base::{Encode, HeapType, Module, RefType, ValType};
 use dolzhytik::types::{ContType, FuncType, StorageType, SubType, TypeSection, laws};
 

@@ -2,11 +2,11 @@
 // Each request for memory refused in turn: the answer is `Memory`, and what was given is as before.
 
 use dolzhytik::vec::Vec;
-use crate::checks::{check_answer, check_refused};
+use crate::checks::{check_answer, check_bytes, check_refused, check_that};
 use crate::samples::{BYTE, FLOAT, continuation, described, final_function, function, sub};
 use dolzhytik::alloc::Global;
 use crate::host::Abort;
-use crate::test_support::{Heap, MOST, Refusing, check_bytes, check_that};
+use crate::test_support::{Heap, MOST, Refusing};
 use dolzhytik::base::{Encode, R, Section, ValType};
 use dolzhytik::types::{ContType, FuncType, StorageType, SubType, TypeSection};
 

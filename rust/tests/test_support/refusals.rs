@@ -1,0 +1,11 @@
+// Written by tools/to-rust from crates/test_support/src/refusals.rt: change that.
+// What all tests refuse requests with.
+
+use crate::test_support::memory::Refusing;
+use dolzhytik::alloc::Global;
+
+/// More requests than any call in a test makes, and more reads and writes.
+pub const MOST: u64 = 100;
+
+/// An allocator that refuses, lent.
+pub type Heap<'a> = &'a Refusing<Global>;
