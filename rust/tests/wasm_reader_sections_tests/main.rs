@@ -15,6 +15,9 @@ mod examples;
 #[allow(dead_code)]
 #[path = "../callers/mod.rs"]
 mod callers;
+#[allow(dead_code)]
+#[path = "../read_back/mod.rs"]
+mod read_back;
 #[cfg(test)]
 mod called;
 #[cfg(test)]

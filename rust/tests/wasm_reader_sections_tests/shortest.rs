@@ -5,7 +5,7 @@ use dolzhytik::vec::Vec;
 use crate::checks::check_bytes;
 use crate::rows::before_data;
 use crate::{custom_rows, faults, rows};
-use crate::callers::read_back::padded_function;
+use crate::read_back::padded_function;
 use dolzhytik::alloc::Global;
 use crate::host::Abort;
 use crate::test_support::{MOST, Refusing};

@@ -3,7 +3,7 @@
 
 use dolzhytik::vec::Vec;
 use crate::checks::check_bytes;
-use crate::callers::read_back::{shortened_twice, smaller_module};
+use crate::read_back::{shortened_twice, smaller_module};
 use dolzhytik::alloc::Global;
 use crate::host::Abort;
 use crate::test_support::{MOST, Refusing};

@@ -1,8 +1,0 @@
--- Written by tools/answers.
-use Rattle.wasm_base.specs.Formats.{frame}
-use Rattle.wasm_custom.proofs.Calls.{encodes_entries}
-use Rattle.wasm_custom.specs.Readings.{instances_payload}
-use Rattle.callers.proofs.read_back.dumps.write_instances.Goals as goal
-
-pub returns : goal.returns
-returns g c = encodes_entries (frame instances_payload) _ _ c.encode.ensures.appends c.encode.ensures.read c.in_ok-section.ensures

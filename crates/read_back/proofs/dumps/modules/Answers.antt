@@ -1,0 +1,11 @@
+-- Written by tools/answers.
+use Rattle.std.proofs.Common.{refl}
+use Rattle.std.specs.Prelude.{codes}
+use Rattle.wasm_base.proofs.Calls.{ascii}
+use Rattle.wasm_custom.proofs.Calls.{new_modules, adds_core_module}
+use Rattle.read_back.proofs.dumps.modules.Goals as goal
+
+pub returns : goal.returns
+returns g c =
+    let s1 = adds_core_module (new_modules c.new-section.ensures) (codes "main") c.in_ok-module.ensures.ok c.in_ok-module.ensures.fitted (ascii refl) in
+    adds_core_module s1 c.args.name.now c.in_ok-module-2.ensures.ok c.in_ok-module-2.ensures.fitted c.utf8.name

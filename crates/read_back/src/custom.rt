@@ -1,0 +1,174 @@
+//! Custom sections: names, what a linker needs, producers, hints, and any name and data.
+ghost use Rattle.std.specs.Prelude.{◌≡◌, ◌≢◌, [], ◌∷◌, IfOk, IfErr, OnOk};
+ghost use Rattle.wasm_base.specs.Formats.{frame, custom as custom_format};
+ghost use Rattle.wasm_base.specs.Modules.{GainsReading};
+ghost use Rattle.wasm_custom.specs.Readings.{AreSymbols, name_payload, linking_payload, producers_payload, hints_payload};
+ghost use Rattle.wasm_reader_base.specs.declared.fault.ReadFault.TheVariants.{Memory};
+ghost use Rattle.read_back.specs.Customs.{name_and_more, data_symbol, links, language, likely_hints};
+ghost use Rattle.wasm_reader.specs.Kinds.{Names, Linking, Producers, Hints, Custom, contents_of};
+
+use crate::read_and_shorten;
+use std::alloc::Allocator;
+use wasm_base::{CowSlice, CowStr, Encode, R};
+use wasm_custom::{
+    BranchHint, BranchHints, CustomSection, DataSymbolDefinition, LinkingSection, NameSection,
+    ProducersField, ProducersSection, SymbolTable,
+};
+use wasm_reader::{Items, SectionKind};
+use wasm_reader_base::ReadFault;
+
+/// Writes a name section: the name of the module, and bytes of an id that no call names.
+fn write_more_names<A: Allocator + Copy>(sink: &mut Vec<u8, A>, name: &str, more: &[u8]) -> R<()>
+    ensures { OnOk result (GainsReading (frame name_payload) (name_and_more name.now more.now) sink.old.items sink.new.items) }
+{
+    let mut section = NameSection::new(*sink.allocator());
+    section.module(name)?;
+    section.raw(14, more)?;
+    section.encode(sink)
+}
+
+/// Reads that name section, and shortens it.
+pub fn read_more_names<'a, A: Allocator + Copy + 'a>(
+    text: &'a mut Vec<u8, A>,
+    name: &str,
+    more: &[u8],
+    sink: &mut Vec<u8, A>,
+) -> Result<Items<'a, A>, ReadFault>
+    requires { text.old.items ≡ [] }
+    ensures read { IfOk result (λ items. contents_of items ≡ Names (name_and_more name.now more.now)) }
+    ensures same { OnOk result (GainsReading (frame name_payload) (name_and_more name.now more.now) sink.old.items sink.new.items) }
+    ensures memory { IfErr result (λ e. e ≢ Memory → ⊥) }
+{
+    write_more_names(text, name, more)?;
+    let items = read_and_shorten(SectionKind::Names, text, sink)?;
+    Ok(items)
+}
+
+/// A symbol table of one symbol of data.
+fn symbols<A: Allocator + Copy>(alloc: A, name: &str) -> R<SymbolTable<A>>
+    ensures { IfOk result (λ table. AreSymbols table (data_symbol name.now ∷ [])) }
+{
+    let definition = DataSymbolDefinition {
+        index: 0,
+        offset: 0,
+        size: 1,
+    };
+    let mut table = SymbolTable::new(alloc);
+    table.data(0, name, Some(definition))?;
+    Ok(table)
+}
+
+/// Writes a linking section: a symbol, and the architecture of the target.
+fn write_linking<A: Allocator + Copy>(sink: &mut Vec<u8, A>, name: &str) -> R<()>
+    ensures { OnOk result (GainsReading (frame linking_payload) (links name.now) sink.old.items sink.new.items) }
+{
+    let alloc = *sink.allocator();
+    let mut section = LinkingSection::new(alloc);
+    section.symbol_table(&symbols(alloc, name)?)?;
+    section.target_arch("wasm32")?;
+    section.encode(sink)
+}
+
+/// Reads that linking section, and shortens it.
+pub fn read_linking<'a, A: Allocator + Copy + 'a>(
+    text: &'a mut Vec<u8, A>,
+    name: &str,
+    sink: &mut Vec<u8, A>,
+) -> Result<Items<'a, A>, ReadFault>
+    requires { text.old.items ≡ [] }
+    ensures read { IfOk result (λ items. contents_of items ≡ Linking (links name.now)) }
+    ensures same { OnOk result (GainsReading (frame linking_payload) (links name.now) sink.old.items sink.new.items) }
+    ensures memory { IfErr result (λ e. e ≢ Memory → ⊥) }
+{
+    write_linking(text, name)?;
+    let items = read_and_shorten(SectionKind::Linking, text, sink)?;
+    Ok(items)
+}
+
+/// Writes a producers section of one field.
+fn write_producers<A: Allocator + Copy>(sink: &mut Vec<u8, A>, version: &str) -> R<()>
+    ensures { OnOk result (GainsReading (frame producers_payload) (language version.now) sink.old.items sink.new.items) }
+{
+    let alloc = *sink.allocator();
+    let mut values = ProducersField::new(alloc);
+    values.value("rattle", version)?;
+    let mut section = ProducersSection::new(alloc);
+    section.field("language", &values)?;
+    section.encode(sink)
+}
+
+/// Reads that producers section, and shortens it.
+pub fn read_producers<'a, A: Allocator + Copy + 'a>(
+    text: &'a mut Vec<u8, A>,
+    version: &str,
+    sink: &mut Vec<u8, A>,
+) -> Result<Items<'a, A>, ReadFault>
+    requires { text.old.items ≡ [] }
+    ensures read { IfOk result (λ items. contents_of items ≡ Producers (language version.now)) }
+    ensures same { OnOk result (GainsReading (frame producers_payload) (language version.now) sink.old.items sink.new.items) }
+    ensures memory { IfErr result (λ e. e ≢ Memory → ⊥) }
+{
+    write_producers(text, version)?;
+    let items = read_and_shorten(SectionKind::Producers, text, sink)?;
+    Ok(items)
+}
+
+/// Writes a section of branch hints: of an array, and of a slice.
+#[tactic(auto, using(wasm_base::proofs::KnownLengths::drained_array, wasm_base::proofs::KnownLengths::drained_copied))]
+fn write_hints<A: Allocator + Copy>(sink: &mut Vec<u8, A>, index: u32) -> R<()>
+    ensures { OnOk result (GainsReading (frame hints_payload) (likely_hints index) sink.old.items sink.new.items) }
+{
+    let likely = BranchHint {
+        branch_func_offset: 3,
+        branch_hint_value: 1,
+    };
+    let hints = [likely];
+    let mut section = BranchHints::new(*sink.allocator());
+    section.function_hints(0, [likely])?;
+    section.function_hints(index, hints.iter().copied())?;
+    section.encode(sink)
+}
+
+/// Reads that section of branch hints, and shortens it.
+pub fn read_hints<'a, A: Allocator + Copy + 'a>(
+    text: &'a mut Vec<u8, A>,
+    index: u32,
+    sink: &mut Vec<u8, A>,
+) -> Result<Items<'a, A>, ReadFault>
+    requires { text.old.items ≡ [] }
+    ensures read { IfOk result (λ items. contents_of items ≡ Hints (likely_hints index)) }
+    ensures same { OnOk result (GainsReading (frame hints_payload) (likely_hints index) sink.old.items sink.new.items) }
+    ensures memory { IfErr result (λ e. e ≢ Memory → ⊥) }
+{
+    write_hints(text, index)?;
+    let items = read_and_shorten(SectionKind::Hints, text, sink)?;
+    Ok(items)
+}
+
+/// Writes a custom section of a name and data.
+fn write_custom<A: Allocator>(sink: &mut Vec<u8, A>, name: &str, bytes: &[u8]) -> R<()>
+    ensures { OnOk result (GainsReading custom_format (name.now, bytes.now) sink.old.items sink.new.items) }
+{
+    let section: CustomSection<'_> = CustomSection {
+        name: CowStr::Borrowed(name),
+        bytes: CowSlice::Borrowed(bytes),
+    };
+    section.encode(sink)
+}
+
+/// Reads that custom section, and shortens it.
+pub fn read_custom<'a, A: Allocator + Copy + 'a>(
+    text: &'a mut Vec<u8, A>,
+    name: &str,
+    bytes: &[u8],
+    sink: &mut Vec<u8, A>,
+) -> Result<Items<'a, A>, ReadFault>
+    requires { text.old.items ≡ [] }
+    ensures read { IfOk result (λ items. contents_of items ≡ Custom (name.now, bytes.now)) }
+    ensures same { OnOk result (GainsReading custom_format (name.now, bytes.now) sink.old.items sink.new.items) }
+    ensures memory { IfErr result (λ e. e ≢ Memory → ⊥) }
+{
+    write_custom(text, name, bytes)?;
+    let items = read_and_shorten(SectionKind::Custom, text, sink)?;
+    Ok(items)
+}

@@ -1,0 +1,77 @@
+//! What is handed in: a raw body, whatever it spells, a custom section, made and spelled already, and functions and exports of a list.
+ghost use Rattle.std.specs.Prelude.{List, IfOk, OnOk, [], ◌∷◌, map};
+ghost use Rattle.std.specs.List.{AllZip};
+ghost use Rattle.wasm_base.specs.Entries.{counted_format};
+ghost use Rattle.wasm_base.specs.Modules.{ReadsSections, GainsReadingWide};
+ghost use Rattle.wasm_code.specs.Bodies.{Body, IsPlainBody, IsWideBody};
+ghost use Rattle.wasm_code.specs.Code.{HoldsBodies, SpellsBodies, SpellsBodiesWide};
+ghost use Rattle.wasm_sections.specs.Exports.{export as export_format, item_of};
+ghost use Rattle.read_back.specs.Handed.{handed_sections};
+
+use crate::declared::tags;
+use std::alloc::Allocator;
+use wasm_base::{CowSlice, CowStr, Encode, Module, R, add_all};
+use wasm_code::{CodeSection, Function};
+use wasm_custom::{CustomSection, RawCustomSection};
+use wasm_sections::laws::plain_exports;
+use wasm_sections::{Export, ExportSection};
+
+/// A code section of a raw body.
+fn code<A: Allocator + Copy>(alloc: A, body: &[u8]) -> R<CodeSection<A>>
+    ensures { IfOk result (λ section. HoldsBodies section (body.now ∷ [])) }
+{
+    let mut section = CodeSection::new(alloc);
+    section.raw(body)?;
+    Ok(section)
+}
+
+/// A module of tags, a raw body, a custom section, and the bytes of that section again.
+pub fn handed_module<A: Allocator + Copy>(
+    alloc: A,
+    index: u32,
+    body: &[u8],
+    name: &str,
+    bytes: &[u8],
+) -> R<Vec<u8, A>>
+    ensures { IfOk result (λ made. ReadsSections (handed_sections index body.now name.now bytes.now) made.items) }
+{
+    let given: CustomSection<'_> = CustomSection {
+        name: CowStr::Borrowed(name),
+        bytes: CowSlice::Borrowed(bytes),
+    };
+    let mut text = Vec::new(alloc);
+    given.encode(&mut text)?;
+    let mut built = Module::new(alloc)?;
+    built.section(&tags(alloc, index)?)?;
+    built.section(&code(alloc, body)?)?;
+    built.section(&given)?;
+    built.section(&RawCustomSection(text.as_slice()))?;
+    Ok(built.finish())
+}
+
+/// A code section of functions: it says in order what their bodies spell, and what these spell with padded numbers.
+pub fn code_of<A: Allocator + Copy>(alloc: A, functions: &[Function<A>]) -> R<CodeSection<A>>
+    ensures plain { IfOk result (λ section. (bodies : List Body) → AllZip IsPlainBody functions.now bodies → SpellsBodies section bodies) }
+    ensures padded { IfOk result (λ section. (bodies : List Body) → AllZip IsWideBody functions.now bodies → SpellsBodiesWide section bodies) }
+{
+    let mut section = CodeSection::new(alloc);
+    match add_all(&mut section, functions) {
+        Ok(()) => Ok(section),
+        Err((_, refused)) => Err(refused),
+    }
+}
+
+/// An export section of the exports of a list, as a reader of padded numbers finds it.
+pub fn encode_listed_exports<A: Allocator + Copy>(
+    sink: &mut Vec<u8, A>,
+    exports: &[Export<'_>],
+) -> R<()>
+    ensures { OnOk result (GainsReadingWide (counted_format export_format) (map item_of exports.now) sink.old.items sink.new.items) }
+{
+    plain_exports(exports);
+    let mut section = ExportSection::new(*sink.allocator());
+    match add_all(&mut section, exports) {
+        Ok(()) => section.encode(sink),
+        Err((_, refused)) => Err(refused),
+    }
+}

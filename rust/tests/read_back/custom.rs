@@ -1,0 +1,234 @@
+// Written by tools/to-rust from crates/read_back/src/custom.rt: change that.
+//! Custom sections: names, what a linker needs, producers, hints, and any name and data.
+
+use dolzhytik::vec::{Sink, Vec};
+use crate::read_back::read_and_shorten;
+use dolzhytik::alloc::Allocator;
+use dolzhytik::base::{CowSlice, CowStr, Encode, R};
+use dolzhytik::custom::{BranchHint, BranchHints, CustomSection, DataSymbolDefinition, LinkingSection, NameSection, ProducersField, ProducersSection, SymbolTable};
+use dolzhytik::reader::{Items, SectionKind};
+use dolzhytik::reader::base::ReadFault;
+
+/// Writes a name section: the name of the module, and bytes of an id that no call names.
+///
+/// # Proved
+///
+/// ```text
+/// ensures { OnOk result (GainsReading (frame name_payload) (name_and_more name.now more.now) sink.old.items sink.new.items) }
+/// ```
+fn write_more_names<A: Allocator + Copy>(sink: &mut Vec<u8, A>, name: &str, more: &[u8]) -> R<()> {
+    let mut section = NameSection::new(*sink.allocator());
+    section.module(name)?;
+    section.raw(14, more)?;
+    section.encode(sink)
+}
+
+/// Reads that name section, and shortens it.
+///
+/// # Asks
+///
+/// ```text
+/// requires { text.old.items ≡ [] }
+/// ```
+///
+/// # Proved
+///
+/// ```text
+/// ensures read { IfOk result (λ items. contents_of items ≡ Names (name_and_more name.now more.now)) }
+/// ensures same { OnOk result (GainsReading (frame name_payload) (name_and_more name.now more.now) sink.old.items sink.new.items) }
+/// ensures memory { IfErr result (λ e. e ≢ Memory → ⊥) }
+/// ```
+pub fn read_more_names<'a, A: Allocator + Copy + 'a>(
+    text: &'a mut Vec<u8, A>,
+    name: &str,
+    more: &[u8],
+    sink: &mut Vec<u8, A>,
+) -> Result<Items<'a, A>, ReadFault> {
+    write_more_names(text, name, more)?;
+    let items = read_and_shorten(SectionKind::Names, text, sink)?;
+    Ok(items)
+}
+
+/// A symbol table of one symbol of data.
+///
+/// # Proved
+///
+/// ```text
+/// ensures { IfOk result (λ table. AreSymbols table (data_symbol name.now ∷ [])) }
+/// ```
+fn symbols<A: Allocator + Copy>(alloc: A, name: &str) -> R<SymbolTable<A>> {
+    let definition = DataSymbolDefinition {
+        index: 0,
+        offset: 0,
+        size: 1,
+    };
+    let mut table = SymbolTable::new(alloc);
+    table.data(0, name, Some(definition))?;
+    Ok(table)
+}
+
+/// Writes a linking section: a symbol, and the architecture of the target.
+///
+/// # Proved
+///
+/// ```text
+/// ensures { OnOk result (GainsReading (frame linking_payload) (links name.now) sink.old.items sink.new.items) }
+/// ```
+fn write_linking<A: Allocator + Copy>(sink: &mut Vec<u8, A>, name: &str) -> R<()> {
+    let alloc = *sink.allocator();
+    let mut section = LinkingSection::new(alloc);
+    section.symbol_table(&symbols(alloc, name)?)?;
+    section.target_arch("wasm32")?;
+    section.encode(sink)
+}
+
+/// Reads that linking section, and shortens it.
+///
+/// # Asks
+///
+/// ```text
+/// requires { text.old.items ≡ [] }
+/// ```
+///
+/// # Proved
+///
+/// ```text
+/// ensures read { IfOk result (λ items. contents_of items ≡ Linking (links name.now)) }
+/// ensures same { OnOk result (GainsReading (frame linking_payload) (links name.now) sink.old.items sink.new.items) }
+/// ensures memory { IfErr result (λ e. e ≢ Memory → ⊥) }
+/// ```
+pub fn read_linking<'a, A: Allocator + Copy + 'a>(
+    text: &'a mut Vec<u8, A>,
+    name: &str,
+    sink: &mut Vec<u8, A>,
+) -> Result<Items<'a, A>, ReadFault> {
+    write_linking(text, name)?;
+    let items = read_and_shorten(SectionKind::Linking, text, sink)?;
+    Ok(items)
+}
+
+/// Writes a producers section of one field.
+///
+/// # Proved
+///
+/// ```text
+/// ensures { OnOk result (GainsReading (frame producers_payload) (language version.now) sink.old.items sink.new.items) }
+/// ```
+fn write_producers<A: Allocator + Copy>(sink: &mut Vec<u8, A>, version: &str) -> R<()> {
+    let alloc = *sink.allocator();
+    let mut values = ProducersField::new(alloc);
+    values.value("rattle", version)?;
+    let mut section = ProducersSection::new(alloc);
+    section.field("language", &values)?;
+    section.encode(sink)
+}
+
+/// Reads that producers section, and shortens it.
+///
+/// # Asks
+///
+/// ```text
+/// requires { text.old.items ≡ [] }
+/// ```
+///
+/// # Proved
+///
+/// ```text
+/// ensures read { IfOk result (λ items. contents_of items ≡ Producers (language version.now)) }
+/// ensures same { OnOk result (GainsReading (frame producers_payload) (language version.now) sink.old.items sink.new.items) }
+/// ensures memory { IfErr result (λ e. e ≢ Memory → ⊥) }
+/// ```
+pub fn read_producers<'a, A: Allocator + Copy + 'a>(
+    text: &'a mut Vec<u8, A>,
+    version: &str,
+    sink: &mut Vec<u8, A>,
+) -> Result<Items<'a, A>, ReadFault> {
+    write_producers(text, version)?;
+    let items = read_and_shorten(SectionKind::Producers, text, sink)?;
+    Ok(items)
+}
+
+/// Writes a section of branch hints: of an array, and of a slice.
+///
+/// # Proved
+///
+/// ```text
+/// ensures { OnOk result (GainsReading (frame hints_payload) (likely_hints index) sink.old.items sink.new.items) }
+/// ```
+fn write_hints<A: Allocator + Copy>(sink: &mut Vec<u8, A>, index: u32) -> R<()> {
+    let likely = BranchHint {
+        branch_func_offset: 3,
+        branch_hint_value: 1,
+    };
+    let hints = [likely];
+    let mut section = BranchHints::new(*sink.allocator());
+    section.function_hints(0, [likely])?;
+    section.function_hints(index, hints.iter().copied())?;
+    section.encode(sink)
+}
+
+/// Reads that section of branch hints, and shortens it.
+///
+/// # Asks
+///
+/// ```text
+/// requires { text.old.items ≡ [] }
+/// ```
+///
+/// # Proved
+///
+/// ```text
+/// ensures read { IfOk result (λ items. contents_of items ≡ Hints (likely_hints index)) }
+/// ensures same { OnOk result (GainsReading (frame hints_payload) (likely_hints index) sink.old.items sink.new.items) }
+/// ensures memory { IfErr result (λ e. e ≢ Memory → ⊥) }
+/// ```
+pub fn read_hints<'a, A: Allocator + Copy + 'a>(
+    text: &'a mut Vec<u8, A>,
+    index: u32,
+    sink: &mut Vec<u8, A>,
+) -> Result<Items<'a, A>, ReadFault> {
+    write_hints(text, index)?;
+    let items = read_and_shorten(SectionKind::Hints, text, sink)?;
+    Ok(items)
+}
+
+/// Writes a custom section of a name and data.
+///
+/// # Proved
+///
+/// ```text
+/// ensures { OnOk result (GainsReading custom_format (name.now, bytes.now) sink.old.items sink.new.items) }
+/// ```
+fn write_custom<A: Sink>(sink: &mut A, name: &str, bytes: &[u8]) -> R<()> {
+    let section: CustomSection<'_> = CustomSection {
+        name: CowStr::Borrowed(name),
+        bytes: CowSlice::Borrowed(bytes),
+    };
+    section.encode(sink)
+}
+
+/// Reads that custom section, and shortens it.
+///
+/// # Asks
+///
+/// ```text
+/// requires { text.old.items ≡ [] }
+/// ```
+///
+/// # Proved
+///
+/// ```text
+/// ensures read { IfOk result (λ items. contents_of items ≡ Custom (name.now, bytes.now)) }
+/// ensures same { OnOk result (GainsReading custom_format (name.now, bytes.now) sink.old.items sink.new.items) }
+/// ensures memory { IfErr result (λ e. e ≢ Memory → ⊥) }
+/// ```
+pub fn read_custom<'a, A: Allocator + Copy + 'a>(
+    text: &'a mut Vec<u8, A>,
+    name: &str,
+    bytes: &[u8],
+    sink: &mut Vec<u8, A>,
+) -> Result<Items<'a, A>, ReadFault> {
+    write_custom(text, name, bytes)?;
+    let items = read_and_shorten(SectionKind::Custom, text, sink)?;
+    Ok(items)
+}
