@@ -35,8 +35,6 @@ mod faults;
 #[cfg(test)]
 mod modules;
 #[cfg(test)]
-mod read_back;
-#[cfg(test)]
 mod refusals;
 #[cfg(test)]
 mod rows;
@@ -46,3 +44,5 @@ mod seen;
 mod shortest;
 #[cfg(test)]
 mod whole;
+#[cfg(test)]
+mod written_back;

@@ -1,4 +1,4 @@
-// Written by tools/to-rust from tests/wasm_reader_sections_tests/src/read_back.rtt: change that.
+// Written by tools/to-rust from tests/wasm_reader_sections_tests/src/written_back.rtt: change that.
 // What the callers write, read and shorten, once with ample memory, and with each request refused.
 
 use dolzhytik::vec::Vec;
