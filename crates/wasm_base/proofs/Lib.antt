@@ -11,6 +11,7 @@ pub mod ModuleLaws
 pub mod BaseLaws
 pub mod TypeLaws
 pub mod Payloads
+pub mod SectionLaws
 pub mod Calls
 pub mod Cut
 pub mod KnownLengths
