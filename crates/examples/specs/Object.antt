@@ -4,10 +4,9 @@ use Rattle.wasm_base.specs.Modules.{SectionReading}
 use Rattle.wasm_base.specs.declared.types.ValType.TheVariants.{I32}
 use Rattle.wasm_code.specs.Bodies.{Body}
 use Rattle.wasm_code.specs.Code.{code_reading}
-use Rattle.wasm_custom.specs.Hints.{Hints}
-use Rattle.wasm_custom.specs.Linking.{LinkItem, Symbols}
-use Rattle.wasm_custom.specs.Producers.{Field}
-use Rattle.wasm_custom.specs.Readings.{hints_reading, linking_reading, producers_reading}
+use Rattle.wasm_custom.specs.Hints.{Hints, hints_reading}
+use Rattle.wasm_custom.specs.Linking.{LinkItem, Symbols, linking_reading}
+use Rattle.wasm_custom.specs.Producers.{Field, producers_reading}
 use Rattle.wasm_custom.specs.Symbols.{Symbol, indexed}
 use Rattle.wasm_custom.specs.declared.symbols.SymbolKind.TheVariants as kinds
 use Rattle.wasm_immediates.specs.declared.block_type.BlockType.TheVariants.{Empty}

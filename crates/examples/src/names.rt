@@ -2,7 +2,7 @@
 ghost use Rattle.std.specs.Prelude.{[], ◌∷◌, IfOk};
 ghost use Rattle.wasm_base.specs.Modules.{ReadsSections};
 ghost use Rattle.wasm_code.specs.Code.{SpellsBodies, code_reading};
-ghost use Rattle.wasm_custom.specs.Readings.{AreNamings, AreInsides, HoldsNames, name_reading};
+ghost use Rattle.wasm_custom.specs.Names.{AreNamings, AreInsides, HoldsNames, name_reading};
 ghost use Rattle.examples.specs.Bodies.{first_body};
 ghost use Rattle.examples.specs.Named.{x_at_0, names_of};
 

@@ -1,9 +1,8 @@
 -- What the core dump says.
 use Rattle.std.specs.Prelude.{ℕ, List, [], ◌∷◌, pos, codes}
 use Rattle.wasm_base.specs.Modules.{SectionReading}
-use Rattle.wasm_custom.specs.CoreDumps.{Instance}
-use Rattle.wasm_custom.specs.CoreStacks.{StackFrame}
-use Rattle.wasm_custom.specs.Readings.{core_reading, modules_reading, instances_reading, stack_reading}
+use Rattle.wasm_custom.specs.CoreDumps.{Instance, core_reading, modules_reading, instances_reading}
+use Rattle.wasm_custom.specs.CoreStacks.{StackFrame, stack_reading}
 use Rattle.wasm_custom.specs.declared.core_values.CoreDumpValue.TheVariants.{Missing, I32}
 
 -- the instance of the module 0, of a memory and two globals

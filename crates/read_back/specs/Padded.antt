@@ -5,8 +5,7 @@ use Rattle.wasm_base.specs.Formats.{vec}
 use Rattle.wasm_base.specs.Modules.{SectionReading, wide_reading_of}
 use Rattle.wasm_code.specs.Bodies.{Body}
 use Rattle.wasm_code.specs.Expressions.{normal_row}
-use Rattle.wasm_custom.specs.Names.{NameItem, Indirect}
-use Rattle.wasm_custom.specs.Readings.{name_payload}
+use Rattle.wasm_custom.specs.Names.{NameItem, Indirect, name_payload}
 use Rattle.wasm_insn.specs.Plain.{Plain}
 use Rattle.wasm_insn.specs.declared.instruction.Instruction.TheVariants.{RefFunc, I32Const, LocalGet, End}
 use Rattle.wasm_sections.specs.DataSegments as segments

@@ -2,7 +2,11 @@
 ghost use Rattle.std.specs.Prelude.{◌≡◌, ◌≢◌, [], ◌∷◌, IfOk, IfErr, OnOk};
 ghost use Rattle.wasm_base.specs.Formats.{frame, custom as custom_format};
 ghost use Rattle.wasm_base.specs.Modules.{GainsReading};
-ghost use Rattle.wasm_custom.specs.Readings.{AreSymbols, name_payload, linking_payload, producers_payload, hints_payload};
+ghost use Rattle.wasm_custom.specs.Symbols.{AreSymbols};
+ghost use Rattle.wasm_custom.specs.Names.{name_payload};
+ghost use Rattle.wasm_custom.specs.Linking.{linking_payload};
+ghost use Rattle.wasm_custom.specs.Producers.{producers_payload};
+ghost use Rattle.wasm_custom.specs.Hints.{hints_payload};
 ghost use Rattle.wasm_reader_base.specs.declared.fault.ReadFault.TheVariants.{Memory};
 ghost use Rattle.read_back.specs.Customs.{name_and_more, data_symbol, links, language, likely_hints};
 ghost use Rattle.wasm_reader.specs.Kinds.{Names, Linking, Producers, Hints, Custom, contents_of};

@@ -2,8 +2,8 @@
 ghost use Rattle.std.specs.Prelude.{◌≡◌, ◌≢◌, [], ◌∷◌, IfOk, IfErr, OnOk, codes};
 ghost use Rattle.wasm_base.specs.Formats.{frame};
 ghost use Rattle.wasm_base.specs.Modules.{GainsReading, ReadsSections};
-ghost use Rattle.wasm_custom.specs.CoreStacks.{SaysStack};
-ghost use Rattle.wasm_custom.specs.Readings.{HoldsModules, HoldsInstances, core_payload, modules_payload, instances_payload, stack_payload};
+ghost use Rattle.wasm_custom.specs.CoreStacks.{SaysStack, stack_payload};
+ghost use Rattle.wasm_custom.specs.CoreDumps.{HoldsModules, HoldsInstances, core_payload, modules_payload, instances_payload};
 ghost use Rattle.wasm_reader_base.specs.declared.fault.ReadFault.TheVariants.{Memory};
 ghost use Rattle.read_back.specs.Dumps.{first_instance, other_instance, first_frame, other_frame, dump_sections};
 ghost use Rattle.wasm_reader.specs.Kinds.{Core, CoreModules, CoreInstances, CoreStack, contents_of};

@@ -5,8 +5,7 @@ ghost use Rattle.std.specs.Prelude.{◌≡◌, ◌≢◌, ◌≤◌, ◌++◌, [
 ghost use Rattle.wasm_base.specs.Entries.{counted_format};
 ghost use Rattle.wasm_base.specs.Formats.{u32 as u32_format, frame, wasm_module};
 ghost use Rattle.wasm_base.specs.Modules.{GainsReading};
-ghost use Rattle.wasm_custom.specs.Names.{Module, Map};
-ghost use Rattle.wasm_custom.specs.Readings.{name_payload};
+ghost use Rattle.wasm_custom.specs.Names.{Module, Map, name_payload};
 ghost use Rattle.wasm_reader_base.specs.declared.fault.ReadFault.TheVariants.{Memory};
 ghost use Rattle.wasm_base.specs.Numbers.{wide};
 ghost use Rattle.wasm_base.specs.Reading.{Reads, ReadsNothing};

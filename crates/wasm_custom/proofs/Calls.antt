@@ -17,37 +17,42 @@ use Rattle.std.specs.List.{All, AllByRecursion}
 use Rattle.std.specs.Prelude.{OnOk}
 use Rattle.std.specs.declared.array.IntoIter.{IntoIter}
 use Rattle.std.specs.declared.vec.Vec.{Vec}
+use Rattle.wasm_base.specs.Reading.{UniqueWholeReading}
 use Rattle.wasm_base.specs.Calls.{Appends, ReadsOneMore, ReadsBack, ReadsBackBoth}
 use Rattle.wasm_base.specs.Entries.{HoldsWide}
 use Rattle.wasm_base.specs.Formats.{Format, frame, name, pair, any_bytes, custom}
 use Rattle.wasm_base.specs.Laws.{FitsUnsigned}
-use Rattle.wasm_base.specs.Modules.{SectionReading, reading_of, wide_reading_of, ReadsSections, ReadsPayloads, GainsReading}
+use Rattle.wasm_base.specs.Modules.{SectionReading, reading_of, wide_reading_of, ReadsSections, GainsReading}
 use Rattle.wasm_base.specs.Numbers.{wide, unsigned_text}
 use Rattle.wasm_base.specs.Texts.{IsFrameOf, longest, frame_text, FrameFits, vec_text, VecFits}
 use Rattle.wasm_base.specs.declared.refused.Refused.{Refused}
 use Rattle.wasm_base.proofs.Calls.{gains_section, gains_section_wide, adds_raw_wide, new_section, adds_item}
 use Rattle.wasm_base.proofs.KnownLengths.{array_items, copied_items}
-use Rattle.wasm_base.proofs.Payloads.{custom-payload}
+use Rattle.wasm_base.proofs.BaseLaws.{custom_unique}
+use Rattle.wasm_base.proofs.Payloads.{payload-reads, custom-payload}
 use Rattle.wasm_custom.specs.Adding.{AddsList, AddsTwoLists}
-use Rattle.wasm_custom.specs.CoreDumps.{modules_name, instances_name, marked_text, core_name, SaysProcess, marked_name, Instance, instance}
-use Rattle.wasm_custom.specs.CoreStacks.{StackFrame, stack_name, SaysStack}
+use Rattle.wasm_custom.specs.CoreDumps.{modules_name, instances_name, marked_text, core_name, SaysProcess, marked_name, Instance, instance, HoldsModules, HoldsInstances, modules_payload, instances_payload, core_payload}
+use Rattle.wasm_custom.specs.CoreStacks.{StackFrame, stack_name, SaysStack, stack_payload}
 use Rattle.wasm_custom.specs.CoreValues.{value_text, IsValue}
 use Rattle.wasm_custom.specs.Customs.{named_payload, named_text, NamedFits, NamedPayload, named_framed, subsection_text}
 use Rattle.wasm_custom.specs.Entries.{entries_text}
-use Rattle.wasm_custom.specs.Hints.{hints_name, Hints, hint_text, IsHint, hints}
-use Rattle.wasm_custom.specs.Linking.{linking_name, version, LinkItem, Symbols, Target, link}
+use Rattle.wasm_custom.specs.Hints.{hints_name, Hints, hint_text, IsHint, hints, HoldsHints, hints_payload}
+use Rattle.wasm_custom.specs.Linking.{linking_name, version, LinkItem, Symbols, Target, link, HoldsLinks, linking_payload}
 use Rattle.wasm_custom.specs.Lists.{list_text, IsListOf}
-use Rattle.wasm_custom.specs.Names.{name_name, Naming, Inside, NameItem, Module, Map, Indirect, Other, name_map, indirect_map, subsection, of_map, of_indirect, of_other, name_kind_of}
-use Rattle.wasm_custom.specs.Producers.{producers_name, Producer, Field, field}
-use Rattle.wasm_custom.specs.Readings.{AreNamings, AreInsides, AreSymbols, AreProducers, HoldsNames, HoldsLinks, HoldsFields, HoldsHints, HoldsModules, HoldsInstances, name_payload, linking_payload, producers_payload, hints_payload, modules_payload, instances_payload, core_payload, stack_payload}
-use Rattle.wasm_custom.specs.Symbols.{Symbol, symbol_text, IsGivenSymbol, IsAsFlagged, IsSymbol}
+use Rattle.wasm_custom.specs.Names.{name_name, Naming, Inside, NameItem, Module, Map, Indirect, Other, name_map, indirect_map, subsection, of_map, of_indirect, of_other, name_kind_of, AreNamings, AreInsides, HoldsNames, name_payload}
+use Rattle.wasm_custom.specs.Producers.{producers_name, Producer, Field, field, AreProducers, HoldsFields, producers_payload}
+use Rattle.wasm_custom.specs.Symbols.{Symbol, symbol_text, IsGivenSymbol, IsAsFlagged, IsSymbol, AreSymbols}
 use Rattle.wasm_custom.specs.declared.core_values.CoreDumpValue.{CoreDumpValue}
 use Rattle.wasm_custom.specs.declared.hints.BranchHint.{BranchHint}
 use Rattle.wasm_custom.proofs.CustomLaws.{custom_back}
-use Rattle.wasm_custom.proofs.HeldLaws.{name-wide}
 use Rattle.wasm_custom.proofs.ListLaws.{lists_none, lists_more, list_vector}
-use Rattle.wasm_custom.proofs.NameLaws.{names_wide, names_inside_wide}
-use Rattle.wasm_custom.proofs.SectionLaws.{name-payload, linking-payload, producers-payload, hints-payload, modules-payload, instances-payload, core-payload, stack-payload}
+use Rattle.wasm_custom.proofs.NameLaws.{names_wide, names_inside_wide, subsection_unique, names_section}
+use Rattle.wasm_custom.proofs.CoreDumpLaws.{marked_unique, core_whole, core_unique, modules_section, instance_unique, instances_section}
+use Rattle.wasm_custom.proofs.CoreStackLaws.{value_unique, stack_frame_unique, stack_frame_laws, stack_whole, stack_unique}
+use Rattle.wasm_custom.proofs.HintLaws.{hints_unique, hints_section}
+use Rattle.wasm_custom.proofs.LinkLaws.{link_unique, linking_section}
+use Rattle.wasm_custom.proofs.ProducerLaws.{field_unique, producers_section}
+use Rattle.wasm_custom.proofs.SymbolLaws.{symbol_unique}
 
 -- ---- lists
 
@@ -135,11 +140,11 @@ adds_other_names before id content e kind = adds_item before (Other id content) 
 -- names that given bytes spell with padded numbers, and names of what is inside
 pub adds_raw_names : {old new : List (List ℕ)} {items : List NameItem} → HoldsWide subsection old items → (id : ℕ) (content : List ℕ) (names : List Naming) → new ≡ old ++ subsection_text id content ∷ [] → FrameFits content × Unit {0} → name_kind_of id ≡ of_map
     → name_map wide content names → HoldsWide subsection new (items ++ Map id names ∷ [])
-adds_raw_names before id content names e fits kind spelled = adds_raw_wide name-wide before (Map id names) e (names_wide id content names kind fits.0 spelled)
+adds_raw_names before id content names e fits kind spelled = adds_raw_wide names_section.held_wide before (Map id names) e (names_wide id content names kind fits.0 spelled)
 
 pub adds_raw_names_inside : {old new : List (List ℕ)} {items : List NameItem} → HoldsWide subsection old items → (id : ℕ) (content : List ℕ) (insides : List Inside) → new ≡ old ++ subsection_text id content ∷ [] → FrameFits content × Unit {0} → name_kind_of id ≡ of_indirect
     → indirect_map wide content insides → HoldsWide subsection new (items ++ Indirect id insides ∷ [])
-adds_raw_names_inside before id content insides e fits kind spelled = adds_raw_wide name-wide before (Indirect id insides) e (names_inside_wide id content insides kind fits.0 spelled)
+adds_raw_names_inside before id content insides e fits kind spelled = adds_raw_wide names_section.held_wide before (Indirect id insides) e (names_inside_wide id content insides kind fits.0 spelled)
 
 all_symbols : (symbols : List Symbol) → All IsGivenSymbol symbols → AllByRecursion IsAsFlagged symbols → All IsSymbol symbols
 all_symbols symbols given flagged = λ k d l. (given k d l, all_of symbols flagged k d l)
@@ -267,15 +272,15 @@ adds_frame before f added thread instance function offset locals stack = adds_fr
 
 -- ---- a module and one more section
 
-gains_custom : {X : Type 0} {F : Format X} {Says : X → Type 0} {readings : List SectionReading} {id : ℕ} {old new n : List ℕ} {x : X} → ReadsPayloads (named_payload n F) → ReadsSections readings old → (content : List ℕ)
+gains_custom : {X : Type 0} {F : Format X} {Says : X → Type 0} {readings : List SectionReading} {id : ℕ} {old new n : List ℕ} {x : X} → UniqueWholeReading (named_payload n F) → ReadsSections readings old → (content : List ℕ)
     → ReadsOneMore (NamedPayload n content) id old new → NamedFits n content → ReadsBack (frame (named_payload n F)) Says (named_text n content) → Says x → ReadsSections (readings ++ reading_of id (named_payload n F) x ∷ []) new
-gains_custom {F = F} {n = n} {x = x} payloads before content more fits reads says =
-    gains_section {F = named_payload n F} before more payloads (named_text n content) (frame_text n ++ content) refl (named_framed n content (frame_text n ++ content) fits refl) x (reads.for_each x says)
+gains_custom {F = F} {n = n} {x = x} whole before content more fits reads says =
+    gains_section {F = named_payload n F} before more (payload-reads whole) (named_text n content) (frame_text n ++ content) refl (named_framed n content (frame_text n ++ content) fits refl) x (reads.for_each x says)
 
 pub gains_names : {readings : List SectionReading} {id : ℕ} {old new : List ℕ} {entries : List (List ℕ)} {items : List NameItem} → ReadsSections readings old
     → ReadsOneMore (NamedPayload name_name (entries_text [] false entries)) id old new → NamedFits name_name (entries_text [] false entries) → ReadsBackBoth (frame name_payload) (HoldsNames entries) (HoldsWide subsection entries) (named_text name_name (entries_text [] false entries))
     → HoldsNames entries items → ReadsSections (readings ++ reading_of id name_payload items ∷ []) new
-gains_names before more fits reads holds = gains_custom name-payload before _ more fits reads.plain holds
+gains_names before more fits reads holds = gains_custom names_section.whole before _ more fits reads.plain holds
 
 pub gains_names_wide : {readings : List SectionReading} {id : ℕ} {old new : List ℕ} {entries : List (List ℕ)} {items : List NameItem} → ReadsSections readings old
     → ReadsOneMore (NamedPayload name_name (entries_text [] false entries)) id old new → NamedFits name_name (entries_text [] false entries) → ReadsBackBoth (frame name_payload) (HoldsNames entries) (HoldsWide subsection entries) (named_text name_name (entries_text [] false entries))
@@ -287,38 +292,38 @@ gains_names_wide {entries = entries} {items = items} before more fits reads hold
 pub gains_linking : {readings : List SectionReading} {id : ℕ} {old new : List ℕ} {entries : List (List ℕ)} {items : List LinkItem} → ReadsSections readings old
     → ReadsOneMore (NamedPayload linking_name (entries_text (version ∷ []) false entries)) id old new → NamedFits linking_name (entries_text (version ∷ []) false entries) → ReadsBackBoth (frame linking_payload) (HoldsLinks entries) (HoldsWide link entries) (named_text linking_name (entries_text (version ∷ []) false entries))
     → HoldsLinks entries items → ReadsSections (readings ++ reading_of id linking_payload items ∷ []) new
-gains_linking before more fits reads holds = gains_custom linking-payload before _ more fits reads.plain holds
+gains_linking before more fits reads holds = gains_custom linking_section.whole before _ more fits reads.plain holds
 
 pub gains_producers : {readings : List SectionReading} {id : ℕ} {old new : List ℕ} {entries : List (List ℕ)} {items : List Field} → ReadsSections readings old
     → ReadsOneMore (NamedPayload producers_name (entries_text [] true entries)) id old new → NamedFits producers_name (entries_text [] true entries) → ReadsBackBoth (frame producers_payload) (HoldsFields entries) (HoldsWide field entries) (named_text producers_name (entries_text [] true entries))
     → HoldsFields entries items → ReadsSections (readings ++ reading_of id producers_payload items ∷ []) new
-gains_producers before more fits reads holds = gains_custom producers-payload before _ more fits reads.plain holds
+gains_producers before more fits reads holds = gains_custom producers_section.whole before _ more fits reads.plain holds
 
 pub gains_hints : {readings : List SectionReading} {id : ℕ} {old new : List ℕ} {entries : List (List ℕ)} {items : List Hints} → ReadsSections readings old
     → ReadsOneMore (NamedPayload hints_name (entries_text [] true entries)) id old new → NamedFits hints_name (entries_text [] true entries) → ReadsBackBoth (frame hints_payload) (HoldsHints entries) (HoldsWide hints entries) (named_text hints_name (entries_text [] true entries))
     → HoldsHints entries items → ReadsSections (readings ++ reading_of id hints_payload items ∷ []) new
-gains_hints before more fits reads holds = gains_custom hints-payload before _ more fits reads.plain holds
+gains_hints before more fits reads holds = gains_custom hints_section.whole before _ more fits reads.plain holds
 
 pub gains_modules : {readings : List SectionReading} {id : ℕ} {old new : List ℕ} {entries : List (List ℕ)} {items : List (List ℕ)} → ReadsSections readings old
     → ReadsOneMore (NamedPayload modules_name (entries_text [] true entries)) id old new → NamedFits modules_name (entries_text [] true entries) → ReadsBackBoth (frame modules_payload) (HoldsModules entries) (HoldsWide marked_name entries) (named_text modules_name (entries_text [] true entries))
     → HoldsModules entries items → ReadsSections (readings ++ reading_of id modules_payload items ∷ []) new
-gains_modules before more fits reads holds = gains_custom modules-payload before _ more fits reads.plain holds
+gains_modules before more fits reads holds = gains_custom modules_section.whole before _ more fits reads.plain holds
 
 pub gains_instances : {readings : List SectionReading} {id : ℕ} {old new : List ℕ} {entries : List (List ℕ)} {items : List Instance} → ReadsSections readings old
     → ReadsOneMore (NamedPayload instances_name (entries_text [] true entries)) id old new → NamedFits instances_name (entries_text [] true entries) → ReadsBackBoth (frame instances_payload) (HoldsInstances entries) (HoldsWide instance entries) (named_text instances_name (entries_text [] true entries))
     → HoldsInstances entries items → ReadsSections (readings ++ reading_of id instances_payload items ∷ []) new
-gains_instances before more fits reads holds = gains_custom instances-payload before _ more fits reads.plain holds
+gains_instances before more fits reads holds = gains_custom instances_section.whole before _ more fits reads.plain holds
 
 -- the process of a core dump, of the name that was handed in
 pub gains_process : {readings : List SectionReading} {id : ℕ} {old new content : List ℕ} → ReadsSections readings old → ReadsOneMore (NamedPayload core_name content) id old new → NamedFits core_name content
     → ReadsBack (frame core_payload) (SaysProcess content) (named_text core_name content) → (n : List ℕ) → content ≡ marked_text n → IsUtf8 n → ReadsSections (readings ++ reading_of id core_payload n ∷ []) new
-gains_process before more fits reads n e utf8 = gains_custom core-payload before _ more fits reads (utf8, e)
+gains_process before more fits reads n e utf8 = gains_custom core_whole before _ more fits reads (utf8, e)
 
 -- the stack of a thread
 pub gains_stack : {readings : List SectionReading} {id : ℕ} {old new n : List ℕ} {stack : List ℕ × List (List ℕ)} {frames : List StackFrame} → ReadsSections readings old
     → ReadsOneMore (NamedPayload stack_name (entries_text stack.0 true stack.1)) id old new → NamedFits stack_name (entries_text stack.0 true stack.1)
     → ReadsBack (frame stack_payload) (SaysStack stack.0 stack.1) (named_text stack_name (entries_text stack.0 true stack.1)) → SaysStack stack.0 stack.1 (n, frames) → ReadsSections (readings ++ reading_of id stack_payload (n, frames) ∷ []) new
-gains_stack before more fits reads says = gains_custom stack-payload before _ more fits reads says
+gains_stack before more fits reads says = gains_custom stack_whole before _ more fits reads says
 
 -- a section of a name and data
 pub gains_given : {readings : List SectionReading} {id : ℕ} {old new n content : List ℕ} → ReadsSections readings old → ReadsOneMore (NamedPayload n content) id old new → NamedFits n content
@@ -345,3 +350,14 @@ pub encodes_entries : {A X : Type 0} (F : Format X) (Says SaysWide : X → Type 
     → Appends text fits old new result → OnOk result (ReadsBackBoth F Says SaysWide text) → Says x → OnOk result (GainsReading F x old.items new.items)
 encodes_entries F Says SaysWide {text = text} {result = Ok u} {x = x} appends reads says = record { text = text; added = appends.ok; alone = reads.plain.for_each x says }
 encodes_entries F Says SaysWide {result = Err e} appends reads says = tt
+
+-- ---- what the laws of this crate are proved by
+
+-- of each section that calls add items to, all that is promised of it
+pub ruleset sections = (names_section, linking_section, producers_section, hints_section, modules_section, instances_section)
+
+-- what else is read uniquely: the sections of one text, and what sections hold
+pub ruleset parts = (core_unique, stack_unique, custom_unique, subsection_unique, link_unique, symbol_unique, field_unique, hints_unique, marked_unique, instance_unique, stack_frame_unique, value_unique, stack_frame_laws)
+
+-- the payloads of the other sections
+pub ruleset payloads = (payload-reads, core_whole, stack_whole, custom-payload)

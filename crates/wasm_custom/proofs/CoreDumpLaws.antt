@@ -1,28 +1,32 @@
 -- Core dumps are read uniquely.
-use Rattle.std.proofs.Common.{◌≡◌, ℕ, List, [], ◌∷◌, ◌++◌, length, true, IsUtf8, refl, sym, ap, subst, arith, length-append, ◌≢◌, map, ap₂}
+use Rattle.std.proofs.Common.{◌≡◌, ℕ, List, [], ◌∷◌, ◌++◌, length, true, IsUtf8, refl, sym, ap, subst, arith, length-append, ◌≢◌, map, ap₂, zero, suc, ◌<◌, get_or}
 use Rattle.wasm_base.specs.Calls.{ReadsBack}
 use Rattle.wasm_base.specs.Entries.{ItemLaws}
 use Rattle.wasm_base.specs.Formats.{u32, name, pair, vec, fixed, just, prefixed}
 use Rattle.wasm_base.specs.Laws.{FitsUnsigned}
 use Rattle.wasm_base.specs.Numbers.{shortest, unsigned_text, wide}
-use Rattle.wasm_base.specs.Reading.{UniqueReading, Reads, ReadsNothing}
+use Rattle.wasm_base.specs.Reading.{UniqueReading, Reads, ReadsNothing, UniqueWholeReading}
 use Rattle.wasm_base.specs.Texts.{frame_text, FrameFits, vec_text}
 use Rattle.wasm_base.proofs.BaseLaws.{name_unique, vec_u32_unique}
 use Rattle.wasm_base.proofs.Calls.{ascii}
-use Rattle.wasm_base.proofs.FormatLaws.{mapped_unique, pair_unique, prefixed_unique, fixed_unique, whole_from_alone, vec_unique}
+use Rattle.wasm_base.proofs.FormatLaws.{mapped_unique, pair_unique, prefixed_unique, fixed_unique, whole_from_alone, vec_unique, frame_unique}
 use Rattle.wasm_base.proofs.NumberLaws.{u32_unique}
 use Rattle.wasm_base.proofs.PartLaws.{pair_spelled, prefixed_spelled}
 use Rattle.wasm_base.proofs.TextLaws.{reads_alone, u32_spelled, name_spelled, vec_spelled}
-use Rattle.wasm_custom.specs.CoreDumps.{marked_text, marked_name, core_name, core_section, SaysProcess, modules_name, Instance, instance_text, IsInstance, instance_of, instance, instances_name, module_items, instance_items}
+use Rattle.wasm_custom.specs.CoreDumps.{marked_text, marked_name, core_name, core_section, SaysProcess, modules_name, Instance, instance_text, IsInstance, instance_of, instance, instances_name, module_items, instance_items, core_payload, modules_payload, instances_payload}
 use Rattle.wasm_custom.specs.Customs.{named_text, NamedFits}
 use Rattle.wasm_custom.specs.Entries.{FrameLaws}
-use Rattle.wasm_custom.proofs.CustomLaws.{named_unique, named_spelled, data_fits}
+use Rattle.wasm_custom.proofs.CustomLaws.{named_spelled, data_fits, named_appended}
 use Rattle.std.proofs.lemmas.List.{map-id}
 use Rattle.wasm_base.specs.Going.{FillsNothing}
 use Rattle.wasm_base.proofs.ReadingSteps.{mapped_reads, mapped_nothing}
 use Rattle.wasm_reader_base.proofs.ReadWhole.{whole_reads, whole_more, whole_nothing}
-use Rattle.wasm_custom.specs.Readings.{core_payload, modules_payload, instances_payload}
 use Rattle.wasm_custom.proofs.ReadNamed.{named_fills, named_none, named_nothing, items_fill, no_items}
+use Rattle.wasm_base.proofs.AfterLaws.{after_whole}
+use Rattle.wasm_base.proofs.SectionLaws.{SectionLaws}
+use Rattle.wasm_custom.proofs.EntriesLaws.{entries_laws, items_appended}
+use Rattle.wasm_reader_base.specs.Shortest.{AppendsShortest}
+use Rattle.wasm_reader_base.proofs.ShortTexts.{pair_appended, prefixed_appended, mapped_appended}
 
 -- ---- names of processes, modules and threads
 
@@ -34,8 +38,11 @@ marked_spelled n utf8 fits = prefixed_spelled (0x00 ∷ []) name (frame_text n) 
 
 -- ---- the process
 
+pub core_whole : UniqueWholeReading core_payload
+core_whole = after_whole core_name name_unique (whole_from_alone marked_unique)
+
 pub core_unique : UniqueReading core_section
-core_unique = named_unique core_name (whole_from_alone marked_unique)
+core_unique = frame_unique core_whole
 
 -- the name fits where the section does
 marked_fits : (n content : List ℕ) → content ≡ marked_text n → NamedFits core_name content → FrameFits n
@@ -62,6 +69,10 @@ module_frame = record {
   begins = λ e. absurd (cc e);
 }
 
+-- the laws of the sections of modules
+pub modules_section : SectionLaws module_items modules_payload
+modules_section = entries_laws module_laws module_frame (λ given plain. plain) (λ given plain. plain)
+
 -- ---- instances
 
 pub instance_unique : UniqueReading instance
@@ -86,6 +97,10 @@ instance_frame = record {
   front_spelled = (refl, refl);
   begins = λ e. absurd (cc e);
 }
+
+-- the laws of the sections of instances
+pub instances_section : SectionLaws instance_items instances_payload
+instances_section = entries_laws instance_laws instance_frame (λ given plain. plain) (λ given plain. plain)
 
 -- ---- how core dumps are read
 
@@ -148,3 +163,31 @@ pub instances_more : (bytes rest left : List ℕ) (items : List Instance) → Re
 instances_more bytes rest left items h g more = no_instances bytes rest h (whole_more (vec instance) rest left items (vec_unique instance_unique) g more)
 
 pub ruleset instances_steps = (instances_read, instances_none, instances_nothing, instances_more)
+
+-- ---- the one shortest text of core dumps that were read
+
+-- What is read of a list does not rest on the default.
+pub read_there : {T : Type 0} (xs : List T) (i : ℕ) (d e : T) → i < length xs → get_or xs i d ≡ get_or xs i e
+read_there [] i d e l = absurd (omega (arith, l))
+read_there (x ∷ xs) zero d e l = refl
+read_there (x ∷ xs) (suc i) d e l = read_there xs i d e (omega (arith, l))
+
+pub marked_appended : (n old middle new : List ℕ) → middle ≡ old ++ 0x00 ∷ [] → AppendsShortest name n middle new → AppendsShortest marked_name n old new
+marked_appended n old middle new e a = prefixed_appended (0x00 ∷ []) name n old middle new e a
+
+pub process_appended : (n old middle new : List ℕ) → FrameFits core_name → middle ≡ old ++ frame_text core_name → AppendsShortest marked_name n middle new → AppendsShortest core_payload n old new
+process_appended n old middle new fits e a = named_appended core_name marked_name n fits e a
+
+pub modules_appended : (ns : List (List ℕ)) (old middle new : List ℕ) → FrameFits modules_name → middle ≡ old ++ frame_text modules_name → AppendsShortest (vec marked_name) ns middle new → AppendsShortest modules_payload ns old new
+modules_appended ns old middle new fits e a = items_appended modules_name true marked_name ns fits e a
+
+pub instance_appended : (n : ℕ) (ms gs old front first second new : List ℕ) → front ≡ old ++ 0x00 ∷ [] → AppendsShortest u32 n front first → AppendsShortest (vec u32) (map (λ m. m) ms) first second → AppendsShortest (vec u32) (map (λ g. g) gs) second new
+    → AppendsShortest instance (record { module_index = n; memories = ms; globals = gs }) old new
+instance_appended n ms gs old front first second new e a b c =
+    let lists = pair_appended (vec u32) (vec u32) (subst (λ z. AppendsShortest (vec u32) z first second) (map-id ms) b) (subst (λ z. AppendsShortest (vec u32) z second new) (map-id gs) c) in
+    let parts : ℕ × (List ℕ × List ℕ) = (n, (ms, gs)) in
+    let all = pair_appended u32 (pair (vec u32) (vec u32)) a lists in
+    mapped_appended instance_of (prefixed (0x00 ∷ []) (pair u32 (pair (vec u32) (vec u32)))) parts old new (λ z k. ap (λ i. (i.module_index, (i.memories, i.globals))) k) (prefixed_appended (0x00 ∷ []) (pair u32 (pair (vec u32) (vec u32))) parts old front new e all)
+
+pub instances_appended : (xs : List Instance) (old middle new : List ℕ) → FrameFits instances_name → middle ≡ old ++ frame_text instances_name → AppendsShortest (vec instance) xs middle new → AppendsShortest instances_payload xs old new
+instances_appended xs old middle new fits e a = items_appended instances_name true instance xs fits e a

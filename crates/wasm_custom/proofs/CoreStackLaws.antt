@@ -6,15 +6,15 @@ use Rattle.wasm_base.specs.Entries.{ItemLaws, entry_text}
 use Rattle.wasm_base.specs.Formats.{u32, byte, pair, prefixed, vec, Format, name, just, s32, s64, little_endian, impossible, choice}
 use Rattle.wasm_base.specs.Numbers.{shortest, unsigned_text, signed_text, wide}
 use Rattle.wasm_base.specs.Pieces.{joined}
-use Rattle.wasm_base.specs.Reading.{UniqueReading, Reads, ReadsNothing}
-use Rattle.wasm_base.specs.Texts.{longest, FrameFits, vec_text, little_endian_text}
-use Rattle.wasm_base.proofs.BaseLaws.{s32_unique, s64_unique}
+use Rattle.wasm_base.specs.Reading.{UniqueReading, Reads, ReadsNothing, UniqueWholeReading}
+use Rattle.wasm_base.specs.Texts.{longest, FrameFits, vec_text, little_endian_text, frame_text, VecFits}
+use Rattle.wasm_base.proofs.BaseLaws.{s32_unique, s64_unique, name_unique}
 use Rattle.wasm_base.proofs.EntryLaws.{entries_spelled}
-use Rattle.wasm_base.proofs.FormatLaws.{mapped_unique, pair_unique, pair_whole, vec_unique, prefixed_unique, fixed_unique, byte_unique, choice_of, little_endian_unique, whole_from_alone}
+use Rattle.wasm_base.proofs.FormatLaws.{mapped_unique, pair_unique, pair_whole, vec_unique, prefixed_unique, fixed_unique, byte_unique, choice_of, little_endian_unique, whole_from_alone, frame_unique, AllValues, values_tagged}
 use Rattle.wasm_base.proofs.NumberLaws.{u32_unique}
 use Rattle.wasm_base.proofs.TextLaws.{reads_alone, tagged_spelled, u32_spelled, s32_spelled, s64_spelled, little_endian_spelled, vec_spelled}
 use Rattle.wasm_custom.specs.CoreDumps.{marked_text, marked_name}
-use Rattle.wasm_custom.specs.CoreStacks.{StackFrame, frame_entry, IsFrame, Place, stack_frame_of, stack_frame, stack_name, stack_section, SaysStack, frame_items}
+use Rattle.wasm_custom.specs.CoreStacks.{StackFrame, frame_entry, IsFrame, Place, stack_frame_of, stack_frame, stack_name, stack_section, SaysStack, frame_items, stack_payload}
 use Rattle.wasm_custom.specs.CoreValues.{value_text, IsValue, f32_of, f64_of, value_tags, value}
 use Rattle.wasm_custom.specs.Customs.{named_text, NamedFits}
 use Rattle.wasm_custom.specs.Entries.{count_text, entries_text}
@@ -22,18 +22,21 @@ use Rattle.wasm_custom.specs.declared.core_values.CoreDumpValue.{CoreDumpValue}
 use Rattle.wasm_custom.specs.declared.core_values.CoreDumpValue.TheVariants.{Missing, I32, I64, F32, F64}
 use Rattle.wasm_base.proofs.Calls.{ascii}
 use Rattle.wasm_custom.proofs.CoreDumpLaws.{marked_unique, marked_spelled}
-use Rattle.wasm_custom.proofs.CustomLaws.{named_unique, named_spelled, data_fits}
+use Rattle.wasm_custom.proofs.CustomLaws.{named_spelled, data_fits, named_appended}
 use Rattle.wasm_custom.proofs.EntriesLaws.{listing_spelled}
 use Rattle.wasm_base.proofs.PartLaws.{pair_spelled, prefixed_spelled}
 use Rattle.std.proofs.lemmas.List.{map-id}
 use Rattle.wasm_base.specs.Going.{FillsNothing}
 use Rattle.wasm_base.proofs.ReadingSteps.{reads_same, then_reads, then_nothing_first, then_nothing_second, mapped_reads, mapped_nothing}
 use Rattle.wasm_base.proofs.Tags.{tagged_reads, tagged_none, tagged_nothing, no_choice, fixed_reads}
-use Rattle.wasm_custom.specs.Readings.{stack_payload}
 use Rattle.wasm_immediates.specs.declared.floats.Ieee32.{Ieee32}
 use Rattle.wasm_immediates.specs.declared.floats.Ieee64.{Ieee64}
 use Rattle.wasm_custom.proofs.ReadNamed.{named_fills, named_none, named_nothing}
 use Rattle.wasm_custom.specs.declared.core_values.CoreDumpValue.TheVariants as values
+use Rattle.wasm_base.proofs.AfterLaws.{after_whole}
+use Rattle.wasm_reader_base.specs.Shortest.{AppendsShortest}
+use Rattle.wasm_reader_base.proofs.ReadPlain.{little_endian_below}
+use Rattle.wasm_reader_base.proofs.ShortTexts.{pair_appended, prefixed_appended, mapped_appended, records_appended}
 
 -- ---- values
 
@@ -86,8 +89,11 @@ stack_frame_laws = record { alone = stack_frame_unique; spelled = λ f plain fit
 
 -- ---- stacks
 
+pub stack_whole : UniqueWholeReading stack_payload
+stack_whole = after_whole stack_name name_unique (pair_whole marked_unique (whole_from_alone (vec_unique stack_frame_unique)))
+
 pub stack_unique : UniqueReading stack_section
-stack_unique = named_unique stack_name (pair_whole marked_unique (whole_from_alone (vec_unique stack_frame_unique)))
+stack_unique = frame_unique stack_whole
 
 -- what the data are no longer than
 within : (front content : List ℕ) (pieces : List (List ℕ)) → length (front ++ (content ++ joined pieces)) ≤ longest → (length front ≤ longest) × (length (joined pieces) ≤ longest)
@@ -212,3 +218,34 @@ stack_no_frames bytes rest last thread h g n = named_nothing stack_name threaded
 })
 
 pub ruleset stack_steps = (stack_fills, stack_none, stack_no_thread, stack_no_frames)
+
+-- ---- the one shortest text of stacks that were read
+
+value_is : AllValues IsValue value
+value_is =
+    values_tagged IsValue value_tags (
+      λ mode s x h. subst IsValue (sym h.1) tt,
+      (
+        λ mode s x h. subst IsValue h.1 (h.2.above, h.2.below),
+        (λ mode s x h. subst IsValue h.1 (h.2.above, h.2.below), (λ mode s x h. subst IsValue h.1 (little_endian_below 4 mode s h.0 h.2), (λ mode s x h. subst IsValue h.1 (little_endian_below 8 mode s h.0 h.2), tt))),
+      ),
+    )
+
+values_appended : (vs : List CoreDumpValue) (old new : List ℕ) → VecFits (λ v. Unit {0}) vs → new ≡ old ++ vec_text value_text vs → AppendsShortest (vec value) vs old new
+values_appended vs old new fits e =
+    subst (λ z. AppendsShortest (vec value) z old new) (map-id vs) (records_appended value (λ v. v) value_text (λ v. Unit {0}) vs old new (λ v f s k. value_spelled v (value_is wide s v k)) fits e)
+
+pub frame_appended : (n m o : ℕ) (ls ss : List CoreDumpValue) (old front first second third fourth new : List ℕ) → front ≡ old ++ 0x00 ∷ [] → AppendsShortest u32 n front first → AppendsShortest u32 m first second → AppendsShortest u32 o second third
+    → VecFits (λ v. Unit {0}) ls → fourth ≡ third ++ vec_text value_text ls → VecFits (λ v. Unit {0}) ss → new ≡ fourth ++ vec_text value_text ss
+    → AppendsShortest stack_frame (record { instance = n; function = m; offset = o; locals = ls; stack = ss }) old new
+frame_appended n m o ls ss old front first second third fourth new e a b c lf le sf se =
+    let numbers = pair_appended u32 (pair u32 u32) a (pair_appended u32 u32 b c) in
+    let place : Place = (n, (m, o)) in
+    let placed = prefixed_appended (0x00 ∷ []) (pair u32 (pair u32 u32)) place old front third e numbers in
+    let lists = pair_appended (vec value) (vec value) (values_appended ls third fourth lf le) (values_appended ss fourth new sf se) in
+    mapped_appended stack_frame_of (pair (prefixed (0x00 ∷ []) (pair u32 (pair u32 u32))) (pair (vec value) (vec value))) (place, (ls, ss)) old new (λ z k. ap (λ f. ((f.instance, (f.function, f.offset)), (f.locals, f.stack))) k)
+    (pair_appended (prefixed (0x00 ∷ []) (pair u32 (pair u32 u32))) (pair (vec value) (vec value)) placed lists)
+
+pub stack_appended : (thread : List ℕ) (frames : List StackFrame) (old front middle new : List ℕ) → FrameFits stack_name → front ≡ old ++ frame_text stack_name → AppendsShortest marked_name thread front middle → AppendsShortest (vec stack_frame) frames middle new
+    → AppendsShortest stack_payload (thread, frames) old new
+stack_appended thread frames old front middle new fits e a b = named_appended stack_name (pair marked_name (vec stack_frame)) (thread, frames) fits e (pair_appended marked_name (vec stack_frame) a b)

@@ -1,7 +1,7 @@
 -- Custom sections of a name are read uniquely.
 use Rattle.std.proofs.Common.{◌≡◌, ℕ, ◌+◌, ◌≤◌, List, ◌++◌, length, IsUtf8, refl, sym, subst, arith, length-append}
 use Rattle.wasm_base.specs.Calls.{ReadsBack, ReadsBackBoth}
-use Rattle.wasm_base.specs.Formats.{Format, after, name, any_bytes, pair, custom}
+use Rattle.wasm_base.specs.Formats.{Format, after, name, any_bytes, pair, custom, just}
 use Rattle.wasm_base.specs.Numbers.{Mode, shortest, wide, unsigned_text}
 use Rattle.wasm_base.specs.Reading.{UniqueReading, UniqueWholeReading, ReadsAlone}
 use Rattle.wasm_base.specs.Texts.{longest, frame_text, FrameFits}
@@ -9,8 +9,11 @@ use Rattle.wasm_base.proofs.AfterLaws.{after_whole, after_spelled}
 use Rattle.wasm_base.proofs.BaseLaws.{name_unique, custom_unique}
 use Rattle.wasm_base.proofs.FormatLaws.{frame_unique}
 use Rattle.wasm_base.proofs.TextLaws.{spelled_in, reads_alone, reads_alone_wide, frame_in, frame_spelled}
-use Rattle.wasm_custom.specs.Customs.{named_section, named_text, NamedFits, subsection_text}
+use Rattle.wasm_custom.specs.Customs.{named_section, named_text, NamedFits, subsection_text, named_payload}
 use Rattle.wasm_base.proofs.PartLaws.{pair_spelled, front_name_spelled}
+use Rattle.wasm_reader_base.specs.Shortest.{AppendsShortest}
+use Rattle.wasm_reader_base.proofs.ReadPlain.{name_appended}
+use Rattle.wasm_reader_base.proofs.ShortTexts.{tagged_appended}
 
 pub named_unique : {X : Type 0} (n : List ℕ) {F : Format X} → UniqueWholeReading F → UniqueReading (named_section n F)
 named_unique n f = frame_unique (after_whole n name_unique f)
@@ -47,3 +50,14 @@ raw_back bytes = record { plain = record { for_each = λ said h. reads_alone {F 
 -- the frame in a subsection fits where the subsection does
 pub content_fits : (id : ℕ) (content : List ℕ) → FrameFits (subsection_text id content) → FrameFits content
 content_fits id content fits = omega (arith, fits, length-append (unsigned_text (length content)) content)
+
+-- ---- the one shortest text of custom sections that were read
+
+pub just_appended : {X : Type 0} (F : Format X) (x : X) (old new : List ℕ) → AppendsShortest F x old new → AppendsShortest (just x F) tt old new
+just_appended F x old new a = record { text = a.text; appended = a.appended; spelled = λ s h. a.spelled s h }
+
+pub name_written : (n old new : List ℕ) → FrameFits n → new ≡ old ++ frame_text n → AppendsShortest (just n name) tt old new
+name_written n old new fits e = just_appended name n old new (name_appended n old new fits e)
+
+pub named_appended : {X : Type 0} (n : List ℕ) {old middle new : List ℕ} (G : Format X) (x : X) → FrameFits n → middle ≡ old ++ frame_text n → AppendsShortest G x middle new → AppendsShortest (named_payload n G) x old new
+named_appended n {old = old} {middle = middle} G x fits e a = tagged_appended (just n name) (λ u. G) (λ s z h. refl) (name_written n old middle fits e) a

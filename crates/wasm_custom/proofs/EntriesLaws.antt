@@ -1,19 +1,24 @@
 -- A custom section of items is read as these alone.
-use Rattle.std.proofs.Common.{◌≡◌, ℕ, ◌≤◌, List, ◌++◌, length, map, Bool, true, false, refl, sym, subst, arith, length-append}
+use Rattle.std.proofs.Common.{◌≡◌, ℕ, ◌≤◌, List, ◌++◌, length, map, Bool, true, false, refl, sym, subst, arith, length-append, [], append-nil}
 use Rattle.std.specs.List.{AllZip}
 use Rattle.wasm_base.specs.Calls.{ReadsBack, ReadsBackWide, ReadsBackBoth}
 use Rattle.wasm_base.specs.Entries.{Kind, entry_text, HoldsItems, HoldsWide, ItemLaws}
-use Rattle.wasm_base.specs.Formats.{Format}
+use Rattle.wasm_base.specs.Formats.{Format, fixed}
 use Rattle.wasm_base.specs.Numbers.{Mode, shortest, wide}
 use Rattle.wasm_base.specs.Pieces.{joined}
 use Rattle.wasm_base.specs.Reading.{UniqueReading, UniqueWholeReading, BeginsWith}
-use Rattle.wasm_base.specs.Texts.{longest}
+use Rattle.wasm_base.specs.Texts.{longest, frame_text, FrameFits}
 use Rattle.wasm_base.proofs.EntryLaws.{entries_spelled, pieces_spelled}
 use Rattle.wasm_base.proofs.FormatLaws.{vec_unique, members_whole, whole_from_alone, mapped_whole, pair_whole}
 use Rattle.wasm_base.proofs.TextLaws.{spelled_in, reads_alone, reads_alone_wide, joined_spelled, vec_of_pieces}
-use Rattle.wasm_custom.specs.Customs.{named_section, named_text, NamedFits}
+use Rattle.wasm_custom.specs.Customs.{named_section, named_text, NamedFits, named_payload}
 use Rattle.wasm_custom.specs.Entries.{count_text, entries_text, listing, entries, FrameLaws}
-use Rattle.wasm_custom.proofs.CustomLaws.{named_unique, named_spelled, data_fits}
+use Rattle.wasm_custom.proofs.CustomLaws.{named_unique, named_spelled, data_fits, named_appended}
+use Rattle.wasm_base.proofs.BaseLaws.{name_unique}
+use Rattle.wasm_base.proofs.AfterLaws.{after_whole}
+use Rattle.wasm_base.proofs.SectionLaws.{SectionLaws, framed_laws}
+use Rattle.wasm_reader_base.specs.Shortest.{AppendsShortest}
+use Rattle.wasm_reader_base.proofs.ShortTexts.{text_appended, tagged_appended}
 
 listing_whole : {Item : Type 0} (counted : Bool) {F : Format Item} → (counted ≡ false → BeginsWith (λ b. Unit {0}) F) → UniqueReading F → UniqueWholeReading (listing counted F)
 listing_whole true begins f = whole_from_alone (vec_unique f)
@@ -71,3 +76,15 @@ module _ {Record Item : Type 0} (kind : Kind Record Item) (n front : List ℕ) (
   pub entries_back : (pieces : List (List ℕ)) → length pieces ≤ longest → NamedFits n (entries_text front counted pieces)
       → ReadsBackBoth (named_section n (entries front_format counted kind.format)) (HoldsItems kind pieces) (HoldsWide kind.format pieces) (named_text n (entries_text front counted pieces))
   entries_back pieces few fits = record { plain = entries_alone pieces few fits; wide = entries_alone_wide pieces few fits }
+
+-- the laws of the sections of a kind, whose records are plain in both ways alike
+pub entries_laws : {Record Item : Type 0} {kind : Kind Record Item} {n front : List ℕ} {front_format : Format (Unit {0})} {counted : Bool} → ItemLaws kind → FrameLaws kind.format n front front_format counted
+    → ((given : Record) → kind.IsPlain given → kind.IsPlainWide given) → ((given : Record) → kind.IsPlainWide given → kind.IsPlain given) → SectionLaws kind (named_payload n (entries front_format counted kind.format))
+entries_laws {n = n} {counted = counted} laws more wider plain = framed_laws laws wider (after_whole n name_unique (entries_whole counted more.front_alone more.begins laws.alone)) plain
+
+-- the one shortest text of a section of items right behind its name, by that of the items
+pub items_appended : {X : Type 0} (n : List ℕ) {old middle new : List ℕ} (counted : Bool) (F : Format X) (xs : List X) → FrameFits n → middle ≡ old ++ frame_text n → AppendsShortest (listing counted F) xs middle new
+    → AppendsShortest (named_payload n (entries (fixed [] (tt {0})) counted F)) xs old new
+items_appended n {middle = middle} counted F xs fits e a =
+    let none = text_appended (fixed [] (tt {0})) tt [] middle middle (λ s h. (refl, refl)) (sym (append-nil middle)) in
+    named_appended n (entries (fixed [] (tt {0})) counted F) xs fits e (tagged_appended (fixed [] (tt {0})) (λ u. listing counted F) (λ s z h. refl) none a)

@@ -1,16 +1,16 @@
 -- Branch hints are read uniquely.
-use Rattle.std.proofs.Common.{◌<◌, [], ◌∷◌, true, false, refl, ap, ℕ, ◌≤◌, ◌≡◌, List, map, ap₂, subst, arith}
+use Rattle.std.proofs.Common.{◌<◌, [], ◌∷◌, true, false, refl, ap, ℕ, ◌≤◌, ◌≡◌, List, map, ap₂, subst, arith, ◌++◌}
 use Rattle.wasm_base.specs.Entries.{ItemLaws}
 use Rattle.wasm_base.specs.Formats.{u32, byte, prefixed, such, vec, fixed, Format, name, just}
 use Rattle.wasm_base.specs.Numbers.{shortest, unsigned_text, wide}
 use Rattle.wasm_base.specs.Reading.{UniqueReading, Reads, ReadsNothing}
-use Rattle.wasm_base.specs.Texts.{vec_text}
-use Rattle.wasm_base.proofs.FormatLaws.{mapped_unique, pair_unique, vec_unique, byte_unique, such_unique, prefixed_unique, fixed_unique}
+use Rattle.wasm_base.specs.Texts.{vec_text, frame_text, FrameFits, VecFits}
+use Rattle.wasm_base.proofs.FormatLaws.{mapped_unique, pair_unique, vec_unique, byte_unique, such_unique, prefixed_unique, fixed_unique, AllValues}
 use Rattle.wasm_base.proofs.NumberLaws.{u32_unique}
 use Rattle.wasm_base.proofs.NumberTexts.{groups_text-last}
 use Rattle.wasm_base.proofs.TextLaws.{u32_spelled, vec_spelled}
 use Rattle.wasm_custom.specs.Entries.{FrameLaws}
-use Rattle.wasm_custom.specs.Hints.{hint_text, IsHint, Hints, hints_text, AreHints, hint_of, hint, hints, hints_name, hint_items, hints_view}
+use Rattle.wasm_custom.specs.Hints.{hint_text, IsHint, Hints, hints_text, AreHints, hint_of, hint, hints, hints_name, hint_items, hints_view, hints_payload}
 use Rattle.wasm_custom.specs.declared.hints.BranchHint.{BranchHint}
 use Rattle.wasm_base.proofs.Calls.{ascii}
 use Rattle.wasm_base.proofs.PartLaws.{pair_spelled, prefixed_spelled}
@@ -18,8 +18,11 @@ use Rattle.std.proofs.lemmas.List.{map-id}
 use Rattle.std.specs.declared.vec.Vec.{Vec}
 use Rattle.wasm_base.specs.Going.{FillsNothing}
 use Rattle.wasm_base.proofs.ReadingSteps.{then_reads, then_nothing_first, then_nothing_second, mapped_reads, mapped_nothing, such_reads, such_none, such_nothing}
-use Rattle.wasm_custom.specs.Readings.{hints_payload}
 use Rattle.wasm_custom.proofs.ReadNamed.{named_none, items_fill, no_items}
+use Rattle.wasm_base.proofs.SectionLaws.{SectionLaws}
+use Rattle.wasm_custom.proofs.EntriesLaws.{entries_laws, items_appended}
+use Rattle.wasm_reader_base.specs.Shortest.{AppendsShortest}
+use Rattle.wasm_reader_base.proofs.ShortTexts.{pair_appended, records_appended}
 
 pub hint_unique : UniqueReading hint
 hint_unique = mapped_unique hint_of (λ x y e. ap (λ h. (h.branch_func_offset, h.branch_hint_value)) e) (pair_unique u32_unique (prefixed_unique (0x01 ∷ []) (such_unique (λ b. b < 128) byte_unique)))
@@ -47,6 +50,10 @@ hint_frame = record {
   front_spelled = (refl, refl);
   begins = λ e. absurd (cc e);
 }
+
+-- the laws of sections of branch hints
+pub hints_section : SectionLaws hint_items hints_payload
+hints_section = entries_laws hint_laws hint_frame (λ given plain. plain) (λ given plain. plain)
 
 -- ---- how branch hints are read
 
@@ -100,3 +107,18 @@ pub no_hints : (bytes rest : List ℕ) → Reads (just hints_name name) wide byt
 no_hints bytes rest h n = no_items hints_name true hints bytes rest h n
 
 pub ruleset section_steps = (hints_fill, no_name, no_hints)
+
+-- ---- the one shortest text of hints that were read
+
+hint_is : AllValues IsHint hint
+hint_is mode s x h =
+    let back = h.2.second in
+    subst IsHint h.1 (record { offset = h.2.first.range; value = subst (λ z. z < 128) back.1 back.2.second.1 })
+
+pub function_appended : (n : ℕ) (hs : List BranchHint) (old middle new : List ℕ) → AppendsShortest u32 n old middle → VecFits (λ h. Unit {0}) hs → new ≡ middle ++ vec_text hint_text hs → AppendsShortest hints (n, hs) old new
+function_appended n hs old middle new a fits e =
+    pair_appended u32 (vec hint) a
+    (subst (λ z. AppendsShortest (vec hint) z middle new) (map-id hs) (records_appended hint (λ h. h) hint_text (λ h. Unit {0}) hs middle new (λ h f s k. hint_spelled h (hint_is wide s h k)) fits e))
+
+pub hints_appended : (xs : List Hints) (old middle new : List ℕ) → FrameFits hints_name → middle ≡ old ++ frame_text hints_name → AppendsShortest (vec hints) xs middle new → AppendsShortest hints_payload xs old new
+hints_appended xs old middle new fits e a = items_appended hints_name true hints xs fits e a

@@ -9,10 +9,7 @@ pub mod ProducerLaws
 pub mod HintLaws
 pub mod CoreDumpLaws
 pub mod CoreStackLaws
-pub mod SectionLaws
-pub mod HeldLaws
 pub mod NothingLaws
 pub mod Calls
 pub mod ReadMarked
 pub mod ReadNamed
-pub mod ShortCustom

@@ -13,20 +13,20 @@ use Rattle.wasm_base.proofs.NumberLaws.{u32_unique}
 use Rattle.wasm_base.proofs.PartLaws.{flag_spelled, tagged_begins}
 use Rattle.wasm_base.proofs.TextLaws.{tagged_spelled, name_spelled, vec_spelled, frame_spelled}
 use Rattle.wasm_custom.specs.Entries.{FrameLaws, listing, entries}
-use Rattle.wasm_custom.specs.Linking.{LinkItem, Symbols, Target, link_text, IsLink, link_tags, link, linking_name, version, link_items}
+use Rattle.wasm_custom.specs.Linking.{LinkItem, Symbols, Target, link_text, IsLink, link_tags, link, linking_name, version, link_items, linking_payload}
 use Rattle.wasm_custom.specs.Symbols.{symbol_text, IsSymbol, symbol, Symbol}
-use Rattle.wasm_custom.proofs.CustomLaws.{content_fits}
+use Rattle.wasm_custom.proofs.CustomLaws.{content_fits, just_appended, named_appended}
 use Rattle.wasm_custom.proofs.SymbolLaws.{symbol_unique, symbol_spelled}
 use Rattle.wasm_base.specs.Going.{FillsNothing}
 use Rattle.wasm_base.proofs.ReadingSteps.{mapped_reads, mapped_nothing}
 use Rattle.wasm_base.proofs.Tags.{tagged_reads, tagged_none, tagged_nothing, no_choice}
 use Rattle.wasm_reader_base.proofs.ReadFrames.{filled_reads, filled_none, filled_nothing}
-use Rattle.wasm_custom.specs.Readings.{linking_payload}
 use Rattle.wasm_custom.proofs.ReadNamed.{just_this, just_none, just_other, behind_fills, behind_none, behind_nothing, named_fills, named_none, named_nothing}
 use Rattle.wasm_reader_base.specs.Shortest.{AppendsShortest}
 use Rattle.wasm_reader_base.proofs.ReadPlain.{u32_appended}
 use Rattle.wasm_reader_base.proofs.ShortTexts.{text_appended, tagged_appended, mapped_appended, frame_appended}
-use Rattle.wasm_custom.proofs.ShortCustom.{named_appended}
+use Rattle.wasm_base.proofs.SectionLaws.{SectionLaws}
+use Rattle.wasm_custom.proofs.EntriesLaws.{entries_laws}
 
 abbrev link_id : LinkItem → ℕ
 link_id (Symbols symbols) = 8
@@ -56,6 +56,10 @@ link_frame = record {
   front_spelled = flag_spelled version (omega arith);
   begins = λ e. tagged_begins;
 }
+
+-- the laws of linking sections
+pub linking_section : SectionLaws link_items linking_payload
+linking_section = entries_laws link_laws link_frame (λ given plain. plain) (λ given plain. plain)
 
 -- ---- how the linking section is read
 
@@ -143,6 +147,5 @@ arch_appended n old front new e a = of_id 9 (Target n) old front new refl e (map
 
 pub links_appended : (xs : List LinkItem) (old front middle new : List ℕ) → FrameFits linking_name → front ≡ old ++ frame_text linking_name → middle ≡ front ++ unsigned_text 2 → AppendsShortest (members link) xs middle new → AppendsShortest linking_payload xs old new
 links_appended xs old front middle new fits e f a =
-    let count = u32_appended version front middle f in
-    let just_version : AppendsShortest (just version u32) tt front middle = record { text = count.text; appended = count.appended; spelled = λ s h. count.spelled s h } in
+    let just_version = just_appended u32 version front middle (u32_appended version front middle f) in
     named_appended linking_name (entries (just version u32) false link) xs fits e (tagged_appended (just version u32) (λ u. listing false link) (λ s z h. refl) just_version a)

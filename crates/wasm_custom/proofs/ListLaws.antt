@@ -33,8 +33,8 @@ module _ {X : Type 0} {text : X → List ℕ} {Is : X → Type 0} where
   pub holds_same : {old new : List (List ℕ)} → new ≡ old → HoldsList text Is old → HoldsList text Is new
   holds_same e h = subst (λ ps. HoldsList text Is ps) (sym e) h
 
-  pub list_more : ListMore text Is
-  list_more = record { none = lists_none; given = λ pieces xs x h room is. lists_more x h room refl is }
+pub list_more : {X : Type 0} (text : X → List ℕ) (Is : X → Type 0) → ListMore text Is
+list_more text Is = record { none = lists_none; given = λ pieces xs x h room is. lists_more x h room refl is }
 
 -- ---- texts
 
@@ -49,8 +49,8 @@ of_members text xs = ap₂ ◌++◌ (ap unsigned_text (length-map xs text)) (joi
 pub list_vector : {X : Type 0} {text : X → List ℕ} {Is : X → Type 0} {pieces : List (List ℕ)} {xs : List X} → IsListOf text Is pieces xs → list_text pieces ≡ vec_text text xs
 list_vector {text = text} {xs = xs} h = ap list_text h.held ∙ of_members text xs
 
-pub is_vector : {X : Type 0} {text : X → List ℕ} {Is : X → Type 0} → IsVectorOf text Is
-is_vector = record { is = λ pieces xs h. list_vector h }
+pub is_vector : {X : Type 0} (text : X → List ℕ) (Is : X → Type 0) → IsVectorOf text Is
+is_vector text Is = record { is = λ pieces xs h. list_vector h }
 
 -- the names of what is inside, by its index
 pub names_inside : (index : ℕ) (pieces : List (List ℕ)) → index < 2 ^ 32 → HoldsList naming_text IsNaming pieces → IsTextOf inside_text IsInside (unsigned_text index ++ list_text pieces)

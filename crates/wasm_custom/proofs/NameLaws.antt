@@ -12,18 +12,18 @@ use Rattle.wasm_base.proofs.NumberLaws.{u32_unique}
 use Rattle.wasm_base.proofs.TextLaws.{tagged_spelled, u32_spelled, name_spelled, vec_spelled, frame_in, frame_spelled}
 use Rattle.wasm_custom.specs.Customs.{subsection_text}
 use Rattle.wasm_custom.specs.Entries.{FrameLaws}
-use Rattle.wasm_custom.specs.Names.{Naming, Inside, naming_text, inside_text, IsNaming, IsInside, naming, name_map, indirect_map, NameItem, Module, Map, Indirect, Other, NameKind, of_module, of_map, of_indirect, of_other, is_one_of, map_ids, indirect_ids, name_kind_of, after_id, subsection, name_text, IsName, name_name, name_items, inside, id_of, held_by}
+use Rattle.wasm_custom.specs.Names.{Naming, Inside, naming_text, inside_text, IsNaming, IsInside, naming, name_map, indirect_map, NameItem, Module, Map, Indirect, Other, NameKind, of_module, of_map, of_indirect, of_other, is_one_of, map_ids, indirect_ids, name_kind_of, after_id, subsection, name_text, IsName, name_name, name_items, inside, id_of, held_by, name_payload}
 use Rattle.wasm_base.proofs.Calls.{ascii}
 use Rattle.wasm_base.proofs.PartLaws.{pair_spelled, tagged_begins}
 use Rattle.wasm_custom.proofs.CustomLaws.{content_fits}
 use Rattle.wasm_base.specs.Going.{FillsNothing}
 use Rattle.wasm_base.proofs.Tags.{tagged_reads, tagged_none, tagged_nothing}
 use Rattle.wasm_reader_base.proofs.ReadFrames.{filled_reads, filled_none, filled_nothing}
-use Rattle.wasm_custom.specs.Readings.{name_payload}
 use Rattle.wasm_custom.proofs.ReadNamed.{named_none, items_fill, no_items}
 use Rattle.wasm_reader_base.specs.Shortest.{AppendsShortest}
 use Rattle.wasm_reader_base.proofs.ShortTexts.{text_appended, tagged_appended, mapped_appended, frame_appended}
-use Rattle.wasm_custom.proofs.ShortCustom.{items_appended}
+use Rattle.wasm_base.proofs.SectionLaws.{SectionLaws}
+use Rattle.wasm_custom.proofs.EntriesLaws.{entries_laws, items_appended}
 
 pub naming_unique : UniqueReading naming
 naming_unique = pair_unique u32_unique name_unique
@@ -113,6 +113,10 @@ name_frame = record {
   front_spelled = (refl, refl);
   begins = λ e. tagged_begins;
 }
+
+-- the laws of name sections
+pub names_section : SectionLaws name_items name_payload
+names_section = entries_laws name_laws name_frame (λ given plain. plain) (λ given plain. plain)
 
 -- ---- how names are read
 

@@ -10,14 +10,15 @@ use Rattle.wasm_base.proofs.Calls.{ascii}
 use Rattle.wasm_base.proofs.FormatLaws.{byte_unique, fixed_unique, frame_of, vec_of_one, then_at, tagged_at, member_at}
 use Rattle.wasm_base.proofs.NothingLaws.{nothing_wide}
 use Rattle.wasm_base.proofs.NumberLaws.{u32_unique, u32_small}
+use Rattle.wasm_base.proofs.SectionLaws.{unique}
 use Rattle.wasm_custom.specs.Customs.{named_payload}
-use Rattle.wasm_custom.specs.Hints.{Hints, hint, hints, hints_name}
-use Rattle.wasm_custom.specs.Linking.{LinkItem, link_tags, link, linking_name, version}
-use Rattle.wasm_custom.specs.Readings.{hints_payload, linking_payload}
+use Rattle.wasm_custom.specs.Hints.{Hints, hint, hints, hints_name, hints_payload}
+use Rattle.wasm_custom.specs.Linking.{LinkItem, link_tags, link, linking_name, version, linking_payload}
 use Rattle.wasm_custom.specs.Symbols.{Symbol, has_name, indexed_of, symbol_tags, symbol}
 use Rattle.wasm_custom.specs.declared.hints.BranchHint.{BranchHint}
 use Rattle.wasm_custom.specs.declared.symbols.SymbolKind.TheVariants.{Function}
-use Rattle.wasm_custom.proofs.SectionLaws.{hints_section_unique, linking_section_unique}
+use Rattle.wasm_custom.proofs.HintLaws.{hints_section}
+use Rattle.wasm_custom.proofs.LinkLaws.{linking_section}
 
 -- ---- what follows a front that is known, up to the last byte
 
@@ -56,7 +57,7 @@ no_hints xs h =
 
 pub long_value : NothingStandsWide (frame hints_payload) (33 ∷ 25 ∷ (hints_name ++ (1 ∷ 0 ∷ 1 ∷ 3 ∷ 1 ∷ 128 ∷ 1 ∷ [])))
 long_value =
-    nothing_wide {F = frame hints_payload} (33 ∷ 25 ∷ (hints_name ++ (1 ∷ 0 ∷ 1 ∷ 3 ∷ 1 ∷ 128 ∷ 1 ∷ []))) hints_section_unique
+    nothing_wide {F = frame hints_payload} (33 ∷ 25 ∷ (hints_name ++ (1 ∷ 0 ∷ 1 ∷ 3 ∷ 1 ∷ 128 ∷ 1 ∷ []))) (unique hints_section)
     (λ after rest xs h. no_hints xs (frame_of {F = hints_payload} wide 33 (25 ∷ (hints_name ++ (1 ∷ 0 ∷ 1 ∷ 3 ∷ 1 ∷ 128 ∷ 1 ∷ []))) after h.front rest xs (u32_small wide 33 (omega arith)) refl h.split h.spelled))
 
 -- ---- a function that is defined, without a name
@@ -89,7 +90,7 @@ no_links xs h =
 
 pub no_name : NothingStandsWide (frame linking_payload) (15 ∷ 7 ∷ (linking_name ++ (2 ∷ 8 ∷ 4 ∷ 1 ∷ 0 ∷ 0 ∷ 1 ∷ [])))
 no_name =
-    nothing_wide {F = frame linking_payload} (15 ∷ 7 ∷ (linking_name ++ (2 ∷ 8 ∷ 4 ∷ 1 ∷ 0 ∷ 0 ∷ 1 ∷ []))) linking_section_unique
+    nothing_wide {F = frame linking_payload} (15 ∷ 7 ∷ (linking_name ++ (2 ∷ 8 ∷ 4 ∷ 1 ∷ 0 ∷ 0 ∷ 1 ∷ []))) (unique linking_section)
     (λ after rest xs h. no_links xs (frame_of {F = linking_payload} wide 15 (7 ∷ (linking_name ++ (2 ∷ 8 ∷ 4 ∷ 1 ∷ 0 ∷ 0 ∷ 1 ∷ []))) after h.front rest xs (u32_small wide 15 (omega arith)) refl h.split h.spelled))
 
 pub ruleset nothing = (long_value, no_name)

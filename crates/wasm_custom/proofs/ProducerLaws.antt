@@ -1,20 +1,22 @@
 -- Producers are read uniquely.
-use Rattle.std.proofs.Common.{[], true, refl, ℕ, List}
+use Rattle.std.proofs.Common.{[], true, refl, ℕ, List, ◌≡◌, ◌++◌}
 use Rattle.wasm_base.specs.Entries.{ItemLaws}
 use Rattle.wasm_base.specs.Formats.{name, vec, fixed, just}
 use Rattle.wasm_base.specs.Numbers.{shortest, wide}
 use Rattle.wasm_base.specs.Reading.{UniqueReading, Reads, ReadsNothing}
-use Rattle.wasm_base.specs.Texts.{frame_text, vec_text}
+use Rattle.wasm_base.specs.Texts.{frame_text, vec_text, FrameFits}
 use Rattle.wasm_base.proofs.BaseLaws.{name_unique}
 use Rattle.wasm_base.proofs.Calls.{ascii}
 use Rattle.wasm_base.proofs.FormatLaws.{pair_unique, vec_unique, fixed_unique}
 use Rattle.wasm_base.proofs.PartLaws.{pair_spelled}
 use Rattle.wasm_base.proofs.TextLaws.{name_spelled, vec_spelled}
 use Rattle.wasm_custom.specs.Entries.{FrameLaws}
-use Rattle.wasm_custom.specs.Producers.{Producer, producer_text, IsProducer, Field, field_text, IsField, producer, field, producers_name, field_items}
+use Rattle.wasm_custom.specs.Producers.{Producer, producer_text, IsProducer, Field, field_text, IsField, producer, field, producers_name, field_items, producers_payload}
 use Rattle.wasm_base.specs.Going.{FillsNothing}
-use Rattle.wasm_custom.specs.Readings.{producers_payload}
 use Rattle.wasm_custom.proofs.ReadNamed.{named_none, items_fill, no_items}
+use Rattle.wasm_base.proofs.SectionLaws.{SectionLaws}
+use Rattle.wasm_custom.proofs.EntriesLaws.{entries_laws, items_appended}
+use Rattle.wasm_reader_base.specs.Shortest.{AppendsShortest}
 
 pub field_unique : UniqueReading field
 field_unique = pair_unique name_unique (vec_unique (pair_unique name_unique name_unique))
@@ -37,6 +39,10 @@ producer_frame = record {
   begins = λ e. absurd (cc e);
 }
 
+-- the laws of producers sections
+pub producers_section : SectionLaws field_items producers_payload
+producers_section = entries_laws producer_laws producer_frame (λ given plain. plain) (λ given plain. plain)
+
 -- ---- how producers are read
 
 pub producers_fill : (bytes rest : List ℕ) (fields : List Field) → Reads (just producers_name name) wide bytes tt rest → vec field wide rest fields → producers_payload wide bytes fields
@@ -49,3 +55,8 @@ pub no_producers : (bytes rest : List ℕ) → Reads (just producers_name name) 
 no_producers bytes rest h n = no_items producers_name true field bytes rest h n
 
 pub ruleset producer_steps = (producers_fill, producers_none, no_producers)
+
+-- ---- the one shortest text of producers that were read
+
+pub producers_appended : (xs : List Field) (old middle new : List ℕ) → FrameFits producers_name → middle ≡ old ++ frame_text producers_name → AppendsShortest (vec field) xs middle new → AppendsShortest producers_payload xs old new
+producers_appended xs old middle new fits e a = items_appended producers_name true field xs fits e a

@@ -1,12 +1,14 @@
 -- Core dumps: their texts, and what spells them.
-use Rattle.std.specs.Prelude.{◌≡◌, ℕ, ◌^◌, ◌<◌, List, [], ◌∷◌, ◌++◌, IsUtf8, codes}
+use Rattle.std.specs.Prelude.{◌≡◌, ℕ, ◌^◌, ◌<◌, List, [], ◌∷◌, ◌++◌, IsUtf8, codes, true}
 use Rattle.std.specs.declared.vec.Vec.{Vec}
-use Rattle.wasm_base.specs.Entries.{Kind}
-use Rattle.wasm_base.specs.Formats.{Format, u32, name, mapped, pair, prefixed, vec}
+use Rattle.wasm_base.specs.Entries.{Kind, HoldsItems}
+use Rattle.wasm_base.specs.Formats.{Format, u32, name, mapped, pair, prefixed, vec, fixed}
 use Rattle.wasm_base.specs.Laws.{FitsUnsigned, NameFits}
 use Rattle.wasm_base.specs.Numbers.{unsigned_text}
 use Rattle.wasm_base.specs.Texts.{frame_text, vec_text, VecFits}
-use Rattle.wasm_custom.specs.Customs.{named_section}
+use Rattle.wasm_base.specs.Modules.{SectionReading}
+use Rattle.wasm_custom.specs.Customs.{named_section, named_payload, reading_as}
+use Rattle.wasm_custom.specs.Entries.{entries}
 
 -- ---- names of processes, modules and threads
 
@@ -75,6 +77,40 @@ instance_items = record { text = instance_text; IsPlain = IsInstance; IsPlainWid
 -- "coreinstances"
 abbrev pub instances_name : List ℕ
 instances_name = codes "coreinstances"
+
+-- ---- what calls leave, and how a reader finds it
+
+-- The entries of a core dump's section of modules hold these names.
+abbrev pub HoldsModules : List (List ℕ) → List (List ℕ) → Type 0
+HoldsModules = HoldsItems module_items
+
+-- The entries of a core dump's section of instances hold these instances.
+abbrev pub HoldsInstances : List (List ℕ) → List Instance → Type 0
+HoldsInstances = HoldsItems instance_items
+
+-- what follows the size of a core dump's section of the process: its name, and behind the byte 00 that of the process
+abbrev pub core_payload : Format (List ℕ)
+core_payload = named_payload core_name marked_name
+
+-- what follows the size of a core dump's section of modules: its name, and a vector of names, each behind the byte 00
+abbrev pub modules_payload : Format (List (List ℕ))
+modules_payload = named_payload modules_name (entries (fixed [] (tt {0})) true marked_name)
+
+-- what follows the size of a core dump's section of instances: its name, and a vector of instances
+abbrev pub instances_payload : Format (List Instance)
+instances_payload = named_payload instances_name (entries (fixed [] (tt {0})) true instance)
+
+-- a core dump's section of the process of this name, as a reader finds it
+abbrev pub core_reading : List ℕ → SectionReading
+core_reading n = reading_as core_payload n
+
+-- a core dump's section of the modules of these names, as a reader finds it
+abbrev pub modules_reading : List (List ℕ) → SectionReading
+modules_reading names = reading_as modules_payload names
+
+-- a core dump's section of these instances, as a reader finds it
+abbrev pub instances_reading : List Instance → SectionReading
+instances_reading instances = reading_as instances_payload instances
 
 -- ---- what was read
 

@@ -4,9 +4,10 @@ use Rattle.wasm_base.specs.Entries.{Kind, HoldsItems}
 use Rattle.wasm_base.specs.Formats.{Format, u32, mapped, pair, prefixed, vec}
 use Rattle.wasm_base.specs.Numbers.{unsigned_text}
 use Rattle.wasm_base.specs.Texts.{vec_text, VecFits}
+use Rattle.wasm_base.specs.Modules.{SectionReading}
 use Rattle.wasm_custom.specs.CoreDumps.{marked_text, marked_name}
 use Rattle.wasm_custom.specs.CoreValues.{value_text, IsValue, value}
-use Rattle.wasm_custom.specs.Customs.{named_section}
+use Rattle.wasm_custom.specs.Customs.{named_section, named_payload, reading_as}
 use Rattle.wasm_custom.specs.declared.core_values.CoreDumpValue.{CoreDumpValue}
 use Rattle.wasm_custom.specs.declared.core_stack.CoreFrame.{CoreFrame}
 
@@ -57,6 +58,16 @@ stack_section = named_section stack_name (pair marked_name (vec stack_frame))
 -- The front is the byte 00 and this name of a thread, which is UTF-8, and the entries hold these frames.
 abbrev pub SaysStack : List ℕ → List (List ℕ) → List ℕ × List StackFrame → Type 0
 SaysStack front frames said = IsUtf8 said.0 × (front ≡ marked_text said.0) × HoldsItems frame_items frames said.1
+
+-- ---- how a reader finds it
+
+-- what follows the size of a core dump's section of a stack: its name, behind the byte 00 that of the thread, and a vector of frames
+abbrev pub stack_payload : Format (List ℕ × List StackFrame)
+stack_payload = named_payload stack_name (pair marked_name (vec stack_frame))
+
+-- a core dump's section of the stack of the thread of this name, with these frames, as a reader finds it
+abbrev pub stack_reading : List ℕ → List StackFrame → SectionReading
+stack_reading n frames = reading_as stack_payload (n, frames)
 
 -- ---- what was read
 

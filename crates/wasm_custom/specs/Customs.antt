@@ -3,8 +3,11 @@ use Rattle.std.specs.Prelude.{◌≡◌, ℕ, List, ◌∷◌, ◌++◌, Bool, �
 use Rattle.std.proofs.Common.{sym, ap, subst}
 use Rattle.std.specs.Str.{bytes_eq}
 use Rattle.wasm_base.specs.Cow.{items_of, text_of}
-use Rattle.wasm_base.specs.Formats.{Format, after, frame, name}
+use Rattle.wasm_base.specs.Formats.{Format, after, frame, name, pair, any_bytes}
 use Rattle.wasm_base.specs.Texts.{frame_text, FrameFits, IsFrameOf}
+use Rattle.wasm_base.specs.Modules.{SectionReading, reading_of}
+use Rattle.wasm_base.specs.SectionId.{number_of}
+use Rattle.wasm_base.specs.declared.section_id.SectionId.TheVariants as ids
 use Rattle.wasm_custom.specs.declared.custom_section.CustomSection.{CustomSection}
 
 -- this name, and data that spell a value
@@ -39,3 +42,11 @@ same_section s t = bytes_eq (text_of s.name) (text_of t.name) && bytes_eq (items
 -- the text of a subsection: an id, and the frame of its content
 abbrev pub subsection_text : ℕ → List ℕ → List ℕ
 subsection_text id content = id ∷ frame_text content
+
+-- the custom section of this payload that says this, as a reader finds it
+abbrev pub reading_as : {X : Type 0} → Format X → X → SectionReading
+reading_as F x = reading_of (number_of ids.Custom) F x
+
+-- the custom section of this name and these data, as a reader finds it
+abbrev pub custom_reading : List ℕ → List ℕ → SectionReading
+custom_reading n content = reading_as (pair name any_bytes) (n, content)

@@ -1,10 +1,13 @@
 -- Branch hints: their text, and what spells them.
-use Rattle.std.specs.Prelude.{ℕ, ◌^◌, ◌<◌, List, [], ◌∷◌, ◌++◌, codes}
+use Rattle.std.specs.Prelude.{ℕ, ◌^◌, ◌<◌, List, [], ◌∷◌, ◌++◌, codes, true}
 use Rattle.std.specs.declared.vec.Vec.{Vec}
-use Rattle.wasm_base.specs.Entries.{Kind}
-use Rattle.wasm_base.specs.Formats.{Format, u32, byte, mapped, pair, prefixed, such, vec}
+use Rattle.wasm_base.specs.Entries.{Kind, HoldsItems}
+use Rattle.wasm_base.specs.Formats.{Format, u32, byte, mapped, pair, prefixed, such, vec, fixed}
 use Rattle.wasm_base.specs.Numbers.{unsigned_text}
 use Rattle.wasm_base.specs.Texts.{vec_text, VecFits}
+use Rattle.wasm_base.specs.Modules.{SectionReading}
+use Rattle.wasm_custom.specs.Customs.{named_payload, reading_as}
+use Rattle.wasm_custom.specs.Entries.{entries}
 use Rattle.wasm_custom.specs.declared.hints.BranchHint.{BranchHint}
 
 -- the text of a branch hint: the offset of the branch, the byte 01, and the value
@@ -47,6 +50,20 @@ hint_items = record { text = hints_text; IsPlain = AreHints; IsPlainWide = AreHi
 -- "metadata.code.branch_hint"
 abbrev pub hints_name : List ℕ
 hints_name = codes "metadata.code.branch_hint"
+
+-- ---- what calls leave, and how a reader finds it
+
+-- The entries of a section of branch hints hold these functions with their hints.
+abbrev pub HoldsHints : List (List ℕ) → List Hints → Type 0
+HoldsHints = HoldsItems hint_items
+
+-- what follows the size of a section of branch hints: its name, and a vector of functions with their hints
+abbrev pub hints_payload : Format (List Hints)
+hints_payload = named_payload hints_name (entries (fixed [] (tt {0})) true hints)
+
+-- the section of the branch hints of these functions, as a reader finds it
+abbrev pub hints_reading : List Hints → SectionReading
+hints_reading functions = reading_as hints_payload functions
 
 -- ---- what was read
 

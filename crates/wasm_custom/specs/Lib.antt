@@ -10,4 +10,3 @@ pub mod Hints
 pub mod CoreDumps
 pub mod CoreValues
 pub mod CoreStacks
-pub mod Readings

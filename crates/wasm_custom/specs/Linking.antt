@@ -1,10 +1,12 @@
 -- The linking section: its text, and what spells it.
-use Rattle.std.specs.Prelude.{ℕ, List, [], ◌∷◌, IsUtf8, codes, map}
-use Rattle.wasm_base.specs.Entries.{Kind}
-use Rattle.wasm_base.specs.Formats.{Format, byte, name, impossible, mapped, tagged, choice, vec, frame}
+use Rattle.std.specs.Prelude.{ℕ, List, [], ◌∷◌, IsUtf8, codes, map, false}
+use Rattle.wasm_base.specs.Entries.{Kind, HoldsItems}
+use Rattle.wasm_base.specs.Formats.{Format, byte, name, impossible, mapped, tagged, choice, vec, frame, u32, just}
 use Rattle.wasm_base.specs.Texts.{frame_text, vec_text, VecFits}
-use Rattle.wasm_custom.specs.Customs.{subsection_text}
+use Rattle.wasm_base.specs.Modules.{SectionReading}
+use Rattle.wasm_custom.specs.Customs.{subsection_text, named_payload, reading_as}
 use Rattle.wasm_custom.specs.Symbols.{Symbol, symbol_text, IsSymbol, symbol, symbol_view}
+use Rattle.wasm_custom.specs.Entries.{entries}
 use Rattle.wasm_custom.specs.declared.linking.LinkItem as read
 use Rattle.wasm_custom.specs.declared.linking.LinkItem.TheVariants as items
 
@@ -42,6 +44,20 @@ linking_name = codes "linking"
 -- the version that stands before the subsections of a linking section
 abbrev pub version : ℕ
 version = 2
+
+-- ---- what calls leave, and how a reader finds it
+
+-- The entries of a linking section hold these subsections.
+abbrev pub HoldsLinks : List (List ℕ) → List LinkItem → Type 0
+HoldsLinks = HoldsItems link_items
+
+-- what follows the size of a linking section: its name, the version, and its subsections
+abbrev pub linking_payload : Format (List LinkItem)
+linking_payload = named_payload linking_name (entries (just version u32) false link)
+
+-- the linking section of these subsections, as a reader finds it
+abbrev pub linking_reading : List LinkItem → SectionReading
+linking_reading subsections = reading_as linking_payload subsections
 
 -- ---- what was read
 

@@ -2,12 +2,15 @@
 use Rattle.std.specs.Prelude.{◌≡◌, ℕ, ◌^◌, ◌<◌, List, [], ◌∷◌, ◌++◌, Bool, true, false, cond, ◌==◌, IsUtf8, codes, map}
 use Rattle.std.specs.Borrow.{Bor}
 use Rattle.std.specs.declared.vec.Vec.{Vec}
-use Rattle.wasm_base.specs.Entries.{Kind}
-use Rattle.wasm_base.specs.Formats.{Format, u32, byte, any_bytes, name, mapped, pair, tagged, vec, frame}
+use Rattle.wasm_base.specs.Entries.{Kind, HoldsItems}
+use Rattle.wasm_base.specs.Formats.{Format, u32, byte, any_bytes, name, mapped, pair, tagged, vec, frame, fixed}
 use Rattle.wasm_base.specs.Laws.{NameFits}
 use Rattle.wasm_base.specs.Numbers.{unsigned_text}
 use Rattle.wasm_base.specs.Texts.{frame_text, vec_text, VecFits}
-use Rattle.wasm_custom.specs.Customs.{subsection_text}
+use Rattle.wasm_base.specs.Modules.{SectionReading}
+use Rattle.wasm_custom.specs.Customs.{subsection_text, named_payload, reading_as}
+use Rattle.wasm_custom.specs.Entries.{entries}
+use Rattle.wasm_custom.specs.Lists.{IsListOf}
 use Rattle.wasm_custom.specs.declared.names.NameItem as read
 use Rattle.wasm_custom.specs.declared.names.NameItem.TheVariants as items
 use Rattle.wasm_custom.specs.declared.names.NameKind as read_kind
@@ -116,6 +119,28 @@ name_items = record { text = name_text; IsPlain = IsName; IsPlainWide = IsName; 
 -- "name"
 abbrev pub name_name : List ℕ
 name_name = codes "name"
+
+-- ---- what calls leave, and how a reader finds it
+
+-- The entries of a name map are these name associations.
+abbrev pub AreNamings : List (List ℕ) → List Naming → Type 0
+AreNamings = IsListOf naming_text IsNaming
+
+-- The entries of an indirect name map are these indices with their name maps.
+abbrev pub AreInsides : List (List ℕ) → List Inside → Type 0
+AreInsides = IsListOf inside_text IsInside
+
+-- The entries of a name section hold these subsections.
+abbrev pub HoldsNames : List (List ℕ) → List NameItem → Type 0
+HoldsNames = HoldsItems name_items
+
+-- what follows the size of a name section: its name, and its subsections
+abbrev pub name_payload : Format (List NameItem)
+name_payload = named_payload name_name (entries (fixed [] (tt {0})) false subsection)
+
+-- the name section of these subsections, as a reader finds it
+abbrev pub name_reading : List NameItem → SectionReading
+name_reading subsections = reading_as name_payload subsections
 
 -- ---- what was read
 

@@ -1,11 +1,15 @@
 -- Producers of a module: their texts, and what spells them.
-use Rattle.std.specs.Prelude.{ℕ, List, ◌++◌, codes, map}
+use Rattle.std.specs.Prelude.{ℕ, List, ◌++◌, codes, map, [], true}
 use Rattle.std.specs.Borrow.{Bor}
 use Rattle.std.specs.declared.vec.Vec.{Vec}
-use Rattle.wasm_base.specs.Entries.{Kind}
-use Rattle.wasm_base.specs.Formats.{Format, name, pair, vec}
+use Rattle.wasm_base.specs.Entries.{Kind, HoldsItems}
+use Rattle.wasm_base.specs.Formats.{Format, name, pair, vec, fixed}
 use Rattle.wasm_base.specs.Laws.{NameFits}
 use Rattle.wasm_base.specs.Texts.{frame_text, vec_text, VecFits}
+use Rattle.wasm_base.specs.Modules.{SectionReading}
+use Rattle.wasm_custom.specs.Customs.{named_payload, reading_as}
+use Rattle.wasm_custom.specs.Entries.{entries}
+use Rattle.wasm_custom.specs.Lists.{IsListOf}
 
 -- versioned name: a name, and its version
 abbrev pub Producer : Type 0
@@ -46,6 +50,24 @@ field_items = record { text = field_text; IsPlain = IsField; IsPlainWide = IsFie
 -- "producers"
 abbrev pub producers_name : List ℕ
 producers_name = codes "producers"
+
+-- ---- what calls leave, and how a reader finds it
+
+-- The entries of a field of producers are these versioned names.
+abbrev pub AreProducers : List (List ℕ) → List Producer → Type 0
+AreProducers = IsListOf producer_text IsProducer
+
+-- The entries of a producers section hold these fields.
+abbrev pub HoldsFields : List (List ℕ) → List Field → Type 0
+HoldsFields = HoldsItems field_items
+
+-- what follows the size of a producers section: its name, and a vector of fields
+abbrev pub producers_payload : Format (List Field)
+producers_payload = named_payload producers_name (entries (fixed [] (tt {0})) true field)
+
+-- the producers section of these fields, as a reader finds it
+abbrev pub producers_reading : List Field → SectionReading
+producers_reading fields = reading_as producers_payload fields
 
 -- ---- what was read
 

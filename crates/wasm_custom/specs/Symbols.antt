@@ -4,6 +4,7 @@ use Rattle.wasm_base.specs.Formats.{Format, u32, byte, name, impossible, mapped,
 use Rattle.wasm_base.specs.Laws.{NameFits}
 use Rattle.wasm_base.specs.Numbers.{unsigned_text}
 use Rattle.wasm_base.specs.Texts.{frame_text, optional_text}
+use Rattle.wasm_custom.specs.Lists.{IsListOf}
 use Rattle.wasm_immediates.specs.PlainImmediates.{bit}
 use Rattle.wasm_custom.specs.declared.symbols.DataSymbolDefinition.{DataSymbolDefinition}
 use Rattle.wasm_custom.specs.declared.symbols.SymbolKind.{SymbolKind}
@@ -98,6 +99,10 @@ symbol_tags = (0x00, indexed_symbol Function) ∷ (0x01, data_symbol) ∷ (0x02,
 -- symbol: a kind, flags, and the parts that these tell of
 abbrev pub symbol : Format Symbol
 symbol = tagged byte (choice symbol_tags (λ b. impossible))
+
+-- The entries of a symbol table are these symbols.
+abbrev pub AreSymbols : List (List ℕ) → List Symbol → Type 0
+AreSymbols = IsListOf symbol_text IsGivenSymbol
 
 -- ---- what was read
 

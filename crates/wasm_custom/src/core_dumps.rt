@@ -10,10 +10,9 @@ ghost use Rattle.wasm_base.specs.Reading.{Reads, ReadsNothing};
 ghost use Rattle.wasm_base.specs.Texts.{FrameFits, vec_text};
 ghost use Rattle.wasm_base.specs.declared.refused.Refused.TheVariants.{TooLong};
 ghost use Rattle.wasm_custom.specs.Adding.{AddsTwoLists};
-ghost use Rattle.wasm_custom.specs.CoreDumps.{instance_items, module_items, marked_text, core_name, core_section, SaysProcess, IsModule, marked_name, modules_name, Instance, instance_text, IsInstance, instance, instances_name, instance_view};
+ghost use Rattle.wasm_custom.specs.CoreDumps.{instance_items, module_items, marked_text, core_name, core_section, SaysProcess, IsModule, marked_name, modules_name, Instance, instance_text, IsInstance, instance, instances_name, instance_view, core_payload, modules_payload, instances_payload};
 ghost use Rattle.wasm_custom.specs.Customs.{named_text, NamedFits};
 ghost use Rattle.wasm_custom.specs.Entries.{entries_text};
-ghost use Rattle.wasm_custom.specs.Readings.{core_payload, modules_payload, instances_payload};
 ghost use Rattle.wasm_reader_base.specs.Shortest.{AppendsShortest};
 ghost use Rattle.wasm_reader_base.specs.declared.fault.ReadFault.TheVariants.{Memory};
 
@@ -361,7 +360,7 @@ pub fn read_instances<'a, A: Allocator + Copy>(
 }
 
 /// Appends the byte 00 and a name.
-#[tactic(auto, using(crate::proofs::ShortCustom::marked_appended))]
+#[tactic(auto, using(crate::proofs::CoreDumpLaws::marked_appended))]
 pub(crate) fn append_marked<B: Allocator>(name: &str, out: &mut Vec<u8, B>) -> R<()>
     ensures { OnOk result (AppendsShortest marked_name name.now out.old.items out.new.items) }
 {
@@ -371,7 +370,7 @@ pub(crate) fn append_marked<B: Allocator>(name: &str, out: &mut Vec<u8, B>) -> R
 
 /// Appends the shortest text of what the section of this process holds, where some bytes are read as it. After a refusal a part of it may
 /// stand there.
-#[tactic(auto, using(crate::proofs::ShortCustom::process_appended))]
+#[tactic(auto, using(crate::proofs::CoreDumpLaws::process_appended))]
 pub fn append_process<B: Allocator>(name: &str, out: &mut Vec<u8, B>) -> R<()>
     ensures { OnOk result (AppendsShortest core_payload name.now out.old.items out.new.items) }
 {
@@ -393,7 +392,7 @@ fn append_names<B: Allocator>(items: &[&str], out: &mut Vec<u8, B>) -> R<()>
 
 /// Appends the shortest text of what a section of these modules holds, where some bytes are read as it. After a refusal a part of it may
 /// stand there.
-#[tactic(auto, using(crate::proofs::ShortCustom::modules_appended))]
+#[tactic(auto, using(crate::proofs::CoreDumpLaws::modules_appended))]
 pub fn append_modules<B: Allocator>(names: &[&str], out: &mut Vec<u8, B>) -> R<()>
     ensures { OnOk result (AppendsShortest modules_payload (map (λ n. n.now) names.now) out.old.items out.new.items) }
 {
@@ -402,7 +401,7 @@ pub fn append_modules<B: Allocator>(names: &[&str], out: &mut Vec<u8, B>) -> R<(
 }
 
 /// Appends an instance.
-#[tactic(auto, using(crate::proofs::ShortCustom::instance_appended))]
+#[tactic(auto, using(crate::proofs::CoreDumpLaws::instance_appended))]
 fn append_instance<A: Allocator, B: Allocator>(
     given: &(u32, Vec<u32, A>, Vec<u32, A>),
     out: &mut Vec<u8, B>,
@@ -433,7 +432,7 @@ fn append_all_instances<A: Allocator, B: Allocator>(
 
 /// Appends the shortest text of what a section of these instances holds, where some bytes are read as it. After a refusal a part of it may
 /// stand there.
-#[tactic(auto, using(crate::proofs::ShortCustom::instances_appended))]
+#[tactic(auto, using(crate::proofs::CoreDumpLaws::instances_appended))]
 pub fn append_instances<A: Allocator, B: Allocator>(
     instances: &[(u32, Vec<u32, A>, Vec<u32, A>)],
     out: &mut Vec<u8, B>,

@@ -9,11 +9,10 @@ ghost use Rattle.wasm_base.specs.Texts.{FrameFits, vec_text};
 ghost use Rattle.wasm_base.specs.declared.refused.Refused.TheVariants.{TooLong};
 ghost use Rattle.wasm_custom.specs.Adding.{AddsTwoLists};
 ghost use Rattle.wasm_custom.specs.CoreDumps.{marked_text};
-ghost use Rattle.wasm_custom.specs.CoreStacks.{stack_name, stack_section, SaysStack, StackFrame, stack_frame, stack_frame_view};
+ghost use Rattle.wasm_custom.specs.CoreStacks.{stack_name, stack_section, SaysStack, StackFrame, stack_frame, stack_frame_view, stack_payload};
 ghost use Rattle.wasm_custom.specs.CoreValues.{value_text};
 ghost use Rattle.wasm_custom.specs.Customs.{named_text, NamedFits};
 ghost use Rattle.wasm_custom.specs.Entries.{entries_text};
-ghost use Rattle.wasm_custom.specs.Readings.{stack_payload};
 ghost use Rattle.wasm_reader_base.specs.Shortest.{AppendsShortest};
 ghost use Rattle.wasm_reader_base.specs.declared.fault.ReadFault.TheVariants.{Memory};
 
@@ -206,7 +205,7 @@ pub fn read_stack<'a, A: Allocator + Copy>(
 }
 
 impl<A: Allocator> Shorten for CoreFrame<A> {
-    #[tactic(auto, using(crate::proofs::ShortCustom::frame_appended))]
+    #[tactic(auto, using(crate::proofs::CoreStackLaws::frame_appended))]
     fn append_shortest<B: Allocator>(&self, out: &mut Vec<u8, B>) -> R<()> {
         0x00u8.encode(out)?;
         self.instanceidx.append_shortest(out)?;
@@ -219,7 +218,7 @@ impl<A: Allocator> Shorten for CoreFrame<A> {
 
 /// Appends the shortest text of what the section of this stack holds, where some bytes are read as it. After a refusal a part of it may
 /// stand there.
-#[tactic(auto, using(crate::proofs::ShortCustom::stack_appended))]
+#[tactic(auto, using(crate::proofs::CoreStackLaws::stack_appended))]
 pub fn append_stack<A: Allocator, B: Allocator>(
     thread: &str,
     frames: &Vec<CoreFrame<A>, A>,

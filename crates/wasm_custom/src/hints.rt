@@ -6,8 +6,7 @@ ghost use Rattle.wasm_base.specs.Iterators.{HasKnownLength};
 ghost use Rattle.wasm_base.specs.Numbers.{unsigned_text, wide};
 ghost use Rattle.wasm_base.specs.Texts.{vec_text};
 ghost use Rattle.wasm_custom.specs.Adding.{AddsList};
-ghost use Rattle.wasm_custom.specs.Hints.{hint_items, hint_text, Hints, hints_text, AreHints, hints, hints_name, hint, hints_view};
-ghost use Rattle.wasm_custom.specs.Readings.{hints_payload};
+ghost use Rattle.wasm_custom.specs.Hints.{hint_items, hint_text, Hints, hints_text, AreHints, hints, hints_name, hint, hints_view, hints_payload};
 ghost use Rattle.wasm_custom.specs.declared.hints.BranchHint.{BranchHint as HintModel};
 ghost use Rattle.wasm_reader_base.specs.Shortest.{AppendsShortest};
 ghost use Rattle.wasm_reader_base.specs.declared.fault.ReadFault.TheVariants.{Memory};
@@ -173,7 +172,7 @@ pub fn read_hints<'a, A: Allocator + Copy>(
 }
 
 /// Appends the hints of a function.
-#[tactic(auto, using(crate::proofs::ShortCustom::function_appended))]
+#[tactic(auto, using(crate::proofs::HintLaws::function_appended))]
 fn append_function<A: Allocator, B: Allocator>(
     given: &(u32, Vec<BranchHint, A>),
     out: &mut Vec<u8, B>,
@@ -202,7 +201,7 @@ fn append_functions<A: Allocator, B: Allocator>(
 
 /// Appends the shortest text of what a section of these hints holds, where some bytes are read as it. After a refusal a part of it may
 /// stand there.
-#[tactic(auto, using(crate::proofs::ShortCustom::hints_appended))]
+#[tactic(auto, using(crate::proofs::HintLaws::hints_appended))]
 pub fn append_hints<A: Allocator, B: Allocator>(
     functions: &[(u32, Vec<BranchHint, A>)],
     out: &mut Vec<u8, B>,

@@ -7,19 +7,17 @@ ghost use Rattle.wasm_base.specs.Formats.{custom, frame, pair, name, any_bytes};
 ghost use Rattle.wasm_base.specs.Laws.{HoldsMore, HoldsMoreWide, NothingStandsWide};
 ghost use Rattle.wasm_base.specs.Modules.{ReadsPayloads, ReadsPayloadsWide};
 ghost use Rattle.wasm_base.specs.Reading.{UniqueReading, IsUniqueWide};
-ghost use Rattle.wasm_custom.specs.CoreDumps.{marked_name, instance, module_items, instance_items};
-ghost use Rattle.wasm_custom.specs.CoreStacks.{stack_frame, frame_items};
+ghost use Rattle.wasm_custom.specs.CoreDumps.{marked_name, instance, module_items, instance_items, modules_payload, instances_payload, core_payload};
+ghost use Rattle.wasm_custom.specs.CoreStacks.{stack_frame, frame_items, stack_payload};
 ghost use Rattle.wasm_custom.specs.CoreValues.{value};
-ghost use Rattle.wasm_custom.specs.Hints.{hints, hints_name, hint_items};
-ghost use Rattle.wasm_custom.specs.Linking.{link, linking_name, link_items};
+ghost use Rattle.wasm_custom.specs.Hints.{hints, hints_name, hint_items, hints_payload};
+ghost use Rattle.wasm_custom.specs.Linking.{link, linking_name, link_items, linking_payload};
 ghost use Rattle.wasm_custom.specs.Lists.{IsVectorOf, ListMore};
-ghost use Rattle.wasm_custom.specs.Names.{naming_text, IsNaming, inside_text, IsInside, subsection, name_items};
-ghost use Rattle.wasm_custom.specs.Producers.{producer_text, IsProducer, field, field_items};
-ghost use Rattle.wasm_custom.specs.Readings.{name_payload, linking_payload, producers_payload, hints_payload, modules_payload, instances_payload, core_payload, stack_payload};
+ghost use Rattle.wasm_custom.specs.Names.{naming_text, IsNaming, inside_text, IsInside, subsection, name_items, name_payload};
+ghost use Rattle.wasm_custom.specs.Producers.{producer_text, IsProducer, field, field_items, producers_payload};
 ghost use Rattle.wasm_custom.specs.Symbols.{symbol_text, IsGivenSymbol, symbol};
 
 /// Sections are read uniquely, and so are their items; the text of a plain record spells what it says.
-#[tactic(auto, using(crate::proofs::SectionLaws::sections))]
 pub fn sections()
     ensures names { UniqueReading (frame name_payload) }
     ensures linking { UniqueReading (frame linking_payload) }
@@ -50,7 +48,6 @@ pub fn sections()
 {}
 
 /// With padded numbers too, sections are read uniquely, and what shortest numbers spell is among it.
-#[tactic(auto, using(crate::proofs::SectionLaws::wide_sections))]
 pub fn wide()
     ensures names { IsUniqueWide (frame name_payload) }
     ensures linking { IsUniqueWide (frame linking_payload) }
@@ -65,7 +62,6 @@ pub fn wide()
 
 /// What sections and lists hold, call by call: at first nothing, and after a call that adds a plain record what this says too. The text
 /// of a list is the vector of its members.
-#[tactic(auto, using(crate::proofs::HeldLaws::calls))]
 pub fn calls()
     ensures names { HoldsMore name_items }
     ensures linking { HoldsMore link_items }
@@ -85,7 +81,7 @@ pub fn calls()
 {}
 
 /// The same with padded numbers, of the sections of entries: a piece may spell its item with padded numbers.
-#[tactic(auto, using(crate::proofs::HeldLaws::wide_calls))]
+#[tactic(auto, using(crate::proofs::Calls::sections, wasm_base::proofs::SectionLaws::held_wide))]
 pub fn wide_calls()
     ensures names { HoldsMoreWide name_items }
     ensures linking { HoldsMoreWide link_items }
@@ -96,7 +92,7 @@ pub fn wide_calls()
 {}
 
 /// Where a module is read as ids and payloads, and a section as its items alone, its payload is read as these alone.
-#[tactic(auto, using(crate::proofs::SectionLaws::payloads))]
+#[tactic(auto, using(crate::proofs::Calls::sections, crate::proofs::Calls::payloads, wasm_base::proofs::SectionLaws::payloads))]
 pub fn payloads()
     ensures names { ReadsPayloads name_payload }
     ensures linking { ReadsPayloads linking_payload }

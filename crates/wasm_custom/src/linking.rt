@@ -7,9 +7,8 @@ ghost use Rattle.wasm_base.specs.Numbers.{wide};
 ghost use Rattle.wasm_base.specs.Reading.{UniqueReading, Reads, ReadsNothing};
 ghost use Rattle.wasm_base.specs.Texts.{frame_text, FrameFits};
 ghost use Rattle.wasm_custom.specs.Customs.{subsection_text};
-ghost use Rattle.wasm_custom.specs.Linking.{link_items, LinkItem as LinkModel, link_text, IsLink, link, linking_name, version, link_view};
+ghost use Rattle.wasm_custom.specs.Linking.{link_items, LinkItem as LinkModel, link_text, IsLink, link, linking_name, version, link_view, linking_payload};
 ghost use Rattle.wasm_custom.specs.Lists.{list_text};
-ghost use Rattle.wasm_custom.specs.Readings.{linking_payload};
 ghost use Rattle.wasm_reader_base.specs.Shortest.{AppendsShortest};
 ghost use Rattle.wasm_reader_base.specs.declared.fault.ReadFault.TheVariants.{Memory};
 

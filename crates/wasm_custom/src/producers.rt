@@ -6,8 +6,7 @@ ghost use Rattle.wasm_base.specs.Going.{FillsNothing};
 ghost use Rattle.wasm_base.specs.Numbers.{wide};
 ghost use Rattle.wasm_base.specs.Texts.{frame_text, FrameFits};
 ghost use Rattle.wasm_custom.specs.Lists.{list_text};
-ghost use Rattle.wasm_custom.specs.Producers.{field_items, Producer, producer_text, IsProducer, Field, field_text, IsField, field, producers_name, field_view};
-ghost use Rattle.wasm_custom.specs.Readings.{producers_payload};
+ghost use Rattle.wasm_custom.specs.Producers.{field_items, Producer, producer_text, IsProducer, Field, field_text, IsField, field, producers_name, field_view, producers_payload};
 ghost use Rattle.wasm_reader_base.specs.Shortest.{AppendsShortest};
 ghost use Rattle.wasm_reader_base.specs.declared.fault.ReadFault.TheVariants.{Memory};
 
@@ -118,7 +117,7 @@ pub fn read_producers<'a, A: Allocator + Copy + 'a>(
 
 /// Appends the shortest text of what a producers section of these fields holds, where some bytes are read as it. After a refusal a part of it may
 /// stand there.
-#[tactic(auto, using(crate::proofs::ShortCustom::producers_appended))]
+#[tactic(auto, using(crate::proofs::ProducerLaws::producers_appended))]
 pub fn append_producers<'a, A: Allocator, B: Allocator>(
     fields: &Vec<(&'a str, Vec<(&'a str, &'a str), A>), A>,
     out: &mut Vec<u8, B>,

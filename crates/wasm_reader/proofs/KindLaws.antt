@@ -29,10 +29,14 @@ use Rattle.wasm_custom.specs.CoreDumps.{core_name, modules_name, instances_name}
 use Rattle.wasm_custom.specs.CoreStacks.{stack_name}
 use Rattle.wasm_custom.specs.Hints.{hints_name}
 use Rattle.wasm_custom.specs.Linking.{linking_name}
-use Rattle.wasm_custom.specs.Names.{NameItem, name_name}
+use Rattle.wasm_custom.specs.Names.{NameItem, name_name, name_payload}
 use Rattle.wasm_custom.specs.Producers.{producers_name}
-use Rattle.wasm_custom.specs.Readings.{name_payload}
-use Rattle.wasm_custom.proofs.SectionLaws.{name_whole, linking_whole, producers_whole, hints_whole, modules_whole, instances_whole, core_whole, stack_whole}
+use Rattle.wasm_custom.proofs.CoreDumpLaws.{core_whole, modules_section, instances_section}
+use Rattle.wasm_custom.proofs.CoreStackLaws.{stack_whole}
+use Rattle.wasm_custom.proofs.HintLaws.{hints_section}
+use Rattle.wasm_custom.proofs.LinkLaws.{linking_section}
+use Rattle.wasm_custom.proofs.NameLaws.{names_section}
+use Rattle.wasm_custom.proofs.ProducerLaws.{producers_section}
 use Rattle.wasm_reader_base.specs.Shortest.{AppendsShortest}
 use Rattle.wasm_reader_base.proofs.ShortTexts.{text_appended, pair_appended, mapped_appended, records_appended}
 use Rattle.wasm_reader.specs.Kinds.{Contents, Bodies, Segments, DataCount, Elements, Exports, Functions, Globals, Imports, Memories, Start, Tables, Tags, Types, Names, Linking, Producers, Hints, Core, CoreModules, CoreInstances, CoreStack, Custom, Raw, content, kind_in, number_in, kind_among, known_kinds, kind_of_id, kind_named}
@@ -90,13 +94,13 @@ content_whole kinds.Memories = mapped_whole Memories (λ x y e. cc) (whole_from_
 content_whole kinds.Start = mapped_whole Start (λ x y e. cc) (whole_from_alone u32_unique)
 content_whole kinds.Tables = mapped_whole Tables (λ x y e. cc) (whole_from_alone (vec_unique table_item_unique))
 content_whole kinds.Tags = mapped_whole Tags (λ x y e. cc) (whole_from_alone (vec_unique tag_unique))
-content_whole kinds.Names = mapped_whole Names (λ x y e. cc) name_whole
-content_whole kinds.Linking = mapped_whole Linking (λ x y e. cc) linking_whole
-content_whole kinds.Producers = mapped_whole Producers (λ x y e. cc) producers_whole
-content_whole kinds.Hints = mapped_whole Hints (λ x y e. cc) hints_whole
+content_whole kinds.Names = mapped_whole Names (λ x y e. cc) names_section.whole
+content_whole kinds.Linking = mapped_whole Linking (λ x y e. cc) linking_section.whole
+content_whole kinds.Producers = mapped_whole Producers (λ x y e. cc) producers_section.whole
+content_whole kinds.Hints = mapped_whole Hints (λ x y e. cc) hints_section.whole
 content_whole kinds.Core = mapped_whole Core (λ x y e. cc) core_whole
-content_whole kinds.CoreModules = mapped_whole CoreModules (λ x y e. cc) modules_whole
-content_whole kinds.CoreInstances = mapped_whole CoreInstances (λ x y e. cc) instances_whole
+content_whole kinds.CoreModules = mapped_whole CoreModules (λ x y e. cc) modules_section.whole
+content_whole kinds.CoreInstances = mapped_whole CoreInstances (λ x y e. cc) instances_section.whole
 content_whole kinds.CoreStack = mapped_whole CoreStack (λ x y e. cc) stack_whole
 content_whole kinds.Custom = mapped_whole Custom (λ x y e. cc) (pair_whole name_unique any_bytes_whole)
 content_whole kinds.Raw = mapped_whole Raw (λ x y e. cc) any_bytes_whole

@@ -19,13 +19,12 @@ use Rattle.wasm_types.specs.RecTypes.{TypeItem, type_item}
 use Rattle.wasm_types.specs.Items.{entry_view}
 use Rattle.wasm_sections.specs.declared.memory.MemoryType.{MemoryType}
 use Rattle.wasm_sections.specs.declared.tag.TagType.{TagType}
-use Rattle.wasm_custom.specs.CoreDumps.{Instance, core_name, modules_name, instances_name, instance_view}
-use Rattle.wasm_custom.specs.CoreStacks.{StackFrame, stack_name, stack_frame_view}
-use Rattle.wasm_custom.specs.Hints.{Hints as FunctionHints, hints_name, hints_view}
-use Rattle.wasm_custom.specs.Linking.{LinkItem, linking_name, link_view}
-use Rattle.wasm_custom.specs.Names.{NameItem, name_name, name_item_view}
-use Rattle.wasm_custom.specs.Producers.{Field, producers_name, field_view}
-use Rattle.wasm_custom.specs.Readings.{name_payload, linking_payload, producers_payload, hints_payload, core_payload, modules_payload, instances_payload, stack_payload}
+use Rattle.wasm_custom.specs.CoreDumps.{Instance, core_name, modules_name, instances_name, instance_view, core_payload, modules_payload, instances_payload}
+use Rattle.wasm_custom.specs.CoreStacks.{StackFrame, stack_name, stack_frame_view, stack_payload}
+use Rattle.wasm_custom.specs.Hints.{Hints as FunctionHints, hints_name, hints_view, hints_payload}
+use Rattle.wasm_custom.specs.Linking.{LinkItem, linking_name, link_view, linking_payload}
+use Rattle.wasm_custom.specs.Names.{NameItem, name_name, name_item_view, name_payload}
+use Rattle.wasm_custom.specs.Producers.{Field, producers_name, field_view, producers_payload}
 use Rattle.wasm_sections.specs.Globals.{global_view}
 use Rattle.wasm_sections.specs.Tables.{table_view}
 use Rattle.wasm_sections.specs.DataSegments.{segment_view}

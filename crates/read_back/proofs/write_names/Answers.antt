@@ -2,7 +2,7 @@
 use Rattle.std.proofs.Common.{arith, refl}
 use Rattle.wasm_base.specs.Formats.{frame}
 use Rattle.wasm_custom.proofs.Calls.{new_map, adds_name, new_names, adds_module_name, adds_names, encodes_entries}
-use Rattle.wasm_custom.specs.Readings.{name_payload}
+use Rattle.wasm_custom.specs.Names.{name_payload}
 use Rattle.read_back.proofs.write_names.Goals as goal
 
 pub returns : goal.returns

@@ -5,9 +5,8 @@ use Rattle.wasm_base.specs.Numbers.{wide}
 use Rattle.wasm_base.proofs.Calls.{ascii, holds_wide, encodes_wide}
 use Rattle.wasm_base.proofs.NumberLaws.{u32_small}
 use Rattle.wasm_custom.proofs.Calls.{new_names, adds_raw_names}
-use Rattle.wasm_custom.proofs.HeldLaws.{name-wide}
-use Rattle.wasm_custom.specs.Names.{name_map, subsection}
-use Rattle.wasm_custom.specs.Readings.{HoldsNames, name_payload}
+use Rattle.wasm_custom.proofs.NameLaws.{names_section}
+use Rattle.wasm_custom.specs.Names.{name_map, subsection, HoldsNames, name_payload}
 use Rattle.examples.proofs.padded.encode_padded_names.Goals as goal
 
 pub returns : goal.returns
@@ -22,6 +21,6 @@ returns g c =
       first = one;
       second = (0x80 ∷ 0x00 ∷ 0x01 ∷ 0x61 ∷ [], [], refl, record { front = 0x80 ∷ 0x00 ∷ []; back = 0x01 ∷ 0x61 ∷ []; joined = refl; first = zero; second = named }, refl);
     } in
-    let s0 = holds_wide name-wide (new_names c.new-names.ensures) in
+    let s0 = holds_wide names_section.held_wide (new_names c.new-names.ensures) in
     let s1 = adds_raw_names s0 1 (0x01 ∷ 0x80 ∷ 0x00 ∷ 0x01 ∷ 0x61 ∷ []) ((0, 97 ∷ []) ∷ []) c.in_ok-raw.ensures.ok c.in_ok-raw.ensures.fitted refl map in
     encodes_wide (frame name_payload) (HoldsNames _) (HoldsWide subsection _) c.encode.ensures.appends c.encode.ensures.read s1

@@ -2,7 +2,7 @@ use Rattle.std.proofs.Common.{[], ◌∷◌, arith, ap, ◌∙◌}
 use Rattle.std.specs.Iterator.Adapters.{copied_source}
 use Rattle.std.specs.Slice.Iter.{iter_rest}
 use Rattle.wasm_base.specs.Formats.{frame}
-use Rattle.wasm_custom.specs.Readings.{hints_payload}
+use Rattle.wasm_custom.specs.Hints.{hints_payload}
 use Rattle.wasm_custom.proofs.Calls.{new_hints, adds_hints, adds_hints_of, copied_gives, encodes_entries}
 use Rattle.read_back.specs.Customs.{likely}
 use Rattle.read_back.proofs.custom.write_hints.Goals as goal

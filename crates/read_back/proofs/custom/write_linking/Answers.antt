@@ -4,7 +4,7 @@ use Rattle.std.specs.Prelude.{codes}
 use Rattle.wasm_base.proofs.Calls.{ascii}
 use Rattle.wasm_base.specs.Formats.{frame}
 use Rattle.wasm_custom.proofs.Calls.{new_linking, adds_symbols, adds_target, encodes_entries}
-use Rattle.wasm_custom.specs.Readings.{linking_payload}
+use Rattle.wasm_custom.specs.Linking.{linking_payload}
 use Rattle.read_back.proofs.custom.write_linking.Goals as goal
 
 pub returns : goal.returns

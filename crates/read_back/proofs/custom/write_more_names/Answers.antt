@@ -2,7 +2,7 @@
 use Rattle.std.proofs.Common.{refl}
 use Rattle.wasm_base.specs.Formats.{frame}
 use Rattle.wasm_custom.proofs.Calls.{new_names, adds_module_name, adds_other_names, encodes_entries}
-use Rattle.wasm_custom.specs.Readings.{name_payload}
+use Rattle.wasm_custom.specs.Names.{name_payload}
 use Rattle.read_back.proofs.custom.write_more_names.Goals as goal
 
 pub returns : goal.returns

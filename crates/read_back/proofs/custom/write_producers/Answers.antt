@@ -4,7 +4,7 @@ use Rattle.std.specs.Prelude.{codes}
 use Rattle.wasm_base.proofs.Calls.{ascii}
 use Rattle.wasm_base.specs.Formats.{frame}
 use Rattle.wasm_custom.proofs.Calls.{new_field, adds_value, new_producers, adds_field, encodes_entries}
-use Rattle.wasm_custom.specs.Readings.{producers_payload}
+use Rattle.wasm_custom.specs.Producers.{producers_payload}
 use Rattle.read_back.proofs.custom.write_producers.Goals as goal
 
 pub returns : goal.returns

@@ -1,7 +1,7 @@
 -- Written by tools/answers.
 use Rattle.wasm_base.specs.Formats.{frame}
 use Rattle.wasm_custom.proofs.Calls.{encodes_custom}
-use Rattle.wasm_custom.specs.Readings.{stack_payload}
+use Rattle.wasm_custom.specs.CoreStacks.{stack_payload}
 use Rattle.read_back.proofs.dumps.write_stack.Goals as goal
 
 pub returns : goal.returns

@@ -4,7 +4,7 @@ use Rattle.wasm_base.specs.Numbers.{wide}
 use Rattle.wasm_base.proofs.Calls.{ascii, holds_wide}
 use Rattle.wasm_base.proofs.NumberLaws.{u32_small}
 use Rattle.wasm_custom.proofs.Calls.{new_names, adds_raw_names_inside}
-use Rattle.wasm_custom.proofs.HeldLaws.{name-wide}
+use Rattle.wasm_custom.proofs.NameLaws.{names_section}
 use Rattle.wasm_custom.specs.Names.{name_map, indirect_map}
 use Rattle.read_back.proofs.padded.names.Goals as goal
 
@@ -33,4 +33,4 @@ returns g c =
         refl,
       );
     } in
-    adds_raw_names_inside (holds_wide name-wide (new_names c.new-section.ensures)) 2 (0x01 ∷ 0x00 ∷ 0x01 ∷ 0x80 ∷ 0x00 ∷ 0x01 ∷ 0x61 ∷ []) ((0, (0, 97 ∷ []) ∷ []) ∷ []) c.in_ok-raw.ensures.ok c.in_ok-raw.ensures.fitted refl inside
+    adds_raw_names_inside (holds_wide names_section.held_wide (new_names c.new-section.ensures)) 2 (0x01 ∷ 0x00 ∷ 0x01 ∷ 0x80 ∷ 0x00 ∷ 0x01 ∷ 0x61 ∷ []) ((0, (0, 97 ∷ []) ∷ []) ∷ []) c.in_ok-raw.ensures.ok c.in_ok-raw.ensures.fitted refl inside

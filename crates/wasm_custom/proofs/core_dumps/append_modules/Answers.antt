@@ -1,5 +1,5 @@
 use Rattle.wasm_base.proofs.Outcomes.{on_ok}
-use Rattle.wasm_custom.proofs.ShortCustom.{modules_appended}
+use Rattle.wasm_custom.proofs.CoreDumpLaws.{modules_appended}
 use Rattle.wasm_custom.proofs.core_dumps.append_modules.Goals as goal
 
 pub returns : goal.returns

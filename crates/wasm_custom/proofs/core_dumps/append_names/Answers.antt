@@ -1,6 +1,6 @@
 use Rattle.wasm_reader_base.proofs.ShortTexts.{next_appended, all_appended, vec_appended}
 use Rattle.wasm_custom.specs.CoreDumps.{marked_name}
-use Rattle.wasm_custom.proofs.ShortCustom.{read_there}
+use Rattle.wasm_custom.proofs.CoreDumpLaws.{read_there}
 use Rattle.wasm_custom.proofs.core_dumps.append_names.Goals as goal
 
 pub loop-item-preserved : goal.loop-item-preserved

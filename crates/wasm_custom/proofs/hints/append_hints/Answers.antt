@@ -1,5 +1,5 @@
 use Rattle.wasm_base.proofs.Outcomes.{on_ok}
-use Rattle.wasm_custom.proofs.ShortCustom.{hints_appended}
+use Rattle.wasm_custom.proofs.HintLaws.{hints_appended}
 use Rattle.wasm_custom.proofs.hints.append_hints.Goals as goal
 
 pub returns : goal.returns
