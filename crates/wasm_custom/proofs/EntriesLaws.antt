@@ -1,18 +1,18 @@
 -- A custom section of items is read as these alone.
-use Rattle.std.proofs.Common.{◌≡◌, ℕ, ◌≤◌, List, ◌++◌, length, map, Bool, true, false, refl, sym, subst, arith, length-append, [], append-nil}
+use Rattle.std.proofs.Common.{◌≡◌, ℕ, ◌≤◌, List, ◌++◌, length, map, Bool, IsUtf8, true, false, refl, sym, subst, arith, length-append, [], append-nil}
 use Rattle.std.specs.List.{AllZip}
 use Rattle.wasm_base.specs.Calls.{ReadsBack, ReadsBackWide, ReadsBackBoth}
 use Rattle.wasm_base.specs.Entries.{Kind, entry_text, HoldsItems, HoldsWide, ItemLaws}
-use Rattle.wasm_base.specs.Formats.{Format, fixed}
+use Rattle.wasm_base.specs.Formats.{Format, fixed, vec}
 use Rattle.wasm_base.specs.Numbers.{Mode, shortest, wide}
 use Rattle.wasm_base.specs.Pieces.{joined}
 use Rattle.wasm_base.specs.Reading.{UniqueReading, UniqueWholeReading, BeginsWith}
 use Rattle.wasm_base.specs.Texts.{longest, frame_text, FrameFits}
 use Rattle.wasm_base.proofs.EntryLaws.{entries_spelled, pieces_spelled}
-use Rattle.wasm_base.proofs.FormatLaws.{vec_unique, members_whole, whole_from_alone, mapped_whole, pair_whole}
+use Rattle.wasm_base.proofs.FormatLaws.{fixed_unique, vec_unique, members_whole, whole_from_alone, mapped_whole, pair_whole}
 use Rattle.wasm_base.proofs.TextLaws.{spelled_in, reads_alone, reads_alone_wide, joined_spelled, vec_of_pieces}
 use Rattle.wasm_custom.specs.Customs.{named_section, named_text, NamedFits, named_payload}
-use Rattle.wasm_custom.specs.Entries.{count_text, entries_text, listing, entries, FrameLaws}
+use Rattle.wasm_custom.specs.Entries.{count_text, entries_text, listing, entries, counted_payload, FrameLaws}
 use Rattle.wasm_custom.proofs.CustomLaws.{named_unique, named_spelled, data_fits, named_appended}
 use Rattle.wasm_base.proofs.BaseLaws.{name_unique}
 use Rattle.wasm_base.proofs.AfterLaws.{after_whole}
@@ -77,6 +77,10 @@ module _ {Record Item : Type 0} (kind : Kind Record Item) (n front : List ℕ) (
       → ReadsBackBoth (named_section n (entries front_format counted kind.format)) (HoldsItems kind pieces) (HoldsWide kind.format pieces) (named_text n (entries_text front counted pieces))
   entries_back pieces few fits = record { plain = entries_alone pieces few fits; wide = entries_alone_wide pieces few fits }
 
+-- what a section of counted items right behind its name owes
+pub counted_frame : {Item : Type 0} {F : Format Item} {n : List ℕ} → IsUtf8 n → FrameLaws F n [] (fixed [] (tt {0})) true
+counted_frame utf8 = record { name_utf8 = utf8; front_alone = fixed_unique [] (tt {0}); front_spelled = (refl, refl); begins = λ e. absurd (cc e) }
+
 -- the laws of the sections of a kind, whose records are plain in both ways alike
 pub entries_laws : {Record Item : Type 0} {kind : Kind Record Item} {n front : List ℕ} {front_format : Format (Unit {0})} {counted : Bool} → ItemLaws kind → FrameLaws kind.format n front front_format counted
     → ((given : Record) → kind.IsPlain given → kind.IsPlainWide given) → ((given : Record) → kind.IsPlainWide given → kind.IsPlain given) → SectionLaws kind (named_payload n (entries front_format counted kind.format))
@@ -88,3 +92,7 @@ pub items_appended : {X : Type 0} (n : List ℕ) {old middle new : List ℕ} (co
 items_appended n {middle = middle} counted F xs fits e a =
     let none = text_appended (fixed [] (tt {0})) tt [] middle middle (λ s h. (refl, refl)) (sym (append-nil middle)) in
     named_appended n (entries (fixed [] (tt {0})) counted F) xs fits e (tagged_appended (fixed [] (tt {0})) (λ u. listing counted F) (λ s z h. refl) none a)
+
+-- the same of counted items, behind the name that the call was told
+pub counted_appended : {X : Type 0} {n told old middle new : List ℕ} → told ≡ n → (F : Format X) (xs : List X) → FrameFits told → middle ≡ old ++ frame_text told → AppendsShortest (vec F) xs middle new → AppendsShortest (counted_payload n F) xs old new
+counted_appended {told = told} {old = old} {new = new} called F xs fits e a = subst (λ z. AppendsShortest (counted_payload z F) xs old new) called (items_appended told true F xs fits e a)

@@ -1,26 +1,23 @@
 -- Branch hints are read uniquely.
-use Rattle.std.proofs.Common.{◌<◌, [], ◌∷◌, true, false, refl, ap, ℕ, ◌≤◌, ◌≡◌, List, map, ap₂, subst, arith, ◌++◌}
+use Rattle.std.proofs.Common.{◌<◌, [], ◌∷◌, true, false, refl, ap, ℕ, ◌≤◌, ◌≡◌, List, subst, arith, ◌++◌}
 use Rattle.wasm_base.specs.Entries.{ItemLaws}
-use Rattle.wasm_base.specs.Formats.{u32, byte, prefixed, such, vec, fixed, Format, name, just}
+use Rattle.wasm_base.specs.Formats.{u32, byte, prefixed, such, vec, fixed, Format}
 use Rattle.wasm_base.specs.Numbers.{shortest, unsigned_text, wide}
 use Rattle.wasm_base.specs.Reading.{UniqueReading, Reads, ReadsNothing}
-use Rattle.wasm_base.specs.Texts.{vec_text, frame_text, FrameFits, VecFits}
-use Rattle.wasm_base.proofs.FormatLaws.{mapped_unique, pair_unique, vec_unique, byte_unique, such_unique, prefixed_unique, fixed_unique, AllValues}
+use Rattle.wasm_base.specs.Texts.{vec_text, VecFits}
+use Rattle.wasm_base.proofs.FormatLaws.{mapped_unique, pair_unique, vec_unique, byte_unique, such_unique, prefixed_unique, AllValues}
 use Rattle.wasm_base.proofs.NumberLaws.{u32_unique}
 use Rattle.wasm_base.proofs.NumberTexts.{groups_text-last}
 use Rattle.wasm_base.proofs.TextLaws.{u32_spelled, vec_spelled}
 use Rattle.wasm_custom.specs.Entries.{FrameLaws}
-use Rattle.wasm_custom.specs.Hints.{hint_text, IsHint, Hints, hints_text, AreHints, hint_of, hint, hints, hints_name, hint_items, hints_view, hints_payload}
+use Rattle.wasm_custom.specs.Hints.{hint_text, IsHint, Hints, hints_text, AreHints, hint_of, hint, hints, hints_name, hint_items, hints_payload}
 use Rattle.wasm_custom.specs.declared.hints.BranchHint.{BranchHint}
 use Rattle.wasm_base.proofs.Calls.{ascii}
 use Rattle.wasm_base.proofs.PartLaws.{pair_spelled, prefixed_spelled}
 use Rattle.std.proofs.lemmas.List.{map-id}
-use Rattle.std.specs.declared.vec.Vec.{Vec}
-use Rattle.wasm_base.specs.Going.{FillsNothing}
 use Rattle.wasm_base.proofs.ReadingSteps.{then_reads, then_nothing_first, then_nothing_second, mapped_reads, mapped_nothing, such_reads, such_none, such_nothing}
-use Rattle.wasm_custom.proofs.ReadNamed.{named_none, items_fill, no_items}
 use Rattle.wasm_base.proofs.SectionLaws.{SectionLaws}
-use Rattle.wasm_custom.proofs.EntriesLaws.{entries_laws, items_appended}
+use Rattle.wasm_custom.proofs.EntriesLaws.{counted_frame, entries_laws}
 use Rattle.wasm_reader_base.specs.Shortest.{AppendsShortest}
 use Rattle.wasm_reader_base.proofs.ShortTexts.{pair_appended, records_appended}
 
@@ -44,12 +41,7 @@ pub hint_laws : ItemLaws hint_items
 hint_laws = record { alone = hints_unique; spelled = λ h plain fits. hints_spelled h plain }
 
 pub hint_frame : FrameLaws hints hints_name [] (fixed [] (tt {0})) true
-hint_frame = record {
-  name_utf8 = ascii {bytes = hints_name} refl;
-  front_alone = fixed_unique [] (tt {0});
-  front_spelled = (refl, refl);
-  begins = λ e. absurd (cc e);
-}
+hint_frame = counted_frame (ascii {bytes = hints_name} refl)
 
 -- the laws of sections of branch hints
 pub hints_section : SectionLaws hint_items hints_payload
@@ -89,25 +81,6 @@ hint_nothing bytes rest n h none = mapped_nothing hint_of (then_nothing_second u
 
 pub ruleset hint_steps = (hint_reads, hint_nothing)
 
--- ---- the hints of functions
-
-pairs_same : {A : Type 0} (items : List (ℕ × Vec BranchHint A)) → map (λ p. (p.0, map (λ h. h) p.1.items)) items ≡ map hints_view items
-pairs_same [] = refl
-pairs_same (p ∷ items) = ap₂ (λ a b. (p.0, a) ∷ b) (map-id p.1.items) (pairs_same items)
-
--- ---- sections
-
-pub hints_fill : {A : Type 0} (bytes rest : List ℕ) (items : List (ℕ × Vec BranchHint A)) → Reads (just hints_name name) wide bytes tt rest → vec hints wide rest (map (λ p. (p.0, map (λ h. h) p.1.items)) items) → hints_payload wide bytes (map hints_view items)
-hints_fill bytes rest items h g = items_fill hints_name true hints bytes rest (map hints_view items) h (subst (λ z. vec hints wide rest z) (pairs_same items) g)
-
-pub no_name : (bytes : List ℕ) → ReadsNothing (just hints_name name) wide bytes → FillsNothing hints_payload bytes
-no_name bytes n = named_none hints_name _ bytes n
-
-pub no_hints : (bytes rest : List ℕ) → Reads (just hints_name name) wide bytes tt rest → FillsNothing (vec hints) rest → FillsNothing hints_payload bytes
-no_hints bytes rest h n = no_items hints_name true hints bytes rest h n
-
-pub ruleset section_steps = (hints_fill, no_name, no_hints)
-
 -- ---- the one shortest text of hints that were read
 
 hint_is : AllValues IsHint hint
@@ -119,6 +92,3 @@ pub function_appended : (n : ℕ) (hs : List BranchHint) (old middle new : List 
 function_appended n hs old middle new a fits e =
     pair_appended u32 (vec hint) a
     (subst (λ z. AppendsShortest (vec hint) z middle new) (map-id hs) (records_appended hint (λ h. h) hint_text (λ h. Unit {0}) hs middle new (λ h f s k. hint_spelled h (hint_is wide s h k)) fits e))
-
-pub hints_appended : (xs : List Hints) (old middle new : List ℕ) → FrameFits hints_name → middle ≡ old ++ frame_text hints_name → AppendsShortest (vec hints) xs middle new → AppendsShortest hints_payload xs old new
-hints_appended xs old middle new fits e a = items_appended hints_name true hints xs fits e a

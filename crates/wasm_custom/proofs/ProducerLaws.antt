@@ -1,22 +1,19 @@
 -- Producers are read uniquely.
-use Rattle.std.proofs.Common.{[], true, refl, ℕ, List, ◌≡◌, ◌++◌}
+use Rattle.std.proofs.Common.{[], true, refl}
 use Rattle.wasm_base.specs.Entries.{ItemLaws}
-use Rattle.wasm_base.specs.Formats.{name, vec, fixed, just}
-use Rattle.wasm_base.specs.Numbers.{shortest, wide}
-use Rattle.wasm_base.specs.Reading.{UniqueReading, Reads, ReadsNothing}
-use Rattle.wasm_base.specs.Texts.{frame_text, vec_text, FrameFits}
+use Rattle.wasm_base.specs.Formats.{name, vec, fixed}
+use Rattle.wasm_base.specs.Numbers.{shortest}
+use Rattle.wasm_base.specs.Reading.{UniqueReading}
+use Rattle.wasm_base.specs.Texts.{frame_text, vec_text}
 use Rattle.wasm_base.proofs.BaseLaws.{name_unique}
 use Rattle.wasm_base.proofs.Calls.{ascii}
-use Rattle.wasm_base.proofs.FormatLaws.{pair_unique, vec_unique, fixed_unique}
+use Rattle.wasm_base.proofs.FormatLaws.{pair_unique, vec_unique}
 use Rattle.wasm_base.proofs.PartLaws.{pair_spelled}
 use Rattle.wasm_base.proofs.TextLaws.{name_spelled, vec_spelled}
 use Rattle.wasm_custom.specs.Entries.{FrameLaws}
 use Rattle.wasm_custom.specs.Producers.{Producer, producer_text, IsProducer, Field, field_text, IsField, producer, field, producers_name, field_items, producers_payload}
-use Rattle.wasm_base.specs.Going.{FillsNothing}
-use Rattle.wasm_custom.proofs.ReadNamed.{named_none, items_fill, no_items}
 use Rattle.wasm_base.proofs.SectionLaws.{SectionLaws}
-use Rattle.wasm_custom.proofs.EntriesLaws.{entries_laws, items_appended}
-use Rattle.wasm_reader_base.specs.Shortest.{AppendsShortest}
+use Rattle.wasm_custom.proofs.EntriesLaws.{counted_frame, entries_laws}
 
 pub field_unique : UniqueReading field
 field_unique = pair_unique name_unique (vec_unique (pair_unique name_unique name_unique))
@@ -32,31 +29,8 @@ pub producer_laws : ItemLaws field_items
 producer_laws = record { alone = field_unique; spelled = λ f plain fits. field_spelled f plain }
 
 pub producer_frame : FrameLaws field producers_name [] (fixed [] (tt {0})) true
-producer_frame = record {
-  name_utf8 = ascii {bytes = producers_name} refl;
-  front_alone = fixed_unique [] (tt {0});
-  front_spelled = (refl, refl);
-  begins = λ e. absurd (cc e);
-}
+producer_frame = counted_frame (ascii {bytes = producers_name} refl)
 
 -- the laws of producers sections
 pub producers_section : SectionLaws field_items producers_payload
 producers_section = entries_laws producer_laws producer_frame (λ given plain. plain) (λ given plain. plain)
-
--- ---- how producers are read
-
-pub producers_fill : (bytes rest : List ℕ) (fields : List Field) → Reads (just producers_name name) wide bytes tt rest → vec field wide rest fields → producers_payload wide bytes fields
-producers_fill bytes rest fields h g = items_fill producers_name true field bytes rest fields h g
-
-pub producers_none : (bytes : List ℕ) → ReadsNothing (just producers_name name) wide bytes → FillsNothing producers_payload bytes
-producers_none bytes n = named_none producers_name _ bytes n
-
-pub no_producers : (bytes rest : List ℕ) → Reads (just producers_name name) wide bytes tt rest → FillsNothing (vec field) rest → FillsNothing producers_payload bytes
-no_producers bytes rest h n = no_items producers_name true field bytes rest h n
-
-pub ruleset producer_steps = (producers_fill, producers_none, no_producers)
-
--- ---- the one shortest text of producers that were read
-
-pub producers_appended : (xs : List Field) (old middle new : List ℕ) → FrameFits producers_name → middle ≡ old ++ frame_text producers_name → AppendsShortest (vec field) xs middle new → AppendsShortest producers_payload xs old new
-producers_appended xs old middle new fits e a = items_appended producers_name true field xs fits e a

@@ -1,16 +1,17 @@
 -- How what stands behind the name of a custom section is read.
-use Rattle.std.proofs.Common.{◌≡◌, ◌≢◌, ℕ, List, [], Bool, refl, sym, subst}
+use Rattle.std.proofs.Common.{◌≡◌, ◌≢◌, ℕ, List, [], length, Bool, true, refl, sym, subst}
 use Rattle.wasm_base.specs.Going.{FillsNothing}
 use Rattle.wasm_base.specs.Numbers.{wide}
-use Rattle.wasm_base.specs.Formats.{Format, name, just, fixed, tagged}
+use Rattle.wasm_base.specs.Formats.{Format, name, just, fixed, tagged, vec}
 use Rattle.wasm_base.specs.Reading.{UniqueReading, Reads, ReadsNothing}
 use Rattle.wasm_base.proofs.AfterLaws.{just_unique}
 use Rattle.wasm_base.proofs.BaseLaws.{name_unique}
-use Rattle.wasm_base.proofs.FormatLaws.{fixed_unique}
+use Rattle.wasm_base.proofs.FormatLaws.{fixed_unique, vec_unique}
 use Rattle.wasm_base.proofs.ReadingSteps.{reads_same}
 use Rattle.wasm_base.proofs.Tags.{fixed_reads}
 use Rattle.wasm_custom.specs.Customs.{named_payload}
-use Rattle.wasm_custom.specs.Entries.{listing, entries}
+use Rattle.wasm_custom.specs.Entries.{listing, entries, counted_payload}
+use Rattle.wasm_reader_base.proofs.ReadWhole.{whole_reads, whole_more, whole_nothing}
 
 -- ---- just this value
 
@@ -72,3 +73,22 @@ module _ {X : Type 0} (n : List ℕ) (counted : Bool) (F : Format X) (bytes : Li
   pub no_items : (rest : List ℕ) → Reads (just n name) wide bytes tt rest → FillsNothing (listing counted F) rest → FillsNothing (named_payload n (entries (fixed [] (tt {0})) counted F)) bytes
   no_items rest h none =
       named_nothing n (entries (fixed [] (tt {0})) counted F) bytes rest h (behind_nothing (fixed [] (tt {0})) (listing counted F) rest (fixed_unique [] (tt {0})) rest (fixed_reads rest (tt {0})) none)
+
+-- ---- counted items right behind a name, which the call was told
+
+module _ {X : Type 0} {n told : List ℕ} (called : told ≡ n) (F : Format X) (bytes : List ℕ) where
+  pub counted_none : ReadsNothing (just told name) wide bytes → FillsNothing (counted_payload n F) bytes
+  counted_none none = named_none n (entries (fixed [] (tt {0})) true F) bytes (subst (λ z. ReadsNothing (just z name) wide bytes) called none)
+
+  module _ {rest : List ℕ} (h : Reads (just told name) wide bytes tt rest) where
+    there : Reads (just n name) wide bytes tt rest
+    there = subst (λ z. Reads (just z name) wide bytes tt rest) called h
+
+    pub counted_reads : (left : List ℕ) (xs : List X) → Reads (vec F) wide rest xs left → length left ≡ 0 → counted_payload n F wide bytes xs
+    counted_reads left xs g e = items_fill n true F bytes rest xs there (whole_reads (vec F) rest left xs g e)
+
+    pub counted_nothing : ReadsNothing (vec F) wide rest → FillsNothing (counted_payload n F) bytes
+    counted_nothing none = no_items n true F bytes rest there (whole_nothing (vec F) rest none)
+
+    pub counted_more : UniqueReading F → (left : List ℕ) (xs : List X) → Reads (vec F) wide rest xs left → length left ≢ 0 → FillsNothing (counted_payload n F) bytes
+    counted_more alone left xs g more = no_items n true F bytes rest there (whole_more (vec F) rest left xs (vec_unique alone) g more)

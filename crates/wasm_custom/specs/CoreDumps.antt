@@ -1,14 +1,14 @@
 -- Core dumps: their texts, and what spells them.
-use Rattle.std.specs.Prelude.{◌≡◌, ℕ, ◌^◌, ◌<◌, List, [], ◌∷◌, ◌++◌, IsUtf8, codes, true}
+use Rattle.std.specs.Prelude.{◌≡◌, ℕ, ◌^◌, ◌<◌, List, [], ◌∷◌, ◌++◌, IsUtf8, codes}
 use Rattle.std.specs.declared.vec.Vec.{Vec}
 use Rattle.wasm_base.specs.Entries.{Kind, HoldsItems}
-use Rattle.wasm_base.specs.Formats.{Format, u32, name, mapped, pair, prefixed, vec, fixed}
+use Rattle.wasm_base.specs.Formats.{Format, u32, name, mapped, pair, prefixed, vec}
 use Rattle.wasm_base.specs.Laws.{FitsUnsigned, NameFits}
 use Rattle.wasm_base.specs.Numbers.{unsigned_text}
 use Rattle.wasm_base.specs.Texts.{frame_text, vec_text, VecFits}
 use Rattle.wasm_base.specs.Modules.{SectionReading}
 use Rattle.wasm_custom.specs.Customs.{named_section, named_payload, reading_as}
-use Rattle.wasm_custom.specs.Entries.{entries}
+use Rattle.wasm_custom.specs.Entries.{counted_payload}
 
 -- ---- names of processes, modules and threads
 
@@ -94,11 +94,11 @@ core_payload = named_payload core_name marked_name
 
 -- what follows the size of a core dump's section of modules: its name, and a vector of names, each behind the byte 00
 abbrev pub modules_payload : Format (List (List ℕ))
-modules_payload = named_payload modules_name (entries (fixed [] (tt {0})) true marked_name)
+modules_payload = counted_payload modules_name marked_name
 
 -- what follows the size of a core dump's section of instances: its name, and a vector of instances
 abbrev pub instances_payload : Format (List Instance)
-instances_payload = named_payload instances_name (entries (fixed [] (tt {0})) true instance)
+instances_payload = counted_payload instances_name instance
 
 -- a core dump's section of the process of this name, as a reader finds it
 abbrev pub core_reading : List ℕ → SectionReading

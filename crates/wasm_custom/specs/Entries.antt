@@ -1,9 +1,10 @@
 -- Entries of custom sections.
-use Rattle.std.specs.Prelude.{◌≡◌, ℕ, List, [], ◌++◌, length, Bool, false, cond, IsUtf8}
-use Rattle.wasm_base.specs.Formats.{Format, tagged, vec, members, when}
+use Rattle.std.specs.Prelude.{◌≡◌, ℕ, List, [], ◌++◌, length, Bool, true, false, cond, IsUtf8}
+use Rattle.wasm_base.specs.Formats.{Format, fixed, tagged, vec, members, when}
 use Rattle.wasm_base.specs.Numbers.{shortest, unsigned_text}
 use Rattle.wasm_base.specs.Pieces.{joined}
 use Rattle.wasm_base.specs.Reading.{UniqueReading, BeginsWith}
+use Rattle.wasm_custom.specs.Customs.{named_payload}
 
 -- the number, where it is written
 abbrev pub count_text : Bool → ℕ → List ℕ
@@ -20,6 +21,10 @@ listing counted F = when counted (vec F) (members F)
 -- the data of a section of items, behind a front that says nothing
 abbrev pub entries : {Item : Type 0} → Format (Unit {0}) → Bool → Format Item → Format (List Item)
 entries front counted F = tagged front (λ u. listing counted F)
+
+-- this name, and a vector of items
+abbrev pub counted_payload : {Item : Type 0} → List ℕ → Format Item → Format (List Item)
+counted_payload n F = named_payload n (entries (fixed [] (tt {0})) true F)
 
 -- What a kind of custom section owes beside the laws of its items: its name is UTF-8, what stands before the items is spelled, in a format that
 -- is read uniquely, and where the items are not counted, none of them is empty.

@@ -1,13 +1,13 @@
 -- Branch hints: their text, and what spells them.
-use Rattle.std.specs.Prelude.{ℕ, ◌^◌, ◌<◌, List, [], ◌∷◌, ◌++◌, codes, true}
+use Rattle.std.specs.Prelude.{ℕ, ◌^◌, ◌<◌, List, [], ◌∷◌, ◌++◌, codes}
 use Rattle.std.specs.declared.vec.Vec.{Vec}
 use Rattle.wasm_base.specs.Entries.{Kind, HoldsItems}
-use Rattle.wasm_base.specs.Formats.{Format, u32, byte, mapped, pair, prefixed, such, vec, fixed}
+use Rattle.wasm_base.specs.Formats.{Format, u32, byte, mapped, pair, prefixed, such, vec}
 use Rattle.wasm_base.specs.Numbers.{unsigned_text}
 use Rattle.wasm_base.specs.Texts.{vec_text, VecFits}
 use Rattle.wasm_base.specs.Modules.{SectionReading}
-use Rattle.wasm_custom.specs.Customs.{named_payload, reading_as}
-use Rattle.wasm_custom.specs.Entries.{entries}
+use Rattle.wasm_custom.specs.Customs.{reading_as}
+use Rattle.wasm_custom.specs.Entries.{counted_payload}
 use Rattle.wasm_custom.specs.declared.hints.BranchHint.{BranchHint}
 
 -- the text of a branch hint: the offset of the branch, the byte 01, and the value
@@ -59,7 +59,7 @@ HoldsHints = HoldsItems hint_items
 
 -- what follows the size of a section of branch hints: its name, and a vector of functions with their hints
 abbrev pub hints_payload : Format (List Hints)
-hints_payload = named_payload hints_name (entries (fixed [] (tt {0})) true hints)
+hints_payload = counted_payload hints_name hints
 
 -- the section of the branch hints of these functions, as a reader finds it
 abbrev pub hints_reading : List Hints → SectionReading

@@ -1,14 +1,14 @@
 -- Producers of a module: their texts, and what spells them.
-use Rattle.std.specs.Prelude.{ℕ, List, ◌++◌, codes, map, [], true}
+use Rattle.std.specs.Prelude.{ℕ, List, ◌++◌, codes, map}
 use Rattle.std.specs.Borrow.{Bor}
 use Rattle.std.specs.declared.vec.Vec.{Vec}
 use Rattle.wasm_base.specs.Entries.{Kind, HoldsItems}
-use Rattle.wasm_base.specs.Formats.{Format, name, pair, vec, fixed}
+use Rattle.wasm_base.specs.Formats.{Format, name, pair, vec}
 use Rattle.wasm_base.specs.Laws.{NameFits}
 use Rattle.wasm_base.specs.Texts.{frame_text, vec_text, VecFits}
 use Rattle.wasm_base.specs.Modules.{SectionReading}
-use Rattle.wasm_custom.specs.Customs.{named_payload, reading_as}
-use Rattle.wasm_custom.specs.Entries.{entries}
+use Rattle.wasm_custom.specs.Customs.{reading_as}
+use Rattle.wasm_custom.specs.Entries.{counted_payload}
 use Rattle.wasm_custom.specs.Lists.{IsListOf}
 
 -- versioned name: a name, and its version
@@ -63,7 +63,7 @@ HoldsFields = HoldsItems field_items
 
 -- what follows the size of a producers section: its name, and a vector of fields
 abbrev pub producers_payload : Format (List Field)
-producers_payload = named_payload producers_name (entries (fixed [] (tt {0})) true field)
+producers_payload = counted_payload producers_name field
 
 -- the producers section of these fields, as a reader finds it
 abbrev pub producers_reading : List Field → SectionReading

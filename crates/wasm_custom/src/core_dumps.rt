@@ -2,20 +2,21 @@
 ghost use Rattle.std.specs.Prelude.{◌≡◌, ◌≢◌, ℕ, List, [], ◌∷◌, ◌++◌, IfOk, true, ⊤, IfErr, OnOk, map};
 ghost use Rattle.wasm_base.specs.Calls.{Adds, ReadsBack};
 ghost use Rattle.wasm_base.specs.Cow.{items_of, text_of};
-ghost use Rattle.wasm_base.specs.Formats.{fixed, vec};
+ghost use Rattle.wasm_base.specs.Formats.{fixed};
 ghost use Rattle.wasm_base.specs.Going.{FillsNothing};
 ghost use Rattle.wasm_base.specs.Iterators.{HasKnownLength};
 ghost use Rattle.wasm_base.specs.Numbers.{unsigned_text, wide};
-ghost use Rattle.wasm_base.specs.Reading.{Reads, ReadsNothing};
+ghost use Rattle.wasm_base.specs.Reading.{UniqueReading};
 ghost use Rattle.wasm_base.specs.Texts.{FrameFits, vec_text};
 ghost use Rattle.wasm_base.specs.declared.refused.Refused.TheVariants.{TooLong};
 ghost use Rattle.wasm_custom.specs.Adding.{AddsTwoLists};
-ghost use Rattle.wasm_custom.specs.CoreDumps.{instance_items, module_items, marked_text, core_name, core_section, SaysProcess, IsModule, marked_name, modules_name, Instance, instance_text, IsInstance, instance, instances_name, instance_view, core_payload, modules_payload, instances_payload};
+ghost use Rattle.wasm_custom.specs.CoreDumps.{instance_items, module_items, marked_text, core_name, core_section, SaysProcess, marked_name, modules_name, Instance, instance, instances_name, instance_view, core_payload, modules_payload, instances_payload};
 ghost use Rattle.wasm_custom.specs.Customs.{named_text, NamedFits};
 ghost use Rattle.wasm_custom.specs.Entries.{entries_text};
 ghost use Rattle.wasm_reader_base.specs.Shortest.{AppendsShortest};
 ghost use Rattle.wasm_reader_base.specs.declared.fault.ReadFault.TheVariants.{Memory};
 
+use crate::counted::{ItemsAs, ReadsItems, append_counted, read_counted};
 use crate::custom_section::{CustomSection, begin_custom};
 use crate::entries::{CustomEntries, CustomKind};
 use crate::marked::{MarkedName, read_marked};
@@ -268,27 +269,31 @@ pub fn read_process<'a, A: Allocator + Copy>(
     Ok(name)
 }
 
-/// The names of modules behind their number, and the bytes after them. Memory is taken for names that stand there, and not by the number.
-#[tactic(auto, using(wasm_reader_base::proofs::ReadVectors::vec_steps))]
-fn read_module_names<'a, A: Allocator + Copy>(
-    bytes: &'a [u8],
-    alloc: A,
-) -> Result<(Vec<&'a str, A>, &'a [u8]), ReadFault>
-    ensures found { IfOk result (λ x. Reads (vec marked_name) wide bytes.now (map (λ name. name.now) x.0.items) x.1.now) }
-    ensures none { IfErr result (λ e. e ≢ Memory → ReadsNothing (vec marked_name) wide bytes.now) }
-{
-    let (count, mut rest) = <u32 as Readable<'a, A>>::read(bytes, alloc)?;
-    let mut names = Vec::new(alloc);
-    for _taken in 0..count {
-        let (MarkedName(name), after) = <MarkedName<'a> as Readable<'a, A>>::read(rest, alloc)?;
-        names.push(name)?;
-        rest = after;
+impl<'a> ItemsAs<&'a str> for ModuleItems {
+    ghost Said = { List ℕ };
+
+    ghost format = { marked_name };
+
+    ghost view = { λ name. name.now };
+
+    #[tactic(auto, using(crate::proofs::CoreDumpLaws::marked_unique))]
+    fn alone()
+        ensures { UniqueReading marked_name }
+    {}
+
+    fn append_item<B: Allocator>(item: &&'a str, out: &mut Vec<u8, B>) -> R<()> {
+        append_marked(item, out)
     }
-    Ok((names, rest))
+}
+
+impl<'a, A: Allocator + Copy> ReadsItems<'a, &'a str, A> for ModuleItems {
+    fn read_item(bytes: &'a [u8], alloc: A) -> Result<(&'a str, &'a [u8]), ReadFault> {
+        let (MarkedName(name), rest) = <MarkedName<'a> as Readable<'a, A>>::read(bytes, alloc)?;
+        Ok((name, rest))
+    }
 }
 
 /// The names of the modules.
-#[tactic(auto, using(crate::proofs::CoreDumpLaws::module_steps))]
 pub fn read_modules<'a, A: Allocator + Copy>(
     bytes: &'a [u8],
     alloc: A,
@@ -296,53 +301,48 @@ pub fn read_modules<'a, A: Allocator + Copy>(
     ensures found { IfOk result (λ x. modules_payload wide bytes.now (map (λ name. name.now) x.items)) }
     ensures none { IfErr result (λ e. e ≢ Memory → FillsNothing modules_payload bytes.now) }
 {
-    let rest = after_name("coremodules", bytes, alloc)?;
-    let (names, left) = read_module_names(rest, alloc)?;
-    if left.is_empty() {
-        Ok(names)
-    } else {
-        Err(ReadFault::SizeMismatch)
+    read_counted::<'a, ModuleItems, &'a str, A>(bytes, alloc)
+}
+
+impl<A: Allocator> ItemsAs<(u32, Vec<u32, A>, Vec<u32, A>)> for InstanceItems {
+    ghost Said = { Instance };
+
+    ghost format = { instance };
+
+    ghost view = { instance_view };
+
+    #[tactic(auto, using(crate::proofs::CoreDumpLaws::instance_unique))]
+    fn alone() {}
+
+    #[tactic(auto, using(crate::proofs::CoreDumpLaws::instance_appended))]
+    fn append_item<B: Allocator>(
+        item: &(u32, Vec<u32, A>, Vec<u32, A>),
+        out: &mut Vec<u8, B>,
+    ) -> R<()> {
+        let (index, memories, globals) = item;
+        0x00u8.encode(out)?;
+        index.append_shortest(out)?;
+        memories.append_shortest(out)?;
+        globals.append_shortest(out)
     }
 }
 
-/// An instance: the index of its module, its memories and its globals.
-#[tactic(auto, using(crate::proofs::CoreDumpLaws::instance_steps))]
-fn read_instance<'a, A: Allocator + Copy>(
-    bytes: &'a [u8],
-    alloc: A,
-) -> Result<((u32, Vec<u32, A>, Vec<u32, A>), &'a [u8]), ReadFault>
-    ensures found { IfOk result (λ x. Reads instance wide bytes.now (instance_view x.0) x.1.now) }
-    ensures none { IfErr result (λ e. e ≢ Memory → ReadsNothing instance wide bytes.now) }
-{
-    let ((module_index, (memories, globals)), rest) = read_marked::<
-        'a,
-        (u32, (Vec<u32, A>, Vec<u32, A>)),
-        A,
-    >(0x00, bytes, alloc)?;
-    Ok(((module_index, memories, globals), rest))
-}
-
-/// Instances behind their number, and the bytes after them. Memory is taken for instances that stand there, and not by the number.
-#[tactic(auto, using(wasm_reader_base::proofs::ReadVectors::vec_steps))]
-fn read_all_instances<'a, A: Allocator + Copy>(
-    bytes: &'a [u8],
-    alloc: A,
-) -> Result<(Vec<(u32, Vec<u32, A>, Vec<u32, A>), A>, &'a [u8]), ReadFault>
-    ensures found { IfOk result (λ x. Reads (vec instance) wide bytes.now (map instance_view x.0.items) x.1.now) }
-    ensures none { IfErr result (λ e. e ≢ Memory → ReadsNothing (vec instance) wide bytes.now) }
-{
-    let (count, mut rest) = <u32 as Readable<'a, A>>::read(bytes, alloc)?;
-    let mut items = Vec::new(alloc);
-    for _taken in 0..count {
-        let (item, after) = read_instance(rest, alloc)?;
-        items.push(item)?;
-        rest = after;
+impl<'a, A: Allocator + Copy> ReadsItems<'a, (u32, Vec<u32, A>, Vec<u32, A>), A> for InstanceItems {
+    #[tactic(auto, using(crate::proofs::CoreDumpLaws::instance_steps))]
+    fn read_item(
+        bytes: &'a [u8],
+        alloc: A,
+    ) -> Result<((u32, Vec<u32, A>, Vec<u32, A>), &'a [u8]), ReadFault> {
+        let ((module_index, (memories, globals)), rest) = read_marked::<
+            'a,
+            (u32, (Vec<u32, A>, Vec<u32, A>)),
+            A,
+        >(0x00, bytes, alloc)?;
+        Ok(((module_index, memories, globals), rest))
     }
-    Ok((items, rest))
 }
 
 /// The instances: the index of the module, the memories and the globals of each.
-#[tactic(auto, using(crate::proofs::CoreDumpLaws::instances_steps))]
 pub fn read_instances<'a, A: Allocator + Copy>(
     bytes: &'a [u8],
     alloc: A,
@@ -350,13 +350,7 @@ pub fn read_instances<'a, A: Allocator + Copy>(
     ensures found { IfOk result (λ x. instances_payload wide bytes.now (map instance_view x.items)) }
     ensures none { IfErr result (λ e. e ≢ Memory → FillsNothing instances_payload bytes.now) }
 {
-    let rest = after_name("coreinstances", bytes, alloc)?;
-    let (instances, left) = read_all_instances(rest, alloc)?;
-    if left.is_empty() {
-        Ok(instances)
-    } else {
-        Err(ReadFault::SizeMismatch)
-    }
+    read_counted::<'a, InstanceItems, (u32, Vec<u32, A>, Vec<u32, A>), A>(bytes, alloc)
 }
 
 /// Appends the byte 00 and a name.
@@ -378,67 +372,21 @@ pub fn append_process<B: Allocator>(name: &str, out: &mut Vec<u8, B>) -> R<()>
     append_marked(name, out)
 }
 
-/// Appends names, each behind the byte 00, behind their number.
-#[tactic(auto, using(wasm_reader_base::proofs::ShortTexts::members_start))]
-fn append_names<B: Allocator>(items: &[&str], out: &mut Vec<u8, B>) -> R<()>
-    ensures { OnOk result (AppendsShortest (vec marked_name) (map (λ n. n.now) items.now) out.old.items out.new.items) }
-{
-    items.len().encode(out)?;
-    for item in items {
-        append_marked(item, out)?;
-    }
-    Ok(())
-}
-
 /// Appends the shortest text of what a section of these modules holds, where some bytes are read as it. After a refusal a part of it may
 /// stand there.
-#[tactic(auto, using(crate::proofs::CoreDumpLaws::modules_appended))]
 pub fn append_modules<B: Allocator>(names: &[&str], out: &mut Vec<u8, B>) -> R<()>
     ensures { OnOk result (AppendsShortest modules_payload (map (λ n. n.now) names.now) out.old.items out.new.items) }
 {
-    "coremodules".encode(out)?;
-    append_names(names, out)
-}
-
-/// Appends an instance.
-#[tactic(auto, using(crate::proofs::CoreDumpLaws::instance_appended))]
-fn append_instance<A: Allocator, B: Allocator>(
-    given: &(u32, Vec<u32, A>, Vec<u32, A>),
-    out: &mut Vec<u8, B>,
-) -> R<()>
-    ensures { OnOk result (AppendsShortest instance (instance_view given.now) out.old.items out.new.items) }
-{
-    let (index, memories, globals) = given;
-    0x00u8.encode(out)?;
-    index.append_shortest(out)?;
-    memories.append_shortest(out)?;
-    globals.append_shortest(out)
-}
-
-/// Appends instances behind their number.
-#[tactic(auto, using(wasm_reader_base::proofs::ShortTexts::members_start))]
-fn append_all_instances<A: Allocator, B: Allocator>(
-    items: &[(u32, Vec<u32, A>, Vec<u32, A>)],
-    out: &mut Vec<u8, B>,
-) -> R<()>
-    ensures { OnOk result (AppendsShortest (vec instance) (map instance_view items.now) out.old.items out.new.items) }
-{
-    items.len().encode(out)?;
-    for item in items {
-        append_instance(item, out)?;
-    }
-    Ok(())
+    append_counted::<ModuleItems, &str, B>(names, out)
 }
 
 /// Appends the shortest text of what a section of these instances holds, where some bytes are read as it. After a refusal a part of it may
 /// stand there.
-#[tactic(auto, using(crate::proofs::CoreDumpLaws::instances_appended))]
 pub fn append_instances<A: Allocator, B: Allocator>(
     instances: &[(u32, Vec<u32, A>, Vec<u32, A>)],
     out: &mut Vec<u8, B>,
 ) -> R<()>
     ensures { OnOk result (AppendsShortest instances_payload (map instance_view instances.now) out.old.items out.new.items) }
 {
-    "coreinstances".encode(out)?;
-    append_all_instances(instances, out)
+    append_counted::<InstanceItems, (u32, Vec<u32, A>, Vec<u32, A>), B>(instances, out)
 }

@@ -1,5 +1,5 @@
 // Custom sections of entries: what they have in common.
-ghost use Rattle.std.specs.Prelude.{◌≡◌, ◌≢◌, ℕ, ◌+◌, ◌≤◌, List, [], ◌++◌, length, Bool, IfOk, IsTrue, ◌↔◌, ⊤};
+ghost use Rattle.std.specs.Prelude.{◌≡◌, ◌≢◌, ℕ, ◌+◌, ◌≤◌, List, [], length, Bool, IfOk, IsTrue, ◌↔◌, ⊤};
 ghost use Rattle.wasm_base.specs.Calls.{Adds, Appends, ReadsBackBoth};
 ghost use Rattle.wasm_base.specs.Cow.{items_of, text_of};
 ghost use Rattle.wasm_base.specs.Entries.{HoldsItems, HoldsWide};

@@ -1,22 +1,22 @@
 // Branch hints.
-ghost use Rattle.std.specs.Prelude.{◌≡◌, [], ◌++◌, true, ⊤, ◌≢◌, ◌<◌, ℕ, IfOk, IfErr, OnOk, map};
-ghost use Rattle.wasm_base.specs.Formats.{fixed, byte, such, vec};
+ghost use Rattle.std.specs.Prelude.{[], ◌++◌, true, ⊤, ◌≢◌, ◌<◌, ℕ, IfOk, IfErr, OnOk, map};
+ghost use Rattle.wasm_base.specs.Formats.{fixed, byte, such};
 ghost use Rattle.wasm_base.specs.Going.{FillsNothing};
 ghost use Rattle.wasm_base.specs.Iterators.{HasKnownLength};
 ghost use Rattle.wasm_base.specs.Numbers.{unsigned_text, wide};
 ghost use Rattle.wasm_base.specs.Texts.{vec_text};
 ghost use Rattle.wasm_custom.specs.Adding.{AddsList};
-ghost use Rattle.wasm_custom.specs.Hints.{hint_items, hint_text, Hints, hints_text, AreHints, hints, hints_name, hint, hints_view, hints_payload};
+ghost use Rattle.wasm_custom.specs.Hints.{hint_items, hint_text, Hints, hints, hints_name, hint, hints_view, hints_payload};
 ghost use Rattle.wasm_custom.specs.declared.hints.BranchHint.{BranchHint as HintModel};
 ghost use Rattle.wasm_reader_base.specs.Shortest.{AppendsShortest};
 ghost use Rattle.wasm_reader_base.specs.declared.fault.ReadFault.TheVariants.{Memory};
 
+use crate::counted::{ItemsAs, ReadsItems, append_counted, read_counted};
 use crate::entries::{CustomEntries, CustomKind};
 use crate::marked::read_marked;
-use crate::named::after_name;
 use std::alloc::{Allocator, Global};
 use wasm_base::{Encode, Kind, R, vec_of};
-use wasm_reader_base::{ReadFault, Readable, Shorten, Spelled, read_whole};
+use wasm_reader_base::{ReadFault, Readable, Shorten, Spelled};
 
 /// Which branches are likely to be taken: a list of hints for each function. It stands before the code section.
 ///
@@ -157,8 +157,34 @@ impl<'a, A: Allocator + Copy> Readable<'a, A> for BranchHint {
     }
 }
 
+impl<A: Allocator> ItemsAs<(u32, Vec<BranchHint, A>)> for HintItems {
+    ghost Said = { Hints };
+
+    ghost format = { hints };
+
+    ghost view = { hints_view };
+
+    #[tactic(auto, using(crate::proofs::HintLaws::hints_unique))]
+    fn alone() {}
+
+    #[tactic(auto, using(crate::proofs::HintLaws::function_appended))]
+    fn append_item<B: Allocator>(item: &(u32, Vec<BranchHint, A>), out: &mut Vec<u8, B>) -> R<()> {
+        let (func, of_branches) = item;
+        func.append_shortest(out)?;
+        of_branches.as_slice().encode(out)
+    }
+}
+
+impl<'a, A: Allocator + Copy> ReadsItems<'a, (u32, Vec<BranchHint, A>), A> for HintItems {
+    fn read_item(
+        bytes: &'a [u8],
+        alloc: A,
+    ) -> Result<((u32, Vec<BranchHint, A>), &'a [u8]), ReadFault> {
+        <(u32, Vec<BranchHint, A>) as Readable<'a, A>>::read(bytes, alloc)
+    }
+}
+
 /// The hints of each function: its index, and the hints of its branches.
-#[tactic(auto, using(crate::proofs::HintLaws::section_steps))]
 pub fn read_hints<'a, A: Allocator + Copy>(
     bytes: &'a [u8],
     alloc: A,
@@ -166,48 +192,16 @@ pub fn read_hints<'a, A: Allocator + Copy>(
     ensures found { IfOk result (λ x. hints_payload wide bytes.now (map hints_view x.items)) }
     ensures none { IfErr result (λ e. e ≢ Memory → FillsNothing hints_payload bytes.now) }
 {
-    let rest = after_name("metadata.code.branch_hint", bytes, alloc)?;
-    let hints = read_whole::<'a, Vec<(u32, Vec<BranchHint, A>), A>, A>(rest, alloc)?;
-    Ok(hints)
-}
-
-/// Appends the hints of a function.
-#[tactic(auto, using(crate::proofs::HintLaws::function_appended))]
-fn append_function<A: Allocator, B: Allocator>(
-    given: &(u32, Vec<BranchHint, A>),
-    out: &mut Vec<u8, B>,
-) -> R<()>
-    ensures { OnOk result (AppendsShortest hints (hints_view given.now) out.old.items out.new.items) }
-{
-    let (func, of_branches) = given;
-    func.append_shortest(out)?;
-    of_branches.as_slice().encode(out)
-}
-
-/// Appends the hints of functions behind their number.
-#[tactic(auto, using(wasm_reader_base::proofs::ShortTexts::members_start))]
-fn append_functions<A: Allocator, B: Allocator>(
-    items: &[(u32, Vec<BranchHint, A>)],
-    out: &mut Vec<u8, B>,
-) -> R<()>
-    ensures { OnOk result (AppendsShortest (vec hints) (map hints_view items.now) out.old.items out.new.items) }
-{
-    items.len().encode(out)?;
-    for item in items {
-        append_function(item, out)?;
-    }
-    Ok(())
+    read_counted::<'a, HintItems, (u32, Vec<BranchHint, A>), A>(bytes, alloc)
 }
 
 /// Appends the shortest text of what a section of these hints holds, where some bytes are read as it. After a refusal a part of it may
 /// stand there.
-#[tactic(auto, using(crate::proofs::HintLaws::hints_appended))]
 pub fn append_hints<A: Allocator, B: Allocator>(
     functions: &[(u32, Vec<BranchHint, A>)],
     out: &mut Vec<u8, B>,
 ) -> R<()>
     ensures { OnOk result (AppendsShortest hints_payload (map hints_view functions.now) out.old.items out.new.items) }
 {
-    "metadata.code.branch_hint".encode(out)?;
-    append_functions(functions, out)
+    append_counted::<HintItems, (u32, Vec<BranchHint, A>), B>(functions, out)
 }

@@ -1,5 +1,5 @@
 // The linking section.
-ghost use Rattle.std.specs.Prelude.{◌≡◌, [], ◌∷◌, false, ⊤, ◌≢◌, IfOk, IfErr, OnOk, map};
+ghost use Rattle.std.specs.Prelude.{[], ◌∷◌, false, ⊤, ◌≢◌, IfOk, IfErr, OnOk, map};
 ghost use Rattle.wasm_base.specs.Calls.{Adds};
 ghost use Rattle.wasm_base.specs.Formats.{u32 as u32_format, just};
 ghost use Rattle.wasm_base.specs.Going.{FillsNothing};
@@ -7,7 +7,7 @@ ghost use Rattle.wasm_base.specs.Numbers.{wide};
 ghost use Rattle.wasm_base.specs.Reading.{UniqueReading, Reads, ReadsNothing};
 ghost use Rattle.wasm_base.specs.Texts.{frame_text, FrameFits};
 ghost use Rattle.wasm_custom.specs.Customs.{subsection_text};
-ghost use Rattle.wasm_custom.specs.Linking.{link_items, LinkItem as LinkModel, link_text, IsLink, link, linking_name, version, link_view, linking_payload};
+ghost use Rattle.wasm_custom.specs.Linking.{link_items, LinkItem as LinkModel, link, linking_name, version, link_view, linking_payload};
 ghost use Rattle.wasm_custom.specs.Lists.{list_text};
 ghost use Rattle.wasm_reader_base.specs.Shortest.{AppendsShortest};
 ghost use Rattle.wasm_reader_base.specs.declared.fault.ReadFault.TheVariants.{Memory};

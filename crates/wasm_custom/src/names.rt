@@ -10,7 +10,7 @@ ghost use Rattle.wasm_base.specs.Reading.{UniqueReading};
 ghost use Rattle.wasm_base.specs.Texts.{frame_text, FrameFits};
 ghost use Rattle.wasm_custom.specs.Customs.{subsection_text};
 ghost use Rattle.wasm_custom.specs.Lists.{list_text};
-ghost use Rattle.wasm_custom.specs.Names.{name_items, Naming, naming_text, IsNaming, Inside, inside_text, IsInside, NameItem as NameModel, name_text, IsName, subsection, name_name, name_kind_of as kind_of_id, kind_as, inside, held_by, id_of, name_item_view, name_payload};
+ghost use Rattle.wasm_custom.specs.Names.{name_items, Naming, naming_text, IsNaming, Inside, inside_text, IsInside, NameItem as NameModel, subsection, name_name, name_kind_of as kind_of_id, kind_as, inside, held_by, id_of, name_item_view, name_payload};
 ghost use Rattle.wasm_reader_base.specs.Shortest.{AppendsShortest};
 ghost use Rattle.wasm_reader_base.specs.declared.fault.ReadFault.TheVariants.{Memory};
 

@@ -1,21 +1,22 @@
 // The producers section.
-ghost use Rattle.std.specs.Prelude.{◌≡◌, ◌++◌, [], true, ⊤, ◌≢◌, IfOk, IfErr, OnOk, map};
+ghost use Rattle.std.specs.Prelude.{◌++◌, [], true, ⊤, ◌≢◌, IfOk, IfErr, OnOk, map};
 ghost use Rattle.wasm_base.specs.Calls.{Adds};
-ghost use Rattle.wasm_base.specs.Formats.{fixed, vec};
+ghost use Rattle.wasm_base.specs.Formats.{fixed};
 ghost use Rattle.wasm_base.specs.Going.{FillsNothing};
 ghost use Rattle.wasm_base.specs.Numbers.{wide};
+ghost use Rattle.wasm_base.specs.Reading.{UniqueReading};
 ghost use Rattle.wasm_base.specs.Texts.{frame_text, FrameFits};
 ghost use Rattle.wasm_custom.specs.Lists.{list_text};
-ghost use Rattle.wasm_custom.specs.Producers.{field_items, Producer, producer_text, IsProducer, Field, field_text, IsField, field, producers_name, field_view, producers_payload};
+ghost use Rattle.wasm_custom.specs.Producers.{field_items, Producer, producer_text, IsProducer, Field, field, producers_name, field_view, producers_payload};
 ghost use Rattle.wasm_reader_base.specs.Shortest.{AppendsShortest};
 ghost use Rattle.wasm_reader_base.specs.declared.fault.ReadFault.TheVariants.{Memory};
 
+use crate::counted::{ItemsAs, ReadsItems, append_counted, read_counted};
 use crate::entries::{CustomEntries, CustomKind};
 use crate::lists::{CountedList, ListKind};
-use crate::named::after_name;
 use std::alloc::{Allocator, Global};
-use wasm_base::{Encode, Kind, Lent, R};
-use wasm_reader_base::{ReadFault, Shorten, read_whole};
+use wasm_base::{Kind, Lent, R};
+use wasm_reader_base::{ReadFault, Readable, Shorten};
 
 /// The values of a field: what has produced the module, and in which version.
 pub type ProducersField<A = Global> = CountedList<ValueMembers, A>;
@@ -101,8 +102,37 @@ impl<A: Allocator> ProducersSection<A> {
     }
 }
 
+impl<'a, A: Allocator> ItemsAs<(&'a str, Vec<(&'a str, &'a str), A>)> for ProducerItems {
+    ghost Said = { Field };
+
+    ghost format = { field };
+
+    ghost view = { field_view };
+
+    #[tactic(auto, using(crate::proofs::ProducerLaws::field_unique))]
+    fn alone()
+        ensures { UniqueReading field }
+    {}
+
+    fn append_item<B: Allocator>(
+        item: &(&'a str, Vec<(&'a str, &'a str), A>),
+        out: &mut Vec<u8, B>,
+    ) -> R<()> {
+        item.append_shortest(out)
+    }
+}
+
+impl<'a, A: Allocator + Copy + 'a> ReadsItems<'a, (&'a str, Vec<(&'a str, &'a str), A>), A>
+    for ProducerItems {
+    fn read_item(
+        bytes: &'a [u8],
+        alloc: A,
+    ) -> Result<((&'a str, Vec<(&'a str, &'a str), A>), &'a [u8]), ReadFault> {
+        <(&'a str, Vec<(&'a str, &'a str), A>) as Readable<'a, A>>::read(bytes, alloc)
+    }
+}
+
 /// The fields of a producers section: their names, and their values, each a name and a version.
-#[tactic(auto, using(crate::proofs::ProducerLaws::producer_steps))]
 pub fn read_producers<'a, A: Allocator + Copy + 'a>(
     bytes: &'a [u8],
     alloc: A,
@@ -110,20 +140,16 @@ pub fn read_producers<'a, A: Allocator + Copy + 'a>(
     ensures found { IfOk result (λ x. producers_payload wide bytes.now (map field_view x.items)) }
     ensures none { IfErr result (λ e. e ≢ Memory → FillsNothing producers_payload bytes.now) }
 {
-    let rest = after_name("producers", bytes, alloc)?;
-    let fields = read_whole::<'a, Vec<(&'a str, Vec<(&'a str, &'a str), A>), A>, A>(rest, alloc)?;
-    Ok(fields)
+    read_counted::<'a, ProducerItems, (&'a str, Vec<(&'a str, &'a str), A>), A>(bytes, alloc)
 }
 
 /// Appends the shortest text of what a producers section of these fields holds, where some bytes are read as it. After a refusal a part of it may
 /// stand there.
-#[tactic(auto, using(crate::proofs::ProducerLaws::producers_appended))]
 pub fn append_producers<'a, A: Allocator, B: Allocator>(
     fields: &Vec<(&'a str, Vec<(&'a str, &'a str), A>), A>,
     out: &mut Vec<u8, B>,
 ) -> R<()>
     ensures { OnOk result (AppendsShortest producers_payload (map field_view fields.now.items) out.old.items out.new.items) }
 {
-    "producers".encode(out)?;
-    fields.append_shortest(out)
+    append_counted::<ProducerItems, (&'a str, Vec<(&'a str, &'a str), A>), B>(fields, out)
 }

@@ -2,6 +2,7 @@
 // Core dumps: the process, its modules and its instances.
 
 use crate::vec::{Sink, Vec};
+use crate::custom::counted::{ItemsAs, ReadsItems, append_counted, read_counted};
 use crate::custom::custom_section::{CustomSection, begin_custom};
 use crate::custom::entries::{CustomEntries, CustomKind};
 use crate::custom::marked::{MarkedName, read_marked};
@@ -293,26 +294,31 @@ pub fn read_process<'a, A: Allocator + Copy>(
     Ok(name)
 }
 
-/// The names of modules behind their number, and the bytes after them. Memory is taken for names that stand there, and not by the number.
-///
-/// # Proved
+/// # Defined
 ///
 /// ```text
-/// ensures found { IfOk result (λ x. Reads (vec marked_name) wide bytes.now (map (λ name. name.now) x.0.items) x.1.now) }
-/// ensures none { IfErr result (λ e. e ≢ Memory → ReadsNothing (vec marked_name) wide bytes.now) }
+/// Said = { List ℕ }
+/// format = { marked_name }
+/// view = { λ name. name.now }
 /// ```
-fn read_module_names<'a, A: Allocator + Copy>(
-    bytes: &'a [u8],
-    alloc: A,
-) -> Result<(Vec<&'a str, A>, &'a [u8]), ReadFault> {
-    let (count, mut rest) = <u32 as Readable<'a, A>>::read(bytes, alloc)?;
-    let mut names = Vec::new(alloc);
-    for _taken in 0..count {
-        let (MarkedName(name), after) = <MarkedName<'a> as Readable<'a, A>>::read(rest, alloc)?;
-        names.push(name)?;
-        rest = after;
+impl<'a> ItemsAs<&'a str> for ModuleItems {
+    /// # Proved
+    ///
+    /// ```text
+    /// ensures { UniqueReading marked_name }
+    /// ```
+    fn alone() {}
+
+    fn append_item<B: Sink>(item: &&'a str, out: &mut B) -> R<()> {
+        append_marked(item, out)
     }
-    Ok((names, rest))
+}
+
+impl<'a, A: Allocator + Copy> ReadsItems<'a, &'a str, A> for ModuleItems {
+    fn read_item(bytes: &'a [u8], alloc: A) -> Result<(&'a str, &'a [u8]), ReadFault> {
+        let (MarkedName(name), rest) = <MarkedName<'a> as Readable<'a, A>>::read(bytes, alloc)?;
+        Ok((name, rest))
+    }
 }
 
 /// The names of the modules.
@@ -327,55 +333,43 @@ pub fn read_modules<'a, A: Allocator + Copy>(
     bytes: &'a [u8],
     alloc: A,
 ) -> Result<Vec<&'a str, A>, ReadFault> {
-    let rest = after_name("coremodules", bytes, alloc)?;
-    let (names, left) = read_module_names(rest, alloc)?;
-    if left.is_empty() {
-        Ok(names)
-    } else {
-        Err(ReadFault::SizeMismatch)
+    read_counted::<'a, ModuleItems, &'a str, A>(bytes, alloc)
+}
+
+/// # Defined
+///
+/// ```text
+/// Said = { Instance }
+/// format = { instance }
+/// view = { instance_view }
+/// ```
+impl<A: Allocator> ItemsAs<(u32, Vec<u32, A>, Vec<u32, A>)> for InstanceItems {
+    fn alone() {}
+
+    fn append_item<B: Sink>(
+        item: &(u32, Vec<u32, A>, Vec<u32, A>),
+        out: &mut B,
+    ) -> R<()> {
+        let (index, memories, globals) = item;
+        0x00u8.encode(out)?;
+        index.append_shortest(out)?;
+        memories.append_shortest(out)?;
+        globals.append_shortest(out)
     }
 }
 
-/// An instance: the index of its module, its memories and its globals.
-///
-/// # Proved
-///
-/// ```text
-/// ensures found { IfOk result (λ x. Reads instance wide bytes.now (instance_view x.0) x.1.now) }
-/// ensures none { IfErr result (λ e. e ≢ Memory → ReadsNothing instance wide bytes.now) }
-/// ```
-fn read_instance<'a, A: Allocator + Copy>(
-    bytes: &'a [u8],
-    alloc: A,
-) -> Result<((u32, Vec<u32, A>, Vec<u32, A>), &'a [u8]), ReadFault> {
-    let ((module_index, (memories, globals)), rest) = read_marked::<
-        'a,
-        (u32, (Vec<u32, A>, Vec<u32, A>)),
-        A,
-    >(0x00, bytes, alloc)?;
-    Ok(((module_index, memories, globals), rest))
-}
-
-/// Instances behind their number, and the bytes after them. Memory is taken for instances that stand there, and not by the number.
-///
-/// # Proved
-///
-/// ```text
-/// ensures found { IfOk result (λ x. Reads (vec instance) wide bytes.now (map instance_view x.0.items) x.1.now) }
-/// ensures none { IfErr result (λ e. e ≢ Memory → ReadsNothing (vec instance) wide bytes.now) }
-/// ```
-fn read_all_instances<'a, A: Allocator + Copy>(
-    bytes: &'a [u8],
-    alloc: A,
-) -> Result<(Vec<(u32, Vec<u32, A>, Vec<u32, A>), A>, &'a [u8]), ReadFault> {
-    let (count, mut rest) = <u32 as Readable<'a, A>>::read(bytes, alloc)?;
-    let mut items = Vec::new(alloc);
-    for _taken in 0..count {
-        let (item, after) = read_instance(rest, alloc)?;
-        items.push(item)?;
-        rest = after;
+impl<'a, A: Allocator + Copy> ReadsItems<'a, (u32, Vec<u32, A>, Vec<u32, A>), A> for InstanceItems {
+    fn read_item(
+        bytes: &'a [u8],
+        alloc: A,
+    ) -> Result<((u32, Vec<u32, A>, Vec<u32, A>), &'a [u8]), ReadFault> {
+        let ((module_index, (memories, globals)), rest) = read_marked::<
+            'a,
+            (u32, (Vec<u32, A>, Vec<u32, A>)),
+            A,
+        >(0x00, bytes, alloc)?;
+        Ok(((module_index, memories, globals), rest))
     }
-    Ok((items, rest))
 }
 
 /// The instances: the index of the module, the memories and the globals of each.
@@ -390,13 +384,7 @@ pub fn read_instances<'a, A: Allocator + Copy>(
     bytes: &'a [u8],
     alloc: A,
 ) -> Result<Vec<(u32, Vec<u32, A>, Vec<u32, A>), A>, ReadFault> {
-    let rest = after_name("coreinstances", bytes, alloc)?;
-    let (instances, left) = read_all_instances(rest, alloc)?;
-    if left.is_empty() {
-        Ok(instances)
-    } else {
-        Err(ReadFault::SizeMismatch)
-    }
+    read_counted::<'a, InstanceItems, (u32, Vec<u32, A>, Vec<u32, A>), A>(bytes, alloc)
 }
 
 /// Appends the byte 00 and a name.
@@ -424,21 +412,6 @@ pub fn append_process<B: Sink>(name: &str, out: &mut B) -> R<()> {
     append_marked(name, out)
 }
 
-/// Appends names, each behind the byte 00, behind their number.
-///
-/// # Proved
-///
-/// ```text
-/// ensures { OnOk result (AppendsShortest (vec marked_name) (map (λ n. n.now) items.now) out.old.items out.new.items) }
-/// ```
-fn append_names<B: Sink>(items: &[&str], out: &mut B) -> R<()> {
-    items.len().encode(out)?;
-    for item in items {
-        append_marked(item, out)?;
-    }
-    Ok(())
-}
-
 /// Appends the shortest text of what a section of these modules holds, where some bytes are read as it. After a refusal a part of it may
 /// stand there.
 ///
@@ -447,45 +420,8 @@ fn append_names<B: Sink>(items: &[&str], out: &mut B) -> R<()> {
 /// ```text
 /// ensures { OnOk result (AppendsShortest modules_payload (map (λ n. n.now) names.now) out.old.items out.new.items) }
 /// ```
-pub fn append_modules<B: Sink>(names: &[&str], out: &mut B) -> R<()> {
-    "coremodules".encode(out)?;
-    append_names(names, out)
-}
-
-/// Appends an instance.
-///
-/// # Proved
-///
-/// ```text
-/// ensures { OnOk result (AppendsShortest instance (instance_view given.now) out.old.items out.new.items) }
-/// ```
-fn append_instance<A: Allocator, B: Sink>(
-    given: &(u32, Vec<u32, A>, Vec<u32, A>),
-    out: &mut B,
-) -> R<()> {
-    let (index, memories, globals) = given;
-    0x00u8.encode(out)?;
-    index.append_shortest(out)?;
-    memories.append_shortest(out)?;
-    globals.append_shortest(out)
-}
-
-/// Appends instances behind their number.
-///
-/// # Proved
-///
-/// ```text
-/// ensures { OnOk result (AppendsShortest (vec instance) (map instance_view items.now) out.old.items out.new.items) }
-/// ```
-fn append_all_instances<A: Allocator, B: Sink>(
-    items: &[(u32, Vec<u32, A>, Vec<u32, A>)],
-    out: &mut B,
-) -> R<()> {
-    items.len().encode(out)?;
-    for item in items {
-        append_instance(item, out)?;
-    }
-    Ok(())
+pub fn append_modules<B: Allocator>(names: &[&str], out: &mut Vec<u8, B>) -> R<()> {
+    append_counted::<ModuleItems, &str, B>(names, out)
 }
 
 /// Appends the shortest text of what a section of these instances holds, where some bytes are read as it. After a refusal a part of it may
@@ -496,10 +432,9 @@ fn append_all_instances<A: Allocator, B: Sink>(
 /// ```text
 /// ensures { OnOk result (AppendsShortest instances_payload (map instance_view instances.now) out.old.items out.new.items) }
 /// ```
-pub fn append_instances<A: Allocator, B: Sink>(
+pub fn append_instances<A: Allocator, B: Allocator>(
     instances: &[(u32, Vec<u32, A>, Vec<u32, A>)],
-    out: &mut B,
+    out: &mut Vec<u8, B>,
 ) -> R<()> {
-    "coreinstances".encode(out)?;
-    append_all_instances(instances, out)
+    append_counted::<InstanceItems, (u32, Vec<u32, A>, Vec<u32, A>), B>(instances, out)
 }

@@ -2,12 +2,12 @@
 // Branch hints.
 
 use crate::vec::{Sink, Vec};
+use crate::custom::counted::{ItemsAs, ReadsItems, append_counted, read_counted};
 use crate::custom::entries::{CustomEntries, CustomKind};
 use crate::custom::marked::read_marked;
-use crate::custom::named::after_name;
 use crate::alloc::{Allocator, Global};
 use crate::base::{Encode, Kind, R, vec_of};
-use crate::reader::base::{ReadFault, Readable, Shorten, Spelled, read_whole};
+use crate::reader::base::{ReadFault, Readable, Shorten, Spelled};
 
 /// Which branches are likely to be taken: a list of hints for each function. It stands before the code section.
 ///
@@ -165,6 +165,32 @@ impl<'a, A: Allocator + Copy> Readable<'a, A> for BranchHint {
     }
 }
 
+/// # Defined
+///
+/// ```text
+/// Said = { Hints }
+/// format = { hints }
+/// view = { hints_view }
+/// ```
+impl<A: Allocator> ItemsAs<(u32, Vec<BranchHint, A>)> for HintItems {
+    fn alone() {}
+
+    fn append_item<B: Sink>(item: &(u32, Vec<BranchHint, A>), out: &mut B) -> R<()> {
+        let (func, of_branches) = item;
+        func.append_shortest(out)?;
+        of_branches.as_slice().encode(out)
+    }
+}
+
+impl<'a, A: Allocator + Copy> ReadsItems<'a, (u32, Vec<BranchHint, A>), A> for HintItems {
+    fn read_item(
+        bytes: &'a [u8],
+        alloc: A,
+    ) -> Result<((u32, Vec<BranchHint, A>), &'a [u8]), ReadFault> {
+        <(u32, Vec<BranchHint, A>) as Readable<'a, A>>::read(bytes, alloc)
+    }
+}
+
 /// The hints of each function: its index, and the hints of its branches.
 ///
 /// # Proved
@@ -177,43 +203,7 @@ pub fn read_hints<'a, A: Allocator + Copy>(
     bytes: &'a [u8],
     alloc: A,
 ) -> Result<Vec<(u32, Vec<BranchHint, A>), A>, ReadFault> {
-    let rest = after_name("metadata.code.branch_hint", bytes, alloc)?;
-    let hints = read_whole::<'a, Vec<(u32, Vec<BranchHint, A>), A>, A>(rest, alloc)?;
-    Ok(hints)
-}
-
-/// Appends the hints of a function.
-///
-/// # Proved
-///
-/// ```text
-/// ensures { OnOk result (AppendsShortest hints (hints_view given.now) out.old.items out.new.items) }
-/// ```
-fn append_function<A: Allocator, B: Sink>(
-    given: &(u32, Vec<BranchHint, A>),
-    out: &mut B,
-) -> R<()> {
-    let (func, of_branches) = given;
-    func.append_shortest(out)?;
-    of_branches.as_slice().encode(out)
-}
-
-/// Appends the hints of functions behind their number.
-///
-/// # Proved
-///
-/// ```text
-/// ensures { OnOk result (AppendsShortest (vec hints) (map hints_view items.now) out.old.items out.new.items) }
-/// ```
-fn append_functions<A: Allocator, B: Sink>(
-    items: &[(u32, Vec<BranchHint, A>)],
-    out: &mut B,
-) -> R<()> {
-    items.len().encode(out)?;
-    for item in items {
-        append_function(item, out)?;
-    }
-    Ok(())
+    read_counted::<'a, HintItems, (u32, Vec<BranchHint, A>), A>(bytes, alloc)
 }
 
 /// Appends the shortest text of what a section of these hints holds, where some bytes are read as it. After a refusal a part of it may
@@ -224,10 +214,9 @@ fn append_functions<A: Allocator, B: Sink>(
 /// ```text
 /// ensures { OnOk result (AppendsShortest hints_payload (map hints_view functions.now) out.old.items out.new.items) }
 /// ```
-pub fn append_hints<A: Allocator, B: Sink>(
+pub fn append_hints<A: Allocator, B: Allocator>(
     functions: &[(u32, Vec<BranchHint, A>)],
-    out: &mut B,
+    out: &mut Vec<u8, B>,
 ) -> R<()> {
-    "metadata.code.branch_hint".encode(out)?;
-    append_functions(functions, out)
+    append_counted::<HintItems, (u32, Vec<BranchHint, A>), B>(functions, out)
 }

@@ -13,6 +13,7 @@
 mod core_dumps;
 mod core_stack;
 mod core_values;
+mod counted;
 mod custom_section;
 mod entries;
 mod hints;

@@ -2,12 +2,12 @@
 // The producers section.
 
 use crate::vec::{Sink, Vec};
+use crate::custom::counted::{ItemsAs, ReadsItems, append_counted, read_counted};
 use crate::custom::entries::{CustomEntries, CustomKind};
 use crate::custom::lists::{CountedList, ListKind};
-use crate::custom::named::after_name;
 use crate::alloc::{Allocator, Global};
-use crate::base::{Encode, Kind, Lent, R};
-use crate::reader::base::{ReadFault, Shorten, read_whole};
+use crate::base::{Kind, Lent, R};
+use crate::reader::base::{ReadFault, Readable, Shorten};
 
 /// The values of a field: what has produced the module, and in which version.
 pub type ProducersField<A = Global> = CountedList<ValueMembers, A>;
@@ -108,6 +108,39 @@ impl<A: Allocator> ProducersSection<A> {
     }
 }
 
+/// # Defined
+///
+/// ```text
+/// Said = { Field }
+/// format = { field }
+/// view = { field_view }
+/// ```
+impl<'a, A: Allocator> ItemsAs<(&'a str, Vec<(&'a str, &'a str), A>)> for ProducerItems {
+    /// # Proved
+    ///
+    /// ```text
+    /// ensures { UniqueReading field }
+    /// ```
+    fn alone() {}
+
+    fn append_item<B: Sink>(
+        item: &(&'a str, Vec<(&'a str, &'a str), A>),
+        out: &mut B,
+    ) -> R<()> {
+        item.append_shortest(out)
+    }
+}
+
+impl<'a, A: Allocator + Copy + 'a> ReadsItems<'a, (&'a str, Vec<(&'a str, &'a str), A>), A>
+    for ProducerItems {
+    fn read_item(
+        bytes: &'a [u8],
+        alloc: A,
+    ) -> Result<((&'a str, Vec<(&'a str, &'a str), A>), &'a [u8]), ReadFault> {
+        <(&'a str, Vec<(&'a str, &'a str), A>) as Readable<'a, A>>::read(bytes, alloc)
+    }
+}
+
 /// The fields of a producers section: their names, and their values, each a name and a version.
 ///
 /// # Proved
@@ -120,9 +153,7 @@ pub fn read_producers<'a, A: Allocator + Copy + 'a>(
     bytes: &'a [u8],
     alloc: A,
 ) -> Result<Vec<(&'a str, Vec<(&'a str, &'a str), A>), A>, ReadFault> {
-    let rest = after_name("producers", bytes, alloc)?;
-    let fields = read_whole::<'a, Vec<(&'a str, Vec<(&'a str, &'a str), A>), A>, A>(rest, alloc)?;
-    Ok(fields)
+    read_counted::<'a, ProducerItems, (&'a str, Vec<(&'a str, &'a str), A>), A>(bytes, alloc)
 }
 
 /// Appends the shortest text of what a producers section of these fields holds, where some bytes are read as it. After a refusal a part of it may
@@ -133,10 +164,9 @@ pub fn read_producers<'a, A: Allocator + Copy + 'a>(
 /// ```text
 /// ensures { OnOk result (AppendsShortest producers_payload (map field_view fields.now.items) out.old.items out.new.items) }
 /// ```
-pub fn append_producers<'a, A: Allocator, B: Sink>(
+pub fn append_producers<'a, A: Allocator, B: Allocator>(
     fields: &Vec<(&'a str, Vec<(&'a str, &'a str), A>), A>,
-    out: &mut B,
+    out: &mut Vec<u8, B>,
 ) -> R<()> {
-    "producers".encode(out)?;
-    fields.append_shortest(out)
+    append_counted::<ProducerItems, (&'a str, Vec<(&'a str, &'a str), A>), B>(fields, out)
 }

@@ -1,0 +1,6 @@
+use Rattle.std.proofs.Common.{◌≡◌, length}
+use Rattle.wasm_reader_base.proofs.ReadVectors.{HasRead}
+use Rattle.wasm_custom.proofs.counted.read_items.Given as goal
+
+abbrev pub invariant-loop-taken : goal.invariant-loop-taken
+invariant-loop-taken g l = HasRead g.K.ItemsAs.format g.K.ItemsAs.view l.initial.rest l.items.items l.rest × (length l.items.items ≡ l._taken)

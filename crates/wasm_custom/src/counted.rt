@@ -1,0 +1,104 @@
+// Custom sections of counted items: how they are read, and written in fewest bytes.
+ghost use Rattle.std.specs.Prelude.{◌≢◌, ℕ, List, IfOk, IfErr, OnOk, map};
+ghost use Rattle.wasm_base.specs.Formats.{vec};
+ghost use Rattle.wasm_base.specs.Going.{FillsNothing};
+ghost use Rattle.wasm_base.specs.Numbers.{Mode, wide};
+ghost use Rattle.wasm_base.specs.Reading.{UniqueReading, Reads, ReadsNothing};
+ghost use Rattle.wasm_custom.specs.Entries.{counted_payload};
+ghost use Rattle.wasm_reader_base.specs.Shortest.{AppendsShortest};
+ghost use Rattle.wasm_reader_base.specs.declared.fault.ReadFault.TheVariants.{Memory};
+
+use crate::entries::CustomKind;
+use crate::named::after_name;
+use std::alloc::Allocator;
+use wasm_base::{Encode, R};
+use wasm_reader_base::{ReadFault, Readable};
+
+/// A kind whose items are written from a `T` that was read.
+pub(crate) trait ItemsAs<T>: CustomKind {
+    // The item without where it lies in memory.
+    ghost Said: { Type 0 };
+
+    // What bytes spell.
+    ghost format: { Mode → List ℕ → Said → Type 0 };
+
+    ghost view: { T → Said };
+
+    /// One item stands at the front of bytes, whatever follows. The function does nothing.
+    fn alone()
+        ensures { UniqueReading format };
+
+    /// Appends the one shortest text of the item, where some bytes are read as it. After a refusal a part of it may stand there.
+    fn append_item<B: Allocator>(item: &T, out: &mut Vec<u8, B>) -> R<()>
+        ensures { OnOk result (AppendsShortest format (view item.now) out.old.items out.new.items) };
+}
+
+/// A kind whose items are read as a `T`.
+pub(crate) trait ReadsItems<'a, T: Drop, A: Allocator + Copy>: ItemsAs<T> {
+    /// The item at the front, its numbers padded or not, and the bytes after it.
+    fn read_item(bytes: &'a [u8], alloc: A) -> Result<(T, &'a [u8]), ReadFault>
+        ensures found { IfOk result (λ x. Reads Self.format wide bytes.now (Self.view x.0) x.1.now) }
+        ensures none { IfErr result (λ e. e ≢ Memory → ReadsNothing Self.format wide bytes.now) };
+}
+
+/// Items behind their number, and the bytes after them. Memory is taken for items that stand there, and not by the number.
+#[tactic(auto, using(wasm_reader_base::proofs::ReadVectors::vec_steps))]
+fn read_items<'a, K: ReadsItems<'a, T, A>, T: Drop, A: Allocator + Copy>(
+    bytes: &'a [u8],
+    alloc: A,
+) -> Result<(Vec<T, A>, &'a [u8]), ReadFault>
+    ensures found { IfOk result (λ x. Reads (vec K.format) wide bytes.now (map K.view x.0.items) x.1.now) }
+    ensures none { IfErr result (λ e. e ≢ Memory → ReadsNothing (vec K.format) wide bytes.now) }
+{
+    let (count, mut rest) = <u32 as Readable<'a, A>>::read(bytes, alloc)?;
+    let mut items = Vec::new(alloc);
+    K::alone();
+    for _taken in 0..count {
+        let (item, after) = K::read_item(rest, alloc)?;
+        items.push(item)?;
+        rest = after;
+    }
+    Ok((items, rest))
+}
+
+/// The items of a section of the kind, where its name stands there.
+pub(crate) fn read_counted<'a, K: ReadsItems<'a, T, A>, T: Drop, A: Allocator + Copy>(
+    bytes: &'a [u8],
+    alloc: A,
+) -> Result<Vec<T, A>, ReadFault>
+    ensures found { IfOk result (λ x. counted_payload K.name K.format wide bytes.now (map K.view x.items)) }
+    ensures none { IfErr result (λ e. e ≢ Memory → FillsNothing (counted_payload K.name K.format) bytes.now) }
+{
+    K::alone();
+    let rest = after_name(K::name(), bytes, alloc)?;
+    let (items, left) = read_items::<'a, K, T, A>(rest, alloc)?;
+    if left.is_empty() {
+        Ok(items)
+    } else {
+        Err(ReadFault::SizeMismatch)
+    }
+}
+
+/// Appends items behind their number.
+#[tactic(auto, using(wasm_reader_base::proofs::ShortTexts::members_start))]
+fn append_items<K: ItemsAs<T>, T, B: Allocator>(items: &[T], out: &mut Vec<u8, B>) -> R<()>
+    ensures { OnOk result (AppendsShortest (vec K.format) (map K.view items.now) out.old.items out.new.items) }
+{
+    items.len().encode(out)?;
+    for item in items {
+        K::append_item(item, out)?;
+    }
+    Ok(())
+}
+
+/// Appends the shortest text of what a section of the kind holds of these items, where some bytes are read as it. After a refusal a part of
+/// it may stand there.
+pub(crate) fn append_counted<K: ItemsAs<T>, T, B: Allocator>(
+    items: &[T],
+    out: &mut Vec<u8, B>,
+) -> R<()>
+    ensures { OnOk result (AppendsShortest (counted_payload K.name K.format) (map K.view items.now) out.old.items out.new.items) }
+{
+    K::name().encode(out)?;
+    append_items::<K, T, B>(items, out)
+}

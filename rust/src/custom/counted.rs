@@ -1,0 +1,131 @@
+// Written by tools/to-rust from crates/wasm_custom/src/counted.rt: change that.
+// Custom sections of counted items: how they are read, and written in fewest bytes.
+
+use crate::vec::{Sink, Vec};
+use crate::custom::entries::CustomKind;
+use crate::custom::named::after_name;
+use crate::alloc::Allocator;
+use crate::base::{Encode, R};
+use crate::reader::base::{ReadFault, Readable};
+
+/// A kind whose items are written from a `T` that was read.
+///
+/// # Defined
+///
+/// ```text
+/// Said: { Type 0 }
+/// format: { Mode → List ℕ → Said → Type 0 }
+/// view: { T → Said }
+/// ```
+pub(in crate::custom) trait ItemsAs<T>: CustomKind {
+    // The item without where it lies in memory.
+
+    // What bytes spell.
+
+    /// One item stands at the front of bytes, whatever follows. The function does nothing.
+    ///
+    /// # Proved
+    ///
+    /// ```text
+    /// ensures { UniqueReading format }
+    /// ```
+    fn alone();
+
+    /// Appends the one shortest text of the item, where some bytes are read as it. After a refusal a part of it may stand there.
+    ///
+    /// # Proved
+    ///
+    /// ```text
+    /// ensures { OnOk result (AppendsShortest format (view item.now) out.old.items out.new.items) }
+    /// ```
+    fn append_item<B: Sink>(item: &T, out: &mut B) -> R<()>;
+}
+
+/// A kind whose items are read as a `T`.
+pub(in crate::custom) trait ReadsItems<'a, T, A: Allocator + Copy>: ItemsAs<T> {
+    /// The item at the front, its numbers padded or not, and the bytes after it.
+    ///
+    /// # Proved
+    ///
+    /// ```text
+    /// ensures found { IfOk result (λ x. Reads Self.format wide bytes.now (Self.view x.0) x.1.now) }
+    /// ensures none { IfErr result (λ e. e ≢ Memory → ReadsNothing Self.format wide bytes.now) }
+    /// ```
+    fn read_item(bytes: &'a [u8], alloc: A) -> Result<(T, &'a [u8]), ReadFault>;
+}
+
+/// Items behind their number, and the bytes after them. Memory is taken for items that stand there, and not by the number.
+///
+/// # Proved
+///
+/// ```text
+/// ensures found { IfOk result (λ x. Reads (vec K.format) wide bytes.now (map K.view x.0.items) x.1.now) }
+/// ensures none { IfErr result (λ e. e ≢ Memory → ReadsNothing (vec K.format) wide bytes.now) }
+/// ```
+fn read_items<'a, K: ReadsItems<'a, T, A>, T, A: Allocator + Copy>(
+    bytes: &'a [u8],
+    alloc: A,
+) -> Result<(Vec<T, A>, &'a [u8]), ReadFault> {
+    let (count, mut rest) = <u32 as Readable<'a, A>>::read(bytes, alloc)?;
+    let mut items = Vec::new(alloc);
+    K::alone();
+    for _taken in 0..count {
+        let (item, after) = K::read_item(rest, alloc)?;
+        items.push(item)?;
+        rest = after;
+    }
+    Ok((items, rest))
+}
+
+/// The items of a section of the kind, where its name stands there.
+///
+/// # Proved
+///
+/// ```text
+/// ensures found { IfOk result (λ x. counted_payload K.name K.format wide bytes.now (map K.view x.items)) }
+/// ensures none { IfErr result (λ e. e ≢ Memory → FillsNothing (counted_payload K.name K.format) bytes.now) }
+/// ```
+pub(in crate::custom) fn read_counted<'a, K: ReadsItems<'a, T, A>, T, A: Allocator + Copy>(
+    bytes: &'a [u8],
+    alloc: A,
+) -> Result<Vec<T, A>, ReadFault> {
+    K::alone();
+    let rest = after_name(K::name(), bytes, alloc)?;
+    let (items, left) = read_items::<'a, K, T, A>(rest, alloc)?;
+    if left.is_empty() {
+        Ok(items)
+    } else {
+        Err(ReadFault::SizeMismatch)
+    }
+}
+
+/// Appends items behind their number.
+///
+/// # Proved
+///
+/// ```text
+/// ensures { OnOk result (AppendsShortest (vec K.format) (map K.view items.now) out.old.items out.new.items) }
+/// ```
+fn append_items<K: ItemsAs<T>, T, B: Sink>(items: &[T], out: &mut B) -> R<()> {
+    items.len().encode(out)?;
+    for item in items {
+        K::append_item(item, out)?;
+    }
+    Ok(())
+}
+
+/// Appends the shortest text of what a section of the kind holds of these items, where some bytes are read as it. After a refusal a part of
+/// it may stand there.
+///
+/// # Proved
+///
+/// ```text
+/// ensures { OnOk result (AppendsShortest (counted_payload K.name K.format) (map K.view items.now) out.old.items out.new.items) }
+/// ```
+pub(in crate::custom) fn append_counted<K: ItemsAs<T>, T, B: Allocator>(
+    items: &[T],
+    out: &mut Vec<u8, B>,
+) -> R<()> {
+    K::name().encode(out)?;
+    append_items::<K, T, B>(items, out)
+}
