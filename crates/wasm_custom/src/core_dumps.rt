@@ -377,7 +377,7 @@ pub fn append_process<B: Allocator>(name: &str, out: &mut Vec<u8, B>) -> R<()>
 pub fn append_modules<B: Allocator>(names: &[&str], out: &mut Vec<u8, B>) -> R<()>
     ensures { OnOk result (AppendsShortest modules_payload (map (λ n. n.now) names.now) out.old.items out.new.items) }
 {
-    append_counted::<ModuleItems, &str, B>(names, out)
+    append_counted::<ModuleItems, &str, _>(names, out)
 }
 
 /// Appends the shortest text of what a section of these instances holds, where some bytes are read as it. After a refusal a part of it may
@@ -388,5 +388,5 @@ pub fn append_instances<A: Allocator, B: Allocator>(
 ) -> R<()>
     ensures { OnOk result (AppendsShortest instances_payload (map instance_view instances.now) out.old.items out.new.items) }
 {
-    append_counted::<InstanceItems, (u32, Vec<u32, A>, Vec<u32, A>), B>(instances, out)
+    append_counted::<InstanceItems, (u32, Vec<u32, A>, Vec<u32, A>), _>(instances, out)
 }

@@ -100,5 +100,5 @@ pub(crate) fn append_counted<K: ItemsAs<T>, T, B: Allocator>(
     ensures { OnOk result (AppendsShortest (counted_payload K.name K.format) (map K.view items.now) out.old.items out.new.items) }
 {
     K::name().encode(out)?;
-    append_items::<K, T, B>(items, out)
+    append_items::<K, T, _>(items, out)
 }

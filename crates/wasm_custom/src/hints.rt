@@ -203,5 +203,5 @@ pub fn append_hints<A: Allocator, B: Allocator>(
 ) -> R<()>
     ensures { OnOk result (AppendsShortest hints_payload (map hints_view functions.now) out.old.items out.new.items) }
 {
-    append_counted::<HintItems, (u32, Vec<BranchHint, A>), B>(functions, out)
+    append_counted::<HintItems, (u32, Vec<BranchHint, A>), _>(functions, out)
 }

@@ -151,5 +151,5 @@ pub fn append_producers<'a, A: Allocator, B: Allocator>(
 ) -> R<()>
     ensures { OnOk result (AppendsShortest producers_payload (map field_view fields.now.items) out.old.items out.new.items) }
 {
-    append_counted::<ProducerItems, (&'a str, Vec<(&'a str, &'a str), A>), B>(fields, out)
+    append_counted::<ProducerItems, (&'a str, Vec<(&'a str, &'a str), A>), _>(fields, out)
 }

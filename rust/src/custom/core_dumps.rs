@@ -420,8 +420,8 @@ pub fn append_process<B: Sink>(name: &str, out: &mut B) -> R<()> {
 /// ```text
 /// ensures { OnOk result (AppendsShortest modules_payload (map (λ n. n.now) names.now) out.old.items out.new.items) }
 /// ```
-pub fn append_modules<B: Allocator>(names: &[&str], out: &mut Vec<u8, B>) -> R<()> {
-    append_counted::<ModuleItems, &str, B>(names, out)
+pub fn append_modules<B: Sink>(names: &[&str], out: &mut B) -> R<()> {
+    append_counted::<ModuleItems, &str, _>(names, out)
 }
 
 /// Appends the shortest text of what a section of these instances holds, where some bytes are read as it. After a refusal a part of it may
@@ -432,9 +432,9 @@ pub fn append_modules<B: Allocator>(names: &[&str], out: &mut Vec<u8, B>) -> R<(
 /// ```text
 /// ensures { OnOk result (AppendsShortest instances_payload (map instance_view instances.now) out.old.items out.new.items) }
 /// ```
-pub fn append_instances<A: Allocator, B: Allocator>(
+pub fn append_instances<A: Allocator, B: Sink>(
     instances: &[(u32, Vec<u32, A>, Vec<u32, A>)],
-    out: &mut Vec<u8, B>,
+    out: &mut B,
 ) -> R<()> {
-    append_counted::<InstanceItems, (u32, Vec<u32, A>, Vec<u32, A>), B>(instances, out)
+    append_counted::<InstanceItems, (u32, Vec<u32, A>, Vec<u32, A>), _>(instances, out)
 }

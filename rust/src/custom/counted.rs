@@ -122,10 +122,10 @@ fn append_items<K: ItemsAs<T>, T, B: Sink>(items: &[T], out: &mut B) -> R<()> {
 /// ```text
 /// ensures { OnOk result (AppendsShortest (counted_payload K.name K.format) (map K.view items.now) out.old.items out.new.items) }
 /// ```
-pub(in crate::custom) fn append_counted<K: ItemsAs<T>, T, B: Allocator>(
+pub(in crate::custom) fn append_counted<K: ItemsAs<T>, T, B: Sink>(
     items: &[T],
-    out: &mut Vec<u8, B>,
+    out: &mut B,
 ) -> R<()> {
     K::name().encode(out)?;
-    append_items::<K, T, B>(items, out)
+    append_items::<K, T, _>(items, out)
 }

@@ -214,9 +214,9 @@ pub fn read_hints<'a, A: Allocator + Copy>(
 /// ```text
 /// ensures { OnOk result (AppendsShortest hints_payload (map hints_view functions.now) out.old.items out.new.items) }
 /// ```
-pub fn append_hints<A: Allocator, B: Allocator>(
+pub fn append_hints<A: Allocator, B: Sink>(
     functions: &[(u32, Vec<BranchHint, A>)],
-    out: &mut Vec<u8, B>,
+    out: &mut B,
 ) -> R<()> {
-    append_counted::<HintItems, (u32, Vec<BranchHint, A>), B>(functions, out)
+    append_counted::<HintItems, (u32, Vec<BranchHint, A>), _>(functions, out)
 }

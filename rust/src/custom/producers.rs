@@ -164,9 +164,9 @@ pub fn read_producers<'a, A: Allocator + Copy + 'a>(
 /// ```text
 /// ensures { OnOk result (AppendsShortest producers_payload (map field_view fields.now.items) out.old.items out.new.items) }
 /// ```
-pub fn append_producers<'a, A: Allocator, B: Allocator>(
+pub fn append_producers<'a, A: Allocator, B: Sink>(
     fields: &Vec<(&'a str, Vec<(&'a str, &'a str), A>), A>,
-    out: &mut Vec<u8, B>,
+    out: &mut B,
 ) -> R<()> {
-    append_counted::<ProducerItems, (&'a str, Vec<(&'a str, &'a str), A>), B>(fields, out)
+    append_counted::<ProducerItems, (&'a str, Vec<(&'a str, &'a str), A>), _>(fields, out)
 }
