@@ -53,11 +53,10 @@ content_fits id content fits = omega (arith, fits, length-append (unsigned_text 
 
 -- ---- the one shortest text of custom sections that were read
 
+-- just a value, by the value
 pub just_appended : {X : Type 0} (F : Format X) (x : X) (old new : List ℕ) → AppendsShortest F x old new → AppendsShortest (just x F) tt old new
 just_appended F x old new a = record { text = a.text; appended = a.appended; spelled = λ s h. a.spelled s h }
 
-pub name_written : (n old new : List ℕ) → FrameFits n → new ≡ old ++ frame_text n → AppendsShortest (just n name) tt old new
-name_written n old new fits e = just_appended name n old new (name_appended n old new fits e)
-
+-- what stands behind a name, by that itself
 pub named_appended : {X : Type 0} (n : List ℕ) {old middle new : List ℕ} (G : Format X) (x : X) → FrameFits n → middle ≡ old ++ frame_text n → AppendsShortest G x middle new → AppendsShortest (named_payload n G) x old new
-named_appended n {old = old} {middle = middle} G x fits e a = tagged_appended (just n name) (λ u. G) (λ s z h. refl) (name_written n old middle fits e) a
+named_appended n {old = old} {middle = middle} G x fits e a = tagged_appended (just n name) (λ u. G) (λ s z h. refl) (just_appended name n old middle (name_appended n old middle fits e)) a
