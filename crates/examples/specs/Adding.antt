@@ -8,11 +8,10 @@ use Rattle.wasm_code.specs.Code.{code_reading}
 use Rattle.wasm_code.specs.Expressions.{normal_row}
 use Rattle.wasm_insn.specs.declared.instruction.Instruction.TheVariants.{LocalGet, Numeric, End}
 use Rattle.wasm_insn.specs.declared.numeric.Numeric.TheVariants.{I32Add}
-use Rattle.wasm_sections.specs.Exports.{ExportItem}
-use Rattle.wasm_sections.specs.Readings.{function_reading, export_reading}
+use Rattle.wasm_sections.specs.Exports.{ExportItem, export_reading}
+use Rattle.wasm_sections.specs.Functions.{function_reading}
 use Rattle.wasm_sections.specs.declared.export.ExportKind.TheVariants.{Func}
-use Rattle.wasm_types.specs.Readings.{type_reading, plain_type}
-use Rattle.wasm_types.specs.RecTypes.{TypeItem, func}
+use Rattle.wasm_types.specs.RecTypes.{TypeItem, func, type_reading, plain_type}
 
 -- a function of two numbers that gives one
 abbrev pub adding_type : TypeItem

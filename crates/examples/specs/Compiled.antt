@@ -4,11 +4,10 @@ use Rattle.wasm_base.specs.Modules.{SectionReading}
 use Rattle.wasm_base.specs.declared.types.ValType.TheVariants.{I32}
 use Rattle.wasm_code.specs.Bodies.{Body}
 use Rattle.wasm_code.specs.Code.{code_reading}
-use Rattle.wasm_sections.specs.Exports.{ExportItem}
-use Rattle.wasm_sections.specs.Readings.{function_reading, export_reading}
+use Rattle.wasm_sections.specs.Exports.{ExportItem, export_reading}
+use Rattle.wasm_sections.specs.Functions.{function_reading}
 use Rattle.wasm_sections.specs.declared.export.ExportKind.TheVariants.{Func}
-use Rattle.wasm_types.specs.Readings.{type_reading, plain_type}
-use Rattle.wasm_types.specs.RecTypes.{TypeItem, func}
+use Rattle.wasm_types.specs.RecTypes.{TypeItem, func, type_reading, plain_type}
 use Rattle.examples.specs.Adding.{adding_type}
 use Rattle.examples.specs.Lowering.{body_of}
 use Rattle.examples.specs.declared.lowering.Operator.TheVariants.{Add, Subtract, Multiply}

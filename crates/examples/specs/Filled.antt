@@ -6,8 +6,11 @@ use Rattle.wasm_insn.specs.Plain.{Plain}
 use Rattle.wasm_insn.specs.declared.instruction.Instruction.TheVariants.{I32Const, RefFunc}
 use Rattle.wasm_sections.specs.DataSegments as segments
 use Rattle.wasm_sections.specs.Elements as elements
-use Rattle.wasm_sections.specs.Readings.{import_reading, table_reading, memory_reading, element_reading, data_count_reading, data_reading}
-use Rattle.wasm_sections.specs.Tables.{TableItem}
+use Rattle.wasm_sections.specs.DataSegments.{data_count_reading, data_reading}
+use Rattle.wasm_sections.specs.Elements.{element_reading}
+use Rattle.wasm_sections.specs.Imports.{import_reading}
+use Rattle.wasm_sections.specs.Memories.{memory_reading}
+use Rattle.wasm_sections.specs.Tables.{TableItem, table_reading}
 use Rattle.examples.specs.Bodies.{row}
 use Rattle.examples.specs.Whole.{ready, one_page}
 

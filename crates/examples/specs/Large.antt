@@ -3,8 +3,8 @@ use Rattle.std.specs.Prelude.{List, [], ◌∷◌, true, false, Some, None, pos,
 use Rattle.wasm_base.specs.Modules.{SectionReading}
 use Rattle.wasm_base.specs.declared.types.ValType.TheVariants.{I64}
 use Rattle.wasm_insn.specs.declared.instruction.Instruction.TheVariants.{I64Const}
-use Rattle.wasm_sections.specs.Globals.{GlobalItem}
-use Rattle.wasm_sections.specs.Readings.{memory_reading, global_reading}
+use Rattle.wasm_sections.specs.Globals.{GlobalItem, global_reading}
+use Rattle.wasm_sections.specs.Memories.{memory_reading}
 use Rattle.wasm_sections.specs.declared.memory.MemoryType.{MemoryType}
 use Rattle.examples.specs.Bodies.{row}
 

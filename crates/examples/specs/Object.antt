@@ -14,9 +14,9 @@ use Rattle.wasm_immediates.specs.declared.memory.MemArg.{MemArg}
 use Rattle.wasm_immediates.specs.declared.memory.MemArgTarget.TheVariants.{Memory}
 use Rattle.wasm_insn.specs.declared.instruction.Instruction.TheVariants.{Block, LocalGet, I32Load, I32Store, Numeric, BrIf, I32Const, End}
 use Rattle.wasm_insn.specs.declared.numeric.Numeric.TheVariants.{I32Eqz, I32Sub}
-use Rattle.wasm_sections.specs.Readings.{function_reading, memory_reading}
-use Rattle.wasm_types.specs.Readings.{type_reading, plain_type}
-use Rattle.wasm_types.specs.RecTypes.{TypeItem, func}
+use Rattle.wasm_sections.specs.Functions.{function_reading}
+use Rattle.wasm_sections.specs.Memories.{memory_reading}
+use Rattle.wasm_types.specs.RecTypes.{TypeItem, func, type_reading, plain_type}
 use Rattle.examples.specs.Bodies.{row}
 use Rattle.examples.specs.Whole.{one_page}
 

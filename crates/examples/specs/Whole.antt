@@ -5,10 +5,11 @@ use Rattle.wasm_base.specs.declared.types.ValType.TheVariants.{I32}
 use Rattle.wasm_code.specs.Bodies.{Body}
 use Rattle.wasm_code.specs.Code.{code_reading}
 use Rattle.wasm_insn.specs.declared.instruction.Instruction.TheVariants.{GlobalGet, GlobalSet, I32Const, Call, End}
-use Rattle.wasm_sections.specs.Exports.{ExportItem}
-use Rattle.wasm_sections.specs.Globals.{GlobalItem}
-use Rattle.wasm_sections.specs.Imports.{ImportItem, single, alike}
-use Rattle.wasm_sections.specs.Readings.{import_reading, function_reading, memory_reading, global_reading, export_reading, start_reading}
+use Rattle.wasm_sections.specs.Exports.{ExportItem, export_reading}
+use Rattle.wasm_sections.specs.Globals.{GlobalItem, global_reading}
+use Rattle.wasm_sections.specs.Imports.{ImportItem, single, alike, import_reading}
+use Rattle.wasm_sections.specs.Functions.{function_reading, start_reading}
+use Rattle.wasm_sections.specs.Memories.{memory_reading}
 use Rattle.wasm_sections.specs.declared.export.ExportKind.TheVariants.{Func, Memory}
 use Rattle.wasm_sections.specs.declared.import.EntityType.TheVariants.{Function}
 use Rattle.wasm_sections.specs.declared.memory.MemoryType.{MemoryType}

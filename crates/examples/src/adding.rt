@@ -3,8 +3,9 @@ ghost use Rattle.std.specs.Prelude.{IfOk, [], ◌∷◌};
 ghost use Rattle.wasm_base.specs.Modules.{ReadsSections};
 ghost use Rattle.wasm_code.specs.Bodies.{IsPlainBody};
 ghost use Rattle.wasm_code.specs.Code.{SpellsBodies};
-ghost use Rattle.wasm_sections.specs.Readings.{HoldsFunctions, HoldsExports};
-ghost use Rattle.wasm_types.specs.Readings.{HoldsTypes};
+ghost use Rattle.wasm_sections.specs.Exports.{HoldsExports};
+ghost use Rattle.wasm_sections.specs.Functions.{HoldsFunctions};
+ghost use Rattle.wasm_types.specs.RecTypes.{HoldsTypes};
 ghost use Rattle.examples.specs.Adding.{adding_sections, adding_type, add_export, adding_body};
 
 use std::alloc::Allocator;

@@ -1,7 +1,9 @@
 // A module whose table and memory are filled.
 ghost use Rattle.std.specs.Prelude.{IfOk, OnOk, [], ◌∷◌};
 ghost use Rattle.wasm_base.specs.Modules.{ReadsSections};
-ghost use Rattle.wasm_sections.specs.Readings.{HoldsTables, HoldsElements, HoldsSegments};
+ghost use Rattle.wasm_sections.specs.DataSegments.{HoldsSegments};
+ghost use Rattle.wasm_sections.specs.Elements.{HoldsElements};
+ghost use Rattle.wasm_sections.specs.Tables.{HoldsTables};
 ghost use Rattle.examples.specs.Filled.{three_places, ready_at_0, bytes_at_8, bytes_later, empty_sections, filled_sections};
 
 use crate::whole::{imports, memories};

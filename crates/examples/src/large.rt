@@ -1,7 +1,8 @@
 // Numbers of 64 bits.
 ghost use Rattle.std.specs.Prelude.{[], ◌∷◌, IfOk};
 ghost use Rattle.wasm_base.specs.Modules.{ReadsSections};
-ghost use Rattle.wasm_sections.specs.Readings.{HoldsMemories, HoldsGlobals};
+ghost use Rattle.wasm_sections.specs.Globals.{HoldsGlobals};
+ghost use Rattle.wasm_sections.specs.Memories.{HoldsMemories};
 ghost use Rattle.examples.specs.Large.{large_memory, large_constant, large_sections};
 
 use std::alloc::Allocator;

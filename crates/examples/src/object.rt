@@ -7,8 +7,8 @@ ghost use Rattle.wasm_custom.specs.Symbols.{AreSymbols};
 ghost use Rattle.wasm_custom.specs.Linking.{HoldsLinks};
 ghost use Rattle.wasm_custom.specs.Producers.{HoldsFields};
 ghost use Rattle.wasm_custom.specs.Hints.{HoldsHints};
-ghost use Rattle.wasm_sections.specs.Readings.{HoldsFunctions};
-ghost use Rattle.wasm_types.specs.Readings.{HoldsTypes};
+ghost use Rattle.wasm_sections.specs.Functions.{HoldsFunctions};
+ghost use Rattle.wasm_types.specs.RecTypes.{HoldsTypes};
 ghost use Rattle.examples.specs.Object.{address_type, count_down_body, unlikely_hints, count_down_symbol, links, producers_fields, object_types, object_sections};
 
 use crate::whole::memories;

@@ -3,7 +3,11 @@ ghost use Rattle.std.specs.Prelude.{IfOk, OnOk, [], ◌∷◌};
 ghost use Rattle.wasm_base.specs.Modules.{ReadsSections};
 ghost use Rattle.wasm_code.specs.Bodies.{IsPlainBody};
 ghost use Rattle.wasm_code.specs.Code.{SpellsBodies};
-ghost use Rattle.wasm_sections.specs.Readings.{HoldsImports, HoldsFunctions, HoldsMemories, HoldsGlobals, HoldsExports};
+ghost use Rattle.wasm_sections.specs.Exports.{HoldsExports};
+ghost use Rattle.wasm_sections.specs.Functions.{HoldsFunctions};
+ghost use Rattle.wasm_sections.specs.Globals.{HoldsGlobals};
+ghost use Rattle.wasm_sections.specs.Imports.{HoldsImports};
+ghost use Rattle.wasm_sections.specs.Memories.{HoldsMemories};
 ghost use Rattle.examples.specs.Bodies.{factorial_body};
 ghost use Rattle.examples.specs.Whole.{ready, one_page, five, factorial_export, memory_export, start_body, declared_sections, stored_sections, whole_sections};
 

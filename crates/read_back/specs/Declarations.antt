@@ -7,8 +7,7 @@ use Rattle.wasm_sections.specs.declared.import.EntityType.TheVariants.{Function}
 use Rattle.wasm_sections.specs.declared.memory.MemoryType.{MemoryType}
 use Rattle.wasm_sections.specs.declared.tag.TagKind.TheVariants.{Exception}
 use Rattle.wasm_sections.specs.declared.tag.TagType.{TagType}
-use Rattle.wasm_types.specs.Readings.{plain_type}
-use Rattle.wasm_types.specs.RecTypes.{Sub, TypeItem, single as alone, array, structure}
+use Rattle.wasm_types.specs.RecTypes.{Sub, TypeItem, single as alone, array, structure, plain_type}
 use Rattle.wasm_types.specs.declared.types.FieldType.{FieldType}
 use Rattle.wasm_types.specs.declared.types.StorageType.TheVariants.{I8}
 

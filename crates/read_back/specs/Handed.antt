@@ -3,7 +3,7 @@ use Rattle.std.specs.Prelude.{ℕ, List, [], ◌∷◌}
 use Rattle.wasm_base.specs.Modules.{SectionReading}
 use Rattle.wasm_code.specs.Code.{raw_code_reading}
 use Rattle.wasm_custom.specs.Customs.{custom_reading}
-use Rattle.wasm_sections.specs.Readings.{tag_reading}
+use Rattle.wasm_sections.specs.Tags.{tag_reading}
 use Rattle.read_back.specs.Declarations.{thrown}
 
 -- the sections in order: tags, a raw body, and twice a custom section of this name and these bytes

@@ -6,9 +6,8 @@ ghost use Rattle.wasm_reader_base.specs.declared.fault.ReadFault.TheVariants.{Me
 ghost use Rattle.wasm_sections.specs.Exports.{export};
 ghost use Rattle.wasm_sections.specs.Imports.{import_format};
 ghost use Rattle.wasm_sections.specs.Memories.{memory_type};
-ghost use Rattle.wasm_sections.specs.Readings.{HoldsTags};
 ghost use Rattle.wasm_sections.specs.Tables.{table_item};
-ghost use Rattle.wasm_sections.specs.Tags.{tag_type};
+ghost use Rattle.wasm_sections.specs.Tags.{tag_type, HoldsTags};
 ghost use Rattle.wasm_types.specs.RecTypes.{type_item};
 ghost use Rattle.read_back.specs.Declarations.{byte_types, imported_function, pages, two_pages, thrown, exported};
 ghost use Rattle.callers.specs.FirstValues.{null_table, nulled_table};

@@ -28,23 +28,31 @@ use Rattle.wasm_base.proofs.TextLaws.{u32_spelled, name_spelled}
 use Rattle.wasm_code.proofs.Calls.{all_of}
 use Rattle.wasm_code.specs.Expressions.{expression_text, StoresInstructions, StoresWide}
 use Rattle.wasm_sections.specs.Constants.{Stored, IsStored}
-use Rattle.wasm_sections.specs.DataSegments.{AddsBytes, active_text, passive_text, DataItem, active, passive, given_active, given_passive, data_item}
-use Rattle.wasm_sections.specs.Elements.{ElementItem, Place, functions, expressions, ElementsFit, IsPlace, settled, settled_text, elements_by, stored_by, IsSegment, IsSegmentWide, element_of, element}
-use Rattle.wasm_sections.specs.Exports.{kind_code, ExportItem, export}
-use Rattle.wasm_sections.specs.Globals.{global_text, IsGlobal, GlobalItem, global_item}
-use Rattle.wasm_sections.specs.Imports.{ImportItem, alike, import_text, ImportFits, IsEntity, import_format}
+use Rattle.wasm_sections.specs.DataSegments.{AddsBytes, active_text, passive_text, DataItem, active, passive, given_active, given_passive, data_item, HoldsSegments}
+use Rattle.wasm_sections.specs.Elements.{ElementItem, Place, functions, expressions, ElementsFit, IsPlace, settled, settled_text, elements_by, stored_by, IsSegment, IsSegmentWide, element_of, element, HoldsElements}
+use Rattle.wasm_sections.specs.Exports.{kind_code, ExportItem, export, HoldsExports}
+use Rattle.wasm_sections.specs.Globals.{global_text, IsGlobal, GlobalItem, global_item, HoldsGlobals}
+use Rattle.wasm_sections.specs.Imports.{ImportItem, alike, import_text, ImportFits, IsEntity, import_format, HoldsImports}
 use Rattle.wasm_sections.specs.declared.import.EntityType.{EntityType}
-use Rattle.wasm_sections.specs.Memories.{memory_type}
-use Rattle.wasm_sections.specs.Readings.{HoldsFunctions, HoldsTables, HoldsMemories, HoldsGlobals, HoldsExports, HoldsElements, HoldsSegments, HoldsImports, HoldsTags}
-use Rattle.wasm_sections.specs.Tables.{table_text, IsTable, TableItem, before_init, table_item}
-use Rattle.wasm_sections.specs.Tags.{tag_type}
+use Rattle.wasm_sections.specs.Memories.{memory_type, HoldsMemories}
+use Rattle.wasm_sections.specs.Functions.{HoldsFunctions}
+use Rattle.wasm_sections.specs.Tables.{table_text, IsTable, TableItem, before_init, table_item, HoldsTables}
+use Rattle.wasm_sections.specs.Tags.{tag_type, HoldsTags}
 use Rattle.wasm_sections.specs.declared.memory.MemoryType.{MemoryType}
 use Rattle.wasm_sections.specs.declared.table.TableType.{TableType}
 use Rattle.wasm_sections.specs.declared.tag.TagType.{TagType}
 use Rattle.wasm_base.proofs.PartLaws.{pair_spelled}
-use Rattle.wasm_sections.proofs.ElementLaws.{stored_same}
-use Rattle.wasm_sections.proofs.HeldLaws.{tables-wide, globals-wide, data-wide, elements-wide}
-use Rattle.wasm_sections.proofs.Payloads.{functions-payload, tables-payload, memories-payload, globals-payload, exports-payload, elements-payload, data-payload, imports-payload, tags-payload}
+use Rattle.wasm_sections.proofs.ElementLaws.{stored_same, elements_section}
+use Rattle.wasm_base.proofs.SectionLaws.{payloads}
+use Rattle.wasm_sections.proofs.FunctionLaws.{functions_section}
+use Rattle.wasm_sections.proofs.TableLaws.{table_unique, tables_section}
+use Rattle.wasm_sections.proofs.MemoryLaws.{memories_section}
+use Rattle.wasm_sections.proofs.GlobalLaws.{global_unique, globals_section}
+use Rattle.wasm_sections.proofs.ExportLaws.{exports_section}
+use Rattle.wasm_sections.proofs.DataLaws.{segments_section}
+use Rattle.wasm_sections.proofs.ImportLaws.{entity_unique, imports_section}
+use Rattle.wasm_sections.proofs.TagLaws.{tags_section}
+use Rattle.wasm_sections.proofs.NumberLaws.{number_unique}
 
 -- ---- a new section
 
@@ -160,61 +168,67 @@ adds_alike before from ty names e fits utf8 range are =
 pub adds_table_with_init_wide : {old new : List (List ℕ)} {items : List TableItem} → HoldsWide table_item old items → (table : TableType) (is : List Plain) (bytes : List ℕ) → new ≡ old ++ (before_init ++ (table_text table ++ expression_text bytes)) ∷ []
     → IsTable table → StoresWide bytes is → HoldsWide table_item new (items ++ record { table_type = table; init = Some is } ∷ [])
 adds_table_with_init_wide before table is bytes e plain stored =
-    adds_item_wide tables-wide before (record { table_type = table; init = Some (record { bytes = bytes; instructions = is }) }) e (record { table_type = plain; init = stored })
+    adds_item_wide tables_section.held_wide before (record { table_type = table; init = Some (record { bytes = bytes; instructions = is }) }) e (record { table_type = plain; init = stored })
 
 pub adds_global_wide : {old new : List (List ℕ)} {items : List GlobalItem} → HoldsWide global_item old items → (global : GlobalItem) (bytes : List ℕ) → new ≡ old ++ (global_text global.global_type ++ expression_text bytes) ∷ []
     → IsGlobal global.global_type → StoresWide bytes global.init → HoldsWide global_item new (items ++ global ∷ [])
 adds_global_wide before global bytes e plain stored =
-    adds_item_wide globals-wide before (record { global_type = global.global_type; init = record { bytes = bytes; instructions = global.init } }) e (record { global_type = plain; init = stored })
+    adds_item_wide globals_section.held_wide before (record { global_type = global.global_type; init = record { bytes = bytes; instructions = global.init } }) e (record { global_type = plain; init = stored })
 
 pub adds_element_wide : {old new : List (List ℕ)} {items : List (ElementItem (List Plain))} → HoldsWide element old items → (given : ElementItem Stored) → new ≡ old ++ settled_text expression_text (settled (stored_by given)) ∷ []
     → IsSegmentWide given → HoldsWide element new (items ++ element_of given ∷ [])
-adds_element_wide {old = old} {new = new} before given e plain = adds_item_wide elements-wide before given (subst (λ s. new ≡ old ++ s ∷ []) (sym (stored_same given)) e) plain
+adds_element_wide {old = old} {new = new} before given e plain = adds_item_wide elements_section.held_wide before given (subst (λ s. new ≡ old ++ s ∷ []) (sym (stored_same given)) e) plain
 
 pub adds_active_wide : {old new : List (List ℕ)} {items : List DataItem} → HoldsWide data_item old items → (memory : ℕ) (is : List Plain) (offset bytes : List ℕ) → new ≡ old ++ active_text memory offset bytes ∷ [] → memory < 2 ^ 32
     → StoresWide offset is → HoldsWide data_item new (items ++ active memory is bytes ∷ [])
-adds_active_wide before memory is offset bytes e range stored = adds_item_wide data-wide before (given_active memory (record { bytes = offset; instructions = is }) bytes) e (range, stored)
+adds_active_wide before memory is offset bytes e range stored = adds_item_wide segments_section.held_wide before (given_active memory (record { bytes = offset; instructions = is }) bytes) e (range, stored)
 
 -- ---- a module and one more section
 
 pub gains_functions : {readings : List SectionReading} {id : ℕ} {old new : List ℕ} {entries : List (List ℕ)} {items : List ℕ} → ReadsSections readings old → ReadsOneMore (SectionPayload entries) id old new → SectionFits entries
     → ReadsBackBoth (counted_format u32) (HoldsFunctions entries) (HoldsWide u32 entries) (section_text entries) → HoldsFunctions entries items → ReadsSections (readings ++ reading_of id (vec u32) items ∷ []) new
-gains_functions before more fits reads holds = gains_items functions-payload before more fits reads holds
+gains_functions before more fits reads holds = gains_items (payloads functions_section) before more fits reads holds
 
 pub gains_tables : {readings : List SectionReading} {id : ℕ} {old new : List ℕ} {entries : List (List ℕ)} {items : List TableItem} → ReadsSections readings old → ReadsOneMore (SectionPayload entries) id old new → SectionFits entries
     → ReadsBackBoth (counted_format table_item) (HoldsTables entries) (HoldsWide table_item entries) (section_text entries) → HoldsTables entries items → ReadsSections (readings ++ reading_of id (vec table_item) items ∷ []) new
-gains_tables before more fits reads holds = gains_items tables-payload before more fits reads holds
+gains_tables before more fits reads holds = gains_items (payloads tables_section) before more fits reads holds
 
 pub gains_memories : {readings : List SectionReading} {id : ℕ} {old new : List ℕ} {entries : List (List ℕ)} {items : List MemoryType} → ReadsSections readings old → ReadsOneMore (SectionPayload entries) id old new → SectionFits entries
     → ReadsBackBoth (counted_format memory_type) (HoldsMemories entries) (HoldsWide memory_type entries) (section_text entries) → HoldsMemories entries items → ReadsSections (readings ++ reading_of id (vec memory_type) items ∷ []) new
-gains_memories before more fits reads holds = gains_items memories-payload before more fits reads holds
+gains_memories before more fits reads holds = gains_items (payloads memories_section) before more fits reads holds
 
 pub gains_globals : {readings : List SectionReading} {id : ℕ} {old new : List ℕ} {entries : List (List ℕ)} {items : List GlobalItem} → ReadsSections readings old → ReadsOneMore (SectionPayload entries) id old new → SectionFits entries
     → ReadsBackBoth (counted_format global_item) (HoldsGlobals entries) (HoldsWide global_item entries) (section_text entries) → HoldsGlobals entries items → ReadsSections (readings ++ reading_of id (vec global_item) items ∷ []) new
-gains_globals before more fits reads holds = gains_items globals-payload before more fits reads holds
+gains_globals before more fits reads holds = gains_items (payloads globals_section) before more fits reads holds
 
 pub gains_exports : {readings : List SectionReading} {id : ℕ} {old new : List ℕ} {entries : List (List ℕ)} {items : List ExportItem} → ReadsSections readings old → ReadsOneMore (SectionPayload entries) id old new → SectionFits entries
     → ReadsBackBoth (counted_format export) (HoldsExports entries) (HoldsWide export entries) (section_text entries) → HoldsExports entries items → ReadsSections (readings ++ reading_of id (vec export) items ∷ []) new
-gains_exports before more fits reads holds = gains_items exports-payload before more fits reads holds
+gains_exports before more fits reads holds = gains_items (payloads exports_section) before more fits reads holds
 
 pub gains_elements : {readings : List SectionReading} {id : ℕ} {old new : List ℕ} {entries : List (List ℕ)} {items : List (ElementItem (List Plain))} → ReadsSections readings old → ReadsOneMore (SectionPayload entries) id old new → SectionFits entries
     → ReadsBackBoth (counted_format element) (HoldsElements entries) (HoldsWide element entries) (section_text entries) → HoldsElements entries items → ReadsSections (readings ++ reading_of id (vec element) items ∷ []) new
-gains_elements before more fits reads holds = gains_items elements-payload before more fits reads holds
+gains_elements before more fits reads holds = gains_items (payloads elements_section) before more fits reads holds
 
 pub gains_segments : {readings : List SectionReading} {id : ℕ} {old new : List ℕ} {entries : List (List ℕ)} {items : List DataItem} → ReadsSections readings old → ReadsOneMore (SectionPayload entries) id old new → SectionFits entries
     → ReadsBackBoth (counted_format data_item) (HoldsSegments entries) (HoldsWide data_item entries) (section_text entries) → HoldsSegments entries items → ReadsSections (readings ++ reading_of id (vec data_item) items ∷ []) new
-gains_segments before more fits reads holds = gains_items data-payload before more fits reads holds
+gains_segments before more fits reads holds = gains_items (payloads segments_section) before more fits reads holds
 
 pub gains_imports : {readings : List SectionReading} {id : ℕ} {old new : List ℕ} {entries : List (List ℕ)} {items : List ImportItem} → ReadsSections readings old → ReadsOneMore (SectionPayload entries) id old new → SectionFits entries
     → ReadsBackBoth (counted_format import_format) (HoldsImports entries) (HoldsWide import_format entries) (section_text entries) → HoldsImports entries items → ReadsSections (readings ++ reading_of id (vec import_format) items ∷ []) new
-gains_imports before more fits reads holds = gains_items imports-payload before more fits reads holds
+gains_imports before more fits reads holds = gains_items (payloads imports_section) before more fits reads holds
 
 pub gains_tags : {readings : List SectionReading} {id : ℕ} {old new : List ℕ} {entries : List (List ℕ)} {items : List TagType} → ReadsSections readings old → ReadsOneMore (SectionPayload entries) id old new → SectionFits entries
     → ReadsBackBoth (counted_format tag_type) (HoldsTags entries) (HoldsWide tag_type entries) (section_text entries) → HoldsTags entries items → ReadsSections (readings ++ reading_of id (vec tag_type) items ∷ []) new
-gains_tags before more fits reads holds = gains_items tags-payload before more fits reads holds
+gains_tags before more fits reads holds = gains_items (payloads tags_section) before more fits reads holds
 
 -- a section of one number: the start function, the number of data segments
 pub gains_number : {readings : List SectionReading} {id number : ℕ} {old new : List ℕ} → ReadsSections readings old → ReadsOneMore (λ payload. payload ≡ unsigned_text number) id old new → FrameFits (unsigned_text number)
     → ReadsBack (frame u32) (λ said. said ≡ number) (frame_text (unsigned_text number)) → ReadsSections (readings ++ reading_of id u32 number ∷ []) new
 gains_number {number = number} before more fits reads =
     gains_section {F = u32} before more u32-payload (frame_text (unsigned_text number)) (unsigned_text number) refl (raw_framed (unsigned_text number) (unsigned_text number) fits refl) number (reads.for_each number refl)
+
+-- ---- what the functions of laws say
+
+pub ruleset sections = (functions_section, tables_section, memories_section, globals_section, exports_section, elements_section, segments_section, imports_section, tags_section)
+
+pub ruleset parts = (entity_unique, table_unique, global_unique, number_unique)

@@ -9,17 +9,22 @@ use Rattle.wasm_base.specs.Reading.{UniqueReading, Reads, ReadsNothing}
 use Rattle.wasm_base.specs.Texts.{frame_text, FrameFits}
 use Rattle.wasm_base.specs.declared.refused.Refused.{Refused}
 use Rattle.wasm_base.proofs.BaseLaws.{vec_bytes_unique}
-use Rattle.wasm_base.proofs.FormatLaws.{mapped_unique, pair_unique, such_unique, choice_of}
+use Rattle.wasm_base.proofs.FormatLaws.{mapped_unique, pair_unique, such_unique, choice_of, TellsTag, choice_tells}
 use Rattle.wasm_base.proofs.NumberLaws.{u32_unique}
 use Rattle.wasm_base.proofs.TextLaws.{spelled_in, u32_in}
 use Rattle.wasm_code.specs.Expressions.{expression, expression_text}
 use Rattle.wasm_code.proofs.ExpressionLaws.{expression_unique, expression_spelled}
 use Rattle.wasm_insn.specs.Plain.{Plain}
 use Rattle.wasm_sections.specs.Constants.{Stored, IsStoredIn}
-use Rattle.wasm_sections.specs.DataSegments.{GivenData, given_active, given_passive, DataItem, active, passive, AddsBytes, active_text, data_text, IsGivenDataIn, data_of, in_first, in_memory, data_tags, data_item, data_items}
+use Rattle.wasm_sections.specs.DataSegments.{GivenData, given_active, given_passive, DataItem, active, passive, AddsBytes, active_text, data_text, IsGivenDataIn, data_of, in_first, in_memory, data_tags, data_item, data_items, IsGivenData, IsGivenDataWide}
 use Rattle.wasm_base.proofs.PartLaws.{pair_in, flag_spelled, bytes_spelled}
 use Rattle.wasm_base.proofs.ReadingSteps.{then_reads, then_nothing_first, then_nothing_second, mapped_reads, mapped_nothing, such_reads, such_none, such_nothing}
 use Rattle.wasm_base.proofs.Tags.{tagged_reads, tagged_none, tagged_nothing, no_choice}
+use Rattle.wasm_base.proofs.SectionLaws.{SectionLaws, counted_laws_wide}
+use Rattle.wasm_sections.proofs.ConstantLaws.{stored_wider}
+use Rattle.wasm_reader_base.specs.Shortest.{AppendsShortest}
+use Rattle.wasm_reader_base.proofs.ReadPlain.{u32_appended}
+use Rattle.wasm_reader_base.proofs.ShortTexts.{text_appended, pair_appended, tagged_appended, mapped_appended}
 
 -- ---- reading
 
@@ -78,6 +83,13 @@ data_spelled mode (given_passive bytes) plain fits =
 
 pub data_laws : ItemLaws data_items
 data_laws = record { alone = data_unique; spelled = data_spelled shortest }
+
+data_wider : (g : GivenData) → IsGivenData g → IsGivenDataWide g
+data_wider (given_active memory offset bytes) plain = (plain.0, stored_wider offset plain.1)
+data_wider (given_passive bytes) plain = plain
+
+pub segments_section : SectionLaws data_items (vec data_item)
+segments_section = counted_laws_wide data_laws data_wider (data_spelled wide)
 
 -- ---- calls
 
@@ -194,3 +206,39 @@ pub other_none : (bytes rest next : List ℕ) (n m : ℕ) → Reads u32 wide byt
 other_none bytes rest next n m h e g p none = segment_not 2 h e (mapped_nothing in_memory (then_nothing_second (such_unique IsOther u32_unique) (such_reads IsOther g (omega (arith, p))) none))
 
 pub ruleset segment_steps = (segment_unknown, first_reads, other_zero)
+
+-- ---- the one shortest text of a segment that was read
+
+-- bytes behind their number
+pub counted_appended : (bytes old new : List ℕ) → FrameFits bytes → new ≡ old ++ frame_text bytes → AppendsShortest (vec byte) bytes old new
+counted_appended bytes old new fits e = text_appended (vec byte) bytes (frame_text bytes) old new (λ s h. bytes_spelled bytes fits) e
+
+flag_tells : TellsTag after_flag flag_of
+flag_tells =
+    choice_tells flag_of data_tags (λ flag. impossible)
+    (λ mode s x h. ap flag_of h.1, (λ mode s x h. ap flag_of h.1, (λ mode s x h. sym (not_first h.0.0 h.0.1.0 h.0.1.1 h.2.first.1) ∙ ap flag_of h.1, tt)))
+    (λ b mode s x h. absurd h)
+
+-- the flag is appended, and then what it tells of
+flagged : (x : DataItem) (n : ℕ) (old middle new : List ℕ) → flag_of x ≡ n → middle ≡ old ++ unsigned_text n → AppendsShortest (after_flag n) x middle new → AppendsShortest data_item x old new
+flagged x n old middle new e is a = tagged_appended u32 after_flag (λ s z h. flag_tells wide z s x h ∙ e) (u32_appended n old middle is) a
+
+pub placed_appended : (offset : List Plain) (bytes old middle new : List ℕ) → AppendsShortest expression offset old middle → FrameFits bytes → new ≡ middle ++ frame_text bytes → AppendsShortest (pair expression (vec byte)) (offset, bytes) old new
+placed_appended offset bytes old middle new a fits e = pair_appended expression (vec byte) a (counted_appended bytes middle new fits e)
+
+pub passive_appended : (bytes old middle new : List ℕ) → middle ≡ old ++ unsigned_text 1 → FrameFits bytes → new ≡ middle ++ frame_text bytes → AppendsShortest data_item (passive bytes) old new
+passive_appended bytes old middle new e fits is = flagged (passive bytes) 1 old middle new refl e (mapped_appended passive (vec byte) bytes middle new (λ z k. cc k) (counted_appended bytes middle new fits is))
+
+pub first_appended : (memory : ℕ) (offset : List Plain) (bytes old middle new : List ℕ) → memory ≡ 0 → middle ≡ old ++ unsigned_text 0 → AppendsShortest (pair expression (vec byte)) (offset, bytes) middle new → AppendsShortest data_item (active memory offset bytes) old new
+first_appended memory offset bytes old middle new z e a =
+    subst (λ n. AppendsShortest data_item (active n offset bytes) old new) (sym z)
+    (flagged (active 0 offset bytes) 0 old middle new refl e (mapped_appended in_first (pair expression (vec byte)) (offset, bytes) middle new (λ p k. ap (λ x. (active_parts x).1) k) a))
+
+pub other_appended : (memory : ℕ) (offset : List Plain) (bytes old middle new : List ℕ) → memory ≢ 0 → middle ≡ old ++ (unsigned_text 2 ++ unsigned_text memory) → AppendsShortest (pair expression (vec byte)) (offset, bytes) middle new → AppendsShortest data_item (active memory offset bytes) old new
+other_appended memory offset bytes old middle new other e a =
+    let some : 0 < memory = omega (arith, other) in
+    let flagged_end = old ++ unsigned_text 2 in
+    let number = u32_appended memory flagged_end middle (e ∙ sym (append_assoc old (unsigned_text 2) (unsigned_text memory))) in
+    let index : AppendsShortest (such (λ n. 0 < n) u32) memory flagged_end middle = record { text = number.text; appended = number.appended; spelled = λ s h. (number.spelled s h.0, some) } in
+    let inside = pair_appended (such (λ n. 0 < n) u32) (pair expression (vec byte)) index a in
+    flagged (active memory offset bytes) 2 old flagged_end new (not_first memory offset bytes some) refl (mapped_appended in_memory (pair (such (λ n. 0 < n) u32) (pair expression (vec byte))) (memory, (offset, bytes)) flagged_end new (λ p k. ap active_parts k) inside)

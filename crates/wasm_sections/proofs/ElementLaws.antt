@@ -1,15 +1,15 @@
 -- Element segments are read uniquely.
-use Rattle.std.proofs.Common.{◌≡◌, ℕ, ◌+◌, ◌<◌, List, [], ◌∷◌, ◌++◌, length, map, Bool, true, false, cond, Some, None, refl, sym, ap, subst, ◌∙◌, arith, lit<, ◌≢◌, ◌≤◌, ◌/◌, ◌%◌}
+use Rattle.std.proofs.Common.{◌≡◌, ℕ, ◌+◌, ◌<◌, List, [], ◌∷◌, ◌++◌, length, map, Bool, true, false, cond, Some, None, refl, sym, ap, subst, ◌∙◌, arith, lit<, ◌≢◌, ◌≤◌, ◌/◌, ◌%◌, Option, append-nil}
 use Rattle.std.specs.List.{All, flat_map}
 use Rattle.std.proofs.lemmas.List.{length-map, map-id}
 use Rattle.std.proofs.lemmas.List.Elements.{All-head, All-tail}
 use Rattle.wasm_base.specs.Entries.{ItemLaws}
-use Rattle.wasm_base.specs.Formats.{u32, mapped, pair, fixed, vec, members, numbered, Format, byte, when}
+use Rattle.wasm_base.specs.Formats.{u32, mapped, pair, fixed, vec, members, numbered, Format, byte, when, is_given, prefixed}
 use Rattle.wasm_base.specs.Laws.{FitsUnsigned}
 use Rattle.wasm_base.specs.Numbers.{Mode, shortest, unsigned_text, wide}
 use Rattle.wasm_base.specs.Reading.{UniqueReading, Reads, ReadsNothing}
 use Rattle.wasm_base.specs.Texts.{vec_text, VecFits}
-use Rattle.wasm_base.specs.Types.{ref_type, ref_text, FUNCREF}
+use Rattle.wasm_base.specs.Types.{ref_type, ref_text, FUNCREF, IsRef}
 use Rattle.wasm_base.specs.declared.types.HeapType.{HeapType}
 use Rattle.wasm_base.specs.declared.types.HeapType.TheVariants.{Abstract}
 use Rattle.wasm_base.specs.declared.types.RefType.{RefType}
@@ -24,7 +24,7 @@ use Rattle.wasm_immediates.specs.Immediates.{where_set}
 use Rattle.wasm_immediates.specs.PlainImmediates.{bit}
 use Rattle.wasm_insn.specs.Plain.{Plain}
 use Rattle.wasm_sections.specs.Constants.{Stored, IsStoredIn}
-use Rattle.wasm_sections.specs.Elements.{is_nullable_func, is_funcref, Place, passive, declared, active, ElementList, functions, expressions, ElementItem, needs_table, settled_place, settled, ElementFlag, flag_code, tells_kind, is_inactive, is_second, are_expressions, flag_of, place_text, elements_text, settled_text, stored_text, element_text, IsPlaceIn, AreElementsIn, IsSegmentIn, stored_by, place_of, elements_of, said_by, element_of, in_no_table, in_table, place, list_of, elements_as, segment_of, element, element_items}
+use Rattle.wasm_sections.specs.Elements.{is_nullable_func, is_funcref, Place, passive, declared, active, ElementList, functions, expressions, ElementItem, needs_table, settled_place, settled, ElementFlag, flag_code, tells_kind, is_inactive, is_second, are_expressions, flag_of, place_text, elements_text, settled_text, stored_text, element_text, IsPlaceIn, AreElementsIn, IsSegmentIn, stored_by, place_of, elements_of, said_by, element_of, in_no_table, in_table, place, list_of, elements_as, segment_of, element, element_items, IsPlace}
 use Rattle.wasm_base.proofs.PartLaws.{pair_in, flag_spelled, numbered_unique}
 use Rattle.wasm_sections.specs.GivenElements.{HaveOneText}
 use Rattle.wasm_sections.specs.declared.element.ElementSegment.{ElementSegment}
@@ -36,6 +36,11 @@ use Rattle.wasm_immediates.proofs.ImmediateLaws.{bit_value}
 use Rattle.wasm_sections.proofs.FlagLaws.{weight_is, bit_low}
 use Rattle.wasm_sections.proofs.Prefixes.{prefixed_reads, prefixed_nothing, prefixed_other}
 use Rattle.wasm_base.specs.declared.types.AbstractHeapType.TheVariants as kinds
+use Rattle.wasm_base.proofs.SectionLaws.{SectionLaws, counted_laws_wide}
+use Rattle.wasm_sections.proofs.ConstantLaws.{stored_wider}
+use Rattle.wasm_reader_base.specs.Shortest.{AppendsShortest}
+use Rattle.wasm_reader_base.proofs.ReadPlain.{fitting_appended, u32_appended, ref_is}
+use Rattle.wasm_reader_base.proofs.ShortTexts.{text_appended, nothing_appended, pair_appended, prefixed_appended, tagged_appended, mapped_appended}
 
 -- ---- flags
 
@@ -215,6 +220,18 @@ element_spelled mode s plain =
 
 pub element_laws : ItemLaws element_items
 element_laws = record { alone = element_unique; spelled = λ s plain fits. element_spelled shortest s plain }
+
+place_wider : (p : Place Stored) → IsPlace p → IsPlaceIn wide p
+place_wider passive plain = plain
+place_wider declared plain = plain
+place_wider (active table offset) plain = (plain.0, stored_wider offset plain.1)
+
+elements_wider : (e : ElementList Stored) → AreElementsIn shortest e → AreElementsIn wide e
+elements_wider (functions fs) plain = plain
+elements_wider (expressions r es) plain = (plain.0, record { count = plain.1.count; members = λ k d l. stored_wider _ (plain.1.members k d l) })
+
+pub elements_section : SectionLaws element_items (vec element)
+elements_section = counted_laws_wide element_laws (λ s plain. record { place = place_wider s.place plain.place; elements = elements_wider s.elements plain.elements }) (λ s plain fits. element_spelled wide s plain)
 
 -- ---- the bytes of a segment's expressions
 
@@ -399,3 +416,58 @@ pub element_no_list : (bytes start middle : List ℕ) (f : ElementFlag) (p : Pla
 element_no_list bytes start middle f p h g n = tagged_nothing {G = after_flag} element_flag_unique h (mapped_nothing segment_of (then_nothing_second (place_unique f) g n))
 
 pub ruleset element_steps = (element_no_list)
+
+-- ---- the one shortest text of a segment that was read
+
+pub element_appended : (x : ElementItem (List Plain)) (old flag middle new : List ℕ) → flag ≡ old ++ unsigned_text (flag_code (flag_of x)) → AppendsShortest (place (flag_of x)) x.place flag middle → AppendsShortest (elements_as (tells_kind (flag_of x)) (are_expressions x.elements)) x.elements middle new → AppendsShortest element x old new
+element_appended x old flag middle new e a b =
+    let f = flag_of x in
+    let inside = pair_appended (place f) (elements_as (tells_kind f) f.expressions) a b in
+    let rest = mapped_appended segment_of (pair (place f) (elements_as (tells_kind f) f.expressions)) (x.place, x.elements) flag new (λ z k. ap (λ s. (s.place, s.elements)) k) inside in
+    tagged_appended (numbered flag_code) (λ g. mapped segment_of (pair (place g) (elements_as (tells_kind g) g.expressions))) (λ s z h. flag_told wide z s x h)
+    (text_appended (numbered flag_code) f (unsigned_text (flag_code f)) old flag (λ s h. u32_spelled (flag_code f) h.range) e) rest
+
+-- the place of a segment, and what stands beside it
+abbrev at_place : Place (List Plain) → ElementList (List Plain) → ElementItem (List Plain)
+at_place p l = record { place = p; elements = l }
+
+pub passive_appended : (p : Place (List Plain)) (l : ElementList (List Plain)) (old : List ℕ) → p ≡ passive → AppendsShortest (place (flag_of (at_place p l))) p old old
+passive_appended p l old e = subst (λ z. AppendsShortest (place (flag_of (at_place z l))) z old old) (sym e) (nothing_appended (place (flag_of (at_place passive l))) passive old (λ s h. (refl, refl)))
+
+pub declared_appended : (p : Place (List Plain)) (l : ElementList (List Plain)) (old : List ℕ) → p ≡ declared → AppendsShortest (place (flag_of (at_place p l))) p old old
+declared_appended p l old e = subst (λ z. AppendsShortest (place (flag_of (at_place z l))) z old old) (sym e) (nothing_appended (place (flag_of (at_place declared l))) declared old (λ s h. (refl, refl)))
+
+-- the flag of an active segment of functions
+abbrev in_any : Bool → ElementFlag
+in_any second = record { not_active = false; second = second; expressions = false }
+
+pub no_table_appended : (table : Option ℕ) (offset : List Plain) (old new : List ℕ) → table ≡ None → AppendsShortest expression offset old new → AppendsShortest (place (in_any (is_given table))) (active table offset) old new
+no_table_appended table offset old new e a =
+    subst (λ t. AppendsShortest (place (in_any (is_given t))) (active t offset) old new) (sym e) (mapped_appended in_no_table expression offset old new (λ z k. ap (λ p. (table_parts p).1) k) a)
+
+pub in_table_appended : (given : Option ℕ) (table : ℕ) (offset : List Plain) (old middle new : List ℕ) → given ≡ Some table → middle ≡ old ++ unsigned_text table → AppendsShortest expression offset middle new → AppendsShortest (place (in_any (is_given given))) (active given offset) old new
+in_table_appended given table offset old middle new e is a =
+    subst (λ t. AppendsShortest (place (in_any (is_given t))) (active t offset) old new) (sym e)
+    (mapped_appended in_table (pair u32 expression) (table, offset) old new (λ z k. ap table_parts k) (pair_appended u32 expression (u32_appended table old middle is) a))
+
+pub functions_told_appended : (told : Bool) (fs : List ℕ) (old middle new : List ℕ) → told ≡ true → middle ≡ old ++ 0x00 ∷ [] → AppendsShortest (vec u32) (map (λ n. n) fs) middle new → AppendsShortest (elements_as told false) (functions fs) old new
+functions_told_appended told fs old middle new e is a =
+    subst (λ t. AppendsShortest (elements_as t false) (functions fs) old new) (sym e)
+    (mapped_appended functions (prefixed (0x00 ∷ []) (vec u32)) fs old new (λ z k. cc k) (prefixed_appended (0x00 ∷ []) (vec u32) fs old middle new is (subst (λ z. AppendsShortest (vec u32) z middle new) (map-id fs) a)))
+
+pub functions_untold_appended : (told : Bool) (fs : List ℕ) (old new : List ℕ) → told ≡ false → AppendsShortest (vec u32) (map (λ n. n) fs) old new → AppendsShortest (elements_as told false) (functions fs) old new
+functions_untold_appended told fs old new e a =
+    subst (λ t. AppendsShortest (elements_as t false) (functions fs) old new) (sym e)
+    (mapped_appended functions (prefixed [] (vec u32)) fs old new (λ z k. cc k) (prefixed_appended [] (vec u32) fs old old new (sym (append-nil old)) (subst (λ z. AppendsShortest (vec u32) z old new) (map-id fs) a)))
+
+typed : (told : Bool) (r : RefType) (es : List (List Plain)) (old middle new : List ℕ) → AppendsShortest (when told ref_type (fixed [] FUNCREF)) r old middle → AppendsShortest (vec expression) es middle new → AppendsShortest (elements_as told true) (expressions r es) old new
+typed told r es old middle new a b =
+    mapped_appended list_of (pair (when told ref_type (fixed [] FUNCREF)) (vec expression)) (r, es) old new (λ z k. ap list_parts k) (pair_appended (when told ref_type (fixed [] FUNCREF)) (vec expression) a b)
+
+pub expressions_told_appended : (told : Bool) (r : RefType) (es : List (List Plain)) (old middle new : List ℕ) → told ≡ true → middle ≡ old ++ ref_text r → AppendsShortest (vec expression) es middle new → AppendsShortest (elements_as told true) (expressions r es) old new
+expressions_told_appended told r es old middle new e is a =
+    subst (λ t. AppendsShortest (elements_as t true) (expressions r es) old new) (sym e) (typed true r es old middle new (fitting_appended ref_type IsRef ref_text r old middle ref-texts ref_is is) a)
+
+pub expressions_untold_appended : (told : Bool) (r : RefType) (es : List (List Plain)) (old new : List ℕ) → told ≡ false → AppendsShortest (vec expression) es old new → AppendsShortest (elements_as told true) (expressions r es) old new
+expressions_untold_appended told r es old new e a =
+    subst (λ t. AppendsShortest (elements_as t true) (expressions r es) old new) (sym e) (typed false r es old old new (nothing_appended (fixed [] FUNCREF) r old (λ s h. (refl, h.1))) a)

@@ -1,11 +1,11 @@
 -- Global types and globals are read uniquely.
-use Rattle.std.proofs.Common.{◌≡◌, ℕ, Bool, true, false, [], ◌∷◌, refl, ap, ◌<◌, ◌≤◌, ◌/◌, ◌%◌, List, arith}
+use Rattle.std.proofs.Common.{◌≡◌, ℕ, Bool, true, false, [], ◌∷◌, refl, ap, ◌<◌, ◌≤◌, ◌/◌, ◌%◌, List, arith, subst, ◌++◌}
 use Rattle.wasm_base.specs.Entries.{ItemLaws}
-use Rattle.wasm_base.specs.Formats.{coded, byte, pair}
+use Rattle.wasm_base.specs.Formats.{coded, byte, pair, vec}
 use Rattle.wasm_base.specs.Numbers.{Mode, shortest, wide}
 use Rattle.wasm_base.specs.Reading.{UniqueReading, Reads, ReadsNothing}
 use Rattle.wasm_base.specs.Types.{val_type, val_text}
-use Rattle.wasm_base.proofs.FormatLaws.{coded_unique, mapped_unique, pair_unique}
+use Rattle.wasm_base.proofs.FormatLaws.{coded_unique, mapped_unique, pair_unique, AllValues}
 use Rattle.wasm_base.proofs.TypeLaws.{val_unique, val-texts}
 use Rattle.wasm_code.specs.Expressions.{expression, expression_text}
 use Rattle.wasm_code.proofs.ExpressionLaws.{expression_unique, expression_spelled}
@@ -21,6 +21,11 @@ use Rattle.wasm_base.proofs.Tags.{code_reads, code_none, code_unknown}
 use Rattle.wasm_immediates.proofs.ImmediateLaws.{bit_value}
 use Rattle.wasm_insn.specs.Plain.{Plain}
 use Rattle.wasm_sections.proofs.FlagLaws.{weight_is, bit_low}
+use Rattle.wasm_base.proofs.SectionLaws.{SectionLaws, counted_laws_wide}
+use Rattle.wasm_sections.proofs.ConstantLaws.{stored_wider}
+use Rattle.wasm_reader_base.proofs.ReadPlain.{val_type_is, fitting_appended}
+use Rattle.wasm_reader_base.proofs.ShortTexts.{pair_appended, mapped_appended}
+use Rattle.wasm_reader_base.specs.Shortest.{AppendsShortest}
 
 decode : ℕ → GlobalFlags
 decode n = record { mutable = bit 0 n; shared = bit 1 n }
@@ -57,6 +62,9 @@ global_item_spelled mode g plain =
 
 pub global_laws : ItemLaws global_items
 global_laws = record { alone = global_item_unique; spelled = λ g plain fits. global_item_spelled shortest g plain }
+
+pub globals_section : SectionLaws global_items (vec global_item)
+globals_section = counted_laws_wide global_laws (λ g plain. record { global_type = plain.global_type; init = stored_wider g.init plain.init }) (λ g plain fits. global_item_spelled wide g plain)
 
 -- ---- how globals are read
 
@@ -95,3 +103,15 @@ pub item_none : (bytes : List ℕ) → ReadsNothing (pair global_type expression
 item_none bytes n = mapped_nothing global_from n
 
 pub ruleset item_steps = (item_reads)
+
+-- ---- what was read is plain
+
+pub global_is : AllValues IsGlobal global_type
+global_is mode s g h = subst IsGlobal h.1 (val_type_is mode h.2.front h.0.0 h.2.first)
+
+-- ---- the one shortest text of a global that was read
+
+pub global_appended : (g : GlobalType) (init : List Plain) (old middle new : List ℕ) → middle ≡ old ++ global_text g → AppendsShortest expression init middle new → AppendsShortest global_item (global_from (g, init)) old new
+global_appended g init old middle new e a =
+    let first = fitting_appended global_type IsGlobal global_text g old middle (record { spelled = global_spelled }) global_is e in
+    mapped_appended global_from (pair global_type expression) (g, init) old new (λ z k. ap (λ i. (i.global_type, i.init)) k) (pair_appended global_type expression first a)

@@ -1,25 +1,26 @@
 -- Imports are read uniquely.
-use Rattle.std.proofs.Common.{◌≡◌, ◌≢◌, ℕ, ◌<◌, ◌≤◌, List, [], ◌∷◌, ◌++◌, refl, sym, ap, subst, ◌∙◌, arith, lit<, inl, inr, length-append, suc, ◌-◌, length, take, drop, slice_index_or}
+use Rattle.std.proofs.Common.{◌≡◌, ◌≢◌, ℕ, ◌<◌, ◌≤◌, List, [], ◌∷◌, ◌++◌, refl, sym, ap, subst, ◌∙◌, arith, lit<, inl, inr, length-append, suc, ◌-◌, length, take, drop, slice_index_or, IsUtf8}
 use Rattle.std.proofs.lemmas.Str.{IsUtf8-nil}
 use Rattle.wasm_base.specs.Entries.{ItemLaws}
-use Rattle.wasm_base.specs.Formats.{name, byte, vec, impossible, mapped, pair, prefixed, Format, u32, choice}
+use Rattle.wasm_base.specs.Formats.{name, byte, vec, impossible, mapped, pair, prefixed, Format, u32, choice, members}
 use Rattle.wasm_base.specs.Laws.{NameFits}
 use Rattle.wasm_base.specs.Numbers.{Mode, shortest, unsigned_text, wide}
 use Rattle.wasm_base.specs.Reading.{UniqueReading, BeginsWith, Reads, ReadsNothing}
-use Rattle.wasm_base.specs.Texts.{frame_text, FrameFits, vec_text}
+use Rattle.wasm_base.specs.Texts.{frame_text, FrameFits, vec_text, VecFits}
 use Rattle.wasm_base.proofs.BaseLaws.{name_unique}
-use Rattle.wasm_base.proofs.FormatLaws.{TellsTag, AllValues, BeginNeverAlike, begin_apart, mapped_unique, pair_unique, vec_unique, byte_unique, either_unique, prefixed_unique, tagged_unique, tagged_at, choice_of, choice_begins, begins_mapped, values_mapped, values_tagged, none_in_common}
+use Rattle.wasm_base.proofs.FormatLaws.{TellsTag, AllValues, BeginNeverAlike, begin_apart, mapped_unique, pair_unique, vec_unique, byte_unique, either_unique, prefixed_unique, tagged_unique, tagged_at, choice_of, choice_begins, begins_mapped, values_mapped, values_tagged, none_in_common, values_one_of}
 use Rattle.wasm_base.proofs.NumberLaws.{u32_unique, u32_small}
 use Rattle.wasm_base.proofs.TextLaws.{tagged_spelled, u32_spelled, name_spelled, vec_spelled}
-use Rattle.wasm_sections.specs.Imports.{entity_text, IsEntity, entity_tags, entity, Imported, single, named, alike, ImportItem, named_text, imported_text, import_text, IsNamed, IsImported, IsImport, alike_of, group_tags, group, named_entity, after_module, import_of, import_format, import_items}
+use Rattle.wasm_sections.specs.Imports.{entity_text, IsEntity, entity_tags, entity, Imported, single, named, alike, ImportItem, named_text, imported_text, import_text, IsNamed, IsImported, IsImport, alike_of, group_tags, group, named_entity, after_module, import_of, import_format, import_items, ImportedFits, ImportFits}
 use Rattle.wasm_sections.specs.declared.import.EntityType.{EntityType}
 use Rattle.wasm_sections.specs.declared.import.EntityType.TheVariants.{Function, Table, Memory, Global, Tag, FunctionExact}
-use Rattle.wasm_sections.proofs.GlobalLaws.{global_unique, global_spelled}
-use Rattle.wasm_sections.proofs.MemoryLaws.{memory_unique, memory_spelled}
-use Rattle.wasm_sections.proofs.TableLaws.{table_unique, table_spelled}
-use Rattle.wasm_sections.proofs.TagLaws.{tag_unique, tag_spelled}
+use Rattle.wasm_sections.proofs.GlobalLaws.{global_unique, global_spelled, global_is}
+use Rattle.wasm_sections.proofs.MemoryLaws.{memory_unique, memory_spelled, memory_is}
+use Rattle.wasm_sections.proofs.TableLaws.{table_unique, table_spelled, table_is}
+use Rattle.wasm_sections.proofs.TagLaws.{tag_unique, tag_spelled, tag_is}
 use Rattle.wasm_base.proofs.PartLaws.{pair_spelled, front_name_spelled}
 use Rattle.std.proofs.lemmas.List.{take_all}
+use Rattle.std.proofs.lemmas.List.Elements.{All-nil, All-cons, All-head, All-tail}
 use Rattle.wasm_base.proofs.ReadingSteps.{then_reads, then_nothing_first, then_nothing_second, mapped_reads, mapped_nothing}
 use Rattle.wasm_base.proofs.Tags.{tagged_reads, tagged_none, tagged_nothing, no_choice, one_of_nothing, one_of_left, one_of_right}
 use Rattle.wasm_sections.specs.Globals.{global_type}
@@ -31,6 +32,10 @@ use Rattle.wasm_sections.specs.declared.memory.MemoryType.{MemoryType}
 use Rattle.wasm_sections.specs.declared.table.TableType.{TableType}
 use Rattle.wasm_sections.specs.declared.tag.TagType.{TagType}
 use Rattle.wasm_sections.proofs.Prefixes.{prefixed_reads, prefixed_nothing}
+use Rattle.wasm_base.proofs.SectionLaws.{SectionLaws, counted_laws}
+use Rattle.std.specs.List.{All}
+use Rattle.wasm_reader_base.specs.Shortest.{AppendsShortest}
+use Rattle.wasm_reader_base.proofs.ShortTexts.{text_appended}
 
 -- ---- entities
 
@@ -141,25 +146,25 @@ named_spelled i plain = pair_spelled name entity (frame_text i.0) (entity_text i
 group_spelled : (back : List ℕ) (x : Imported) → group shortest back x → after_module shortest (0x00 ∷ back) x
 group_spelled back x h = inr ((tt, x), refl, record { front = 0x00 ∷ []; back = back; joined = refl; first = (refl, refl); second = h })
 
-imported_spelled : (x : Imported) → IsImported x → FrameFits (imported_text x) → after_module shortest (imported_text x) x
-imported_spelled (single n ty) plain fits =
-    inl (
-      (n, single n ty),
-      refl,
-      record { front = frame_text n; back = entity_text ty; joined = refl; first = front_name_spelled n (entity_text ty) plain.0 fits; second = (ty, refl, entity_spelled ty plain.1) },
-    )
-imported_spelled (named items) plain fits =
+single_spelled : (n : List ℕ) (ty : EntityType) → name shortest (frame_text n) n → IsEntity ty → after_module shortest (imported_text (single n ty)) (single n ty)
+single_spelled n ty spelled plain = inl ((n, single n ty), refl, record { front = frame_text n; back = entity_text ty; joined = refl; first = spelled; second = (ty, refl, entity_spelled ty plain) })
+
+items_spelled : (items : List (List ℕ × EntityType)) → VecFits IsNamed items → after_module shortest (imported_text (named items)) (named items)
+items_spelled items plain =
     let content = vec_text named_text items in
     group_spelled (0x7F ∷ content) (named items) (tagged_spelled shortest 0x7F content (named items) (items, refl, vec_spelled (pair name entity) IsNamed named_text named_spelled items plain))
-imported_spelled (alike ty names) plain fits =
+
+names_spelled : (ty : EntityType) (names : List (List ℕ)) → IsEntity ty → VecFits NameFits names → after_module shortest (imported_text (alike ty names)) (alike ty names)
+names_spelled ty names plain fits =
     let listed = vec_text frame_text names in
-    let spelled = vec_spelled name NameFits frame_text (λ n h. name_spelled n h.0 h.1) names plain.1 in
+    let spelled = vec_spelled name NameFits frame_text (λ n h. name_spelled n h.0 h.1) names fits in
     group_spelled (0x7E ∷ (entity_text ty ++ listed)) (alike ty names)
-    (tagged_spelled shortest 0x7E (entity_text ty ++ listed) (alike ty names) (
-      (ty, names),
-      refl,
-      pair_spelled entity (vec name) (entity_text ty) listed ty names (entity_spelled ty plain.0) spelled,
-    ))
+    (tagged_spelled shortest 0x7E (entity_text ty ++ listed) (alike ty names) ((ty, names), refl, pair_spelled entity (vec name) (entity_text ty) listed ty names (entity_spelled ty plain) spelled))
+
+imported_spelled : (x : Imported) → IsImported x → FrameFits (imported_text x) → after_module shortest (imported_text x) x
+imported_spelled (single n ty) plain fits = single_spelled n ty (front_name_spelled n (entity_text ty) plain.0 fits) plain.1
+imported_spelled (named items) plain fits = items_spelled items plain
+imported_spelled (alike ty names) plain fits = names_spelled ty names plain.0 plain.1
 
 import_spelled : (i : ImportItem) → IsImport i → FrameFits (import_text i) → import_format shortest (import_text i) i
 import_spelled i plain fits =
@@ -174,6 +179,9 @@ import_spelled i plain fits =
 
 pub import_laws : ItemLaws import_items
 import_laws = record { alone = import_unique; spelled = import_spelled }
+
+pub imports_section : SectionLaws import_items (vec import_format)
+imports_section = counted_laws import_laws (λ given plain. plain) (λ given plain. plain)
 
 -- ---- how imports are read
 
@@ -351,3 +359,66 @@ pub group_unknown : (bytes rest after m : List ℕ) (k : ℕ) → Reads name wid
 group_unknown bytes rest after m k h e l p q = group_nothing h e l (no_choice group_tags k after (p, (q, tt)))
 
 pub ruleset import_steps = (alike_reads, alike_no_type, alike_no_names, group_unknown)
+
+-- ---- the one shortest text of imports that were read
+
+entity_is : AllValues IsEntity entity
+entity_is =
+    values_tagged IsEntity entity_tags (
+      λ mode s x h. subst IsEntity h.1 h.2.range,
+      (λ mode s x h. subst IsEntity h.1 (table_is mode s h.0 h.2), (λ mode s x h. subst IsEntity h.1 (memory_is mode s h.0 h.2), (λ mode s x h. subst IsEntity h.1 (global_is mode s h.0 h.2), (λ mode s x h. subst IsEntity h.1 (tag_is mode s h.0 h.2), (λ mode s x h. subst IsEntity h.1 h.2.range, tt))))),
+    )
+
+-- a name that is UTF-8, and an entity whose numbers are in range
+abbrev IsRead : List ℕ × EntityType → Type 0
+IsRead i = IsUtf8 i.0 × IsEntity i.1
+
+-- Names are UTF-8, and numbers in range.
+abbrev IsSaid : Imported → Type 0
+IsSaid (single n ty) = IsUtf8 n × IsEntity ty
+IsSaid (named items) = All IsRead items
+IsSaid (alike ty names) = IsEntity ty × All IsUtf8 names
+
+all_members : {X : Type 0} (Q : X → Type 0) (F : Format X) → AllValues Q F → (mode : Mode) (s : List ℕ) (xs : List X) → members F mode s xs → All Q xs
+all_members Q F all mode s [] h = All-nil Q
+all_members Q F all mode s (x ∷ xs) h = All-cons Q x xs (all mode h.0 x h.3) (all_members Q F all mode h.1 xs h.4)
+
+named_is : AllValues IsRead (pair name entity)
+named_is mode s i h = (h.first.1, entity_is mode h.back i.1 h.second)
+
+single_is : AllValues IsSaid named_entity
+single_is mode s x h = subst IsSaid (h.2.second.1 ∙ h.1) (h.2.first.1, entity_is mode h.2.back h.2.second.0 h.2.second.2)
+
+group_is : AllValues IsSaid group
+group_is =
+    values_tagged IsSaid group_tags (
+      λ mode s x h. subst IsSaid h.1 (all_members IsRead (pair name entity) named_is mode h.2.back h.0 h.2.second),
+      (λ mode s x h. subst IsSaid h.1 (entity_is mode h.2.front h.0.0 h.2.first, all_members IsUtf8 name (λ mode s n k. k.1) mode h.2.second.back h.0.1 h.2.second.second), tt),
+    )
+
+imported_is : AllValues IsSaid after_module
+imported_is = values_one_of IsSaid single_is (λ mode s x h. subst IsSaid h.1 (group_is mode h.2.back h.0.1 h.2.second))
+
+all_both : {X : Type 0} (P Q R : X → Type 0) → ((x : X) → P x → Q x → R x) → (xs : List X) → All P xs → All Q xs → All R xs
+all_both P Q R f [] p q = All-nil R
+all_both P Q R f (x ∷ xs) p q = All-cons R x xs (f x (All-head P x xs p) (All-head Q x xs q)) (all_both P Q R f xs (All-tail P x xs p) (All-tail Q x xs q))
+
+said_spelled : (x : Imported) → ImportedFits x → IsSaid x → after_module shortest (imported_text x) x
+said_spelled (single n ty) fits is = single_spelled n ty (name_spelled n is.0 fits) is.1
+said_spelled (named items) fits is = items_spelled items (record { count = fits.count; members = all_both (λ i. FrameFits i.0) IsRead IsNamed (λ i f r. ((r.0, f), r.1)) items fits.members is })
+said_spelled (alike ty names) fits is = names_spelled ty names is.0 (record { count = fits.count; members = all_both FrameFits IsUtf8 NameFits (λ n f r. (r, f)) names fits.members is.1 })
+
+-- The name of the module is UTF-8, and so on.
+abbrev IsWhole : ImportItem → Type 0
+IsWhole i = IsUtf8 i.module_name × IsSaid i.imported
+
+import_is : AllValues IsWhole import_format
+import_is mode s i h = subst IsWhole h.1 (h.2.first.1, imported_is mode h.2.back h.0.1 h.2.second)
+
+import_short : (i : ImportItem) → ImportFits i → (s : List ℕ) → import_format wide s i → import_format shortest (import_text i) i
+import_short i fits s h =
+    let is = import_is wide s i h in
+    ((i.module_name, i.imported), refl, pair_spelled name after_module (frame_text i.module_name) (imported_text i.imported) i.module_name i.imported (name_spelled i.module_name is.0 fits.0) (said_spelled i.imported fits.1 is.1))
+
+pub import_appended : (i : ImportItem) (old new : List ℕ) → ImportFits i → new ≡ old ++ import_text i → AppendsShortest import_format i old new
+import_appended i old new fits e = text_appended import_format i (import_text i) old new (import_short i fits) e

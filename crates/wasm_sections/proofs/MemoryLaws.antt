@@ -1,19 +1,21 @@
 -- Memory types are read uniquely.
-use Rattle.std.proofs.Common.{◌≡◌, ℕ, ◌^◌, ◌<◌, [], ◌∷◌, ◌++◌, Option, refl, ap, ◌∙◌}
+use Rattle.std.proofs.Common.{◌≡◌, ℕ, ◌^◌, ◌<◌, [], ◌∷◌, ◌++◌, Option, refl, ap, ◌∙◌, List, subst}
 use Rattle.wasm_base.specs.Entries.{ItemLaws}
-use Rattle.wasm_base.specs.Formats.{u32, u64, optional, is_given}
+use Rattle.wasm_base.specs.Formats.{u32, u64, optional, is_given, vec, mapped, pair}
 use Rattle.wasm_base.specs.Numbers.{shortest, unsigned_text}
 use Rattle.wasm_base.specs.Reading.{UniqueReading}
 use Rattle.wasm_base.proofs.BaseLaws.{u64_unique}
-use Rattle.wasm_base.proofs.FormatLaws.{TellsTag, tagged_unique, mapped_unique, pair_unique, optional_unique}
+use Rattle.wasm_base.proofs.FormatLaws.{TellsTag, tagged_unique, mapped_unique, pair_unique, optional_unique, AllValues}
 use Rattle.wasm_base.proofs.NumberLaws.{u32_unique}
 use Rattle.wasm_base.proofs.TextLaws.{u32_spelled, u64_spelled}
 use Rattle.wasm_base.specs.Texts.{optional_text}
-use Rattle.wasm_sections.specs.Flags.{flags_code}
+use Rattle.wasm_sections.specs.Flags.{flags_code, Flags}
 use Rattle.wasm_sections.specs.Memories.{memory_flags, memory_text, IsMemory, memory_of, after_memory_flags, memory_type, memory_items}
 use Rattle.wasm_sections.specs.declared.memory.MemoryType.{MemoryType}
 use Rattle.wasm_sections.proofs.FlagLaws.{flags_unique}
+use Rattle.wasm_sections.proofs.ReadLimits.{optional_is, u64_is, u32_is}
 use Rattle.wasm_base.proofs.PartLaws.{pair_spelled, optional_spelled, optional_tells}
+use Rattle.wasm_base.proofs.SectionLaws.{SectionLaws, counted_laws}
 
 abbrev parts_of : MemoryType → ℕ × (Option ℕ × Option ℕ)
 parts_of m = (m.minimum, (m.maximum, m.page_size_log2))
@@ -49,3 +51,16 @@ memory_spelled m plain =
 
 pub memory_laws : ItemLaws memory_items
 memory_laws = record { alone = memory_unique; spelled = λ m plain fits. memory_spelled m plain }
+
+pub memories_section : SectionLaws memory_items (vec memory_type)
+memories_section = counted_laws memory_laws (λ given plain. plain) (λ given plain. plain)
+
+-- ---- what was read is plain
+
+pub memory_is : AllValues IsMemory memory_type
+memory_is mode s m h = subst IsMemory h.1 (after h.0.0 h.2.back h.0.1 h.2.second)
+  where
+    after : (f : Flags) (s : List ℕ) (m : _) → mapped (memory_of f) (pair u64 (pair (optional f.has_maximum u64) (optional f.has_page_size u32))) mode s m → IsMemory m
+    after f s m h =
+        subst IsMemory h.1
+        (record { minimum = h.2.first.range; maximum = optional_is (λ n. n < 2 ^ 64) u64 u64_is f.has_maximum mode h.2.second.front h.0.1.0 h.2.second.first; page_size = optional_is (λ n. n < 2 ^ 32) u32 u32_is f.has_page_size mode h.2.second.back h.0.1.1 h.2.second.second })

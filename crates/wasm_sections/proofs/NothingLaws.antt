@@ -22,9 +22,10 @@ use Rattle.wasm_code.proofs.ExpressionLaws.{members_one, normal_spelled}
 use Rattle.wasm_sections.specs.DataSegments.{DataItem, data_tags, data_item}
 use Rattle.wasm_sections.specs.Globals.{GivenGlobal, GlobalItem, global_item_of, global_item}
 use Rattle.wasm_sections.specs.Imports.{Imported, ImportItem, single, entity, after_module, import_format}
-use Rattle.wasm_sections.proofs.GlobalLaws.{global_item_unique, global_item_spelled}
-use Rattle.wasm_sections.proofs.ImportLaws.{IsEntityByte, entity_begins, empty_name}
-use Rattle.wasm_sections.proofs.SectionLaws.{globals_unique, imports_unique, segments_unique}
+use Rattle.wasm_sections.proofs.GlobalLaws.{global_item_unique, global_item_spelled, globals_section}
+use Rattle.wasm_sections.proofs.ImportLaws.{IsEntityByte, entity_begins, empty_name, imports_section}
+use Rattle.wasm_sections.proofs.DataLaws.{segments_section}
+use Rattle.wasm_base.proofs.SectionLaws.{unique}
 
 -- ---- a global behind whose first `End` bytes are left
 
@@ -48,7 +49,7 @@ no_global x h =
 
 pub inner_end : NothingStandsWide (counted_format global_item) (9 ∷ 1 ∷ 127 ∷ 0 ∷ 65 ∷ 1 ∷ 11 ∷ 65 ∷ 2 ∷ 11 ∷ [])
 inner_end =
-    nothing_wide {F = counted_format global_item} (9 ∷ 1 ∷ 127 ∷ 0 ∷ 65 ∷ 1 ∷ 11 ∷ 65 ∷ 2 ∷ 11 ∷ []) globals_unique
+    nothing_wide {F = counted_format global_item} (9 ∷ 1 ∷ 127 ∷ 0 ∷ 65 ∷ 1 ∷ 11 ∷ 65 ∷ 2 ∷ 11 ∷ []) (unique globals_section)
     (λ after rest xs h. let x = one_item {F = global_item} 9 (127 ∷ 0 ∷ 65 ∷ 1 ∷ 11 ∷ 65 ∷ 2 ∷ 11 ∷ []) after rest h.front xs (omega arith) refl h.split h.spelled in no_global x.0 x.1)
 
 -- ---- a padded 00 before a group
@@ -84,7 +85,7 @@ no_import x h =
 
 pub padded_group : NothingStandsWide (counted_format import_format) (6 ∷ 1 ∷ 0 ∷ 128 ∷ 0 ∷ 127 ∷ 0 ∷ [])
 padded_group =
-    nothing_wide {F = counted_format import_format} (6 ∷ 1 ∷ 0 ∷ 128 ∷ 0 ∷ 127 ∷ 0 ∷ []) imports_unique
+    nothing_wide {F = counted_format import_format} (6 ∷ 1 ∷ 0 ∷ 128 ∷ 0 ∷ 127 ∷ 0 ∷ []) (unique imports_section)
     (λ after rest xs h. let x = one_item {F = import_format} 6 (0 ∷ 128 ∷ 0 ∷ 127 ∷ 0 ∷ []) after rest h.front xs (omega arith) refl h.split h.spelled in no_import x.0 x.1)
 
 -- ---- a segment that names memory 0
@@ -98,7 +99,7 @@ no_segment x h =
 
 pub named_first_memory : NothingStandsWide (counted_format data_item) (8 ∷ 1 ∷ 2 ∷ 0 ∷ 65 ∷ 0 ∷ 11 ∷ 1 ∷ 9 ∷ [])
 named_first_memory =
-    nothing_wide {F = counted_format data_item} (8 ∷ 1 ∷ 2 ∷ 0 ∷ 65 ∷ 0 ∷ 11 ∷ 1 ∷ 9 ∷ []) segments_unique
+    nothing_wide {F = counted_format data_item} (8 ∷ 1 ∷ 2 ∷ 0 ∷ 65 ∷ 0 ∷ 11 ∷ 1 ∷ 9 ∷ []) (unique segments_section)
     (λ after rest xs h. let x = one_item {F = data_item} 8 (2 ∷ 0 ∷ 65 ∷ 0 ∷ 11 ∷ 1 ∷ 9 ∷ []) after rest h.front xs (omega arith) refl h.split h.spelled in no_segment x.0 x.1)
 
 pub ruleset nothing = (inner_end, padded_group, named_first_memory)

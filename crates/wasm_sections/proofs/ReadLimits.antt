@@ -1,13 +1,13 @@
 -- How limits, and the types of memories and tables, are read.
-use Rattle.std.proofs.Common.{◌≡◌, ℕ, ◌<◌, ◌≤◌, ◌/◌, ◌%◌, List, true, false, Option, option_map, refl, sym, subst, arith}
-use Rattle.std.specs.Prelude.{◌==◌}
+use Rattle.std.proofs.Common.{◌≡◌, ℕ, ◌<◌, ◌≤◌, ◌/◌, ◌%◌, List, true, false, Option, option_map, refl, sym, subst, arith, ◌^◌, Bool}
+use Rattle.std.specs.Prelude.{◌==◌, IfSome}
 use Rattle.wasm_base.specs.Numbers.{wide}
 use Rattle.wasm_base.specs.Formats.{Format, u32, u64, byte, impossible, mapped, optional, pair, when}
 use Rattle.wasm_base.specs.Reading.{Reads, ReadsNothing}
 use Rattle.wasm_base.specs.Types.{ref_type}
 use Rattle.wasm_base.specs.declared.types.RefType.{RefType}
 use Rattle.wasm_base.proofs.BaseLaws.{u64_unique}
-use Rattle.wasm_base.proofs.FormatLaws.{optional_unique}
+use Rattle.wasm_base.proofs.FormatLaws.{optional_unique, AllValues}
 use Rattle.wasm_base.proofs.ReadingSteps.{then_reads, then_nothing_first, then_nothing_second, mapped_reads, mapped_nothing}
 use Rattle.wasm_base.proofs.Tags.{tagged_reads, tagged_none, tagged_nothing, impossible_nothing, code_reads, code_none, code_unknown}
 use Rattle.wasm_immediates.proofs.ImmediateLaws.{bit_value}
@@ -108,3 +108,15 @@ pub table_none : (bytes : List ℕ) → ReadsNothing (pair ref_type limits) wide
 table_none bytes n = mapped_nothing table_of n
 
 pub ruleset table_steps = (table_reads)
+
+-- ---- numbers that were read are in range
+
+pub optional_is : {X : Type 0} (P : X → Type 0) (F : Format X) → AllValues P F → (flag : Bool) → AllValues (λ o. IfSome o P) (optional flag F)
+optional_is P F all true mode s o h = subst (λ o. IfSome o P) h.1 (all mode s h.0 h.2)
+optional_is P F all false mode s o h = subst (λ o. IfSome o P) (sym h.1) tt
+
+pub u64_is : AllValues (λ n. n < 2 ^ 64) u64
+u64_is mode s n h = h.range
+
+pub u32_is : AllValues (λ n. n < 2 ^ 32) u32
+u32_is mode s n h = h.range

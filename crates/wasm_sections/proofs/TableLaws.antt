@@ -1,20 +1,20 @@
 -- Table types and tables are read uniquely.
-use Rattle.std.proofs.Common.{◌≡◌, ℕ, ◌^◌, ◌<◌, List, [], ◌∷◌, ◌++◌, Bool, true, false, Option, Some, None, refl, ap, ◌∙◌, arith, inl, inr, ◌≢◌, sym}
+use Rattle.std.proofs.Common.{◌≡◌, ℕ, ◌^◌, ◌<◌, List, [], ◌∷◌, ◌++◌, Bool, true, false, Option, Some, None, refl, ap, ◌∙◌, arith, inl, inr, ◌≢◌, sym, subst}
 use Rattle.std.specs.Prelude.{IfSome}
 use Rattle.wasm_base.specs.Entries.{ItemLaws}
-use Rattle.wasm_base.specs.Formats.{u64, impossible, mapped, pair, optional, when, prefixed, is_given, Format, byte}
+use Rattle.wasm_base.specs.Formats.{u64, impossible, mapped, pair, optional, when, prefixed, is_given, Format, byte, vec}
 use Rattle.wasm_base.specs.Numbers.{Mode, shortest, unsigned_text, wide}
 use Rattle.wasm_base.specs.Reading.{UniqueReading, BeginsWith, Reads, ReadsNothing}
 use Rattle.wasm_base.specs.Texts.{optional_text}
 use Rattle.wasm_base.specs.Types.{ref_type, ref_tags, ref_text}
 use Rattle.wasm_base.proofs.BaseLaws.{u64_unique}
-use Rattle.wasm_base.proofs.FormatLaws.{TellsTag, tagged_unique, mapped_unique, when_unique, impossible_unique, pair_unique, optional_unique, prefixed_unique, one_of_unique, begins_then, begins_mapped, begins_fixed, choice_begins, none_in_common, values_mapped}
+use Rattle.wasm_base.proofs.FormatLaws.{TellsTag, tagged_unique, mapped_unique, when_unique, impossible_unique, pair_unique, optional_unique, prefixed_unique, one_of_unique, begins_then, begins_mapped, begins_fixed, choice_begins, none_in_common, values_mapped, AllValues}
 use Rattle.wasm_base.proofs.TextLaws.{spelled_in, u64_spelled}
 use Rattle.wasm_base.proofs.TypeLaws.{ref_unique, ref-texts}
 use Rattle.wasm_code.specs.Expressions.{expression, expression_text}
 use Rattle.wasm_code.proofs.ExpressionLaws.{expression_unique, expression_spelled}
 use Rattle.wasm_insn.specs.Plain.{Plain}
-use Rattle.wasm_sections.specs.Constants.{Stored, IsStoredIn}
+use Rattle.wasm_sections.specs.Constants.{Stored, IsStoredIn, IsStored, IsStoredWide}
 use Rattle.wasm_sections.specs.Flags.{Flags, flags_code}
 use Rattle.wasm_sections.specs.Tables.{table_flags, table_text, IsTable, Limits, limits_of, after_limits_flags, limits, table_of, table_type, before_init, table_init_text, init_of, without_init, with_init, table_item, table_items}
 use Rattle.wasm_sections.specs.declared.table.TableType.{TableType}
@@ -23,6 +23,12 @@ use Rattle.wasm_base.proofs.PartLaws.{pair_in, pair_spelled, optional_spelled, o
 use Rattle.wasm_base.proofs.ReadingSteps.{mapped_reads, mapped_nothing}
 use Rattle.wasm_base.proofs.Tags.{one_of_nothing, one_of_left, one_of_right, not_begun, no_bytes}
 use Rattle.wasm_sections.proofs.Prefixes.{prefixed_reads, prefixed_nothing, prefixed_other}
+use Rattle.wasm_base.proofs.SectionLaws.{SectionLaws, counted_laws_wide}
+use Rattle.wasm_sections.proofs.ConstantLaws.{stored_wider}
+use Rattle.wasm_sections.proofs.ReadLimits.{optional_is, u64_is}
+use Rattle.wasm_reader_base.proofs.ReadPlain.{ref_is, fitting_appended}
+use Rattle.wasm_reader_base.proofs.ShortTexts.{pair_appended, prefixed_appended, mapped_appended}
+use Rattle.wasm_reader_base.specs.Shortest.{AppendsShortest}
 
 abbrev limits_flags : Limits → Flags
 limits_flags l = record { has_maximum = is_given l.maximum; shared = l.shared; is_64 = l.table64; has_page_size = false }
@@ -100,6 +106,13 @@ init_spelled mode t (Some e) plain stored =
 pub table_laws : ItemLaws table_items
 table_laws = record { alone = table_item_unique; spelled = λ t plain fits. init_spelled shortest t.table_type t.init plain.table_type plain.init }
 
+init_wider : (init : Option Stored) → IfSome init IsStored → IfSome init IsStoredWide
+init_wider None plain = plain
+init_wider (Some e) plain = stored_wider e plain
+
+pub tables_section : SectionLaws table_items (vec table_item)
+tables_section = counted_laws_wide table_laws (λ t plain. record { table_type = plain.table_type; init = init_wider t.init plain.init }) (λ t plain fits. init_spelled wide t.table_type t.init plain.table_type plain.init)
+
 -- ---- how tables are read
 
 abbrev typed : Format (TableType × List Plain)
@@ -155,3 +168,52 @@ pub table_no_with : (bytes rest after : List ℕ) (b c : ℕ) → Reads byte wid
 table_no_with bytes rest after b c h e g f n = with_nothing bytes rest b h e (prefixed_nothing before_init typed (two_bytes bytes rest after b c h e g f) n)
 
 pub ruleset table_steps = (table_other)
+
+-- ---- what was read is plain
+
+-- the numbers of limits are in range
+pub record AreLimits (l : Limits) : Type 0 where
+  pub minimum : l.minimum < 2 ^ 64
+  pub maximum : IfSome l.maximum (λ n. n < 2 ^ 64)
+
+limits_are : AllValues AreLimits limits
+limits_are mode s l h = subst AreLimits h.1 (after h.0.0 h.2.back h.0.1 h.2.second)
+  where
+    after : (f : Flags) (s : List ℕ) (l : Limits) → after_limits_flags f mode s l → AreLimits l
+    after f s l h = go f.has_page_size h
+      where
+        go : (page : Bool) → when page impossible (mapped (limits_of f) (pair u64 (optional f.has_maximum u64))) mode s l → AreLimits l
+        go true k = absurd k
+        go false k = subst AreLimits k.1 (record { minimum = k.2.first.range; maximum = optional_is (λ n. n < 2 ^ 64) u64 u64_is f.has_maximum mode k.2.back k.0.1 k.2.second })
+
+pub table_is : AllValues IsTable table_type
+table_is mode s t h = let l = limits_are mode h.2.back h.0.1 h.2.second in subst IsTable h.1 (record { element_type = ref_is mode h.2.front h.0.0 h.2.first; minimum = l.minimum; maximum = l.maximum })
+
+-- ---- the one shortest text of a table that was read
+
+-- the instructions of a first value
+abbrev first_value : Option (List Plain) → List Plain
+first_value None = []
+first_value (Some is) = is
+
+type_appended : (t : TableType) (old new : List ℕ) → new ≡ old ++ table_text t → AppendsShortest table_type t old new
+type_appended t old new e = fitting_appended table_type IsTable table_text t old new (record { spelled = table_spelled }) table_is e
+
+pub table_appended : (t : TableType) (old new : List ℕ) → new ≡ old ++ table_text t → AppendsShortest table_item (without_init t) old new
+table_appended t old new e =
+    let a = type_appended t old new e in
+    record { text = a.text; appended = a.appended; spelled = spelled a }
+  where
+    spelled : (a : AppendsShortest table_type t old new) (s : List ℕ) → table_item wide s (without_init t) → table_item shortest a.text (without_init t)
+    spelled a s (inl h) = inl (t, refl, a.spelled s (subst (λ z. table_type wide s z) (ap (λ i. i.table_type) h.1) h.2))
+    spelled a s (inr h) = absurd (cc (ap (λ i. i.init) h.1))
+
+pub table_init_appended : (t : TableType) (init : List Plain) (old front middle new : List ℕ) → front ≡ old ++ before_init → middle ≡ front ++ table_text t → AppendsShortest expression init middle new → AppendsShortest table_item (with_init (t, init)) old new
+table_init_appended t init old front middle new b e a =
+    let both = prefixed_appended before_init (pair table_type expression) (t, init) old front new b (pair_appended table_type expression (type_appended t front middle e) a) in
+    let is = mapped_appended with_init (prefixed before_init (pair table_type expression)) (t, init) old new (λ z k. ap (λ i. (i.table_type, first_value i.init)) k) both in
+    record { text = is.text; appended = is.appended; spelled = spelled is }
+  where
+    spelled : (is : AppendsShortest (mapped with_init (prefixed before_init (pair table_type expression))) (with_init (t, init)) old new) (s : List ℕ) → table_item wide s (with_init (t, init)) → table_item shortest is.text (with_init (t, init))
+    spelled is s (inl h) = absurd (cc (ap (λ i. i.init) h.1))
+    spelled is s (inr h) = inr (is.spelled s h)

@@ -1,6 +1,6 @@
 -- Element segments: their texts, and what spells them.
 use Rattle.std.specs.Prelude.{ℕ, ◌+◌, ◌^◌, ◌<◌, List, [], ◌∷◌, ◌++◌, map, Bool, true, false, cond, Option, Some, None, IfSome}
-use Rattle.wasm_base.specs.Entries.{Kind}
+use Rattle.wasm_base.specs.Entries.{Kind, HoldsItems}
 use Rattle.wasm_base.specs.Formats.{Format, u32, mapped, pair, tagged, prefixed, fixed, vec, when, numbered, is_given}
 use Rattle.wasm_base.specs.Laws.{FitsUnsigned}
 use Rattle.wasm_base.specs.Numbers.{Mode, shortest, wide, unsigned_text}
@@ -10,6 +10,9 @@ use Rattle.wasm_base.specs.declared.types.AbstractHeapType.TheVariants as kinds
 use Rattle.wasm_base.specs.declared.types.HeapType.{HeapType}
 use Rattle.wasm_base.specs.declared.types.HeapType.TheVariants.{Abstract}
 use Rattle.wasm_base.specs.declared.types.RefType.{RefType}
+use Rattle.wasm_base.specs.Modules.{SectionReading, reading_of}
+use Rattle.wasm_base.specs.SectionId.{number_of}
+use Rattle.wasm_base.specs.declared.section_id.SectionId.TheVariants as ids
 use Rattle.wasm_code.specs.Expressions.{expression, expression_text}
 use Rattle.wasm_immediates.specs.Immediates.{where_set}
 use Rattle.wasm_insn.specs.Plain.{Plain}
@@ -262,3 +265,11 @@ list_view (lists.Expressions r es) = expressions r (map instructions_view es.ite
 -- the element segment that was read
 abbrev pub element_view : {A : Type 0} → ReadElement A → ElementItem (List Plain)
 element_view e = record { place = place_view e.mode; elements = list_view e.elements }
+
+-- The entries hold these element segments.
+abbrev pub HoldsElements : List (List ℕ) → List (ElementItem (List Plain)) → Type 0
+HoldsElements = HoldsItems element_items
+
+-- the element section of these element segments, as a reader finds it
+abbrev pub element_reading : List (ElementItem (List Plain)) → SectionReading
+element_reading segments = reading_of (number_of ids.Element) (vec element) segments

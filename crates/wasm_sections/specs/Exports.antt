@@ -1,9 +1,12 @@
 -- Exports: their text, and what spells them.
 use Rattle.std.specs.Prelude.{ℕ, ◌^◌, ◌<◌, List, [], ◌∷◌, ◌++◌, IsUtf8}
-use Rattle.wasm_base.specs.Entries.{Kind}
-use Rattle.wasm_base.specs.Formats.{Format, u32, name, coded, mapped, pair}
+use Rattle.wasm_base.specs.Entries.{Kind, HoldsItems}
+use Rattle.wasm_base.specs.Formats.{Format, u32, name, coded, mapped, pair, vec}
 use Rattle.wasm_base.specs.Numbers.{unsigned_text}
 use Rattle.wasm_base.specs.Texts.{frame_text, FrameFits}
+use Rattle.wasm_base.specs.Modules.{SectionReading, reading_of}
+use Rattle.wasm_base.specs.SectionId.{number_of}
+use Rattle.wasm_base.specs.declared.section_id.SectionId.TheVariants as ids
 use Rattle.wasm_sections.specs.declared.export.Export.{Export}
 use Rattle.wasm_sections.specs.declared.export.ExportKind.{ExportKind}
 use Rattle.wasm_sections.specs.declared.export.ExportKind.TheVariants.{Func, Table, Memory, Global, Tag}
@@ -50,3 +53,11 @@ export = mapped export_of (pair name (pair (coded kind_code) u32))
 -- the kind of exports
 abbrev pub export_items : Kind Export ExportItem
 export_items = record { text = export_text; IsPlain = IsExport; IsPlainWide = IsExport; normal_form = item_of; format = export }
+
+-- The entries hold these exports.
+abbrev pub HoldsExports : List (List ℕ) → List ExportItem → Type 0
+HoldsExports = HoldsItems export_items
+
+-- the export section of these exports, as a reader finds it
+abbrev pub export_reading : List ExportItem → SectionReading
+export_reading exports = reading_of (number_of ids.Export) (vec export) exports

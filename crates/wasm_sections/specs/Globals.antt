@@ -1,10 +1,13 @@
 -- Global types and globals: their texts, and what spells them.
 use Rattle.std.specs.Prelude.{ℕ, ◌+◌, List, [], ◌∷◌, ◌++◌, Bool}
-use Rattle.wasm_base.specs.Entries.{Kind}
-use Rattle.wasm_base.specs.Formats.{Format, coded, mapped, pair}
+use Rattle.wasm_base.specs.Entries.{Kind, HoldsItems}
+use Rattle.wasm_base.specs.Formats.{Format, coded, mapped, pair, vec}
 use Rattle.wasm_base.specs.Numbers.{Mode, shortest, wide}
 use Rattle.wasm_base.specs.Types.{val_type, val_text, IsVal}
 use Rattle.wasm_base.specs.declared.types.ValType.{ValType}
+use Rattle.wasm_base.specs.Modules.{SectionReading, reading_of}
+use Rattle.wasm_base.specs.SectionId.{number_of}
+use Rattle.wasm_base.specs.declared.section_id.SectionId.TheVariants as ids
 use Rattle.wasm_code.specs.Expressions.{expression, expression_text}
 use Rattle.wasm_immediates.specs.Immediates.{where_set}
 use Rattle.wasm_insn.specs.Plain.{Plain}
@@ -96,3 +99,11 @@ global_flags_view f = record { mutable = f.mutable; shared = f.shared }
 -- the global that was read
 abbrev pub global_view : {A : Type 0} → ReadGlobal A → GlobalItem
 global_view g = record { global_type = g.global_type; init = instructions_view g.init }
+
+-- The entries hold these globals.
+abbrev pub HoldsGlobals : List (List ℕ) → List GlobalItem → Type 0
+HoldsGlobals = HoldsItems global_items
+
+-- the global section of these globals, as a reader finds it
+abbrev pub global_reading : List GlobalItem → SectionReading
+global_reading globals = reading_of (number_of ids.Global) (vec global_item) globals

@@ -1,11 +1,14 @@
 -- Imports: their texts, and what spells them.
 use Rattle.std.specs.Prelude.{ℕ, ◌^◌, ◌<◌, List, [], ◌∷◌, ◌++◌, map, IsUtf8}
 use Rattle.wasm_base.specs.Cow.{items_of}
-use Rattle.wasm_base.specs.Entries.{Kind}
+use Rattle.wasm_base.specs.Entries.{Kind, HoldsItems}
 use Rattle.wasm_base.specs.Formats.{Format, u32, name, byte, vec, mapped, tagged, choice, impossible, one_of, pair, prefixed}
 use Rattle.wasm_base.specs.Laws.{NameFits}
 use Rattle.wasm_base.specs.Numbers.{unsigned_text}
 use Rattle.wasm_base.specs.Texts.{frame_text, FrameFits, vec_text, VecFits}
+use Rattle.wasm_base.specs.Modules.{SectionReading, reading_of}
+use Rattle.wasm_base.specs.SectionId.{number_of}
+use Rattle.wasm_base.specs.declared.section_id.SectionId.TheVariants as ids
 use Rattle.wasm_sections.specs.Globals.{global_text, IsGlobal, global_type}
 use Rattle.wasm_sections.specs.Memories.{memory_text, IsMemory, memory_type}
 use Rattle.wasm_sections.specs.Tables.{table_text, IsTable, table_type}
@@ -148,3 +151,11 @@ import_format = mapped import_of (pair name after_module)
 -- the kind of imports and groups of imports
 abbrev pub import_items : Kind ImportItem ImportItem
 import_items = record { text = import_text; IsPlain = IsImport; IsPlainWide = IsImport; normal_form = λ import. import; format = import_format }
+
+-- The entries hold these imports and groups of imports.
+abbrev pub HoldsImports : List (List ℕ) → List ImportItem → Type 0
+HoldsImports = HoldsItems import_items
+
+-- the import section of these imports and groups of imports, as a reader finds it
+abbrev pub import_reading : List ImportItem → SectionReading
+import_reading imports = reading_of (number_of ids.Import) (vec import_format) imports

@@ -10,4 +10,3 @@ pub mod DataSegments
 pub mod Elements
 pub mod GivenElements
 pub mod Functions
-pub mod Readings

@@ -1,9 +1,12 @@
 -- Memory types: their text, and what spells them.
 use Rattle.std.specs.Prelude.{ℕ, ◌^◌, ◌<◌, List, ◌∷◌, ◌++◌, Option, Some, None, IfSome}
-use Rattle.wasm_base.specs.Entries.{Kind}
-use Rattle.wasm_base.specs.Formats.{Format, u32, u64, mapped, tagged, pair, optional, is_given}
+use Rattle.wasm_base.specs.Entries.{Kind, HoldsItems}
+use Rattle.wasm_base.specs.Formats.{Format, u32, u64, mapped, tagged, pair, optional, is_given, vec}
 use Rattle.wasm_base.specs.Numbers.{unsigned_text}
 use Rattle.wasm_base.specs.Texts.{optional_text}
+use Rattle.wasm_base.specs.Modules.{SectionReading, reading_of}
+use Rattle.wasm_base.specs.SectionId.{number_of}
+use Rattle.wasm_base.specs.declared.section_id.SectionId.TheVariants as ids
 use Rattle.wasm_sections.specs.Flags.{Flags, flags, flags_code}
 use Rattle.wasm_sections.specs.declared.memory.MemoryType.{MemoryType}
 
@@ -41,3 +44,11 @@ memory_items = record { text = memory_text; IsPlain = IsMemory; IsPlainWide = Is
 abbrev pub page_exponent : Option ℕ → ℕ
 page_exponent None = 16
 page_exponent (Some n) = n
+
+-- The entries hold these memory types.
+abbrev pub HoldsMemories : List (List ℕ) → List MemoryType → Type 0
+HoldsMemories = HoldsItems memory_items
+
+-- the memory section of these memory types, as a reader finds it
+abbrev pub memory_reading : List MemoryType → SectionReading
+memory_reading memories = reading_of (number_of ids.Memory) (vec memory_type) memories

@@ -1,13 +1,16 @@
 -- Table types and tables: their texts, and what spells them.
 use Rattle.std.specs.Prelude.{ℕ, ◌^◌, ◌<◌, List, [], ◌∷◌, ◌++◌, Bool, true, false, Option, Some, None, IfSome, option_map}
-use Rattle.wasm_base.specs.Entries.{Kind}
-use Rattle.wasm_base.specs.Formats.{Format, u64, impossible, mapped, tagged, pair, optional, when, one_of, prefixed, is_given}
+use Rattle.wasm_base.specs.Entries.{Kind, HoldsItems}
+use Rattle.wasm_base.specs.Formats.{Format, u64, impossible, mapped, tagged, pair, optional, when, one_of, prefixed, is_given, vec}
 use Rattle.wasm_base.specs.Numbers.{Mode, shortest, wide, unsigned_text}
 use Rattle.wasm_base.specs.Texts.{optional_text}
 use Rattle.wasm_base.specs.Types.{ref_type, ref_text, IsRef}
 use Rattle.wasm_base.specs.declared.types.RefType.{RefType}
 use Rattle.wasm_base.specs.declared.types.ValType.{ValType}
 use Rattle.wasm_base.specs.declared.types.ValType.TheVariants.{I32, I64}
+use Rattle.wasm_base.specs.Modules.{SectionReading, reading_of}
+use Rattle.wasm_base.specs.SectionId.{number_of}
+use Rattle.wasm_base.specs.declared.section_id.SectionId.TheVariants as ids
 use Rattle.wasm_code.specs.Expressions.{expression, expression_text}
 use Rattle.wasm_insn.specs.Plain.{Plain}
 use Rattle.wasm_sections.specs.Constants.{Stored, IsStoredIn, instructions_view}
@@ -134,3 +137,11 @@ limits_view l = record { table64 = l.table64; shared = l.shared; minimum = l.min
 -- the table that was read
 abbrev pub table_view : {A : Type 0} → ReadTable A → TableItem
 table_view t = record { table_type = t.table_type; init = option_map instructions_view t.init }
+
+-- The entries hold these tables.
+abbrev pub HoldsTables : List (List ℕ) → List TableItem → Type 0
+HoldsTables = HoldsItems table_items
+
+-- the table section of these tables, as a reader finds it
+abbrev pub table_reading : List TableItem → SectionReading
+table_reading tables = reading_of (number_of ids.Table) (vec table_item) tables

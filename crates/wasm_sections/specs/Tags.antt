@@ -1,8 +1,11 @@
 -- Tag types: their text, and what spells them.
 use Rattle.std.specs.Prelude.{ℕ, ◌^◌, ◌<◌, List, ◌∷◌}
-use Rattle.wasm_base.specs.Entries.{Kind}
-use Rattle.wasm_base.specs.Formats.{Format, u32, coded, mapped, pair}
+use Rattle.wasm_base.specs.Entries.{Kind, HoldsItems}
+use Rattle.wasm_base.specs.Formats.{Format, u32, coded, mapped, pair, vec}
 use Rattle.wasm_base.specs.Numbers.{unsigned_text}
+use Rattle.wasm_base.specs.Modules.{SectionReading, reading_of}
+use Rattle.wasm_base.specs.SectionId.{number_of}
+use Rattle.wasm_base.specs.declared.section_id.SectionId.TheVariants as ids
 use Rattle.wasm_sections.specs.declared.tag.TagKind.{TagKind}
 use Rattle.wasm_sections.specs.declared.tag.TagKind.TheVariants.{Exception}
 use Rattle.wasm_sections.specs.declared.tag.TagType.{TagType}
@@ -30,3 +33,11 @@ tag_type = mapped tag_of (pair (coded tag_code) u32)
 -- the kind of tags
 abbrev pub tag_items : Kind TagType TagType
 tag_items = record { text = tag_text; IsPlain = IsTag; IsPlainWide = IsTag; normal_form = λ tag. tag; format = tag_type }
+
+-- The entries hold these tag types.
+abbrev pub HoldsTags : List (List ℕ) → List TagType → Type 0
+HoldsTags = HoldsItems tag_items
+
+-- the tag section of these tag types, as a reader finds it
+abbrev pub tag_reading : List TagType → SectionReading
+tag_reading tags = reading_of (number_of ids.Tag) (vec tag_type) tags

@@ -312,7 +312,7 @@ pub fn read_segments<'a, A: Allocator + Copy + 'a>(
 }
 
 /// Appends the place and the bytes of a segment.
-#[tactic(auto, using(crate::proofs::ShortItems::placed_appended))]
+#[tactic(auto, using(crate::proofs::DataLaws::placed_appended))]
 fn append_placed<A: Allocator, B: Allocator>(
     offset: &Expression<A>,
     bytes: &[u8],
@@ -325,7 +325,7 @@ fn append_placed<A: Allocator, B: Allocator>(
 }
 
 /// Appends a segment of the memory: memory 0 has a flag of its own.
-#[tactic(auto, using(crate::proofs::ShortItems::first_appended, crate::proofs::ShortItems::other_appended))]
+#[tactic(auto, using(crate::proofs::DataLaws::first_appended, crate::proofs::DataLaws::other_appended))]
 fn append_active<A: Allocator, B: Allocator>(
     memory: u32,
     offset: &Expression<A>,
@@ -343,7 +343,7 @@ fn append_active<A: Allocator, B: Allocator>(
 }
 
 impl<'a, A: Allocator> Shorten for Segment<'a, A> {
-    #[tactic(auto, using(crate::proofs::ShortItems::passive_appended))]
+    #[tactic(auto, using(crate::proofs::DataLaws::passive_appended))]
     fn append_shortest<B: Allocator>(&self, out: &mut Vec<u8, B>) -> R<()> {
         match self {
             Segment::Active {

@@ -245,7 +245,7 @@ fn append_expressions<A: Allocator, B: Allocator>(
 }
 
 /// Appends the table that is named, and the place of the first element.
-#[tactic(auto, using(crate::proofs::ShortItems::place_in, crate::proofs::ShortItems::place_in_none))]
+#[tactic(auto, using(crate::proofs::ElementLaws::in_table_appended, crate::proofs::ElementLaws::no_table_appended))]
 fn append_active<A: Allocator, B: Allocator>(
     table: Option<u32>,
     offset: &Expression<A>,
@@ -282,7 +282,7 @@ impl<A: Allocator> ElementItem<A> {
     }
 
     /// Appends where the elements go.
-    #[tactic(auto, using(crate::proofs::ShortItems::passive_place, crate::proofs::ShortItems::declared_place))]
+    #[tactic(auto, using(crate::proofs::ElementLaws::passive_appended, crate::proofs::ElementLaws::declared_appended))]
     fn append_place<B: Allocator>(&self, out: &mut Vec<u8, B>) -> R<()>
         ensures { OnOk result (AppendsShortest (place (flag_of (element_view self.now))) (place_view self.now.mode) out.old.items out.new.items) }
     {

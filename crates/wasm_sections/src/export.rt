@@ -112,7 +112,7 @@ impl Spelled for ExportKind {
 }
 
 impl<'a, A: Allocator + Copy> Readable<'a, A> for ExportKind {
-    #[tactic(auto, using(crate::proofs::ReadItems::export_kind_steps))]
+    #[tactic(auto, using(crate::proofs::ExportLaws::export_kind_steps))]
     fn read(bytes: &'a [u8], alloc: A) -> Result<(ExportKind, &'a [u8]), ReadFault> {
         let (code, rest) = <u8 as Readable<'a, A>>::read(bytes, alloc)?;
         match code {
@@ -140,7 +140,7 @@ impl<'a> Spelled for Export<'a> {
 }
 
 impl<'a, A: Allocator + Copy> Readable<'a, A> for Export<'a> {
-    #[tactic(auto, using(crate::proofs::ReadItems::export_steps))]
+    #[tactic(auto, using(crate::proofs::ExportLaws::export_steps))]
     fn read(bytes: &'a [u8], alloc: A) -> Result<(Export<'a>, &'a [u8]), ReadFault> {
         let ((name, (kind, index)), rest) = <(&'a str, (ExportKind, u32)) as Readable<'a, A>>::read(
             bytes, alloc,

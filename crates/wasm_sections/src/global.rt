@@ -185,7 +185,7 @@ impl<'a, A: Allocator + Copy> Readable<'a, A> for GlobalItem<A> {
 }
 
 impl<A: Allocator> Shorten for GlobalItem<A> {
-    #[tactic(auto, using(crate::proofs::ShortItems::global_appended))]
+    #[tactic(auto, using(crate::proofs::GlobalLaws::global_appended))]
     fn append_shortest<B: Allocator>(&self, out: &mut Vec<u8, B>) -> R<()> {
         self.global_type.encode(out)?;
         self.init.append_shortest(out)

@@ -28,7 +28,6 @@ use crate::table::TableType;
 use std::alloc::Allocator;
 
 /// Sections are read uniquely, and so are their items; the text of a plain record spells what it says.
-#[tactic(auto, using(crate::proofs::SectionLaws::sections))]
 pub fn sections()
     ensures functions { UniqueReading (counted_format u32_format) }
     ensures tables { UniqueReading (counted_format table_item) }
@@ -56,7 +55,6 @@ pub fn sections()
 {}
 
 /// With padded numbers too, sections are read uniquely, and what shortest numbers spell is among it.
-#[tactic(auto, using(crate::proofs::SectionLaws::wide_sections))]
 pub fn wide()
     ensures functions { IsUniqueWide (counted_format u32_format) }
     ensures tables { IsUniqueWide (counted_format table_item) }
@@ -74,7 +72,6 @@ pub fn wide()
 {}
 
 /// What sections hold, call by call: at first no items, and after a call that adds a plain record what this says too.
-#[tactic(auto, using(crate::proofs::HeldLaws::calls))]
 pub fn calls()
     ensures functions { HoldsMore function_items }
     ensures tables { HoldsMore table_items }
@@ -89,7 +86,7 @@ pub fn calls()
 
 /// The same with padded numbers: a record may be plain but for padded numbers in its expressions, and a piece may spell its item with
 /// padded numbers.
-#[tactic(auto, using(crate::proofs::HeldLaws::wide_calls))]
+#[tactic(auto, using(crate::proofs::Calls::sections, wasm_base::proofs::SectionLaws::held_wide))]
 pub fn wide_calls()
     ensures functions { HoldsMoreWide function_items }
     ensures tables { HoldsMoreWide table_items }
@@ -110,7 +107,6 @@ pub fn given_elements<A: Allocator>()
 {}
 
 /// Where a module is read as ids and payloads, and a section as its items alone, its payload is read as these alone.
-#[tactic(auto, using(crate::proofs::Payloads::payloads))]
 pub fn payloads()
     ensures functions { ReadsPayloads (vec u32_format) }
     ensures tables { ReadsPayloads (vec table_item) }

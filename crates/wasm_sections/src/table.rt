@@ -232,7 +232,7 @@ impl<'a, A: Allocator + Copy> Readable<'a, A> for TableItem<A> {
 }
 
 impl<A: Allocator> Shorten for TableItem<A> {
-    #[tactic(auto, using(crate::proofs::ShortItems::table_appended, crate::proofs::ShortItems::table_init_appended))]
+    #[tactic(auto, using(crate::proofs::TableLaws::table_appended, crate::proofs::TableLaws::table_init_appended))]
     fn append_shortest<B: Allocator>(&self, out: &mut Vec<u8, B>) -> R<()> {
         let Some(init) = &self.init else {
             return self.table_type.encode(out);

@@ -106,7 +106,7 @@ impl Spelled for TagKind {
 }
 
 impl<'a, A: Allocator + Copy> Readable<'a, A> for TagKind {
-    #[tactic(auto, using(crate::proofs::ReadItems::tag_kind_steps))]
+    #[tactic(auto, using(crate::proofs::TagLaws::tag_kind_steps))]
     fn read(bytes: &'a [u8], alloc: A) -> Result<(TagKind, &'a [u8]), ReadFault> {
         let (code, rest) = <u8 as Readable<'a, A>>::read(bytes, alloc)?;
         if code == 0x00 {
@@ -129,7 +129,7 @@ impl Spelled for TagType {
 }
 
 impl<'a, A: Allocator + Copy> Readable<'a, A> for TagType {
-    #[tactic(auto, using(crate::proofs::ReadItems::tag_steps))]
+    #[tactic(auto, using(crate::proofs::TagLaws::tag_steps))]
     fn read(bytes: &'a [u8], alloc: A) -> Result<(TagType, &'a [u8]), ReadFault> {
         let ((kind, func_type_idx), rest) = <(TagKind, u32) as Readable<'a, A>>::read(
             bytes, alloc,

@@ -17,9 +17,9 @@ use Rattle.wasm_base.specs.declared.refused.Refused.{Refused}
 use Rattle.wasm_base.proofs.Calls.{new_section, adds_item, gains_items, encodes_items}
 use Rattle.wasm_base.proofs.KnownLengths.{array_items}
 use Rattle.wasm_types.specs.Calls.{AddsListed, AddsTwoListed}
-use Rattle.wasm_types.specs.Readings.{HoldsTypes, plain_type}
-use Rattle.wasm_types.specs.RecTypes.{Shape, TypeItem, type_text, shape_text, IsShape, IsType, type_item}
-use Rattle.wasm_types.proofs.SectionLaws.{types-payload}
+use Rattle.wasm_types.specs.RecTypes.{Shape, TypeItem, type_text, shape_text, IsShape, IsType, type_item, HoldsTypes, plain_type}
+use Rattle.wasm_base.proofs.SectionLaws.{payloads}
+use Rattle.wasm_types.proofs.TypeLaws.{types_section}
 
 pub new_types : {entries : List (List ℕ)} → entries ≡ [] → HoldsTypes entries []
 new_types e = new_section e
@@ -63,7 +63,7 @@ listed_arrays {text = text} {old = old} {new = new} added xs ys are are₂ =
 -- a module and one more section
 pub gains_types : {readings : List SectionReading} {id : ℕ} {old new : List ℕ} {entries : List (List ℕ)} {items : List TypeItem} → ReadsSections readings old → ReadsOneMore (SectionPayload entries) id old new → SectionFits entries
     → ReadsBackBoth (counted_format type_item) (HoldsTypes entries) (HoldsWide type_item entries) (section_text entries) → HoldsTypes entries items → ReadsSections (readings ++ reading_of id (vec type_item) items ∷ []) new
-gains_types before more fits reads holds = gains_items types-payload before more fits reads holds
+gains_types before more fits reads holds = gains_items (payloads types_section) before more fits reads holds
 
 -- a section that a buffer has gained
 pub encodes_types : {A : Type 0} {fits : Type 0} {entries : List (List ℕ)} {old new : Vec ℕ A} {result : Result (Unit {0}) Refused} {items : List TypeItem}

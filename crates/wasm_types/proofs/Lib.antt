@@ -1,5 +1,4 @@
 pub mod TypeLaws
-pub mod SectionLaws
 pub mod NothingLaws
 pub mod Calls
 pub mod ReadFields

@@ -13,8 +13,8 @@ use Rattle.wasm_base.proofs.NumberLaws.{u32_small}
 use Rattle.wasm_types.specs.RecTypes.{TypeItem, mutable_code, storage_type, field_type, after_type, type_item}
 use Rattle.wasm_types.specs.declared.types.FieldType.{FieldType}
 use Rattle.wasm_types.specs.declared.types.StorageType.TheVariants.{Val}
-use Rattle.wasm_types.proofs.SectionLaws.{types_unique}
-use Rattle.wasm_types.proofs.TypeLaws.{storage_unique, val_storage}
+use Rattle.wasm_types.proofs.TypeLaws.{storage_unique, val_storage, types_section}
+use Rattle.wasm_base.proofs.SectionLaws.{unique}
 
 -- ---- what follows a front that is known, up to the last byte
 
@@ -49,7 +49,7 @@ no_structure x h =
 
 pub mutability_of_2 : NothingStandsWide (counted_format type_item) (5 ∷ 1 ∷ 95 ∷ 1 ∷ 127 ∷ 2 ∷ [])
 mutability_of_2 =
-    nothing_wide {F = counted_format type_item} (5 ∷ 1 ∷ 95 ∷ 1 ∷ 127 ∷ 2 ∷ []) types_unique
+    nothing_wide {F = counted_format type_item} (5 ∷ 1 ∷ 95 ∷ 1 ∷ 127 ∷ 2 ∷ []) (unique types_section)
     (λ after rest xs h. let x = one_item {F = type_item} 5 (95 ∷ 1 ∷ 127 ∷ 2 ∷ []) after rest h.front xs (omega arith) refl h.split h.spelled in no_structure x.0 x.1)
 
 -- ---- a group whose tag is padded
@@ -61,7 +61,7 @@ no_group x h =
 
 pub padded_group : NothingStandsWide (counted_format type_item) (4 ∷ 1 ∷ 206 ∷ 0 ∷ 0 ∷ [])
 padded_group =
-    nothing_wide {F = counted_format type_item} (4 ∷ 1 ∷ 206 ∷ 0 ∷ 0 ∷ []) types_unique
+    nothing_wide {F = counted_format type_item} (4 ∷ 1 ∷ 206 ∷ 0 ∷ 0 ∷ []) (unique types_section)
     (λ after rest xs h. let x = one_item {F = type_item} 4 (206 ∷ 0 ∷ 0 ∷ []) after rest h.front xs (omega arith) refl h.split h.spelled in no_group x.0 x.1)
 
 -- ---- a final type that is spelled with an empty list of supertypes
@@ -79,7 +79,7 @@ no_final x h =
 
 pub no_supertypes : NothingStandsWide (counted_format type_item) (5 ∷ 1 ∷ 79 ∷ 0 ∷ 95 ∷ 0 ∷ [])
 no_supertypes =
-    nothing_wide {F = counted_format type_item} (5 ∷ 1 ∷ 79 ∷ 0 ∷ 95 ∷ 0 ∷ []) types_unique
+    nothing_wide {F = counted_format type_item} (5 ∷ 1 ∷ 79 ∷ 0 ∷ 95 ∷ 0 ∷ []) (unique types_section)
     (λ after rest xs h. let x = one_item {F = type_item} 5 (79 ∷ 0 ∷ 95 ∷ 0 ∷ []) after rest h.front xs (omega arith) refl h.split h.spelled in no_final x.0 x.1)
 
 pub ruleset nothing = (mutability_of_2, padded_group, no_supertypes)

@@ -19,6 +19,7 @@ use Rattle.wasm_types.specs.RecTypes.{Shape, func, array, structure, cont, Compo
 use Rattle.wasm_types.specs.declared.types.FieldType.{FieldType}
 use Rattle.wasm_types.specs.declared.types.StorageType.{StorageType}
 use Rattle.wasm_types.specs.declared.types.StorageType.TheVariants.{I8, I16, Val}
+use Rattle.wasm_base.proofs.SectionLaws.{SectionLaws, counted_laws}
 
 -- ---- one tag before others
 
@@ -353,3 +354,10 @@ type_spelled (group subs) p =
 
 pub type_laws : ItemLaws type_items
 type_laws = record { alone = type_unique; spelled = λ t plain fits. type_spelled t plain }
+
+pub types_section : SectionLaws type_items (vec type_item)
+types_section = counted_laws type_laws (λ given plain. plain) (λ given plain. plain)
+
+pub ruleset sections = (types_section)
+
+pub ruleset parts = (type_unique, sub_unique, composite_unique, field_unique, storage_unique)

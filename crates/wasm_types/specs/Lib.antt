@@ -1,5 +1,4 @@
 pub mod RecTypes
 pub mod Given
 pub mod Calls
-pub mod Readings
 pub mod Items

@@ -1,12 +1,15 @@
 -- Types that a module defines: their texts, and what spells them.
 use Rattle.std.specs.Prelude.{ℕ, ◌^◌, ◌<◌, List, [], ◌∷◌, ◌++◌, length, Bool, true, false, Option, Some, None, IfSome, pos}
-use Rattle.wasm_base.specs.Entries.{Kind}
+use Rattle.wasm_base.specs.Entries.{Kind, HoldsItems}
 use Rattle.wasm_base.specs.Formats.{Format, u32, byte, s33, fixed, impossible, coded, mapped, such, pair, tagged, choice, vec}
 use Rattle.wasm_base.specs.Laws.{FitsUnsigned}
 use Rattle.wasm_base.specs.Numbers.{unsigned_text, signed_text}
 use Rattle.wasm_base.specs.Texts.{vec_text, VecFits}
 use Rattle.wasm_base.specs.Types.{val_type, val_text, IsVal, val_tags, val_ref}
 use Rattle.wasm_base.specs.declared.types.ValType.{ValType}
+use Rattle.wasm_base.specs.Modules.{SectionReading, reading_of}
+use Rattle.wasm_base.specs.SectionId.{number_of}
+use Rattle.wasm_base.specs.declared.section_id.SectionId.TheVariants as ids
 use Rattle.wasm_types.specs.declared.types.FieldType.{FieldType}
 use Rattle.wasm_types.specs.declared.types.StorageType.{StorageType}
 use Rattle.wasm_types.specs.declared.types.StorageType.TheVariants.{I8, I16, Val}
@@ -246,3 +249,17 @@ type_item = tagged byte after_type
 -- the kind of types and groups of types
 abbrev pub type_items : Kind TypeItem TypeItem
 type_items = record { text = type_text; IsPlain = IsType; IsPlainWide = IsType; normal_form = λ ty. ty; format = type_item }
+
+-- ---- what a section holds, and how a reader finds it
+
+-- The entries hold these types and groups of types.
+abbrev pub HoldsTypes : List (List ℕ) → List TypeItem → Type 0
+HoldsTypes = HoldsItems type_items
+
+-- the type section of these types and groups of types, as a reader finds it
+abbrev pub type_reading : List TypeItem → SectionReading
+type_reading types = reading_of (number_of ids.Types) (vec type_item) types
+
+-- the type of this shape alone: final, without supertypes, and not shared
+abbrev pub plain_type : Shape → TypeItem
+plain_type shape = single (record { is_final = true; supertypes = []; composite = record { shared = false; describes = None; descriptor = None; shape = shape } })

@@ -8,7 +8,6 @@ ghost use Rattle.wasm_base.specs.Reading.{UniqueReading, IsUniqueWide};
 ghost use Rattle.wasm_types.specs.RecTypes.{storage_type, field_type, composite_type, sub_type, type_item, type_items};
 
 /// Type sections are read uniquely, and so are types and their parts; the text of a plain record spells what it says.
-#[tactic(auto, using(crate::proofs::SectionLaws::type_sections))]
 pub fn types()
     ensures section { UniqueReading (counted_format type_item) }
     ensures item { UniqueReading type_item }
@@ -20,26 +19,23 @@ pub fn types()
 {}
 
 /// With padded numbers too, type sections and types are read uniquely, and what shortest numbers spell is among it.
-#[tactic(auto, using(crate::proofs::SectionLaws::type_sections))]
 pub fn wide()
     ensures section { IsUniqueWide (counted_format type_item) }
     ensures item { IsUniqueWide type_item }
 {}
 
 /// What a type section holds, call by call: at first no types, and after a call that adds a plain record what this says too.
-#[tactic(auto, using(crate::proofs::SectionLaws::type_sections))]
 pub fn calls()
     ensures { HoldsMore type_items }
 {}
 
 /// What the pieces of a type section spell with padded numbers, call by call.
-#[tactic(auto, using(crate::proofs::SectionLaws::type_sections))]
+#[tactic(auto, using(crate::proofs::TypeLaws::sections, wasm_base::proofs::SectionLaws::held_wide))]
 pub fn wide_calls()
     ensures { HoldsMoreWide type_items }
 {}
 
 /// Where a module is read as ids and payloads, and a type section as its items alone, its payload is read as these alone.
-#[tactic(auto, using(crate::proofs::SectionLaws::type_sections))]
 pub fn payloads()
     ensures { ReadsPayloads (vec type_item) }
 {}

@@ -14,8 +14,7 @@ ghost use Rattle.wasm_reader_base.specs.Shortest.{AppendsShortest};
 ghost use Rattle.wasm_reader_base.specs.declared.fault.ReadFault.TheVariants.{Memory};
 ghost use Rattle.wasm_types.specs.Calls.{AddsListed, AddsTwoListed};
 ghost use Rattle.wasm_types.specs.Items.{entry_view};
-ghost use Rattle.wasm_types.specs.RecTypes.{type_items, TypeItem as Item, type_text, IsType, type_item, field_text, func_text, struct_text, cont_text, sub_text};
-ghost use Rattle.wasm_types.specs.Readings.{HoldsTypes};
+ghost use Rattle.wasm_types.specs.RecTypes.{type_items, TypeItem as Item, type_text, IsType, type_item, field_text, func_text, struct_text, cont_text, sub_text, HoldsTypes};
 
 use crate::items::TypeEntry;
 use crate::types::{ARRAY, ContType, FUNC, FieldType, FuncType, STRUCT, StorageType, SubType};

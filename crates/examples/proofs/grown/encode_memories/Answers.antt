@@ -2,8 +2,7 @@ use Rattle.std.proofs.Common.{subst}
 use Rattle.std.proofs.lemmas.List.{map-id}
 use Rattle.wasm_base.proofs.Calls.{each, adds_items, encodes_items}
 use Rattle.wasm_sections.proofs.Calls.{new_memories}
-use Rattle.wasm_sections.specs.Memories.{IsMemory}
-use Rattle.wasm_sections.specs.Readings.{HoldsMemories}
+use Rattle.wasm_sections.specs.Memories.{IsMemory, HoldsMemories}
 use Rattle.examples.proofs.grown.encode_memories.Goals as goal
 
 pub returns-in-Ok : goal.returns-in-Ok

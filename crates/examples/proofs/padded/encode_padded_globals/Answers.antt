@@ -9,7 +9,7 @@ use Rattle.wasm_code.proofs.Calls.{padded_i32_const, raw_constant}
 use Rattle.wasm_code.specs.Expressions.{normal_row}
 use Rattle.wasm_insn.specs.declared.instruction.Instruction.TheVariants.{I32Const}
 use Rattle.wasm_sections.proofs.Calls.{new_globals, adds_global_wide}
-use Rattle.wasm_sections.proofs.HeldLaws.{globals-wide}
+use Rattle.wasm_sections.proofs.GlobalLaws.{globals_section}
 use Rattle.examples.specs.Padded.{number}
 use Rattle.examples.proofs.padded.encode_padded_globals.Goals as goal
 
@@ -17,7 +17,7 @@ pub returns : goal.returns
 returns g c =
     let n1 : s32 wide (0xFF ∷ 0xFF ∷ 0xFF ∷ 0xFF ∷ 0x7F ∷ []) (neg_ℤ (pos 1)) = record { groups = (omega arith, omega arith, (omega arith, omega arith, (omega arith, omega arith, (omega arith, omega arith, omega arith)))); total = refl; above = omega (arith, ints); below = omega (arith, ints); size = omega arith } in
     let e1 = raw_constant c.in_ok-init.ensures.ok (normal_row {A = Global} (I32Const (neg_ℤ (pos 1))) ∷ []) (padded_i32_const (0xFF ∷ 0xFF ∷ 0xFF ∷ 0xFF ∷ 0x7F ∷ []) (neg_ℤ (pos 1)) n1) in
-    let s1 = adds_global_wide (holds_wide globals-wide (new_globals c.new-section.ensures)) (number (neg_ℤ (pos 1))) _ c.in_ok-global.ensures.ok tt e1 in
+    let s1 = adds_global_wide (holds_wide globals_section.held_wide (new_globals c.new-section.ensures)) (number (neg_ℤ (pos 1))) _ c.in_ok-global.ensures.ok tt e1 in
     let n2 : s32 wide (0x80 ∷ 0x00 ∷ []) (pos 0) = record { groups = (omega arith, omega arith, omega arith); total = refl; above = omega (arith, ints); below = omega (arith, ints); size = omega arith } in
     let s2 = adds_global_wide s1 (number (pos 0)) (0x41 ∷ 0x80 ∷ 0x00 ∷ []) c.in_ok-raw.ensures.ok tt (padded_i32_const (0x80 ∷ 0x00 ∷ []) (pos 0) n2) in
-    encodes_items_wide globals-wide c.encode.ensures.appends c.encode.ensures.read s2
+    encodes_items_wide globals_section.held_wide c.encode.ensures.appends c.encode.ensures.read s2

@@ -3,11 +3,11 @@ use Rattle.std.specs.Iterator.Adapters.{copied_source}
 use Rattle.std.specs.Slice.Iter.{iter_rest}
 use Rattle.wasm_base.proofs.Calls.{holds_wide}
 use Rattle.wasm_sections.proofs.Calls.{new_segments, copied_added, adds_active_wide}
-use Rattle.wasm_sections.proofs.HeldLaws.{data-wide}
+use Rattle.wasm_sections.proofs.DataLaws.{segments_section}
 use Rattle.read_back.specs.Padded.{zero_offset}
 use Rattle.read_back.proofs.padded.segments.Goals as goal
 
 pub returns : goal.returns
 returns g c =
     let added = copied_added c.in_ok-active.ensures c.args.bytes.now (λ it b. ap (λ s. iter_rest (copied_source s)) b ∙ ap iter_rest c.copied.ensures.source ∙ c.iter.ensures.rest) in
-    adds_active_wide (holds_wide data-wide (new_segments c.new-section.ensures)) c.args.memory zero_offset _ c.args.bytes.now added (omega (arith, c.ranges.memory.fits)) c.in_ok-offset.ensures
+    adds_active_wide (holds_wide segments_section.held_wide (new_segments c.new-section.ensures)) c.args.memory zero_offset _ c.args.bytes.now added (omega (arith, c.ranges.memory.fits)) c.in_ok-offset.ensures

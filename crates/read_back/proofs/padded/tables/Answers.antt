@@ -15,7 +15,7 @@ use Rattle.wasm_insn.specs.declared.part.Part.TheVariants as parts
 use Rattle.wasm_insn.proofs.InstructionLaws.{byte_spelled, one_argument}
 use Rattle.wasm_insn.proofs.TableRuns.{byte_shape}
 use Rattle.wasm_sections.proofs.Calls.{new_tables, adds_table_with_init_wide}
-use Rattle.wasm_sections.proofs.HeldLaws.{tables-wide}
+use Rattle.wasm_sections.proofs.TableLaws.{tables_section}
 use Rattle.callers.specs.FirstValues.{functions_type}
 use Rattle.read_back.proofs.padded.tables.Goals as goal
 
@@ -25,4 +25,4 @@ returns g c =
     let row : Plain = normal_row {A = Global} (RefFunc 0) in
     let spelled = byte_spelled wide 0xD2 (0x80 ∷ 0x00 ∷ []) U (unsigned 0 ∷ []) refl (byte_shape 0xD2) (one_argument wide parts.Unsigned (0x80 ∷ 0x00 ∷ []) (unsigned 0) (0, refl, zero)) in
     let stored : StoresWide (0xD2 ∷ 0x80 ∷ 0x00 ∷ []) (row ∷ []) = members_one (such IsNoEnd (instruction table)) wide (0xD2 ∷ 0x80 ∷ 0x00 ∷ []) row (spelled, refl) in
-    adds_table_with_init_wide (holds_wide tables-wide (new_tables c.new-section.ensures)) (functions_type 1) (row ∷ []) _ c.in_ok-table_with_init.ensures.ok (record { element_type = tt; minimum = omega arith; maximum = tt }) (raw_constant c.in_ok-first.ensures.ok (row ∷ []) stored)
+    adds_table_with_init_wide (holds_wide tables_section.held_wide (new_tables c.new-section.ensures)) (functions_type 1) (row ∷ []) _ c.in_ok-table_with_init.ensures.ok (record { element_type = tt; minimum = omega arith; maximum = tt }) (raw_constant c.in_ok-first.ensures.ok (row ∷ []) stored)

@@ -1,7 +1,7 @@
 use Rattle.wasm_sections.specs.Imports.{imports_item, import_format}
 use Rattle.wasm_reader_base.proofs.ShortTexts.{next_appended, all_appended, vec_appended}
-use Rattle.wasm_sections.proofs.ReadPlain.{import_appended}
 use Rattle.wasm_sections.proofs.import.append_imports.Goals as goal
+use Rattle.wasm_sections.proofs.ImportLaws.{import_appended}
 
 pub loop-import-preserved : goal.loop-import-preserved
 loop-import-preserved g c =

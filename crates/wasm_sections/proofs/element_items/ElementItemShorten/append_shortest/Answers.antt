@@ -3,8 +3,8 @@ use Rattle.wasm_base.specs.Numbers.{unsigned_text}
 use Rattle.wasm_base.proofs.Outcomes.{on_ok}
 use Rattle.wasm_reader_base.specs.Shortest.{AppendsShortest}
 use Rattle.wasm_sections.specs.Elements.{are_expressions, elements_as, flag_code, tells_kind, element_view}
-use Rattle.wasm_sections.proofs.ShortItems.{element_appended}
 use Rattle.wasm_sections.proofs.element_items.ElementItemShorten.append_shortest.Goals as goal
+use Rattle.wasm_sections.proofs.ElementLaws.{element_appended}
 
 pub returns : goal.returns
 returns g c =
