@@ -57,9 +57,9 @@ fn main() -> ExitCode {
     };
     let begun = Instant::now();
     let mut random = Random::new(seed);
-    let (mut texts, mut differences, mut bytes) = ([0u64; 23], 0, 0);
+    let (mut texts, mut differences, mut bytes) = ([0u64; KINDS.len()], 0, 0);
     for number in 0..count {
-        let kind = (number % 23) as u32;
+        let kind = (number % KINDS.len() as u64) as u32;
         let input = input(&mut random, KINDS[kind as usize]);
         let (is_same, is_text) = agree(kind, &input);
         texts[kind as usize] += u64::from(is_text);
@@ -70,7 +70,7 @@ fn main() -> ExitCode {
         }
     }
     for (kind, texts) in KINDS.iter().zip(texts) {
-        println!("{kind}: {texts} texts of {}", count / 23);
+        println!("{kind}: {texts} texts of {}", count / KINDS.len() as u64);
     }
     println!("seed {seed}: {count} inputs of {bytes} bytes, {differences} differences, {} s", begun.elapsed().as_secs());
     if differences == 0 { ExitCode::SUCCESS } else { ExitCode::FAILURE }

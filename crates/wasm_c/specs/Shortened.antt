@@ -1,26 +1,15 @@
 -- What is answered of the shortest text of a section.
-use Rattle.std.specs.Prelude.{◌≡◌, ◌≢◌, ℕ, List, [], ◌∷◌, Option, Some, None, ◌⊎◌}
-use Rattle.std.specs.List.{slice_get}
+use Rattle.std.specs.Prelude.{◌≡◌, ◌≢◌, ℕ, List, [], Some, None, ◌⊎◌}
 use Rattle.wasm_base.specs.Numbers.{wide}
 use Rattle.wasm_base.specs.Reading.{ReadsNothing}
 use Rattle.wasm_reader_base.specs.declared.fault.ReadFault.{ReadFault}
 use Rattle.wasm_reader_base.specs.declared.fault.ReadFault.TheVariants.{Memory}
+use Rattle.wasm_reader.specs.Kinds.{kind_numbered}
 use Rattle.wasm_reader.specs.Sections.{section, Shortens}
 use Rattle.wasm_reader.specs.declared.kinds.SectionKind.{SectionKind}
-use Rattle.wasm_reader.specs.declared.kinds.SectionKind.TheVariants.{Bodies, Segments, DataCount, Elements, Exports, Functions, Globals, Imports, Memories, Start, Tables, Tags, Names, Linking, Producers, Hints, Core, CoreModules, CoreInstances, CoreStack, Custom, Raw, Types}
 use Rattle.wasm_c.specs.Assembled.{Gives}
 use Rattle.wasm_c.specs.Listing.{fault_number}
 use Rattle.wasm_c.specs.declared.TheConstants.{NO_ANSWER}
-
--- the kinds, in the order of their numbers
-abbrev pub kinds_in_order : List SectionKind
-kinds_in_order =
-    Bodies ∷ Segments ∷ DataCount ∷ Elements ∷ Exports ∷ Functions ∷ Globals ∷ Imports ∷ Memories ∷ Start ∷ Tables ∷ Tags
-    ∷ Names ∷ Linking ∷ Producers ∷ Hints ∷ Core ∷ CoreModules ∷ CoreInstances ∷ CoreStack ∷ Custom ∷ Raw ∷ Types ∷ []
-
--- the kind of a number, counted from 0
-abbrev pub kind_numbered : ℕ → Option SectionKind
-kind_numbered n = slice_get kinds_in_order n
 
 -- A section of the kind stands at the front, and this is its shortest text.
 pub record Shortened (number : ℕ) (bytes old new : List ℕ) (taken cause n : ℕ) : Type 0 where

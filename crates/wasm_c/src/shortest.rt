@@ -1,6 +1,5 @@
 // Shortest texts of sections.
-ghost use Rattle.std.specs.Prelude.{◌≡◌};
-ghost use Rattle.wasm_c.specs.Shortened.{kind_numbered, Outcome};
+ghost use Rattle.wasm_c.specs.Shortened.{Outcome};
 
 use crate::NO_ANSWER;
 use crate::listing::number_of;
@@ -10,38 +9,6 @@ use wasm_reader::{SectionKind, shorten};
 
 /// The number of the cause that no kind has the number.
 const NO_KIND: u32 = 9;
-
-/// The kind of a number, counted from 0 in the order of the kinds.
-fn section_kind_of(number: u32) -> Option<SectionKind>
-    ensures { result ≡ kind_numbered number }
-{
-    match number {
-        0 => Some(SectionKind::Bodies),
-        1 => Some(SectionKind::Segments),
-        2 => Some(SectionKind::DataCount),
-        3 => Some(SectionKind::Elements),
-        4 => Some(SectionKind::Exports),
-        5 => Some(SectionKind::Functions),
-        6 => Some(SectionKind::Globals),
-        7 => Some(SectionKind::Imports),
-        8 => Some(SectionKind::Memories),
-        9 => Some(SectionKind::Start),
-        10 => Some(SectionKind::Tables),
-        11 => Some(SectionKind::Tags),
-        12 => Some(SectionKind::Names),
-        13 => Some(SectionKind::Linking),
-        14 => Some(SectionKind::Producers),
-        15 => Some(SectionKind::Hints),
-        16 => Some(SectionKind::Core),
-        17 => Some(SectionKind::CoreModules),
-        18 => Some(SectionKind::CoreInstances),
-        19 => Some(SectionKind::CoreStack),
-        20 => Some(SectionKind::Custom),
-        21 => Some(SectionKind::Raw),
-        22 => Some(SectionKind::Types),
-        _ => None,
-    }
-}
 
 /// Writes the shortest text of the section of a kind that the bytes begin with; both begin at the section's size. `taken` is how many bytes it takes
 /// there. Where there is none, `cause` is the number of what is wrong; else it is 0.
@@ -58,7 +25,7 @@ pub extern "C" fn dz_shorten(
 {
     *taken = 0;
     *cause = 0;
-    let Some(kind) = section_kind_of(kind) else {
+    let Some(kind) = SectionKind::numbered(kind) else {
         *cause = NO_KIND;
         return NO_ANSWER;
     };

@@ -1,36 +1,43 @@
 -- What a kind of sections owes: what is read as it and written of it, and the ids and names that stand for it.
-use Rattle.std.proofs.Common.{◌≡◌, ℕ, List, [], ◌++◌, map, refl, sym, ap, subst, ◌∙◌, ◌≢◌, ◌∷◌, Bool, true, false, if◌then◌else◌, cond}
+use Rattle.std.proofs.Common.{◌≡◌, ℕ, List, [], ◌++◌, map, length, refl, sym, ap, subst, ◌∙◌, ◌≢◌, ◌∷◌, Bool, true, false, if◌then◌else◌, cond, Option, Some, Result, Ok, Err, IfOk}
 use Rattle.std.proofs.lemmas.List.{map-id}
 use Rattle.wasm_base.specs.Numbers.{shortest, wide}
-use Rattle.wasm_base.specs.Formats.{u32, name, any_bytes, pair, vec, Format, mapped}
+use Rattle.wasm_base.specs.Formats.{u32, name, any_bytes, pair, vec, frame, Format, mapped}
 use Rattle.wasm_base.specs.Reading.{UniqueWholeReading, Reads, ReadsNothing}
 use Rattle.wasm_base.specs.Texts.{vec_text, VecFits}
 use Rattle.wasm_base.proofs.BaseLaws.{name_unique}
 use Rattle.wasm_base.proofs.FormatLaws.{vec_unique, whole_from_alone, mapped_whole, pair_whole, any_bytes_whole}
 use Rattle.wasm_base.proofs.NumberLaws.{u32_unique}
 use Rattle.wasm_base.proofs.ReadingSteps.{reads_same}
+use Rattle.wasm_code.specs.Bodies.{body}
 use Rattle.wasm_code.proofs.BodyLaws.{frame_body_unique}
+use Rattle.wasm_sections.specs.DataSegments.{data_item}
+use Rattle.wasm_sections.specs.Elements.{element}
+use Rattle.wasm_sections.specs.Globals.{global_item}
+use Rattle.wasm_sections.specs.Imports.{import_format}
+use Rattle.wasm_sections.specs.Tables.{table_item}
+use Rattle.wasm_types.specs.RecTypes.{type_item}
 use Rattle.wasm_sections.specs.Exports.{ExportFits, export_text, item_of, export}
 use Rattle.wasm_sections.specs.Memories.{memory_text, memory_type}
 use Rattle.wasm_sections.specs.Tags.{tag_text, tag_type}
 use Rattle.wasm_sections.specs.declared.export.Export.{Export}
 use Rattle.wasm_sections.specs.declared.memory.MemoryType.{MemoryType}
 use Rattle.wasm_sections.specs.declared.tag.TagType.{TagType}
-use Rattle.wasm_sections.proofs.DataLaws.{data_unique}
-use Rattle.wasm_sections.proofs.ElementLaws.{element_unique}
-use Rattle.wasm_sections.proofs.ExportLaws.{export_unique}
-use Rattle.wasm_sections.proofs.GlobalLaws.{global_item_unique}
-use Rattle.wasm_sections.proofs.ImportLaws.{import_unique}
-use Rattle.wasm_sections.proofs.MemoryLaws.{memory_unique, memory_spelled}
-use Rattle.wasm_sections.proofs.TableLaws.{table_item_unique}
-use Rattle.wasm_sections.proofs.TagLaws.{tag_unique, tag_spelled}
-use Rattle.wasm_types.proofs.TypeLaws.{type_unique}
-use Rattle.wasm_custom.specs.CoreDumps.{core_name, modules_name, instances_name}
-use Rattle.wasm_custom.specs.CoreStacks.{stack_name}
-use Rattle.wasm_custom.specs.Hints.{hints_name}
-use Rattle.wasm_custom.specs.Linking.{linking_name}
-use Rattle.wasm_custom.specs.Names.{NameItem, name_name, name_payload}
-use Rattle.wasm_custom.specs.Producers.{producers_name}
+use Rattle.wasm_sections.proofs.ExportLaws.{export_short, exports_section}
+use Rattle.wasm_sections.proofs.MemoryLaws.{memory_spelled, memory_is, memories_section}
+use Rattle.wasm_sections.proofs.TagLaws.{tag_spelled, tag_is, tags_section}
+use Rattle.wasm_sections.proofs.DataLaws.{segments_section}
+use Rattle.wasm_sections.proofs.ElementLaws.{elements_section}
+use Rattle.wasm_sections.proofs.GlobalLaws.{globals_section}
+use Rattle.wasm_sections.proofs.ImportLaws.{imports_section}
+use Rattle.wasm_sections.proofs.TableLaws.{tables_section}
+use Rattle.wasm_sections.proofs.FunctionLaws.{functions_section}
+use Rattle.wasm_custom.specs.CoreDumps.{core_name, modules_name, instances_name, core_payload, modules_payload, instances_payload}
+use Rattle.wasm_custom.specs.CoreStacks.{stack_name, stack_payload}
+use Rattle.wasm_custom.specs.Hints.{hints_name, hints_payload}
+use Rattle.wasm_custom.specs.Linking.{linking_name, linking_payload}
+use Rattle.wasm_custom.specs.Names.{name_name, name_payload}
+use Rattle.wasm_custom.specs.Producers.{producers_name, producers_payload}
 use Rattle.wasm_custom.proofs.CoreDumpLaws.{core_whole, modules_section, instances_section}
 use Rattle.wasm_custom.proofs.CoreStackLaws.{stack_whole}
 use Rattle.wasm_custom.proofs.HintLaws.{hints_section}
@@ -38,62 +45,105 @@ use Rattle.wasm_custom.proofs.LinkLaws.{linking_section}
 use Rattle.wasm_custom.proofs.NameLaws.{names_section}
 use Rattle.wasm_custom.proofs.ProducerLaws.{producers_section}
 use Rattle.wasm_reader_base.specs.Shortest.{AppendsShortest}
+use Rattle.wasm_reader_base.specs.declared.fault.ReadFault.{ReadFault}
 use Rattle.wasm_reader_base.proofs.ShortTexts.{text_appended, pair_appended, mapped_appended, records_appended}
-use Rattle.wasm_reader.specs.Kinds.{Contents, Bodies, Segments, DataCount, Elements, Exports, Functions, Globals, Imports, Memories, Start, Tables, Tags, Types, Names, Linking, Producers, Hints, Core, CoreModules, CoreInstances, CoreStack, Custom, Raw, content, kind_in, number_in, kind_among, known_kinds, kind_of_id, kind_named}
+use Rattle.wasm_reader.specs.Kinds.{Contents, Bodies, Segments, DataCount, Elements, Exports, Functions, Globals, Imports, Memories, Start, Tables, Tags, Types, Names, Linking, Producers, Hints, Core, CoreModules, CoreInstances, CoreStack, Custom, Raw, content, kind_in, number_in, kind_among, known_kinds, kind_of_id, kind_among_names, known_names, kind_named}
 use Rattle.wasm_reader.specs.declared.kinds.SectionKind.{SectionKind}
 use Rattle.wasm_reader.specs.declared.kinds.SectionKind.TheVariants as kinds
-use Rattle.wasm_sections.proofs.ReadPlain.{memory_is, tag_is, export_short}
 use Rattle.wasm_base.specs.Going.{FillsNothing}
 use Rattle.wasm_reader.specs.Outlines.{count_in}
 use Rattle.std.specs.Str.{bytes_eq}
 use Rattle.wasm_custom.specs.Customs.{named_payload}
 use Rattle.std.proofs.lemmas.Bool.{ne_eqb}
+use Rattle.wasm_types.proofs.TypeLaws.{types_section}
 
--- ---- contents
+-- ---- what is written of each kind
 
-pub exports : (es : List Export) (old new : List ℕ) → VecFits ExportFits es → new ≡ old ++ vec_text export_text es → AppendsShortest (content kinds.Exports) (Exports (map item_of es)) old new
-exports es old new fits e = mapped_appended Exports (vec export) (map item_of es) old new (λ z k. cc k) (records_appended export item_of export_text ExportFits es old new export_short fits e)
+-- What appends the shortest text of these items, where they are written as one value of a format.
+abbrev pub AppendsItems : Contents → List ℕ → List ℕ → Type 0
+AppendsItems (Bodies x) old new = AppendsShortest (vec (frame body)) x old new
+AppendsItems (Segments x) old new = AppendsShortest (vec data_item) x old new
+AppendsItems (DataCount x) old new = AppendsShortest u32 x old new
+AppendsItems (Elements x) old new = AppendsShortest (vec element) x old new
+AppendsItems (Globals x) old new = AppendsShortest (vec global_item) x old new
+AppendsItems (Imports x) old new = AppendsShortest (vec import_format) x old new
+AppendsItems (Start x) old new = AppendsShortest u32 x old new
+AppendsItems (Tables x) old new = AppendsShortest (vec table_item) x old new
+AppendsItems (Names x) old new = AppendsShortest name_payload x old new
+AppendsItems (Linking x) old new = AppendsShortest linking_payload x old new
+AppendsItems (Producers x) old new = AppendsShortest producers_payload x old new
+AppendsItems (Hints x) old new = AppendsShortest hints_payload x old new
+AppendsItems (Core x) old new = AppendsShortest core_payload x old new
+AppendsItems (CoreModules x) old new = AppendsShortest modules_payload x old new
+AppendsItems (CoreInstances x) old new = AppendsShortest instances_payload x old new
+AppendsItems (CoreStack x) old new = AppendsShortest stack_payload x old new
+AppendsItems (Types x) old new = AppendsShortest (vec type_item) x old new
+AppendsItems x old new = ⊥
 
-pub functions : (ns : List ℕ) (old new : List ℕ) → AppendsShortest (vec u32) (map (λ n. n) ns) old new → AppendsShortest (content kinds.Functions) (Functions ns) old new
-functions ns old new a = mapped_appended Functions (vec u32) ns old new (λ z e. cc e) (subst (λ z. AppendsShortest (vec u32) z old new) (map-id ns) a)
+pub items_appended : (x : Contents) (old new : List ℕ) → AppendsItems x old new → AppendsShortest (content (kind_in x)) x old new
+items_appended (Bodies x) old new a = mapped_appended Bodies _ x old new (λ z e. cc e) a
+items_appended (Segments x) old new a = mapped_appended Segments _ x old new (λ z e. cc e) a
+items_appended (DataCount x) old new a = mapped_appended DataCount _ x old new (λ z e. cc e) a
+items_appended (Elements x) old new a = mapped_appended Elements _ x old new (λ z e. cc e) a
+items_appended (Exports x) old new a = absurd a
+items_appended (Functions x) old new a = absurd a
+items_appended (Globals x) old new a = mapped_appended Globals _ x old new (λ z e. cc e) a
+items_appended (Imports x) old new a = mapped_appended Imports _ x old new (λ z e. cc e) a
+items_appended (Memories x) old new a = absurd a
+items_appended (Start x) old new a = mapped_appended Start _ x old new (λ z e. cc e) a
+items_appended (Tables x) old new a = mapped_appended Tables _ x old new (λ z e. cc e) a
+items_appended (Tags x) old new a = absurd a
+items_appended (Names x) old new a = mapped_appended Names _ x old new (λ z e. cc e) a
+items_appended (Linking x) old new a = mapped_appended Linking _ x old new (λ z e. cc e) a
+items_appended (Producers x) old new a = mapped_appended Producers _ x old new (λ z e. cc e) a
+items_appended (Hints x) old new a = mapped_appended Hints _ x old new (λ z e. cc e) a
+items_appended (Core x) old new a = mapped_appended Core _ x old new (λ z e. cc e) a
+items_appended (CoreModules x) old new a = mapped_appended CoreModules _ x old new (λ z e. cc e) a
+items_appended (CoreInstances x) old new a = mapped_appended CoreInstances _ x old new (λ z e. cc e) a
+items_appended (CoreStack x) old new a = mapped_appended CoreStack _ x old new (λ z e. cc e) a
+items_appended (Custom x) old new a = absurd a
+items_appended (Raw x) old new a = absurd a
+items_appended (Types x) old new a = mapped_appended Types _ x old new (λ z e. cc e) a
 
-pub memories : (ms : List MemoryType) (old new : List ℕ) → VecFits (λ m. Unit {0}) ms → new ≡ old ++ vec_text memory_text ms → AppendsShortest (content kinds.Memories) (Memories ms) old new
-memories ms old new fits e =
+pub exports_appended : (es : List Export) (old new : List ℕ) → VecFits ExportFits es → new ≡ old ++ vec_text export_text es → AppendsShortest (content kinds.Exports) (Exports (map item_of es)) old new
+exports_appended es old new fits e = mapped_appended Exports (vec export) (map item_of es) old new (λ z k. cc k) (records_appended export item_of export_text ExportFits es old new export_short fits e)
+
+pub functions_appended : (ns : List ℕ) (old new : List ℕ) → AppendsShortest (vec u32) (map (λ n. n) ns) old new → AppendsShortest (content kinds.Functions) (Functions ns) old new
+functions_appended ns old new a = mapped_appended Functions (vec u32) ns old new (λ z e. cc e) (subst (λ z. AppendsShortest (vec u32) z old new) (map-id ns) a)
+
+pub memories_appended : (ms : List MemoryType) (old new : List ℕ) → VecFits (λ m. Unit {0}) ms → new ≡ old ++ vec_text memory_text ms → AppendsShortest (content kinds.Memories) (Memories ms) old new
+memories_appended ms old new fits e =
     mapped_appended Memories (vec memory_type) ms old new (λ z k. cc k)
     (subst (λ z. AppendsShortest (vec memory_type) z old new) (map-id ms) (records_appended memory_type (λ m. m) memory_text (λ m. Unit {0}) ms old new (λ m f s h. memory_spelled m (memory_is wide s m h)) fits e))
 
-pub tags : (ts : List TagType) (old new : List ℕ) → VecFits (λ t. Unit {0}) ts → new ≡ old ++ vec_text tag_text ts → AppendsShortest (content kinds.Tags) (Tags ts) old new
-tags ts old new fits e =
+pub tags_appended : (ts : List TagType) (old new : List ℕ) → VecFits (λ t. Unit {0}) ts → new ≡ old ++ vec_text tag_text ts → AppendsShortest (content kinds.Tags) (Tags ts) old new
+tags_appended ts old new fits e =
     mapped_appended Tags (vec tag_type) ts old new (λ z k. cc k)
     (subst (λ z. AppendsShortest (vec tag_type) z old new) (map-id ts) (records_appended tag_type (λ t. t) tag_text (λ t. Unit {0}) ts old new (λ t f s h. tag_spelled t (tag_is wide s t h)) fits e))
 
-pub custom : (n bytes old middle new : List ℕ) → AppendsShortest name n old middle → new ≡ middle ++ bytes → AppendsShortest (content kinds.Custom) (Custom (n, bytes)) old new
-custom n bytes old middle new a e = mapped_appended Custom (pair name any_bytes) (n, bytes) old new (λ z k. cc k) (pair_appended name any_bytes a (text_appended any_bytes bytes bytes middle new (λ s h. refl) e))
+pub custom_appended : (n bytes old middle new : List ℕ) → AppendsShortest name n old middle → new ≡ middle ++ bytes → AppendsShortest (content kinds.Custom) (Custom (n, bytes)) old new
+custom_appended n bytes old middle new a e = mapped_appended Custom (pair name any_bytes) (n, bytes) old new (λ z k. cc k) (pair_appended name any_bytes a (text_appended any_bytes bytes bytes middle new (λ s h. refl) e))
 
-pub raw : (bytes old new : List ℕ) → new ≡ old ++ bytes → AppendsShortest (content kinds.Raw) (Raw bytes) old new
-raw bytes old new e = mapped_appended Raw any_bytes bytes old new (λ z k. cc k) (text_appended any_bytes bytes bytes old new (λ s h. refl) e)
+pub raw_appended : (bytes old new : List ℕ) → new ≡ old ++ bytes → AppendsShortest (content kinds.Raw) (Raw bytes) old new
+raw_appended bytes old new e = mapped_appended Raw any_bytes bytes old new (λ z k. cc k) (text_appended any_bytes bytes bytes old new (λ s h. refl) e)
 
--- As what the items are is told by a case of a match.
-pub of_items : (x y : Contents) (old new : List ℕ) → x ≡ y → AppendsShortest (content (kind_in y)) y old new → AppendsShortest (content (kind_in x)) x old new
-of_items x y old new e a = subst (λ z. AppendsShortest (content (kind_in z)) z old new) (sym e) a
-
-pub ruleset contents = (exports, functions, memories, tags, custom, raw)
+pub ruleset contents = (items_appended, exports_appended, functions_appended, memories_appended, tags_appended, custom_appended, raw_appended)
 
 -- ---- unique reading
 
 pub content_whole : (kind : SectionKind) → UniqueWholeReading (content kind)
 content_whole kinds.Bodies = mapped_whole Bodies (λ x y e. cc) (whole_from_alone (vec_unique frame_body_unique))
-content_whole kinds.Segments = mapped_whole Segments (λ x y e. cc) (whole_from_alone (vec_unique data_unique))
+content_whole kinds.Segments = mapped_whole Segments (λ x y e. cc) segments_section.whole
 content_whole kinds.DataCount = mapped_whole DataCount (λ x y e. cc) (whole_from_alone u32_unique)
-content_whole kinds.Elements = mapped_whole Elements (λ x y e. cc) (whole_from_alone (vec_unique element_unique))
-content_whole kinds.Exports = mapped_whole Exports (λ x y e. cc) (whole_from_alone (vec_unique export_unique))
-content_whole kinds.Functions = mapped_whole Functions (λ x y e. cc) (whole_from_alone (vec_unique u32_unique))
-content_whole kinds.Globals = mapped_whole Globals (λ x y e. cc) (whole_from_alone (vec_unique global_item_unique))
-content_whole kinds.Imports = mapped_whole Imports (λ x y e. cc) (whole_from_alone (vec_unique import_unique))
-content_whole kinds.Memories = mapped_whole Memories (λ x y e. cc) (whole_from_alone (vec_unique memory_unique))
+content_whole kinds.Elements = mapped_whole Elements (λ x y e. cc) elements_section.whole
+content_whole kinds.Exports = mapped_whole Exports (λ x y e. cc) exports_section.whole
+content_whole kinds.Functions = mapped_whole Functions (λ x y e. cc) functions_section.whole
+content_whole kinds.Globals = mapped_whole Globals (λ x y e. cc) globals_section.whole
+content_whole kinds.Imports = mapped_whole Imports (λ x y e. cc) imports_section.whole
+content_whole kinds.Memories = mapped_whole Memories (λ x y e. cc) memories_section.whole
 content_whole kinds.Start = mapped_whole Start (λ x y e. cc) (whole_from_alone u32_unique)
-content_whole kinds.Tables = mapped_whole Tables (λ x y e. cc) (whole_from_alone (vec_unique table_item_unique))
-content_whole kinds.Tags = mapped_whole Tags (λ x y e. cc) (whole_from_alone (vec_unique tag_unique))
+content_whole kinds.Tables = mapped_whole Tables (λ x y e. cc) tables_section.whole
+content_whole kinds.Tags = mapped_whole Tags (λ x y e. cc) tags_section.whole
 content_whole kinds.Names = mapped_whole Names (λ x y e. cc) names_section.whole
 content_whole kinds.Linking = mapped_whole Linking (λ x y e. cc) linking_section.whole
 content_whole kinds.Producers = mapped_whole Producers (λ x y e. cc) producers_section.whole
@@ -104,7 +154,7 @@ content_whole kinds.CoreInstances = mapped_whole CoreInstances (λ x y e. cc) in
 content_whole kinds.CoreStack = mapped_whole CoreStack (λ x y e. cc) stack_whole
 content_whole kinds.Custom = mapped_whole Custom (λ x y e. cc) (pair_whole name_unique any_bytes_whole)
 content_whole kinds.Raw = mapped_whole Raw (λ x y e. cc) any_bytes_whole
-content_whole kinds.Types = mapped_whole Types (λ x y e. cc) (whole_from_alone (vec_unique type_unique))
+content_whole kinds.Types = mapped_whole Types (λ x y e. cc) types_section.whole
 
 -- What is read as a section of a kind is what sections of that kind hold.
 pub kind_is : (kind : SectionKind) (s : List ℕ) (x : Contents) → content kind wide s x → kind_in x ≡ kind
@@ -134,41 +184,89 @@ kind_is kinds.Types s x h = sym (ap kind_in h.1)
 
 -- ---- what is read as each kind
 
--- As the kind is told by a case of a match.
-pub of_kind : {kind k : SectionKind} (bytes : List ℕ) (x : Contents) → kind ≡ k → content k wide bytes x → content kind wide bytes x
-of_kind bytes x e h = subst (λ z. content z wide bytes x) (sym e) h
+-- What F tells of the bytes tells what they hold as a section of the kind: nothing, or the image by f.
+abbrev pub ReadsAs : {X : Type 0} → (X → Contents) → Format X → SectionKind → Type 0
+ReadsAs {X} f F k = (kind : SectionKind) (bytes : List ℕ) → kind ≡ k → (FillsNothing F bytes → FillsNothing (content kind) bytes) × ((x : X) → F wide bytes x → content kind wide bytes (f x))
 
-pub none_of_kind : {kind k : SectionKind} (bytes : List ℕ) → kind ≡ k → FillsNothing (content k) bytes → FillsNothing (content kind) bytes
-none_of_kind bytes e n = subst (λ z. FillsNothing (content z) bytes) (sym e) n
+read_as : {X : Type 0} (f : X → Contents) {F : Format X} {k : SectionKind} → content k ≡ mapped f F → ReadsAs f F k
+read_as f {F} is kind bytes e =
+    let same : mapped f F ≡ content kind = sym (ap content e ∙ is) in
+    (λ n. subst (λ G. FillsNothing G bytes) same (record { none = λ y h. n.none h.0 h.2 }), λ x h. subst (λ G. G wide bytes (f x)) same (x, refl, h))
 
-pub says_nothing : {X Y : Type 0} (f : X → Y) {F : Format X} {bytes : List ℕ} → FillsNothing F bytes → FillsNothing (mapped f F) bytes
-says_nothing f n = record { none = λ y h. n.none h.0 h.2 }
+pub bodies_read : ReadsAs Bodies (vec (frame body)) kinds.Bodies
+bodies_read = read_as Bodies refl
 
-pub functions_fill : (bytes : List ℕ) (x : List ℕ) → vec u32 wide bytes (map (λ n. n) x) → content kinds.Functions wide bytes (Functions x)
-functions_fill bytes x h = (x, refl, subst (λ z. vec u32 wide bytes z) (map-id x) h)
+pub segments_read : ReadsAs Segments (vec data_item) kinds.Segments
+segments_read = read_as Segments refl
 
-pub memories_fill : (bytes : List ℕ) (x : List MemoryType) → vec memory_type wide bytes (map (λ m. m) x) → content kinds.Memories wide bytes (Memories x)
-memories_fill bytes x h = (x, refl, subst (λ z. vec memory_type wide bytes z) (map-id x) h)
+pub data_count_read : ReadsAs DataCount u32 kinds.DataCount
+data_count_read = read_as DataCount refl
 
-pub start_fills : (bytes : List ℕ) (x : ℕ) → u32 wide bytes x → content kinds.Start wide bytes (Start x)
-start_fills bytes x h = (x, refl, h)
+pub elements_read : ReadsAs Elements (vec element) kinds.Elements
+elements_read = read_as Elements refl
 
-pub tags_fill : (bytes : List ℕ) (x : List TagType) → vec tag_type wide bytes (map (λ t. t) x) → content kinds.Tags wide bytes (Tags x)
-tags_fill bytes x h = (x, refl, subst (λ z. vec tag_type wide bytes z) (map-id x) h)
+pub exports_read : ReadsAs Exports (vec export) kinds.Exports
+exports_read = read_as Exports refl
 
-pub names_fill : (bytes : List ℕ) (x : List NameItem) → name_payload wide bytes x → content kinds.Names wide bytes (Names x)
-names_fill bytes x h = (x, refl, h)
+pub functions_read : ReadsAs Functions (vec u32) kinds.Functions
+functions_read = read_as Functions refl
 
-pub custom_fills : (bytes rest text : List ℕ) → Reads name wide bytes text rest → content kinds.Custom wide bytes (Custom (text, rest))
-custom_fills bytes rest text h = ((text, rest), refl, record { front = h.front; back = rest; joined = h.split; first = h.spelled; second = refl })
+pub globals_read : ReadsAs Globals (vec global_item) kinds.Globals
+globals_read = read_as Globals refl
 
-pub no_custom : (bytes : List ℕ) → ReadsNothing name wide bytes → FillsNothing (content kinds.Custom) bytes
-no_custom bytes n = record { none = λ y h. let s = h.2 in n.none h.0.0 s.back (record { front = s.front; split = s.joined; spelled = s.first }) }
+pub imports_read : ReadsAs Imports (vec import_format) kinds.Imports
+imports_read = read_as Imports refl
 
-pub raw_fills : (bytes : List ℕ) → content kinds.Raw wide bytes (Raw bytes)
-raw_fills bytes = (bytes, refl, refl)
+pub memories_read : ReadsAs Memories (vec memory_type) kinds.Memories
+memories_read = read_as Memories refl
 
-pub ruleset content_steps = (start_fills, names_fill, raw_fills)
+pub start_read : ReadsAs Start u32 kinds.Start
+start_read = read_as Start refl
+
+pub tables_read : ReadsAs Tables (vec table_item) kinds.Tables
+tables_read = read_as Tables refl
+
+pub tags_read : ReadsAs Tags (vec tag_type) kinds.Tags
+tags_read = read_as Tags refl
+
+pub names_read : ReadsAs Names name_payload kinds.Names
+names_read = read_as Names refl
+
+pub linking_read : ReadsAs Linking linking_payload kinds.Linking
+linking_read = read_as Linking refl
+
+pub producers_read : ReadsAs Producers producers_payload kinds.Producers
+producers_read = read_as Producers refl
+
+pub hints_read : ReadsAs Hints hints_payload kinds.Hints
+hints_read = read_as Hints refl
+
+pub core_read : ReadsAs Core core_payload kinds.Core
+core_read = read_as Core refl
+
+pub core_modules_read : ReadsAs CoreModules modules_payload kinds.CoreModules
+core_modules_read = read_as CoreModules refl
+
+pub core_instances_read : ReadsAs CoreInstances instances_payload kinds.CoreInstances
+core_instances_read = read_as CoreInstances refl
+
+pub core_stack_read : ReadsAs CoreStack stack_payload kinds.CoreStack
+core_stack_read = read_as CoreStack refl
+
+pub types_read : ReadsAs Types (vec type_item) kinds.Types
+types_read = read_as Types refl
+
+pub custom_read : (kind : SectionKind) (bytes : List ℕ) → kind ≡ kinds.Custom → (ReadsNothing name wide bytes → FillsNothing (content kind) bytes) × ((text rest : List ℕ) → Reads name wide bytes text rest → content kind wide bytes (Custom (text, rest)))
+custom_read kind bytes e =
+    let all = read_as Custom {F = pair name any_bytes} refl kind bytes e in (
+      λ n. all.0 (record { none = λ y s. n.none y.0 s.back (record { front = s.front; split = s.joined; spelled = s.first }) }),
+      λ text rest h. all.1 (text, rest) (record { front = h.front; back = rest; joined = h.split; first = h.spelled; second = refl }),
+    )
+
+pub raw_read : (bytes : List ℕ) → content kinds.Raw wide bytes (Raw bytes)
+raw_read bytes = (bytes, refl, refl)
+
+pub ruleset content_steps = (bodies_read, segments_read, data_count_read, elements_read, exports_read, functions_read, globals_read, imports_read, memories_read, start_read, tables_read, tags_read, names_read, linking_read, producers_read, hints_read, core_read, core_modules_read, core_instances_read, core_stack_read, types_read, custom_read, raw_read)
 
 -- ---- kinds of ids and names
 
@@ -189,18 +287,6 @@ for_if : (P : SectionKind → Type 0) (b : Bool) {x y : SectionKind} → P x →
 for_if P true p q = p
 for_if P false p q = q
 
--- What holds of each kind that a name may stand for holds of a name's.
-for_named : (P : SectionKind → Type 0) → P kinds.Names → P kinds.Linking → P kinds.Producers → P kinds.Hints → P kinds.Core → P kinds.CoreModules → P kinds.CoreInstances → P kinds.CoreStack → P kinds.Custom → (n : List ℕ) → P (kind_named n)
-for_named P a b c d e f g h i n =
-    for_if P (bytes_eq n name_name) a
-    (for_if P (bytes_eq n linking_name) b
-    (for_if P (bytes_eq n producers_name) c
-    (for_if P (bytes_eq n hints_name) d
-    (for_if P (bytes_eq n core_name) e
-    (for_if P (bytes_eq n modules_name) f
-    (for_if P (bytes_eq n instances_name) g
-    (for_if P (bytes_eq n stack_name) h i)))))))
-
 -- The name at the front of what is read as a kind is at the front of its shortest text.
 abbrev pub KeepsName : List ℕ → SectionKind → Type 0
 KeepsName n kind = (s t rest : List ℕ) (x : Contents) → content kind wide s x → content kind shortest t x → Reads name wide s n rest → (last : List ℕ) × Reads name wide t n last
@@ -212,25 +298,97 @@ named_front m F s t rest n x y h g r =
     let same : n ≡ m = (reads_same name_unique r (record { front = a.front; split = a.joined; spelled = a.first })).0 in
     (b.back, subst (λ z. Reads name wide t z b.back) (sym same) (record { front = b.front; split = b.joined; spelled = name_unique.spellings.wider b.front m b.first }))
 
-pub keeps_name : (n : List ℕ) → KeepsName n (kind_named n)
-keeps_name n = for_named (KeepsName n)
-    (λ s t rest x h g r. named_front name_name _ s t rest n h.0 g.0 h.2 g.2 r)
-    (λ s t rest x h g r. named_front linking_name _ s t rest n h.0 g.0 h.2 g.2 r)
-    (λ s t rest x h g r. named_front producers_name _ s t rest n h.0 g.0 h.2 g.2 r)
-    (λ s t rest x h g r. named_front hints_name _ s t rest n h.0 g.0 h.2 g.2 r)
-    (λ s t rest x h g r. named_front core_name _ s t rest n h.0 g.0 h.2 g.2 r)
-    (λ s t rest x h g r. named_front modules_name _ s t rest n h.0 g.0 h.2 g.2 r)
-    (λ s t rest x h g r. named_front instances_name _ s t rest n h.0 g.0 h.2 g.2 r)
-    (λ s t rest x h g r. named_front stack_name _ s t rest n h.0 g.0 h.2 g.2 r)
-    (λ s t rest x h g r.
+named_kept : {X : Type 0} (f : X → Contents) (m : List ℕ) {F : Format X} (kind : SectionKind) → content kind ≡ mapped f (named_payload m F) → (n : List ℕ) → KeepsName n kind
+named_kept f m {F} kind is n s t rest x h g r =
+    let a = subst (λ G. G wide s x) is h in
+    let b = subst (λ G. G shortest t x) is g in
+    named_front m F s t rest n a.0 b.0 a.2 b.2 r
+
+names_kept : (n : List ℕ) → KeepsName n kinds.Names
+names_kept = named_kept Names name_name kinds.Names refl
+
+linking_kept : (n : List ℕ) → KeepsName n kinds.Linking
+linking_kept = named_kept Linking linking_name kinds.Linking refl
+
+producers_kept : (n : List ℕ) → KeepsName n kinds.Producers
+producers_kept = named_kept Producers producers_name kinds.Producers refl
+
+hints_kept : (n : List ℕ) → KeepsName n kinds.Hints
+hints_kept = named_kept Hints hints_name kinds.Hints refl
+
+core_kept : (n : List ℕ) → KeepsName n kinds.Core
+core_kept = named_kept Core core_name kinds.Core refl
+
+core_modules_kept : (n : List ℕ) → KeepsName n kinds.CoreModules
+core_modules_kept = named_kept CoreModules modules_name kinds.CoreModules refl
+
+core_instances_kept : (n : List ℕ) → KeepsName n kinds.CoreInstances
+core_instances_kept = named_kept CoreInstances instances_name kinds.CoreInstances refl
+
+core_stack_kept : (n : List ℕ) → KeepsName n kinds.CoreStack
+core_stack_kept = named_kept CoreStack stack_name kinds.CoreStack refl
+
+custom_kept : (n : List ℕ) → KeepsName n kinds.Custom
+custom_kept n s t rest x h g r =
     let a = h.2 in
     let b = g.2 in
     let same : n ≡ h.0.0 = (reads_same name_unique r (record { front = a.front; split = a.joined; spelled = a.first })).0 in
     let told : h.0 ≡ g.0 = cc (h.1 ∙ sym g.1) in
-    (b.back, subst (λ z. Reads name wide t z b.back) (sym (same ∙ ap (λ z. z.0) told)) (record { front = b.front; split = b.joined; spelled = name_unique.spellings.wider b.front g.0.0 b.first })))
-    n
+    (b.back, subst (λ z. Reads name wide t z b.back) (sym (same ∙ ap (λ z. z.0) told)) (record { front = b.front; split = b.joined; spelled = name_unique.spellings.wider b.front g.0.0 b.first }))
+
+-- Each of the kinds keeps each name.
+abbrev AllKeepNames : List (List ℕ × SectionKind) → Type 0
+AllKeepNames [] = Unit {0}
+AllKeepNames (k ∷ ks) = ((n : List ℕ) → KeepsName n k.1) × AllKeepNames ks
+
+kept_among : (ks : List (List ℕ × SectionKind)) → AllKeepNames ks → (n : List ℕ) → KeepsName n (kind_among_names ks n)
+kept_among [] h n = custom_kept n
+kept_among (k ∷ ks) h n = for_if (KeepsName n) (bytes_eq n k.0) (h.0 n) (kept_among ks h.1 n)
+
+pub keeps_name : (n : List ℕ) → KeepsName n (kind_named n)
+keeps_name = kept_among known_names (names_kept, (linking_kept, (producers_kept, (hints_kept, (core_kept, (core_modules_kept, (core_instances_kept, (core_stack_kept, tt))))))))
 
 -- ---- numbers of items
+
+-- Where so many values of F are counted behind their number, a section of the kind has so many items, which are their image by f.
+abbrev pub CountsAs : {X : Type 0} → (List X → Contents) → Format X → SectionKind → Type 0
+CountsAs {X} f F k = (kind : SectionKind) (bytes : List ℕ) (r : Result (Option ℕ) ReadFault) → kind ≡ k → IfOk r (λ n. (xs : List X) × vec F wide bytes xs × (n ≡ Some (length xs))) → IfOk r (λ n. (x : Contents) × content kind wide bytes x × (n ≡ number_in x))
+
+count_as : {X : Type 0} (f : List X → Contents) {F : Format X} {k : SectionKind} → ReadsAs f (vec F) k → ((xs : List X) → Some (length xs) ≡ number_in (f xs)) → CountsAs f F k
+count_as f reads numbered kind bytes (Ok n) e h = (f h.0, (reads kind bytes e).1 h.0 h.1, h.2 ∙ numbered h.0)
+count_as f reads numbered kind bytes (Err z) e h = tt
+
+pub bodies_counted : CountsAs Bodies (frame body) kinds.Bodies
+bodies_counted = count_as Bodies bodies_read (λ xs. refl)
+
+pub segments_counted : CountsAs Segments data_item kinds.Segments
+segments_counted = count_as Segments segments_read (λ xs. refl)
+
+pub elements_counted : CountsAs Elements element kinds.Elements
+elements_counted = count_as Elements elements_read (λ xs. refl)
+
+pub exports_counted : CountsAs Exports export kinds.Exports
+exports_counted = count_as Exports exports_read (λ xs. refl)
+
+pub functions_counted : CountsAs Functions u32 kinds.Functions
+functions_counted = count_as Functions functions_read (λ xs. refl)
+
+pub globals_counted : CountsAs Globals global_item kinds.Globals
+globals_counted = count_as Globals globals_read (λ xs. refl)
+
+pub imports_counted : CountsAs Imports import_format kinds.Imports
+imports_counted = count_as Imports imports_read (λ xs. refl)
+
+pub memories_counted : CountsAs Memories memory_type kinds.Memories
+memories_counted = count_as Memories memories_read (λ xs. refl)
+
+pub tables_counted : CountsAs Tables table_item kinds.Tables
+tables_counted = count_as Tables tables_read (λ xs. refl)
+
+pub tags_counted : CountsAs Tags tag_type kinds.Tags
+tags_counted = count_as Tags tags_read (λ xs. refl)
+
+pub ruleset number_steps = (bodies_counted, segments_counted, elements_counted, exports_counted, functions_counted, globals_counted, imports_counted, memories_counted, tables_counted, tags_counted)
 
 -- All kinds but types have as many items in an outline as in a list.
 pub counted_alike : (kind : SectionKind) (payload : List ℕ) (x : Contents) → kind ≢ kinds.Types → content kind wide payload x → count_in x ≡ number_in x

@@ -1,5 +1,6 @@
 -- Kinds of sections: what the frame of each holds, and what a reader's items say.
 use Rattle.std.specs.Prelude.{ℕ, List, [], ◌∷◌, length, map, Option, Some, None, cond, ◌==◌, if◌then◌else◌}
+use Rattle.std.specs.List.{slice_get}
 use Rattle.std.specs.Str.{bytes_eq}
 use Rattle.wasm_base.specs.Formats.{Format, u32, name, any_bytes, mapped, pair, vec, frame}
 use Rattle.wasm_base.specs.SectionId.{number_of}
@@ -138,6 +139,16 @@ contents_of (items.Custom n b) = Custom (n.now, b.now)
 contents_of (items.Raw b) = Raw b.now
 contents_of (items.Types v) = Types (map entry_view v.items)
 
+-- the kinds, in the order of their numbers
+abbrev pub kinds_in_order : List SectionKind
+kinds_in_order =
+    kinds.Bodies ∷ kinds.Segments ∷ kinds.DataCount ∷ kinds.Elements ∷ kinds.Exports ∷ kinds.Functions ∷ kinds.Globals ∷ kinds.Imports ∷ kinds.Memories ∷ kinds.Start ∷ kinds.Tables ∷ kinds.Tags
+    ∷ kinds.Names ∷ kinds.Linking ∷ kinds.Producers ∷ kinds.Hints ∷ kinds.Core ∷ kinds.CoreModules ∷ kinds.CoreInstances ∷ kinds.CoreStack ∷ kinds.Custom ∷ kinds.Raw ∷ kinds.Types ∷ []
+
+-- the kind of a number, counted from 0
+abbrev pub kind_numbered : ℕ → Option SectionKind
+kind_numbered n = slice_get kinds_in_order n
+
 -- the kind that stands beside the id, and `Raw` where none does
 abbrev pub kind_among : List (ℕ × SectionKind) → ℕ → SectionKind
 kind_among [] id = kinds.Raw
@@ -160,18 +171,24 @@ known_kinds =
 abbrev pub kind_of_id : ℕ → SectionKind
 kind_of_id id = kind_among known_kinds id
 
+-- the kind that stands beside the name, and `Custom` where none does
+abbrev pub kind_among_names : List (List ℕ × SectionKind) → List ℕ → SectionKind
+kind_among_names [] n = kinds.Custom
+kind_among_names (k ∷ ks) n = if bytes_eq n k.0 then k.1 else kind_among_names ks n
+
+-- the kinds of custom sections beside their names
+abbrev pub known_names : List (List ℕ × SectionKind)
+known_names =
+    (name_name, kinds.Names) ∷ (linking_name, kinds.Linking) ∷ (producers_name, kinds.Producers) ∷ (hints_name, kinds.Hints)
+    ∷ (core_name, kinds.Core)
+    ∷ (modules_name, kinds.CoreModules)
+    ∷ (instances_name, kinds.CoreInstances)
+    ∷ (stack_name, kinds.CoreStack)
+    ∷ []
+
 -- the kind of a custom section of the name
 abbrev pub kind_named : List ℕ → SectionKind
-kind_named n =
-    if bytes_eq n name_name then kinds.Names
-    else if bytes_eq n linking_name then kinds.Linking
-    else if bytes_eq n producers_name then kinds.Producers
-    else if bytes_eq n hints_name then kinds.Hints
-    else if bytes_eq n core_name then kinds.Core
-    else if bytes_eq n modules_name then kinds.CoreModules
-    else if bytes_eq n instances_name then kinds.CoreInstances
-    else if bytes_eq n stack_name then kinds.CoreStack
-    else kinds.Custom
+kind_named n = kind_among_names known_names n
 
 -- the number of items, where a list of a module tells it
 abbrev pub number_in : Contents → Option ℕ

@@ -4,8 +4,9 @@ ghost use Rattle.wasm_base.specs.Going.{FillsNothing};
 ghost use Rattle.wasm_base.specs.Numbers.{wide};
 ghost use Rattle.wasm_reader_base.specs.Shortest.{AppendsShortest};
 ghost use Rattle.wasm_reader_base.specs.declared.fault.ReadFault.TheVariants.{Memory};
-ghost use Rattle.wasm_reader.specs.Kinds.{content, contents_of, kind_in, kind_named, kind_of_id as kind_among_ids};
+ghost use Rattle.wasm_reader.specs.Kinds.{Contents, content, contents_of, kind_in, kind_named, kind_numbered, kind_of_id as kind_among_ids, number_in};
 
+use crate::counts::count_passed;
 use std::alloc::{Allocator, Global};
 use wasm_base::{Encode, R};
 use wasm_custom::{
@@ -13,11 +14,11 @@ use wasm_custom::{
     append_modules, append_names, append_process, append_producers, append_stack, read_hints,
     read_instances, read_links, read_modules, read_names, read_process, read_producers, read_stack,
 };
-use wasm_reader_base::{ReadFault, Readable, Shorten, read_whole};
+use wasm_reader_base::{Dropped, ReadFault, Readable, Shorten, read_whole};
 use wasm_reader_insn::Body;
 use wasm_sections::{
-    ElementItem, Export, GlobalItem, Imports, MemoryType, Segment, TableItem, TagType,
-    append_imports, read_imports, read_segments,
+    ElementItem, Export, GlobalItem, Imports, MemoryType, PassedImports, Segment, TableItem,
+    TagType, append_imports, read_imports, read_segments,
 };
 use wasm_types::{TypeEntry, append_types, read_types};
 
@@ -59,6 +60,40 @@ pub enum SectionKind {
     /// A section of any bytes.
     Raw,
     Types,
+}
+
+impl SectionKind {
+    /// The kind of this number, in the order of the enum's declaration, as C callers number them.
+    pub fn numbered(number: u32) -> Option<SectionKind>
+        ensures { result ≡ kind_numbered number }
+    {
+        match number {
+            0 => Some(SectionKind::Bodies),
+            1 => Some(SectionKind::Segments),
+            2 => Some(SectionKind::DataCount),
+            3 => Some(SectionKind::Elements),
+            4 => Some(SectionKind::Exports),
+            5 => Some(SectionKind::Functions),
+            6 => Some(SectionKind::Globals),
+            7 => Some(SectionKind::Imports),
+            8 => Some(SectionKind::Memories),
+            9 => Some(SectionKind::Start),
+            10 => Some(SectionKind::Tables),
+            11 => Some(SectionKind::Tags),
+            12 => Some(SectionKind::Names),
+            13 => Some(SectionKind::Linking),
+            14 => Some(SectionKind::Producers),
+            15 => Some(SectionKind::Hints),
+            16 => Some(SectionKind::Core),
+            17 => Some(SectionKind::CoreModules),
+            18 => Some(SectionKind::CoreInstances),
+            19 => Some(SectionKind::CoreStack),
+            20 => Some(SectionKind::Custom),
+            21 => Some(SectionKind::Raw),
+            22 => Some(SectionKind::Types),
+            _ => None,
+        }
+    }
 }
 
 /// The items of a section. Names, data and raw parts are slices of the input; lists are in memory of the allocator.
@@ -244,6 +279,38 @@ pub(crate) fn read_content<'a, A: Allocator + Copy + 'a>(
         SectionKind::Types => {
             let items = read_types(bytes, alloc)?;
             Ok(Items::Types(items))
+        }
+    }
+}
+
+/// The number of items of a section of the kind, from what its frame holds. Nothing is kept of what is counted.
+#[tactic(auto, using(crate::proofs::KindLaws::number_steps))]
+pub(crate) fn read_number<'a, A: Allocator + Copy>(
+    kind: SectionKind,
+    bytes: &'a [u8],
+    alloc: A,
+) -> Result<Option<u32>, ReadFault>
+    ensures found { IfOk result (λ number. (x : Contents) × content kind wide bytes.now x × (number ≡ number_in x)) }
+    ensures none { IfErr result (λ e. e ≢ Memory → FillsNothing (content kind) bytes.now) }
+{
+    match kind {
+        SectionKind::Bodies => count_passed::<'a, Body<A>, A>(bytes, alloc),
+        SectionKind::Segments => count_passed::<'a, Segment<'a, A>, A>(bytes, alloc),
+        SectionKind::Elements => count_passed::<'a, ElementItem<A>, A>(bytes, alloc),
+        SectionKind::Exports => count_passed::<'a, Dropped<Export<'a>>, A>(bytes, alloc),
+        SectionKind::Functions => count_passed::<'a, Dropped<u32>, A>(bytes, alloc),
+        SectionKind::Globals => count_passed::<'a, GlobalItem<A>, A>(bytes, alloc),
+        SectionKind::Imports => count_passed::<'a, PassedImports, A>(bytes, alloc),
+        SectionKind::Memories => count_passed::<'a, Dropped<MemoryType>, A>(bytes, alloc),
+        SectionKind::Tables => count_passed::<'a, TableItem<A>, A>(bytes, alloc),
+        SectionKind::Tags => count_passed::<'a, Dropped<TagType>, A>(bytes, alloc),
+        SectionKind::DataCount | SectionKind::Start => {
+            drop(read_content(kind, bytes, alloc)?);
+            Ok(Some(1))
+        }
+        _ => {
+            drop(read_content(kind, bytes, alloc)?);
+            Ok(None)
         }
     }
 }

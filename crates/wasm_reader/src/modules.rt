@@ -1,21 +1,15 @@
 // Modules: a line for each section.
 ghost use Rattle.std.specs.Prelude.{◌≡◌, ◌≢◌, ◌⊎◌, ◌++◌, ℕ, IfOk, IfErr};
 ghost use Rattle.wasm_base.specs.Formats.{fixed, header};
-ghost use Rattle.wasm_base.specs.Going.{FillsNothing};
 ghost use Rattle.wasm_base.specs.Numbers.{wide};
 ghost use Rattle.wasm_base.specs.Reading.{Reads, ReadsNothing};
 ghost use Rattle.wasm_reader_base.specs.declared.fault.ReadFault.TheVariants.{Ended, UnknownTag, Memory};
-ghost use Rattle.wasm_reader.specs.Kinds.{number_in, Contents, content};
+ghost use Rattle.wasm_reader.specs.Kinds.{Contents};
 ghost use Rattle.wasm_reader.specs.Modules.{sized_section, line_of, HasLines, StopsAt};
 
-use crate::counts::count_passed;
-use crate::kinds::{SectionKind, kind_of_id, read_content};
+use crate::kinds::{kind_of_id, read_number};
 use std::alloc::Allocator;
-use wasm_reader_base::{Dropped, ReadFault, Readable};
-use wasm_reader_insn::Body;
-use wasm_sections::{
-    ElementItem, Export, GlobalItem, MemoryType, PassedImports, Segment, TableItem, TagType,
-};
+use wasm_reader_base::{ReadFault, Readable};
 
 /// The magic and the version of a module.
 pub(crate) const HEADER: [u8; 8] = [0x00, 0x61, 0x73, 0x6D, 0x01, 0x00, 0x00, 0x00];
@@ -45,37 +39,6 @@ pub(crate) fn read_header(bytes: &[u8]) -> Result<&[u8], ReadFault>
             } else {
                 Err(ReadFault::UnknownTag)
             }
-        }
-    }
-}
-
-/// The number of items of a section of the kind, from what its frame holds. Nothing is kept of what is counted.
-pub(crate) fn read_number<'a, A: Allocator + Copy>(
-    kind: SectionKind,
-    bytes: &'a [u8],
-    alloc: A,
-) -> Result<Option<u32>, ReadFault>
-    ensures found { IfOk result (λ number. (x : Contents) × content kind wide bytes.now x × (number ≡ number_in x)) }
-    ensures none { IfErr result (λ e. e ≢ Memory → FillsNothing (content kind) bytes.now) }
-{
-    match kind {
-        SectionKind::Bodies => count_passed::<'a, Body<A>, A>(bytes, alloc),
-        SectionKind::Segments => count_passed::<'a, Segment<'a, A>, A>(bytes, alloc),
-        SectionKind::Elements => count_passed::<'a, ElementItem<A>, A>(bytes, alloc),
-        SectionKind::Exports => count_passed::<'a, Dropped<Export<'a>>, A>(bytes, alloc),
-        SectionKind::Functions => count_passed::<'a, Dropped<u32>, A>(bytes, alloc),
-        SectionKind::Globals => count_passed::<'a, GlobalItem<A>, A>(bytes, alloc),
-        SectionKind::Imports => count_passed::<'a, PassedImports, A>(bytes, alloc),
-        SectionKind::Memories => count_passed::<'a, Dropped<MemoryType>, A>(bytes, alloc),
-        SectionKind::Tables => count_passed::<'a, TableItem<A>, A>(bytes, alloc),
-        SectionKind::Tags => count_passed::<'a, Dropped<TagType>, A>(bytes, alloc),
-        SectionKind::DataCount | SectionKind::Start => {
-            drop(read_content(kind, bytes, alloc)?);
-            Ok(Some(1))
-        }
-        _ => {
-            drop(read_content(kind, bytes, alloc)?);
-            Ok(None)
         }
     }
 }

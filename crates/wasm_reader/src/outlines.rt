@@ -8,8 +8,8 @@ ghost use Rattle.wasm_reader_base.specs.declared.fault.ReadFault.TheVariants.{Me
 ghost use Rattle.wasm_reader.specs.Outlines.{Section, section_of, bytes_of, section_kind_of, IsCount, IsSection, IsOutline, HasOutline, EndsAt};
 ghost use Rattle.wasm_reader.specs.declared.kinds.SectionKind.TheVariants as kinds;
 
-use crate::kinds::SectionKind;
-use crate::modules::{read_header, read_number};
+use crate::kinds::{SectionKind, read_number};
+use crate::modules::read_header;
 use crate::standing::{Standing, read_standing};
 use std::alloc::Allocator;
 use wasm_reader_base::ReadFault;

@@ -2,12 +2,13 @@
 // Kinds of sections: what each is read as, and how it is written in fewest bytes.
 
 use crate::vec::{Sink, Vec};
+use crate::reader::counts::count_passed;
 use crate::alloc::{Allocator, Global};
 use crate::base::{Encode, R};
 use crate::custom::{BranchHint, CoreFrame, LinkItem, NameItem, append_hints, append_instances, append_links, append_modules, append_names, append_process, append_producers, append_stack, read_hints, read_instances, read_links, read_modules, read_names, read_process, read_producers, read_stack};
-use crate::reader::base::{ReadFault, Readable, Shorten, read_whole};
+use crate::reader::base::{Dropped, ReadFault, Readable, Shorten, read_whole};
 use crate::reader::insn::Body;
-use crate::sections::{ElementItem, Export, GlobalItem, Imports, MemoryType, Segment, TableItem, TagType, append_imports, read_imports, read_segments};
+use crate::sections::{ElementItem, Export, GlobalItem, Imports, MemoryType, PassedImports, Segment, TableItem, TagType, append_imports, read_imports, read_segments};
 use crate::types::{TypeEntry, append_types, read_types};
 
 /// What a section is read as.
@@ -48,6 +49,44 @@ pub enum SectionKind {
     /// A section of any bytes.
     Raw,
     Types,
+}
+
+impl SectionKind {
+    /// The kind of this number, in the order of the enum's declaration, as C callers number them.
+    ///
+    /// # Proved
+    ///
+    /// ```text
+    /// ensures { result ≡ kind_numbered number }
+    /// ```
+    pub fn numbered(number: u32) -> Option<SectionKind> {
+        match number {
+            0 => Some(SectionKind::Bodies),
+            1 => Some(SectionKind::Segments),
+            2 => Some(SectionKind::DataCount),
+            3 => Some(SectionKind::Elements),
+            4 => Some(SectionKind::Exports),
+            5 => Some(SectionKind::Functions),
+            6 => Some(SectionKind::Globals),
+            7 => Some(SectionKind::Imports),
+            8 => Some(SectionKind::Memories),
+            9 => Some(SectionKind::Start),
+            10 => Some(SectionKind::Tables),
+            11 => Some(SectionKind::Tags),
+            12 => Some(SectionKind::Names),
+            13 => Some(SectionKind::Linking),
+            14 => Some(SectionKind::Producers),
+            15 => Some(SectionKind::Hints),
+            16 => Some(SectionKind::Core),
+            17 => Some(SectionKind::CoreModules),
+            18 => Some(SectionKind::CoreInstances),
+            19 => Some(SectionKind::CoreStack),
+            20 => Some(SectionKind::Custom),
+            21 => Some(SectionKind::Raw),
+            22 => Some(SectionKind::Types),
+            _ => None,
+        }
+    }
 }
 
 /// The items of a section. Names, data and raw parts are slices of the input; lists are in memory of the allocator.
@@ -243,6 +282,41 @@ pub(in crate::reader) fn read_content<'a, A: Allocator + Copy + 'a>(
         SectionKind::Types => {
             let items = read_types(bytes, alloc)?;
             Ok(Items::Types(items))
+        }
+    }
+}
+
+/// The number of items of a section of the kind, from what its frame holds. Nothing is kept of what is counted.
+///
+/// # Proved
+///
+/// ```text
+/// ensures found { IfOk result (λ number. (x : Contents) × content kind wide bytes.now x × (number ≡ number_in x)) }
+/// ensures none { IfErr result (λ e. e ≢ Memory → FillsNothing (content kind) bytes.now) }
+/// ```
+pub(in crate::reader) fn read_number<'a, A: Allocator + Copy>(
+    kind: SectionKind,
+    bytes: &'a [u8],
+    alloc: A,
+) -> Result<Option<u32>, ReadFault> {
+    match kind {
+        SectionKind::Bodies => count_passed::<'a, Body<A>, A>(bytes, alloc),
+        SectionKind::Segments => count_passed::<'a, Segment<'a, A>, A>(bytes, alloc),
+        SectionKind::Elements => count_passed::<'a, ElementItem<A>, A>(bytes, alloc),
+        SectionKind::Exports => count_passed::<'a, Dropped<Export<'a>>, A>(bytes, alloc),
+        SectionKind::Functions => count_passed::<'a, Dropped<u32>, A>(bytes, alloc),
+        SectionKind::Globals => count_passed::<'a, GlobalItem<A>, A>(bytes, alloc),
+        SectionKind::Imports => count_passed::<'a, PassedImports, A>(bytes, alloc),
+        SectionKind::Memories => count_passed::<'a, Dropped<MemoryType>, A>(bytes, alloc),
+        SectionKind::Tables => count_passed::<'a, TableItem<A>, A>(bytes, alloc),
+        SectionKind::Tags => count_passed::<'a, Dropped<TagType>, A>(bytes, alloc),
+        SectionKind::DataCount | SectionKind::Start => {
+            drop(read_content(kind, bytes, alloc)?);
+            Ok(Some(1))
+        }
+        _ => {
+            drop(read_content(kind, bytes, alloc)?);
+            Ok(None)
         }
     }
 }

@@ -2,12 +2,9 @@
 // Modules: a line for each section.
 
 use crate::vec::Vec;
-use crate::reader::counts::count_passed;
-use crate::reader::kinds::{SectionKind, kind_of_id, read_content};
+use crate::reader::kinds::{kind_of_id, read_number};
 use crate::alloc::Allocator;
-use crate::reader::base::{Dropped, ReadFault, Readable};
-use crate::reader::insn::Body;
-use crate::sections::{ElementItem, Export, GlobalItem, MemoryType, PassedImports, Segment, TableItem, TagType};
+use crate::reader::base::{ReadFault, Readable};
 
 /// The magic and the version of a module.
 pub(in crate::reader) const HEADER: [u8; 8] = [0x00, 0x61, 0x73, 0x6D, 0x01, 0x00, 0x00, 0x00];
@@ -40,41 +37,6 @@ pub(in crate::reader) fn read_header(bytes: &[u8]) -> Result<&[u8], ReadFault> {
             } else {
                 Err(ReadFault::UnknownTag)
             }
-        }
-    }
-}
-
-/// The number of items of a section of the kind, from what its frame holds. Nothing is kept of what is counted.
-///
-/// # Proved
-///
-/// ```text
-/// ensures found { IfOk result (λ number. (x : Contents) × content kind wide bytes.now x × (number ≡ number_in x)) }
-/// ensures none { IfErr result (λ e. e ≢ Memory → FillsNothing (content kind) bytes.now) }
-/// ```
-pub(in crate::reader) fn read_number<'a, A: Allocator + Copy>(
-    kind: SectionKind,
-    bytes: &'a [u8],
-    alloc: A,
-) -> Result<Option<u32>, ReadFault> {
-    match kind {
-        SectionKind::Bodies => count_passed::<'a, Body<A>, A>(bytes, alloc),
-        SectionKind::Segments => count_passed::<'a, Segment<'a, A>, A>(bytes, alloc),
-        SectionKind::Elements => count_passed::<'a, ElementItem<A>, A>(bytes, alloc),
-        SectionKind::Exports => count_passed::<'a, Dropped<Export<'a>>, A>(bytes, alloc),
-        SectionKind::Functions => count_passed::<'a, Dropped<u32>, A>(bytes, alloc),
-        SectionKind::Globals => count_passed::<'a, GlobalItem<A>, A>(bytes, alloc),
-        SectionKind::Imports => count_passed::<'a, PassedImports, A>(bytes, alloc),
-        SectionKind::Memories => count_passed::<'a, Dropped<MemoryType>, A>(bytes, alloc),
-        SectionKind::Tables => count_passed::<'a, TableItem<A>, A>(bytes, alloc),
-        SectionKind::Tags => count_passed::<'a, Dropped<TagType>, A>(bytes, alloc),
-        SectionKind::DataCount | SectionKind::Start => {
-            drop(read_content(kind, bytes, alloc)?);
-            Ok(Some(1))
-        }
-        _ => {
-            drop(read_content(kind, bytes, alloc)?);
-            Ok(None)
         }
     }
 }

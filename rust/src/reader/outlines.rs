@@ -2,8 +2,8 @@
 // Modules: an outline of the sections, read as their kinds or not.
 
 use crate::vec::Vec;
-use crate::reader::kinds::SectionKind;
-use crate::reader::modules::{read_header, read_number};
+use crate::reader::kinds::{SectionKind, read_number};
+use crate::reader::modules::read_header;
 use crate::reader::standing::{Standing, read_standing};
 use crate::alloc::Allocator;
 use crate::reader::base::ReadFault;

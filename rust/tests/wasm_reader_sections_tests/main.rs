@@ -35,6 +35,8 @@ mod faults;
 #[cfg(test)]
 mod modules;
 #[cfg(test)]
+mod numbers;
+#[cfg(test)]
 mod refusals;
 #[cfg(test)]
 mod rows;

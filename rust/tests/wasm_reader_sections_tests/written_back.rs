@@ -3,11 +3,11 @@
 
 use dolzhytik::vec::Vec;
 use crate::checks::check_bytes;
-use crate::read_back::handed::handed_module;
-use crate::read_back::padded::{padded_entries, read_padded_segment, write_padded_bodies};
 use crate::read_back::custom::{read_custom, read_hints, read_linking, read_more_names, read_producers};
 use crate::read_back::declared::{read_exports, read_imports, read_memories, read_tables, read_tags, read_types};
 use crate::read_back::dumps::{core_dump, read_instances, read_modules, read_process, read_stack};
+use crate::read_back::handed::handed_module;
+use crate::read_back::padded::{padded_entries, read_padded_segment, write_padded_bodies};
 use crate::read_back::stored::{read_bodies, read_data_count, read_elements, read_globals, read_segments, read_start};
 use dolzhytik::alloc::Global;
 use crate::host::Abort;

@@ -157,7 +157,7 @@ fn no_section_stands() {
     check_text(
         &rt,
         alloc,
-        23,
+        u32::MAX,
         padded,
         &mut [9; 3],
         (NO_ANSWER, 0, 9),

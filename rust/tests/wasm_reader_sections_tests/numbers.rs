@@ -1,0 +1,15 @@
+// Written by tools/to-rust from tests/wasm_reader_sections_tests/src/numbers.rtt: change that.
+// Kinds of sections by their numbers.
+
+use dolzhytik::reader::SectionKind;
+
+/// The first kind, three others, and a number that no kind has: the numbers are those of `dolzhytik.h`.
+#[test]
+fn numbered() {
+    let rt = crate::host::HostRuntime;
+    assert_eq!(rt; SectionKind::numbered(0), Some(SectionKind::Bodies));
+    assert_eq!(rt; SectionKind::numbered(5), Some(SectionKind::Functions));
+    assert_eq!(rt; SectionKind::numbered(15), Some(SectionKind::Hints));
+    assert_eq!(rt; SectionKind::numbered(22), Some(SectionKind::Types));
+    assert_eq!(rt; SectionKind::numbered(u32::MAX), None)
+}
