@@ -16,13 +16,14 @@ pub record Appends {A : Type 0} (text : List ℕ) (fits : Type 0) (old new : Vec
   pub room : fits → vec_len old + length text ≤ vec_capacity old → IsOk result
   pub capacity : vec_capacity old ≤ vec_capacity new
 
--- The builder gains an entry of this text, or keeps what it has. The number of its entries has 32 bits.
+-- The builder gains an entry of this text, or keeps what it has. The number of its entries has 32 bits: a full builder returns `TooLong`.
 pub record Adds (text : List ℕ) (fits : Type 0) (old new : List (List ℕ)) (result : Result (Unit {0}) Refused) : Type 0 where
   pub ok : OnOk result (new ≡ old ++ text ∷ [])
   pub err : OnErr result (new ≡ old)
   pub fitted : OnOk result fits
   pub counted : OnOk result (length old < longest)
   pub too_long : fits → length old < longest → result ≢ Err TooLong
+  pub full : length old ≡ longest → result ≡ Err TooLong
 
 -- The builder gains an entry for each of these items, in order.
 pub record AddsEach {T : Type 0} (text : T → List ℕ) (Fits : T → Type 0) (items : List T) (old new : List (List ℕ)) : Type 0 where
@@ -30,11 +31,12 @@ pub record AddsEach {T : Type 0} (text : T → List ℕ) (Fits : T → Type 0) (
   pub fitted : All Fits items
   pub counted : 0 < length items → length new ≤ longest
 
--- The builder gains all items, or as many as the answer says, and the next of them is refused.
+-- The builder gains all items, or as many as the error says, and the next of them is refused: as `TooLong` where the builder is full.
 pub record AddsAll {T : Type 0} (text : T → List ℕ) (Fits : T → Type 0) (items : List T) (old new : List (List ℕ)) (result : Result (Unit {0}) (ℕ × Refused)) : Type 0 where
   pub ok : OnOk result (AddsEach text Fits items old new)
   pub err : IfErr result (λ stopped. (stopped.0 < length items) × AddsEach text Fits (take stopped.0 items) old new)
   pub too_long : IfErr result (λ stopped. stopped.1 ≡ TooLong → IfSome (slice_get items stopped.0) (λ item. Fits item → longest ≤ length new))
+  pub full : IfErr result (λ stopped. length new ≡ longest → stopped.1 ≡ TooLong)
 
 -- The headline: whatever items the section says, its text is read as these alone.
 pub record ReadsBack {Items : Type 0} (F : Format Items) (Says : Items → Type 0) (text : List ℕ) : Type 0 where

@@ -14,12 +14,13 @@ pub record AppendsOnce {A : Type 0} (Gives : List ℕ → Type 0) (fits : Type 0
   pub too_long : fits → result ≢ Err TooLong
   pub capacity : vec_capacity old ≤ vec_capacity new
 
--- The builder gains an entry of one of these texts, or keeps what it has. The number of its entries has 32 bits.
+-- The builder gains an entry of one of these texts, or keeps what it has. The number of its entries has 32 bits: a full builder returns `TooLong`.
 pub record AddsOnce (Gives : List ℕ → Type 0) (fits : Type 0) (old new : List (List ℕ)) (result : Result (Unit {0}) Refused) : Type 0 where
   pub ok : OnOk result ((text : List ℕ) × Gives text × (new ≡ old ++ text ∷ []))
   pub err : OnErr result (new ≡ old)
   pub counted : OnOk result (length old < longest)
   pub too_long : fits → length old < longest → result ≢ Err TooLong
+  pub full : length old ≡ longest → result ≡ Err TooLong
 
 -- The iterator may be called, ends, and gives as many items as were counted, whose number can be spelled.
 pub record TellsCount {S T : Type 0} (can_next : S → Type 0) (gives : S → Option T → S → Type 0) (remaining : S → Count) (it : S) (count : ℕ) : Type 0 where

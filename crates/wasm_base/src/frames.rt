@@ -1,5 +1,5 @@
 // Frames: a size, and exactly that many bytes.
-ghost use Rattle.std.specs.Prelude.{◌≡◌, ◌≢◌, ◌+◌, ◌≤◌, ◌++◌, length, vec_len, vec_capacity, OnOk, OnErr, IsOk};
+ghost use Rattle.std.specs.Prelude.{◌≡◌, ◌≢◌, ◌+◌, ◌<◌, ◌≤◌, ◌++◌, length, vec_len, vec_capacity, OnOk, OnErr, IsOk};
 ghost use Rattle.wasm_base.specs.Calls.{Appends};
 ghost use Rattle.wasm_base.specs.Numbers.{unsigned_text};
 ghost use Rattle.wasm_base.specs.Texts.{longest, frame_text, FrameFits};
@@ -17,6 +17,7 @@ pub fn begin_frame<A: Allocator>(sink: &mut Vec<u8, A>, size: usize) -> R<()>
 
     ensures fitted { OnOk result (size ≤ longest) }
     ensures too_long { size ≤ longest → result ≢ Err Refused.TooLong }
+    ensures too_many { longest < size → result ≡ Err Refused.TooLong }
 
     ensures room { size ≤ longest
         → vec_len sink.old + (length (unsigned_text size) + size) ≤ vec_capacity sink.old
@@ -26,7 +27,7 @@ pub fn begin_frame<A: Allocator>(sink: &mut Vec<u8, A>, size: usize) -> R<()>
     let Ok(short) = u32::try_from(size) else {
         return Err(Refused::TooLong);
     };
-    sink.reserve(encoding_size(short) + size)?;
+    sink.reserve(size.saturating_add(encoding_size(short)))?;
     short.encode(sink)
 }
 

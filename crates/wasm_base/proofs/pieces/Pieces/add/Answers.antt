@@ -9,6 +9,7 @@ returns-then-len-ge-MOST_ENTRIES g c = record {
   fitted = search rules;
   counted = search rules;
   too_long = λ _ more _. omega (arith, more, length_cut 0 c.self.inside.ends.items c.self.inside.bytes.items, ap length c.self.view_is);
+  full = search rules;
 }
 
 pub invariant_of-self-2 : goal.invariant_of-self-2
@@ -29,4 +30,5 @@ returns g c =
       fitted = search rules;
       counted = omega (arith, length_cut 0 c.self.inside.ends.items c.self.inside.bytes.items, ap length c.self.view_is);
       too_long = search rules;
+      full = λ e. absurd (omega (arith, e, length_cut 0 c.self.inside.ends.items c.self.inside.bytes.items, ap length c.self.view_is));
     }
