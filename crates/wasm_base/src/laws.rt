@@ -3,7 +3,7 @@
 //! `UniqueReading F` says that bytes begin with a spelling in the format `F` of at most one value, whatever follows, both with
 //! shortest and with padded numbers, and that a value has at most one shortest spelling. `HasTexts F fits text` says that the text of each
 //! value that fits is this spelling. No clause ranges over all formats, so vectors and frames are stated for those named here.
-ghost use Rattle.std.specs.Prelude.{pos, All, IsUtf8};
+ghost use Rattle.std.specs.Prelude.{◌≡◌, false, true, pos, All, IsUtf8};
 ghost use Rattle.wasm_base.specs.Formats.{
   u32 as u32_format,
   u64 as u64_format,
@@ -25,6 +25,10 @@ ghost use Rattle.wasm_base.specs.Laws.{FitsUnsigned, FitsBytes, FitsSigned32, Fi
 ghost use Rattle.wasm_base.specs.Numbers.{unsigned_text, signed_text};
 ghost use Rattle.wasm_base.specs.Reading.{UniqueReading, UniqueWholeReading, HasTexts, BeginsWith, IsUniqueWide, IsUniqueWholeWide};
 ghost use Rattle.wasm_base.specs.Types.{heap_type, ref_type, val_type, heap_text, ref_text, val_text, IsHeap, IsRef, IsVal, IsIndexByte};
+ghost use Rattle.wasm_base.specs.declared.types.AbstractHeapType.TheVariants.{Func, Extern};
+ghost use Rattle.wasm_base.specs.declared.types.HeapType.TheVariants.{Abstract};
+ghost use Rattle.wasm_base.specs.declared.types.TheConstants.HeapType.{FUNC, EXTERN};
+ghost use Rattle.wasm_base.specs.declared.types.TheConstants.RefType.{FUNCREF, EXTERNREF};
 ghost use Rattle.wasm_base.specs.Texts.{vec_text, VecFits, frame_text, FrameFits, module_text, ModuleFits, little_endian_text};
 
 /// Numbers are read uniquely. `s33` is an index, spelled as a signed number.
@@ -97,6 +101,14 @@ pub fn types()
     ensures heap_texts { HasTexts heap_type IsHeap heap_text }
     ensures reference_texts { HasTexts ref_type IsRef ref_text }
     ensures value_texts { HasTexts val_type IsVal val_text }
+{}
+
+/// The values of the constants of types.
+pub fn constants()
+    ensures function { FUNC ≡ Abstract false Func }
+    ensures host { EXTERN ≡ Abstract false Extern }
+    ensures function_reference { FUNCREF ≡ record { nullable = true; heap_type = Abstract false Func } }
+    ensures host_reference { EXTERNREF ≡ record { nullable = true; heap_type = Abstract false Extern } }
 {}
 
 /// With padded numbers, as the standard allows them, bytes are read uniquely too, and what shortest numbers spell is among it.
