@@ -11,6 +11,8 @@ ghost use Rattle.wasm_base.specs.Numbers.{wide};
 ghost use Rattle.wasm_base.specs.Reading.{Reads, ReadsNothing};
 ghost use Rattle.wasm_reader.specs.Kinds.{Functions, Names, contents_of};
 ghost use Rattle.wasm_reader.specs.Sections.{section, Takes, Shortens};
+ghost use Rattle.wasm_reader.specs.Shortening.{ShortensModule};
+ghost use Rattle.wasm_reader.specs.declared.whole.Offsets.TheVariants.{Refuse};
 ghost use Rattle.wasm_reader.specs.declared.kinds.SectionKind.TheVariants as kinds;
 
 pub mod custom;
@@ -145,7 +147,7 @@ pub fn written_names<'a, A: Allocator + Copy + 'a>(
     Ok(items)
 }
 
-/// Shortens a module into an empty buffer: what stands there is a module, and no longer.
+/// Shortens a module into an empty buffer, which then holds the shortened module, no longer than the first. After an error the buffer is empty.
 #[tactic(auto, using(wasm_reader::proofs::Calls::module_comes, wasm_reader::proofs::Calls::module_no_longer))]
 pub fn smaller_module<A: Allocator + Copy>(
     bytes: &[u8],
@@ -154,6 +156,8 @@ pub fn smaller_module<A: Allocator + Copy>(
     requires { sink.old.items ≡ [] }
     ensures is_module { OnOk result ((sections : List (ℕ × List ℕ)) × wasm_module wide sink.new.items sections) }
     ensures no_longer { OnOk result (length sink.new.items ≤ length bytes.now) }
+    ensures shortened { IfOk result (λ kept. ShortensModule Refuse bytes.now kept sink.old.items sink.new.items) }
+    ensures err { OnErr result (sink.new.items ≡ []) }
 {
     shorten_module(bytes, Offsets::Refuse, sink)
 }

@@ -38,6 +38,7 @@ fn add_local<A: Allocator>(runs: &mut Vec<(u32, ValType), A>, ty: ValType) -> R<
     ensures more { OnOk result (MoreRuns ty runs.old.items runs.new.items) }
     ensures counted { All IsCounted runs.old.items → OnOk result (All IsCounted runs.new.items) }
     ensures full { result ≡ Err TooLong → IsFull ty runs.old.items }
+    ensures too_many { IsFull ty runs.old.items → result ≡ Err TooLong }
 {
     let Some((count, last)) = runs.pop() else {
         runs.push((1, ty))?;

@@ -1,10 +1,10 @@
 // Lists of counted entries that are handed in as a whole.
-ghost use Rattle.std.specs.Prelude.{◌≡◌, ◌≢◌, ℕ, List, [], length, IfOk, IsTrue, ◌↔◌, ⊤};
+ghost use Rattle.std.specs.Prelude.{◌≡◌, ◌≢◌, ℕ, List, [], length, IfOk, IsTrue, ◌↔◌, ⊤, Option};
 ghost use Rattle.wasm_base.specs.Calls.{Adds};
 ghost use Rattle.wasm_base.specs.declared.refused.Refused.TheVariants.{TooLong};
-ghost use Rattle.wasm_custom.specs.Lists.{list_text, HoldsList, IsTextOf};
+ghost use Rattle.wasm_custom.specs.Lists.{list_text, listed_text, ListedFits, HoldsList, IsTextOf};
 
-use crate::subsections::Content;
+use crate::subsections::{Content, Subsection};
 use std::alloc::{Allocator, Global};
 use std::marker::{Model, PhantomData};
 use wasm_base::{Encode, Pieces, R, encoding_size};
@@ -19,6 +19,13 @@ pub trait ListKind {
 
     /// What holds of each member that is handed in.
     ghost is_member: { Member → Type 0 };
+
+    /// The id of the subsection that a list is encoded as, or none where it is encoded as a vector alone.
+    ghost subsection: { Option ℕ };
+
+    /// That id.
+    fn subsection() -> Option<u8>
+        ensures { result ≡ subsection };
 }
 
 /// A list of counted members of the kind `K`, seen as the bytes of each.
@@ -92,25 +99,49 @@ impl<K: ListKind, A: Allocator + Copy> CountedList<K, A> {
     }
 }
 
-/// The vector of the entries.
-impl<K: ListKind, A: Allocator> Encode for CountedList<K, A> {
-    ghost text = { list_text };
+/// The vector of the entries of a list, as a part of an encoding.
+#[derive(Clone, Copy)]
+pub(crate) struct Entries<'a, K: ListKind, A: Allocator>(pub &'a CountedList<K, A>);
+
+impl<K: ListKind, A: Allocator> Encode for Entries<'_, K, A> {
+    ghost text = { λ entries. list_text entries.0.now };
 
     ghost fits = { λ _. ⊤ };
 
     #[tactic(auto, unfolding(crate::specs::Lists::list_text))]
     fn encode<B: Allocator>(&self, sink: &mut Vec<u8, B>) -> R<()> {
-        let count = self.pieces.len();
-        sink.reserve(encoding_size(count).saturating_add(self.pieces.raw_len()))?;
+        let pieces = &self.0.pieces;
+        let count = pieces.len();
+        sink.reserve(encoding_size(count).saturating_add(pieces.raw_len()))?;
         count.encode(sink).unwrap();
-        sink.extend_from_slice(self.pieces.bytes()).unwrap();
+        sink.extend_from_slice(pieces.bytes()).unwrap();
         Ok(())
     }
 }
 
-impl<K: ListKind, A: Allocator> Content for CountedList<K, A> {
+impl<K: ListKind, A: Allocator> Content for Entries<'_, K, A> {
     #[tactic(auto, unfolding(crate::specs::Lists::list_text))]
     fn size(&self) -> usize {
-        encoding_size(self.pieces.len()).saturating_add(self.pieces.raw_len())
+        let pieces = &self.0.pieces;
+        encoding_size(pieces.len()).saturating_add(pieces.raw_len())
+    }
+}
+
+/// The vector of the entries: by itself, or in the subsection that lists of the kind are.
+impl<K: ListKind, A: Allocator> Encode for CountedList<K, A> {
+    ghost text = { listed_text K.subsection };
+
+    ghost fits = { ListedFits K.subsection };
+
+    fn encode<B: Allocator>(&self, sink: &mut Vec<u8, B>) -> R<()> {
+        let entries = Entries(self);
+        match K::subsection() {
+            None => entries.encode(sink),
+            Some(id) => Subsection {
+                id,
+                content: &entries,
+            }
+            .encode(sink),
+        }
     }
 }

@@ -1,5 +1,5 @@
 // Names of a module and of its parts.
-ghost use Rattle.std.specs.Prelude.{◌≡◌, ◌++◌, [], false, ⊤, ◌≢◌, IfOk, IfErr, OnOk, map};
+ghost use Rattle.std.specs.Prelude.{None, ◌≡◌, ◌++◌, [], false, ⊤, ◌≢◌, IfOk, IfErr, OnOk, map};
 ghost use Rattle.wasm_base.specs.Calls.{Adds};
 ghost use Rattle.wasm_base.specs.Cow.{items_of, text_of};
 ghost use Rattle.wasm_base.specs.Formats.{fixed, u32};
@@ -16,7 +16,7 @@ ghost use Rattle.wasm_reader_base.specs.declared.fault.ReadFault.TheVariants.{Me
 
 use crate::custom_section::CustomSection;
 use crate::entries::{CustomEntries, CustomKind};
-use crate::lists::{CountedList, ListKind};
+use crate::lists::{CountedList, Entries, ListKind};
 use crate::named::after_name;
 use crate::subsections::{RawContent, Subsection};
 use std::alloc::{Allocator, Global};
@@ -38,6 +38,12 @@ impl ListKind for NameMembers {
     ghost member_text = { naming_text };
 
     ghost is_member = { IsNaming };
+
+    ghost subsection = { None };
+
+    fn subsection() -> Option<u8> {
+        None
+    }
 }
 
 impl<A: Allocator> NameMap<A> {
@@ -63,6 +69,12 @@ impl ListKind for IndirectMembers {
     ghost member_text = { inside_text };
 
     ghost is_member = { IsInside };
+
+    ghost subsection = { None };
+
+    fn subsection() -> Option<u8> {
+        None
+    }
 }
 
 impl<A: Allocator> IndirectNameMap<A> {
@@ -132,14 +144,16 @@ impl<A: Allocator> NameSection<A> {
     fn map<B: Allocator>(&mut self, id: u8, names: &NameMap<B>) -> R<()>
         ensures { Adds (subsection_text id (list_text names.now)) (FrameFits (list_text names.now) × ⊤) self.old self.new result }
     {
-        self.add_record(&Subsection { id, content: names })
+        let content = &Entries(names);
+        self.add_record(&Subsection { id, content })
     }
 
     /// Adds a subsection of names of what is inside. A refused call leaves the section as it was.
     fn indirect_map<B: Allocator>(&mut self, id: u8, names: &IndirectNameMap<B>) -> R<()>
         ensures { Adds (subsection_text id (list_text names.now)) (FrameFits (list_text names.now) × ⊤) self.old self.new result }
     {
-        self.add_record(&Subsection { id, content: names })
+        let content = &Entries(names);
+        self.add_record(&Subsection { id, content })
     }
 
     /// Adds the name of the module. A refused call leaves the section as it was.

@@ -1,5 +1,5 @@
 // The producers section.
-ghost use Rattle.std.specs.Prelude.{◌++◌, [], true, ⊤, ◌≢◌, IfOk, IfErr, OnOk, map};
+ghost use Rattle.std.specs.Prelude.{None, ◌++◌, [], true, ⊤, ◌≢◌, IfOk, IfErr, OnOk, map};
 ghost use Rattle.wasm_base.specs.Calls.{Adds};
 ghost use Rattle.wasm_base.specs.Formats.{fixed};
 ghost use Rattle.wasm_base.specs.Going.{FillsNothing};
@@ -31,6 +31,12 @@ impl ListKind for ValueMembers {
     ghost member_text = { producer_text };
 
     ghost is_member = { IsProducer };
+
+    ghost subsection = { None };
+
+    fn subsection() -> Option<u8> {
+        None
+    }
 }
 
 impl<A: Allocator> ProducersField<A> {

@@ -1,7 +1,9 @@
 // Subsections: an id, and a frame.
-ghost use Rattle.std.specs.Prelude.{◌≡◌, ◌≤◌, length, ⊤};
+ghost use Rattle.std.specs.Prelude.{◌≡◌, ◌≢◌, ◌+◌, ◌≤◌, length, vec_len, vec_capacity, Err, IsOk, ⊤};
 ghost use Rattle.wasm_base.specs.Calls.{Appends};
+ghost use Rattle.wasm_base.specs.Numbers.{unsigned_text};
 ghost use Rattle.wasm_base.specs.Texts.{longest, frame_text, FrameFits};
+ghost use Rattle.wasm_base.specs.declared.refused.Refused.TheVariants.{TooLong};
 ghost use Rattle.wasm_custom.specs.Customs.{subsection_text};
 
 use std::alloc::Allocator;
@@ -61,6 +63,21 @@ fn encode_content<T: Content, A: Allocator>(sink: &mut Vec<u8, A>, content: &T) 
     Ok(())
 }
 
+/// Makes room for the id, the size and the content of a subsection, in one request.
+fn reserve_subsection<A: Allocator>(sink: &mut Vec<u8, A>, size: usize) -> R<()>
+    ensures same { sink.new.items ≡ sink.old.items }
+    ensures memory { result ≢ Err TooLong }
+    ensures room { size ≤ longest
+        → vec_len sink.old + (1 + (length (unsigned_text size) + size)) ≤ vec_capacity sink.old
+        → IsOk result }
+    ensures capacity { vec_capacity sink.old ≤ vec_capacity sink.new }
+{
+    if let Ok(short) = u32::try_from(size) {
+        sink.reserve(size.saturating_add(encoding_size(short)).saturating_add(1))?;
+    }
+    Ok(())
+}
+
 /// A subsection: an id, and what is lent.
 #[derive(Drop)]
 pub(crate) struct Subsection<'a, T> {
@@ -75,6 +92,7 @@ impl<T: Content> Encode for Subsection<'_, T> {
     ghost fits = { λ s. FrameFits (T.text s.content.now) × T.fits s.content.now };
 
     fn encode<A: Allocator>(&self, sink: &mut Vec<u8, A>) -> R<()> {
+        reserve_subsection(sink, self.content.size())?;
         let start = sink.len();
         sink.push(self.id)?;
         if let Err(refused) = encode_content(sink, self.content) {

@@ -1,5 +1,5 @@
 // Symbols: what a linker knows by name.
-ghost use Rattle.std.specs.Prelude.{◌≡◌, ◌∷◌, [], IfSome, IsUtf8, ⊤, ◌≢◌, IfOk, IfErr, OnOk, option_map};
+ghost use Rattle.std.specs.Prelude.{◌≡◌, ◌∷◌, [], IfSome, IsUtf8, ⊤, ◌≢◌, IfOk, IfErr, OnOk, option_map, None, Some};
 ghost use Rattle.wasm_base.specs.Calls.{Adds};
 ghost use Rattle.wasm_base.specs.Formats.{name as name_format, optional};
 ghost use Rattle.wasm_base.specs.Numbers.{wide};
@@ -17,7 +17,7 @@ use wasm_base::laws::plain_name;
 use wasm_base::{Encode, Optional, R};
 use wasm_reader_base::{ReadFault, Readable, Shorten, Spelled, read_optional};
 
-/// Symbols, in the order in which they are added.
+/// Symbols, in the order in which they are added. A table is encoded as subsection 8 of a linking section.
 ///
 /// ```rust
 /// let mut symbols = SymbolTable::new(alloc);
@@ -35,6 +35,12 @@ impl ListKind for SymbolMembers {
     ghost member_text = { symbol_text };
 
     ghost is_member = { IsGivenSymbol };
+
+    ghost subsection = { Some 8 };
+
+    fn subsection() -> Option<u8> {
+        Some(8)
+    }
 }
 
 /// Where the bytes of a data symbol are.
@@ -115,6 +121,15 @@ impl SymbolTable {
     /// The symbol stays in the linked module, also where nothing uses it.
     pub const WASM_SYM_NO_STRIP: u32 = 0x80;
 }
+
+// The flags of the tool conventions, "Linking".
+const _: () = prove!(<SymbolTable>::WASM_SYM_BINDING_WEAK == 0x1);
+const _: () = prove!(<SymbolTable>::WASM_SYM_BINDING_LOCAL == 0x2);
+const _: () = prove!(<SymbolTable>::WASM_SYM_VISIBILITY_HIDDEN == 0x4);
+const _: () = prove!(<SymbolTable>::WASM_SYM_UNDEFINED == 0x10);
+const _: () = prove!(<SymbolTable>::WASM_SYM_EXPORTED == 0x20);
+const _: () = prove!(<SymbolTable>::WASM_SYM_EXPLICIT_NAME == 0x40);
+const _: () = prove!(<SymbolTable>::WASM_SYM_NO_STRIP == 0x80);
 
 impl<A: Allocator> SymbolTable<A> {
     /// Adds a symbol with an index. A refused call leaves the table as it was.

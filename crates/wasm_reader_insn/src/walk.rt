@@ -72,6 +72,7 @@ impl<'a, A: Allocator + Copy> Instructions<'a, A> {
         ensures found { IfOk result (λ x. Reads (vec (pair u32 val_type)) wide bytes.now x.0.items (ahead x.1)) }
         ensures same { IfOk result (λ x. x.1.bytes ≡ bytes.now) }
         ensures within { IfOk result (λ x. x.1.place ≤ length bytes.now) }
+        ensures before { IfOk result (λ x. x.1.arguments ≡ []) }
         ensures none { IfErr result (λ e. e ≢ Memory → FillsNothing body bytes.now) }
     {
         let (runs, rest) = <Vec<(u32, ValType), A> as Readable<'a, A>>::read(bytes, alloc)?;

@@ -144,9 +144,10 @@ pub fn nothing_stands()
     ensures padded_group { NothingStandsWide (counted_format import_format) (6 ∷ 1 ∷ 0 ∷ 128 ∷ 0 ∷ 127 ∷ 0 ∷ []) }
 {}
 
-/// An export is plain: its name is UTF-8, and its index in range.
+/// An export is plain: its name is UTF-8, and its index in range. Returns the index.
 pub fn plain_export(export: &Export<'_>) -> u32
     ensures plain { IsExport export.now }
+    ensures index { result ≡ export.now.index }
 {
     export.index
 }

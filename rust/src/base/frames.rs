@@ -16,6 +16,7 @@ use crate::base::refused::{R, Refused};
 /// ensures err { OnErr result (sink.new.items ≡ sink.old.items) }
 /// ensures fitted { OnOk result (size ≤ longest) }
 /// ensures too_long { size ≤ longest → result ≢ Err Refused.TooLong }
+/// ensures too_many { longest < size → result ≡ Err Refused.TooLong }
 /// ensures room { size ≤ longest
 ///     → vec_len sink.old + (length (unsigned_text size) + size) ≤ vec_capacity sink.old
 ///     → IsOk result }
@@ -25,7 +26,7 @@ pub fn begin_frame<A: Sink>(sink: &mut A, size: usize) -> R<()> {
     let Ok(short) = u32::try_from(size) else {
         return Err(Refused::TooLong);
     };
-    sink.reserve(encoding_size(short) + size)?;
+    sink.reserve(size.saturating_add(encoding_size(short)))?;
     short.encode(sink)
 }
 

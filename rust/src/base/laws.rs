@@ -89,6 +89,18 @@ pub fn wide_payloads() {}
 /// ```
 pub fn types() {}
 
+/// The values of the constants of types.
+///
+/// # Proved
+///
+/// ```text
+/// ensures function { FUNC ≡ Abstract false Func }
+/// ensures host { EXTERN ≡ Abstract false Extern }
+/// ensures function_reference { FUNCREF ≡ record { nullable = true; heap_type = Abstract false Func } }
+/// ensures host_reference { EXTERNREF ≡ record { nullable = true; heap_type = Abstract false Extern } }
+/// ```
+pub fn constants() {}
+
 /// With padded numbers, as the standard allows them, bytes are read uniquely too, and what shortest numbers spell is among it.
 ///
 /// # Proved

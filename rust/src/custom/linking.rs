@@ -76,10 +76,7 @@ impl<A: Allocator> LinkingSection<A> {
     /// ensures { Adds (subsection_text 8 (list_text symbols.now)) (FrameFits (list_text symbols.now) × ⊤) self.old self.new result }
     /// ```
     pub fn symbol_table<B: Allocator>(&mut self, symbols: &SymbolTable<B>) -> R<()> {
-        self.add_record(&Subsection {
-            id: 8,
-            content: symbols,
-        })
+        self.add_record(symbols)
     }
 
     /// Adds the architecture of the target. A refused call leaves the section as it was.

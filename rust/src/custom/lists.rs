@@ -2,7 +2,7 @@
 // Lists of counted entries that are handed in as a whole.
 
 use crate::vec::Sink;
-use crate::custom::subsections::Content;
+use crate::custom::subsections::{Content, Subsection};
 use crate::alloc::{Allocator, Global};
 use std::marker::PhantomData;
 use crate::base::{Encode, Pieces, R, encoding_size};
@@ -18,8 +18,19 @@ use crate::base::{Encode, Pieces, R, encoding_size};
 /// member_text: { Member → List ℕ }
 /// // What holds of each member that is handed in.
 /// is_member: { Member → Type 0 }
+/// // The id of the subsection that a list is encoded as, or none where it is encoded as a vector alone.
+/// subsection: { Option ℕ }
 /// ```
-pub trait ListKind {}
+pub trait ListKind {
+    /// That id.
+    ///
+    /// # Proved
+    ///
+    /// ```text
+    /// ensures { result ≡ subsection }
+    /// ```
+    fn subsection() -> Option<u8>;
+}
 
 /// A list of counted members of the kind `K`, seen as the bytes of each.
 #[derive(Debug)]
@@ -114,26 +125,52 @@ impl<K: ListKind, A: Allocator + Copy> CountedList<K, A> {
     }
 }
 
-/// The vector of the entries.
-///
+/// The vector of the entries of a list, as a part of an encoding.
+#[derive(Clone, Copy)]
+pub(in crate::custom) struct Entries<'a, K: ListKind, A: Allocator>(pub &'a CountedList<K, A>);
+
 /// # Defined
 ///
 /// ```text
-/// text = { list_text }
+/// text = { λ entries. list_text entries.0.now }
 /// fits = { λ _. ⊤ }
 /// ```
-impl<K: ListKind, A: Allocator> Encode for CountedList<K, A> {
+impl<K: ListKind, A: Allocator> Encode for Entries<'_, K, A> {
     fn encode<B: Sink>(&self, sink: &mut B) -> R<()> {
-        let count = self.pieces.len();
-        sink.reserve(encoding_size(count).saturating_add(self.pieces.raw_len()))?;
+        let pieces = &self.0.pieces;
+        let count = pieces.len();
+        sink.reserve(encoding_size(count).saturating_add(pieces.raw_len()))?;
         count.encode(sink).unwrap();
-        sink.extend_from_slice(self.pieces.bytes()).unwrap();
+        sink.extend_from_slice(pieces.bytes()).unwrap();
         Ok(())
     }
 }
 
-impl<K: ListKind, A: Allocator> Content for CountedList<K, A> {
+impl<K: ListKind, A: Allocator> Content for Entries<'_, K, A> {
     fn size(&self) -> usize {
-        encoding_size(self.pieces.len()).saturating_add(self.pieces.raw_len())
+        let pieces = &self.0.pieces;
+        encoding_size(pieces.len()).saturating_add(pieces.raw_len())
+    }
+}
+
+/// The vector of the entries: by itself, or in the subsection that lists of the kind are.
+///
+/// # Defined
+///
+/// ```text
+/// text = { listed_text K.subsection }
+/// fits = { ListedFits K.subsection }
+/// ```
+impl<K: ListKind, A: Allocator> Encode for CountedList<K, A> {
+    fn encode<B: Sink>(&self, sink: &mut B) -> R<()> {
+        let entries = Entries(self);
+        match K::subsection() {
+            None => entries.encode(sink),
+            Some(id) => Subsection {
+                id,
+                content: &entries,
+            }
+            .encode(sink),
+        }
     }
 }

@@ -4,7 +4,7 @@
 use crate::vec::{Sink, Vec};
 use crate::custom::custom_section::CustomSection;
 use crate::custom::entries::{CustomEntries, CustomKind};
-use crate::custom::lists::{CountedList, ListKind};
+use crate::custom::lists::{CountedList, Entries, ListKind};
 use crate::custom::named::after_name;
 use crate::custom::subsections::{RawContent, Subsection};
 use crate::alloc::{Allocator, Global};
@@ -24,8 +24,13 @@ pub struct NameMembers;
 /// Member = { Naming }
 /// member_text = { naming_text }
 /// is_member = { IsNaming }
+/// subsection = { None }
 /// ```
-impl ListKind for NameMembers {}
+impl ListKind for NameMembers {
+    fn subsection() -> Option<u8> {
+        None
+    }
+}
 
 impl<A: Allocator> NameMap<A> {
     /// Adds the name of this index. A refused call leaves the map as it was.
@@ -54,8 +59,13 @@ pub struct IndirectMembers;
 /// Member = { Inside }
 /// member_text = { inside_text }
 /// is_member = { IsInside }
+/// subsection = { None }
 /// ```
-impl ListKind for IndirectMembers {}
+impl ListKind for IndirectMembers {
+    fn subsection() -> Option<u8> {
+        None
+    }
+}
 
 impl<A: Allocator> IndirectNameMap<A> {
     /// Adds the names of what is inside of this index. A refused call leaves the map as it was.
@@ -138,7 +148,8 @@ impl<A: Allocator> NameSection<A> {
     /// ensures { Adds (subsection_text id (list_text names.now)) (FrameFits (list_text names.now) × ⊤) self.old self.new result }
     /// ```
     fn map<B: Allocator>(&mut self, id: u8, names: &NameMap<B>) -> R<()> {
-        self.add_record(&Subsection { id, content: names })
+        let content = &Entries(names);
+        self.add_record(&Subsection { id, content })
     }
 
     /// Adds a subsection of names of what is inside. A refused call leaves the section as it was.
@@ -149,7 +160,8 @@ impl<A: Allocator> NameSection<A> {
     /// ensures { Adds (subsection_text id (list_text names.now)) (FrameFits (list_text names.now) × ⊤) self.old self.new result }
     /// ```
     fn indirect_map<B: Allocator>(&mut self, id: u8, names: &IndirectNameMap<B>) -> R<()> {
-        self.add_record(&Subsection { id, content: names })
+        let content = &Entries(names);
+        self.add_record(&Subsection { id, content })
     }
 
     /// Adds the name of the module. A refused call leaves the section as it was.

@@ -22,8 +22,13 @@ pub struct ValueMembers;
 /// Member = { Producer }
 /// member_text = { producer_text }
 /// is_member = { IsProducer }
+/// subsection = { None }
 /// ```
-impl ListKind for ValueMembers {}
+impl ListKind for ValueMembers {
+    fn subsection() -> Option<u8> {
+        None
+    }
+}
 
 impl<A: Allocator> ProducersField<A> {
     /// Adds a value. A refused call leaves the field as it was.

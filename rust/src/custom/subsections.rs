@@ -70,6 +70,25 @@ fn encode_content<T: Content, A: Sink>(sink: &mut A, content: &T) -> R<()> {
     Ok(())
 }
 
+/// Makes room for the id, the size and the content of a subsection, in one request.
+///
+/// # Proved
+///
+/// ```text
+/// ensures same { sink.new.items ≡ sink.old.items }
+/// ensures memory { result ≢ Err TooLong }
+/// ensures room { size ≤ longest
+///     → vec_len sink.old + (1 + (length (unsigned_text size) + size)) ≤ vec_capacity sink.old
+///     → IsOk result }
+/// ensures capacity { vec_capacity sink.old ≤ vec_capacity sink.new }
+/// ```
+fn reserve_subsection<A: Sink>(sink: &mut A, size: usize) -> R<()> {
+    if let Ok(short) = u32::try_from(size) {
+        sink.reserve(size.saturating_add(encoding_size(short)).saturating_add(1))?;
+    }
+    Ok(())
+}
+
 /// A subsection: an id, and what is lent.
 pub(in crate::custom) struct Subsection<'a, T> {
     pub id: u8,
@@ -86,6 +105,7 @@ pub(in crate::custom) struct Subsection<'a, T> {
 /// ```
 impl<T: Content> Encode for Subsection<'_, T> {
     fn encode<A: Sink>(&self, sink: &mut A) -> R<()> {
+        reserve_subsection(sink, self.content.size())?;
         let start = sink.len();
         sink.push(self.id)?;
         if let Err(refused) = encode_content(sink, self.content) {

@@ -8,7 +8,7 @@ use crate::base::laws::plain_name;
 use crate::base::{Encode, Optional, R};
 use crate::reader::base::{ReadFault, Readable, Shorten, Spelled, read_optional};
 
-/// Symbols, in the order in which they are added.
+/// Symbols, in the order in which they are added. A table is encoded as subsection 8 of a linking section.
 ///
 /// ```
 /// # use dolzhytik::{alloc::Global, base::*, code::*, custom::*, immediates::*, insn::*, reader::*, recipe::*, sections::*, types::*};
@@ -32,8 +32,13 @@ pub struct SymbolMembers;
 /// Member = { SymbolModel }
 /// member_text = { symbol_text }
 /// is_member = { IsGivenSymbol }
+/// subsection = { Some 8 }
 /// ```
-impl ListKind for SymbolMembers {}
+impl ListKind for SymbolMembers {
+    fn subsection() -> Option<u8> {
+        Some(8)
+    }
+}
 
 /// Where the bytes of a data symbol are.
 #[derive(Clone, Copy, Debug)]
@@ -127,6 +132,15 @@ impl SymbolTable {
     /// The symbol stays in the linked module, also where nothing uses it.
     pub const WASM_SYM_NO_STRIP: u32 = 0x80;
 }
+
+// The flags of the tool conventions, "Linking".
+const _: () = assert!(<SymbolTable>::WASM_SYM_BINDING_WEAK == 0x1);
+const _: () = assert!(<SymbolTable>::WASM_SYM_BINDING_LOCAL == 0x2);
+const _: () = assert!(<SymbolTable>::WASM_SYM_VISIBILITY_HIDDEN == 0x4);
+const _: () = assert!(<SymbolTable>::WASM_SYM_UNDEFINED == 0x10);
+const _: () = assert!(<SymbolTable>::WASM_SYM_EXPORTED == 0x20);
+const _: () = assert!(<SymbolTable>::WASM_SYM_EXPLICIT_NAME == 0x40);
+const _: () = assert!(<SymbolTable>::WASM_SYM_NO_STRIP == 0x80);
 
 impl<A: Allocator> SymbolTable<A> {
     /// Adds a symbol with an index. A refused call leaves the table as it was.

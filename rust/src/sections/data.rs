@@ -75,18 +75,13 @@ impl<'a, A: Allocator> DataSegmentMode<'a, A> {
 }
 
 impl<'a, D: Clone, A: Allocator> DataSegment<'a, D, A> {
-    /// The same segment, where a clone of its bytes is equal to them.
-    ///
-    /// # Asks
-    ///
-    /// ```text
-    /// requires { (copy : D) → D.is_clone self.now.bytes copy → copy ≡ self.now.bytes }
-    /// ```
+    /// The same segment: its mode, and a clone of its bytes.
     ///
     /// # Proved
     ///
     /// ```text
-    /// ensures same { IfOk result (λ segment. segment ≡ self.now) }
+    /// ensures mode { IfOk result (λ segment. segment.mode ≡ self.now.mode) }
+    /// ensures bytes { IfOk result (λ segment. D.is_clone self.now.bytes segment.bytes) }
     /// ensures memory { result ≢ Err TooLong }
     /// ```
     pub fn clone(&self) -> R<Self> {

@@ -154,12 +154,13 @@ pub fn wide_payloads() {}
 /// ```
 pub fn nothing_stands() {}
 
-/// An export is plain: its name is UTF-8, and its index in range.
+/// An export is plain: its name is UTF-8, and its index in range. Returns the index.
 ///
 /// # Proved
 ///
 /// ```text
 /// ensures plain { IsExport export.now }
+/// ensures index { result ≡ export.now.index }
 /// ```
 pub fn plain_export(export: &Export<'_>) -> u32 {
     export.index

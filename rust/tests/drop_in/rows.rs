@@ -542,6 +542,15 @@ fn linking(symbols: &SymbolTable, expected: &[&[u8]]) {
     section(&linking, 0, &joined(expected));
 }
 
+/// A symbol table by itself is subsection 8 of a linking section, with its size.
+#[test]
+fn symbol_tables() {
+    let mut symbols = SymbolTable::new();
+    assert_eq!(encoded(&symbols), [8, 1, 0]);
+    symbols.function(0, 1, Some("f"));
+    assert_eq!(encoded(&symbols), [8, 6, 1, 0, 0, 1, 1, b'f']);
+}
+
 #[test]
 fn linking_sections() {
     section(
@@ -581,7 +590,7 @@ fn linking_sections() {
     symbols.data(SymbolTable::WASM_SYM_UNDEFINED, "d", None);
     assert_eq!(
         encoded(&symbols),
-        [3, 2, 0, 1, 1, 103, 5, 0, 2, 1, 116, 1, 16, 1, 100]
+        [8, 15, 3, 2, 0, 1, 1, 103, 5, 0, 2, 1, 116, 1, 16, 1, 100]
     );
 
     let mut arch = LinkingSection::new();

@@ -161,6 +161,9 @@ pub(crate) trait ListCalls: ListKind + Sized {
     /// What each call makes of an empty list.
     const LISTS: &'static [&'static [u8]];
 
+    /// The encoding of an empty list.
+    const EMPTY: &'static [u8];
+
     /// The call of this place in `LISTS`.
     fn add(list: &mut LentList<'_, Self>, given: &Self::Given, place: usize) -> R<()>;
 }
@@ -185,7 +188,7 @@ fn check_list<K: ListCalls>(
         heap.refuse(nth);
         let answer = K::add(&mut list, given, place);
         let granted = check_answer(rt, heap, nth, answer);
-        check_written(rt, heap, &list, if granted { expected } else { &[0] });
+        check_written(rt, heap, &list, if granted { expected } else { K::EMPTY });
         if granted {
             check_whole_list(rt, heap, &list, expected);
             return check_further(rt, heap, &mut list, given, place);
@@ -216,6 +219,8 @@ impl ListCalls for NameMembers {
 
     const LISTS: &'static [&'static [u8]] = &[b"\x01\x00\x01t"];
 
+    const EMPTY: &'static [u8] = &[0];
+
     fn add(map: &mut LentList<'_, Self>, _: &(), _: usize) -> R<()> {
         map.append(0, "t")
     }
@@ -232,6 +237,8 @@ impl ListCalls for IndirectMembers {
     type Given = NameMap;
 
     const LISTS: &'static [&'static [u8]] = &[b"\x01\x00\x01\x01\x01x"];
+
+    const EMPTY: &'static [u8] = &[0];
 
     fn add(map: &mut LentList<'_, Self>, names: &NameMap, _: usize) -> R<()> {
         map.append(0, names)
@@ -250,6 +257,8 @@ impl ListCalls for ValueMembers {
     type Given = ();
 
     const LISTS: &'static [&'static [u8]] = &[b"\x01\x01a\x011"];
+
+    const EMPTY: &'static [u8] = &[0];
 
     fn add(field: &mut LentList<'_, Self>, _: &(), _: usize) -> R<()> {
         field.value("a", "1")
@@ -273,11 +282,13 @@ impl ListCalls for SymbolMembers {
     type Given = ();
 
     const LISTS: &'static [&'static [u8]] = &[
-        b"\x01\x00\x20\x01\x01f",
-        &[1, 2, 16, 1],
-        &[1, 5, 16, 1],
-        b"\x01\x01\x00\x01d\x01\x02\x03",
+        b"\x08\x06\x01\x00\x20\x01\x01f",
+        &[8, 4, 1, 2, 16, 1],
+        &[8, 4, 1, 5, 16, 1],
+        b"\x08\x08\x01\x01\x00\x01d\x01\x02\x03",
     ];
+
+    const EMPTY: &'static [u8] = &[8, 1, 0];
 
     fn add(symbols: &mut LentList<'_, Self>, _: &(), place: usize) -> R<()> {
         match place {

@@ -126,8 +126,17 @@ fn globals_and_tables() {
         &rt,
         rt.alloc(),
         &symbols.clone().expect("accepted"),
-        b"\x02\x02\x10\x01\x05\x80\x01\x02\x01t",
+        b"\x08\x0A\x02\x02\x10\x01\x05\x80\x01\x02\x01t",
     )
+}
+
+#[test]
+fn table_is_a_subsection() {
+    let rt = crate::host::HostRuntime;
+    let mut symbols = SymbolTable::new(rt.alloc());
+    check_text(&rt, rt.alloc(), &symbols, &[8, 1, 0]);
+    symbols.function(0, 1, Some("f")).expect("accepted");
+    check_text(&rt, rt.alloc(), &symbols, b"\x08\x06\x01\x00\x00\x01\x01f")
 }
 
 const DEFINITION: DataSymbolDefinition = DataSymbolDefinition {
@@ -152,7 +161,7 @@ fn data_symbols() {
     );
     let mut symbols = SymbolTable::new(rt.alloc());
     symbols.data(0x10, "d", None).expect("accepted");
-    check_text(&rt, rt.alloc(), &symbols, b"\x01\x01\x10\x01d")
+    check_text(&rt, rt.alloc(), &symbols, b"\x08\x05\x01\x01\x10\x01d")
 }
 
 /// The flags of symbols have these numbers.

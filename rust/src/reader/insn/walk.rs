@@ -58,6 +58,7 @@ impl<'a, A: Allocator + Copy> Instructions<'a, A> {
     /// ensures found { IfOk result (λ x. Reads (vec (pair u32 val_type)) wide bytes.now x.0.items (ahead x.1)) }
     /// ensures same { IfOk result (λ x. x.1.bytes ≡ bytes.now) }
     /// ensures within { IfOk result (λ x. x.1.place ≤ length bytes.now) }
+    /// ensures before { IfOk result (λ x. x.1.arguments ≡ []) }
     /// ensures none { IfErr result (λ e. e ≢ Memory → FillsNothing body bytes.now) }
     /// ```
     pub fn of_body(bytes: &'a [u8], alloc: A) -> Result<(Vec<(u32, ValType), A>, Self), ReadFault> {
