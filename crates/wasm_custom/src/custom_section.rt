@@ -31,7 +31,9 @@ pub(crate) fn begin_custom<A: Allocator>(sink: &mut Vec<u8, A>, name: &str, size
     };
     begin_frame(
         sink,
-        (encoding_size(short) + name.len()).saturating_add(size),
+        name.len()
+            .saturating_add(encoding_size(short))
+            .saturating_add(size),
     )?;
     name.encode(sink).unwrap();
     Ok(())
