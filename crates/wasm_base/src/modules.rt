@@ -49,6 +49,7 @@ impl<A: Allocator> Module<A> {
 
         ensures fitted { OnOk result (S.fits section.now) }
         ensures too_long { S.fits section.now → result ≢ Err Refused.TooLong }
+        ensures too_many { S.overlong section.now → result ≡ Err Refused.TooLong }
     {
         section.append_to(&mut self.bytes)
     }

@@ -1,13 +1,14 @@
 // Sections: an id, and a layout that is mostly a frame.
-ghost use Rattle.std.specs.Prelude.{◌≡◌, ℕ, List, ◌∷◌, [], OnOk};
+ghost use Rattle.std.specs.Prelude.{◌≡◌, ◌<◌, ℕ, List, ◌∷◌, [], length, Err, OnOk};
 ghost use Rattle.wasm_base.specs.Calls.{Appends, ReadsBack};
 ghost use Rattle.wasm_base.specs.Formats.{any_bytes, frame};
 ghost use Rattle.wasm_base.specs.Numbers.{Mode};
-ghost use Rattle.wasm_base.specs.Texts.{frame_text, FrameFits, IsFrameOf};
+ghost use Rattle.wasm_base.specs.Texts.{longest, frame_text, FrameFits, IsFrameOf};
+ghost use Rattle.wasm_base.specs.declared.refused.Refused.TheVariants.{TooLong};
 
 use crate::encode::Encode;
 use crate::frames::encode_frame;
-use crate::refused::R;
+use crate::refused::{R, Refused};
 use std::alloc::Allocator;
 
 /// A part of a module: an id, and a text that a reader finds the items of the section in.
@@ -38,9 +39,15 @@ pub trait Section: Encode {
     fn append_to<A: Allocator>(&self, dst: &mut Vec<u8, A>) -> R<()>
         ensures appends { Appends (id_of self.now ∷ Self.text self.now) (Self.fits self.now) dst.old dst.new result }
         ensures read { OnOk result (Self.reading self.now) }
+        ensures too_many { Self.overlong self.now → result ≡ Err TooLong }
     {
         let start = dst.len();
-        dst.push(self.id())?;
+        if dst.push(self.id()).is_err() {
+            // A section that is too long says so, whatever memory there is.
+            let refused = self.encode(dst).err();
+            dst.truncate(start);
+            return Err(refused.unwrap_or(Refused::Memory));
+        }
         if let Err(refused) = self.encode(dst) {
             dst.truncate(start);
             return Err(refused);
@@ -66,6 +73,8 @@ impl Encode for RawSection<'_> {
     ghost text = { λ s. frame_text s.bytes.now };
 
     ghost fits = { λ s. FrameFits s.bytes.now };
+
+    ghost overlong = { λ s. longest < length s.bytes.now };
 
     ghost reading = { λ s. ReadsBack (frame any_bytes) (λ bytes. bytes ≡ s.bytes.now) (frame_text s.bytes.now) };
 

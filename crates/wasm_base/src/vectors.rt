@@ -1,6 +1,7 @@
 // Vectors: a count, and that many members.
 ghost use Rattle.wasm_base.specs.Iterators.{HasKnownLength, AppendsVec};
-ghost use Rattle.wasm_base.specs.Texts.{vec_text, VecFits};
+ghost use Rattle.std.specs.Prelude.{◌<◌, length};
+ghost use Rattle.wasm_base.specs.Texts.{longest, vec_text, VecFits};
 
 use crate::encode::Encode;
 use crate::once::{EncodeOnce, vec_of};
@@ -12,6 +13,8 @@ impl<T: Encode> Encode for &[T] {
     ghost text = { λ s. vec_text T.text s.now };
 
     ghost fits = { λ s. VecFits T.fits s.now };
+
+    ghost overlong = { λ s. longest < length s.now };
 
     fn encode<A: Allocator>(&self, sink: &mut Vec<u8, A>) -> R<()> {
         let start = sink.len();

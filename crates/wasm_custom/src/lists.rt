@@ -110,11 +110,11 @@ impl<K: ListKind, A: Allocator> Encode for Entries<'_, K, A> {
 
     #[tactic(auto, unfolding(crate::specs::Lists::list_text))]
     fn encode<B: Allocator>(&self, sink: &mut Vec<u8, B>) -> R<()> {
-        let pieces = &self.0.pieces;
-        let count = pieces.len();
-        sink.reserve(encoding_size(count).saturating_add(pieces.raw_len()))?;
+        let list = self.0;
+        let count = list.pieces.len();
+        sink.reserve(encoding_size(count).saturating_add(list.pieces.raw_len()))?;
         count.encode(sink).unwrap();
-        sink.extend_from_slice(pieces.bytes()).unwrap();
+        sink.extend_from_slice(list.pieces.bytes()).unwrap();
         Ok(())
     }
 }
@@ -122,8 +122,8 @@ impl<K: ListKind, A: Allocator> Encode for Entries<'_, K, A> {
 impl<K: ListKind, A: Allocator> Content for Entries<'_, K, A> {
     #[tactic(auto, unfolding(crate::specs::Lists::list_text))]
     fn size(&self) -> usize {
-        let pieces = &self.0.pieces;
-        encoding_size(pieces.len()).saturating_add(pieces.raw_len())
+        let list = self.0;
+        encoding_size(list.pieces.len()).saturating_add(list.pieces.raw_len())
     }
 }
 

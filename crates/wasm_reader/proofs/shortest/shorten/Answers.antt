@@ -24,4 +24,4 @@ pub returns-clause-ok : goal.returns-clause-ok
 returns-clause-ok g c =
     let text = c.deref.ensures.value in
     shortened c.args.kind c.args.bytes.now c.in_ok-framed.framed.now c.in_ok-framed.rest.now c.in_ok-content.content.items c.shorten_content.new.out.items c.args.sink.now.items c.encode_frame.new.sink.items _ c.in_ok-framed.ensures.found (omega (arith, shorter c.in_ok-framed.ensures.found)) c.in_ok-content.ensures.items c.in_ok-shorten_content.ensures.found
-    (subst FrameFits text c.in_ok-encode_frame.ensures.fitted) (c.in_ok-encode_frame.ensures.ok ∙ ap (λ z. c.args.sink.now.items ++ frame_text z) text)
+    (subst FrameFits text c.in_ok-encode_frame.ensures.appends.fitted) (c.in_ok-encode_frame.ensures.appends.ok ∙ ap (λ z. c.args.sink.now.items ++ frame_text z) text)

@@ -6,4 +6,4 @@ use Rattle.wasm_code.proofs.function.FunctionEncode.encode.Goals as goal
 
 pub returns-clause-read : goal.returns-clause-read
 returns-clause-read g c =
-    on_ok c.encode_frame.result _ _ c.encode_frame.ensures.fitted (λ fits. body_reads c.args.self.now (subst FrameFits (c.deref.ensures.value ∙ c.self.view_is) fits))
+    on_ok c.encode_frame.result _ _ c.encode_frame.ensures.appends.fitted (λ fits. body_reads c.args.self.now (subst FrameFits (c.deref.ensures.value ∙ c.self.view_is) fits))
