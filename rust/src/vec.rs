@@ -127,17 +127,21 @@ impl<T, A: Allocator> Vec<T, A> {
         self.items.clear();
     }
 
-    /// Appends what the iterator gives. Where memory is refused, what was appended before stays.
+    /// Appends all items of the iterator, whatever its `size_hint` says. After an error the vector keeps the items appended before it.
     #[inline]
     pub fn extend<I: IntoIterator<Item = T>>(&mut self, items: I) -> Result<(), AllocError> {
-        let items = items.into_iter();
+        let mut items = items.into_iter();
         let (least, most) = items.size_hint();
         self.reserve(least)?;
-        let room = self.items.capacity() - self.items.len();
-        if most.is_some_and(|most| most <= room) {
-            self.items.extend(items.take(room));
-            return Ok(());
+        let spare = self.items.capacity() - self.items.len();
+        if let Some(most) = most
+            && most <= spare
+        {
+            // The loop of `std` copies as a whole where the iterator is one of `std`. `take` bounds it, so that it
+            // never grows the vector itself, which would abort where memory is refused.
+            self.items.extend(items.by_ref().take(most));
         }
+        // An iterator may hold more items than it said.
         for item in items {
             self.push(item).map_err(|_| AllocError)?;
         }

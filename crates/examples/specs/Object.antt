@@ -49,7 +49,7 @@ count_down_body = record {
       [];
 }
 
--- the branch at 9 of the function 0 is not likely to be taken
+-- the branch at the offset 9 of the raw body of the function 0 is not likely to be taken
 abbrev pub unlikely_hints : List Hints
 unlikely_hints = (0, record { branch_func_offset = 9; branch_hint_value = 0 } ∷ []) ∷ []
 

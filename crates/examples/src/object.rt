@@ -71,7 +71,8 @@ fn functions<A: Allocator + Copy>(alloc: A) -> R<FunctionSection<A>>
     Ok(section)
 }
 
-/// The branch of the function 0, which begins 9 bytes after its raw body, is not likely to be taken.
+/// The branch of the function 0, at the offset 9 of its raw body, is not likely to be taken. Before it are the count of locals (1 byte), `block` (2), `local.get` (2), `i32.load` (3) and
+/// `i32.eqz` (1).
 fn hints<A: Allocator + Copy>(alloc: A) -> R<BranchHints<A>>
     ensures { IfOk result (λ section. HoldsHints section unlikely_hints) }
 {

@@ -27,14 +27,14 @@ pub trait EncodeOnce {
 }
 
 /// The vector of the items of an iterator, which told their number before any was asked for: see [`vec_of`].
-#[derive(Drop)]
+#[derive(Drop, Debug)]
 pub struct VecOf<I> {
     items: I,
     count: u32,
 }
 
 /// The vector of the bytes of an iterator, which told their number before any was asked for: see [`bytes_of`].
-#[derive(Drop)]
+#[derive(Drop, Debug)]
 pub struct BytesOf<I> {
     items: I,
     count: u32,

@@ -7,7 +7,7 @@ use crate::refused::R;
 use std::alloc::Allocator;
 
 /// A value that is lent, as a part of a layout.
-#[derive(Drop)]
+#[derive(Drop, Debug)]
 pub struct Lent<'a, T>(pub &'a T);
 
 /// The text of the value.
@@ -23,7 +23,7 @@ impl<T: Encode> Encode for Lent<'_, T> {
 }
 
 /// A part of a layout that may be missing.
-#[derive(Clone, Copy)]
+#[derive(Clone, Copy, Debug)]
 pub struct Optional<T>(pub Option<T>);
 
 /// The part, or nothing.

@@ -6,7 +6,7 @@ use crate::instruction::Instruction;
 use crate::op::Op;
 
 /// Instructions on aggregates and references without fields: those after the prefix FB.
-#[derive(Clone, Copy)]
+#[derive(Clone, Copy, Debug)]
 pub enum Aggregate {
     ArrayLen = 15,
     AnyConvertExtern = 26,

@@ -11,7 +11,7 @@ use wasm_base::{Encode, R};
 use wasm_immediates::{MemArg, Ordering};
 
 /// Atomic instructions: those after the prefix FE.
-#[derive(Clone, Copy)]
+#[derive(Clone, Copy, Debug)]
 pub enum Atomic {
     MemoryAtomicNotify(MemArg),
     MemoryAtomicWait32(MemArg),

@@ -386,6 +386,7 @@ pub fn append_imports<A: Allocator, B: Allocator>(
 }
 
 /// An import or a group of imports, of which nothing is kept.
+#[derive(Debug)]
 pub struct PassedImports;
 
 impl<'a, A: Allocator + Copy> Passed<'a, A> for PassedImports {

@@ -35,12 +35,14 @@ pub trait EncodeOnce {
 }
 
 /// The vector of the items of an iterator, which told their number before any was asked for: see [`vec_of`].
+#[derive(Debug)]
 pub struct VecOf<I> {
     items: I,
     count: u32,
 }
 
 /// The vector of the bytes of an iterator, which told their number before any was asked for: see [`bytes_of`].
+#[derive(Debug)]
 pub struct BytesOf<I> {
     items: I,
     count: u32,

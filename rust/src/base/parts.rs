@@ -6,6 +6,7 @@ use crate::base::encode::Encode;
 use crate::base::refused::R;
 
 /// A value that is lent, as a part of a layout.
+#[derive(Debug)]
 pub struct Lent<'a, T>(pub &'a T);
 
 /// The text of the value.
@@ -24,7 +25,7 @@ impl<T: Encode> Encode for Lent<'_, T> {
 }
 
 /// A part of a layout that may be missing.
-#[derive(Clone, Copy)]
+#[derive(Clone, Copy, Debug)]
 pub struct Optional<T>(pub Option<T>);
 
 /// The part, or nothing.

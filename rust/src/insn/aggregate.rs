@@ -5,7 +5,7 @@ use crate::insn::instruction::Instruction;
 use crate::insn::op::Op;
 
 /// Instructions on aggregates and references without fields: those after the prefix FB.
-#[derive(Clone, Copy)]
+#[derive(Clone, Copy, Debug)]
 pub enum Aggregate {
     ArrayLen = 15,
     AnyConvertExtern = 26,

@@ -8,7 +8,7 @@ use crate::base::{Encode, R};
 use crate::immediates::{MemArg, Ordering};
 
 /// Atomic instructions: those after the prefix FE.
-#[derive(Clone, Copy)]
+#[derive(Clone, Copy, Debug)]
 pub enum Atomic {
     MemoryAtomicNotify(MemArg),
     MemoryAtomicWait32(MemArg),

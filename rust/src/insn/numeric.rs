@@ -5,7 +5,7 @@ use crate::insn::instruction::Instruction;
 use crate::insn::op::Op;
 
 /// Numeric instructions, the ops 45 to C4.
-#[derive(Clone, Copy)]
+#[derive(Clone, Copy, Debug)]
 pub enum Numeric {
     I32Eqz = 0x45,
     I32Eq = 0x46,

@@ -5,7 +5,7 @@ use crate::insn::instruction::Instruction;
 use crate::insn::op::Op;
 
 /// Numeric instructions after the prefix FC: truncations that saturate, and wide arithmetic.
-#[derive(Clone, Copy)]
+#[derive(Clone, Copy, Debug)]
 pub enum PrefixedNumeric {
     I32TruncSatF32S = 0,
     I32TruncSatF32U = 1,

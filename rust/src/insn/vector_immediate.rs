@@ -18,7 +18,7 @@ pub(in crate::insn) fn vector_bytes(value: i128) -> [u8; 16] {
 }
 
 /// Vector instructions with immediates: those after the prefix FD.
-#[derive(Clone, Copy)]
+#[derive(Clone, Copy, Debug)]
 pub enum VectorImmediate {
     V128Load(MemArg),
     V128Load8x8S(MemArg),

@@ -430,6 +430,7 @@ pub fn append_imports<A: Allocator, B: Sink>(
 }
 
 /// An import or a group of imports, of which nothing is kept.
+#[derive(Debug)]
 pub struct PassedImports;
 
 /// # Defined

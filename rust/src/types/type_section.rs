@@ -152,6 +152,7 @@ impl<A: Allocator> Section for TypeSection<A> {
 }
 
 /// Adds one type to a section that it borrows. A refused call leaves the section as it was.
+#[derive(Debug)]
 pub struct CoreTypeEncoder<'a, A: Allocator = Global> {
     section: &'a mut TypeSection<A>,
 }

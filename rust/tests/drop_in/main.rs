@@ -5,6 +5,7 @@ mod every_call;
 mod moved;
 mod refusals;
 mod rows;
+mod said_lengths;
 
 #[test]
 fn each_instruction_has_the_bytes_of_the_table() {

@@ -8,7 +8,7 @@ use dolzhytik::alloc::Global;
 use crate::host::Abort;
 use crate::test_support::{Heap, MOST, Refusing};
 use dolzhytik::base::{Encode, R, Section};
-use dolzhytik::custom::{BranchHint, CountedList, CustomEntries, CustomKind, DataSymbolDefinition, HintItems, IndirectMembers, IndirectNameMap, InstanceItems, LinkingItems, ListKind, ModuleItems, NameItems, NameMap, NameMembers, ProducerItems, ProducersField, SymbolMembers, SymbolTable, ValueMembers};
+use dolzhytik::custom::{BranchHint, CountedList, CustomEntries, CustomKind, DataSymbolDefinition, HintItems, IndirectMembers, IndirectNameMap, InstanceItems, LinkingItems, ListKind, ModuleItems, NameItems, NameMap, NameMembers, ProducerItems, ProducersField, SymbolKind, SymbolMembers, SymbolTable, ValueMembers};
 
 /// A section that takes its memory from an allocator that refuses.
 pub(crate) type LentEntries<'h, K> = CustomEntries<K, &'h Refusing<Global>>;
@@ -57,6 +57,32 @@ pub(crate) fn check_append_to<S: Section>(rt: &impl Abort, heap: Heap<'_>, secti
         }
     }
     panic!(rt; "no call was granted")
+}
+
+/// `encode` of a part: these bytes behind the byte 7, or nothing where a request is refused.
+fn check_part<T: Encode>(rt: &impl Abort, heap: Heap<'_>, part: &T, expected: &[u8]) {
+    for nth in 1..MOST {
+        heap.refuse(0);
+        let mut sink = Vec::from_slice(heap, &[7]).expect("accepted");
+        heap.refuse(nth);
+        let answer = part.encode(&mut sink);
+        let granted = check_answer(rt, heap, nth, answer);
+        let appended: &[u8] = if granted { expected } else { &[] };
+        assert_eq!(rt; sink.split_first(), Some((&7, appended)));
+        if granted {
+            return;
+        }
+    }
+    panic!(rt; "no call was granted")
+}
+
+#[test]
+fn kinds_of_symbols() {
+    let rt = crate::host::HostRuntime;
+    let heap = Refusing::new(rt.alloc());
+    check_part(&rt, &heap, &SymbolKind::Function, &[0]);
+    check_part(&rt, &heap, &SymbolKind::Global, &[2]);
+    check_part(&rt, &heap, &SymbolKind::Table, &[5])
 }
 
 /// The number of entries is 1, or 0.

@@ -23,6 +23,10 @@ mod clones;
 #[cfg(test)]
 mod cows;
 #[cfg(test)]
+mod debug;
+#[cfg(test)]
+mod encode_refusals;
+#[cfg(test)]
 mod examples;
 #[cfg(test)]
 mod immediates;

@@ -136,7 +136,7 @@ pub(crate) static ROWS: [Row; 26] = [
 ];
 
 /// Numbers are padded.
-static PADDED: [Row; 2] = [
+pub(crate) static PADDED: [Row; 2] = [
     (
         SectionKind::Names,
         b"\x8B\x80\x00\x04name\x00\x83\x00\x81\x00m",

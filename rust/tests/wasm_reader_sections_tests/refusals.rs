@@ -1,7 +1,8 @@
 // Written by tools/to-rust from tests/wasm_reader_sections_tests/src/refusals.rtt: change that.
 // Each request for memory refused in turn: the cause is `Memory`.
 
-use crate::faults;
+use crate::rows::{BEFORE_BYTE, DATA, before_data};
+use crate::{custom_rows, faults, rows};
 use dolzhytik::alloc::Global;
 use crate::host::Abort;
 use crate::test_support::{MOST, Refusing};
@@ -209,6 +210,27 @@ fn requests() {
     for (question, bytes, requests) in ROWS.iter() {
         let first = check(&rt, &heap, *question, bytes, None);
         assert_eq!(rt; first, requests.saturating_add(1));
+    }
+}
+
+/// Each section that other tests decode with ample memory.
+#[test]
+fn sections_with_requests() {
+    let rt = crate::host::HostRuntime;
+    let heap = Refusing::new(rt.alloc());
+    for (kind, bytes, _seen) in rows::ROWS.iter().chain(rows::PADDED.iter()) {
+        let _first = check(&rt, &heap, Question::Section(*kind), bytes, None);
+    }
+    for (kind, bytes, _told) in custom_rows::ROWS.iter().chain(custom_rows::PADDED.iter()) {
+        let _first = check(&rt, &heap, Question::Section(*kind), bytes, None);
+    }
+    let functions = Question::Section(SectionKind::Functions);
+    let _first = check(&rt, &heap, functions, BEFORE_BYTE, None);
+    for data in DATA.iter() {
+        let front = [0x84, 1, 1, 1, 0x80, 1];
+        let section = before_data(rt.alloc(), &front, data).expect("accepted");
+        let segments = Question::Section(SectionKind::Segments);
+        let _first = check(&rt, &heap, segments, &section, None);
     }
 }
 

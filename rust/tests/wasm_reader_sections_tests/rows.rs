@@ -188,7 +188,7 @@ pub(crate) static ROWS: [Row; 29] = [
 ];
 
 /// Numbers are padded.
-static PADDED: [Row; 4] = [
+pub(crate) static PADDED: [Row; 4] = [
     (
         SectionKind::Functions,
         &[0x86, 0, 1, 0x85, 0x80, 0x80, 0x80, 0],
@@ -230,39 +230,45 @@ fn rows() {
     }
 }
 
-const DATA: [u8; 128] = [9; 128];
+/// The data of segments whose length takes two bytes: zeros, and other bytes.
+pub(crate) static DATA: [[u8; 128]; 2] = [[0; 128], [9; 128]];
 
 /// These bytes, and the data behind them.
-pub(crate) fn before_data(alloc: Global, front: &[u8]) -> R<Vec<u8>> {
+pub(crate) fn before_data(alloc: Global, front: &[u8], data: &[u8]) -> R<Vec<u8>> {
     let mut bytes = Vec::from_slice(alloc, front)?;
-    bytes.extend_from_slice(&DATA)?;
+    bytes.extend_from_slice(data)?;
     Ok(bytes)
 }
 
 #[test]
 fn passive_data_of_128_bytes() {
     let rt = crate::host::HostRuntime;
-    let section = before_data(rt.alloc(), &[0x84, 1, 1, 1, 0x80, 1]).expect("accepted");
-    check(
-        &rt,
-        rt.alloc(),
-        SectionKind::Segments,
-        &section,
-        Seen::Passive(&DATA),
-        134,
-    );
+    for data in DATA.iter() {
+        let front = [0x84, 1, 1, 1, 0x80, 1];
+        let section = before_data(rt.alloc(), &front, data).expect("accepted");
+        check(
+            &rt,
+            rt.alloc(),
+            SectionKind::Segments,
+            &section,
+            Seen::Passive(data),
+            134,
+        );
+    }
 }
+
+/// A function section, and a byte behind it.
+pub(crate) const BEFORE_BYTE: &[u8] = &[2, 1, 5, 0x99];
 
 /// What follows a section is left.
 #[test]
 fn bytes_behind() {
     let rt = crate::host::HostRuntime;
-    let functions: &[u8] = &[2, 1, 5, 0x99];
     check(
         &rt,
         rt.alloc(),
         SectionKind::Functions,
-        functions,
+        BEFORE_BYTE,
         Seen::Number(5),
         3,
     );

@@ -3,7 +3,7 @@
 
 use dolzhytik::vec::Vec;
 use crate::checks::check_bytes;
-use crate::rows::before_data;
+use crate::rows::{BEFORE_BYTE, DATA, before_data};
 use crate::{custom_rows, faults, rows};
 use crate::read_back::padded_function;
 use dolzhytik::alloc::Global;
@@ -256,7 +256,7 @@ fn check(rt: &impl Abort, given: Outcome, taken: usize, fault: Option<ReadFault>
     assert_eq!(rt; given, (taken, fault, true));
 }
 
-/// The text is appended, and each request for memory that is refused leaves the sink as it was.
+/// The text of all bytes is appended, and each request for memory that is refused leaves the sink as it was.
 fn check_row(
     rt: &impl Abort,
     heap: &Refusing<Global>,
@@ -264,10 +264,22 @@ fn check_row(
     bytes: &[u8],
     text: &[u8],
 ) {
+    check_taken(rt, heap, kind, bytes, text, bytes.len())
+}
+
+/// The text is appended, and so many bytes are taken. Each request for memory that is refused leaves the sink as it was.
+fn check_taken(
+    rt: &impl Abort,
+    heap: &Refusing<Global>,
+    kind: SectionKind,
+    bytes: &[u8],
+    text: &[u8],
+    taken: usize,
+) {
     for nth in 1..MOST {
         let given = outcome(heap, nth, kind, bytes, text).expect("accepted");
         if heap.is_waiting() {
-            check(rt, given, bytes.len(), None);
+            check(rt, given, taken, None);
             return;
         }
         check(rt, given, 0, Some(ReadFault::Memory));
@@ -301,12 +313,14 @@ fn plain() {
 fn passive_data_of_128_bytes() {
     let rt = crate::host::HostRuntime;
     let heap = Refusing::new(rt.alloc());
-    let shortest = before_data(rt.alloc(), &[0x84, 1, 1, 1, 0x80, 1]).expect("accepted");
-    check_row(&rt, &heap, SectionKind::Segments, &shortest, &shortest);
-    let padded = before_data(rt.alloc(), &[0x86, 1, 1, 0x81, 0, 0x80, 0x81, 0]).expect(
-        "accepted",
-    );
-    check_row(&rt, &heap, SectionKind::Segments, &padded, &shortest);
+    for data in DATA.iter() {
+        let front = [0x84, 1, 1, 1, 0x80, 1];
+        let shortest = before_data(rt.alloc(), &front, data).expect("accepted");
+        check_row(&rt, &heap, SectionKind::Segments, &shortest, &shortest);
+        let front = [0x86, 1, 1, 0x81, 0, 0x80, 0x81, 0];
+        let padded = before_data(rt.alloc(), &front, data).expect("accepted");
+        check_row(&rt, &heap, SectionKind::Segments, &padded, &shortest);
+    }
 }
 
 /// Where no section stands nothing is appended.
@@ -325,6 +339,8 @@ fn none() {
 fn bytes_behind() {
     let rt = crate::host::HostRuntime;
     let heap = Refusing::new(rt.alloc());
+    let (kind, text) = (SectionKind::Functions, &[2, 1, 5]);
+    check_taken(&rt, &heap, kind, BEFORE_BYTE, text, 3);
     let given = outcome(&heap, 0, SectionKind::Start, &[0x82, 0, 7, 0, 9], &[1, 7]).expect(
         "accepted",
     );

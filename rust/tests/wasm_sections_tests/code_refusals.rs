@@ -9,9 +9,9 @@ use crate::functions::without_locals;
 use dolzhytik::alloc::Global;
 use crate::host::Abort;
 use crate::test_support::{Heap, MOST, Refusing};
-use dolzhytik::base::{Counted, Encode, HeapType, R, Section, ValType};
+use dolzhytik::base::{Counted, CowSlice, Encode, HeapType, R, Section, ValType};
 use dolzhytik::code::{CodeSection, ConstExpr, Function};
-use dolzhytik::insn::{Ieee32, Ieee64, Instruction};
+use dolzhytik::insn::{Buffer, Ieee32, Ieee64, Instruction};
 
 /// The bytes of a buffer that is full after its first growth.
 const FULL_BUFFER: [u8; 8] = [0x01; 8];
@@ -238,6 +238,61 @@ fn bodies() {
     for (place, appended) in GROWN.iter().enumerate() {
         check_growth(&rt, rt.alloc(), place, appended);
     }
+}
+
+/// An instruction that owns its labels, in the global allocator's memory and in a test's own. `Function::instruction` takes the first
+/// alone, and `append` any.
+fn grow_by_owned<'a>(
+    function: &mut Function<Heap<'_>>,
+    in_global: &Instruction<'_>,
+    on_heap: &Instruction<'_, Heap<'a>>,
+    place: usize,
+) -> R<()> {
+    match place {
+        0 => function.instruction(in_global),
+        1 => function.append(in_global),
+        _ => function.append(on_heap),
+    }
+}
+
+/// A call on a function whose buffer is full. It takes no memory of the labels' allocator.
+fn check_owned(
+    rt: &impl Abort,
+    alloc: Global,
+    in_global: &Instruction<'_>,
+    on_heap: &Instruction<'_, Heap<'_>>,
+    place: usize,
+) {
+    let heap = Refusing::new(alloc);
+    for nth in 1..MOST {
+        heap.refuse(0);
+        let mut function = without_locals(&heap).expect("accepted");
+        function.raw([0x01; FULL_BODY - 1]).expect("accepted");
+        heap.refuse(nth);
+        let answer = grow_by_owned(&mut function, in_global, on_heap, place);
+        let granted = check_answer(rt, &heap, nth, answer);
+        check_grown(rt, granted, &function.into_raw_body(), &[0x0E, 2, 0, 1, 2]);
+        if granted {
+            return;
+        }
+    }
+    panic!(rt; "no call was granted")
+}
+
+#[test]
+fn instructions_that_own_labels() {
+    let rt = crate::host::HostRuntime;
+    let alloc = rt.alloc();
+    let own = Refusing::new(alloc);
+    let labels = Vec::from_slice(alloc, &[0, 1]).expect("accepted");
+    let in_global: Instruction<'_> = Instruction::BrTable(CowSlice::Owned(labels), 2);
+    let labels = Vec::from_slice(&own, &[0, 1]).expect("accepted");
+    let on_heap = Instruction::BrTable(CowSlice::Owned(labels), 2);
+    own.refuse_all();
+    for place in 0..3 {
+        check_owned(&rt, alloc, &in_global, &on_heap, place);
+    }
+    check_that(&rt, own.requests() == 0);
 }
 
 /// A function of locals, by their runs or by their types, or a copy of one.

@@ -10,7 +10,7 @@ use crate::host::Abort;
 use dolzhytik::base::{Counted, CowSlice, Encode, HeapType, Section, ValType, add_all};
 use dolzhytik::code::ConstExpr;
 use dolzhytik::insn::Instruction;
-use dolzhytik::sections::{DataCountSection, EntityType, Export, ExportKind, ExportSection, FunctionSection, GlobalSection, Import, ImportCompact, ImportSection, Imports, MemorySection, StartSection, TableSection, TableType, TagSection, laws};
+use dolzhytik::sections::{DataCountSection, EntityType, Export, ExportKind, ExportSection, FunctionSection, GlobalSection, Import, ImportCompact, ImportSection, Imports, MemorySection, PassedImports, StartSection, TableSection, TableType, TagSection, laws};
 
 /// The section has this id and these bytes.
 pub(crate) fn check<S: Section>(
@@ -85,6 +85,22 @@ fn globals() {
         .global(SET_GLOBAL, &ConstExpr::empty(rt.alloc()))
         .expect("accepted");
     check_piece(&rt, section.piece(0), Some(&[126, 3, 11]));
+}
+
+/// An `End` inside a constant expression is written like any other instruction.
+#[test]
+fn globals_that_end_early() {
+    let rt = crate::host::HostRuntime;
+    let instructions = [
+        Instruction::I32Const(1),
+        Instruction::End,
+        Instruction::I32Const(2),
+    ];
+    let init = ConstExpr::extended(rt.alloc(), instructions).expect("accepted");
+    let mut section = GlobalSection::new(rt.alloc());
+    section.global(GLOBAL, &init).expect("accepted");
+    let expected = [9, 1, 127, 0, 65, 1, 11, 65, 2, 11];
+    check(&rt, rt.alloc(), &section, 6, &expected)
 }
 
 #[test]
@@ -250,6 +266,11 @@ fn imports() {
         items: CowSlice::Borrowed(&[]),
     };
     check_import(&rt, rt.alloc(), none, &[6, 1, 1, b'm', 0, 127, 0]);
+    let unnamed = Imports::Compact1 {
+        module: "",
+        items: CowSlice::Borrowed(&[]),
+    };
+    check_import(&rt, rt.alloc(), unnamed, &[5, 1, 0, 0, 127, 0]);
     let alike = Imports::Compact2 {
         module: "m",
         ty,
@@ -321,6 +342,11 @@ fn imported() {
     let rt = crate::host::HostRuntime;
     let mut section = ImportSection::new(rt.alloc());
     section
+        .import("", "", EntityType::Function(0))
+        .expect("accepted");
+    check(&rt, rt.alloc(), &section, 2, &[5, 1, 0, 0, 0, 0]);
+    let mut section = ImportSection::new(rt.alloc());
+    section
         .import("m", "f", EntityType::FunctionExact(5))
         .expect("accepted");
     check(
@@ -369,6 +395,14 @@ fn from_callers() {
     encode_null_tables(&mut sink, 0).expect("accepted");
     let expected = [12, 2, 112, 0, 0, 64, 0, 112, 0, 0, 208, 112, 11];
     check_bytes(&rt, &sink, &expected);
+}
+
+/// A derived `Debug` text.
+#[test]
+fn debug_of_imports_that_are_not_kept() {
+    let rt = crate::host::HostRuntime;
+    let text = format!(in rt.alloc(); "{:?}", PassedImports).expect("accepted");
+    assert_eq!(rt; text.as_str(), "PassedImports");
 }
 
 #[test]

@@ -129,6 +129,74 @@ fn clones() {
     panic!(rt; "no call was granted")
 }
 
+/// A segment of two bytes of this mode, its mode and its bytes cloned where every request is refused: none is made.
+fn check_cloned_data<'h>(
+    rt: &impl Abort,
+    heap: &'h Refusing<Global>,
+    mode: DataSegmentMode<'_, &'h Refusing<Global>>,
+    expected: &[u8],
+) {
+    let segment = DataSegment { mode, bytes: BYTES };
+    heap.refuse_all();
+    let copied_mode = segment.mode.clone().expect("accepted");
+    let copy = segment.clone().expect("accepted");
+    check_that(rt, heap.requests() == 0);
+    heap.refuse(0);
+    let of_mode = DataSegment {
+        mode: copied_mode,
+        bytes: BYTES,
+    };
+    for given in [copy, of_mode, segment] {
+        let mut section = DataSection::new(heap);
+        section.segment(given).expect("accepted");
+        check_bytes(rt, section.piece(0).unwrap_or(&[]), expected);
+    }
+}
+
+#[test]
+fn clones_of_data() {
+    let rt = crate::host::HostRuntime;
+    let heap = Refusing::new(rt.alloc());
+    let offset = ConstExpr::raw(&heap, [0x41, 1, 0x41, 2, 0x6A]).expect("accepted");
+    let active = DataSegmentMode::Active {
+        memory_index: 0,
+        offset: &offset,
+    };
+    check_cloned_data(&rt, &heap, active, &[0, 65, 1, 65, 2, 106, 11, 2, 8, 9]);
+    check_cloned_data(&rt, &heap, DataSegmentMode::Passive, &[1, 2, 8, 9])
+}
+
+/// A mode cloned where every request is refused: none is made.
+fn check_cloned_mode<'h>(
+    rt: &impl Abort,
+    heap: &'h Refusing<Global>,
+    mode: ElementMode<'h, &'h Refusing<Global>>,
+    expected: &[u8],
+) {
+    heap.refuse_all();
+    let copy = mode.clone().expect("accepted");
+    check_that(rt, heap.requests() == 0);
+    for mode in [copy, mode] {
+        let elements = Elements::Functions(CowSlice::Borrowed(&[7]));
+        check_part(rt, heap, &ElementSegment { mode, elements }, expected);
+    }
+}
+
+#[test]
+fn clones_of_element_modes() {
+    let rt = crate::host::HostRuntime;
+    let heap = Refusing::new(rt.alloc());
+    let offset = ConstExpr::raw(&heap, [0x41, 1, 0x41, 2, 0x6A]).expect("accepted");
+    let active = ElementMode::Active {
+        table: Some(3),
+        offset: &offset,
+    };
+    let expected = [2, 3, 65, 1, 65, 2, 106, 11, 0, 1, 7];
+    check_cloned_mode(&rt, &heap, active, &expected);
+    check_cloned_mode(&rt, &heap, ElementMode::Passive, &[1, 0, 1, 7]);
+    check_cloned_mode(&rt, &heap, ElementMode::Declared, &[3, 0, 1, 7])
+}
+
 /// 128 zero bytes go into a sink that has room for their section, where no memory is given; into one of a byte less they do not.
 #[test]
 fn exact_room() {

@@ -231,6 +231,17 @@ fn expressions_by_mode() {
 }
 
 #[test]
+fn passive_expressions() {
+    let rt = crate::host::HostRuntime;
+    let alloc = rt.alloc();
+    let third = [ConstExpr::ref_func(alloc, 3).expect("accepted")];
+    let elements = Elements::Expressions(RefType::FUNCREF, CowSlice::Borrowed(&third));
+    let mut section = ElementSection::new(alloc);
+    section.passive(elements).expect("accepted");
+    check(&rt, alloc, &section, 9, &[7, 1, 5, 112, 1, 210, 3, 11])
+}
+
+#[test]
 fn functions_by_mode() {
     let rt = crate::host::HostRuntime;
     let alloc = rt.alloc();

@@ -1,7 +1,7 @@
 // Written by tools/to-rust from tests/wasm_types_tests/src/calls.rtt: change that.
 // Each call of a type section once, with ample memory.
 
-use crate::checks::{check, check_bytes, check_len, check_piece};
+use crate::checks::{check, check_bytes, check_len, check_piece, check_that};
 use crate::samples::{BYTE, FLOAT, bytes, continuation, described, function, sub};
 use dolzhytik::base::{Encode, HeapType, Module, RefType, ValType};
 use dolzhytik::types::{ContType, FuncType, StorageType, SubType, TypeSection, laws};
@@ -32,6 +32,17 @@ fn functions() {
     );
     check_piece(&rt, section.piece(1), Some(&[0x60, 0, 0]));
     check_piece(&rt, section.piece(2), None);
+}
+
+/// A derived `Debug` text.
+#[test]
+fn debug_of_an_encoder() {
+    let rt = crate::host::HostRuntime;
+    let mut section = TypeSection::new(rt.alloc());
+    let encoder = section.ty();
+    let text = format!(in rt.alloc(); "{encoder:?}").expect("accepted");
+    let begins = "CoreTypeEncoder { section: TypeSection { ";
+    check_that(&rt, text.as_str().starts_with(begins));
 }
 
 #[test]
