@@ -15,6 +15,8 @@ use crate::base::refused::R;
 /// fits: { Self → Type 0 }
 /// // What is promised to readers of the text. A section must promise its headline here.
 /// reading: { Self → Type 0 } = { λ _. ⊤ }
+/// // What is too long for memory to matter: its encoding is refused as `TooLong` before any memory is asked for.
+/// overlong: { Self → Type 0 } = { λ _. ⊥ }
 /// ```
 pub trait Encode {
     /// Appends the text. A refused call leaves the bytes of the sink as they were.
@@ -24,6 +26,7 @@ pub trait Encode {
     /// ```text
     /// ensures appends { Appends (text self.now) (fits self.now) sink.old sink.new result }
     /// ensures read { OnOk result (reading self.now) }
+    /// ensures too_many { overlong self.now → result ≡ Err TooLong }
     /// ```
     fn encode<A: Sink>(&self, sink: &mut A) -> R<()>;
 }

@@ -38,7 +38,8 @@ const SHORT: usize = 0x80;
 /// # Proved
 ///
 /// ```text
-/// ensures { Appends (frame_text bytes.now) (FrameFits bytes.now) sink.old sink.new result }
+/// ensures appends { Appends (frame_text bytes.now) (FrameFits bytes.now) sink.old sink.new result }
+/// ensures too_many { longest < length bytes.now → result ≡ Err Refused.TooLong }
 /// ```
 #[inline(always)]
 pub fn encode_frame<A: Sink>(sink: &mut A, bytes: &[u8]) -> R<()> {
@@ -57,7 +58,8 @@ pub fn encode_frame<A: Sink>(sink: &mut A, bytes: &[u8]) -> R<()> {
 /// # Proved
 ///
 /// ```text
-/// ensures { Appends (frame_text bytes.now) (FrameFits bytes.now) sink.old sink.new result }
+/// ensures appends { Appends (frame_text bytes.now) (FrameFits bytes.now) sink.old sink.new result }
+/// ensures too_many { longest < length bytes.now → result ≡ Err Refused.TooLong }
 /// ```
 #[inline(never)]
 fn encode_long_frame<A: Sink>(sink: &mut A, bytes: &[u8]) -> R<()> {
@@ -71,7 +73,8 @@ fn encode_long_frame<A: Sink>(sink: &mut A, bytes: &[u8]) -> R<()> {
 /// # Proved
 ///
 /// ```text
-/// ensures { Appends (frame_text (unsigned_text count ++ bytes.now)) (FrameFits (unsigned_text count ++ bytes.now)) sink.old sink.new result }
+/// ensures appends { Appends (frame_text (unsigned_text count ++ bytes.now)) (FrameFits (unsigned_text count ++ bytes.now)) sink.old sink.new result }
+/// ensures too_many { longest < length (unsigned_text count ++ bytes.now) → result ≡ Err Refused.TooLong }
 /// ```
 pub fn encode_section<A: Sink>(sink: &mut A, count: u32, bytes: &[u8]) -> R<()> {
     begin_frame(sink, bytes.len().saturating_add(encoding_size(count)))?;
@@ -87,6 +90,7 @@ pub fn encode_section<A: Sink>(sink: &mut A, count: u32, bytes: &[u8]) -> R<()> 
 /// ```text
 /// text = { λ name. frame_text name.now }
 /// fits = { λ name. FrameFits name.now }
+/// overlong = { λ name. longest < length name.now }
 /// ```
 impl Encode for &str {
     #[inline(always)]

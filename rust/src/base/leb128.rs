@@ -301,15 +301,9 @@ impl Encode for u64 {
 /// ```text
 /// text = { unsigned_text }
 /// fits = { λ n. n ≤ longest }
+/// overlong = { λ n. longest < n }
 /// ```
 impl Encode for usize {
-    /// # Proved
-    ///
-    /// ```text
-    /// ensures appends { Appends (unsigned_text self.now) (self.now ≤ longest) sink.old sink.new result }
-    /// ensures read { OnOk result ⊤ }
-    /// ensures too_many { longest < self.now → result ≡ Err Refused.TooLong }
-    /// ```
     fn encode<A: Sink>(&self, sink: &mut A) -> R<()> {
         match u32::try_from(*self) {
             Ok(n) => n.encode(sink),

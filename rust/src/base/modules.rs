@@ -51,6 +51,7 @@ impl<A: Allocator> Module<A> {
     /// ensures err { OnErr result (self.new ≡ self.old) }
     /// ensures fitted { OnOk result (S.fits section.now) }
     /// ensures too_long { S.fits section.now → result ≢ Err Refused.TooLong }
+    /// ensures too_many { S.overlong section.now → result ≡ Err Refused.TooLong }
     /// ```
     pub fn section<S: Section>(&mut self, section: &S) -> R<()> {
         section.append_to(&mut self.bytes)

@@ -4,7 +4,7 @@
 use crate::vec::Sink;
 use crate::base::encode::Encode;
 use crate::base::frames::encode_frame;
-use crate::base::refused::R;
+use crate::base::refused::{R, Refused};
 
 /// A part of a module: an id, and a text that a reader finds the items of the section in.
 ///
@@ -43,10 +43,16 @@ pub trait Section: Encode {
     /// ```text
     /// ensures appends { Appends (id_of self.now ∷ Self.text self.now) (Self.fits self.now) dst.old dst.new result }
     /// ensures read { OnOk result (Self.reading self.now) }
+    /// ensures too_many { Self.overlong self.now → result ≡ Err TooLong }
     /// ```
     fn append_to<A: Sink>(&self, dst: &mut A) -> R<()> {
         let start = dst.len();
-        dst.push(self.id())?;
+        if dst.push(self.id()).is_err() {
+            // A section that is too long says so, whatever memory there is.
+            let refused = self.encode(dst).err();
+            dst.truncate(start);
+            return Err(refused.unwrap_or(Refused::Memory));
+        }
         if let Err(refused) = self.encode(dst) {
             dst.truncate(start);
             return Err(refused);
@@ -67,6 +73,7 @@ pub struct RawSection<'a> {
 /// ```text
 /// text = { λ s. frame_text s.bytes.now }
 /// fits = { λ s. FrameFits s.bytes.now }
+/// overlong = { λ s. longest < length s.bytes.now }
 /// reading = { λ s. ReadsBack (frame any_bytes) (λ bytes. bytes ≡ s.bytes.now) (frame_text s.bytes.now) }
 /// ```
 impl Encode for RawSection<'_> {

@@ -13,6 +13,7 @@ use crate::base::refused::R;
 /// ```text
 /// text = { λ s. vec_text T.text s.now }
 /// fits = { λ s. VecFits T.fits s.now }
+/// overlong = { λ s. longest < length s.now }
 /// ```
 impl<T: Encode> Encode for &[T] {
     fn encode<A: Sink>(&self, sink: &mut A) -> R<()> {

@@ -26,7 +26,9 @@ pub(in crate::custom) fn begin_custom<A: Sink>(sink: &mut A, name: &str, size: u
     };
     begin_frame(
         sink,
-        (encoding_size(short) + name.len()).saturating_add(size),
+        name.len()
+            .saturating_add(encoding_size(short))
+            .saturating_add(size),
     )?;
     name.encode(sink).unwrap();
     Ok(())

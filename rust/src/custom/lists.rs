@@ -137,19 +137,19 @@ pub(in crate::custom) struct Entries<'a, K: ListKind, A: Allocator>(pub &'a Coun
 /// ```
 impl<K: ListKind, A: Allocator> Encode for Entries<'_, K, A> {
     fn encode<B: Sink>(&self, sink: &mut B) -> R<()> {
-        let pieces = &self.0.pieces;
-        let count = pieces.len();
-        sink.reserve(encoding_size(count).saturating_add(pieces.raw_len()))?;
+        let list = self.0;
+        let count = list.pieces.len();
+        sink.reserve(encoding_size(count).saturating_add(list.pieces.raw_len()))?;
         count.encode(sink).unwrap();
-        sink.extend_from_slice(pieces.bytes()).unwrap();
+        sink.extend_from_slice(list.pieces.bytes()).unwrap();
         Ok(())
     }
 }
 
 impl<K: ListKind, A: Allocator> Content for Entries<'_, K, A> {
     fn size(&self) -> usize {
-        let pieces = &self.0.pieces;
-        encoding_size(pieces.len()).saturating_add(pieces.raw_len())
+        let list = self.0;
+        encoding_size(list.pieces.len()).saturating_add(list.pieces.raw_len())
     }
 }
 

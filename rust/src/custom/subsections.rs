@@ -22,7 +22,7 @@ impl Content for &str {
     fn size(&self) -> usize {
         let len = self.len();
         match u32::try_from(len) {
-            Ok(short) => encoding_size(short) + len,
+            Ok(short) => len.saturating_add(encoding_size(short)),
             Err(_) => len,
         }
     }

@@ -41,15 +41,6 @@ pub fn rows<A: Allocator>() {}
 /// ```
 pub fn cases<A: Allocator>() {}
 
-/// The constants of [`Instruction`] are the cases of their names.
-///
-/// # Proved
-///
-/// ```text
-/// ensures { constants ≡ named_cases }
-/// ```
-pub fn constants() {}
-
 /// Instructions are read uniquely over the table. The text of one that is plain is read as its normal form alone, and two that
 /// are plain have one text exactly where they have one normal form.
 ///

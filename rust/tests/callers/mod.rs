@@ -7,4 +7,5 @@ pub mod instructions;
 #[cfg(test)]
 mod once;
 pub mod readings;
+pub mod segments;
 pub mod walks;

@@ -180,7 +180,7 @@ pub fn written_names<'a, A: Allocator + Copy + 'a>(
     Ok(items)
 }
 
-/// Shortens a module into an empty buffer: what stands there is a module, and no longer.
+/// Shortens a module into an empty buffer, which then holds the shortened module, no longer than the first. After an error the buffer is empty.
 ///
 /// # Asks
 ///
@@ -193,6 +193,8 @@ pub fn written_names<'a, A: Allocator + Copy + 'a>(
 /// ```text
 /// ensures is_module { OnOk result ((sections : List (ℕ × List ℕ)) × wasm_module wide sink.new.items sections) }
 /// ensures no_longer { OnOk result (length sink.new.items ≤ length bytes.now) }
+/// ensures shortened { IfOk result (λ kept. ShortensModule Refuse bytes.now kept sink.old.items sink.new.items) }
+/// ensures err { OnErr result (sink.new.items ≡ []) }
 /// ```
 pub fn smaller_module<A: Allocator + Copy>(
     bytes: &[u8],
