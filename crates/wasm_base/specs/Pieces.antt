@@ -1,5 +1,5 @@
 -- The entries of a builder: pieces of bytes that lie one after another.
-use Rattle.std.specs.Prelude.{◌≡◌, ℕ, ◌+◌, ◌-◌, ◌≤◌, List, [], ◌∷◌, ◌++◌, length, take, drop}
+use Rattle.std.specs.Prelude.{◌≡◌, ℕ, ◌+◌, ◌-◌, ◌<◌, ◌≤◌, List, [], ◌∷◌, ◌++◌, length, take, drop}
 use Rattle.wasm_base.specs.Numbers.{unsigned_text}
 use Rattle.std.proofs.Common.{sym, ap, subst}
 use Rattle.wasm_base.specs.Texts.{longest, frame_text, FrameFits, IsFrameOf}
@@ -32,6 +32,10 @@ section_text pieces = frame_text (unsigned_text (length pieces) ++ joined pieces
 pub record SectionFits (pieces : List (List ℕ)) : Type 0 where
   pub count : length pieces ≤ longest
   pub size : FrameFits (unsigned_text (length pieces) ++ joined pieces)
+
+-- one whose size has more than 32 bits
+abbrev pub IsOverlong : List (List ℕ) → Type 0
+IsOverlong pieces = longest < length (unsigned_text (length pieces) ++ joined pieces)
 
 -- The payload of a counted section is the number of its entries and these.
 abbrev pub SectionPayload : List (List ℕ) → List ℕ → Type 0

@@ -1,10 +1,9 @@
 // The entries of a builder.
-ghost use Rattle.std.specs.Prelude.{◌≡◌, ◌≢◌, ℕ, ◌<◌, ◌≤◌, List, [], ◌∷◌, ◌++◌, length, IfOk, IsTrue, ◌↔◌, slice_get, slice_index, ⊤};
+ghost use Rattle.std.specs.Prelude.{◌≡◌, ◌≢◌, ℕ, ◌≤◌, List, [], ◌∷◌, ◌++◌, length, IfOk, IsTrue, ◌↔◌, slice_get, slice_index, ⊤};
 ghost use Rattle.std.specs.Option.{option_copied};
 ghost use Rattle.wasm_base.specs.Calls.{Adds};
 ghost use Rattle.wasm_base.specs.Once.{AddsOnce};
-ghost use Rattle.wasm_base.specs.Numbers.{unsigned_text};
-ghost use Rattle.wasm_base.specs.Pieces.{joined, cut_from, IsCut, section_text, SectionFits};
+ghost use Rattle.wasm_base.specs.Pieces.{joined, cut_from, IsCut, section_text, SectionFits, IsOverlong};
 ghost use Rattle.wasm_base.specs.Texts.{longest};
 
 use crate::encode::Encode;
@@ -162,7 +161,7 @@ impl<A: Allocator> Encode for Pieces<A> {
 
     ghost fits = { SectionFits };
 
-    ghost overlong = { λ pieces. longest < length (unsigned_text (length pieces) ++ joined pieces) };
+    ghost overlong = { IsOverlong };
 
     #[tactic(auto, unfolding(crate::specs::Pieces::section_text))]
     fn encode<B: Allocator>(&self, sink: &mut Vec<u8, B>) -> R<()> {

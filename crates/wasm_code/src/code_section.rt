@@ -2,7 +2,7 @@
 ghost use Rattle.std.specs.Prelude.{◌≡◌, ◌≢◌, ℕ, List, [], length, IfOk, IsTrue, ◌↔◌, slice_get};
 ghost use Rattle.std.specs.Option.{option_copied};
 ghost use Rattle.wasm_base.specs.Calls.{Adds};
-ghost use Rattle.wasm_base.specs.Pieces.{joined, section_text, SectionFits};
+ghost use Rattle.wasm_base.specs.Pieces.{joined, section_text, SectionFits, IsOverlong};
 ghost use Rattle.wasm_base.specs.Texts.{frame_text, FrameFits};
 ghost use Rattle.wasm_base.specs.declared.refused.Refused.TheVariants.{TooLong};
 ghost use Rattle.wasm_code.specs.Bodies.{Body};
@@ -117,6 +117,8 @@ impl<A: Allocator> Encode for CodeSection<A> {
     ghost text = { section_text };
 
     ghost fits = { SectionFits };
+
+    ghost overlong = { IsOverlong };
 
     ghost reading = { λ section. ReadsCode section (section_text section) };
 

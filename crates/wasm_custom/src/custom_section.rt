@@ -1,5 +1,5 @@
 // Custom sections: a name, and data up to the end of the frame.
-ghost use Rattle.std.specs.Prelude.{◌≡◌, ◌≢◌, ℕ, ◌+◌, ◌≤◌, List, ◌++◌, length, vec_len, vec_capacity, OnOk, OnErr, IfOk, IsOk, IsUtf8};
+ghost use Rattle.std.specs.Prelude.{◌≡◌, ◌≢◌, ℕ, ◌+◌, ◌<◌, ◌≤◌, List, ◌++◌, length, vec_len, vec_capacity, OnOk, OnErr, IfOk, IsOk, IsUtf8};
 ghost use Rattle.wasm_base.specs.Calls.{ReadsBack};
 ghost use Rattle.wasm_base.specs.Cow.{items_of, text_of};
 ghost use Rattle.wasm_base.specs.Formats.{custom};
@@ -20,6 +20,7 @@ pub(crate) fn begin_custom<A: Allocator>(sink: &mut Vec<u8, A>, name: &str, size
 
     ensures fitted { OnOk result (length (frame_text name.now) + size ≤ longest) }
     ensures too_long { length (frame_text name.now) + size ≤ longest → result ≢ Err Refused.TooLong }
+    ensures too_many { longest < length (frame_text name.now) + size → result ≡ Err Refused.TooLong }
 
     ensures room { length (frame_text name.now) + size ≤ longest
         → vec_len sink.old + (length (unsigned_text (length (frame_text name.now) + size)) + (length (frame_text name.now) + size)) ≤ vec_capacity sink.old
@@ -96,6 +97,8 @@ impl<A: Allocator> Encode for CustomSection<'_, A> {
     ghost text = { λ s. named_text (text_of s.name) (items_of s.bytes) };
 
     ghost fits = { λ s. NamedFits (text_of s.name) (items_of s.bytes) };
+
+    ghost overlong = { λ s. longest < length (frame_text (text_of s.name)) + length (items_of s.bytes) };
 
     ghost reading = { λ s. ReadsBack custom (λ said. IsUtf8 (text_of s.name) × (said ≡ (text_of s.name, items_of s.bytes))) (named_text (text_of s.name) (items_of s.bytes)) };
 

@@ -1,12 +1,12 @@
 // Custom sections of entries: what they have in common.
-ghost use Rattle.std.specs.Prelude.{◌≡◌, ◌≢◌, ℕ, ◌+◌, ◌≤◌, List, [], length, Bool, IfOk, IsTrue, ◌↔◌, ⊤};
+ghost use Rattle.std.specs.Prelude.{◌≡◌, ◌≢◌, ℕ, ◌+◌, ◌<◌, ◌≤◌, List, [], length, Bool, Err, IfOk, IsTrue, ◌↔◌, ⊤};
 ghost use Rattle.wasm_base.specs.Calls.{Adds, Appends, ReadsBackBoth};
 ghost use Rattle.wasm_base.specs.Cow.{items_of, text_of};
 ghost use Rattle.wasm_base.specs.Entries.{HoldsItems, HoldsWide};
 ghost use Rattle.wasm_base.specs.Numbers.{Mode};
 ghost use Rattle.wasm_base.specs.Once.{AddsOnce};
 ghost use Rattle.wasm_base.specs.Pieces.{joined};
-ghost use Rattle.wasm_base.specs.Texts.{longest};
+ghost use Rattle.wasm_base.specs.Texts.{longest, frame_text};
 ghost use Rattle.wasm_base.specs.declared.refused.Refused.TheVariants.{TooLong};
 ghost use Rattle.wasm_custom.specs.Customs.{named_section, named_text, NamedFits};
 ghost use Rattle.wasm_custom.specs.Entries.{count_text, entries_text, entries, FrameLaws};
@@ -195,6 +195,7 @@ pub(crate) fn encode_entries<A: Allocator, B: Allocator>(
 ) -> R<()>
     ensures appends { Appends (named_text name.now (entries_text front.now counted pieces.now)) (NamedFits name.now (entries_text front.now counted pieces.now)) sink.old sink.new result }
     ensures few { length pieces.now ≤ longest }
+    ensures too_many { longest < length (frame_text name.now) + length (entries_text front.now counted pieces.now) → result ≡ Err TooLong }
 {
     let count = Count {
         counted,
@@ -233,6 +234,8 @@ impl<K: CustomKind, A: Allocator> Encode for CustomEntries<K, A> {
     ghost text = { λ section. named_text K.name (entries_text K.front K.counted section) };
 
     ghost fits = { λ section. NamedFits K.name (entries_text K.front K.counted section) };
+
+    ghost overlong = { λ section. longest < length (frame_text K.name) + length (entries_text K.front K.counted section) };
 
     ghost reading = { λ section. ReadsBackBoth (named_section K.name (entries K.front_format K.counted K.kind.format)) (HoldsItems K.kind section) (HoldsWide K.kind.format section) (named_text K.name (entries_text K.front K.counted section)) };
 

@@ -5,7 +5,7 @@ ghost use Rattle.std.specs.Option.{option_copied};
 ghost use Rattle.wasm_base.specs.Calls.{Adds, ReadsBackBoth};
 ghost use Rattle.wasm_base.specs.Entries.{HoldsItems, HoldsWide, counted_format};
 ghost use Rattle.wasm_base.specs.Once.{AddsOnce};
-ghost use Rattle.wasm_base.specs.Pieces.{section_text, SectionFits};
+ghost use Rattle.wasm_base.specs.Pieces.{section_text, SectionFits, IsOverlong};
 ghost use Rattle.wasm_base.specs.declared.refused.Refused.TheVariants.{TooLong};
 
 use std::alloc::{Allocator, Global};
@@ -111,6 +111,8 @@ impl<K: ItemKind, A: Allocator> Encode for CountedSection<K, A> {
     ghost text = { section_text };
 
     ghost fits = { SectionFits };
+
+    ghost overlong = { IsOverlong };
 
     ghost reading = { λ section. ReadsBackBoth (counted_format K.kind.format) (HoldsItems K.kind section) (HoldsWide K.kind.format section) (section_text section) };
 

@@ -7,7 +7,7 @@ ghost use Rattle.wasm_base.specs.Formats.{vec};
 ghost use Rattle.wasm_base.specs.Going.{FillsNothing};
 ghost use Rattle.wasm_base.specs.Iterators.{HasKnownLength};
 ghost use Rattle.wasm_base.specs.Numbers.{wide};
-ghost use Rattle.wasm_base.specs.Pieces.{section_text, SectionFits};
+ghost use Rattle.wasm_base.specs.Pieces.{section_text, SectionFits, IsOverlong};
 ghost use Rattle.wasm_base.specs.Texts.{VecFits};
 ghost use Rattle.wasm_base.specs.declared.refused.Refused.TheVariants.{TooLong};
 ghost use Rattle.wasm_reader_base.specs.Shortest.{AppendsShortest};
@@ -113,6 +113,8 @@ impl<A: Allocator> Encode for TypeSection<A> {
     ghost text = { section_text };
 
     ghost fits = { SectionFits };
+
+    ghost overlong = { IsOverlong };
 
     ghost reading = { λ section. ReadsBackBoth (counted_format type_item) (HoldsTypes section) (HoldsWide type_item section) (section_text section) };
 

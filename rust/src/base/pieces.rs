@@ -199,7 +199,7 @@ impl<A: Allocator + Copy> Pieces<A> {
 /// ```text
 /// text = { section_text }
 /// fits = { SectionFits }
-/// overlong = { λ pieces. longest < length (unsigned_text (length pieces) ++ joined pieces) }
+/// overlong = { IsOverlong }
 /// ```
 impl<A: Allocator> Encode for Pieces<A> {
     fn encode<B: Sink>(&self, sink: &mut B) -> R<()> {

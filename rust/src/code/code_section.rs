@@ -147,6 +147,7 @@ impl<A: Allocator + Copy> CodeSection<A> {
 /// ```text
 /// text = { section_text }
 /// fits = { SectionFits }
+/// overlong = { IsOverlong }
 /// reading = { λ section. ReadsCode section (section_text section) }
 /// ```
 impl<A: Allocator> Encode for CodeSection<A> {

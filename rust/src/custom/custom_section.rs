@@ -15,6 +15,7 @@ use crate::base::{CowSlice, CowStr, Encode, R, Refused, Section, SectionId, begi
 /// ensures err { OnErr result (sink.new.items ≡ sink.old.items) }
 /// ensures fitted { OnOk result (length (frame_text name.now) + size ≤ longest) }
 /// ensures too_long { length (frame_text name.now) + size ≤ longest → result ≢ Err Refused.TooLong }
+/// ensures too_many { longest < length (frame_text name.now) + size → result ≡ Err Refused.TooLong }
 /// ensures room { length (frame_text name.now) + size ≤ longest
 ///     → vec_len sink.old + (length (unsigned_text (length (frame_text name.now) + size)) + (length (frame_text name.now) + size)) ≤ vec_capacity sink.old
 ///     → IsOk result }
@@ -104,6 +105,7 @@ impl<A: Allocator> Eq for CustomSection<'_, A> {}
 /// ```text
 /// text = { λ s. named_text (text_of s.name) (items_of s.bytes) }
 /// fits = { λ s. NamedFits (text_of s.name) (items_of s.bytes) }
+/// overlong = { λ s. longest < length (frame_text (text_of s.name)) + length (items_of s.bytes) }
 /// reading = { λ s. ReadsBack custom (λ said. IsUtf8 (text_of s.name) × (said ≡ (text_of s.name, items_of s.bytes))) (named_text (text_of s.name) (items_of s.bytes)) }
 /// ```
 impl<A: Allocator> Encode for CustomSection<'_, A> {

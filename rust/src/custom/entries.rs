@@ -243,6 +243,7 @@ fn data_size<B: Allocator>(front: &[u8], count: Count, pieces: &Pieces<B>) -> us
 /// ```text
 /// ensures appends { Appends (named_text name.now (entries_text front.now counted pieces.now)) (NamedFits name.now (entries_text front.now counted pieces.now)) sink.old sink.new result }
 /// ensures few { length pieces.now ≤ longest }
+/// ensures too_many { longest < length (frame_text name.now) + length (entries_text front.now counted pieces.now) → result ≡ Err TooLong }
 /// ```
 pub(in crate::custom) fn encode_entries<A: Sink, B: Allocator>(
     sink: &mut A,
@@ -294,6 +295,7 @@ pub(in crate::custom) fn data_of<A: Allocator, B: Allocator>(
 /// ```text
 /// text = { λ section. named_text K.name (entries_text K.front K.counted section) }
 /// fits = { λ section. NamedFits K.name (entries_text K.front K.counted section) }
+/// overlong = { λ section. longest < length (frame_text K.name) + length (entries_text K.front K.counted section) }
 /// reading = { λ section. ReadsBackBoth (named_section K.name (entries K.front_format K.counted K.kind.format)) (HoldsItems K.kind section) (HoldsWide K.kind.format section) (named_text K.name (entries_text K.front K.counted section)) }
 /// ```
 impl<K: CustomKind, A: Allocator> Encode for CustomEntries<K, A> {

@@ -147,6 +147,7 @@ impl<K, A: Allocator + Copy> CountedSection<K, A> {
 /// ```text
 /// text = { section_text }
 /// fits = { SectionFits }
+/// overlong = { IsOverlong }
 /// reading = { λ section. ReadsBackBoth (counted_format K.kind.format) (HoldsItems K.kind section) (HoldsWide K.kind.format section) (section_text section) }
 /// ```
 impl<K: ItemKind, A: Allocator> Encode for CountedSection<K, A> {

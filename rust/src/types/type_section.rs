@@ -125,6 +125,7 @@ impl<A: Allocator + Copy> TypeSection<A> {
 /// ```text
 /// text = { section_text }
 /// fits = { SectionFits }
+/// overlong = { IsOverlong }
 /// reading = { λ section. ReadsBackBoth (counted_format type_item) (HoldsTypes section) (HoldsWide type_item section) (section_text section) }
 /// ```
 impl<A: Allocator> Encode for TypeSection<A> {

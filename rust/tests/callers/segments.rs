@@ -1,0 +1,42 @@
+// Written by tools/to-rust from crates/callers/src/segments.rt: change that.
+//! Copies of data segments, whose bytes are those of the segment.
+
+use dolzhytik::vec::Vec;
+use dolzhytik::base::R;
+use dolzhytik::sections::DataSegment;
+
+/// Copies a segment whose bytes are an array.
+///
+/// # Proved
+///
+/// ```text
+/// ensures { IfOk result (λ copy. copy ≡ segment.now) }
+/// ```
+pub fn copy_of_array<'a>(segment: &DataSegment<'a, [u8; 3]>) -> R<DataSegment<'a, [u8; 3]>> {
+    segment.clone()
+}
+
+/// Copies a segment whose bytes are a slice.
+///
+/// # Proved
+///
+/// ```text
+/// ensures { IfOk result (λ copy. copy ≡ segment.now) }
+/// ```
+pub fn copy_of_slice<'a, 'b>(
+    segment: &DataSegment<'a, &'b [u8]>,
+) -> R<DataSegment<'a, &'b [u8]>> {
+    segment.clone()
+}
+
+/// Copies a segment whose bytes are a vector. The copy has memory of its own.
+///
+/// # Proved
+///
+/// ```text
+/// ensures mode { IfOk result (λ copy. copy.mode ≡ segment.now.mode) }
+/// ensures bytes { IfOk result (λ copy. copy.bytes.items ≡ segment.now.bytes.items) }
+/// ```
+pub fn copy_of_vector<'a>(segment: &DataSegment<'a, Vec<u8>>) -> R<DataSegment<'a, Vec<u8>>> {
+    segment.clone()
+}
