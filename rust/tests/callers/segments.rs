@@ -37,6 +37,6 @@ pub fn copy_of_slice<'a, 'b>(
 /// ensures mode { IfOk result (λ copy. copy.mode ≡ segment.now.mode) }
 /// ensures bytes { IfOk result (λ copy. copy.bytes.items ≡ segment.now.bytes.items) }
 /// ```
-pub fn copy_of_vector<'a>(segment: &DataSegment<'a, Vec<u8>>) -> R<DataSegment<'a, Vec<u8>>> {
+pub fn copy_of_vector<'a>(segment: &DataSegment<'a, std::vec::Vec<u8>>) -> R<DataSegment<'a, std::vec::Vec<u8>>> {
     segment.clone()
 }
