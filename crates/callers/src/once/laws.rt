@@ -20,6 +20,7 @@ fn instructions(_rt: HostRuntime) {
     wasm_insn::laws::rows::<Global>();
     wasm_insn::laws::cases::<Global>();
     wasm_insn::laws::instructions::<Global>();
+    wasm_insn::laws::lists();
     wasm_insn::laws::wide()
 }
 

@@ -22,6 +22,7 @@ fn instructions() {
     dolzhytik::insn::laws::rows::<Global>();
     dolzhytik::insn::laws::cases::<Global>();
     dolzhytik::insn::laws::instructions::<Global>();
+    dolzhytik::insn::laws::lists();
     dolzhytik::insn::laws::wide()
 }
 

@@ -1,0 +1,84 @@
+//! Calls that add an entry to a custom section: the entry is known.
+ghost use Rattle.std.specs.Prelude.{◌≡◌, [], ◌∷◌, ◌++◌, OnOk};
+ghost use Rattle.wasm_custom.specs.Customs.{subsection_text};
+ghost use Rattle.wasm_custom.specs.Lists.{list_text};
+ghost use Rattle.wasm_custom.specs.Symbols.{indexed_text};
+ghost use Rattle.wasm_custom.specs.declared.symbols.SymbolKind.TheVariants as kinds;
+
+use std::alloc::Allocator;
+use wasm_base::R;
+use wasm_custom::{NameMap, NameSection, SymbolTable};
+
+/// Names of types, in the subsection 4.
+pub fn name_types<A: Allocator, B: Allocator>(
+    section: &mut NameSection<A>,
+    names: &NameMap<B>,
+) -> R<()>
+    ensures { OnOk result (section.new ≡ section.old ++ subsection_text 4 (list_text names.now) ∷ []) }
+{
+    section.types(names)
+}
+
+/// Names of tables, in the subsection 5.
+pub fn name_tables<A: Allocator, B: Allocator>(
+    section: &mut NameSection<A>,
+    names: &NameMap<B>,
+) -> R<()>
+    ensures { OnOk result (section.new ≡ section.old ++ subsection_text 5 (list_text names.now) ∷ []) }
+{
+    section.tables(names)
+}
+
+/// Names of memories, in the subsection 6.
+pub fn name_memories<A: Allocator, B: Allocator>(
+    section: &mut NameSection<A>,
+    names: &NameMap<B>,
+) -> R<()>
+    ensures { OnOk result (section.new ≡ section.old ++ subsection_text 6 (list_text names.now) ∷ []) }
+{
+    section.memories(names)
+}
+
+/// Names of globals, in the subsection 7.
+pub fn name_globals<A: Allocator, B: Allocator>(
+    section: &mut NameSection<A>,
+    names: &NameMap<B>,
+) -> R<()>
+    ensures { OnOk result (section.new ≡ section.old ++ subsection_text 7 (list_text names.now) ∷ []) }
+{
+    section.globals(names)
+}
+
+/// Names of element segments, in the subsection 8.
+pub fn name_elements<A: Allocator, B: Allocator>(
+    section: &mut NameSection<A>,
+    names: &NameMap<B>,
+) -> R<()>
+    ensures { OnOk result (section.new ≡ section.old ++ subsection_text 8 (list_text names.now) ∷ []) }
+{
+    section.elements(names)
+}
+
+/// Names of tags, in the subsection 11.
+pub fn name_tags<A: Allocator, B: Allocator>(
+    section: &mut NameSection<A>,
+    names: &NameMap<B>,
+) -> R<()>
+    ensures { OnOk result (section.new ≡ section.old ++ subsection_text 11 (list_text names.now) ∷ []) }
+{
+    section.tag(names)
+}
+
+/// A global that another module defines: its flags say that it is not defined here, and it has no name.
+pub fn import_global<A: Allocator>(table: &mut SymbolTable<A>, index: u32) -> R<()>
+    ensures { OnOk result (table.new ≡ table.old ++ indexed_text kinds.Global 0x10 index [] ∷ []) }
+{
+    table.global(0x10, index, None)
+}
+
+/// A table that another module defines.
+pub fn import_table<A: Allocator>(table: &mut SymbolTable<A>, index: u32) -> R<()>
+    ensures { OnOk result (table.new ≡ table.old ++ indexed_text kinds.Table 0x10 index [] ∷ []) }
+{
+    table.table(0x10, index, None)
+}

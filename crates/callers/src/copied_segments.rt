@@ -1,0 +1,58 @@
+//! Copies of what core sections are made of.
+ghost use Rattle.std.specs.Prelude.{◌≡◌, IfOk};
+ghost use Rattle.wasm_sections.specs.GivenElements.{list_in, segment_in};
+ghost use Rattle.wasm_sections.specs.Imports.{imports_item};
+
+use std::alloc::Allocator;
+use wasm_base::R;
+use wasm_sections::{
+    DataSegmentMode, ElementMode, ElementSegment, Elements, FunctionSection, Imports,
+};
+
+/// A function section of the same entries.
+pub fn copied_functions<A: Allocator + Copy>(
+    functions: &FunctionSection<A>,
+) -> R<FunctionSection<A>>
+    ensures { IfOk result (λ copy. copy ≡ functions.now) }
+{
+    functions.clone()
+}
+
+/// An import or a group of imports that says the same.
+pub fn copied_imports<'a, A: Allocator + Copy>(imports: &Imports<'a, A>) -> R<Imports<'a, A>>
+    ensures { IfOk result (λ copy. imports_item copy ≡ imports_item imports.now) }
+{
+    imports.clone()
+}
+
+/// The same mode.
+pub fn copied_data_mode<'a, A: Allocator>(
+    mode: &DataSegmentMode<'a, A>,
+) -> R<DataSegmentMode<'a, A>>
+    ensures { IfOk result (λ copy. copy ≡ mode.now) }
+{
+    mode.clone()
+}
+
+/// The same mode of an element segment.
+pub fn copied_element_mode<'a, A: Allocator>(place: &ElementMode<'a, A>) -> R<ElementMode<'a, A>>
+    ensures { IfOk result (λ copy. copy ≡ place.now) }
+{
+    place.clone()
+}
+
+/// References to the same functions, or by the same expressions.
+pub fn copied_elements<'a, A: Allocator + Copy>(elements: &Elements<'a, A>) -> R<Elements<'a, A>>
+    ensures { IfOk result (λ copy. list_in copy ≡ list_in elements.now) }
+{
+    elements.clone()
+}
+
+/// A segment of the same mode and references.
+pub fn copied_element_segment<'a, A: Allocator + Copy>(
+    segment: &ElementSegment<'a, A>,
+) -> R<ElementSegment<'a, A>>
+    ensures { IfOk result (λ copy. segment_in copy ≡ segment_in segment.now) }
+{
+    segment.clone()
+}

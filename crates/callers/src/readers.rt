@@ -1,0 +1,34 @@
+//! Readers of instructions: where a walk begins, what is before it, and a body as a whole.
+ghost use Rattle.std.specs.Prelude.{◌≡◌, ◌≢◌, [], IfOk, IfErr};
+ghost use Rattle.wasm_base.specs.Going.{FillsNothing};
+ghost use Rattle.wasm_base.specs.Numbers.{wide};
+ghost use Rattle.wasm_code.specs.Bodies.{body};
+ghost use Rattle.wasm_reader_base.specs.declared.fault.ReadFault.TheVariants.{Memory};
+ghost use Rattle.wasm_reader_insn.specs.Arguments.{body_view};
+ghost use Rattle.wasm_reader_insn.specs.Walks.{ahead};
+
+use std::alloc::Allocator;
+use wasm_reader_base::ReadFault;
+use wasm_reader_insn::{Body, Instructions, read_body};
+
+/// The walk that begins at the first byte.
+pub fn walk_over<'a, A: Allocator + Copy>(bytes: &'a [u8], alloc: A) -> Instructions<'a, A>
+    ensures { result ≡ record { bytes = bytes.now; place = 0; arguments = [] } }
+{
+    Instructions::new(bytes, alloc)
+}
+
+/// The bytes that a walk has not gone over.
+pub fn bytes_ahead<'a, A: Allocator + Copy>(walk: &Instructions<'a, A>) -> &'a [u8]
+    ensures { result.now ≡ ahead walk.now }
+{
+    walk.rest()
+}
+
+/// A body of these bytes, which are without its size.
+pub fn body_of<A: Allocator + Copy>(bytes: &[u8], alloc: A) -> Result<Body<A>, ReadFault>
+    ensures found { IfOk result (λ x. body wide bytes.now (body_view x)) }
+    ensures none { IfErr result (λ e. e ≢ Memory → FillsNothing body bytes.now) }
+{
+    read_body(bytes, alloc)
+}

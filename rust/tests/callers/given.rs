@@ -1,0 +1,97 @@
+// Written by tools/to-rust from crates/callers/src/given.rt: change that.
+//! Values that are made of parts, and data that are given out as custom sections.
+
+use dolzhytik::vec::Vec;
+use dolzhytik::alloc::Allocator;
+use dolzhytik::base::{R, ValType};
+use dolzhytik::code::ConstExpr;
+use dolzhytik::custom::{CoreDumpInstancesSection, CoreDumpModulesSection, CoreDumpStackSection, CustomSection};
+use dolzhytik::immediates::{Ieee32, Ieee64};
+use dolzhytik::types::FuncType;
+
+/// A constant of 32 bits.
+///
+/// # Proved
+///
+/// ```text
+/// ensures { IfOk result (Stores (Instruction.F32Const float) []) }
+/// ```
+pub fn single_constant<A: Allocator>(alloc: A, float: Ieee32) -> R<ConstExpr<A>> {
+    ConstExpr::f32_const(alloc, float)
+}
+
+/// A constant of 64 bits.
+///
+/// # Proved
+///
+/// ```text
+/// ensures { IfOk result (Stores (Instruction.F64Const float) []) }
+/// ```
+pub fn double_constant<A: Allocator>(alloc: A, float: Ieee64) -> R<ConstExpr<A>> {
+    ConstExpr::f64_const(alloc, float)
+}
+
+/// A constant of 128 bits.
+///
+/// # Proved
+///
+/// ```text
+/// ensures { IfOk result (Stores (Instruction.VectorImmediate (VectorImmediate.V128Const vector)) []) }
+/// ```
+pub fn vector_constant<A: Allocator>(alloc: A, vector: i128) -> R<ConstExpr<A>> {
+    ConstExpr::v128_const(alloc, vector)
+}
+
+/// The type of a function with these parameters and results.
+///
+/// # Proved
+///
+/// ```text
+/// ensures params { result.params.items ≡ params.items }
+/// ensures results { result.results.items ≡ results.items }
+/// ```
+pub fn function_type<A: Allocator>(params: Vec<ValType, A>, results: Vec<ValType, A>) -> FuncType<A> {
+    FuncType::of(params, results)
+}
+
+/// The modules of a process as a custom section.
+///
+/// # Proved
+///
+/// ```text
+/// ensures { IfOk result (λ s. (text_of s.name ≡ modules_name) × (items_of s.bytes ≡ entries_text [] true modules.now)) }
+/// ```
+pub fn custom_modules<'a, A: Allocator, B: Allocator>(
+    modules: &'a CoreDumpModulesSection<A>,
+    alloc: B,
+) -> R<CustomSection<'a, B>> {
+    modules.as_custom(alloc)
+}
+
+/// The instances of a process as a custom section.
+///
+/// # Proved
+///
+/// ```text
+/// ensures { IfOk result (λ s. (text_of s.name ≡ instances_name) × (items_of s.bytes ≡ entries_text [] true instances.now)) }
+/// ```
+pub fn custom_instances<'a, A: Allocator, B: Allocator>(
+    instances: &'a CoreDumpInstancesSection<A>,
+    alloc: B,
+) -> R<CustomSection<'a, B>> {
+    instances.as_custom(alloc)
+}
+
+/// The stack of a thread as a custom section.
+///
+/// # Proved
+///
+/// ```text
+/// ensures { IfOk result (λ s. (text_of s.name ≡ stack_name) × (items_of s.bytes ≡ entries_text stack.now.0 true stack.now.1)) }
+/// ```
+pub fn custom_stack<'a, A: Allocator, B: Allocator>(
+    stack: &'a CoreDumpStackSection<A>,
+    alloc: B,
+) -> R<CustomSection<'a, B>> {
+    stack.as_custom(alloc)
+}

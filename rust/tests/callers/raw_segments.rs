@@ -1,0 +1,17 @@
+// Written by tools/to-rust from crates/callers/src/raw_segments.rt: change that.
+//! A segment that is encoded already.
+
+use dolzhytik::alloc::Allocator;
+use dolzhytik::base::R;
+use dolzhytik::sections::ElementSection;
+
+/// An element segment of these bytes.
+///
+/// # Proved
+///
+/// ```text
+/// ensures { OnOk result (section.new ≡ section.old ++ segment.now ∷ []) }
+/// ```
+pub fn add_raw_elements<A: Allocator>(section: &mut ElementSection<A>, segment: &[u8]) -> R<()> {
+    section.raw(segment)
+}

@@ -1,0 +1,40 @@
+// Written by tools/to-rust from crates/callers/src/readers.rt: change that.
+//! Readers of instructions: where a walk begins, what is before it, and a body as a whole.
+
+use dolzhytik::alloc::Allocator;
+use dolzhytik::reader::base::ReadFault;
+use dolzhytik::reader::insn::{Body, Instructions, read_body};
+
+/// The walk that begins at the first byte.
+///
+/// # Proved
+///
+/// ```text
+/// ensures { result ≡ record { bytes = bytes.now; place = 0; arguments = [] } }
+/// ```
+pub fn walk_over<'a, A: Allocator + Copy>(bytes: &'a [u8], alloc: A) -> Instructions<'a, A> {
+    Instructions::new(bytes, alloc)
+}
+
+/// The bytes that a walk has not gone over.
+///
+/// # Proved
+///
+/// ```text
+/// ensures { result.now ≡ ahead walk.now }
+/// ```
+pub fn bytes_ahead<'a, A: Allocator + Copy>(walk: &Instructions<'a, A>) -> &'a [u8] {
+    walk.rest()
+}
+
+/// A body of these bytes, which are without its size.
+///
+/// # Proved
+///
+/// ```text
+/// ensures found { IfOk result (λ x. body wide bytes.now (body_view x)) }
+/// ensures none { IfErr result (λ e. e ≢ Memory → FillsNothing body bytes.now) }
+/// ```
+pub fn body_of<A: Allocator + Copy>(bytes: &[u8], alloc: A) -> Result<Body<A>, ReadFault> {
+    read_body(bytes, alloc)
+}
