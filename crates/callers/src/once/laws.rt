@@ -8,6 +8,7 @@ fn base(_rt: HostRuntime) {
     wasm_base::laws::payloads();
     wasm_base::laws::wide_payloads();
     wasm_base::laws::types();
+    wasm_base::laws::constants();
     wasm_base::laws::wide()
 }
 

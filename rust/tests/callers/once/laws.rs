@@ -10,6 +10,7 @@ fn base() {
     dolzhytik::base::laws::payloads();
     dolzhytik::base::laws::wide_payloads();
     dolzhytik::base::laws::types();
+    dolzhytik::base::laws::constants();
     dolzhytik::base::laws::wide()
 }
 
