@@ -1,12 +1,14 @@
 //! Custom sections: names, what a linker needs, producers, hints, and any name and data.
-ghost use Rattle.std.specs.Prelude.{◌≡◌, ◌≢◌, [], ◌∷◌, IfOk, IfErr, OnOk};
+ghost use Rattle.std.specs.Prelude.{◌≡◌, ◌≢◌, ◌++◌, [], ◌∷◌, true, false, Err, IfOk, IfErr, OnOk, OnErr, map};
 ghost use Rattle.wasm_base.specs.Formats.{frame, custom as custom_format};
 ghost use Rattle.wasm_base.specs.Modules.{GainsReading};
 ghost use Rattle.wasm_custom.specs.Symbols.{AreSymbols};
-ghost use Rattle.wasm_custom.specs.Names.{name_payload};
+ghost use Rattle.wasm_base.specs.declared.refused.Refused.TheVariants.{TooLong};
+ghost use Rattle.wasm_custom.specs.Names.{name_payload, name_item_view};
 ghost use Rattle.wasm_custom.specs.Linking.{linking_payload};
 ghost use Rattle.wasm_custom.specs.Producers.{producers_payload};
 ghost use Rattle.wasm_custom.specs.Hints.{hints_payload};
+ghost use Rattle.wasm_reader_base.specs.Shortest.{AppendsShortest};
 ghost use Rattle.wasm_reader_base.specs.declared.fault.ReadFault.TheVariants.{Memory};
 ghost use Rattle.read_back.specs.Customs.{name_and_more, data_symbol, links, language, likely_hints};
 ghost use Rattle.wasm_reader.specs.Kinds.{Names, Linking, Producers, Hints, Custom, contents_of};
@@ -15,8 +17,8 @@ use crate::read_and_shorten;
 use std::alloc::Allocator;
 use wasm_base::{CowSlice, CowStr, Encode, R};
 use wasm_custom::{
-    BranchHint, BranchHints, CustomSection, DataSymbolDefinition, LinkingSection, NameSection,
-    ProducersField, ProducersSection, SymbolTable,
+    BranchHint, BranchHints, CustomSection, DataSymbolDefinition, LinkingSection, NameItem,
+    NameSection, ProducersField, ProducersSection, SymbolTable, append_names, read_names,
 };
 use wasm_reader::{Items, SectionKind};
 use wasm_reader_base::ReadFault;
@@ -46,6 +48,39 @@ pub fn read_more_names<'a, A: Allocator + Copy + 'a>(
     write_more_names(text, name, more)?;
     let items = read_and_shorten(SectionKind::Names, text, sink)?;
     Ok(items)
+}
+
+/// Appends a title and the names after it, or the title alone where memory does not suffice for the
+/// names. Returns whether the names are there.
+pub fn titled_names<A: Allocator>(
+    title: &[u8],
+    names: &[NameItem<'_, A>],
+    sink: &mut Vec<u8, A>,
+) -> R<bool>
+    ensures named { IfOk result (λ all. all ≡ true → AppendsShortest name_payload (map name_item_view names.now) (sink.old.items ++ title.now) sink.new.items) }
+    ensures titled { IfOk result (λ all. all ≡ false → sink.new.items ≡ sink.old.items ++ title.now) }
+    ensures err { OnErr result (sink.new.items ≡ sink.old.items) }
+{
+    sink.extend_from_slice(title)?;
+    match append_names(names, sink) {
+        Ok(()) => Ok(true),
+        Err(_) => Ok(false),
+    }
+}
+
+/// Appends the minimal encoding of the names that the bytes encode, with their section's name. Returns
+/// whether they do. No count or size is too long.
+pub fn rewritten_names<A: Allocator + Copy>(bytes: &[u8], sink: &mut Vec<u8, A>) -> R<bool>
+    ensures too_long { result ≢ Err TooLong }
+    ensures err { OnErr result (sink.new.items ≡ sink.old.items) }
+{
+    match read_names(bytes, *sink.allocator()) {
+        Ok(names) => {
+            append_names(&names, sink)?;
+            Ok(true)
+        }
+        Err(_) => Ok(false),
+    }
 }
 
 /// A symbol table of one symbol of data.

@@ -28,7 +28,7 @@ use wasm_custom::{NameMap, NameSection};
 use wasm_reader::{
     Items, ModuleFault, Offsets, SectionKind, laws, read_section, shorten, shorten_module,
 };
-use wasm_reader_base::ReadFault;
+use wasm_reader_base::{ReadFault, Shorten};
 use wasm_sections::FunctionSection;
 
 /// Reads the section of this kind that a buffer holds, and shortens it.
@@ -114,6 +114,23 @@ pub fn padded_function<'a, A: Allocator + Copy + 'a>(
     let (items, _taken) = read_section(alloc, SectionKind::Functions, padded)?;
     let _taken = shorten(SectionKind::Functions, padded, sink)?;
     Ok(items)
+}
+
+/// Appends two values that were read, or neither.
+pub fn both_or_neither<T: Shorten, U: Shorten, A: Allocator>(
+    first: &T,
+    second: &U,
+    sink: &mut Vec<u8, A>,
+) -> R<()>
+    ensures { OnErr result (sink.new.items ≡ sink.old.items) }
+{
+    let start = sink.len();
+    first.append_shortest(sink)?;
+    let appended = second.append_shortest(sink);
+    if appended.is_err() {
+        sink.truncate(start);
+    }
+    appended
 }
 
 /// A name section: the names of the module and of its first function.

@@ -16,7 +16,7 @@ use Rattle.wasm_base.proofs.TextLaws.{reads_alone, u32_spelled, name_spelled, ve
 use Rattle.wasm_custom.specs.CoreDumps.{marked_text, marked_name, core_name, core_section, SaysProcess, modules_name, Instance, instance_text, IsInstance, instance_of, instance, instances_name, module_items, instance_items, core_payload, modules_payload, instances_payload}
 use Rattle.wasm_custom.specs.Customs.{named_text, NamedFits}
 use Rattle.wasm_custom.specs.Entries.{FrameLaws}
-use Rattle.wasm_custom.proofs.CustomLaws.{named_spelled, data_fits, named_appended}
+use Rattle.wasm_custom.proofs.CustomLaws.{named_encoded, named_spelled, data_fits, named_appended}
 use Rattle.std.proofs.lemmas.List.{map-id}
 use Rattle.wasm_base.specs.Going.{FillsNothing}
 use Rattle.wasm_base.proofs.ReadingSteps.{mapped_reads, mapped_nothing}
@@ -24,7 +24,8 @@ use Rattle.wasm_custom.proofs.ReadNamed.{named_fills, named_none, named_nothing}
 use Rattle.wasm_base.proofs.AfterLaws.{after_whole}
 use Rattle.wasm_base.proofs.SectionLaws.{SectionLaws}
 use Rattle.wasm_custom.proofs.EntriesLaws.{counted_frame, entries_laws}
-use Rattle.wasm_reader_base.specs.Shortest.{AppendsShortest}
+use Rattle.wasm_reader_base.specs.Shortest.{AppendsShortest, HasEncoding}
+use Rattle.wasm_reader_base.proofs.Encodings.{left_encoded, right_encoded, prefixed_encoded, mapped_encoded}
 use Rattle.wasm_reader_base.proofs.ShortTexts.{pair_appended, prefixed_appended, mapped_appended}
 
 -- ---- names of processes, modules and threads
@@ -128,3 +129,24 @@ instance_appended n ms gs old front first second new e a b c =
     let parts : ℕ × (List ℕ × List ℕ) = (n, (ms, gs)) in
     let all = pair_appended u32 (pair (vec u32) (vec u32)) a lists in
     mapped_appended instance_of (prefixed (0x00 ∷ []) (pair u32 (pair (vec u32) (vec u32)))) parts old new (λ z k. ap (λ i. (i.module_index, (i.memories, i.globals))) k) (prefixed_appended (0x00 ∷ []) (pair u32 (pair (vec u32) (vec u32))) parts old front new e all)
+
+-- ---- parts that have encodings
+
+pub marked_encoded : (n : List ℕ) → HasEncoding marked_name n → HasEncoding name n
+marked_encoded n h = prefixed_encoded (0x00 ∷ []) name n h
+
+pub process_encoded : (n : List ℕ) → HasEncoding core_payload n → HasEncoding marked_name n
+process_encoded n h = named_encoded core_name marked_name n h
+
+lists_encoded : (n : ℕ) (ms gs : List ℕ) → HasEncoding instance (record { module_index = n; memories = ms; globals = gs }) → HasEncoding (pair (vec u32) (vec u32)) (ms, gs)
+lists_encoded n ms gs h =
+    let parts : ℕ × (List ℕ × List ℕ) = (n, (ms, gs)) in
+    right_encoded u32 (pair (vec u32) (vec u32)) n (ms, gs)
+    (prefixed_encoded (0x00 ∷ []) (pair u32 (pair (vec u32) (vec u32))) parts
+    (mapped_encoded instance_of (prefixed (0x00 ∷ []) (pair u32 (pair (vec u32) (vec u32)))) parts (λ z k. ap (λ i. (i.module_index, (i.memories, i.globals))) k) h))
+
+pub memories_encoded : (n : ℕ) (ms gs : List ℕ) → HasEncoding instance (record { module_index = n; memories = ms; globals = gs }) → HasEncoding (vec u32) (map (λ m. m) ms)
+memories_encoded n ms gs h = subst (λ z. HasEncoding (vec u32) z) (sym (map-id ms)) (left_encoded (vec u32) (vec u32) ms gs (lists_encoded n ms gs h))
+
+pub globals_encoded : (n : ℕ) (ms gs : List ℕ) → HasEncoding instance (record { module_index = n; memories = ms; globals = gs }) → HasEncoding (vec u32) (map (λ g. g) gs)
+globals_encoded n ms gs h = subst (λ z. HasEncoding (vec u32) z) (sym (map-id gs)) (right_encoded (vec u32) (vec u32) ms gs (lists_encoded n ms gs h))

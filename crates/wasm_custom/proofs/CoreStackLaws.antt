@@ -22,7 +22,7 @@ use Rattle.wasm_custom.specs.declared.core_values.CoreDumpValue.{CoreDumpValue}
 use Rattle.wasm_custom.specs.declared.core_values.CoreDumpValue.TheVariants.{Missing, I32, I64, F32, F64}
 use Rattle.wasm_base.proofs.Calls.{ascii}
 use Rattle.wasm_custom.proofs.CoreDumpLaws.{marked_unique, marked_spelled}
-use Rattle.wasm_custom.proofs.CustomLaws.{named_spelled, data_fits, named_appended}
+use Rattle.wasm_custom.proofs.CustomLaws.{named_encoded, named_spelled, data_fits, named_appended}
 use Rattle.wasm_custom.proofs.EntriesLaws.{listing_spelled}
 use Rattle.wasm_base.proofs.PartLaws.{pair_spelled, prefixed_spelled}
 use Rattle.std.proofs.lemmas.List.{map-id}
@@ -34,7 +34,8 @@ use Rattle.wasm_immediates.specs.declared.floats.Ieee64.{Ieee64}
 use Rattle.wasm_custom.proofs.ReadNamed.{named_fills, named_none, named_nothing}
 use Rattle.wasm_custom.specs.declared.core_values.CoreDumpValue.TheVariants as values
 use Rattle.wasm_base.proofs.AfterLaws.{after_whole}
-use Rattle.wasm_reader_base.specs.Shortest.{AppendsShortest}
+use Rattle.wasm_reader_base.specs.Shortest.{AppendsShortest, HasEncoding}
+use Rattle.wasm_reader_base.proofs.Encodings.{left_encoded, right_encoded, mapped_encoded, counted_fits}
 use Rattle.wasm_reader_base.proofs.ReadPlain.{little_endian_below}
 use Rattle.wasm_reader_base.proofs.ShortTexts.{pair_appended, prefixed_appended, mapped_appended, records_appended}
 
@@ -249,3 +250,26 @@ frame_appended n m o ls ss old front first second third fourth new e a b c lf le
 pub stack_appended : (thread : List ℕ) (frames : List StackFrame) (old front middle new : List ℕ) → FrameFits stack_name → front ≡ old ++ frame_text stack_name → AppendsShortest marked_name thread front middle → AppendsShortest (vec stack_frame) frames middle new
     → AppendsShortest stack_payload (thread, frames) old new
 stack_appended thread frames old front middle new fits e a b = named_appended stack_name (pair marked_name (vec stack_frame)) (thread, frames) fits e (pair_appended marked_name (vec stack_frame) a b)
+
+-- ---- parts that have encodings
+
+values_fit : (vs : List CoreDumpValue) → HasEncoding (vec value) vs → VecFits (λ v. Unit {0}) vs
+values_fit vs h = record { count = counted_fits value vs h; members = λ k d l. tt }
+
+lists_encoded : (n m o : ℕ) (ls ss : List CoreDumpValue) → HasEncoding stack_frame (record { instance = n; function = m; offset = o; locals = ls; stack = ss }) → HasEncoding (pair (vec value) (vec value)) (ls, ss)
+lists_encoded n m o ls ss h =
+    let place : Place = (n, (m, o)) in
+    right_encoded (prefixed (0x00 ∷ []) (pair u32 (pair u32 u32))) (pair (vec value) (vec value)) place (ls, ss)
+    (mapped_encoded stack_frame_of (pair (prefixed (0x00 ∷ []) (pair u32 (pair u32 u32))) (pair (vec value) (vec value))) (place, (ls, ss)) (λ z k. ap (λ f. ((f.instance, (f.function, f.offset)), (f.locals, f.stack))) k) h)
+
+pub locals_fit : (n m o : ℕ) (ls ss : List CoreDumpValue) → HasEncoding stack_frame (record { instance = n; function = m; offset = o; locals = ls; stack = ss }) → VecFits (λ v. Unit {0}) ls
+locals_fit n m o ls ss h = values_fit ls (left_encoded (vec value) (vec value) ls ss (lists_encoded n m o ls ss h))
+
+pub stack_fits : (n m o : ℕ) (ls ss : List CoreDumpValue) → HasEncoding stack_frame (record { instance = n; function = m; offset = o; locals = ls; stack = ss }) → VecFits (λ v. Unit {0}) ss
+stack_fits n m o ls ss h = values_fit ss (right_encoded (vec value) (vec value) ls ss (lists_encoded n m o ls ss h))
+
+pub thread_encoded : (thread : List ℕ) (frames : List StackFrame) → HasEncoding stack_payload (thread, frames) → HasEncoding marked_name thread
+thread_encoded thread frames h = left_encoded marked_name (vec stack_frame) thread frames (named_encoded stack_name (pair marked_name (vec stack_frame)) (thread, frames) h)
+
+pub frames_encoded : (thread : List ℕ) (frames : List StackFrame) → HasEncoding stack_payload (thread, frames) → HasEncoding (vec stack_frame) frames
+frames_encoded thread frames h = right_encoded marked_name (vec stack_frame) thread frames (named_encoded stack_name (pair marked_name (vec stack_frame)) (thread, frames) h)

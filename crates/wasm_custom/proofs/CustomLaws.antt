@@ -11,7 +11,8 @@ use Rattle.wasm_base.proofs.FormatLaws.{frame_unique}
 use Rattle.wasm_base.proofs.TextLaws.{spelled_in, reads_alone, reads_alone_wide, frame_in, frame_spelled}
 use Rattle.wasm_custom.specs.Customs.{named_section, named_text, NamedFits, subsection_text, named_payload}
 use Rattle.wasm_base.proofs.PartLaws.{pair_spelled, front_name_spelled}
-use Rattle.wasm_reader_base.specs.Shortest.{AppendsShortest}
+use Rattle.wasm_reader_base.specs.Shortest.{AppendsShortest, HasEncoding}
+use Rattle.wasm_reader_base.proofs.Encodings.{tagged_encoded, name_fits}
 use Rattle.wasm_reader_base.proofs.ReadPlain.{name_appended}
 use Rattle.wasm_reader_base.proofs.ShortTexts.{tagged_appended}
 
@@ -60,3 +61,9 @@ just_appended F x old new a = record { text = a.text; appended = a.appended; spe
 -- what stands behind a name, by that itself
 pub named_appended : {X : Type 0} (n : List ℕ) {old middle new : List ℕ} (G : Format X) (x : X) → FrameFits n → middle ≡ old ++ frame_text n → AppendsShortest G x middle new → AppendsShortest (named_payload n G) x old new
 named_appended n {old = old} {middle = middle} G x fits e a = tagged_appended (just n name) (λ u. G) (λ s z h. refl) (just_appended name n old middle (name_appended n old middle fits e)) a
+
+pub named_encoded : {X : Type 0} (n : List ℕ) (G : Format X) (x : X) → HasEncoding (named_payload n G) x → HasEncoding G x
+named_encoded n G x h = tagged_encoded (just n name) (λ u. G) tt x (λ s z h. refl) h
+
+pub named_fits : {X : Type 0} (n : List ℕ) (G : Format X) (x : X) → HasEncoding (named_payload n G) x → FrameFits n
+named_fits n G x h = let d = h.decoded in name_fits n (record { bytes = d.2.front; decoded = d.2.first })

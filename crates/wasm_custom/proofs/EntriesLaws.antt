@@ -13,11 +13,12 @@ use Rattle.wasm_base.proofs.FormatLaws.{fixed_unique, vec_unique, members_whole,
 use Rattle.wasm_base.proofs.TextLaws.{spelled_in, reads_alone, reads_alone_wide, joined_spelled, vec_of_pieces}
 use Rattle.wasm_custom.specs.Customs.{named_section, named_text, NamedFits, named_payload}
 use Rattle.wasm_custom.specs.Entries.{count_text, entries_text, listing, entries, counted_payload, FrameLaws}
-use Rattle.wasm_custom.proofs.CustomLaws.{named_unique, named_spelled, data_fits, named_appended}
+use Rattle.wasm_custom.proofs.CustomLaws.{named_encoded, named_fits, named_unique, named_spelled, data_fits, named_appended}
 use Rattle.wasm_base.proofs.BaseLaws.{name_unique}
 use Rattle.wasm_base.proofs.AfterLaws.{after_whole}
 use Rattle.wasm_base.proofs.SectionLaws.{SectionLaws, framed_laws}
-use Rattle.wasm_reader_base.specs.Shortest.{AppendsShortest}
+use Rattle.wasm_reader_base.specs.Shortest.{AppendsShortest, HasEncoding}
+use Rattle.wasm_reader_base.proofs.Encodings.{tagged_encoded}
 use Rattle.wasm_reader_base.proofs.ShortTexts.{text_appended, tagged_appended}
 
 listing_whole : {Item : Type 0} (counted : Bool) {F : Format Item} → (counted ≡ false → BeginsWith (λ b. Unit {0}) F) → UniqueReading F → UniqueWholeReading (listing counted F)
@@ -96,3 +97,14 @@ items_appended n {middle = middle} counted F xs fits e a =
 -- the same of counted items, behind the name that the call was told
 pub counted_appended : {X : Type 0} {n told old middle new : List ℕ} → told ≡ n → (F : Format X) (xs : List X) → FrameFits told → middle ≡ old ++ frame_text told → AppendsShortest (vec F) xs middle new → AppendsShortest (counted_payload n F) xs old new
 counted_appended {told = told} {old = old} {new = new} called F xs fits e a = subst (λ z. AppendsShortest (counted_payload z F) xs old new) called (items_appended told true F xs fits e a)
+
+pub items_encoded : {X : Type 0} (n : List ℕ) (counted : Bool) (F : Format X) (xs : List X) → HasEncoding (named_payload n (entries (fixed [] (tt {0})) counted F)) xs → HasEncoding (listing counted F) xs
+items_encoded n counted F xs h =
+    tagged_encoded (fixed [] (tt {0})) (λ u. listing counted F) tt xs (λ s z h. refl) (named_encoded n (entries (fixed [] (tt {0})) counted F) xs h)
+
+pub counted_encoded : {X : Type 0} (n : List ℕ) (F : Format X) (xs : List X) → HasEncoding (counted_payload n F) xs → HasEncoding (vec F) xs
+counted_encoded n F xs h = items_encoded n true F xs h
+
+-- the name that the call was told
+pub counted_name_fits : {X : Type 0} (n told : List ℕ) (F : Format X) (xs : List X) → told ≡ n → HasEncoding (counted_payload n F) xs → FrameFits told
+counted_name_fits n told F xs e h = subst FrameFits (sym e) (named_fits n (entries (fixed [] (tt {0})) true F) xs h)

@@ -18,7 +18,8 @@ use Rattle.std.proofs.lemmas.List.{map-id}
 use Rattle.wasm_base.proofs.ReadingSteps.{then_reads, then_nothing_first, then_nothing_second, mapped_reads, mapped_nothing, such_reads, such_none, such_nothing}
 use Rattle.wasm_base.proofs.SectionLaws.{SectionLaws}
 use Rattle.wasm_custom.proofs.EntriesLaws.{counted_frame, entries_laws}
-use Rattle.wasm_reader_base.specs.Shortest.{AppendsShortest}
+use Rattle.wasm_reader_base.specs.Shortest.{AppendsShortest, HasEncoding}
+use Rattle.wasm_reader_base.proofs.Encodings.{right_encoded, counted_fits}
 use Rattle.wasm_reader_base.proofs.ShortTexts.{pair_appended, records_appended}
 
 pub hint_unique : UniqueReading hint
@@ -92,3 +93,6 @@ pub function_appended : (n : ℕ) (hs : List BranchHint) (old middle new : List 
 function_appended n hs old middle new a fits e =
     pair_appended u32 (vec hint) a
     (subst (λ z. AppendsShortest (vec hint) z middle new) (map-id hs) (records_appended hint (λ h. h) hint_text (λ h. Unit {0}) hs middle new (λ h f s k. hint_spelled h (hint_is wide s h k)) fits e))
+
+pub of_branches_fit : (n : ℕ) (hs : List BranchHint) → HasEncoding hints (n, hs) → VecFits (λ h. Unit {0}) hs
+of_branches_fit n hs h = record { count = counted_fits hint hs (right_encoded u32 (vec hint) n hs h); members = λ k d l. tt }

@@ -15,14 +15,15 @@ use Rattle.wasm_base.proofs.TextLaws.{tagged_spelled, name_spelled, vec_spelled,
 use Rattle.wasm_custom.specs.Entries.{FrameLaws, listing, entries}
 use Rattle.wasm_custom.specs.Linking.{LinkItem, Symbols, Target, link_text, IsLink, link_tags, link, linking_name, version, link_items, linking_payload}
 use Rattle.wasm_custom.specs.Symbols.{symbol_text, IsSymbol, symbol, Symbol}
-use Rattle.wasm_custom.proofs.CustomLaws.{content_fits, just_appended, named_appended}
+use Rattle.wasm_custom.proofs.CustomLaws.{named_encoded, content_fits, just_appended, named_appended}
 use Rattle.wasm_custom.proofs.SymbolLaws.{symbol_unique, symbol_spelled}
 use Rattle.wasm_base.specs.Going.{FillsNothing}
 use Rattle.wasm_base.proofs.ReadingSteps.{mapped_reads, mapped_nothing}
 use Rattle.wasm_base.proofs.Tags.{tagged_reads, tagged_none, tagged_nothing, no_choice}
 use Rattle.wasm_reader_base.proofs.ReadFrames.{filled_reads, filled_none, filled_nothing}
 use Rattle.wasm_custom.proofs.ReadNamed.{just_this, just_none, just_other, behind_fills, behind_none, behind_nothing, named_fills, named_none, named_nothing}
-use Rattle.wasm_reader_base.specs.Shortest.{AppendsShortest}
+use Rattle.wasm_reader_base.specs.Shortest.{AppendsShortest, HasEncoding}
+use Rattle.wasm_reader_base.proofs.Encodings.{tagged_encoded, mapped_encoded, content_encoded, behind_fits}
 use Rattle.wasm_reader_base.proofs.ReadPlain.{u32_appended}
 use Rattle.wasm_reader_base.proofs.ShortTexts.{text_appended, tagged_appended, mapped_appended, frame_appended}
 use Rattle.wasm_base.proofs.SectionLaws.{SectionLaws}
@@ -149,3 +150,23 @@ pub links_appended : (xs : List LinkItem) (old front middle new : List ℕ) → 
 links_appended xs old front middle new fits e f a =
     let just_version = just_appended u32 version front middle (u32_appended version front middle f) in
     named_appended linking_name (entries (just version u32) false link) xs fits e (tagged_appended (just version u32) (λ u. listing false link) (λ s z h. refl) just_version a)
+
+-- ---- parts that have encodings
+
+behind_id : (b : ℕ) (x : LinkItem) → b ≡ link_id x → HasEncoding link x → HasEncoding (after_id b) x
+behind_id b x is h = tagged_encoded byte after_id b x (λ s z k. told x s z k ∙ sym is) h
+
+framed_symbols : (symbols : List Symbol) → HasEncoding link (Symbols symbols) → HasEncoding (frame (vec symbol)) symbols
+framed_symbols symbols h = mapped_encoded Symbols (frame (vec symbol)) symbols (λ z k. cc k) (behind_id 8 (Symbols symbols) refl h)
+
+pub symbols_encoded : (symbols : List Symbol) → HasEncoding link (Symbols symbols) → HasEncoding (vec symbol) symbols
+symbols_encoded symbols h = content_encoded (vec symbol) symbols (framed_symbols symbols h)
+
+pub symbols_fit : (symbols : List Symbol) (start : ℕ) (old new : List ℕ) → start ≡ length old → AppendsShortest (vec symbol) symbols old new → HasEncoding link (Symbols symbols) → FrameFits (drop start new)
+symbols_fit symbols start old new e a h = behind_fits (vec symbol) symbols start old new (vec_unique symbol_unique).spellings e a (framed_symbols symbols h)
+
+pub arch_encoded : (n : List ℕ) → HasEncoding link (Target n) → HasEncoding (frame name) n
+arch_encoded n h = mapped_encoded Target (frame name) n (λ z k. cc k) (behind_id 9 (Target n) refl h)
+
+pub links_encoded : (xs : List LinkItem) → HasEncoding linking_payload xs → HasEncoding (members link) xs
+links_encoded xs h = tagged_encoded (just version u32) (λ u. listing false link) tt xs (λ s z h. refl) (named_encoded linking_name (entries (just version u32) false link) xs h)

@@ -4,10 +4,10 @@ use Rattle.std.proofs.lemmas.Bool.{eqb-true}
 use Rattle.wasm_base.specs.Entries.{ItemLaws}
 use Rattle.wasm_base.specs.Formats.{u32, any_bytes, name, pair, fixed, Format, byte, just, frame, mapped, members}
 use Rattle.wasm_base.specs.Numbers.{Mode, shortest, wide, unsigned_text}
-use Rattle.wasm_base.specs.Reading.{UniqueReading, Reads, ReadsNothing}
+use Rattle.wasm_base.specs.Reading.{HasSpellings, UniqueReading, Reads, ReadsNothing}
 use Rattle.wasm_base.specs.Texts.{frame_text, FrameFits, vec_text, VecFits}
 use Rattle.wasm_base.proofs.BaseLaws.{name_unique}
-use Rattle.wasm_base.proofs.FormatLaws.{TellsTag, mapped_unique, pair_unique, vec_unique, frame_unique, whole_from_alone, byte_unique, any_bytes_whole, tagged_unique, fixed_unique}
+use Rattle.wasm_base.proofs.FormatLaws.{TellsTag, mapped_unique, mapped_whole, pair_unique, vec_unique, frame_unique, whole_from_alone, byte_unique, any_bytes_whole, tagged_unique, fixed_unique}
 use Rattle.wasm_base.proofs.NumberLaws.{u32_unique}
 use Rattle.wasm_base.proofs.TextLaws.{tagged_spelled, u32_spelled, name_spelled, vec_spelled, frame_in, frame_spelled}
 use Rattle.wasm_custom.specs.Customs.{subsection_text}
@@ -20,10 +20,11 @@ use Rattle.wasm_base.specs.Going.{FillsNothing}
 use Rattle.wasm_base.proofs.Tags.{tagged_reads, tagged_none, tagged_nothing}
 use Rattle.wasm_reader_base.proofs.ReadFrames.{filled_reads, filled_none, filled_nothing}
 use Rattle.wasm_custom.proofs.ReadNamed.{named_none, items_fill, no_items}
-use Rattle.wasm_reader_base.specs.Shortest.{AppendsShortest}
+use Rattle.wasm_reader_base.specs.Shortest.{AppendsShortest, HasEncoding}
+use Rattle.wasm_reader_base.proofs.Encodings.{tagged_encoded, mapped_encoded, content_encoded, behind_fits}
 use Rattle.wasm_reader_base.proofs.ShortTexts.{text_appended, tagged_appended, mapped_appended, frame_appended}
 use Rattle.wasm_base.proofs.SectionLaws.{SectionLaws}
-use Rattle.wasm_custom.proofs.EntriesLaws.{entries_laws, items_appended}
+use Rattle.wasm_custom.proofs.EntriesLaws.{entries_laws, items_appended, items_encoded}
 
 pub naming_unique : UniqueReading naming
 naming_unique = pair_unique u32_unique name_unique
@@ -280,3 +281,35 @@ subsection_appended x start old front middle new e l a fits is =
 
 pub names_appended : (xs : List NameItem) (old middle new : List ℕ) → FrameFits name_name → middle ≡ old ++ frame_text name_name → AppendsShortest (members subsection) xs middle new → AppendsShortest name_payload xs old new
 names_appended xs old middle new fits e a = items_appended name_name false subsection xs fits e a
+
+-- ---- parts that have encodings
+
+pub module_encoded : (n : List ℕ) → HasEncoding (inside of_module 0) (Module n) → HasEncoding name n
+module_encoded n h = mapped_encoded Module name n (λ z k. cc k) h
+
+pub map_encoded : (id : ℕ) (names : List Naming) → HasEncoding (inside of_map id) (Map id names) → HasEncoding name_map names
+map_encoded id names h = mapped_encoded (Map id) name_map names (λ z k. cc k) h
+
+pub indirect_encoded : (id : ℕ) (maps : List Inside) → HasEncoding (inside of_indirect id) (Indirect id maps) → HasEncoding indirect_map maps
+indirect_encoded id maps h = mapped_encoded (Indirect id) indirect_map maps (λ z k. cc k) h
+
+framed_encoded : (x : NameItem) → HasEncoding subsection x → HasEncoding (frame (inside (held_by x) (id_of x))) x
+framed_encoded x h =
+    let id = id_of x in
+    let behind = tagged_encoded byte (λ b. after_id (name_kind_of b) b) id x (λ s z k. id_told x s z k) h in
+    record { bytes = behind.bytes; decoded = framed (held_by x) id (subst (λ k. after_id k id wide behind.bytes x) (sym (held_told (name_kind_of id) id behind.bytes x behind.decoded)) behind.decoded) }
+
+pub held_encoded : (x : NameItem) → HasEncoding subsection x → HasEncoding (inside (held_by x) (id_of x)) x
+held_encoded x h = content_encoded (inside (held_by x) (id_of x)) x (framed_encoded x h)
+
+inside_spellings : (k : NameKind) (id : ℕ) → HasSpellings (inside k id)
+inside_spellings of_module id = (mapped_unique Module (λ x y e. cc) name_unique).spellings
+inside_spellings of_map id = (mapped_unique (Map id) (λ x y e. cc) map_unique).spellings
+inside_spellings of_indirect id = (mapped_unique (Indirect id) (λ x y e. cc) indirect_unique).spellings
+inside_spellings of_other id = (mapped_whole (Other id) (λ x y e. cc) any_bytes_whole).spellings
+
+pub held_fits : (x : NameItem) (start : ℕ) (old new : List ℕ) → start ≡ length old → AppendsShortest (inside (held_by x) (id_of x)) x old new → HasEncoding subsection x → FrameFits (drop start new)
+held_fits x start old new e a h = behind_fits (inside (held_by x) (id_of x)) x start old new (inside_spellings (held_by x) (id_of x)) e a (framed_encoded x h)
+
+pub names_encoded : (xs : List NameItem) → HasEncoding name_payload xs → HasEncoding (members subsection) xs
+names_encoded xs h = items_encoded name_name false subsection xs h

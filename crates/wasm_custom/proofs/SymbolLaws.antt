@@ -16,7 +16,8 @@ use Rattle.wasm_custom.specs.declared.symbols.SymbolKind.{SymbolKind}
 use Rattle.wasm_custom.specs.declared.symbols.SymbolKind.TheVariants.{Function, Global, Table}
 use Rattle.wasm_base.proofs.ReadingSteps.{then_reads, then_nothing_first, then_nothing_second, mapped_reads, mapped_nothing}
 use Rattle.wasm_base.proofs.Tags.{tagged_reads, tagged_none, tagged_nothing, no_choice}
-use Rattle.wasm_reader_base.specs.Shortest.{AppendsShortest}
+use Rattle.wasm_reader_base.specs.Shortest.{AppendsShortest, HasEncoding}
+use Rattle.wasm_reader_base.proofs.Encodings.{left_encoded, right_encoded, tagged_encoded, mapped_encoded}
 use Rattle.wasm_reader_base.proofs.ShortTexts.{text_appended, nothing_appended, pair_appended, tagged_appended, mapped_appended}
 use Rattle.wasm_custom.specs.declared.symbols.SymbolKind.TheVariants as kinds
 
@@ -236,3 +237,37 @@ data_appended flags n d old front first second new e a b c =
     of_kind 0x01 (of_data flags n d) old front new refl e
     (tagged_appended u32 (λ f. mapped (data_of f) (pair name (optional (has_definition f) definition))) (λ s f h. ap flags_of h.1) a
     (mapped_appended (data_of flags) (pair name (optional (has_definition flags) definition)) (n, d) first new (λ z k. ap data_parts k) parts))
+
+-- ---- parts that have encodings
+
+some_encoded : {X : Type 0} (F : Format X) (flag : Bool) (x : X) → HasEncoding (optional flag F) (Some x) → HasEncoding F x
+some_encoded F true x h = mapped_encoded Some F x (λ z k. cc k) h
+some_encoded F false x h = absurd (cc (h.decoded.1))
+
+pub name_encoded : (flags : ℕ) (n : List ℕ) → HasEncoding (optional (has_name flags) name) (Some n) → HasEncoding name n
+name_encoded flags n h = some_encoded name (has_name flags) n h
+
+behind_encoded : (kind : SymbolKind) (flags index : ℕ) (n : Option (List ℕ)) → HasEncoding (indexed_symbol kind) (indexed kind flags index n) → HasEncoding (optional (has_name flags) name) n
+behind_encoded kind flags index n h =
+    right_encoded u32 (optional (has_name flags) name) index n
+    (mapped_encoded (indexed_of kind flags) (pair u32 (optional (has_name flags) name)) (index, n) (λ z k. ap indexed_parts k)
+    (tagged_encoded u32 (λ f. mapped (indexed_of kind f) (pair u32 (optional (has_name f) name))) flags (indexed kind flags index n) (λ s f k. ap flags_of k.1) h))
+
+kind_encoded : (b : ℕ) (x : Symbol) → b ≡ code_of x → HasEncoding symbol x → HasEncoding (after_kind b) x
+kind_encoded b x is h = tagged_encoded byte after_kind b x (λ s z k. told x s z k ∙ sym is) h
+
+pub indexed_encoded : (kind : SymbolKind) (flags index : ℕ) (n : Option (List ℕ)) → HasEncoding symbol (indexed kind flags index n) → HasEncoding (optional (has_name flags) name) n
+indexed_encoded Function flags index n h = behind_encoded Function flags index n (kind_encoded 0x00 (indexed Function flags index n) refl h)
+indexed_encoded Global flags index n h = behind_encoded Global flags index n (kind_encoded 0x02 (indexed Global flags index n) refl h)
+indexed_encoded Table flags index n h = behind_encoded Table flags index n (kind_encoded 0x05 (indexed Table flags index n) refl h)
+
+data_parts_encoded : (flags : ℕ) (n : List ℕ) (d : Option DataSymbolDefinition) → HasEncoding symbol (of_data flags n d) → HasEncoding (pair name (optional (has_definition flags) definition)) (n, d)
+data_parts_encoded flags n d h =
+    mapped_encoded (data_of flags) (pair name (optional (has_definition flags) definition)) (n, d) (λ z k. ap data_parts k)
+    (tagged_encoded u32 (λ f. mapped (data_of f) (pair name (optional (has_definition f) definition))) flags (of_data flags n d) (λ s f k. ap flags_of k.1) (kind_encoded 0x01 (of_data flags n d) refl h))
+
+pub data_name_encoded : (flags : ℕ) (n : List ℕ) (d : Option DataSymbolDefinition) → HasEncoding symbol (of_data flags n d) → HasEncoding name n
+data_name_encoded flags n d h = left_encoded name (optional (has_definition flags) definition) n d (data_parts_encoded flags n d h)
+
+pub data_definition_encoded : (flags : ℕ) (n : List ℕ) (d : Option DataSymbolDefinition) → HasEncoding symbol (of_data flags n d) → HasEncoding (optional (has_definition flags) definition) d
+data_definition_encoded flags n d h = right_encoded name (optional (has_definition flags) definition) n d (data_parts_encoded flags n d h)

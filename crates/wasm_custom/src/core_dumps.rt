@@ -1,5 +1,5 @@
 // Core dumps: the process, its modules and its instances.
-ghost use Rattle.std.specs.Prelude.{◌≡◌, ◌≢◌, ℕ, List, [], ◌∷◌, ◌++◌, IfOk, true, ⊤, IfErr, OnOk, map};
+ghost use Rattle.std.specs.Prelude.{◌≡◌, ◌≢◌, ℕ, List, [], ◌∷◌, ◌++◌, IfOk, true, ⊤, IfErr, Err, OnOk, OnErr, map};
 ghost use Rattle.wasm_base.specs.Calls.{Adds, ReadsBack};
 ghost use Rattle.wasm_base.specs.Cow.{items_of, text_of};
 ghost use Rattle.wasm_base.specs.Formats.{fixed};
@@ -13,7 +13,7 @@ ghost use Rattle.wasm_custom.specs.Adding.{AddsTwoLists};
 ghost use Rattle.wasm_custom.specs.CoreDumps.{instance_items, module_items, marked_text, core_name, core_section, SaysProcess, marked_name, modules_name, Instance, instance, instances_name, instance_view, core_payload, modules_payload, instances_payload};
 ghost use Rattle.wasm_custom.specs.Customs.{named_text, NamedFits};
 ghost use Rattle.wasm_custom.specs.Entries.{entries_text};
-ghost use Rattle.wasm_reader_base.specs.Shortest.{AppendsShortest};
+ghost use Rattle.wasm_reader_base.specs.Shortest.{AppendsShortest, IsFrontOf, HasEncoding};
 ghost use Rattle.wasm_reader_base.specs.declared.fault.ReadFault.TheVariants.{Memory};
 
 use crate::counted::{ItemsAs, ReadsItems, append_counted, read_counted};
@@ -314,16 +314,16 @@ impl<A: Allocator> ItemsAs<(u32, Vec<u32, A>, Vec<u32, A>)> for InstanceItems {
     #[tactic(auto, using(crate::proofs::CoreDumpLaws::instance_unique))]
     fn alone() {}
 
-    #[tactic(auto, using(crate::proofs::CoreDumpLaws::instance_appended))]
+    #[tactic(auto, using(crate::proofs::CoreDumpLaws::instance_appended, crate::proofs::CoreDumpLaws::memories_encoded, crate::proofs::CoreDumpLaws::globals_encoded))]
     fn append_item<B: Allocator>(
         item: &(u32, Vec<u32, A>, Vec<u32, A>),
         out: &mut Vec<u8, B>,
     ) -> R<()> {
         let (index, memories, globals) = item;
         0x00u8.encode(out)?;
-        index.append_shortest(out)?;
-        memories.append_shortest(out)?;
-        globals.append_shortest(out)
+        index.write_minimal(out)?;
+        memories.write_minimal(out)?;
+        globals.write_minimal(out)
     }
 }
 
@@ -354,39 +354,58 @@ pub fn read_instances<'a, A: Allocator + Copy>(
 }
 
 /// Appends the byte 00 and a name.
-#[tactic(auto, using(crate::proofs::CoreDumpLaws::marked_appended))]
+#[tactic(auto, using(crate::proofs::CoreDumpLaws::marked_appended, crate::proofs::CoreDumpLaws::marked_encoded))]
 pub(crate) fn append_marked<B: Allocator>(name: &str, out: &mut Vec<u8, B>) -> R<()>
-    ensures { OnOk result (AppendsShortest marked_name name.now out.old.items out.new.items) }
+    ensures ok { OnOk result (AppendsShortest marked_name name.now out.old.items out.new.items) }
+    ensures front { IsFrontOf out.old.items out.new.items }
+    ensures too_long { HasEncoding marked_name name.now → result ≢ Err TooLong }
 {
     0x00u8.encode(out)?;
-    name.append_shortest(out)
+    name.write_minimal(out)
 }
 
-/// Appends the shortest text of what the section of this process holds, where some bytes are read as it. After a refusal a part of it may
-/// stand there.
-#[tactic(auto, using(crate::proofs::CoreDumpLaws::process_appended))]
-pub fn append_process<B: Allocator>(name: &str, out: &mut Vec<u8, B>) -> R<()>
-    ensures { OnOk result (AppendsShortest core_payload name.now out.old.items out.new.items) }
+/// Writes what [`append_process`] appends. After an error, a part of it may be behind the old bytes.
+#[tactic(auto, using(crate::proofs::CoreDumpLaws::process_appended, crate::proofs::CoreDumpLaws::process_encoded))]
+fn write_process<B: Allocator>(name: &str, out: &mut Vec<u8, B>) -> R<()>
+    ensures ok { OnOk result (AppendsShortest core_payload name.now out.old.items out.new.items) }
+    ensures front { IsFrontOf out.old.items out.new.items }
+    ensures too_long { HasEncoding core_payload name.now → result ≢ Err TooLong }
 {
     "core".encode(out)?;
     append_marked(name, out)
 }
 
-/// Appends the shortest text of what a section of these modules holds, where some bytes are read as it. After a refusal a part of it may
-/// stand there.
+/// Appends the minimal encoding of the payload of the section of this process. On an error, the sink is as it was.
+pub fn append_process<B: Allocator>(name: &str, out: &mut Vec<u8, B>) -> R<()>
+    ensures ok { OnOk result (AppendsShortest core_payload name.now out.old.items out.new.items) }
+    ensures err { OnErr result (out.new.items ≡ out.old.items) }
+    ensures too_long { HasEncoding core_payload name.now → result ≢ Err TooLong }
+{
+    let start = out.len();
+    let written = write_process(name, out);
+    if written.is_err() {
+        out.truncate(start);
+    }
+    written
+}
+
+/// Appends the minimal encoding of the payload of a section of these modules. On an error, the sink is as it was.
 pub fn append_modules<B: Allocator>(names: &[&str], out: &mut Vec<u8, B>) -> R<()>
-    ensures { OnOk result (AppendsShortest modules_payload (map (λ n. n.now) names.now) out.old.items out.new.items) }
+    ensures ok { OnOk result (AppendsShortest modules_payload (map (λ n. n.now) names.now) out.old.items out.new.items) }
+    ensures err { OnErr result (out.new.items ≡ out.old.items) }
+    ensures too_long { HasEncoding modules_payload (map (λ n. n.now) names.now) → result ≢ Err TooLong }
 {
     append_counted::<ModuleItems, &str, _>(names, out)
 }
 
-/// Appends the shortest text of what a section of these instances holds, where some bytes are read as it. After a refusal a part of it may
-/// stand there.
+/// Appends the minimal encoding of the payload of a section of these instances. On an error, the sink is as it was.
 pub fn append_instances<A: Allocator, B: Allocator>(
     instances: &[(u32, Vec<u32, A>, Vec<u32, A>)],
     out: &mut Vec<u8, B>,
 ) -> R<()>
-    ensures { OnOk result (AppendsShortest instances_payload (map instance_view instances.now) out.old.items out.new.items) }
+    ensures ok { OnOk result (AppendsShortest instances_payload (map instance_view instances.now) out.old.items out.new.items) }
+    ensures err { OnErr result (out.new.items ≡ out.old.items) }
+    ensures too_long { HasEncoding instances_payload (map instance_view instances.now) → result ≢ Err TooLong }
 {
     append_counted::<InstanceItems, (u32, Vec<u32, A>, Vec<u32, A>), _>(instances, out)
 }

@@ -1,5 +1,5 @@
 // The stack of a core dump.
-ghost use Rattle.std.specs.Prelude.{◌≡◌, ◌≢◌, ℕ, List, [], ◌∷◌, ◌++◌, IfOk, true, ⊤, IfErr, OnOk, map};
+ghost use Rattle.std.specs.Prelude.{◌≡◌, ◌≢◌, ℕ, List, [], ◌∷◌, ◌++◌, IfOk, true, ⊤, IfErr, Err, OnOk, OnErr, map};
 ghost use Rattle.wasm_base.specs.Calls.{ReadsBack};
 ghost use Rattle.wasm_base.specs.Cow.{items_of, text_of};
 ghost use Rattle.wasm_base.specs.Going.{FillsNothing};
@@ -13,7 +13,7 @@ ghost use Rattle.wasm_custom.specs.CoreStacks.{stack_name, stack_section, SaysSt
 ghost use Rattle.wasm_custom.specs.CoreValues.{value_text};
 ghost use Rattle.wasm_custom.specs.Customs.{named_text, NamedFits};
 ghost use Rattle.wasm_custom.specs.Entries.{entries_text};
-ghost use Rattle.wasm_reader_base.specs.Shortest.{AppendsShortest};
+ghost use Rattle.wasm_reader_base.specs.Shortest.{AppendsShortest, IsFrontOf, HasEncoding};
 ghost use Rattle.wasm_reader_base.specs.declared.fault.ReadFault.TheVariants.{Memory};
 
 use crate::core_dumps::append_marked;
@@ -205,28 +205,47 @@ pub fn read_stack<'a, A: Allocator + Copy>(
 }
 
 impl<A: Allocator> Shorten for CoreFrame<A> {
-    #[tactic(auto, using(crate::proofs::CoreStackLaws::frame_appended))]
-    fn append_shortest<B: Allocator>(&self, out: &mut Vec<u8, B>) -> R<()> {
+    #[tactic(auto, using(crate::proofs::CoreStackLaws::frame_appended, crate::proofs::CoreStackLaws::locals_fit, crate::proofs::CoreStackLaws::stack_fits))]
+    fn write_minimal<B: Allocator>(&self, out: &mut Vec<u8, B>) -> R<()> {
         0x00u8.encode(out)?;
-        self.instanceidx.append_shortest(out)?;
-        self.funcidx.append_shortest(out)?;
-        self.codeoffset.append_shortest(out)?;
+        self.instanceidx.write_minimal(out)?;
+        self.funcidx.write_minimal(out)?;
+        self.codeoffset.write_minimal(out)?;
         self.locals.as_slice().encode(out)?;
         self.stack.as_slice().encode(out)
     }
 }
 
-/// Appends the shortest text of what the section of this stack holds, where some bytes are read as it. After a refusal a part of it may
-/// stand there.
-#[tactic(auto, using(crate::proofs::CoreStackLaws::stack_appended))]
+/// Writes what [`append_stack`] appends. After an error, a part of it may be behind the old bytes.
+#[tactic(auto, using(crate::proofs::CoreStackLaws::stack_appended, crate::proofs::CoreStackLaws::thread_encoded, crate::proofs::CoreStackLaws::frames_encoded))]
+fn write_stack<A: Allocator, B: Allocator>(
+    thread: &str,
+    frames: &Vec<CoreFrame<A>, A>,
+    out: &mut Vec<u8, B>,
+) -> R<()>
+    ensures ok { OnOk result (AppendsShortest stack_payload (thread.now, map stack_frame_view frames.now.items) out.old.items out.new.items) }
+    ensures front { IsFrontOf out.old.items out.new.items }
+    ensures too_long { HasEncoding stack_payload (thread.now, map stack_frame_view frames.now.items) → result ≢ Err TooLong }
+{
+    "corestack".encode(out)?;
+    append_marked(thread, out)?;
+    frames.write_minimal(out)
+}
+
+/// Appends the minimal encoding of the payload of the section of this stack. On an error, the sink is as it was.
 pub fn append_stack<A: Allocator, B: Allocator>(
     thread: &str,
     frames: &Vec<CoreFrame<A>, A>,
     out: &mut Vec<u8, B>,
 ) -> R<()>
-    ensures { OnOk result (AppendsShortest stack_payload (thread.now, map stack_frame_view frames.now.items) out.old.items out.new.items) }
+    ensures ok { OnOk result (AppendsShortest stack_payload (thread.now, map stack_frame_view frames.now.items) out.old.items out.new.items) }
+    ensures err { OnErr result (out.new.items ≡ out.old.items) }
+    ensures too_long { HasEncoding stack_payload (thread.now, map stack_frame_view frames.now.items) → result ≢ Err TooLong }
 {
-    "corestack".encode(out)?;
-    append_marked(thread, out)?;
-    frames.append_shortest(out)
+    let start = out.len();
+    let written = write_stack(thread, frames, out);
+    if written.is_err() {
+        out.truncate(start);
+    }
+    written
 }

@@ -1,11 +1,12 @@
 // Custom sections of counted items: how they are read, and written in fewest bytes.
-ghost use Rattle.std.specs.Prelude.{◌≢◌, ℕ, List, IfOk, IfErr, OnOk, map};
+ghost use Rattle.std.specs.Prelude.{◌≡◌, ◌≢◌, ℕ, List, IfOk, IfErr, Err, OnOk, OnErr, map};
 ghost use Rattle.wasm_base.specs.Formats.{vec};
 ghost use Rattle.wasm_base.specs.Going.{FillsNothing};
 ghost use Rattle.wasm_base.specs.Numbers.{Mode, wide};
 ghost use Rattle.wasm_base.specs.Reading.{UniqueReading, Reads, ReadsNothing};
 ghost use Rattle.wasm_custom.specs.Entries.{counted_payload};
-ghost use Rattle.wasm_reader_base.specs.Shortest.{AppendsShortest};
+ghost use Rattle.wasm_base.specs.declared.refused.Refused.TheVariants.{TooLong};
+ghost use Rattle.wasm_reader_base.specs.Shortest.{AppendsShortest, IsFrontOf, HasEncoding};
 ghost use Rattle.wasm_reader_base.specs.declared.fault.ReadFault.TheVariants.{Memory};
 
 use crate::entries::CustomKind;
@@ -30,7 +31,9 @@ pub(crate) trait ItemsAs<T>: CustomKind {
 
     /// Appends the one shortest text of the item, where some bytes are read as it. After a refusal a part of it may stand there.
     fn append_item<B: Allocator>(item: &T, out: &mut Vec<u8, B>) -> R<()>
-        ensures { OnOk result (AppendsShortest format (view item.now) out.old.items out.new.items) };
+        ensures ok { OnOk result (AppendsShortest format (view item.now) out.old.items out.new.items) }
+        ensures front { IsFrontOf out.old.items out.new.items }
+        ensures too_long { HasEncoding format (view item.now) → result ≢ Err TooLong };
 }
 
 /// A kind whose items are read as a `T`.
@@ -82,7 +85,9 @@ pub(crate) fn read_counted<'a, K: ReadsItems<'a, T, A>, T: Drop, A: Allocator + 
 /// Appends items behind their number.
 #[tactic(auto, using(wasm_reader_base::proofs::ShortTexts::members_start))]
 fn append_items<K: ItemsAs<T>, T, B: Allocator>(items: &[T], out: &mut Vec<u8, B>) -> R<()>
-    ensures { OnOk result (AppendsShortest (vec K.format) (map K.view items.now) out.old.items out.new.items) }
+    ensures ok { OnOk result (AppendsShortest (vec K.format) (map K.view items.now) out.old.items out.new.items) }
+    ensures front { IsFrontOf out.old.items out.new.items }
+    ensures too_long { HasEncoding (vec K.format) (map K.view items.now) → result ≢ Err TooLong }
 {
     items.len().encode(out)?;
     for item in items {
@@ -91,14 +96,30 @@ fn append_items<K: ItemsAs<T>, T, B: Allocator>(items: &[T], out: &mut Vec<u8, B
     Ok(())
 }
 
-/// Appends the shortest text of what a section of the kind holds of these items, where some bytes are read as it. After a refusal a part of
-/// it may stand there.
+/// Writes what [`append_counted`] appends. After an error, a part of it may be behind the old bytes.
+#[tactic(auto, using(crate::proofs::EntriesLaws::counted_encoded, crate::proofs::EntriesLaws::counted_name_fits))]
+fn write_counted<K: ItemsAs<T>, T, B: Allocator>(items: &[T], out: &mut Vec<u8, B>) -> R<()>
+    ensures ok { OnOk result (AppendsShortest (counted_payload K.name K.format) (map K.view items.now) out.old.items out.new.items) }
+    ensures front { IsFrontOf out.old.items out.new.items }
+    ensures too_long { HasEncoding (counted_payload K.name K.format) (map K.view items.now) → result ≢ Err TooLong }
+{
+    K::name().encode(out)?;
+    append_items::<K, T, _>(items, out)
+}
+
+/// Appends the minimal encoding of the payload of a section of the kind, which has these items. On an error, the sink is as it was.
 pub(crate) fn append_counted<K: ItemsAs<T>, T, B: Allocator>(
     items: &[T],
     out: &mut Vec<u8, B>,
 ) -> R<()>
-    ensures { OnOk result (AppendsShortest (counted_payload K.name K.format) (map K.view items.now) out.old.items out.new.items) }
+    ensures ok { OnOk result (AppendsShortest (counted_payload K.name K.format) (map K.view items.now) out.old.items out.new.items) }
+    ensures err { OnErr result (out.new.items ≡ out.old.items) }
+    ensures too_long { HasEncoding (counted_payload K.name K.format) (map K.view items.now) → result ≢ Err TooLong }
 {
-    K::name().encode(out)?;
-    append_items::<K, T, _>(items, out)
+    let start = out.len();
+    let written = write_counted::<K, T, _>(items, out);
+    if written.is_err() {
+        out.truncate(start);
+    }
+    written
 }

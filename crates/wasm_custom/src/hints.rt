@@ -1,5 +1,5 @@
 // Branch hints.
-ghost use Rattle.std.specs.Prelude.{[], ◌++◌, true, ⊤, ◌≢◌, ◌<◌, ℕ, IfOk, IfErr, OnOk, map};
+ghost use Rattle.std.specs.Prelude.{◌≡◌, [], ◌++◌, true, ⊤, ◌≢◌, ◌<◌, ℕ, IfOk, IfErr, Err, OnOk, OnErr, map};
 ghost use Rattle.wasm_base.specs.Formats.{fixed, byte, such};
 ghost use Rattle.wasm_base.specs.Going.{FillsNothing};
 ghost use Rattle.wasm_base.specs.Iterators.{HasKnownLength};
@@ -8,7 +8,8 @@ ghost use Rattle.wasm_base.specs.Texts.{vec_text};
 ghost use Rattle.wasm_custom.specs.Adding.{AddsList};
 ghost use Rattle.wasm_custom.specs.Hints.{hint_items, hint_text, Hints, hints, hints_name, hint, hints_view, hints_payload};
 ghost use Rattle.wasm_custom.specs.declared.hints.BranchHint.{BranchHint as HintModel};
-ghost use Rattle.wasm_reader_base.specs.Shortest.{AppendsShortest};
+ghost use Rattle.wasm_base.specs.declared.refused.Refused.TheVariants.{TooLong};
+ghost use Rattle.wasm_reader_base.specs.Shortest.{AppendsShortest, HasEncoding};
 ghost use Rattle.wasm_reader_base.specs.declared.fault.ReadFault.TheVariants.{Memory};
 
 use crate::counted::{ItemsAs, ReadsItems, append_counted, read_counted};
@@ -167,10 +168,10 @@ impl<A: Allocator> ItemsAs<(u32, Vec<BranchHint, A>)> for HintItems {
     #[tactic(auto, using(crate::proofs::HintLaws::hints_unique))]
     fn alone() {}
 
-    #[tactic(auto, using(crate::proofs::HintLaws::function_appended))]
+    #[tactic(auto, using(crate::proofs::HintLaws::function_appended, crate::proofs::HintLaws::of_branches_fit))]
     fn append_item<B: Allocator>(item: &(u32, Vec<BranchHint, A>), out: &mut Vec<u8, B>) -> R<()> {
         let (func, of_branches) = item;
-        func.append_shortest(out)?;
+        func.write_minimal(out)?;
         of_branches.as_slice().encode(out)
     }
 }
@@ -195,13 +196,14 @@ pub fn read_hints<'a, A: Allocator + Copy>(
     read_counted::<'a, HintItems, (u32, Vec<BranchHint, A>), A>(bytes, alloc)
 }
 
-/// Appends the shortest text of what a section of these hints holds, where some bytes are read as it. After a refusal a part of it may
-/// stand there.
+/// Appends the minimal encoding of the payload of a section of these hints. On an error, the sink is as it was.
 pub fn append_hints<A: Allocator, B: Allocator>(
     functions: &[(u32, Vec<BranchHint, A>)],
     out: &mut Vec<u8, B>,
 ) -> R<()>
-    ensures { OnOk result (AppendsShortest hints_payload (map hints_view functions.now) out.old.items out.new.items) }
+    ensures ok { OnOk result (AppendsShortest hints_payload (map hints_view functions.now) out.old.items out.new.items) }
+    ensures err { OnErr result (out.new.items ≡ out.old.items) }
+    ensures too_long { HasEncoding hints_payload (map hints_view functions.now) → result ≢ Err TooLong }
 {
     append_counted::<HintItems, (u32, Vec<BranchHint, A>), _>(functions, out)
 }

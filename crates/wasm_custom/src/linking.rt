@@ -1,5 +1,5 @@
 // The linking section.
-ghost use Rattle.std.specs.Prelude.{[], ◌∷◌, false, ⊤, ◌≢◌, IfOk, IfErr, OnOk, map};
+ghost use Rattle.std.specs.Prelude.{◌≡◌, [], ◌∷◌, false, ⊤, ◌≢◌, IfOk, IfErr, Err, OnOk, OnErr, map};
 ghost use Rattle.wasm_base.specs.Calls.{Adds};
 ghost use Rattle.wasm_base.specs.Formats.{u32 as u32_format, just};
 ghost use Rattle.wasm_base.specs.Going.{FillsNothing};
@@ -9,7 +9,8 @@ ghost use Rattle.wasm_base.specs.Texts.{frame_text, FrameFits};
 ghost use Rattle.wasm_custom.specs.Customs.{subsection_text};
 ghost use Rattle.wasm_custom.specs.Linking.{link_items, LinkItem as LinkModel, link, linking_name, version, link_view, linking_payload};
 ghost use Rattle.wasm_custom.specs.Lists.{list_text};
-ghost use Rattle.wasm_reader_base.specs.Shortest.{AppendsShortest};
+ghost use Rattle.wasm_base.specs.declared.refused.Refused.TheVariants.{TooLong};
+ghost use Rattle.wasm_reader_base.specs.Shortest.{AppendsShortest, IsFrontOf, HasEncoding};
 ghost use Rattle.wasm_reader_base.specs.declared.fault.ReadFault.TheVariants.{Memory};
 
 use crate::entries::{CustomEntries, CustomKind};
@@ -165,33 +166,48 @@ pub fn read_links<'a, A: Allocator + Copy + 'a>(
 }
 
 impl<'a, A: Allocator> Shorten for LinkItem<'a, A> {
-    #[tactic(auto, using(crate::proofs::LinkLaws::symbols_appended, crate::proofs::LinkLaws::arch_appended))]
-    fn append_shortest<B: Allocator>(&self, out: &mut Vec<u8, B>) -> R<()> {
+    #[tactic(auto, using(crate::proofs::LinkLaws::symbols_appended, crate::proofs::LinkLaws::arch_appended, crate::proofs::LinkLaws::symbols_encoded, crate::proofs::LinkLaws::symbols_fit, crate::proofs::LinkLaws::arch_encoded))]
+    fn write_minimal<B: Allocator>(&self, out: &mut Vec<u8, B>) -> R<()> {
         match self {
             LinkItem::Symbols(symbols) => {
                 8u8.encode(out)?;
                 let start = out.len();
-                symbols.append_shortest(out)?;
+                symbols.write_minimal(out)?;
                 frame_since(out, start)
             }
             LinkItem::Arch(name) => {
                 9u8.encode(out)?;
-                Framed(*name).append_shortest(out)
+                Framed(*name).write_minimal(out)
             }
         }
     }
 }
 
-/// Appends the shortest text of what a linking section of these subsections holds, where some bytes are read as it. After a refusal a part of it may
-/// stand there.
-#[tactic(auto, using(crate::proofs::LinkLaws::links_appended))]
-pub fn append_links<A: Allocator, B: Allocator>(
-    items: &[LinkItem<'_, A>],
-    out: &mut Vec<u8, B>,
-) -> R<()>
-    ensures { OnOk result (AppendsShortest linking_payload (map link_view items.now) out.old.items out.new.items) }
+/// Writes what [`append_links`] appends. After an error, a part of it may be behind the old bytes.
+#[tactic(auto, using(crate::proofs::LinkLaws::links_appended, crate::proofs::LinkLaws::links_encoded))]
+fn write_links<A: Allocator, B: Allocator>(items: &[LinkItem<'_, A>], out: &mut Vec<u8, B>) -> R<()>
+    ensures ok { OnOk result (AppendsShortest linking_payload (map link_view items.now) out.old.items out.new.items) }
+    ensures front { IsFrontOf out.old.items out.new.items }
+    ensures too_long { HasEncoding linking_payload (map link_view items.now) → result ≢ Err TooLong }
 {
     "linking".encode(out)?;
     VERSION.encode(out)?;
     append_all(items, out)
+}
+
+/// Appends the minimal encoding of the payload of a linking section of these subsections. On an error, the sink is as it was.
+pub fn append_links<A: Allocator, B: Allocator>(
+    items: &[LinkItem<'_, A>],
+    out: &mut Vec<u8, B>,
+) -> R<()>
+    ensures ok { OnOk result (AppendsShortest linking_payload (map link_view items.now) out.old.items out.new.items) }
+    ensures err { OnErr result (out.new.items ≡ out.old.items) }
+    ensures too_long { HasEncoding linking_payload (map link_view items.now) → result ≢ Err TooLong }
+{
+    let start = out.len();
+    let written = write_links(items, out);
+    if written.is_err() {
+        out.truncate(start);
+    }
+    written
 }

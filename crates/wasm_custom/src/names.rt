@@ -1,5 +1,5 @@
 // Names of a module and of its parts.
-ghost use Rattle.std.specs.Prelude.{None, ◌≡◌, ◌++◌, [], false, ⊤, ◌≢◌, IfOk, IfErr, OnOk, map};
+ghost use Rattle.std.specs.Prelude.{None, ◌≡◌, ◌++◌, [], false, ⊤, ◌≢◌, IfOk, IfErr, Err, OnOk, OnErr, map};
 ghost use Rattle.wasm_base.specs.Calls.{Adds};
 ghost use Rattle.wasm_base.specs.Cow.{items_of, text_of};
 ghost use Rattle.wasm_base.specs.Formats.{fixed, u32};
@@ -11,7 +11,8 @@ ghost use Rattle.wasm_base.specs.Texts.{frame_text, FrameFits};
 ghost use Rattle.wasm_custom.specs.Customs.{subsection_text};
 ghost use Rattle.wasm_custom.specs.Lists.{list_text};
 ghost use Rattle.wasm_custom.specs.Names.{name_items, Naming, naming_text, IsNaming, Inside, inside_text, IsInside, NameItem as NameModel, subsection, name_name, name_kind_of as kind_of_id, kind_as, inside, held_by, id_of, name_item_view, name_payload};
-ghost use Rattle.wasm_reader_base.specs.Shortest.{AppendsShortest};
+ghost use Rattle.wasm_base.specs.declared.refused.Refused.TheVariants.{TooLong};
+ghost use Rattle.wasm_reader_base.specs.Shortest.{AppendsShortest, IsFrontOf, HasEncoding};
 ghost use Rattle.wasm_reader_base.specs.declared.fault.ReadFault.TheVariants.{Memory};
 
 use crate::custom_section::CustomSection;
@@ -408,14 +409,16 @@ impl<'a, A: Allocator> NameItem<'a, A> {
     }
 
     /// Appends what the frame of the subsection holds.
-    #[tactic(auto, using(crate::proofs::NameLaws::module_appended, crate::proofs::NameLaws::map_appended, crate::proofs::NameLaws::indirect_appended, crate::proofs::NameLaws::other_appended))]
+    #[tactic(auto, using(crate::proofs::NameLaws::module_appended, crate::proofs::NameLaws::map_appended, crate::proofs::NameLaws::indirect_appended, crate::proofs::NameLaws::other_appended, crate::proofs::NameLaws::module_encoded, crate::proofs::NameLaws::map_encoded, crate::proofs::NameLaws::indirect_encoded))]
     fn append_content<B: Allocator>(&self, out: &mut Vec<u8, B>) -> R<()>
-        ensures { OnOk result (AppendsShortest (inside (held_by (name_item_view self.now)) (id_of (name_item_view self.now))) (name_item_view self.now) out.old.items out.new.items) }
+        ensures ok { OnOk result (AppendsShortest (inside (held_by (name_item_view self.now)) (id_of (name_item_view self.now))) (name_item_view self.now) out.old.items out.new.items) }
+        ensures front { IsFrontOf out.old.items out.new.items }
+        ensures too_long { HasEncoding (inside (held_by (name_item_view self.now)) (id_of (name_item_view self.now))) (name_item_view self.now) → result ≢ Err TooLong }
     {
         match self {
-            NameItem::Module(name) => name.append_shortest(out),
-            NameItem::Map { names, .. } => names.append_shortest(out),
-            NameItem::Indirect { maps, .. } => maps.append_shortest(out),
+            NameItem::Module(name) => name.write_minimal(out),
+            NameItem::Map { names, .. } => names.write_minimal(out),
+            NameItem::Indirect { maps, .. } => maps.write_minimal(out),
             NameItem::Other { bytes, .. } => {
                 out.extend_from_slice(bytes)?;
                 Ok(())
@@ -425,8 +428,8 @@ impl<'a, A: Allocator> NameItem<'a, A> {
 }
 
 impl<'a, A: Allocator> Shorten for NameItem<'a, A> {
-    #[tactic(auto, using(crate::proofs::NameLaws::subsection_appended))]
-    fn append_shortest<B: Allocator>(&self, out: &mut Vec<u8, B>) -> R<()> {
+    #[tactic(auto, using(crate::proofs::NameLaws::subsection_appended, crate::proofs::NameLaws::held_encoded, crate::proofs::NameLaws::held_fits))]
+    fn write_minimal<B: Allocator>(&self, out: &mut Vec<u8, B>) -> R<()> {
         self.id().encode(out)?;
         let start = out.len();
         self.append_content(out)?;
@@ -434,15 +437,30 @@ impl<'a, A: Allocator> Shorten for NameItem<'a, A> {
     }
 }
 
-/// Appends the shortest text of what a name section of these subsections holds, where some bytes are read as it. After a refusal a part of it may
-/// stand there.
-#[tactic(auto, using(crate::proofs::NameLaws::names_appended))]
+/// Writes what [`append_names`] appends. After an error, a part of it may be behind the old bytes.
+#[tactic(auto, using(crate::proofs::NameLaws::names_appended, crate::proofs::NameLaws::names_encoded))]
+fn write_names<A: Allocator, B: Allocator>(items: &[NameItem<'_, A>], out: &mut Vec<u8, B>) -> R<()>
+    ensures ok { OnOk result (AppendsShortest name_payload (map name_item_view items.now) out.old.items out.new.items) }
+    ensures front { IsFrontOf out.old.items out.new.items }
+    ensures too_long { HasEncoding name_payload (map name_item_view items.now) → result ≢ Err TooLong }
+{
+    "name".encode(out)?;
+    append_all(items, out)
+}
+
+/// Appends the minimal encoding of the payload of a name section of these subsections. On an error, the sink is as it was.
 pub fn append_names<A: Allocator, B: Allocator>(
     items: &[NameItem<'_, A>],
     out: &mut Vec<u8, B>,
 ) -> R<()>
-    ensures { OnOk result (AppendsShortest name_payload (map name_item_view items.now) out.old.items out.new.items) }
+    ensures ok { OnOk result (AppendsShortest name_payload (map name_item_view items.now) out.old.items out.new.items) }
+    ensures err { OnErr result (out.new.items ≡ out.old.items) }
+    ensures too_long { HasEncoding name_payload (map name_item_view items.now) → result ≢ Err TooLong }
 {
-    "name".encode(out)?;
-    append_all(items, out)
+    let start = out.len();
+    let written = write_names(items, out);
+    if written.is_err() {
+        out.truncate(start);
+    }
+    written
 }

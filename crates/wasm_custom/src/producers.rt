@@ -1,5 +1,5 @@
 // The producers section.
-ghost use Rattle.std.specs.Prelude.{None, ◌++◌, [], true, ⊤, ◌≢◌, IfOk, IfErr, OnOk, map};
+ghost use Rattle.std.specs.Prelude.{None, ◌≡◌, ◌++◌, [], true, ⊤, ◌≢◌, IfOk, IfErr, Err, OnOk, OnErr, map};
 ghost use Rattle.wasm_base.specs.Calls.{Adds};
 ghost use Rattle.wasm_base.specs.Formats.{fixed};
 ghost use Rattle.wasm_base.specs.Going.{FillsNothing};
@@ -8,7 +8,8 @@ ghost use Rattle.wasm_base.specs.Reading.{UniqueReading};
 ghost use Rattle.wasm_base.specs.Texts.{frame_text, FrameFits};
 ghost use Rattle.wasm_custom.specs.Lists.{list_text};
 ghost use Rattle.wasm_custom.specs.Producers.{field_items, Producer, producer_text, IsProducer, Field, field, producers_name, field_view, producers_payload};
-ghost use Rattle.wasm_reader_base.specs.Shortest.{AppendsShortest};
+ghost use Rattle.wasm_base.specs.declared.refused.Refused.TheVariants.{TooLong};
+ghost use Rattle.wasm_reader_base.specs.Shortest.{AppendsShortest, HasEncoding};
 ghost use Rattle.wasm_reader_base.specs.declared.fault.ReadFault.TheVariants.{Memory};
 
 use crate::counted::{ItemsAs, ReadsItems, append_counted, read_counted};
@@ -124,7 +125,7 @@ impl<'a, A: Allocator> ItemsAs<(&'a str, Vec<(&'a str, &'a str), A>)> for Produc
         item: &(&'a str, Vec<(&'a str, &'a str), A>),
         out: &mut Vec<u8, B>,
     ) -> R<()> {
-        item.append_shortest(out)
+        item.write_minimal(out)
     }
 }
 
@@ -149,13 +150,14 @@ pub fn read_producers<'a, A: Allocator + Copy + 'a>(
     read_counted::<'a, ProducerItems, (&'a str, Vec<(&'a str, &'a str), A>), A>(bytes, alloc)
 }
 
-/// Appends the shortest text of what a producers section of these fields holds, where some bytes are read as it. After a refusal a part of it may
-/// stand there.
+/// Appends the minimal encoding of the payload of a producers section of these fields. On an error, the sink is as it was.
 pub fn append_producers<'a, A: Allocator, B: Allocator>(
     fields: &Vec<(&'a str, Vec<(&'a str, &'a str), A>), A>,
     out: &mut Vec<u8, B>,
 ) -> R<()>
-    ensures { OnOk result (AppendsShortest producers_payload (map field_view fields.now.items) out.old.items out.new.items) }
+    ensures ok { OnOk result (AppendsShortest producers_payload (map field_view fields.now.items) out.old.items out.new.items) }
+    ensures err { OnErr result (out.new.items ≡ out.old.items) }
+    ensures too_long { HasEncoding producers_payload (map field_view fields.now.items) → result ≢ Err TooLong }
 {
     append_counted::<ProducerItems, (&'a str, Vec<(&'a str, &'a str), A>), _>(fields, out)
 }

@@ -1,5 +1,5 @@
 // Symbols: what a linker knows by name.
-ghost use Rattle.std.specs.Prelude.{◌≡◌, ◌∷◌, [], IfSome, IsUtf8, ⊤, ◌≢◌, IfOk, IfErr, OnOk, option_map, None, Some};
+ghost use Rattle.std.specs.Prelude.{◌≡◌, ◌∷◌, [], IfSome, IsUtf8, ⊤, ◌≢◌, IfOk, IfErr, Err, OnOk, option_map, None, Some};
 ghost use Rattle.wasm_base.specs.Calls.{Adds};
 ghost use Rattle.wasm_base.specs.Formats.{name as name_format, optional};
 ghost use Rattle.wasm_base.specs.Numbers.{wide};
@@ -8,7 +8,8 @@ ghost use Rattle.wasm_base.specs.Texts.{frame_text, FrameFits, optional_text};
 ghost use Rattle.wasm_custom.specs.Symbols.{kind_code, indexed_text, of_data_text, definition_text, Symbol as SymbolModel, symbol_text, IsDefinition, IsGivenSymbol, indexed, of_data, has_name as flags_name, has_definition as flags_definition, definition as definition_format, indexed_symbol, data_symbol, symbol, symbol_view};
 ghost use Rattle.wasm_custom.specs.declared.symbols.DataSymbolDefinition.{DataSymbolDefinition as DefinitionModel};
 ghost use Rattle.wasm_custom.specs.declared.symbols.SymbolKind.TheVariants as kinds;
-ghost use Rattle.wasm_reader_base.specs.Shortest.{AppendsShortest};
+ghost use Rattle.wasm_base.specs.declared.refused.Refused.TheVariants.{TooLong};
+ghost use Rattle.wasm_reader_base.specs.Shortest.{AppendsShortest, IsFrontOf, HasEncoding};
 ghost use Rattle.wasm_reader_base.specs.declared.fault.ReadFault.TheVariants.{Memory};
 
 use crate::lists::{CountedList, ListKind};
@@ -347,18 +348,20 @@ impl<'a, A: Allocator + Copy> Readable<'a, A> for Symbol<'a> {
 }
 
 /// Appends a name where one is given.
-#[tactic(auto, using(crate::proofs::SymbolLaws::name_appended, crate::proofs::SymbolLaws::no_name_appended))]
+#[tactic(auto, using(crate::proofs::SymbolLaws::name_appended, crate::proofs::SymbolLaws::no_name_appended, crate::proofs::SymbolLaws::name_encoded))]
 fn append_name<B: Allocator>(flags: u32, name: Option<&str>, out: &mut Vec<u8, B>) -> R<()>
-    ensures { OnOk result (AppendsShortest (optional (flags_name flags) name_format) (option_map (λ n. n.now) name.entry) out.old.items out.new.items) }
+    ensures ok { OnOk result (AppendsShortest (optional (flags_name flags) name_format) (option_map (λ n. n.now) name.entry) out.old.items out.new.items) }
+    ensures front { IsFrontOf out.old.items out.new.items }
+    ensures too_long { HasEncoding (optional (flags_name flags) name_format) (option_map (λ n. n.now) name.entry) → result ≢ Err TooLong }
 {
     match name {
-        Some(name) => name.append_shortest(out),
+        Some(name) => name.write_minimal(out),
         None => Ok(()),
     }
 }
 
 /// Appends a symbol of an index.
-#[tactic(auto, using(crate::proofs::SymbolLaws::indexed_appended))]
+#[tactic(auto, using(crate::proofs::SymbolLaws::indexed_appended, crate::proofs::SymbolLaws::indexed_encoded))]
 fn append_indexed<B: Allocator>(
     kind: SymbolKind,
     flags: u32,
@@ -366,11 +369,13 @@ fn append_indexed<B: Allocator>(
     name: Option<&str>,
     out: &mut Vec<u8, B>,
 ) -> R<()>
-    ensures { OnOk result (AppendsShortest symbol (indexed kind flags index (option_map (λ n. n.now) name.entry)) out.old.items out.new.items) }
+    ensures ok { OnOk result (AppendsShortest symbol (indexed kind flags index (option_map (λ n. n.now) name.entry)) out.old.items out.new.items) }
+    ensures front { IsFrontOf out.old.items out.new.items }
+    ensures too_long { HasEncoding symbol (indexed kind flags index (option_map (λ n. n.now) name.entry)) → result ≢ Err TooLong }
 {
     kind.encode(out)?;
-    flags.append_shortest(out)?;
-    index.append_shortest(out)?;
+    flags.write_minimal(out)?;
+    index.write_minimal(out)?;
     append_name(flags, name, out)
 }
 
@@ -381,7 +386,9 @@ fn append_definition<B: Allocator>(
     definition: Option<DataSymbolDefinition>,
     out: &mut Vec<u8, B>,
 ) -> R<()>
-    ensures { OnOk result (AppendsShortest (optional (flags_definition flags) definition_format) definition out.old.items out.new.items) }
+    ensures ok { OnOk result (AppendsShortest (optional (flags_definition flags) definition_format) definition out.old.items out.new.items) }
+    ensures front { IsFrontOf out.old.items out.new.items }
+    ensures too_long { HasEncoding (optional (flags_definition flags) definition_format) definition → result ≢ Err TooLong }
 {
     match definition {
         Some(definition) => definition.encode(out),
@@ -390,23 +397,25 @@ fn append_definition<B: Allocator>(
 }
 
 /// Appends a symbol of data.
-#[tactic(auto, using(crate::proofs::SymbolLaws::data_appended))]
+#[tactic(auto, using(crate::proofs::SymbolLaws::data_appended, crate::proofs::SymbolLaws::data_name_encoded, crate::proofs::SymbolLaws::data_definition_encoded))]
 fn append_data<B: Allocator>(
     flags: u32,
     name: &str,
     definition: Option<DataSymbolDefinition>,
     out: &mut Vec<u8, B>,
 ) -> R<()>
-    ensures { OnOk result (AppendsShortest symbol (of_data flags name.now definition) out.old.items out.new.items) }
+    ensures ok { OnOk result (AppendsShortest symbol (of_data flags name.now definition) out.old.items out.new.items) }
+    ensures front { IsFrontOf out.old.items out.new.items }
+    ensures too_long { HasEncoding symbol (of_data flags name.now definition) → result ≢ Err TooLong }
 {
     0x01u8.encode(out)?;
-    flags.append_shortest(out)?;
-    name.append_shortest(out)?;
+    flags.write_minimal(out)?;
+    name.write_minimal(out)?;
     append_definition(flags, definition, out)
 }
 
 impl<'a> Shorten for Symbol<'a> {
-    fn append_shortest<B: Allocator>(&self, out: &mut Vec<u8, B>) -> R<()> {
+    fn write_minimal<B: Allocator>(&self, out: &mut Vec<u8, B>) -> R<()> {
         match *self {
             Symbol::Function { flags, index, name } => {
                 append_indexed(SymbolKind::Function, flags, index, name, out)

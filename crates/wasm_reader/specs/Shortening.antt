@@ -18,6 +18,7 @@ use Rattle.wasm_reader.specs.declared.whole.ModuleFault.TheVariants as faults
 use Rattle.wasm_reader.specs.declared.whole.Offsets.{Offsets}
 use Rattle.wasm_reader.specs.declared.whole.Offsets.TheVariants.{Refuse, LeaveOut}
 use Rattle.wasm_reader.specs.declared.whole.Tally.{Tally}
+pub use Rattle.wasm_reader_base.specs.Shortest.{IsFrontOf}
 use Rattle.wasm_reader_base.specs.declared.fault.ReadFault.TheVariants.{Memory}
 
 -- ---- sections that hold offsets
@@ -198,10 +199,6 @@ pub record StopsAfter (bytes : List ℕ) (number : ℕ) : Type 0 where
   pub counted : length sections + 1 ≡ number
   pub more : rest ≢ []
   pub none : ReadsNothing any_section wide rest
-
--- What was there is the front of what is.
-abbrev pub IsFrontOf : List ℕ → List ℕ → Type 0
-IsFrontOf old new = (more : List ℕ) × (new ≡ old ++ more)
 
 -- ---- what is said of all modules
 

@@ -26,7 +26,7 @@ fn shorten_bodies<A: Allocator + Copy>(
     ensures none { IfErr result (λ e. e ≢ Memory → FillsNothing (vec (frame body)) bytes.now) }
 {
     let (count, mut rest) = <u32 as Readable<'_, A>>::read(bytes, alloc)?;
-    count.append_shortest(out)?;
+    count.write_minimal(out)?;
     for _taken in 0..count {
         let (framed, after) = <&[u8] as Readable<'_, A>>::read(rest, alloc)?;
         shorten_body(framed, alloc, out)?;

@@ -1,3 +1,4 @@
+pub mod Encodings
 pub mod Faults
 pub mod ReadFixed
 pub mod ReadFrames

@@ -1,13 +1,43 @@
 -- The one shortest text of what was read is appended, part by part.
-use Rattle.std.proofs.Common.{◌≡◌, ℕ, ◌+◌, ◌<◌, ◌≤◌, List, [], ◌∷◌, ◌++◌, length, take, drop, get_or, map, refl, sym, ap, ap₂, subst, ◌∙◌, append_assoc, append-nil}
+use Rattle.std.proofs.Common.{Result, Ok, Err, ◌≡◌, ℕ, ◌+◌, ◌<◌, ◌≤◌, List, [], ◌∷◌, ◌++◌, length, take, drop, get_or, map, refl, sym, ap, ap₂, subst, ◌∙◌, append_assoc, append-nil}
 use Rattle.std.specs.List.{All, flat_map}
+use Rattle.std.specs.declared.vec.Vec.{Vec}
 use Rattle.std.proofs.lemmas.List.Elements.{All-head, All-tail}
 use Rattle.std.proofs.lemmas.List.{drop_at, take_at, map-append, length-map, take_more, take_all}
 use Rattle.wasm_base.specs.Numbers.{shortest, wide, unsigned_text}
 use Rattle.wasm_base.specs.Formats.{Format, u32, fixed, mapped, Then, pair, prefixed, tagged, members, vec, frame}
+use Rattle.wasm_base.specs.Calls.{Appends}
+use Rattle.wasm_base.specs.declared.refused.Refused.{Refused}
 use Rattle.wasm_base.specs.Texts.{frame_text, FrameFits, vec_text, VecFits}
 use Rattle.wasm_base.proofs.TextLaws.{u32_spelled, frame_spelled}
-use Rattle.wasm_reader_base.specs.Shortest.{AppendsShortest}
+use Rattle.wasm_reader_base.specs.Shortest.{AppendsShortest, IsFrontOf}
+
+-- ---- the old bytes in front
+
+pub front_more : (old more new : List ℕ) → new ≡ old ++ more → IsFrontOf old new
+front_more old more new e = (more, e)
+
+pub front_same : (old new : List ℕ) → new ≡ old → IsFrontOf old new
+front_same old new e = ([], e ∙ sym (append-nil old))
+
+pub front_then : (old middle new : List ℕ) → IsFrontOf old middle → IsFrontOf middle new → IsFrontOf old new
+front_then old middle new a b = (a.0 ++ b.0, b.1 ∙ ap (λ z. z ++ b.0) a.1 ∙ append_assoc old a.0 b.0)
+
+-- of a call that leaves the old bytes as they were, or appends to them
+pub front_encoded : {A : Type 0} (text : List ℕ) (fits : Type 0) (old new : Vec ℕ A) (r : Result (Unit {0}) Refused) → Appends text fits old new r → IsFrontOf old.items new.items
+front_encoded text fits old new (Ok u) a = (text, a.ok)
+front_encoded text fits old new (Err e) a = front_same old.items new.items a.err
+
+pub front_appended : {X : Type 0} (F : Format X) (x : X) (old new : List ℕ) → AppendsShortest F x old new → IsFrontOf old new
+front_appended F x old new a = (a.text, a.appended)
+
+pub ruleset front_steps = (front_more, front_same, front_then, front_encoded, front_appended)
+
+-- what a call takes back on an error
+pub cut_off : (old new : List ℕ) → IsFrontOf old new → take (length old) new ≡ old
+cut_off old new h = ap (take (length old)) h.1 ∙ take_at old h.0 (length old) refl
+
+-- ---- texts
 
 -- A text that is the shortest spelling of whatever is read.
 pub text_appended : {X : Type 0} (F : Format X) (x : X) (text old new : List ℕ) → ((s : List ℕ) → F wide s x → F shortest text x) → new ≡ old ++ text → AppendsShortest F x old new

@@ -63,7 +63,9 @@ impl From<NoGroups> for ReadFault {
     }
 }
 
-/// What was read is written in no more bytes than it had, so no length of it is too long to be spelled. No contract says so.
+/// An error of a call that appends becomes `Memory`. Such a call never returns `TooLong` for a value
+/// that has an encoding, as each decoded value has (`too_long` of [`Shorten`](crate::Shorten)).
+/// A body that is passed without its size may be too long for one: that becomes `Memory` too.
 impl From<Refused> for ReadFault {
     ghost from_gives = { λ _ fault. fault ≡ Memory };
 

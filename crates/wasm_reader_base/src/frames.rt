@@ -3,7 +3,7 @@ ghost use Rattle.std.specs.Prelude.{◌≡◌, ◌≢◌, ◌≤◌, ◌++◌, t
 ghost use Rattle.wasm_base.specs.Formats.{frame};
 ghost use Rattle.wasm_base.specs.Texts.{frame_text, FrameFits};
 ghost use Rattle.wasm_base.specs.declared.refused.Refused.TheVariants.{TooLong};
-ghost use Rattle.wasm_reader_base.specs.Shortest.{AppendsShortest};
+ghost use Rattle.wasm_reader_base.specs.Shortest.{AppendsShortest, IsFrontOf, HasEncoding};
 
 use crate::fault::ReadFault;
 use crate::readable::{Readable, Spelled};
@@ -56,17 +56,20 @@ pub fn frame_since<B: Allocator>(out: &mut Vec<u8, B>, start: usize) -> R<()>
 }
 
 /// Appends the shortest text of the value in a frame.
-#[tactic(auto, using(crate::proofs::ShortTexts::frame_appended))]
+#[tactic(auto, using(crate::proofs::ShortTexts::frame_appended, crate::proofs::Encodings::content_encoded, crate::proofs::Encodings::behind_fits))]
 fn append_framed<T: Shorten, B: Allocator>(value: &T, out: &mut Vec<u8, B>) -> R<()>
-    ensures { OnOk result (AppendsShortest (frame T.format) (T.view value.now) out.old.items out.new.items) }
+    ensures ok { OnOk result (AppendsShortest (frame T.format) (T.view value.now) out.old.items out.new.items) }
+    ensures front { IsFrontOf out.old.items out.new.items }
+    ensures too_long { HasEncoding (frame T.format) (T.view value.now) → result ≢ Err TooLong }
 {
+    T::laws();
     let start = out.len();
-    value.append_shortest(out)?;
+    value.write_minimal(out)?;
     frame_since(out, start)
 }
 
 impl<T: Shorten> Shorten for Framed<T> {
-    fn append_shortest<B: Allocator>(&self, out: &mut Vec<u8, B>) -> R<()> {
+    fn write_minimal<B: Allocator>(&self, out: &mut Vec<u8, B>) -> R<()> {
         let Framed(value) = self;
         append_framed(value, out)
     }

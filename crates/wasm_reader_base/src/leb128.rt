@@ -278,7 +278,7 @@ pub(crate) fn read_index(bytes: &[u8]) -> Result<(u32, &[u8]), ReadFault>
 
 impl Shorten for u32 {
     #[tactic(auto, using(crate::proofs::ReadPlain::u32_appended))]
-    fn append_shortest<B: Allocator>(&self, out: &mut Vec<u8, B>) -> R<()> {
+    fn write_minimal<B: Allocator>(&self, out: &mut Vec<u8, B>) -> R<()> {
         self.encode(out)
     }
 }

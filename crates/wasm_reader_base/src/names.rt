@@ -60,15 +60,15 @@ impl<'a, A: Allocator + Copy> Readable<'a, A> for &'a str {
 }
 
 impl Shorten for &[u8] {
-    #[tactic(auto, using(crate::proofs::ReadPlain::bytes_appended))]
-    fn append_shortest<B: Allocator>(&self, out: &mut Vec<u8, B>) -> R<()> {
+    #[tactic(auto, using(crate::proofs::ReadPlain::bytes_appended, crate::proofs::Encodings::bytes_fit))]
+    fn write_minimal<B: Allocator>(&self, out: &mut Vec<u8, B>) -> R<()> {
         encode_frame(out, self)
     }
 }
 
 impl Shorten for &str {
-    #[tactic(auto, using(crate::proofs::ReadPlain::name_appended))]
-    fn append_shortest<B: Allocator>(&self, out: &mut Vec<u8, B>) -> R<()> {
+    #[tactic(auto, using(crate::proofs::ReadPlain::name_appended, crate::proofs::Encodings::name_fits))]
+    fn write_minimal<B: Allocator>(&self, out: &mut Vec<u8, B>) -> R<()> {
         self.encode(out)
     }
 }

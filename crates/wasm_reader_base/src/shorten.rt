@@ -1,6 +1,7 @@
-// What can be written as shortly as can be.
-ghost use Rattle.std.specs.Prelude.{OnOk};
-ghost use Rattle.wasm_reader_base.specs.Shortest.{AppendsShortest};
+// Values that can be written in their minimal encoding.
+ghost use Rattle.std.specs.Prelude.{◌≡◌, ◌≢◌, Err, OnOk, OnErr};
+ghost use Rattle.wasm_base.specs.declared.refused.Refused.TheVariants.{TooLong};
+ghost use Rattle.wasm_reader_base.specs.Shortest.{AppendsShortest, IsFrontOf, HasEncoding};
 
 use crate::readable::Spelled;
 use std::alloc::Allocator;
@@ -8,7 +9,25 @@ use wasm_base::R;
 
 /// A value that was read, or a part of one.
 pub trait Shorten: Spelled {
-    /// Appends the one shortest text of the value, where some bytes are read as it. After a refusal a part of it may stand there.
+    /// Writes the minimal encoding of the value after the old bytes. An impl defines it, and callers
+    /// use [`append_shortest`](Shorten::append_shortest): after an error of this method, a part of the
+    /// encoding may be in the sink.
+    fn write_minimal<B: Allocator>(&self, out: &mut Vec<u8, B>) -> R<()>
+        ensures ok { OnOk result (AppendsShortest Self.format (Self.view self.now) out.old.items out.new.items) }
+        ensures front { IsFrontOf out.old.items out.new.items }
+        ensures too_long { HasEncoding Self.format (Self.view self.now) → result ≢ Err TooLong };
+
+    /// Appends the minimal encoding of the value. On an error, the sink is as it was.
     fn append_shortest<B: Allocator>(&self, out: &mut Vec<u8, B>) -> R<()>
-        ensures { OnOk result (AppendsShortest Self.format (Self.view self.now) out.old.items out.new.items) };
+        ensures ok { OnOk result (AppendsShortest Self.format (Self.view self.now) out.old.items out.new.items) }
+        ensures err { OnErr result (out.new.items ≡ out.old.items) }
+        ensures too_long { HasEncoding Self.format (Self.view self.now) → result ≢ Err TooLong }
+    {
+        let start = out.len();
+        let written = self.write_minimal(out);
+        if written.is_err() {
+            out.truncate(start);
+        }
+        written
+    }
 }

@@ -33,9 +33,9 @@ impl<'a, A: Allocator + Copy, T: Readable<'a, A>, U: Readable<'a, A>> Readable<'
 }
 
 impl<T: Shorten, U: Shorten> Shorten for (T, U) {
-    #[tactic(auto, using(crate::proofs::ShortTexts::pair_appended))]
-    fn append_shortest<B: Allocator>(&self, out: &mut Vec<u8, B>) -> R<()> {
-        self.0.append_shortest(out)?;
-        self.1.append_shortest(out)
+    #[tactic(auto, using(crate::proofs::ShortTexts::pair_appended, crate::proofs::Encodings::left_encoded, crate::proofs::Encodings::right_encoded))]
+    fn write_minimal<B: Allocator>(&self, out: &mut Vec<u8, B>) -> R<()> {
+        self.0.write_minimal(out)?;
+        self.1.write_minimal(out)
     }
 }

@@ -216,7 +216,7 @@ impl<'a, A: Allocator + Copy> Readable<'a, A> for ValType {
 
 impl Shorten for ValType {
     #[tactic(auto, using(crate::proofs::ReadPlain::val_appended))]
-    fn append_shortest<B: Allocator>(&self, out: &mut Vec<u8, B>) -> R<()> {
+    fn write_minimal<B: Allocator>(&self, out: &mut Vec<u8, B>) -> R<()> {
         self.encode(out)
     }
 }

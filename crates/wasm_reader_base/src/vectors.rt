@@ -1,7 +1,8 @@
 // Vectors.
-ghost use Rattle.std.specs.Prelude.{List, OnOk, map};
+ghost use Rattle.std.specs.Prelude.{◌≡◌, ◌≢◌, List, Err, OnOk, OnErr, map};
 ghost use Rattle.wasm_base.specs.Formats.{members, vec};
-ghost use Rattle.wasm_reader_base.specs.Shortest.{AppendsShortest};
+ghost use Rattle.wasm_base.specs.declared.refused.Refused.TheVariants.{TooLong};
+ghost use Rattle.wasm_reader_base.specs.Shortest.{AppendsShortest, IsFrontOf, HasEncoding};
 
 use crate::fault::ReadFault;
 use crate::readable::{Readable, Spelled};
@@ -37,21 +38,37 @@ impl<'a, A: Allocator + Copy, T: Readable<'a, A>> Readable<'a, A> for Vec<T, A> 
     }
 }
 
-/// Appends the shortest texts of the values, one after another. After a refusal a part of them may stand there.
+/// Writes what [`append_all`] appends. After an error, a part of it may be behind the old bytes.
 #[tactic(auto, using(crate::proofs::ShortTexts::members_start))]
-pub fn append_all<T: Shorten, B: Allocator>(items: &[T], out: &mut Vec<u8, B>) -> R<()>
-    ensures { OnOk result (AppendsShortest (members T.format) (map T.view items.now) out.old.items out.new.items) }
+fn write_all<T: Shorten, B: Allocator>(items: &[T], out: &mut Vec<u8, B>) -> R<()>
+    ensures ok { OnOk result (AppendsShortest (members T.format) (map T.view items.now) out.old.items out.new.items) }
+    ensures front { IsFrontOf out.old.items out.new.items }
+    ensures too_long { HasEncoding (members T.format) (map T.view items.now) → result ≢ Err TooLong }
 {
     for item in items {
-        item.append_shortest(out)?;
+        item.write_minimal(out)?;
     }
     Ok(())
 }
 
-/// Appends the shortest texts of the values behind their number.
+/// Appends the minimal encodings of the values, one after another. On an error, the sink is as it was.
+pub fn append_all<T: Shorten, B: Allocator>(items: &[T], out: &mut Vec<u8, B>) -> R<()>
+    ensures ok { OnOk result (AppendsShortest (members T.format) (map T.view items.now) out.old.items out.new.items) }
+    ensures err { OnErr result (out.new.items ≡ out.old.items) }
+    ensures too_long { HasEncoding (members T.format) (map T.view items.now) → result ≢ Err TooLong }
+{
+    let start = out.len();
+    let written = write_all(items, out);
+    if written.is_err() {
+        out.truncate(start);
+    }
+    written
+}
+
+/// The number of the values, and the values.
 impl<T: Shorten, A: Allocator> Shorten for Vec<T, A> {
-    fn append_shortest<B: Allocator>(&self, out: &mut Vec<u8, B>) -> R<()> {
+    fn write_minimal<B: Allocator>(&self, out: &mut Vec<u8, B>) -> R<()> {
         self.len().encode(out)?;
-        append_all(self, out)
+        write_all(self, out)
     }
 }

@@ -1,8 +1,9 @@
 -- What was read is plain and in normal form, so its text is its one shortest spelling.
-use Rattle.std.proofs.Common.{◌≡◌, ℕ, ◌^◌, ◌<◌, List, [], ◌∷◌, ◌++◌, map, Bool, true, false, Option, Some, None, refl, sym, ap, ap₂, subst, ◌∙◌, append_assoc}
+use Rattle.std.proofs.Common.{zero, suc, length, get_or, arith, ◌≡◌, ℕ, ◌^◌, ◌<◌, List, [], ◌∷◌, ◌++◌, map, Bool, true, false, Option, Some, None, refl, sym, ap, ap₂, subst, ◌∙◌, append_assoc}
 use Rattle.std.specs.List.{flat_map}
 use Rattle.wasm_base.specs.Numbers.{shortest, wide}
 use Rattle.wasm_base.specs.Formats.{u32, mapped, fixed, when}
+use Rattle.wasm_base.specs.Texts.{VecFits}
 use Rattle.wasm_base.specs.Types.{IsVal, val_type}
 use Rattle.wasm_base.proofs.FormatLaws.{AllValues}
 use Rattle.wasm_immediates.specs.PlainImmediates.{IsPlainCatch, IsPlainHandle, catch, handle}
@@ -17,7 +18,7 @@ use Rattle.wasm_insn.specs.Arguments.{Argument, memory, part_of, argument_text, 
 use Rattle.wasm_insn.specs.Plain.{Plain, IsPlain, IsOpcode, IsPlainArgument, ArePlain, normal_argument, normal_arguments, normal, part, arguments, arguments_after, opcode, op_after, is_prefix, shape_of, plain_of, plain_text, instruction}
 use Rattle.wasm_insn.specs.Table.{table}
 use Rattle.wasm_insn.proofs.PlainLaws.{plain_spelled}
-use Rattle.wasm_reader_base.specs.Shortest.{AppendsShortest}
+use Rattle.wasm_reader_base.specs.Shortest.{AppendsShortest, HasEncoding}
 use Rattle.wasm_reader_base.proofs.ReadPlain.{little_endian_below, heap_is, val_type_is, memory_is, block_is, catch_is, handle_is, vec_is}
 use Rattle.wasm_reader_insn.specs.declared.arguments.Arg.{Arg}
 use Rattle.wasm_reader_insn.specs.Arguments.{argument_view}
@@ -93,3 +94,16 @@ instruction_appended op xs old middle new e f = record {
   appended = f ∙ ap (λ z. z ++ flat_map (λ a. argument_text (argument_view a)) xs) e ∙ append_assoc old (op_text op) (flat_map (λ a. argument_text (argument_view a)) xs) ∙ ap (λ z. old ++ (op_text op ++ z)) (arguments_text_of xs);
   spelled = λ s h. instruction_spelled (plain_of (op, map argument_view xs)) s h;
 }
+
+-- ---- counts of arguments that have an encoding
+
+pub any_members : {T : Type 0} (P : T → Type 0) (xs : List T) → VecFits P xs → VecFits (λ x. Unit {0}) xs
+any_members P xs h = record { count = h.count; members = λ k d l. tt }
+
+pub arguments_plain : (i : Plain) → HasEncoding (instruction table) i → ArePlain i.arguments
+arguments_plain i h = (instruction_is wide h.bytes i h.decoded).0.arguments
+
+pub plain_at : {A : Type 0} (xs : List (Arg A)) (i : ℕ) (x : Arg A) → i < length xs → x ≡ get_or xs i x → ArePlain (map argument_view xs) → IsPlainArgument (argument_view x)
+plain_at [] i x low is h = absurd (omega (arith, low))
+plain_at (y ∷ ys) zero x low is h = subst (λ z. IsPlainArgument (argument_view z)) (sym is) h.0
+plain_at (y ∷ ys) (suc i) x low is h = plain_at ys i x (omega (arith, low)) is h.1

@@ -1,16 +1,21 @@
 -- The one shortest text of expressions and bodies that were read.
-use Rattle.std.proofs.Common.{◌≡◌, ℕ, List, [], ◌∷◌, ◌++◌, map, refl, ap, subst, ◌∙◌, append_assoc}
+use Rattle.std.proofs.Common.{Result, Ok, Err, take, ◌≡◌, ℕ, length, drop, sym, List, [], ◌∷◌, ◌++◌, map, refl, ap, subst, ◌∙◌, append_assoc}
+use Rattle.std.specs.Prelude.{OnOk, OnErr}
 use Rattle.std.proofs.lemmas.List.{map-id}
 use Rattle.wasm_base.specs.Numbers.{shortest, wide}
-use Rattle.wasm_base.specs.Formats.{Format, u32, members, ended, such, pair, vec}
+use Rattle.wasm_base.specs.Formats.{Format, u32, members, ended, such, pair, vec, frame}
+use Rattle.wasm_base.specs.Texts.{FrameFits}
+use Rattle.wasm_base.specs.declared.refused.Refused.{Refused}
 use Rattle.wasm_base.specs.Types.{val_type}
 use Rattle.wasm_insn.specs.Plain.{Plain, instruction}
 use Rattle.wasm_insn.specs.Table.{table}
 use Rattle.wasm_code.specs.Expressions.{IsNoEnd, expression}
 use Rattle.wasm_code.specs.Bodies.{Run, body_of, body}
+use Rattle.wasm_code.proofs.BodyLaws.{body_whole}
 use Rattle.wasm_code.proofs.ExpressionLaws.{expression_spelled}
-use Rattle.wasm_reader_base.specs.Shortest.{AppendsShortest}
-use Rattle.wasm_reader_base.proofs.ShortTexts.{pair_appended, mapped_appended}
+use Rattle.wasm_reader_base.specs.Shortest.{AppendsShortest, HasEncoding, IsFrontOf}
+use Rattle.wasm_reader_base.proofs.Encodings.{left_encoded, right_encoded, mapped_encoded, content_encoded, behind_fits}
+use Rattle.wasm_reader_base.proofs.ShortTexts.{pair_appended, mapped_appended, cut_off}
 
 -- ---- expressions
 
@@ -40,3 +45,28 @@ pub body_appended : (runs : List Run) (code : List Plain) (old middle new : List
 body_appended runs code old middle new a b =
     let given = subst (λ z. AppendsShortest (vec (pair u32 val_type)) z old middle) (map-id runs) a in
     mapped_appended body_of (pair (vec (pair u32 val_type)) (members (instruction table))) (runs, code) old new (λ z e. ap (λ x. (x.runs, x.code)) e) (pair_appended (vec (pair u32 val_type)) (members (instruction table)) given b)
+
+-- ---- parts that have encodings
+
+pub code_encoded : (is : List Plain) → HasEncoding expression is → HasEncoding (members (instruction table)) is
+code_encoded is h = let read = before_end IsNoEnd (instruction table) 0x0B is h.bytes h.decoded in record { bytes = read.0; decoded = read.1 }
+
+body_parts : (runs : List Run) (code : List Plain) → HasEncoding (frame body) (record { runs = runs; code = code }) → HasEncoding (pair (vec (pair u32 val_type)) (members (instruction table))) (runs, code)
+body_parts runs code h = mapped_encoded body_of (pair (vec (pair u32 val_type)) (members (instruction table))) (runs, code) (λ z e. ap (λ x. (x.runs, x.code)) e) (content_encoded body (record { runs = runs; code = code }) h)
+
+pub runs_encoded : (runs : List Run) (code : List Plain) → HasEncoding (frame body) (record { runs = runs; code = code }) → HasEncoding (vec (pair u32 val_type)) (map (λ r. (r.0, r.1)) runs)
+runs_encoded runs code h =
+    subst (λ z. HasEncoding (vec (pair u32 val_type)) z) (sym (map-id runs)) (left_encoded (vec (pair u32 val_type)) (members (instruction table)) runs code (body_parts runs code h))
+
+pub body_code_encoded : (runs : List Run) (code : List Plain) → HasEncoding (frame body) (record { runs = runs; code = code }) → HasEncoding (members (instruction table)) code
+body_code_encoded runs code h = right_encoded (vec (pair u32 val_type)) (members (instruction table)) runs code (body_parts runs code h)
+
+pub body_fits : (runs : List Run) (code : List Plain) (start : ℕ) (old middle new : List ℕ) → start ≡ length old → AppendsShortest (vec (pair u32 val_type)) (map (λ r. (r.0, r.1)) runs) old middle
+    → AppendsShortest (members (instruction table)) code middle new → HasEncoding (frame body) (record { runs = runs; code = code }) → FrameFits (drop start new)
+body_fits runs code start old middle new e a b h = behind_fits body (record { runs = runs; code = code }) start old new body_whole.spellings e (body_appended runs code old middle new a b) h
+
+-- ---- the old bytes in front
+
+pub front_framed : (start : ℕ) (old middle new text : List ℕ) (r : Result (Unit {0}) Refused) → start ≡ length old → IsFrontOf old middle → OnOk r (new ≡ take start middle ++ text) → OnErr r (new ≡ middle) → IsFrontOf old new
+front_framed start old middle new text (Ok u) e m ok err = (text, ok ∙ ap (λ z. z ++ text) (ap (λ n. take n middle) e ∙ cut_off old middle m))
+front_framed start old middle new text (Err x) e m ok err = subst (λ z. IsFrontOf old z) (sym err) m

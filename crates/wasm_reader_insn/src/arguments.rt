@@ -1,13 +1,15 @@
 // The arguments of instructions.
-ghost use Rattle.std.specs.Prelude.{◌≡◌, ◌≢◌, ◌++◌, [], ◌∷◌, IfOk, IfErr, OnOk, map};
+ghost use Rattle.std.specs.Prelude.{◌≡◌, ◌≢◌, ◌++◌, [], ◌∷◌, IfOk, IfErr, Err, OnOk, OnErr, map};
 ghost use Rattle.std.specs.List.{flat_map};
 ghost use Rattle.wasm_base.specs.Numbers.{wide};
 ghost use Rattle.wasm_base.specs.Reading.{Reads, ReadsNothing};
+ghost use Rattle.wasm_base.specs.declared.refused.Refused.TheVariants.{TooLong};
 ghost use Rattle.wasm_insn.specs.Parts.{parts_of};
 ghost use Rattle.wasm_insn.specs.declared.part.Part.TheVariants as parts;
 ghost use Rattle.wasm_insn.specs.Arguments.{argument_text};
-ghost use Rattle.wasm_insn.specs.Plain.{part, arguments};
+ghost use Rattle.wasm_insn.specs.Plain.{part, arguments, IsPlainArgument, ArePlain};
 ghost use Rattle.wasm_reader_insn.specs.Arguments.{argument_view};
+ghost use Rattle.wasm_reader_base.specs.Shortest.{IsFrontOf};
 ghost use Rattle.wasm_reader_base.specs.declared.fault.ReadFault.TheVariants.{Memory};
 
 use std::alloc::{Allocator, Global};
@@ -448,9 +450,11 @@ pub(crate) fn read_arguments_into<'a, A: Allocator + Copy>(
 }
 
 /// Appends the text of the argument.
-#[tactic(auto, using(wasm_immediates::proofs::FixedBytes::vector_bytes))]
+#[tactic(auto, using(wasm_immediates::proofs::FixedBytes::vector_bytes, crate::proofs::ReadPlain::any_members))]
 fn append_argument<A: Allocator, B: Allocator>(arg: &Arg<A>, out: &mut Vec<u8, B>) -> R<()>
-    ensures { OnOk result (out.new.items ≡ out.old.items ++ argument_text (argument_view arg.now)) }
+    ensures ok { OnOk result (out.new.items ≡ out.old.items ++ argument_text (argument_view arg.now)) }
+    ensures err { OnErr result (out.new.items ≡ out.old.items) }
+    ensures too_long { IsPlainArgument (argument_view arg.now) → result ≢ Err TooLong }
 {
     match arg {
         Arg::U32(n) => n.encode(out),
@@ -478,7 +482,9 @@ pub(crate) fn append_arguments<A: Allocator, B: Allocator>(
     args: &[Arg<A>],
     out: &mut Vec<u8, B>,
 ) -> R<()>
-    ensures { OnOk result (out.new.items ≡ out.old.items ++ flat_map (λ a. argument_text (argument_view a)) args.now) }
+    ensures ok { OnOk result (out.new.items ≡ out.old.items ++ flat_map (λ a. argument_text (argument_view a)) args.now) }
+    ensures front { IsFrontOf out.old.items out.new.items }
+    ensures too_long { ArePlain (map argument_view args.now) → result ≢ Err TooLong }
 {
     for arg in args {
         append_argument(arg, out)?;

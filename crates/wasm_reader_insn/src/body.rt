@@ -1,12 +1,13 @@
 // Lists of instructions up to the last byte, and functions' bodies.
-ghost use Rattle.std.specs.Prelude.{◌≢◌, IfOk, IfErr, OnOk, map};
+ghost use Rattle.std.specs.Prelude.{◌≡◌, ◌≢◌, IfOk, IfErr, Err, OnOk, OnErr, map};
 ghost use Rattle.wasm_base.specs.Formats.{members, frame};
 ghost use Rattle.wasm_base.specs.Going.{FillsNothing};
 ghost use Rattle.wasm_base.specs.Numbers.{wide};
 ghost use Rattle.wasm_insn.specs.Plain.{instruction};
 ghost use Rattle.wasm_insn.specs.Table.{table};
 ghost use Rattle.wasm_code.specs.Bodies.{Body as BodyModel, body};
-ghost use Rattle.wasm_reader_base.specs.Shortest.{AppendsShortest};
+ghost use Rattle.wasm_base.specs.declared.refused.Refused.TheVariants.{TooLong};
+ghost use Rattle.wasm_reader_base.specs.Shortest.{AppendsShortest, IsFrontOf, HasEncoding};
 ghost use Rattle.wasm_reader_base.specs.declared.fault.ReadFault.TheVariants.{Memory};
 ghost use Rattle.wasm_reader_insn.specs.Arguments.{plain_view, body_view};
 
@@ -45,10 +46,12 @@ pub(crate) fn append_code<A: Allocator, B: Allocator>(
     code: &[Plain<A>],
     out: &mut Vec<u8, B>,
 ) -> R<()>
-    ensures { OnOk result (AppendsShortest (members (instruction table)) (map plain_view code.now) out.old.items out.new.items) }
+    ensures ok { OnOk result (AppendsShortest (members (instruction table)) (map plain_view code.now) out.old.items out.new.items) }
+    ensures front { IsFrontOf out.old.items out.new.items }
+    ensures too_long { HasEncoding (members (instruction table)) (map plain_view code.now) → result ≢ Err TooLong }
 {
     for instruction in code {
-        instruction.append_shortest(out)?;
+        instruction.write_minimal(out)?;
     }
     Ok(())
 }
@@ -92,16 +95,37 @@ impl<'a, A: Allocator + Copy> Readable<'a, A> for Body<A> {
 }
 
 impl<A: Allocator> Shorten for Body<A> {
-    fn append_shortest<B: Allocator>(&self, out: &mut Vec<u8, B>) -> R<()> {
+    #[tactic(auto, using(crate::proofs::ShortLists::body_code_encoded))]
+    fn write_minimal<B: Allocator>(&self, out: &mut Vec<u8, B>) -> R<()> {
         let start = out.len();
-        self.runs.append_shortest(out)?;
+        self.runs.write_minimal(out)?;
         append_code(&self.code, out)?;
         frame_since(out, start)
     }
 }
 
-/// Appends the shortest text of a body in its frame, as it stands in a code section. The bytes are those of the body without its size. It
-/// goes over the instructions and keeps one of them. After an error a part of the text may stand there.
+/// Writes what [`shorten_body`] appends. After an error, a part of it may be behind the old bytes.
+fn write_body<A: Allocator + Copy, B: Allocator>(
+    bytes: &[u8],
+    alloc: A,
+    out: &mut Vec<u8, B>,
+) -> Result<(), ReadFault>
+    ensures found { OnOk result ((x : BodyModel) × body wide bytes.now x × AppendsShortest (frame body) x out.old.items out.new.items) }
+    ensures none { IfErr result (λ e. e ≢ Memory → FillsNothing body bytes.now) }
+    ensures front { IsFrontOf out.old.items out.new.items }
+{
+    let start = out.len();
+    let (runs, mut instructions) = Instructions::of_body(bytes, alloc)?;
+    runs.write_minimal(out)?;
+    while let Some(step) = instructions.next()? {
+        append_instruction(step.op, instructions.args(), out)?;
+    }
+    frame_since(out, start)?;
+    Ok(())
+}
+
+/// Appends the minimal encoding of a function's body, with its size, as a code section has it. The bytes are those of the body without its size. It
+/// goes over the instructions and keeps one of them. On an error, the sink is as it was.
 ///
 /// ```text
 /// shorten_body(&[0x80, 0x00, 0x20, 0x81, 0x00, 0x0B], alloc, &mut out)?;
@@ -114,13 +138,12 @@ pub fn shorten_body<A: Allocator + Copy, B: Allocator>(
 ) -> Result<(), ReadFault>
     ensures found { OnOk result ((x : BodyModel) × body wide bytes.now x × AppendsShortest (frame body) x out.old.items out.new.items) }
     ensures none { IfErr result (λ e. e ≢ Memory → FillsNothing body bytes.now) }
+    ensures err { OnErr result (out.new.items ≡ out.old.items) }
 {
     let start = out.len();
-    let (runs, mut instructions) = Instructions::of_body(bytes, alloc)?;
-    runs.append_shortest(out)?;
-    while let Some(step) = instructions.next()? {
-        append_instruction(step.op, instructions.args(), out)?;
+    let written = write_body(bytes, alloc, out);
+    if written.is_err() {
+        out.truncate(start);
     }
-    frame_since(out, start)?;
-    Ok(())
+    written
 }

@@ -48,8 +48,8 @@ impl<'a, A: Allocator + Copy> Readable<'a, A> for Expression<A> {
 }
 
 impl<A: Allocator> Shorten for Expression<A> {
-    #[tactic(auto, using(crate::proofs::ShortLists::expression_appended))]
-    fn append_shortest<B: Allocator>(&self, out: &mut Vec<u8, B>) -> R<()> {
+    #[tactic(auto, using(crate::proofs::ShortLists::expression_appended, crate::proofs::ShortLists::code_encoded))]
+    fn write_minimal<B: Allocator>(&self, out: &mut Vec<u8, B>) -> R<()> {
         append_code(&self.0, out)?;
         out.push(END)?;
         Ok(())

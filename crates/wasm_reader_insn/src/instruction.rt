@@ -1,11 +1,12 @@
 // Instructions: an opcode, and an argument for each part of its shape.
-ghost use Rattle.std.specs.Prelude.{◌≡◌, ◌≢◌, IfOk, IfErr, OnOk, map};
+ghost use Rattle.std.specs.Prelude.{◌≡◌, ◌≢◌, IfOk, IfErr, Err, OnOk, map};
 ghost use Rattle.wasm_base.specs.Numbers.{wide};
 ghost use Rattle.wasm_base.specs.Reading.{Reads, ReadsNothing};
 ghost use Rattle.wasm_insn.specs.Plain.{Plain as PlainInstruction, opcode, instruction};
 ghost use Rattle.wasm_insn.specs.Table.{table};
 ghost use Rattle.wasm_insn.proofs.PlainLaws.{opcode_unique};
-ghost use Rattle.wasm_reader_base.specs.Shortest.{AppendsShortest};
+ghost use Rattle.wasm_base.specs.declared.refused.Refused.TheVariants.{TooLong};
+ghost use Rattle.wasm_reader_base.specs.Shortest.{AppendsShortest, IsFrontOf, HasEncoding};
 ghost use Rattle.wasm_reader_base.specs.declared.fault.ReadFault.TheVariants.{Memory};
 ghost use Rattle.wasm_reader_insn.specs.Arguments.{argument_view, plain_view};
 
@@ -91,14 +92,16 @@ pub(crate) fn append_instruction<A: Allocator, B: Allocator>(
     args: &[Arg<A>],
     out: &mut Vec<u8, B>,
 ) -> R<()>
-    ensures { OnOk result (AppendsShortest (instruction table) (record { op = op; arguments = map argument_view args.now }) out.old.items out.new.items) }
+    ensures ok { OnOk result (AppendsShortest (instruction table) (record { op = op; arguments = map argument_view args.now }) out.old.items out.new.items) }
+    ensures front { IsFrontOf out.old.items out.new.items }
+    ensures too_long { HasEncoding (instruction table) (record { op = op; arguments = map argument_view args.now }) → result ≢ Err TooLong }
 {
     op.encode(out)?;
     append_arguments(args, out)
 }
 
 impl<A: Allocator> Shorten for Plain<A> {
-    fn append_shortest<B: Allocator>(&self, out: &mut Vec<u8, B>) -> R<()> {
+    fn write_minimal<B: Allocator>(&self, out: &mut Vec<u8, B>) -> R<()> {
         append_instruction(self.op, &self.args, out)
     }
 }

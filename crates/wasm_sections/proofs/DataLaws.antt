@@ -22,7 +22,8 @@ use Rattle.wasm_base.proofs.ReadingSteps.{then_reads, then_nothing_first, then_n
 use Rattle.wasm_base.proofs.Tags.{tagged_reads, tagged_none, tagged_nothing, no_choice}
 use Rattle.wasm_base.proofs.SectionLaws.{SectionLaws, counted_laws_wide}
 use Rattle.wasm_sections.proofs.ConstantLaws.{stored_wider}
-use Rattle.wasm_reader_base.specs.Shortest.{AppendsShortest}
+use Rattle.wasm_reader_base.specs.Shortest.{AppendsShortest, HasEncoding}
+use Rattle.wasm_reader_base.proofs.Encodings.{left_encoded, right_encoded, tagged_encoded, mapped_encoded, counted_fits}
 use Rattle.wasm_reader_base.proofs.ReadPlain.{u32_appended}
 use Rattle.wasm_reader_base.proofs.ShortTexts.{text_appended, pair_appended, tagged_appended, mapped_appended}
 
@@ -102,8 +103,9 @@ same_texts {old = old} {new = new} (Ok x) e h = record {
   counted = h.counted;
   too_long = h.too_long;
   too_many = h.too_many;
+  full = h.full;
 }
-same_texts (Err x) e h = record { ok = h.ok; err = h.err; counted = h.counted; too_long = h.too_long; too_many = h.too_many }
+same_texts (Err x) e h = record { ok = h.ok; err = h.err; counted = h.counted; too_long = h.too_long; too_many = h.too_many; full = h.full }
 
 -- what a call adds whose elements give these bytes
 pub adds_these : {U S : Type 0} {becomes : U → S → Type 0} {gives : S → Option ℕ → S → Type 0} {remaining : S → Count} {elements : U} {text : List ℕ → List ℕ} {old new : List (List ℕ)} (result : Result (Unit {0}) Refused) (bytes : List ℕ)
@@ -118,9 +120,10 @@ adds_these {text = text} {old = old} {new = new} (Ok x) bytes same counts h =
       fitted = subst FrameFits is given.4;
       counted = h.counted;
       too_long = λ fits room. h.too_long (λ it b. omega (arith, counts it b, fits)) room;
+      full = h.full;
     }
 adds_these (Err e) bytes same counts h =
-    record { ok = h.ok; err = h.err; fitted = h.ok; counted = h.counted; too_long = λ fits room. h.too_long (λ it b. omega (arith, counts it b, fits)) room }
+    record { ok = h.ok; err = h.err; fitted = h.ok; counted = h.counted; too_long = λ fits room. h.too_long (λ it b. omega (arith, counts it b, fits)) room; full = h.full }
 
 -- the text of a segment of another memory than 0
 pub other_memory : (memory : ℕ) (offset bytes : List ℕ) → memory ≢ 0 → (0x02 ∷ (unsigned_text memory ++ expression_text offset)) ++ frame_text bytes ≡ active_text memory offset bytes
@@ -242,3 +245,23 @@ other_appended memory offset bytes old middle new other e a =
     let index : AppendsShortest (such (λ n. 0 < n) u32) memory flagged_end middle = record { text = number.text; appended = number.appended; spelled = λ s h. (number.spelled s h.0, some) } in
     let inside = pair_appended (such (λ n. 0 < n) u32) (pair expression (vec byte)) index a in
     flagged (active memory offset bytes) 2 old flagged_end new (not_first memory offset bytes some) refl (mapped_appended in_memory (pair (such (λ n. 0 < n) u32) (pair expression (vec byte))) (memory, (offset, bytes)) flagged_end new (λ p k. ap active_parts k) inside)
+
+-- ---- parts that have encodings
+
+pub offset_encoded : (offset : List Plain) (bytes : List ℕ) → HasEncoding (pair expression (vec byte)) (offset, bytes) → HasEncoding expression offset
+offset_encoded offset bytes h = left_encoded expression (vec byte) offset bytes h
+
+pub bytes_fit : (offset : List Plain) (bytes : List ℕ) → HasEncoding (pair expression (vec byte)) (offset, bytes) → FrameFits bytes
+bytes_fit offset bytes h = counted_fits byte bytes (right_encoded expression (vec byte) offset bytes h)
+
+behind_flag : (x : DataItem) (n : ℕ) → flag_of x ≡ n → HasEncoding data_item x → HasEncoding (after_flag n) x
+behind_flag x n e h = tagged_encoded u32 after_flag n x (λ s z k. flag_tells wide z s x k ∙ e) h
+
+pub passive_fits : (bytes : List ℕ) → HasEncoding data_item (passive bytes) → FrameFits bytes
+passive_fits bytes h = counted_fits byte bytes (mapped_encoded passive (vec byte) bytes (λ z k. cc k) (behind_flag (passive bytes) 1 refl h))
+
+pub placed_encoded : (memory : ℕ) (offset : List Plain) (bytes : List ℕ) → HasEncoding data_item (active memory offset bytes) → HasEncoding (pair expression (vec byte)) (offset, bytes)
+placed_encoded zero offset bytes h = mapped_encoded in_first (pair expression (vec byte)) (offset, bytes) (λ p k. ap (λ x. (active_parts x).1) k) (behind_flag (active 0 offset bytes) 0 refl h)
+placed_encoded (suc n) offset bytes h =
+    right_encoded (such (λ n. 0 < n) u32) (pair expression (vec byte)) (suc n) (offset, bytes)
+    (mapped_encoded in_memory (pair (such (λ n. 0 < n) u32) (pair expression (vec byte))) (suc n, (offset, bytes)) (λ p k. ap active_parts k) (behind_flag (active (suc n) offset bytes) 2 refl h))

@@ -38,7 +38,8 @@ use Rattle.wasm_sections.proofs.Prefixes.{prefixed_reads, prefixed_nothing, pref
 use Rattle.wasm_base.specs.declared.types.AbstractHeapType.TheVariants as kinds
 use Rattle.wasm_base.proofs.SectionLaws.{SectionLaws, counted_laws_wide}
 use Rattle.wasm_sections.proofs.ConstantLaws.{stored_wider}
-use Rattle.wasm_reader_base.specs.Shortest.{AppendsShortest}
+use Rattle.wasm_reader_base.specs.Shortest.{AppendsShortest, HasEncoding}
+use Rattle.wasm_reader_base.proofs.Encodings.{left_encoded, right_encoded, prefixed_encoded, tagged_encoded, mapped_encoded}
 use Rattle.wasm_reader_base.proofs.ReadPlain.{fitting_appended, u32_appended, ref_is}
 use Rattle.wasm_reader_base.proofs.ShortTexts.{text_appended, nothing_appended, pair_appended, prefixed_appended, tagged_appended, mapped_appended}
 
@@ -471,3 +472,30 @@ expressions_told_appended told r es old middle new e is a =
 pub expressions_untold_appended : (told : Bool) (r : RefType) (es : List (List Plain)) (old new : List ℕ) → told ≡ false → AppendsShortest (vec expression) es old new → AppendsShortest (elements_as told true) (expressions r es) old new
 expressions_untold_appended told r es old new e a =
     subst (λ t. AppendsShortest (elements_as t true) (expressions r es) old new) (sym e) (typed false r es old old new (nothing_appended (fixed [] FUNCREF) r old (λ s h. (refl, h.1))) a)
+
+-- ---- parts that have encodings
+
+parts_encoded : (x : ElementItem (List Plain)) → HasEncoding element x → HasEncoding (pair (place (flag_of x)) (elements_as (tells_kind (flag_of x)) (are_expressions x.elements))) (x.place, x.elements)
+parts_encoded x h =
+    let f = flag_of x in
+    mapped_encoded segment_of (pair (place f) (elements_as (tells_kind f) f.expressions)) (x.place, x.elements) (λ z k. ap (λ s. (s.place, s.elements)) k)
+    (tagged_encoded (numbered flag_code) after_flag f x (λ s z k. flag_told wide z s x k) h)
+
+pub place_encoded : (x : ElementItem (List Plain)) → HasEncoding element x → HasEncoding (place (flag_of x)) x.place
+place_encoded x h = left_encoded (place (flag_of x)) (elements_as (tells_kind (flag_of x)) (are_expressions x.elements)) x.place x.elements (parts_encoded x h)
+
+pub elements_encoded : (x : ElementItem (List Plain)) → HasEncoding element x → HasEncoding (elements_as (tells_kind (flag_of x)) (are_expressions x.elements)) x.elements
+elements_encoded x h = right_encoded (place (flag_of x)) (elements_as (tells_kind (flag_of x)) (are_expressions x.elements)) x.place x.elements (parts_encoded x h)
+
+pub offset_encoded : (table : Option ℕ) (offset : List Plain) → HasEncoding (place (in_any (is_given table))) (active table offset) → HasEncoding expression offset
+offset_encoded None offset h = mapped_encoded in_no_table expression offset (λ z k. ap (λ p. (table_parts p).1) k) h
+offset_encoded (Some table) offset h = right_encoded u32 expression table offset (mapped_encoded in_table (pair u32 expression) (table, offset) (λ z k. ap table_parts k) h)
+
+pub functions_encoded : (told : Bool) (fs : List ℕ) → HasEncoding (elements_as told false) (functions fs) → HasEncoding (vec u32) (map (λ n. n) fs)
+functions_encoded told fs h =
+    subst (λ z. HasEncoding (vec u32) z) (sym (map-id fs)) (prefixed_encoded (cond told (0x00 ∷ []) []) (vec u32) fs (mapped_encoded functions (prefixed (cond told (0x00 ∷ []) []) (vec u32)) fs (λ z k. cc k) h))
+
+pub expressions_encoded : (told : Bool) (r : RefType) (es : List (List Plain)) → HasEncoding (elements_as told true) (expressions r es) → HasEncoding (vec expression) es
+expressions_encoded told r es h =
+    right_encoded (when told ref_type (fixed [] FUNCREF)) (vec expression) r es
+    (mapped_encoded list_of (pair (when told ref_type (fixed [] FUNCREF)) (vec expression)) (r, es) (λ z k. ap list_parts k) h)

@@ -25,7 +25,8 @@ use Rattle.wasm_base.proofs.SectionLaws.{SectionLaws, counted_laws_wide}
 use Rattle.wasm_sections.proofs.ConstantLaws.{stored_wider}
 use Rattle.wasm_reader_base.proofs.ReadPlain.{val_type_is, fitting_appended}
 use Rattle.wasm_reader_base.proofs.ShortTexts.{pair_appended, mapped_appended}
-use Rattle.wasm_reader_base.specs.Shortest.{AppendsShortest}
+use Rattle.wasm_reader_base.specs.Shortest.{AppendsShortest, HasEncoding}
+use Rattle.wasm_reader_base.proofs.Encodings.{right_encoded, mapped_encoded}
 
 decode : ℕ → GlobalFlags
 decode n = record { mutable = bit 0 n; shared = bit 1 n }
@@ -115,3 +116,7 @@ pub global_appended : (g : GlobalType) (init : List Plain) (old middle new : Lis
 global_appended g init old middle new e a =
     let first = fitting_appended global_type IsGlobal global_text g old middle (record { spelled = global_spelled }) global_is e in
     mapped_appended global_from (pair global_type expression) (g, init) old new (λ z k. ap (λ i. (i.global_type, i.init)) k) (pair_appended global_type expression first a)
+
+pub init_encoded : (g : GlobalType) (init : List Plain) → HasEncoding global_item (global_from (g, init)) → HasEncoding expression init
+init_encoded g init h =
+    right_encoded global_type expression g init (mapped_encoded global_from (pair global_type expression) (g, init) (λ z k. ap (λ i. (i.global_type, i.init)) k) h)

@@ -34,7 +34,8 @@ use Rattle.wasm_sections.specs.declared.tag.TagType.{TagType}
 use Rattle.wasm_sections.proofs.Prefixes.{prefixed_reads, prefixed_nothing}
 use Rattle.wasm_base.proofs.SectionLaws.{SectionLaws, counted_laws}
 use Rattle.std.specs.List.{All}
-use Rattle.wasm_reader_base.specs.Shortest.{AppendsShortest}
+use Rattle.wasm_reader_base.specs.Shortest.{AppendsShortest, HasEncoding}
+use Rattle.wasm_reader_base.proofs.ReadPlain.{vec_is}
 use Rattle.wasm_reader_base.proofs.ShortTexts.{text_appended}
 
 -- ---- entities
@@ -422,3 +423,25 @@ import_short i fits s h =
 
 pub import_appended : (i : ImportItem) (old new : List ℕ) → ImportFits i → new ≡ old ++ import_text i → AppendsShortest import_format i old new
 import_appended i old new fits e = text_appended import_format i (import_text i) old new (import_short i fits) e
+
+-- ---- names and counts of what has an encoding
+
+name_fitting : AllValues FrameFits name
+name_fitting mode s n h = omega (arith, ap length h.0.spelled, h.0.size.range)
+
+group_fitting : AllValues ImportedFits group
+group_fitting =
+    values_tagged ImportedFits group_tags (
+      λ mode s x h. subst ImportedFits h.1 (vec_is (λ i. FrameFits i.0) (pair name entity) (λ mode s i k. name_fitting mode k.front i.0 k.first) mode s h.0 h.2),
+      (λ mode s x h. subst ImportedFits h.1 (vec_is FrameFits name name_fitting mode h.2.back h.0.1 h.2.second), tt),
+    )
+
+imported_fitting : AllValues ImportedFits after_module
+imported_fitting =
+    values_one_of ImportedFits (λ mode s x h. subst ImportedFits (h.2.second.1 ∙ h.1) (name_fitting mode h.2.front h.0.0 h.2.first)) (λ mode s x h. subst ImportedFits h.1 (group_fitting mode h.2.back h.0.1 h.2.second))
+
+import_fitting : AllValues ImportFits import_format
+import_fitting mode s i h = subst ImportFits h.1 (name_fitting mode h.2.front h.0.0 h.2.first, imported_fitting mode h.2.back h.0.1 h.2.second)
+
+pub import_fits : (i : ImportItem) → HasEncoding import_format i → ImportFits i
+import_fits i h = import_fitting wide h.bytes i h.decoded

@@ -28,7 +28,8 @@ use Rattle.wasm_sections.proofs.ConstantLaws.{stored_wider}
 use Rattle.wasm_sections.proofs.ReadLimits.{optional_is, u64_is}
 use Rattle.wasm_reader_base.proofs.ReadPlain.{ref_is, fitting_appended}
 use Rattle.wasm_reader_base.proofs.ShortTexts.{pair_appended, prefixed_appended, mapped_appended}
-use Rattle.wasm_reader_base.specs.Shortest.{AppendsShortest}
+use Rattle.wasm_reader_base.specs.Shortest.{AppendsShortest, HasEncoding}
+use Rattle.wasm_reader_base.proofs.Encodings.{right_encoded, prefixed_encoded, mapped_encoded}
 
 abbrev limits_flags : Limits → Flags
 limits_flags l = record { has_maximum = is_given l.maximum; shared = l.shared; is_64 = l.table64; has_page_size = false }
@@ -217,3 +218,13 @@ table_init_appended t init old front middle new b e a =
     spelled : (is : AppendsShortest (mapped with_init (prefixed before_init (pair table_type expression))) (with_init (t, init)) old new) (s : List ℕ) → table_item wide s (with_init (t, init)) → table_item shortest is.text (with_init (t, init))
     spelled is s (inl h) = absurd (cc (ap (λ i. i.init) h.1))
     spelled is s (inr h) = inr (is.spelled s h)
+
+pub init_encoded : (t : TableType) (init : List Plain) → HasEncoding table_item (with_init (t, init)) → HasEncoding expression init
+init_encoded t init h = go h.bytes h.decoded
+  where
+    go : (s : List ℕ) → table_item wide s (with_init (t, init)) → HasEncoding expression init
+    go s (inl k) = absurd (cc (ap (λ i. i.init) k.1))
+    go s (inr k) =
+        right_encoded table_type expression t init
+        (prefixed_encoded before_init (pair table_type expression) (t, init)
+        (mapped_encoded with_init (prefixed before_init (pair table_type expression)) (t, init) (λ z e. ap (λ i. (i.table_type, first_value i.init)) e) (record { bytes = s; decoded = k })))

@@ -1,5 +1,5 @@
 // Data segments and the data section.
-ghost use Rattle.std.specs.Prelude.{◌≡◌, ◌≢◌, ℕ, List, ◌++◌, IfOk, ⊤, IfErr, OnOk, map};
+ghost use Rattle.std.specs.Prelude.{◌≡◌, ◌≢◌, ℕ, List, ◌++◌, IfOk, ⊤, IfErr, Err, OnOk, map};
 ghost use Rattle.wasm_base.specs.Calls.{Adds};
 ghost use Rattle.wasm_base.specs.Formats.{byte, pair, vec};
 ghost use Rattle.wasm_base.specs.Going.{FillsNothing};
@@ -9,7 +9,7 @@ ghost use Rattle.wasm_base.specs.Reading.{UniqueReading};
 ghost use Rattle.wasm_base.specs.Texts.{frame_text};
 ghost use Rattle.wasm_base.specs.declared.refused.Refused.TheVariants.{TooLong};
 ghost use Rattle.wasm_code.specs.Expressions.{expression};
-ghost use Rattle.wasm_reader_base.specs.Shortest.{AppendsShortest};
+ghost use Rattle.wasm_reader_base.specs.Shortest.{AppendsShortest, IsFrontOf, HasEncoding};
 ghost use Rattle.wasm_reader_base.specs.declared.fault.ReadFault.TheVariants.{Memory};
 ghost use Rattle.wasm_sections.specs.Constants.{instructions_view};
 ghost use Rattle.wasm_sections.specs.DataSegments.{data_items, DataItem, active, data_item, segment_view};
@@ -312,15 +312,17 @@ pub fn read_segments<'a, A: Allocator + Copy + 'a>(
 }
 
 /// Appends the place and the bytes of a segment.
-#[tactic(auto, using(crate::proofs::DataLaws::placed_appended))]
+#[tactic(auto, using(crate::proofs::DataLaws::placed_appended, crate::proofs::DataLaws::offset_encoded, crate::proofs::DataLaws::bytes_fit))]
 fn append_placed<A: Allocator, B: Allocator>(
     offset: &Expression<A>,
     bytes: &[u8],
     out: &mut Vec<u8, B>,
 ) -> R<()>
-    ensures { OnOk result (AppendsShortest (pair expression (vec byte)) (instructions_view offset.now, bytes.now) out.old.items out.new.items) }
+    ensures ok { OnOk result (AppendsShortest (pair expression (vec byte)) (instructions_view offset.now, bytes.now) out.old.items out.new.items) }
+    ensures front { IsFrontOf out.old.items out.new.items }
+    ensures too_long { HasEncoding (pair expression (vec byte)) (instructions_view offset.now, bytes.now) → result ≢ Err TooLong }
 {
-    offset.append_shortest(out)?;
+    offset.write_minimal(out)?;
     encode_frame(out, bytes)
 }
 
@@ -332,7 +334,9 @@ fn append_active<A: Allocator, B: Allocator>(
     bytes: &[u8],
     out: &mut Vec<u8, B>,
 ) -> R<()>
-    ensures { OnOk result (AppendsShortest data_item (active memory (instructions_view offset.now) bytes.now) out.old.items out.new.items) }
+    ensures ok { OnOk result (AppendsShortest data_item (active memory (instructions_view offset.now) bytes.now) out.old.items out.new.items) }
+    ensures front { IsFrontOf out.old.items out.new.items }
+    ensures too_long { HasEncoding data_item (active memory (instructions_view offset.now) bytes.now) → result ≢ Err TooLong }
 {
     if memory == 0 {
         0u32.encode(out)?;
@@ -343,8 +347,8 @@ fn append_active<A: Allocator, B: Allocator>(
 }
 
 impl<'a, A: Allocator> Shorten for Segment<'a, A> {
-    #[tactic(auto, using(crate::proofs::DataLaws::passive_appended))]
-    fn append_shortest<B: Allocator>(&self, out: &mut Vec<u8, B>) -> R<()> {
+    #[tactic(auto, using(crate::proofs::DataLaws::passive_appended, crate::proofs::DataLaws::passive_fits))]
+    fn write_minimal<B: Allocator>(&self, out: &mut Vec<u8, B>) -> R<()> {
         match self {
             Segment::Active {
                 memory,

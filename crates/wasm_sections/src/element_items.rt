@@ -1,10 +1,11 @@
 // Element segments that were read.
-ghost use Rattle.std.specs.Prelude.{◌≡◌, true, false, ◌≢◌, List, IfOk, IfErr, OnOk, map};
+ghost use Rattle.std.specs.Prelude.{◌≡◌, true, false, ◌≢◌, List, IfOk, IfErr, Err, OnOk, map};
 ghost use Rattle.wasm_base.specs.Formats.{is_given, numbered};
 ghost use Rattle.wasm_base.specs.Numbers.{wide};
 ghost use Rattle.wasm_base.specs.Reading.{Reads, ReadsNothing};
 ghost use Rattle.wasm_insn.specs.Plain.{Plain};
-ghost use Rattle.wasm_reader_base.specs.Shortest.{AppendsShortest};
+ghost use Rattle.wasm_base.specs.declared.refused.Refused.TheVariants.{TooLong};
+ghost use Rattle.wasm_reader_base.specs.Shortest.{AppendsShortest, IsFrontOf, HasEncoding};
 ghost use Rattle.wasm_reader_base.specs.declared.fault.ReadFault.TheVariants.{Memory};
 ghost use Rattle.wasm_sections.specs.Constants.{instructions_view};
 ghost use Rattle.wasm_sections.specs.Elements.{ElementItem, ElementFlag as FlagModel, flag_code, flag_of, active, functions, expressions, are_expressions, tells_kind, place, elements_as, element, element_flag_view, place_view, list_view, element_view, Place, ElementList as ListModel};
@@ -214,51 +215,59 @@ impl<'a, A: Allocator + Copy> Readable<'a, A> for ElementItem<A> {
 }
 
 /// Appends the indices of functions, behind the byte of their kind where that is told.
+#[tactic(auto, using(crate::proofs::ElementLaws::functions_encoded))]
 fn append_functions<A: Allocator, B: Allocator>(
     told: bool,
     indices: &Vec<u32, A>,
     out: &mut Vec<u8, B>,
 ) -> R<()>
-    ensures { OnOk result (AppendsShortest (elements_as told false) (functions indices.now.items) out.old.items out.new.items) }
+    ensures ok { OnOk result (AppendsShortest (elements_as told false) (functions indices.now.items) out.old.items out.new.items) }
+    ensures front { IsFrontOf out.old.items out.new.items }
+    ensures too_long { HasEncoding (elements_as told false) (functions indices.now.items) → result ≢ Err TooLong }
 {
     if told {
         0x00u8.encode(out)?;
-        return indices.append_shortest(out);
+        return indices.write_minimal(out);
     }
-    indices.append_shortest(out)
+    indices.write_minimal(out)
 }
 
 /// Appends expressions, behind their type where that is told.
+#[tactic(auto, using(crate::proofs::ElementLaws::expressions_encoded))]
 fn append_expressions<A: Allocator, B: Allocator>(
     told: bool,
     ty: RefType,
     elements: &Vec<Expression<A>, A>,
     out: &mut Vec<u8, B>,
 ) -> R<()>
-    ensures { OnOk result (AppendsShortest (elements_as told true) (expressions ty (map instructions_view elements.now.items)) out.old.items out.new.items) }
+    ensures ok { OnOk result (AppendsShortest (elements_as told true) (expressions ty (map instructions_view elements.now.items)) out.old.items out.new.items) }
+    ensures front { IsFrontOf out.old.items out.new.items }
+    ensures too_long { HasEncoding (elements_as told true) (expressions ty (map instructions_view elements.now.items)) → result ≢ Err TooLong }
 {
     if told {
         ty.encode(out)?;
-        return elements.append_shortest(out);
+        return elements.write_minimal(out);
     }
-    elements.append_shortest(out)
+    elements.write_minimal(out)
 }
 
 /// Appends the table that is named, and the place of the first element.
-#[tactic(auto, using(crate::proofs::ElementLaws::in_table_appended, crate::proofs::ElementLaws::no_table_appended))]
+#[tactic(auto, using(crate::proofs::ElementLaws::in_table_appended, crate::proofs::ElementLaws::no_table_appended, crate::proofs::ElementLaws::offset_encoded))]
 fn append_active<A: Allocator, B: Allocator>(
     table: Option<u32>,
     offset: &Expression<A>,
     out: &mut Vec<u8, B>,
 ) -> R<()>
-    ensures { OnOk result (AppendsShortest (place (record { not_active = false; second = is_given table; expressions = false })) (active table (instructions_view offset.now)) out.old.items out.new.items) }
+    ensures ok { OnOk result (AppendsShortest (place (record { not_active = false; second = is_given table; expressions = false })) (active table (instructions_view offset.now)) out.old.items out.new.items) }
+    ensures front { IsFrontOf out.old.items out.new.items }
+    ensures too_long { HasEncoding (place (record { not_active = false; second = is_given table; expressions = false })) (active table (instructions_view offset.now)) → result ≢ Err TooLong }
 {
     match table {
         Some(table) => {
             table.encode(out)?;
-            offset.append_shortest(out)
+            offset.write_minimal(out)
         }
-        None => offset.append_shortest(out),
+        None => offset.write_minimal(out),
     }
 }
 
@@ -284,7 +293,9 @@ impl<A: Allocator> ElementItem<A> {
     /// Appends where the elements go.
     #[tactic(auto, using(crate::proofs::ElementLaws::passive_appended, crate::proofs::ElementLaws::declared_appended))]
     fn append_place<B: Allocator>(&self, out: &mut Vec<u8, B>) -> R<()>
-        ensures { OnOk result (AppendsShortest (place (flag_of (element_view self.now))) (place_view self.now.mode) out.old.items out.new.items) }
+        ensures ok { OnOk result (AppendsShortest (place (flag_of (element_view self.now))) (place_view self.now.mode) out.old.items out.new.items) }
+        ensures front { IsFrontOf out.old.items out.new.items }
+        ensures too_long { HasEncoding (place (flag_of (element_view self.now))) (place_view self.now.mode) → result ≢ Err TooLong }
     {
         match &self.mode {
             ElementItemMode::Passive => Ok(()),
@@ -300,7 +311,9 @@ fn append_elements<A: Allocator, B: Allocator>(
     elements: &ElementList<A>,
     out: &mut Vec<u8, B>,
 ) -> R<()>
-    ensures { OnOk result (AppendsShortest (elements_as told (are_expressions (list_view elements.now))) (list_view elements.now) out.old.items out.new.items) }
+    ensures ok { OnOk result (AppendsShortest (elements_as told (are_expressions (list_view elements.now))) (list_view elements.now) out.old.items out.new.items) }
+    ensures front { IsFrontOf out.old.items out.new.items }
+    ensures too_long { HasEncoding (elements_as told (are_expressions (list_view elements.now))) (list_view elements.now) → result ≢ Err TooLong }
 {
     match elements {
         ElementList::Functions(indices) => append_functions(told, indices, out),
@@ -309,7 +322,8 @@ fn append_elements<A: Allocator, B: Allocator>(
 }
 
 impl<A: Allocator> Shorten for ElementItem<A> {
-    fn append_shortest<B: Allocator>(&self, out: &mut Vec<u8, B>) -> R<()> {
+    #[tactic(auto, using(crate::proofs::ElementLaws::place_encoded, crate::proofs::ElementLaws::elements_encoded))]
+    fn write_minimal<B: Allocator>(&self, out: &mut Vec<u8, B>) -> R<()> {
         let flag = self.flag();
         flag.code().encode(out)?;
         self.append_place(out)?;

@@ -185,10 +185,10 @@ impl<'a, A: Allocator + Copy> Readable<'a, A> for GlobalItem<A> {
 }
 
 impl<A: Allocator> Shorten for GlobalItem<A> {
-    #[tactic(auto, using(crate::proofs::GlobalLaws::global_appended))]
-    fn append_shortest<B: Allocator>(&self, out: &mut Vec<u8, B>) -> R<()> {
+    #[tactic(auto, using(crate::proofs::GlobalLaws::global_appended, crate::proofs::GlobalLaws::init_encoded))]
+    fn write_minimal<B: Allocator>(&self, out: &mut Vec<u8, B>) -> R<()> {
         self.global_type.encode(out)?;
-        self.init.append_shortest(out)
+        self.init.write_minimal(out)
     }
 }
 

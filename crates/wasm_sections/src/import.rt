@@ -1,5 +1,5 @@
 // Imports and the import section.
-ghost use Rattle.std.specs.Prelude.{◌≡◌, ◌≢◌, ◌++◌, IfOk, ⊤, ◌≤◌, ◌∷◌, [], List, ℕ, IfErr, MatchOption, OnOk, map};
+ghost use Rattle.std.specs.Prelude.{◌≡◌, ◌≢◌, ◌++◌, IfOk, ⊤, ◌≤◌, ◌∷◌, [], List, ℕ, IfErr, MatchOption, Err, OnOk, OnErr, map};
 ghost use Rattle.wasm_base.specs.Calls.{Adds};
 ghost use Rattle.wasm_base.specs.Formats.{name, pair, prefixed, vec};
 ghost use Rattle.wasm_base.specs.Going.{FillsNothing};
@@ -7,7 +7,7 @@ ghost use Rattle.wasm_base.specs.Numbers.{wide};
 ghost use Rattle.wasm_base.specs.Reading.{UniqueReading, ReadsNothing};
 ghost use Rattle.wasm_base.specs.Texts.{frame_text, FrameFits};
 ghost use Rattle.wasm_base.specs.declared.refused.Refused.TheVariants.{TooLong};
-ghost use Rattle.wasm_reader_base.specs.Shortest.{AppendsShortest};
+ghost use Rattle.wasm_reader_base.specs.Shortest.{AppendsShortest, IsFrontOf, HasEncoding};
 ghost use Rattle.wasm_reader_base.specs.declared.fault.ReadFault.TheVariants.{Memory};
 ghost use Rattle.wasm_sections.specs.Imports.{import_items, entity_text, ImportItem, import_text, ImportFits, IsImport, import_format, named_text, import_item, compact_item, imports_item, entity, group};
 ghost use Rattle.wasm_sections.specs.declared.import.EntityType.{EntityType as EntityModel};
@@ -370,19 +370,38 @@ pub fn read_imports<'a, A: Allocator + Copy + 'a>(
     read_whole::<'a, Vec<Imports<'a, A>, A>, A>(bytes, alloc)
 }
 
-/// Appends imports, and groups of them, behind their number.
+/// Writes what [`append_imports`] appends. After an error, a part of it may be behind the old bytes.
 #[tactic(auto, using(wasm_reader_base::proofs::ShortTexts::members_start))]
-pub fn append_imports<A: Allocator, B: Allocator>(
+fn write_imports<A: Allocator, B: Allocator>(
     imports: &[Imports<'_, A>],
     out: &mut Vec<u8, B>,
 ) -> R<()>
-    ensures { OnOk result (AppendsShortest (vec import_format) (map imports_item imports.now) out.old.items out.new.items) }
+    ensures ok { OnOk result (AppendsShortest (vec import_format) (map imports_item imports.now) out.old.items out.new.items) }
+    ensures front { IsFrontOf out.old.items out.new.items }
+    ensures too_long { HasEncoding (vec import_format) (map imports_item imports.now) → result ≢ Err TooLong }
 {
     imports.len().encode(out)?;
     for import in imports {
         import.encode(out)?;
     }
     Ok(())
+}
+
+/// Appends the minimal encoding of imports, and groups of them, after their number. On an error, the sink is as it was.
+pub fn append_imports<A: Allocator, B: Allocator>(
+    imports: &[Imports<'_, A>],
+    out: &mut Vec<u8, B>,
+) -> R<()>
+    ensures ok { OnOk result (AppendsShortest (vec import_format) (map imports_item imports.now) out.old.items out.new.items) }
+    ensures err { OnErr result (out.new.items ≡ out.old.items) }
+    ensures too_long { HasEncoding (vec import_format) (map imports_item imports.now) → result ≢ Err TooLong }
+{
+    let start = out.len();
+    let written = write_imports(imports, out);
+    if written.is_err() {
+        out.truncate(start);
+    }
+    written
 }
 
 /// An import or a group of imports, of which nothing is kept.

@@ -1,7 +1,7 @@
 //! What is promised of all lists of bytes, and not of a call: each function does nothing, and its clauses are the promise.
 //!
 //! `ItemLaws` says of a kind of items that they are read uniquely, and that the text of a plain record spells what it says.
-ghost use Rattle.std.specs.Prelude.{All, ◌∷◌, []};
+ghost use Rattle.std.specs.Prelude.{◌≡◌, All, ◌∷◌, []};
 ghost use Rattle.wasm_base.specs.Entries.{ItemLaws, counted_format};
 ghost use Rattle.wasm_base.specs.Formats.{u32 as u32_format, frame, vec};
 ghost use Rattle.wasm_base.specs.Modules.{ReadsPayloads, ReadsPayloadsWide};

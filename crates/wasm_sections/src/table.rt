@@ -232,14 +232,14 @@ impl<'a, A: Allocator + Copy> Readable<'a, A> for TableItem<A> {
 }
 
 impl<A: Allocator> Shorten for TableItem<A> {
-    #[tactic(auto, using(crate::proofs::TableLaws::table_appended, crate::proofs::TableLaws::table_init_appended))]
-    fn append_shortest<B: Allocator>(&self, out: &mut Vec<u8, B>) -> R<()> {
+    #[tactic(auto, using(crate::proofs::TableLaws::table_appended, crate::proofs::TableLaws::table_init_appended, crate::proofs::TableLaws::init_encoded))]
+    fn write_minimal<B: Allocator>(&self, out: &mut Vec<u8, B>) -> R<()> {
         let Some(init) = &self.init else {
             return self.table_type.encode(out);
         };
         BEFORE_INIT.encode(out)?;
         self.table_type.encode(out)?;
-        init.append_shortest(out)
+        init.write_minimal(out)
     }
 }
 

@@ -3,7 +3,8 @@ use Rattle.std.proofs.Common.{◌≡◌, ◌≢◌, ℕ, ◌^◌, ◌<◌, List,
 use Rattle.std.specs.List.{flat_map}
 use Rattle.std.proofs.lemmas.Int.{ints}
 use Rattle.std.proofs.lemmas.List.{length-map}
-use Rattle.std.proofs.lemmas.List.Elements.{All-nil}
+use Rattle.std.specs.List.{All}
+use Rattle.std.proofs.lemmas.List.Elements.{All-nil, All-cons, All-head, All-tail}
 use Rattle.wasm_base.specs.Numbers.{Mode, shortest, wide, unsigned_text}
 use Rattle.wasm_base.specs.Formats.{Format, u32, s33, byte, choice, impossible, mapped, pair, tagged, vec, when}
 use Rattle.wasm_base.specs.Laws.{FitsUnsigned}
@@ -16,11 +17,12 @@ use Rattle.wasm_base.specs.Calls.{Appends}
 use Rattle.wasm_base.specs.declared.refused.Refused.{Refused}
 use Rattle.std.specs.declared.vec.Vec.{Vec}
 use Rattle.std.specs.Prelude.{OnOk}
-use Rattle.wasm_reader_base.specs.Shortest.{AppendsShortest}
+use Rattle.wasm_reader_base.specs.Shortest.{AppendsShortest, HasEncoding}
 use Rattle.wasm_reader_base.proofs.ReadPlain.{val_type_is, vec_is}
 use Rattle.wasm_reader_base.proofs.ShortTexts.{records_appended}
-use Rattle.wasm_types.specs.RecTypes.{Shape, Composite, single, group, before_text, sub_text, type_text, IsStorage, IsField, IsShape, IsGivenIndex, IsComposite, IsSub, IsType, storage_tags, storage_val, storage_type, field_type, shape_tags, after_shape, with_index, given_index, no_index, after_descriptor, after_describes, composite_of, after_composite, composite_type, sub_tags, after_sub, alone_of, sub_type, after_type, type_item}
+use Rattle.wasm_types.specs.RecTypes.{Shape, func, array, structure, cont, Composite, single, group, before_text, sub_text, type_text, IsStorage, IsField, IsShape, IsGivenIndex, IsComposite, IsSub, IsType, storage_tags, storage_val, storage_type, field_type, shape_tags, after_shape, with_index, given_index, no_index, after_descriptor, after_describes, composite_of, after_composite, composite_type, sub_tags, after_sub, alone_of, sub_type, after_type, type_item}
 use Rattle.wasm_types.proofs.TypeLaws.{type_spelled}
+use Rattle.wasm_types.specs.Given.{ShapeFits, shape_in}
 use Rattle.wasm_types.specs.Items.{sub_view, entry_view, entry_text, SubItemFits, EntryFits}
 use Rattle.wasm_types.specs.declared.items.SubItem.{SubItem}
 use Rattle.wasm_types.specs.declared.items.TypeEntry.{TypeEntry}
@@ -164,3 +166,31 @@ pub each_appended : {A B : Type 0} (xs : List (TypeEntry A)) {old new : Vec ℕ 
     → OnOk result (AppendsShortest (vec type_item) (map entry_view xs) old.items new.items)
 each_appended xs {old = old} {new = new} {result = Ok u} a = types_appended EntryFits xs old.items new.items a.fitted a.ok
 each_appended xs {result = Err e} a = tt
+
+-- ---- counts of types that have an encoding
+
+shape_fits : (s : Shape) → IsShape s → ShapeFits s
+shape_fits (func ps rs) h = (record { count = h.0.count; members = λ k d l. tt }, record { count = h.1.count; members = λ k d l. tt })
+shape_fits (array field) h = tt
+shape_fits (structure fields) h = record { count = h.count; members = λ k d l. tt }
+shape_fits (cont index) h = tt
+
+sub_fits : {A : Type 0} (s : SubItem A) → IsSub (sub_view s) → SubItemFits s
+sub_fits s h = (record { count = h.supertypes.count; members = λ k d l. tt }, shape_fits (shape_in s.composite_type.inner) h.composite.shape)
+
+subs_fit : {A : Type 0} (xs : List (SubItem A)) → All IsSub (map sub_view xs) → All SubItemFits xs
+subs_fit [] h = All-nil SubItemFits
+subs_fit (x ∷ xs) h = All-cons SubItemFits x xs (sub_fits x (All-head IsSub (sub_view x) (map sub_view xs) h)) (subs_fit xs (All-tail IsSub (sub_view x) (map sub_view xs) h))
+
+entry_fits : {A : Type 0} (t : TypeEntry A) → IsType (entry_view t) → EntryFits t
+entry_fits (entries.Single s) h = sub_fits s h
+entry_fits (entries.Group v) h = record { count = omega (arith, h.count, length-map v.items sub_view); members = subs_fit v.items h.members }
+
+entries_fit : {A : Type 0} (xs : List (TypeEntry A)) → All IsType (map entry_view xs) → All EntryFits xs
+entries_fit [] h = All-nil EntryFits
+entries_fit (x ∷ xs) h = All-cons EntryFits x xs (entry_fits x (All-head IsType (entry_view x) (map entry_view xs) h)) (entries_fit xs (All-tail IsType (entry_view x) (map entry_view xs) h))
+
+pub types_fit : {A : Type 0} (xs : List (TypeEntry A)) → HasEncoding (vec type_item) (map entry_view xs) → VecFits EntryFits xs
+types_fit xs h =
+    let all = vec_is IsType type_item type_is wide h.bytes (map entry_view xs) h.decoded in
+    record { count = omega (arith, all.count, length-map xs entry_view); members = entries_fit xs all.members }

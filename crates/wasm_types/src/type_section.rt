@@ -1,5 +1,5 @@
 // The type section: built, read, and written in its fewest bytes.
-ghost use Rattle.std.specs.Prelude.{◌≡◌, ◌≢◌, ℕ, List, [], ◌∷◌, length, map, IfErr, IfOk, IsTrue, OnOk, ◌↔◌, slice_get, ⊤, pos};
+ghost use Rattle.std.specs.Prelude.{◌≡◌, ◌≢◌, ℕ, List, [], ◌∷◌, length, map, IfErr, IfOk, IsTrue, Err, OnOk, OnErr, ◌↔◌, slice_get, ⊤, pos};
 ghost use Rattle.std.specs.Option.{option_copied};
 ghost use Rattle.wasm_base.specs.Calls.{Adds, ReadsBackBoth};
 ghost use Rattle.wasm_base.specs.Entries.{HoldsWide, counted_format};
@@ -10,7 +10,7 @@ ghost use Rattle.wasm_base.specs.Numbers.{wide};
 ghost use Rattle.wasm_base.specs.Pieces.{section_text, SectionFits, IsOverlong};
 ghost use Rattle.wasm_base.specs.Texts.{VecFits};
 ghost use Rattle.wasm_base.specs.declared.refused.Refused.TheVariants.{TooLong};
-ghost use Rattle.wasm_reader_base.specs.Shortest.{AppendsShortest};
+ghost use Rattle.wasm_reader_base.specs.Shortest.{AppendsShortest, HasEncoding};
 ghost use Rattle.wasm_reader_base.specs.declared.fault.ReadFault.TheVariants.{Memory};
 ghost use Rattle.wasm_types.specs.Calls.{AddsListed, AddsTwoListed};
 ghost use Rattle.wasm_types.specs.Items.{entry_view};
@@ -251,13 +251,15 @@ pub fn read_types<'a, A: Allocator + Copy>(
     read_whole::<'a, Vec<TypeEntry<A>, A>, A>(bytes, alloc)
 }
 
-/// Appends the one shortest text of types that were read, behind their number.
+/// Appends the minimal encoding of types, after their number. On an error, the sink is as it was.
 #[tactic(auto, using(crate::proofs::ShortTypes::types_appended))]
 pub fn append_types<A: Allocator, B: Allocator>(
     types: &[TypeEntry<A>],
     out: &mut Vec<u8, B>,
 ) -> R<()>
-    ensures { OnOk result (AppendsShortest (vec type_item) (map entry_view types.now) out.old.items out.new.items) }
+    ensures ok { OnOk result (AppendsShortest (vec type_item) (map entry_view types.now) out.old.items out.new.items) }
+    ensures err { OnErr result (out.new.items ≡ out.old.items) }
+    ensures too_long { HasEncoding (vec type_item) (map entry_view types.now) → result ≢ Err TooLong }
 {
     types.encode(out)
 }

@@ -352,9 +352,9 @@ impl<A: Allocator> ItemsAs<(u32, Vec<u32, A>, Vec<u32, A>)> for InstanceItems {
     ) -> R<()> {
         let (index, memories, globals) = item;
         0x00u8.encode(out)?;
-        index.append_shortest(out)?;
-        memories.append_shortest(out)?;
-        globals.append_shortest(out)
+        index.write_minimal(out)?;
+        memories.write_minimal(out)?;
+        globals.write_minimal(out)
     }
 }
 
@@ -392,45 +392,68 @@ pub fn read_instances<'a, A: Allocator + Copy>(
 /// # Proved
 ///
 /// ```text
-/// ensures { OnOk result (AppendsShortest marked_name name.now out.old.items out.new.items) }
+/// ensures ok { OnOk result (AppendsShortest marked_name name.now out.old.items out.new.items) }
+/// ensures front { IsFrontOf out.old.items out.new.items }
+/// ensures too_long { HasEncoding marked_name name.now → result ≢ Err TooLong }
 /// ```
 pub(in crate::custom) fn append_marked<B: Sink>(name: &str, out: &mut B) -> R<()> {
     0x00u8.encode(out)?;
-    name.append_shortest(out)
+    name.write_minimal(out)
 }
 
-/// Appends the shortest text of what the section of this process holds, where some bytes are read as it. After a refusal a part of it may
-/// stand there.
+/// Writes what [`append_process`] appends. After an error, a part of it may be behind the old bytes.
 ///
 /// # Proved
 ///
 /// ```text
-/// ensures { OnOk result (AppendsShortest core_payload name.now out.old.items out.new.items) }
+/// ensures ok { OnOk result (AppendsShortest core_payload name.now out.old.items out.new.items) }
+/// ensures front { IsFrontOf out.old.items out.new.items }
+/// ensures too_long { HasEncoding core_payload name.now → result ≢ Err TooLong }
 /// ```
-pub fn append_process<B: Sink>(name: &str, out: &mut B) -> R<()> {
+fn write_process<B: Sink>(name: &str, out: &mut B) -> R<()> {
     "core".encode(out)?;
     append_marked(name, out)
 }
 
-/// Appends the shortest text of what a section of these modules holds, where some bytes are read as it. After a refusal a part of it may
-/// stand there.
+/// Appends the minimal encoding of the payload of the section of this process. On an error, the sink is as it was.
 ///
 /// # Proved
 ///
 /// ```text
-/// ensures { OnOk result (AppendsShortest modules_payload (map (λ n. n.now) names.now) out.old.items out.new.items) }
+/// ensures ok { OnOk result (AppendsShortest core_payload name.now out.old.items out.new.items) }
+/// ensures err { OnErr result (out.new.items ≡ out.old.items) }
+/// ensures too_long { HasEncoding core_payload name.now → result ≢ Err TooLong }
+/// ```
+pub fn append_process<B: Sink>(name: &str, out: &mut B) -> R<()> {
+    let start = out.len();
+    let written = write_process(name, out);
+    if written.is_err() {
+        out.truncate(start);
+    }
+    written
+}
+
+/// Appends the minimal encoding of the payload of a section of these modules. On an error, the sink is as it was.
+///
+/// # Proved
+///
+/// ```text
+/// ensures ok { OnOk result (AppendsShortest modules_payload (map (λ n. n.now) names.now) out.old.items out.new.items) }
+/// ensures err { OnErr result (out.new.items ≡ out.old.items) }
+/// ensures too_long { HasEncoding modules_payload (map (λ n. n.now) names.now) → result ≢ Err TooLong }
 /// ```
 pub fn append_modules<B: Sink>(names: &[&str], out: &mut B) -> R<()> {
     append_counted::<ModuleItems, &str, _>(names, out)
 }
 
-/// Appends the shortest text of what a section of these instances holds, where some bytes are read as it. After a refusal a part of it may
-/// stand there.
+/// Appends the minimal encoding of the payload of a section of these instances. On an error, the sink is as it was.
 ///
 /// # Proved
 ///
 /// ```text
-/// ensures { OnOk result (AppendsShortest instances_payload (map instance_view instances.now) out.old.items out.new.items) }
+/// ensures ok { OnOk result (AppendsShortest instances_payload (map instance_view instances.now) out.old.items out.new.items) }
+/// ensures err { OnErr result (out.new.items ≡ out.old.items) }
+/// ensures too_long { HasEncoding instances_payload (map instance_view instances.now) → result ≢ Err TooLong }
 /// ```
 pub fn append_instances<A: Allocator, B: Sink>(
     instances: &[(u32, Vec<u32, A>, Vec<u32, A>)],

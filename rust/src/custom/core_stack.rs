@@ -207,30 +207,53 @@ pub fn read_stack<'a, A: Allocator + Copy>(
 }
 
 impl<A: Allocator> Shorten for CoreFrame<A> {
-    fn append_shortest<B: Sink>(&self, out: &mut B) -> R<()> {
+    fn write_minimal<B: Sink>(&self, out: &mut B) -> R<()> {
         0x00u8.encode(out)?;
-        self.instanceidx.append_shortest(out)?;
-        self.funcidx.append_shortest(out)?;
-        self.codeoffset.append_shortest(out)?;
+        self.instanceidx.write_minimal(out)?;
+        self.funcidx.write_minimal(out)?;
+        self.codeoffset.write_minimal(out)?;
         self.locals.as_slice().encode(out)?;
         self.stack.as_slice().encode(out)
     }
 }
 
-/// Appends the shortest text of what the section of this stack holds, where some bytes are read as it. After a refusal a part of it may
-/// stand there.
+/// Writes what [`append_stack`] appends. After an error, a part of it may be behind the old bytes.
 ///
 /// # Proved
 ///
 /// ```text
-/// ensures { OnOk result (AppendsShortest stack_payload (thread.now, map stack_frame_view frames.now.items) out.old.items out.new.items) }
+/// ensures ok { OnOk result (AppendsShortest stack_payload (thread.now, map stack_frame_view frames.now.items) out.old.items out.new.items) }
+/// ensures front { IsFrontOf out.old.items out.new.items }
+/// ensures too_long { HasEncoding stack_payload (thread.now, map stack_frame_view frames.now.items) → result ≢ Err TooLong }
 /// ```
-pub fn append_stack<A: Allocator, B: Sink>(
+fn write_stack<A: Allocator, B: Sink>(
     thread: &str,
     frames: &Vec<CoreFrame<A>, A>,
     out: &mut B,
 ) -> R<()> {
     "corestack".encode(out)?;
     append_marked(thread, out)?;
-    frames.append_shortest(out)
+    frames.write_minimal(out)
+}
+
+/// Appends the minimal encoding of the payload of the section of this stack. On an error, the sink is as it was.
+///
+/// # Proved
+///
+/// ```text
+/// ensures ok { OnOk result (AppendsShortest stack_payload (thread.now, map stack_frame_view frames.now.items) out.old.items out.new.items) }
+/// ensures err { OnErr result (out.new.items ≡ out.old.items) }
+/// ensures too_long { HasEncoding stack_payload (thread.now, map stack_frame_view frames.now.items) → result ≢ Err TooLong }
+/// ```
+pub fn append_stack<A: Allocator, B: Sink>(
+    thread: &str,
+    frames: &Vec<CoreFrame<A>, A>,
+    out: &mut B,
+) -> R<()> {
+    let start = out.len();
+    let written = write_stack(thread, frames, out);
+    if written.is_err() {
+        out.truncate(start);
+    }
+    written
 }

@@ -36,7 +36,9 @@ pub(in crate::custom) trait ItemsAs<T>: CustomKind {
     /// # Proved
     ///
     /// ```text
-    /// ensures { OnOk result (AppendsShortest format (view item.now) out.old.items out.new.items) }
+    /// ensures ok { OnOk result (AppendsShortest format (view item.now) out.old.items out.new.items) }
+    /// ensures front { IsFrontOf out.old.items out.new.items }
+    /// ensures too_long { HasEncoding format (view item.now) → result ≢ Err TooLong }
     /// ```
     fn append_item<B: Sink>(item: &T, out: &mut B) -> R<()>;
 }
@@ -104,7 +106,9 @@ pub(in crate::custom) fn read_counted<'a, K: ReadsItems<'a, T, A>, T, A: Allocat
 /// # Proved
 ///
 /// ```text
-/// ensures { OnOk result (AppendsShortest (vec K.format) (map K.view items.now) out.old.items out.new.items) }
+/// ensures ok { OnOk result (AppendsShortest (vec K.format) (map K.view items.now) out.old.items out.new.items) }
+/// ensures front { IsFrontOf out.old.items out.new.items }
+/// ensures too_long { HasEncoding (vec K.format) (map K.view items.now) → result ≢ Err TooLong }
 /// ```
 fn append_items<K: ItemsAs<T>, T, B: Sink>(items: &[T], out: &mut B) -> R<()> {
     items.len().encode(out)?;
@@ -114,18 +118,37 @@ fn append_items<K: ItemsAs<T>, T, B: Sink>(items: &[T], out: &mut B) -> R<()> {
     Ok(())
 }
 
-/// Appends the shortest text of what a section of the kind holds of these items, where some bytes are read as it. After a refusal a part of
-/// it may stand there.
+/// Writes what [`append_counted`] appends. After an error, a part of it may be behind the old bytes.
 ///
 /// # Proved
 ///
 /// ```text
-/// ensures { OnOk result (AppendsShortest (counted_payload K.name K.format) (map K.view items.now) out.old.items out.new.items) }
+/// ensures ok { OnOk result (AppendsShortest (counted_payload K.name K.format) (map K.view items.now) out.old.items out.new.items) }
+/// ensures front { IsFrontOf out.old.items out.new.items }
+/// ensures too_long { HasEncoding (counted_payload K.name K.format) (map K.view items.now) → result ≢ Err TooLong }
+/// ```
+fn write_counted<K: ItemsAs<T>, T, B: Sink>(items: &[T], out: &mut B) -> R<()> {
+    K::name().encode(out)?;
+    append_items::<K, T, _>(items, out)
+}
+
+/// Appends the minimal encoding of the payload of a section of the kind, which has these items. On an error, the sink is as it was.
+///
+/// # Proved
+///
+/// ```text
+/// ensures ok { OnOk result (AppendsShortest (counted_payload K.name K.format) (map K.view items.now) out.old.items out.new.items) }
+/// ensures err { OnErr result (out.new.items ≡ out.old.items) }
+/// ensures too_long { HasEncoding (counted_payload K.name K.format) (map K.view items.now) → result ≢ Err TooLong }
 /// ```
 pub(in crate::custom) fn append_counted<K: ItemsAs<T>, T, B: Sink>(
     items: &[T],
     out: &mut B,
 ) -> R<()> {
-    K::name().encode(out)?;
-    append_items::<K, T, _>(items, out)
+    let start = out.len();
+    let written = write_counted::<K, T, _>(items, out);
+    if written.is_err() {
+        out.truncate(start);
+    }
+    written
 }

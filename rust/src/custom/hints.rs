@@ -177,7 +177,7 @@ impl<A: Allocator> ItemsAs<(u32, Vec<BranchHint, A>)> for HintItems {
 
     fn append_item<B: Sink>(item: &(u32, Vec<BranchHint, A>), out: &mut B) -> R<()> {
         let (func, of_branches) = item;
-        func.append_shortest(out)?;
+        func.write_minimal(out)?;
         of_branches.as_slice().encode(out)
     }
 }
@@ -206,13 +206,14 @@ pub fn read_hints<'a, A: Allocator + Copy>(
     read_counted::<'a, HintItems, (u32, Vec<BranchHint, A>), A>(bytes, alloc)
 }
 
-/// Appends the shortest text of what a section of these hints holds, where some bytes are read as it. After a refusal a part of it may
-/// stand there.
+/// Appends the minimal encoding of the payload of a section of these hints. On an error, the sink is as it was.
 ///
 /// # Proved
 ///
 /// ```text
-/// ensures { OnOk result (AppendsShortest hints_payload (map hints_view functions.now) out.old.items out.new.items) }
+/// ensures ok { OnOk result (AppendsShortest hints_payload (map hints_view functions.now) out.old.items out.new.items) }
+/// ensures err { OnErr result (out.new.items ≡ out.old.items) }
+/// ensures too_long { HasEncoding hints_payload (map hints_view functions.now) → result ≢ Err TooLong }
 /// ```
 pub fn append_hints<A: Allocator, B: Sink>(
     functions: &[(u32, Vec<BranchHint, A>)],

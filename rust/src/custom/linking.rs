@@ -175,35 +175,54 @@ pub fn read_links<'a, A: Allocator + Copy + 'a>(
 }
 
 impl<'a, A: Allocator> Shorten for LinkItem<'a, A> {
-    fn append_shortest<B: Sink>(&self, out: &mut B) -> R<()> {
+    fn write_minimal<B: Sink>(&self, out: &mut B) -> R<()> {
         match self {
             LinkItem::Symbols(symbols) => {
                 8u8.encode(out)?;
                 let start = out.len();
-                symbols.append_shortest(out)?;
+                symbols.write_minimal(out)?;
                 frame_since(out, start)
             }
             LinkItem::Arch(name) => {
                 9u8.encode(out)?;
-                Framed(*name).append_shortest(out)
+                Framed(*name).write_minimal(out)
             }
         }
     }
 }
 
-/// Appends the shortest text of what a linking section of these subsections holds, where some bytes are read as it. After a refusal a part of it may
-/// stand there.
+/// Writes what [`append_links`] appends. After an error, a part of it may be behind the old bytes.
 ///
 /// # Proved
 ///
 /// ```text
-/// ensures { OnOk result (AppendsShortest linking_payload (map link_view items.now) out.old.items out.new.items) }
+/// ensures ok { OnOk result (AppendsShortest linking_payload (map link_view items.now) out.old.items out.new.items) }
+/// ensures front { IsFrontOf out.old.items out.new.items }
+/// ensures too_long { HasEncoding linking_payload (map link_view items.now) → result ≢ Err TooLong }
+/// ```
+fn write_links<A: Allocator, B: Sink>(items: &[LinkItem<'_, A>], out: &mut B) -> R<()> {
+    "linking".encode(out)?;
+    VERSION.encode(out)?;
+    append_all(items, out)
+}
+
+/// Appends the minimal encoding of the payload of a linking section of these subsections. On an error, the sink is as it was.
+///
+/// # Proved
+///
+/// ```text
+/// ensures ok { OnOk result (AppendsShortest linking_payload (map link_view items.now) out.old.items out.new.items) }
+/// ensures err { OnErr result (out.new.items ≡ out.old.items) }
+/// ensures too_long { HasEncoding linking_payload (map link_view items.now) → result ≢ Err TooLong }
 /// ```
 pub fn append_links<A: Allocator, B: Sink>(
     items: &[LinkItem<'_, A>],
     out: &mut B,
 ) -> R<()> {
-    "linking".encode(out)?;
-    VERSION.encode(out)?;
-    append_all(items, out)
+    let start = out.len();
+    let written = write_links(items, out);
+    if written.is_err() {
+        out.truncate(start);
+    }
+    written
 }

@@ -504,13 +504,15 @@ impl<'a, A: Allocator> NameItem<'a, A> {
     /// # Proved
     ///
     /// ```text
-    /// ensures { OnOk result (AppendsShortest (inside (held_by (name_item_view self.now)) (id_of (name_item_view self.now))) (name_item_view self.now) out.old.items out.new.items) }
+    /// ensures ok { OnOk result (AppendsShortest (inside (held_by (name_item_view self.now)) (id_of (name_item_view self.now))) (name_item_view self.now) out.old.items out.new.items) }
+    /// ensures front { IsFrontOf out.old.items out.new.items }
+    /// ensures too_long { HasEncoding (inside (held_by (name_item_view self.now)) (id_of (name_item_view self.now))) (name_item_view self.now) → result ≢ Err TooLong }
     /// ```
     fn append_content<B: Sink>(&self, out: &mut B) -> R<()> {
         match self {
-            NameItem::Module(name) => name.append_shortest(out),
-            NameItem::Map { names, .. } => names.append_shortest(out),
-            NameItem::Indirect { maps, .. } => maps.append_shortest(out),
+            NameItem::Module(name) => name.write_minimal(out),
+            NameItem::Map { names, .. } => names.write_minimal(out),
+            NameItem::Indirect { maps, .. } => maps.write_minimal(out),
             NameItem::Other { bytes, .. } => {
                 out.extend_from_slice(bytes)?;
                 Ok(())
@@ -520,7 +522,7 @@ impl<'a, A: Allocator> NameItem<'a, A> {
 }
 
 impl<'a, A: Allocator> Shorten for NameItem<'a, A> {
-    fn append_shortest<B: Sink>(&self, out: &mut B) -> R<()> {
+    fn write_minimal<B: Sink>(&self, out: &mut B) -> R<()> {
         self.id().encode(out)?;
         let start = out.len();
         self.append_content(out)?;
@@ -528,18 +530,37 @@ impl<'a, A: Allocator> Shorten for NameItem<'a, A> {
     }
 }
 
-/// Appends the shortest text of what a name section of these subsections holds, where some bytes are read as it. After a refusal a part of it may
-/// stand there.
+/// Writes what [`append_names`] appends. After an error, a part of it may be behind the old bytes.
 ///
 /// # Proved
 ///
 /// ```text
-/// ensures { OnOk result (AppendsShortest name_payload (map name_item_view items.now) out.old.items out.new.items) }
+/// ensures ok { OnOk result (AppendsShortest name_payload (map name_item_view items.now) out.old.items out.new.items) }
+/// ensures front { IsFrontOf out.old.items out.new.items }
+/// ensures too_long { HasEncoding name_payload (map name_item_view items.now) → result ≢ Err TooLong }
+/// ```
+fn write_names<A: Allocator, B: Sink>(items: &[NameItem<'_, A>], out: &mut B) -> R<()> {
+    "name".encode(out)?;
+    append_all(items, out)
+}
+
+/// Appends the minimal encoding of the payload of a name section of these subsections. On an error, the sink is as it was.
+///
+/// # Proved
+///
+/// ```text
+/// ensures ok { OnOk result (AppendsShortest name_payload (map name_item_view items.now) out.old.items out.new.items) }
+/// ensures err { OnErr result (out.new.items ≡ out.old.items) }
+/// ensures too_long { HasEncoding name_payload (map name_item_view items.now) → result ≢ Err TooLong }
 /// ```
 pub fn append_names<A: Allocator, B: Sink>(
     items: &[NameItem<'_, A>],
     out: &mut B,
 ) -> R<()> {
-    "name".encode(out)?;
-    append_all(items, out)
+    let start = out.len();
+    let written = write_names(items, out);
+    if written.is_err() {
+        out.truncate(start);
+    }
+    written
 }

@@ -132,7 +132,7 @@ impl<'a, A: Allocator> ItemsAs<(&'a str, Vec<(&'a str, &'a str), A>)> for Produc
         item: &(&'a str, Vec<(&'a str, &'a str), A>),
         out: &mut B,
     ) -> R<()> {
-        item.append_shortest(out)
+        item.write_minimal(out)
     }
 }
 
@@ -161,13 +161,14 @@ pub fn read_producers<'a, A: Allocator + Copy + 'a>(
     read_counted::<'a, ProducerItems, (&'a str, Vec<(&'a str, &'a str), A>), A>(bytes, alloc)
 }
 
-/// Appends the shortest text of what a producers section of these fields holds, where some bytes are read as it. After a refusal a part of it may
-/// stand there.
+/// Appends the minimal encoding of the payload of a producers section of these fields. On an error, the sink is as it was.
 ///
 /// # Proved
 ///
 /// ```text
-/// ensures { OnOk result (AppendsShortest producers_payload (map field_view fields.now.items) out.old.items out.new.items) }
+/// ensures ok { OnOk result (AppendsShortest producers_payload (map field_view fields.now.items) out.old.items out.new.items) }
+/// ensures err { OnErr result (out.new.items ≡ out.old.items) }
+/// ensures too_long { HasEncoding producers_payload (map field_view fields.now.items) → result ≢ Err TooLong }
 /// ```
 pub fn append_producers<'a, A: Allocator, B: Sink>(
     fields: &Vec<(&'a str, Vec<(&'a str, &'a str), A>), A>,

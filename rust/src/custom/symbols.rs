@@ -400,11 +400,13 @@ impl<'a, A: Allocator + Copy> Readable<'a, A> for Symbol<'a> {
 /// # Proved
 ///
 /// ```text
-/// ensures { OnOk result (AppendsShortest (optional (flags_name flags) name_format) (option_map (λ n. n.now) name.entry) out.old.items out.new.items) }
+/// ensures ok { OnOk result (AppendsShortest (optional (flags_name flags) name_format) (option_map (λ n. n.now) name.entry) out.old.items out.new.items) }
+/// ensures front { IsFrontOf out.old.items out.new.items }
+/// ensures too_long { HasEncoding (optional (flags_name flags) name_format) (option_map (λ n. n.now) name.entry) → result ≢ Err TooLong }
 /// ```
 fn append_name<B: Sink>(flags: u32, name: Option<&str>, out: &mut B) -> R<()> {
     match name {
-        Some(name) => name.append_shortest(out),
+        Some(name) => name.write_minimal(out),
         None => Ok(()),
     }
 }
@@ -414,7 +416,9 @@ fn append_name<B: Sink>(flags: u32, name: Option<&str>, out: &mut B) -> R<()> {
 /// # Proved
 ///
 /// ```text
-/// ensures { OnOk result (AppendsShortest symbol (indexed kind flags index (option_map (λ n. n.now) name.entry)) out.old.items out.new.items) }
+/// ensures ok { OnOk result (AppendsShortest symbol (indexed kind flags index (option_map (λ n. n.now) name.entry)) out.old.items out.new.items) }
+/// ensures front { IsFrontOf out.old.items out.new.items }
+/// ensures too_long { HasEncoding symbol (indexed kind flags index (option_map (λ n. n.now) name.entry)) → result ≢ Err TooLong }
 /// ```
 fn append_indexed<B: Sink>(
     kind: SymbolKind,
@@ -424,8 +428,8 @@ fn append_indexed<B: Sink>(
     out: &mut B,
 ) -> R<()> {
     kind.encode(out)?;
-    flags.append_shortest(out)?;
-    index.append_shortest(out)?;
+    flags.write_minimal(out)?;
+    index.write_minimal(out)?;
     append_name(flags, name, out)
 }
 
@@ -434,7 +438,9 @@ fn append_indexed<B: Sink>(
 /// # Proved
 ///
 /// ```text
-/// ensures { OnOk result (AppendsShortest (optional (flags_definition flags) definition_format) definition out.old.items out.new.items) }
+/// ensures ok { OnOk result (AppendsShortest (optional (flags_definition flags) definition_format) definition out.old.items out.new.items) }
+/// ensures front { IsFrontOf out.old.items out.new.items }
+/// ensures too_long { HasEncoding (optional (flags_definition flags) definition_format) definition → result ≢ Err TooLong }
 /// ```
 fn append_definition<B: Sink>(
     flags: u32,
@@ -452,7 +458,9 @@ fn append_definition<B: Sink>(
 /// # Proved
 ///
 /// ```text
-/// ensures { OnOk result (AppendsShortest symbol (of_data flags name.now definition) out.old.items out.new.items) }
+/// ensures ok { OnOk result (AppendsShortest symbol (of_data flags name.now definition) out.old.items out.new.items) }
+/// ensures front { IsFrontOf out.old.items out.new.items }
+/// ensures too_long { HasEncoding symbol (of_data flags name.now definition) → result ≢ Err TooLong }
 /// ```
 fn append_data<B: Sink>(
     flags: u32,
@@ -461,13 +469,13 @@ fn append_data<B: Sink>(
     out: &mut B,
 ) -> R<()> {
     0x01u8.encode(out)?;
-    flags.append_shortest(out)?;
-    name.append_shortest(out)?;
+    flags.write_minimal(out)?;
+    name.write_minimal(out)?;
     append_definition(flags, definition, out)
 }
 
 impl<'a> Shorten for Symbol<'a> {
-    fn append_shortest<B: Sink>(&self, out: &mut B) -> R<()> {
+    fn write_minimal<B: Sink>(&self, out: &mut B) -> R<()> {
         match *self {
             Symbol::Function { flags, index, name } => {
                 append_indexed(SymbolKind::Function, flags, index, name, out)

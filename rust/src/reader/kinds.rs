@@ -333,17 +333,17 @@ pub(in crate::reader) fn append_content<A: Allocator, B: Sink>(
     out: &mut B,
 ) -> R<()> {
     match items {
-        Items::Bodies(items) => items.append_shortest(out),
-        Items::Segments(items) => items.append_shortest(out),
-        Items::DataCount(count) => count.append_shortest(out),
-        Items::Elements(items) => items.append_shortest(out),
+        Items::Bodies(items) => items.write_minimal(out),
+        Items::Segments(items) => items.write_minimal(out),
+        Items::DataCount(count) => count.write_minimal(out),
+        Items::Elements(items) => items.write_minimal(out),
         Items::Exports(items) => items.as_slice().encode(out),
-        Items::Functions(items) => items.append_shortest(out),
-        Items::Globals(items) => items.append_shortest(out),
+        Items::Functions(items) => items.write_minimal(out),
+        Items::Globals(items) => items.write_minimal(out),
         Items::Imports(items) => append_imports(&items, out),
         Items::Memories(items) => items.as_slice().encode(out),
-        Items::Start(index) => index.append_shortest(out),
-        Items::Tables(items) => items.append_shortest(out),
+        Items::Start(index) => index.write_minimal(out),
+        Items::Tables(items) => items.write_minimal(out),
         Items::Tags(items) => items.as_slice().encode(out),
         Items::Names(items) => append_names(&items, out),
         Items::Linking(items) => append_links(&items, out),
@@ -354,7 +354,7 @@ pub(in crate::reader) fn append_content<A: Allocator, B: Sink>(
         Items::CoreInstances(items) => append_instances(&items, out),
         Items::CoreStack { thread, frames } => append_stack(thread, &frames, out),
         Items::Custom { name, bytes } => {
-            name.append_shortest(out)?;
+            name.write_minimal(out)?;
             out.extend_from_slice(bytes)?;
             Ok(())
         }

@@ -22,7 +22,7 @@ fn shorten_bodies<A: Allocator + Copy>(
     out: &mut Vec<u8, A>,
 ) -> Result<(), ReadFault> {
     let (count, mut rest) = <u32 as Readable<'_, A>>::read(bytes, alloc)?;
-    count.append_shortest(out)?;
+    count.write_minimal(out)?;
     for _taken in 0..count {
         let (framed, after) = <&[u8] as Readable<'_, A>>::read(rest, alloc)?;
         shorten_body(framed, alloc, out)?;

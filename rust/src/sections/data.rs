@@ -368,14 +368,16 @@ pub fn read_segments<'a, A: Allocator + Copy + 'a>(
 /// # Proved
 ///
 /// ```text
-/// ensures { OnOk result (AppendsShortest (pair expression (vec byte)) (instructions_view offset.now, bytes.now) out.old.items out.new.items) }
+/// ensures ok { OnOk result (AppendsShortest (pair expression (vec byte)) (instructions_view offset.now, bytes.now) out.old.items out.new.items) }
+/// ensures front { IsFrontOf out.old.items out.new.items }
+/// ensures too_long { HasEncoding (pair expression (vec byte)) (instructions_view offset.now, bytes.now) → result ≢ Err TooLong }
 /// ```
 fn append_placed<A: Allocator, B: Sink>(
     offset: &Expression<A>,
     bytes: &[u8],
     out: &mut B,
 ) -> R<()> {
-    offset.append_shortest(out)?;
+    offset.write_minimal(out)?;
     encode_frame(out, bytes)
 }
 
@@ -384,7 +386,9 @@ fn append_placed<A: Allocator, B: Sink>(
 /// # Proved
 ///
 /// ```text
-/// ensures { OnOk result (AppendsShortest data_item (active memory (instructions_view offset.now) bytes.now) out.old.items out.new.items) }
+/// ensures ok { OnOk result (AppendsShortest data_item (active memory (instructions_view offset.now) bytes.now) out.old.items out.new.items) }
+/// ensures front { IsFrontOf out.old.items out.new.items }
+/// ensures too_long { HasEncoding data_item (active memory (instructions_view offset.now) bytes.now) → result ≢ Err TooLong }
 /// ```
 fn append_active<A: Allocator, B: Sink>(
     memory: u32,
@@ -401,7 +405,7 @@ fn append_active<A: Allocator, B: Sink>(
 }
 
 impl<'a, A: Allocator> Shorten for Segment<'a, A> {
-    fn append_shortest<B: Sink>(&self, out: &mut B) -> R<()> {
+    fn write_minimal<B: Sink>(&self, out: &mut B) -> R<()> {
         match self {
             Segment::Active {
                 memory,

@@ -229,7 +229,9 @@ impl<'a, A: Allocator + Copy> Readable<'a, A> for ElementItem<A> {
 /// # Proved
 ///
 /// ```text
-/// ensures { OnOk result (AppendsShortest (elements_as told false) (functions indices.now.items) out.old.items out.new.items) }
+/// ensures ok { OnOk result (AppendsShortest (elements_as told false) (functions indices.now.items) out.old.items out.new.items) }
+/// ensures front { IsFrontOf out.old.items out.new.items }
+/// ensures too_long { HasEncoding (elements_as told false) (functions indices.now.items) → result ≢ Err TooLong }
 /// ```
 fn append_functions<A: Allocator, B: Sink>(
     told: bool,
@@ -238,9 +240,9 @@ fn append_functions<A: Allocator, B: Sink>(
 ) -> R<()> {
     if told {
         0x00u8.encode(out)?;
-        return indices.append_shortest(out);
+        return indices.write_minimal(out);
     }
-    indices.append_shortest(out)
+    indices.write_minimal(out)
 }
 
 /// Appends expressions, behind their type where that is told.
@@ -248,7 +250,9 @@ fn append_functions<A: Allocator, B: Sink>(
 /// # Proved
 ///
 /// ```text
-/// ensures { OnOk result (AppendsShortest (elements_as told true) (expressions ty (map instructions_view elements.now.items)) out.old.items out.new.items) }
+/// ensures ok { OnOk result (AppendsShortest (elements_as told true) (expressions ty (map instructions_view elements.now.items)) out.old.items out.new.items) }
+/// ensures front { IsFrontOf out.old.items out.new.items }
+/// ensures too_long { HasEncoding (elements_as told true) (expressions ty (map instructions_view elements.now.items)) → result ≢ Err TooLong }
 /// ```
 fn append_expressions<A: Allocator, B: Sink>(
     told: bool,
@@ -258,9 +262,9 @@ fn append_expressions<A: Allocator, B: Sink>(
 ) -> R<()> {
     if told {
         ty.encode(out)?;
-        return elements.append_shortest(out);
+        return elements.write_minimal(out);
     }
-    elements.append_shortest(out)
+    elements.write_minimal(out)
 }
 
 /// Appends the table that is named, and the place of the first element.
@@ -268,7 +272,9 @@ fn append_expressions<A: Allocator, B: Sink>(
 /// # Proved
 ///
 /// ```text
-/// ensures { OnOk result (AppendsShortest (place (record { not_active = false; second = is_given table; expressions = false })) (active table (instructions_view offset.now)) out.old.items out.new.items) }
+/// ensures ok { OnOk result (AppendsShortest (place (record { not_active = false; second = is_given table; expressions = false })) (active table (instructions_view offset.now)) out.old.items out.new.items) }
+/// ensures front { IsFrontOf out.old.items out.new.items }
+/// ensures too_long { HasEncoding (place (record { not_active = false; second = is_given table; expressions = false })) (active table (instructions_view offset.now)) → result ≢ Err TooLong }
 /// ```
 fn append_active<A: Allocator, B: Sink>(
     table: Option<u32>,
@@ -278,9 +284,9 @@ fn append_active<A: Allocator, B: Sink>(
     match table {
         Some(table) => {
             table.encode(out)?;
-            offset.append_shortest(out)
+            offset.write_minimal(out)
         }
-        None => offset.append_shortest(out),
+        None => offset.write_minimal(out),
     }
 }
 
@@ -312,7 +318,9 @@ impl<A: Allocator> ElementItem<A> {
     /// # Proved
     ///
     /// ```text
-    /// ensures { OnOk result (AppendsShortest (place (flag_of (element_view self.now))) (place_view self.now.mode) out.old.items out.new.items) }
+    /// ensures ok { OnOk result (AppendsShortest (place (flag_of (element_view self.now))) (place_view self.now.mode) out.old.items out.new.items) }
+    /// ensures front { IsFrontOf out.old.items out.new.items }
+    /// ensures too_long { HasEncoding (place (flag_of (element_view self.now))) (place_view self.now.mode) → result ≢ Err TooLong }
     /// ```
     fn append_place<B: Sink>(&self, out: &mut B) -> R<()> {
         match &self.mode {
@@ -328,7 +336,9 @@ impl<A: Allocator> ElementItem<A> {
 /// # Proved
 ///
 /// ```text
-/// ensures { OnOk result (AppendsShortest (elements_as told (are_expressions (list_view elements.now))) (list_view elements.now) out.old.items out.new.items) }
+/// ensures ok { OnOk result (AppendsShortest (elements_as told (are_expressions (list_view elements.now))) (list_view elements.now) out.old.items out.new.items) }
+/// ensures front { IsFrontOf out.old.items out.new.items }
+/// ensures too_long { HasEncoding (elements_as told (are_expressions (list_view elements.now))) (list_view elements.now) → result ≢ Err TooLong }
 /// ```
 fn append_elements<A: Allocator, B: Sink>(
     told: bool,
@@ -342,7 +352,7 @@ fn append_elements<A: Allocator, B: Sink>(
 }
 
 impl<A: Allocator> Shorten for ElementItem<A> {
-    fn append_shortest<B: Sink>(&self, out: &mut B) -> R<()> {
+    fn write_minimal<B: Sink>(&self, out: &mut B) -> R<()> {
         let flag = self.flag();
         flag.code().encode(out)?;
         self.append_place(out)?;

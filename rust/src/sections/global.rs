@@ -200,9 +200,9 @@ impl<'a, A: Allocator + Copy> Readable<'a, A> for GlobalItem<A> {
 }
 
 impl<A: Allocator> Shorten for GlobalItem<A> {
-    fn append_shortest<B: Sink>(&self, out: &mut B) -> R<()> {
+    fn write_minimal<B: Sink>(&self, out: &mut B) -> R<()> {
         self.global_type.encode(out)?;
-        self.init.append_shortest(out)
+        self.init.write_minimal(out)
     }
 }
 

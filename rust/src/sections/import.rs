@@ -411,14 +411,16 @@ pub fn read_imports<'a, A: Allocator + Copy + 'a>(
     read_whole::<'a, Vec<Imports<'a, A>, A>, A>(bytes, alloc)
 }
 
-/// Appends imports, and groups of them, behind their number.
+/// Writes what [`append_imports`] appends. After an error, a part of it may be behind the old bytes.
 ///
 /// # Proved
 ///
 /// ```text
-/// ensures { OnOk result (AppendsShortest (vec import_format) (map imports_item imports.now) out.old.items out.new.items) }
+/// ensures ok { OnOk result (AppendsShortest (vec import_format) (map imports_item imports.now) out.old.items out.new.items) }
+/// ensures front { IsFrontOf out.old.items out.new.items }
+/// ensures too_long { HasEncoding (vec import_format) (map imports_item imports.now) → result ≢ Err TooLong }
 /// ```
-pub fn append_imports<A: Allocator, B: Sink>(
+fn write_imports<A: Allocator, B: Sink>(
     imports: &[Imports<'_, A>],
     out: &mut B,
 ) -> R<()> {
@@ -427,6 +429,27 @@ pub fn append_imports<A: Allocator, B: Sink>(
         import.encode(out)?;
     }
     Ok(())
+}
+
+/// Appends the minimal encoding of imports, and groups of them, after their number. On an error, the sink is as it was.
+///
+/// # Proved
+///
+/// ```text
+/// ensures ok { OnOk result (AppendsShortest (vec import_format) (map imports_item imports.now) out.old.items out.new.items) }
+/// ensures err { OnErr result (out.new.items ≡ out.old.items) }
+/// ensures too_long { HasEncoding (vec import_format) (map imports_item imports.now) → result ≢ Err TooLong }
+/// ```
+pub fn append_imports<A: Allocator, B: Sink>(
+    imports: &[Imports<'_, A>],
+    out: &mut B,
+) -> R<()> {
+    let start = out.len();
+    let written = write_imports(imports, out);
+    if written.is_err() {
+        out.truncate(start);
+    }
+    written
 }
 
 /// An import or a group of imports, of which nothing is kept.

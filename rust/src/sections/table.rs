@@ -251,13 +251,13 @@ impl<'a, A: Allocator + Copy> Readable<'a, A> for TableItem<A> {
 }
 
 impl<A: Allocator> Shorten for TableItem<A> {
-    fn append_shortest<B: Sink>(&self, out: &mut B) -> R<()> {
+    fn write_minimal<B: Sink>(&self, out: &mut B) -> R<()> {
         let Some(init) = &self.init else {
             return self.table_type.encode(out);
         };
         BEFORE_INIT.encode(out)?;
         self.table_type.encode(out)?;
-        init.append_shortest(out)
+        init.write_minimal(out)
     }
 }
 

@@ -303,12 +303,14 @@ pub fn read_types<'a, A: Allocator + Copy>(
     read_whole::<'a, Vec<TypeEntry<A>, A>, A>(bytes, alloc)
 }
 
-/// Appends the one shortest text of types that were read, behind their number.
+/// Appends the minimal encoding of types, after their number. On an error, the sink is as it was.
 ///
 /// # Proved
 ///
 /// ```text
-/// ensures { OnOk result (AppendsShortest (vec type_item) (map entry_view types.now) out.old.items out.new.items) }
+/// ensures ok { OnOk result (AppendsShortest (vec type_item) (map entry_view types.now) out.old.items out.new.items) }
+/// ensures err { OnErr result (out.new.items ≡ out.old.items) }
+/// ensures too_long { HasEncoding (vec type_item) (map entry_view types.now) → result ≢ Err TooLong }
 /// ```
 pub fn append_types<A: Allocator, B: Sink>(
     types: &[TypeEntry<A>],

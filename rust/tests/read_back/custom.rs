@@ -5,7 +5,7 @@ use dolzhytik::vec::{Sink, Vec};
 use crate::read_back::read_and_shorten;
 use dolzhytik::alloc::Allocator;
 use dolzhytik::base::{CowSlice, CowStr, Encode, R};
-use dolzhytik::custom::{BranchHint, BranchHints, CustomSection, DataSymbolDefinition, LinkingSection, NameSection, ProducersField, ProducersSection, SymbolTable};
+use dolzhytik::custom::{BranchHint, BranchHints, CustomSection, DataSymbolDefinition, LinkingSection, NameItem, NameSection, ProducersField, ProducersSection, SymbolTable, append_names, read_names};
 use dolzhytik::reader::{Items, SectionKind};
 use dolzhytik::reader::base::ReadFault;
 
@@ -47,6 +47,47 @@ pub fn read_more_names<'a, A: Allocator + Copy + 'a>(
     write_more_names(text, name, more)?;
     let items = read_and_shorten(SectionKind::Names, text, sink)?;
     Ok(items)
+}
+
+/// Appends a title and the names after it, or the title alone where memory does not suffice for the
+/// names. Returns whether the names are there.
+///
+/// # Proved
+///
+/// ```text
+/// ensures named { IfOk result (λ all. all ≡ true → AppendsShortest name_payload (map name_item_view names.now) (sink.old.items ++ title.now) sink.new.items) }
+/// ensures titled { IfOk result (λ all. all ≡ false → sink.new.items ≡ sink.old.items ++ title.now) }
+/// ensures err { OnErr result (sink.new.items ≡ sink.old.items) }
+/// ```
+pub fn titled_names<A: Allocator>(
+    title: &[u8],
+    names: &[NameItem<'_, A>],
+    sink: &mut Vec<u8, A>,
+) -> R<bool> {
+    sink.extend_from_slice(title)?;
+    match append_names(names, sink) {
+        Ok(()) => Ok(true),
+        Err(_) => Ok(false),
+    }
+}
+
+/// Appends the minimal encoding of the names that the bytes encode, with their section's name. Returns
+/// whether they do. No count or size is too long.
+///
+/// # Proved
+///
+/// ```text
+/// ensures too_long { result ≢ Err TooLong }
+/// ensures err { OnErr result (sink.new.items ≡ sink.old.items) }
+/// ```
+pub fn rewritten_names<A: Allocator + Copy>(bytes: &[u8], sink: &mut Vec<u8, A>) -> R<bool> {
+    match read_names(bytes, *sink.allocator()) {
+        Ok(names) => {
+            append_names(&names, sink)?;
+            Ok(true)
+        }
+        Err(_) => Ok(false),
+    }
 }
 
 /// A symbol table of one symbol of data.

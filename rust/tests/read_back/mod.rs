@@ -1,7 +1,7 @@
 // Written by tools/to-rust from crates/read_back/src/lib.rt: change that.
 //! Callers of the reader, which prove what it answers of each kind of section that a builder writes; sections of padded numbers, and of what is handed in.
 
-use dolzhytik::vec::Vec;
+use dolzhytik::vec::{Sink, Vec};
 pub mod custom;
 pub mod declared;
 pub mod dumps;
@@ -13,7 +13,7 @@ use dolzhytik::alloc::Allocator;
 use dolzhytik::base::{Encode, R};
 use dolzhytik::custom::{NameMap, NameSection};
 use dolzhytik::reader::{Items, ModuleFault, Offsets, SectionKind, laws, read_section, shorten, shorten_module};
-use dolzhytik::reader::base::ReadFault;
+use dolzhytik::reader::base::{ReadFault, Shorten};
 use dolzhytik::sections::FunctionSection;
 
 /// Reads the section of this kind that a buffer holds, and shortens it.
@@ -134,6 +134,27 @@ pub fn padded_function<'a, A: Allocator + Copy + 'a>(
     let (items, _taken) = read_section(alloc, SectionKind::Functions, padded)?;
     let _taken = shorten(SectionKind::Functions, padded, sink)?;
     Ok(items)
+}
+
+/// Appends two values that were read, or neither.
+///
+/// # Proved
+///
+/// ```text
+/// ensures { OnErr result (sink.new.items ≡ sink.old.items) }
+/// ```
+pub fn both_or_neither<T: Shorten, U: Shorten, A: Sink>(
+    first: &T,
+    second: &U,
+    sink: &mut A,
+) -> R<()> {
+    let start = sink.len();
+    first.append_shortest(sink)?;
+    let appended = second.append_shortest(sink);
+    if appended.is_err() {
+        sink.truncate(start);
+    }
+    appended
 }
 
 /// A name section: the names of the module and of its first function.

@@ -19,6 +19,8 @@ mod callers;
 #[path = "../read_back/mod.rs"]
 mod read_back;
 #[cfg(test)]
+mod appended;
+#[cfg(test)]
 mod called;
 #[cfg(test)]
 mod checks;

@@ -66,16 +66,19 @@ pub fn frame_since<B: Sink>(out: &mut B, start: usize) -> R<()> {
 /// # Proved
 ///
 /// ```text
-/// ensures { OnOk result (AppendsShortest (frame T.format) (T.view value.now) out.old.items out.new.items) }
+/// ensures ok { OnOk result (AppendsShortest (frame T.format) (T.view value.now) out.old.items out.new.items) }
+/// ensures front { IsFrontOf out.old.items out.new.items }
+/// ensures too_long { HasEncoding (frame T.format) (T.view value.now) → result ≢ Err TooLong }
 /// ```
 fn append_framed<T: Shorten, B: Sink>(value: &T, out: &mut B) -> R<()> {
+    T::laws();
     let start = out.len();
-    value.append_shortest(out)?;
+    value.write_minimal(out)?;
     frame_since(out, start)
 }
 
 impl<T: Shorten> Shorten for Framed<T> {
-    fn append_shortest<B: Sink>(&self, out: &mut B) -> R<()> {
+    fn write_minimal<B: Sink>(&self, out: &mut B) -> R<()> {
         let Framed(value) = self;
         append_framed(value, out)
     }

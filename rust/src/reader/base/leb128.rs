@@ -315,7 +315,7 @@ pub(in crate::reader::base) fn read_index(bytes: &[u8]) -> Result<(u32, &[u8]), 
 }
 
 impl Shorten for u32 {
-    fn append_shortest<B: Sink>(&self, out: &mut B) -> R<()> {
+    fn write_minimal<B: Sink>(&self, out: &mut B) -> R<()> {
         self.encode(out)
     }
 }

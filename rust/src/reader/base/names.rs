@@ -65,13 +65,13 @@ impl<'a, A: Allocator + Copy> Readable<'a, A> for &'a str {
 }
 
 impl Shorten for &[u8] {
-    fn append_shortest<B: Sink>(&self, out: &mut B) -> R<()> {
+    fn write_minimal<B: Sink>(&self, out: &mut B) -> R<()> {
         encode_frame(out, self)
     }
 }
 
 impl Shorten for &str {
-    fn append_shortest<B: Sink>(&self, out: &mut B) -> R<()> {
+    fn write_minimal<B: Sink>(&self, out: &mut B) -> R<()> {
         self.encode(out)
     }
 }

@@ -35,8 +35,8 @@ impl<'a, A: Allocator + Copy, T: Readable<'a, A>, U: Readable<'a, A>> Readable<'
 }
 
 impl<T: Shorten, U: Shorten> Shorten for (T, U) {
-    fn append_shortest<B: Sink>(&self, out: &mut B) -> R<()> {
-        self.0.append_shortest(out)?;
-        self.1.append_shortest(out)
+    fn write_minimal<B: Sink>(&self, out: &mut B) -> R<()> {
+        self.0.write_minimal(out)?;
+        self.1.write_minimal(out)
     }
 }

@@ -215,7 +215,7 @@ impl<'a, A: Allocator + Copy> Readable<'a, A> for ValType {
 }
 
 impl Shorten for ValType {
-    fn append_shortest<B: Sink>(&self, out: &mut B) -> R<()> {
+    fn write_minimal<B: Sink>(&self, out: &mut B) -> R<()> {
         self.encode(out)
     }
 }

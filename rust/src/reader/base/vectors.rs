@@ -37,24 +37,44 @@ impl<'a, A: Allocator + Copy, T: Readable<'a, A>> Readable<'a, A> for Vec<T, A> 
     }
 }
 
-/// Appends the shortest texts of the values, one after another. After a refusal a part of them may stand there.
+/// Writes what [`append_all`] appends. After an error, a part of it may be behind the old bytes.
 ///
 /// # Proved
 ///
 /// ```text
-/// ensures { OnOk result (AppendsShortest (members T.format) (map T.view items.now) out.old.items out.new.items) }
+/// ensures ok { OnOk result (AppendsShortest (members T.format) (map T.view items.now) out.old.items out.new.items) }
+/// ensures front { IsFrontOf out.old.items out.new.items }
+/// ensures too_long { HasEncoding (members T.format) (map T.view items.now) → result ≢ Err TooLong }
 /// ```
-pub fn append_all<T: Shorten, B: Sink>(items: &[T], out: &mut B) -> R<()> {
+fn write_all<T: Shorten, B: Sink>(items: &[T], out: &mut B) -> R<()> {
     for item in items {
-        item.append_shortest(out)?;
+        item.write_minimal(out)?;
     }
     Ok(())
 }
 
-/// Appends the shortest texts of the values behind their number.
+/// Appends the minimal encodings of the values, one after another. On an error, the sink is as it was.
+///
+/// # Proved
+///
+/// ```text
+/// ensures ok { OnOk result (AppendsShortest (members T.format) (map T.view items.now) out.old.items out.new.items) }
+/// ensures err { OnErr result (out.new.items ≡ out.old.items) }
+/// ensures too_long { HasEncoding (members T.format) (map T.view items.now) → result ≢ Err TooLong }
+/// ```
+pub fn append_all<T: Shorten, B: Sink>(items: &[T], out: &mut B) -> R<()> {
+    let start = out.len();
+    let written = write_all(items, out);
+    if written.is_err() {
+        out.truncate(start);
+    }
+    written
+}
+
+/// The number of the values, and the values.
 impl<T: Shorten, A: Allocator> Shorten for Vec<T, A> {
-    fn append_shortest<B: Sink>(&self, out: &mut B) -> R<()> {
+    fn write_minimal<B: Sink>(&self, out: &mut B) -> R<()> {
         self.len().encode(out)?;
-        append_all(self, out)
+        write_all(self, out)
     }
 }

@@ -530,7 +530,9 @@ pub(in crate::reader::insn) fn read_arguments_into<'a, A: Allocator + Copy>(
 /// # Proved
 ///
 /// ```text
-/// ensures { OnOk result (out.new.items ≡ out.old.items ++ argument_text (argument_view arg.now)) }
+/// ensures ok { OnOk result (out.new.items ≡ out.old.items ++ argument_text (argument_view arg.now)) }
+/// ensures err { OnErr result (out.new.items ≡ out.old.items) }
+/// ensures too_long { IsPlainArgument (argument_view arg.now) → result ≢ Err TooLong }
 /// ```
 fn append_argument<A: Allocator, B: Sink>(arg: &Arg<A>, out: &mut B) -> R<()> {
     match arg {
@@ -559,7 +561,9 @@ fn append_argument<A: Allocator, B: Sink>(arg: &Arg<A>, out: &mut B) -> R<()> {
 /// # Proved
 ///
 /// ```text
-/// ensures { OnOk result (out.new.items ≡ out.old.items ++ flat_map (λ a. argument_text (argument_view a)) args.now) }
+/// ensures ok { OnOk result (out.new.items ≡ out.old.items ++ flat_map (λ a. argument_text (argument_view a)) args.now) }
+/// ensures front { IsFrontOf out.old.items out.new.items }
+/// ensures too_long { ArePlain (map argument_view args.now) → result ≢ Err TooLong }
 /// ```
 pub(in crate::reader::insn) fn append_arguments<A: Allocator, B: Sink>(
     args: &[Arg<A>],

@@ -40,14 +40,16 @@ pub fn read_code<'a, A: Allocator + Copy>(
 /// # Proved
 ///
 /// ```text
-/// ensures { OnOk result (AppendsShortest (members (instruction table)) (map plain_view code.now) out.old.items out.new.items) }
+/// ensures ok { OnOk result (AppendsShortest (members (instruction table)) (map plain_view code.now) out.old.items out.new.items) }
+/// ensures front { IsFrontOf out.old.items out.new.items }
+/// ensures too_long { HasEncoding (members (instruction table)) (map plain_view code.now) → result ≢ Err TooLong }
 /// ```
 pub(in crate::reader::insn) fn append_code<A: Allocator, B: Sink>(
     code: &[Plain<A>],
     out: &mut B,
 ) -> R<()> {
     for instruction in code {
-        instruction.append_shortest(out)?;
+        instruction.write_minimal(out)?;
     }
     Ok(())
 }
@@ -95,16 +97,40 @@ impl<'a, A: Allocator + Copy> Readable<'a, A> for Body<A> {
 }
 
 impl<A: Allocator> Shorten for Body<A> {
-    fn append_shortest<B: Sink>(&self, out: &mut B) -> R<()> {
+    fn write_minimal<B: Sink>(&self, out: &mut B) -> R<()> {
         let start = out.len();
-        self.runs.append_shortest(out)?;
+        self.runs.write_minimal(out)?;
         append_code(&self.code, out)?;
         frame_since(out, start)
     }
 }
 
-/// Appends the shortest text of a body in its frame, as it stands in a code section. The bytes are those of the body without its size. It
-/// goes over the instructions and keeps one of them. After an error a part of the text may stand there.
+/// Writes what [`shorten_body`] appends. After an error, a part of it may be behind the old bytes.
+///
+/// # Proved
+///
+/// ```text
+/// ensures found { OnOk result ((x : BodyModel) × body wide bytes.now x × AppendsShortest (frame body) x out.old.items out.new.items) }
+/// ensures none { IfErr result (λ e. e ≢ Memory → FillsNothing body bytes.now) }
+/// ensures front { IsFrontOf out.old.items out.new.items }
+/// ```
+fn write_body<A: Allocator + Copy, B: Sink>(
+    bytes: &[u8],
+    alloc: A,
+    out: &mut B,
+) -> Result<(), ReadFault> {
+    let start = out.len();
+    let (runs, mut instructions) = Instructions::of_body(bytes, alloc)?;
+    runs.write_minimal(out)?;
+    while let Some(step) = instructions.next()? {
+        append_instruction(step.op, instructions.args(), out)?;
+    }
+    frame_since(out, start)?;
+    Ok(())
+}
+
+/// Appends the minimal encoding of a function's body, with its size, as a code section has it. The bytes are those of the body without its size. It
+/// goes over the instructions and keeps one of them. On an error, the sink is as it was.
 ///
 /// ```text
 /// shorten_body(&[0x80, 0x00, 0x20, 0x81, 0x00, 0x0B], alloc, &mut out)?;
@@ -116,6 +142,7 @@ impl<A: Allocator> Shorten for Body<A> {
 /// ```text
 /// ensures found { OnOk result ((x : BodyModel) × body wide bytes.now x × AppendsShortest (frame body) x out.old.items out.new.items) }
 /// ensures none { IfErr result (λ e. e ≢ Memory → FillsNothing body bytes.now) }
+/// ensures err { OnErr result (out.new.items ≡ out.old.items) }
 /// ```
 pub fn shorten_body<A: Allocator + Copy, B: Sink>(
     bytes: &[u8],
@@ -123,11 +150,9 @@ pub fn shorten_body<A: Allocator + Copy, B: Sink>(
     out: &mut B,
 ) -> Result<(), ReadFault> {
     let start = out.len();
-    let (runs, mut instructions) = Instructions::of_body(bytes, alloc)?;
-    runs.append_shortest(out)?;
-    while let Some(step) = instructions.next()? {
-        append_instruction(step.op, instructions.args(), out)?;
+    let written = write_body(bytes, alloc, out);
+    if written.is_err() {
+        out.truncate(start);
     }
-    frame_since(out, start)?;
-    Ok(())
+    written
 }

@@ -45,7 +45,7 @@ impl<'a, A: Allocator + Copy> Readable<'a, A> for Expression<A> {
 }
 
 impl<A: Allocator> Shorten for Expression<A> {
-    fn append_shortest<B: Sink>(&self, out: &mut B) -> R<()> {
+    fn write_minimal<B: Sink>(&self, out: &mut B) -> R<()> {
         append_code(&self.0, out)?;
         out.push(END)?;
         Ok(())

@@ -88,7 +88,9 @@ pub(in crate::reader::insn) fn read_instruction_into<'a, A: Allocator + Copy>(
 /// # Proved
 ///
 /// ```text
-/// ensures { OnOk result (AppendsShortest (instruction table) (record { op = op; arguments = map argument_view args.now }) out.old.items out.new.items) }
+/// ensures ok { OnOk result (AppendsShortest (instruction table) (record { op = op; arguments = map argument_view args.now }) out.old.items out.new.items) }
+/// ensures front { IsFrontOf out.old.items out.new.items }
+/// ensures too_long { HasEncoding (instruction table) (record { op = op; arguments = map argument_view args.now }) → result ≢ Err TooLong }
 /// ```
 pub(in crate::reader::insn) fn append_instruction<A: Allocator, B: Sink>(
     op: Op,
@@ -100,7 +102,7 @@ pub(in crate::reader::insn) fn append_instruction<A: Allocator, B: Sink>(
 }
 
 impl<A: Allocator> Shorten for Plain<A> {
-    fn append_shortest<B: Sink>(&self, out: &mut B) -> R<()> {
+    fn write_minimal<B: Sink>(&self, out: &mut B) -> R<()> {
         append_instruction(self.op, &self.args, out)
     }
 }

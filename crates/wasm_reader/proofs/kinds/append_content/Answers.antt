@@ -12,7 +12,7 @@ of_items : (x y : Contents) (old new : List ℕ) → x ≡ y → AppendsItems y 
 of_items x y old new e a = subst (λ z. AppendsShortest (content (kind_in z)) z old new) (sym e) (items_appended y old new a)
 
 pub returns-in-Hints : goal.returns-in-Hints
-returns-in-Hints g c = on_ok c.append_hints.result _ _ c.append_hints.ensures λ a. of_items _ _ _ _ (ap contents_of c.in-Hints.is ∙ ap (λ v. Hints (map hints_view v)) (sym c.deref-in-Hints.ensures.value)) a
+returns-in-Hints g c = on_ok c.append_hints.result _ _ c.append_hints.ensures.ok λ a. of_items _ _ _ _ (ap contents_of c.in-Hints.is ∙ ap (λ v. Hints (map hints_view v)) (sym c.deref-in-Hints.ensures.value)) a
 
 pub returns-in-CoreInstances : goal.returns-in-CoreInstances
-returns-in-CoreInstances g c = on_ok c.append_instances.result _ _ c.append_instances.ensures λ a. of_items _ _ _ _ (ap contents_of c.in-CoreInstances.is ∙ ap (λ v. CoreInstances (map instance_view v)) (sym c.deref-in-CoreInstances.ensures.value)) a
+returns-in-CoreInstances g c = on_ok c.append_instances.result _ _ c.append_instances.ensures.ok λ a. of_items _ _ _ _ (ap contents_of c.in-CoreInstances.is ∙ ap (λ v. CoreInstances (map instance_view v)) (sym c.deref-in-CoreInstances.ensures.value)) a

@@ -13,8 +13,8 @@ use Rattle.wasm_reader.proofs.shortest.shorten_bodies.Goals as goal
 pub returns-in_err-count-clause-none : goal.returns-in_err-count-clause-none
 returns-in_err-count-clause-none g c = fault_stays c.from_residual.result _ c.from_residual.ensures.1 λ n. no_count (frame body) c.args.bytes.now (c.in_err-count.ensures.none n)
 
-pub returns-in_err-append_shortest-clause-none : goal.returns-in_err-append_shortest-clause-none
-returns-in_err-append_shortest-clause-none g c = memory_stays _ c.from_residual-in_err-append_shortest.result c.from_residual-in_err-append_shortest.ensures.1
+pub returns-in_err-write_minimal-clause-none : goal.returns-in_err-write_minimal-clause-none
+returns-in_err-write_minimal-clause-none g c = memory_stays _ c.from_residual-in_err-write_minimal.result c.from_residual-in_err-write_minimal.ensures.1
 
 pub returns-in_err-framed-clause-none : goal.returns-in_err-framed-clause-none
 returns-in_err-framed-clause-none g c = fault_stays c.from_residual-in_err-framed.result _ c.from_residual-in_err-framed.ensures.1 λ n.
@@ -26,7 +26,7 @@ returns-in_err-shorten_body-clause-none g c = fault_stays c.from_residual-in_err
     (filled_nothing body c.loop-taken.rest.now _ _ c.in_ok-framed.ensures.found (c.in_err-shorten_body.ensures.none n))
 
 pub loop-taken-init : goal.loop-taken-init
-loop-taken-init g c = shortened_start (frame body) c.in_ok-count.rest.now c.append_shortest.new.out.items
+loop-taken-init g c = shortened_start (frame body) c.in_ok-count.rest.now c.write_minimal.new.out.items
 
 pub loop-taken-preserved : goal.loop-taken-preserved
 loop-taken-preserved g c =
@@ -42,4 +42,4 @@ returns-else-is_empty-clause-none g c = λ n.
 pub returns-then-is_empty-clause-found : goal.returns-then-is_empty-clause-found
 returns-then-is_empty-clause-found g c =
     let all : c.loop-taken._taken ≡ c.in_ok-count.count = omega (arith, c.loop-taken-test.false, c.loop-taken.auto._taken-end) in
-    shortened_all (frame body) c.args.bytes.now _ c.loop-taken.rest.now _ _ _ _ _ c.in_ok-count.ensures.found c.in_ok-append_shortest.ensures c.loop-taken.invariant all (eqb-true _ _ (sym c.is_empty.ensures ∙ c.if-is_empty.true))
+    shortened_all (frame body) c.args.bytes.now _ c.loop-taken.rest.now _ _ _ _ _ c.in_ok-count.ensures.found c.in_ok-write_minimal.ensures.ok c.loop-taken.invariant all (eqb-true _ _ (sym c.is_empty.ensures ∙ c.if-is_empty.true))

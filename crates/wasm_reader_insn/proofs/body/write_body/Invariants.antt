@@ -5,7 +5,7 @@ use Rattle.wasm_insn.specs.Table.{table}
 use Rattle.wasm_reader_base.specs.Shortest.{AppendsShortest}
 use Rattle.wasm_reader_insn.specs.Walks.{ahead}
 use Rattle.wasm_reader_insn.proofs.Calls.{HasWalked}
-use Rattle.wasm_reader_insn.proofs.body.shorten_body.Given as goal
+use Rattle.wasm_reader_insn.proofs.body.write_body.Given as goal
 
 -- what the walk has gone over, and its text
 abbrev pub invariant-loop-instructions : goal.invariant-loop-instructions

@@ -1,0 +1,91 @@
+-- A value that has an encoding: so have its parts, and every count and size of its minimal encoding can be written.
+use Rattle.std.proofs.Common.{◌≡◌, ◌≢◌, Result, Ok, Err, IsErrAnd, ℕ, zero, suc, ◌+◌, ◌<◌, ◌≤◌, List, [], ◌∷◌, ◌++◌, length, drop, get_or, map, refl, sym, ap, subst, ◌∙◌, arith}
+use Rattle.std.proofs.lemmas.List.{drop_at, length-map}
+use Rattle.std.proofs.lemmas.Int.{ints}
+use Rattle.wasm_base.specs.Numbers.{shortest, wide}
+use Rattle.wasm_base.specs.Formats.{Format, mapped, Then, pair, prefixed, tagged, members, vec, frame, name, any_bytes}
+use Rattle.wasm_base.specs.Reading.{HasSpellings}
+use Rattle.wasm_base.specs.Texts.{FrameFits, longest}
+use Rattle.wasm_base.proofs.FormatLaws.{AllValues}
+use Rattle.wasm_base.specs.declared.refused.Refused.{Refused}
+use Rattle.wasm_base.specs.declared.refused.Refused.TheVariants.{TooLong}
+use Rattle.wasm_reader_base.specs.Shortest.{AppendsShortest, HasEncoding}
+
+-- as `?` passes an error on
+pub stays_short : {T U : Type 0} (r : Result T Refused) (q : Result U Refused) (e : Refused) → q ≡ Err e → IsErrAnd r (λ y. y ≡ e) → q ≢ Err TooLong → r ≢ Err TooLong
+stays_short (Ok x) q e is h p = elim h [ ]
+stays_short (Err y) q e is h p = λ k. p (cc (is, h, k))
+
+-- ---- parts
+
+module _ {X Y : Type 0} (F : Format X) where
+  pub left_encoded : (G : Format Y) (x : X) (y : Y) → HasEncoding (pair F G) (x, y) → HasEncoding F x
+  left_encoded G x y h = record { bytes = h.decoded.front; decoded = h.decoded.first }
+
+  pub right_encoded : (G : Format Y) (x : X) (y : Y) → HasEncoding (pair F G) (x, y) → HasEncoding G y
+  right_encoded G x y h = record { bytes = h.decoded.back; decoded = h.decoded.second }
+
+  -- the value behind a tag that it tells
+  pub tagged_encoded : (G : X → Format Y) (x : X) (y : Y) → ((s : List ℕ) (z : X) → G z wide s y → z ≡ x) → HasEncoding (tagged F G) y → HasEncoding (G x) y
+  tagged_encoded G x y told h =
+      let d = h.decoded in
+      let at_y : G d.0.0 wide d.2.back y = subst (λ z. G d.0.0 wide d.2.back z) d.1 d.2.second in
+      record { bytes = d.2.back; decoded = subst (λ z. G z wide d.2.back y) (told d.2.back d.0.0 at_y) at_y }
+
+-- the value behind fixed bytes
+pub prefixed_encoded : {X : Type 0} (head : List ℕ) (F : Format X) (x : X) → HasEncoding (prefixed head F) x → HasEncoding F x
+prefixed_encoded head F x h = let d = h.decoded in record { bytes = d.2.back; decoded = subst (λ z. F wide d.2.back z) d.1 d.2.second }
+
+-- the value whose image it is, by a function that keeps values apart
+pub mapped_encoded : {X Y : Type 0} (f : X → Y) (F : Format X) (x : X) → ((z : X) → f z ≡ f x → z ≡ x) → HasEncoding (mapped f F) (f x) → HasEncoding F x
+mapped_encoded f F x apart h = let d = h.decoded in record { bytes = h.bytes; decoded = subst (λ z. F wide h.bytes z) (apart d.0 d.1) d.2 }
+
+-- what holds of all that is decoded
+pub decoded_fits : {X : Type 0} (Q : X → Type 0) (F : Format X) (x : X) → AllValues Q F → HasEncoding F x → Q x
+decoded_fits Q F x all h = all wide h.bytes x h.decoded
+
+-- ---- members
+
+member_at : {T X : Type 0} (F : Format X) (view : T → X) (xs : List T) (i : ℕ) (x : T) (s : List ℕ) → i < length xs → x ≡ get_or xs i x → members F wide s (map view xs) → HasEncoding F (view x)
+member_at F view [] i x s low is h = absurd (omega (arith, low))
+member_at F view (y ∷ ys) zero x s low is h = record { bytes = h.0; decoded = subst (λ z. F wide h.0 (view z)) (sym is) h.3 }
+member_at F view (y ∷ ys) (suc i) x s low is h = member_at F view ys i x h.1 (omega (arith, low)) is h.4
+
+pub member_encoded : {T X : Type 0} (F : Format X) (view : T → X) (xs : List T) (i : ℕ) (x : T) → i < length xs → x ≡ get_or xs i x → HasEncoding (members F) (map view xs) → HasEncoding F (view x)
+member_encoded F view xs i x low is h = member_at F view xs i x h.bytes low is h.decoded
+
+module _ {X : Type 0} (F : Format X) (xs : List X) where
+  pub members_encoded : HasEncoding (vec F) xs → HasEncoding (members F) xs
+  members_encoded h = record { bytes = h.decoded.back; decoded = h.decoded.second }
+
+  pub counted_fits : HasEncoding (vec F) xs → length xs ≤ longest
+  counted_fits h = omega (arith, h.decoded.first.range)
+
+-- of a list that is viewed
+pub viewed_fits : {T X : Type 0} (F : Format X) (view : T → X) (xs : List T) → HasEncoding (vec F) (map view xs) → length xs ≤ longest
+viewed_fits F view xs h = omega (arith, counted_fits F (map view xs) h, length-map xs view)
+
+-- ---- frames
+
+module _ {X : Type 0} (F : Format X) (x : X) where
+  pub content_encoded : HasEncoding (frame F) x → HasEncoding F x
+  content_encoded h = record { bytes = h.decoded.content; decoded = h.decoded.spelled }
+
+  -- The minimal encoding is no longer than what some frame holds.
+  pub minimal_fits : (text : List ℕ) → HasSpellings F → F shortest text x → HasEncoding (frame F) x → FrameFits text
+  minimal_fits text k g h =
+      let d = h.decoded in
+      let least = k.shorter d.content x d.spelled in
+      omega (arith, least.2, ap length (k.one text least.0 x g least.1), d.size.range)
+
+  -- what was appended behind the old bytes
+  pub behind_fits : (start : ℕ) (old new : List ℕ) → HasSpellings F → start ≡ length old → AppendsShortest F x old new → HasEncoding (frame F) x → FrameFits (drop start new)
+  behind_fits start old new k e a h =
+      let behind : drop start new ≡ a.text = ap (drop start) a.appended ∙ drop_at old a.text start (sym e) in
+      subst FrameFits (sym behind) (minimal_fits a.text k (a.spelled h.decoded.content h.decoded.spelled) h)
+
+pub bytes_fit : (bytes : List ℕ) → HasEncoding (frame any_bytes) bytes → FrameFits bytes
+bytes_fit bytes h = let d = h.decoded in omega (arith, ap length d.spelled, d.size.range)
+
+pub name_fits : (bytes : List ℕ) → HasEncoding name bytes → FrameFits bytes
+name_fits bytes h = let d = h.decoded.0 in omega (arith, ap length d.spelled, d.size.range)

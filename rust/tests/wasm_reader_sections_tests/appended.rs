@@ -1,0 +1,176 @@
+// Written by tools/to-rust from tests/wasm_reader_sections_tests/src/appended.rtt: change that.
+// Calls that append the minimal encoding of values that were decoded. Where a request for memory is refused, the sink is as it was.
+
+use dolzhytik::vec::Vec;
+use dolzhytik::alloc::Global;
+use crate::host::Abort;
+use crate::test_support::{MOST, Refusing};
+use dolzhytik::base::{R, Refused};
+use dolzhytik::custom::{append_hints, append_instances, append_links, append_modules, append_names, append_process, append_producers, append_stack, read_hints, read_instances, read_links, read_modules, read_names, read_process, read_producers, read_stack};
+use dolzhytik::reader::base::{Framed, ReadFault, Shorten, append_all};
+use dolzhytik::reader::insn::shorten_body;
+use dolzhytik::sections::{append_imports, read_imports};
+use dolzhytik::types::{append_types, read_types};
+
+/// The byte that a sink has before a call.
+const BEFORE: u8 = 0xAA;
+
+/// The call returns this, and the sink has these bytes after its first one.
+fn check_outcome(rt: &impl Abort, answer: R<()>, expected: R<()>, sink: &[u8], bytes: &[u8]) {
+    assert_eq!(rt; answer, expected);
+    assert_eq!(rt; sink.split_first(), Some((&BEFORE, bytes)));
+}
+
+/// The call appends these bytes. It makes two requests for memory or more, and where any of them is
+/// refused, it returns `Memory`, and the sink is as it was.
+fn check<'h, F: Fn(&mut Vec<u8, &'h Refusing<Global>>) -> R<()>>(
+    rt: &impl Abort,
+    heap: &'h Refusing<Global>,
+    bytes: &[u8],
+    append: F,
+) {
+    for nth in 1..MOST {
+        heap.refuse(0);
+        let mut sink = Vec::from_slice(heap, &[BEFORE]).expect("accepted");
+        heap.refuse(nth);
+        let answer = append(&mut sink);
+        if heap.is_waiting() {
+            check_outcome(rt, answer, Ok(()), &sink, bytes);
+            assert!(rt; nth > 2);
+            heap.refuse(0);
+            return;
+        }
+        check_outcome(rt, answer, Err(Refused::Memory), &sink, &[]);
+    }
+    panic!(rt; "no call was granted")
+}
+
+#[test]
+fn names() {
+    let rt = crate::host::HostRuntime;
+    let heap = Refusing::new(rt.alloc());
+    let bytes = b"\x04name\0\x02\x01m\x01\x25\x01\0\x22the_function_with_a_very_long_name";
+    let items = read_names(bytes, &heap).expect("read");
+    check(&rt, &heap, bytes, |sink: &mut Vec<u8, _>| {
+        append_names(&items, sink)
+    });
+}
+
+#[test]
+fn imports() {
+    let rt = crate::host::HostRuntime;
+    let heap = Refusing::new(rt.alloc());
+    let bytes = b"\x01\x03env\x22the_function_with_a_very_long_name\0\0";
+    let items = read_imports(bytes, &heap).expect("read");
+    check(&rt, &heap, bytes, |sink: &mut Vec<u8, _>| {
+        append_imports(&items, sink)
+    });
+}
+
+#[test]
+fn types() {
+    let rt = crate::host::HostRuntime;
+    let heap = Refusing::new(rt.alloc());
+    let bytes = b"\x02\x60\x10\x7F\x7F\x7F\x7F\x7F\x7F\x7F\x7F\x7F\x7F\x7F\x7F\x7F\x7F\x7F\x7F\0\
+        \x60\x10\x7E\x7E\x7E\x7E\x7E\x7E\x7E\x7E\x7E\x7E\x7E\x7E\x7E\x7E\x7E\x7E\0";
+    let items = read_types(bytes, &heap).expect("read");
+    check(&rt, &heap, bytes, |sink: &mut Vec<u8, _>| {
+        append_types(&items, sink)
+    });
+}
+
+#[test]
+fn producers() {
+    let rt = crate::host::HostRuntime;
+    let heap = Refusing::new(rt.alloc());
+    let bytes = b"\x09producers\x01\x08language\x01\x22the_language_with_a_very_long_name\x041.80";
+    let items = read_producers(bytes, &heap).expect("read");
+    check(&rt, &heap, bytes, |sink: &mut Vec<u8, _>| {
+        append_producers(&items, sink)
+    });
+}
+
+#[test]
+fn hints() {
+    let rt = crate::host::HostRuntime;
+    let heap = Refusing::new(rt.alloc());
+    let bytes = b"\x19metadata.code.branch_hint\x01\x05\x02\x03\x01\x01\x09\x01\0";
+    let items = read_hints(bytes, &heap).expect("read");
+    check(&rt, &heap, bytes, |sink: &mut Vec<u8, _>| {
+        append_hints(&items, sink)
+    });
+}
+
+#[test]
+fn links() {
+    let rt = crate::host::HostRuntime;
+    let heap = Refusing::new(rt.alloc());
+    let bytes = b"\x07linking\x02\x08\x29\x01\x01\0\x22the_variable_with_a_very_long_name\0\0\x04";
+    let items = read_links(bytes, &heap).expect("read");
+    check(&rt, &heap, bytes, |sink: &mut Vec<u8, _>| {
+        append_links(&items, sink)
+    });
+}
+
+#[test]
+fn core_dumps() {
+    let rt = crate::host::HostRuntime;
+    let heap = Refusing::new(rt.alloc());
+    let bytes = b"\x04core\0\x23the_programme_with_a_long_long_name";
+    let name = read_process(bytes, &heap).expect("read");
+    check(&rt, &heap, bytes, |sink: &mut Vec<u8, _>| {
+        append_process(name, sink)
+    });
+    let bytes = b"\x0Bcoremodules\x01\0\x23the_programme_with_a_long_long_name";
+    let modules = read_modules(bytes, &heap).expect("read");
+    check(&rt, &heap, bytes, |sink: &mut Vec<u8, _>| {
+        append_modules(&modules, sink)
+    });
+    let bytes = b"\x0Dcoreinstances\x01\0\x05\x02\x01\x02\x14aaaaaaaaaaaaaaaaaaaa";
+    let instances = read_instances(bytes, &heap).expect("read");
+    check(&rt, &heap, bytes, |sink: &mut Vec<u8, _>| {
+        append_instances(&instances, sink)
+    });
+    let bytes = b"\x09corestack\0\x06thread\x01\0\x01\x02\x03\x01\x7F\x05\x01\x7F\x06";
+    let (thread, frames) = read_stack(bytes, &heap).expect("read");
+    check(&rt, &heap, bytes, |sink: &mut Vec<u8, _>| {
+        append_stack(thread, &frames, sink)
+    });
+}
+
+/// The bytes of a body with its size, of which `shorten_body` takes all but the first.
+#[test]
+fn body() {
+    let rt = crate::host::HostRuntime;
+    let heap = Refusing::new(rt.alloc());
+    let bytes =
+        b"\x15\x01\x01\x7F\x41\xE4\0\x41\x05\x41\x06\x41\x07\x41\x08\x6A\x6A\x6A\x6A\x21\0\x0B";
+    let (_size, body) = bytes.split_first().expect("a byte");
+    check(&rt, &heap, bytes, |sink: &mut Vec<u8, _>| {
+        match shorten_body(body, &heap, sink) {
+            Ok(()) => Ok(()),
+            Err(ReadFault::Memory) => Err(Refused::Memory),
+            Err(_) => Err(Refused::TooLong),
+        }
+    });
+}
+
+#[test]
+fn values() {
+    let rt = crate::host::HostRuntime;
+    let heap = Refusing::new(rt.alloc());
+    let names = [
+        "the_first_name_which_is_long",
+        "the_other_name_which_is_long",
+    ];
+    let text = b"\x1Cthe_first_name_which_is_long\x1Cthe_other_name_which_is_long";
+    check(&rt, &heap, text, |sink: &mut Vec<u8, _>| {
+        append_all(&names, sink)
+    });
+    let listed = Vec::from_slice(rt.alloc(), &names).expect("accepted");
+    let framed = Framed((listed, 7u32));
+    let text = b"\x3C\x02\x1Cthe_first_name_which_is_long\x1Cthe_other_name_which_is_long\x07";
+    check(&rt, &heap, text, |sink: &mut Vec<u8, _>| {
+        framed.append_shortest(sink)
+    });
+}
