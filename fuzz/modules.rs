@@ -13,15 +13,18 @@ use plain::Plain;
 use std::env;
 use std::process::ExitCode;
 use std::time::Instant;
-use whole::{Answer, Section, sections, shortened_module};
+use whole::{Answer, CARES, HOLDERS, Section, first_broken, sections, shortened_module, shortest_module, why_refused};
 
 // ---- modules
 
-/// Names of custom sections of no kind, some of which hold offsets, and some nearly.
-const NAMES: [&str; 14] = [
-    "sourceMappingURL", "reloc.CODE", "reloc.", ".debug_info", ".debug_", "metadata.code.a", "metadata.code.", "sourceMappingURLs", "reloc", ".debug", "metadata.code",
-    "linkin", "dylink.0", "",
-];
+/// Names of custom sections of no kind that hold offsets.
+const HOLDING: [&str; 7] = ["sourceMappingURL", "external_debug_info", "build_id", ".debug_info", ".debug_", "metadata.code.a", "metadata.code."];
+
+/// What relocations are of, behind `reloc.`.
+const TARGETS: [&str; 5] = ["CODE", "DATA", ".debug_info", "name", ""];
+
+/// Names of custom sections that hold no offsets, though some nearly.
+const OTHERS: [&str; 10] = ["sourceMappingURLs", "reloc", ".debug", "metadata.code", "linkin", "external_debug_inf", "build_ids", "dylink.0", "debug_info", ""];
 
 /// The id of the sections of a kind.
 fn id_of(random: &mut Random, kind: &str) -> u8 {
@@ -53,14 +56,35 @@ fn unframed(bytes: &[u8]) -> &[u8] {
     }
 }
 
-/// A custom section's name, which is padded at times, and bytes.
+/// Relocations: the index of a section, and entries of a type, an offset, an index, and an addend for most types.
+fn relocations(random: &mut Random) -> Vec<u8> {
+    let (section, count) = (random.below(6) as u64, random.below(3));
+    let mut maker = Maker { random, text: Vec::new(), left: 0 };
+    maker.unsigned(section, 32);
+    maker.unsigned(count as u64, 32);
+    for _ in 0..count {
+        let kind = [0, 3, 7, 8, 9, 22][maker.random.below(6)];
+        maker.text.push(kind);
+        for _ in 0..if [0, 7].contains(&kind) { 2 } else { 3 } {
+            let number = maker.random.below(60) as u64;
+            maker.unsigned(number, 32);
+        }
+    }
+    maker.text
+}
+
+/// A custom section of no kind: its name, whose length is padded at times, and relocations or any bytes.
 fn custom(random: &mut Random) -> Vec<u8> {
-    let name = random.one_of(&NAMES);
+    let (name, data) = match random.below(8) {
+        0..3 => (format!("reloc.{}", random.one_of(&TARGETS)), relocations(random)),
+        3..6 => (random.one_of(&HOLDING).to_owned(), (0..random.below(4)).map(|place| 0x80 >> place).collect()),
+        _ => (random.one_of(&OTHERS).to_owned(), (0..random.below(4)).map(|place| 0x80 >> place).collect()),
+    };
     let mut maker = Maker { random, text: Vec::new(), left: 0 };
     maker.unsigned(name.len() as u64, 32);
     let mut text = maker.text;
     text.extend(name.bytes());
-    text.extend((0..random.below(4)).map(|place| 0x80 >> place));
+    text.extend(data);
     text
 }
 
@@ -74,7 +98,7 @@ fn framed(random: &mut Random, payload: &[u8]) -> Vec<u8> {
 
 /// Appends a section: a text of its kind, changed at times, mostly in a frame that fits; at times with another id.
 fn add_section(random: &mut Random, module: &mut Vec<u8>) {
-    if random.one_in(6) {
+    if random.one_in(4) {
         let payload = custom(random);
         module.push(0);
         module.extend(framed(random, &payload));
@@ -130,7 +154,7 @@ fn by_library(bytes: &[u8], offsets: Offsets) -> Option<Answer> {
 /// Whether the text is a module of the same ids in the same order, but those that are left out, no longer, and shortened to itself.
 fn is_settled(bytes: &[u8], text: &[u8], kept: usize, offsets: Offsets) -> bool {
     let (Ok(before), Ok(after)) = (sections(bytes), sections(text)) else { return false };
-    let is_in = |section: &&Section<'_>| offsets == Offsets::Refuse || !section.holds_offsets();
+    let is_in = |section: &&Section<'_>| offsets == Offsets::Refuse || section.holder().is_none();
     let ids = before.iter().filter(is_in).map(|section| section.id);
     let again = by_library(text, offsets);
     ids.eq(after.iter().map(|section| section.id)) && text.len() <= bytes.len() && again == Some(Answer::Shortened { text: text.to_vec(), kept })
@@ -160,9 +184,34 @@ struct Counts {
     no_section: u64,
     offsets: u64,
     left_out: u64,
+    /// Modules whose offsets lead elsewhere in what the library writes.
+    broken: u64,
+    /// Modules with offsets that are shortened by bytes and lose none, by the first section that holds some.
+    saved: [u64; HOLDERS.len()],
+    /// Modules that are refused though no offset would lead elsewhere, by why.
+    careful: [u64; CARES.len()],
 }
 
 impl Counts {
+    /// Counts what becomes of offsets.
+    fn count_offsets(&mut self, bytes: &[u8], answer: &Answer) {
+        match answer {
+            Answer::Shortened { text, .. } if text.len() < bytes.len() => {
+                let first = sections(bytes).ok().and_then(|all| all.iter().find_map(Section::holder));
+                if let Some(place) = HOLDERS.iter().position(|holder| Some(*holder) == first) {
+                    self.saved[place] += 1;
+                }
+            }
+            Answer::Offsets(number) if shortest_module(bytes).is_some_and(|text| first_broken(bytes, &text).is_none()) => {
+                let why = why_refused(bytes, *number);
+                if let Some(place) = CARES.iter().position(|care| Some(*care) == why) {
+                    self.careful[place] += 1;
+                }
+            }
+            _ => {}
+        }
+    }
+
     /// Counts the answer where offsets are refused.
     fn count(&mut self, bytes: &[u8], answer: &Answer) {
         match answer {
@@ -177,15 +226,36 @@ impl Counts {
     }
 }
 
+/// Whether the offsets that the library says are kept lead where they did, and the section that it names comes no later than the first whose offsets would not.
+fn keeps_offsets(bytes: &[u8], answer: &Answer) -> bool {
+    match answer {
+        Answer::Shortened { text, .. } => first_broken(bytes, text).is_none(),
+        Answer::Offsets(number) => {
+            let broken = shortest_module(bytes).and_then(|text| first_broken(bytes, &text));
+            broken.is_none_or(|first| *number <= first)
+        }
+        Answer::NoSection(_) => true,
+    }
+}
+
 /// Whether the library and the plain reader answer the same.
 fn agree(bytes: &[u8], offsets: Offsets, counts: &mut Counts) -> bool {
     let expected = shortened_module(bytes, offsets == Offsets::LeaveOut);
+    let given = by_library(bytes, offsets);
     if offsets == Offsets::Refuse {
         counts.count(bytes, &expected);
-    } else if sections(bytes).is_ok_and(|sections| sections.iter().any(Section::holds_offsets)) {
+        if let Some(answer) = &given {
+            counts.count_offsets(bytes, answer);
+            if !keeps_offsets(bytes, answer) {
+                println!("broken {answer:?} {}", show(bytes));
+                counts.broken += 1;
+                return false;
+            }
+        }
+    } else if sections(bytes).is_ok_and(|sections| sections.iter().any(|section| section.holder().is_some())) {
         counts.left_out += 1;
     }
-    match by_library(bytes, offsets) {
+    match given {
         Some(Answer::Shortened { text, kept }) => is_settled(bytes, &text, kept, offsets) && expected == Answer::Shortened { text, kept },
         Some(answer) => answer == expected,
         None => false,
@@ -214,9 +284,12 @@ fn main() -> ExitCode {
             println!("module {}", show(&module));
         }
     }
-    let Counts { shortened, shorter, with_kept, no_section, offsets, left_out } = counts;
+    let Counts { shortened, shorter, with_kept, no_section, offsets, left_out, broken, saved, careful } = counts;
     println!("{shortened} modules shortened, {shorter} of them by bytes, {with_kept} with a section that was kept; {offsets} refused for offsets, {no_section} for a section that is none");
     println!("{left_out} modules with a section to leave out");
+    println!("{broken} modules whose offsets lead elsewhere");
+    println!("modules with offsets that are kept, shortened by bytes: {:?}", HOLDERS.iter().zip(saved).collect::<Vec<_>>());
+    println!("modules refused though no offset would lead elsewhere: {:?}", CARES.iter().zip(careful).collect::<Vec<_>>());
     println!("seed {seed}: {count} modules of {bytes} bytes, {differences} differences, {} s", begun.elapsed().as_secs());
     if differences == 0 { ExitCode::SUCCESS } else { ExitCode::FAILURE }
 }

@@ -1,5 +1,6 @@
 //! A plain reader of modules: their sections, whatever these hold, an outline of them, and the module in its fewest bytes.
 
+use crate::grammar::Along;
 use crate::plain::{Plain, shortened};
 
 const HEADER: &[u8] = b"\0asm\x01\0\0\0";
@@ -92,11 +93,98 @@ impl Section<'_> {
         }
     }
 
-    pub fn holds_offsets(&self) -> bool {
-        let Some(name) = self.name else { return false };
-        ["linking", "sourceMappingURL"].contains(&name) || ["reloc.", ".debug_", "metadata.code."].iter().any(|front| name.starts_with(front))
+    /// What tools say of the offsets in it, by its name.
+    pub fn holder(&self) -> Option<Holder> {
+        let name = self.name?;
+        match name {
+            "linking" => Some(Holder::Symbols),
+            "external_debug_info" | "build_id" => Some(Holder::Debug),
+            "sourceMappingURL" => Some(Holder::SourceMap),
+            _ if name.starts_with("reloc.") => Some(Holder::Relocations),
+            _ if name.starts_with(".debug_") => Some(Holder::Debug),
+            _ if name.starts_with("metadata.code.") => Some(Holder::Metadata),
+            _ => None,
+        }
     }
 }
+
+// ---- where offsets lead
+
+/// A custom section that holds offsets.
+#[derive(Clone, Copy, PartialEq, Eq, Debug)]
+pub enum Holder {
+    /// `linking`: symbols of functions by index, and of data by segment and offset in the segment.
+    Symbols,
+    /// `reloc.*`: a section by index, and offsets from the front of its payload.
+    Relocations,
+    /// DWARF, in the module or in a file that it names or that knows it by its `build_id`: offsets from the front of the code section's payload.
+    Debug,
+    /// `metadata.code.*`: offsets in function bodies.
+    Metadata,
+    /// `sourceMappingURL`: the map's columns are offsets from the first byte of the module, in the code.
+    SourceMap,
+}
+
+pub const HOLDERS: [Holder; 5] = [Holder::Symbols, Holder::Relocations, Holder::Debug, Holder::Metadata, Holder::SourceMap];
+
+/// Types of relocations that have an addend (Linking.md), and of these the ones whose addend is an offset in a function, or in a custom section.
+const WITH_ADDEND: [u8; 15] = [3, 4, 5, 8, 9, 11, 14, 15, 16, 17, 21, 22, 23, 25, 27];
+const IN_FUNCTION: [u8; 2] = [8, 22];
+const IN_CUSTOM: u8 = 9;
+
+/// The ids of sections into which a relocation section leads: the section that it names, and those that its addends count in.
+struct Relocations {
+    section: usize,
+    in_functions: bool,
+    in_custom: bool,
+}
+
+fn relocations(section: &Section<'_>) -> Option<Relocations> {
+    let mut along = Plain { rest: section.payload, text: Vec::new() };
+    let length = along.unsigned(32)?;
+    along.take(length as usize)?;
+    let mut found = Relocations { section: along.unsigned(32)? as usize, in_functions: false, in_custom: false };
+    for _ in 0..along.unsigned(32)? {
+        let kind = along.byte()?;
+        along.unsigned(32)?;
+        along.unsigned(32)?;
+        if WITH_ADDEND.contains(&kind) {
+            along.signed(32)?;
+        }
+        found.in_functions |= IN_FUNCTION.contains(&kind);
+        found.in_custom |= kind == IN_CUSTOM;
+    }
+    Some(found)
+}
+
+/// Whether each byte of the payload has the same offset in it, before and after.
+fn has_same_payload(before: &Section<'_>, after: &Section<'_>) -> bool {
+    before.payload.len() == after.payload.len() && before.payload.iter().enumerate().all(|(offset, byte)| after.payload[offset] == *byte)
+}
+
+/// Whether the bytes that the offsets in a section lead to stand elsewhere, once the sections before are written as those after.
+fn is_broken(holder: &Section<'_>, before: &[Section<'_>], after: &[Section<'_>]) -> bool {
+    let pairs = || before.iter().zip(after);
+    let moves = |ids: &[u8]| pairs().any(|(b, a)| ids.contains(&b.id) && !has_same_payload(b, a));
+    match holder.holder() {
+        None | Some(Holder::Symbols) => false,
+        Some(Holder::Debug | Holder::Metadata) => moves(&[10]),
+        // The place in the module of each byte of the code.
+        Some(Holder::SourceMap) => pairs().any(|(b, a)| b.id == 10 && (b.offset != a.offset || !has_same_payload(b, a))),
+        Some(Holder::Relocations) => relocations(holder).is_some_and(|found| {
+            let at = pairs().nth(found.section);
+            at.is_some_and(|(b, a)| [0, 10, 11].contains(&b.id) && !has_same_payload(b, a)) || (found.in_functions && moves(&[10])) || (found.in_custom && moves(&[0]))
+        }),
+    }
+}
+
+/// The number of the first section whose offsets lead elsewhere, of a module and the same module with its sections written in another way.
+pub fn first_broken(before: &[u8], after: &[u8]) -> Option<usize> {
+    let (before, after) = (sections(before).ok()?, sections(after).ok()?);
+    before.iter().position(|section| is_broken(section, &before, &after)).map(|place| place + 1)
+}
+
+// ---- modules
 
 /// What shortening a module comes to.
 #[derive(PartialEq, Eq, Debug)]
@@ -104,32 +192,100 @@ pub enum Answer {
     Shortened { text: Vec<u8>, kept: usize },
     /// The section of this number is none.
     NoSection(usize),
-    /// The section of this number holds offsets.
+    /// The section of this number holds offsets that would be lost.
     Offsets(usize),
 }
 
-/// The module in its fewest bytes, with sections that hold offsets or without them.
+/// A section, and what is written for it.
+struct Rewritten<'a, 'b> {
+    section: &'b Section<'a>,
+    text: Vec<u8>,
+    is_kept: bool,
+}
+
+/// Each section in its fewest bytes.
+fn rewritten<'a, 'b>(sections: impl Iterator<Item = &'b Section<'a>>) -> Vec<Rewritten<'a, 'b>>
+where
+    'a: 'b,
+{
+    let one = |section: &'b Section<'a>| {
+        let shortest = section.shortest();
+        Rewritten { section, is_kept: shortest.is_none(), text: shortest.unwrap_or_else(|| section.framed.to_vec()) }
+    };
+    sections.map(one).collect()
+}
+
+fn joined(written: &[Rewritten<'_, '_>]) -> Vec<u8> {
+    let mut module = HEADER.to_vec();
+    for w in written {
+        module.push(w.section.id);
+        module.extend(&w.text);
+    }
+    module
+}
+
+/// Whether docs/FORMAT.md says that a module with such a holder is refused.
+fn is_refused(holder: Holder, written: &[Rewritten<'_, '_>]) -> bool {
+    let differs = |ids: &[u8]| written.iter().any(|w| ids.contains(&w.section.id) && w.text != w.section.framed);
+    let moves = || {
+        let last = written.iter().rposition(|w| w.section.id == 10).unwrap_or(0);
+        written[..last].iter().any(|w| w.text.len() != w.section.framed.len())
+    };
+    match holder {
+        Holder::Relocations => differs(&[0, 10, 11]),
+        Holder::SourceMap => differs(&[10, 11]) || moves(),
+        Holder::Symbols | Holder::Debug | Holder::Metadata => differs(&[10, 11]),
+    }
+}
+
+/// The module in its fewest bytes, with sections that hold offsets, whether these are lost or not.
+pub fn shortest_module(bytes: &[u8]) -> Option<Vec<u8>> {
+    Some(joined(&rewritten(sections(bytes).ok()?.iter())))
+}
+
+/// What shortening the module comes to, with sections that hold offsets or without them.
 pub fn shortened_module(bytes: &[u8], leaves_out: bool) -> Answer {
     let sections = match sections(bytes) {
         Ok(sections) => sections,
         Err(number) => return Answer::NoSection(number),
     };
-    let (mut text, mut kept, mut moves) = (HEADER.to_vec(), 0, false);
-    for section in sections.iter().filter(|section| !(leaves_out && section.holds_offsets())) {
-        text.push(section.id);
-        match section.shortest() {
-            Some(shortest) => {
-                moves |= [10, 11].contains(&section.id) && shortest != section.framed;
-                text.extend(shortest);
-            }
-            None => {
-                kept += 1;
-                text.extend(section.framed);
-            }
-        }
+    let written = rewritten(sections.iter().filter(|section| !(leaves_out && section.holder().is_some())));
+    let lost = written.iter().position(|w| w.section.holder().is_some_and(|holder| is_refused(holder, &written)));
+    match lost {
+        Some(place) if !leaves_out => Answer::Offsets(place + 1),
+        _ => Answer::Shortened { text: joined(&written), kept: written.iter().filter(|w| w.is_kept).count() },
     }
-    match sections.iter().position(Section::holds_offsets) {
-        Some(place) if moves && !leaves_out => Answer::Offsets(place + 1),
-        _ => Answer::Shortened { text, kept },
-    }
+}
+
+/// Why a module is refused though no offset would lead elsewhere.
+#[derive(Clone, Copy, PartialEq, Eq, Debug)]
+pub enum Care {
+    /// `linking`, whose numbers count in segments, and not in sections.
+    Symbols,
+    /// Of the sections that are to stay, only sizes were padded, and the payloads stay.
+    SizeAlone,
+    /// The code stays, and the holder leads into code alone.
+    DataAlone,
+    /// Relocations of a section that stays, or of none.
+    OtherTarget,
+}
+
+pub const CARES: [Care; 4] = [Care::Symbols, Care::SizeAlone, Care::DataAlone, Care::OtherTarget];
+
+/// Why the section of this number is named, where no offset in the module would lead elsewhere.
+pub fn why_refused(before: &[u8], number: usize) -> Option<Care> {
+    let all = sections(before).ok()?;
+    let written = rewritten(all.iter());
+    let holder = all.get(number - 1)?.holder()?;
+    let payload_moves = |ids: &[u8]| {
+        let text = joined(&written);
+        let after = sections(&text).unwrap_or_default();
+        all.iter().zip(&after).any(|(b, a)| ids.contains(&b.id) && !has_same_payload(b, a))
+    };
+    Some(match holder {
+        Holder::Symbols => Care::Symbols,
+        Holder::Relocations if payload_moves(&[0, 10, 11]) => Care::OtherTarget,
+        Holder::Debug | Holder::Metadata | Holder::SourceMap if payload_moves(&[11]) => Care::DataAlone,
+        _ => Care::SizeAlone,
+    })
 }

@@ -1,7 +1,7 @@
 //! Callers of the reader, which prove what it answers of each kind of section that a builder writes; sections of padded numbers, and of what is handed in.
 #![tactic(auto, using(wasm_base::proofs::KnownLengths::drained_array))]
 
-ghost use Rattle.std.specs.Prelude.{◌≡◌, ◌≢◌, ◌≤◌, ◌++◌, [], ◌∷◌, ℕ, List, length, IfOk, IfErr, OnOk, OnErr};
+ghost use Rattle.std.specs.Prelude.{◌≡◌, ◌≢◌, ◌⊎◌, ◌≤◌, ◌++◌, [], ◌∷◌, ℕ, List, length, IfOk, IfErr, OnOk, OnErr};
 ghost use Rattle.wasm_base.specs.Entries.{counted_format};
 ghost use Rattle.wasm_base.specs.Formats.{u32 as u32_format, frame, wasm_module};
 ghost use Rattle.wasm_base.specs.Modules.{GainsReading};
@@ -11,9 +11,9 @@ ghost use Rattle.wasm_base.specs.Numbers.{wide};
 ghost use Rattle.wasm_base.specs.Reading.{Reads, ReadsNothing};
 ghost use Rattle.wasm_reader.specs.Kinds.{Functions, Names, contents_of};
 ghost use Rattle.wasm_reader.specs.Sections.{section, Takes, Shortens};
-ghost use Rattle.wasm_reader.specs.Shortening.{ShortensModule};
-ghost use Rattle.wasm_reader.specs.declared.whole.Offsets.TheVariants.{Refuse};
+ghost use Rattle.wasm_reader.specs.Shortening.{Explains, IsMemory, ShortensModule};
 ghost use Rattle.wasm_reader.specs.declared.kinds.SectionKind.TheVariants as kinds;
+ghost use Rattle.wasm_reader.specs.declared.whole.Offsets.TheVariants.{LeaveOut, Refuse};
 
 pub mod custom;
 pub mod declared;
@@ -179,8 +179,8 @@ pub fn smaller_module<A: Allocator + Copy>(
     shorten_module(bytes, Offsets::Refuse, sink)
 }
 
-/// Shortens a module, and then what came of it: both are the same.
-#[tactic(auto, using(wasm_reader::proofs::Calls::module_stays))]
+/// Shortens a module, and then what came of it: both are the same, and the second call is refused for want of memory alone.
+#[tactic(auto, using(wasm_reader::proofs::Calls::module_stays, wasm_reader::proofs::Calls::module_accepted))]
 pub fn shortened_twice<A: Allocator + Copy>(
     bytes: &[u8],
     once: &mut Vec<u8, A>,
@@ -188,6 +188,7 @@ pub fn shortened_twice<A: Allocator + Copy>(
 ) -> Result<usize, ModuleFault>
     requires { once.old.items ≡ [] × twice.old.items ≡ [] }
     ensures same { OnOk result (twice.new.items ≡ once.new.items) }
+    ensures accepted { IfErr result (λ fault. IsMemory fault ⊎ Explains LeaveOut bytes.now fault) }
 {
     laws::shortened();
     shorten_module(bytes, Offsets::LeaveOut, once)?;

@@ -73,7 +73,7 @@ typedef struct {
     uint32_t id;
 } dz_section;
 
-/* A section of a module, as an outline has it: how many items it has, if it is read as a section of its kind and these are counted; how many bytes of the module stand
+/* A section of a module, as an outline has it: how many items it has, if it is read as a section of its kind and these are counted (of a type section its entries: a recursion group is one); how many bytes of the module stand
    before what its frame holds; how many stand before the name of a custom section, and how many bytes the name has (DZ_NO_ANSWER, both, where no name stands there); how many bytes
    its frame holds; and its id. The name is no string of C: no 0 ends it. */
 typedef struct {
@@ -108,16 +108,16 @@ uint64_t dz_list(const uint8_t *module, size_t module_len, dz_section *out, size
 uint64_t dz_shorten(uint32_t kind, const uint8_t *bytes, size_t bytes_len, uint8_t *out, size_t out_len, uint64_t *taken, uint32_t *cause);
 
 /* Outlines a module: a line for each section, whether it is read as its kind or not. Answers how many there are, and copies them to the front of `out` where it has room for all
-   of them. Types are counted here, and a custom section is read as what its name stands for. Where the bytes are no header and frames of ids the answer is DZ_NO_ANSWER, `out` is as it
+   of them. The entries of a type section are counted here, a recursion group as one, and a custom section is read as what its name stands for. Where the bytes are no header and frames of ids the answer is DZ_NO_ANSWER, `out` is as it
    was, `*place` is the number of the first section that is none, counted from 1, or 0 for the header, and `*cause` is one of dz_fault. So it is where memory was refused
    (DZ_OUT_OF_MEMORY). Else both are 0. */
 uint64_t dz_outline(const uint8_t *module, size_t module_len, dz_outlined *out, size_t out_len, uint64_t *place, uint32_t *cause);
 
 /* Writes a module with each section in its one shortest text. Answers how many bytes that has, which are at most as many as the module has, and copies them to the front of `out` where it
    has room for all of them; `*kept` is how many sections are kept as they stand, since they are not read as sections of their kinds. What follows a padded number moves. So custom
-   sections that hold offsets into code or data (`linking`, `sourceMappingURL`, and names that begin with `reloc.`, `.debug_` or `metadata.code.`) are left out where `drop_offsets` is not 0. Where it is 0, a
-   module that has one is refused if its code or data section would be written in another way: `*place` is the number of one that holds offsets, counted from 1, and `*cause`
-   DZ_OFFSETS. Where the bytes are no module, or memory was refused, `*place` and `*cause` are as dz_outline has them. Where there is no text the answer is DZ_NO_ANSWER, `out` is as it was, and
+   sections that hold offsets (`linking`, `external_debug_info`, `build_id`, `sourceMappingURL`, and names that begin with `reloc.`, `.debug_` or `metadata.code.`) are left out where `drop_offsets` is not 0. Where it
+   is 0, a module that would lose offsets is refused: beside any of these the code and data sections must stay, byte for byte; beside `reloc.` the custom sections too; and beside `sourceMappingURL` the number
+   of bytes before each code section. `*place` is the number of the first section whose offsets would be lost, counted from 1, and `*cause` DZ_OFFSETS. Where the bytes are no module, or memory was refused, `*place` and `*cause` are as dz_outline has them. Where there is no text the answer is DZ_NO_ANSWER, `out` is as it was, and
    `*kept` is 0; else `*place` and `*cause` are 0. */
 uint64_t dz_shorten_module(const uint8_t *module, size_t module_len, uint32_t drop_offsets, uint8_t *out, size_t out_len, uint64_t *kept, uint64_t *place, uint32_t *cause);
 

@@ -6,8 +6,9 @@ use Rattle.wasm_base.specs.Numbers.{shortest, wide}
 use Rattle.wasm_base.specs.Reading.{Reads, ReadsNothing}
 use Rattle.wasm_reader.specs.Kinds.{Contents}
 use Rattle.wasm_reader.specs.Sections.{section, Takes, Shortens}
-use Rattle.wasm_reader.specs.Shortening.{ShortensModule, AreSettled}
+use Rattle.wasm_reader.specs.Shortening.{ShortensModule, Explains, IsMemory, IsIdempotent}
 use Rattle.wasm_reader.specs.declared.kinds.SectionKind.{SectionKind}
+use Rattle.wasm_reader.specs.declared.whole.ModuleFault.{ModuleFault}
 use Rattle.wasm_reader.specs.declared.whole.Offsets.{Offsets}
 use Rattle.wasm_reader.proofs.ShortSections.{section_unique}
 
@@ -70,6 +71,11 @@ pub module_no_longer : {offsets : Offsets} {bytes old new : List ℕ} {kept : �
 module_no_longer {bytes = bytes} e h = subst (λ z. length z ≤ length bytes) (sym (h.appended ∙ ap (λ z. z ++ h.text) e)) h.shorter
 
 -- What came out is shortened again, by the law of shortened modules.
-pub module_stays : {offsets : Offsets} {bytes old new other next : List ℕ} {kept more : ℕ} → AreSettled → old ≡ [] → other ≡ [] → ShortensModule offsets bytes kept old new → ShortensModule offsets new more other next → next ≡ new
+pub module_stays : {offsets : Offsets} {bytes old new other next : List ℕ} {kept more : ℕ} → IsIdempotent → old ≡ [] → other ≡ [] → ShortensModule offsets bytes kept old new → ShortensModule offsets new more other next → next ≡ new
 module_stays {offsets = offsets} {bytes = bytes} {new = new} {next = next} {kept = kept} {more = more} law e f h g =
     law.again offsets bytes [] [] new next kept more (subst (λ z. ShortensModule offsets bytes kept z new) e h) (subst (λ z. ShortensModule offsets new more z next) f g)
+
+-- And that is refused for want of memory alone.
+pub module_accepted : {offsets : Offsets} {bytes old new : List ℕ} {kept : ℕ} (fault : ModuleFault) → IsIdempotent → old ≡ [] → ShortensModule offsets bytes kept old new → Explains offsets new fault → IsMemory fault
+module_accepted {offsets = offsets} {bytes = bytes} {new = new} {kept = kept} fault law e h why =
+    law.accepted offsets bytes [] new kept fault (subst (λ z. ShortensModule offsets bytes kept z new) e h) why

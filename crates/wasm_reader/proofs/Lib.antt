@@ -1,5 +1,6 @@
 pub mod Calls
 pub mod Counting
+pub mod KeptOffsets
 pub mod KindLaws
 pub mod ModuleLaws
 pub mod ReadModules

@@ -1,24 +1,29 @@
 -- What is as short as can be stays as it is.
 use Rattle.wasm_reader.specs.Kinds.{kind_named, Contents, content}
 use Rattle.wasm_reader.proofs.KindLaws.{keeps_name}
-use Rattle.std.proofs.Common.{◌≡◌, ◌≢◌, ℕ, List, [], ◌∷◌, ◌++◌, length, drop, false, Option, Some, None, refl, sym, ap, subst, ◌∙◌, append-nil}
+use Rattle.std.proofs.Common.{◌≡◌, ◌≢◌, ℕ, ◌+◌, List, [], ◌∷◌, ◌++◌, length, drop, false, Option, Some, None, refl, sym, ap, subst, ◌∙◌, append-nil, arith}
 use Rattle.std.specs.List.{AllByRecursion, flat_map}
 use Rattle.std.proofs.lemmas.List.{append_cancel_left}
 use Rattle.wasm_base.specs.Numbers.{shortest, wide}
-use Rattle.wasm_base.specs.Formats.{any_bytes, frame, header, name}
+use Rattle.wasm_base.specs.Formats.{any_bytes, frame, header, name, wasm_module}
 use Rattle.wasm_base.specs.Reading.{Reads, ReadsNothing}
 use Rattle.wasm_base.proofs.BaseLaws.{frame_bytes_unique, name_unique}
 use Rattle.wasm_base.proofs.NumberLaws.{u32_unique}
 use Rattle.wasm_base.proofs.ReadingSteps.{reads_same}
-use Rattle.wasm_reader.specs.Outlines.{Section, IsSection, IsNameOf, bytes_of, kind_at, section_kind_of}
+use Rattle.wasm_reader.specs.Outlines.{Section, IsSection, IsNameOf, HasSections, bytes_of, kind_at, section_kind_of}
 use Rattle.wasm_reader.specs.Sections.{section, Shortens}
-use Rattle.wasm_reader.specs.Shortening.{holds_offsets, IsWritten, Rewrite, IsRewrite, written, written_as, AreSettled}
+use Rattle.wasm_reader.specs.Shortening.{holds_offsets, AllStay, IsWritten, Rewrite, IsRewrite, written, written_as, ShortensModule, LosesOffsets, Explains, IsMemory, IsIdempotent}
 use Rattle.wasm_reader.specs.declared.kinds.SectionKind.{SectionKind}
 use Rattle.wasm_reader.specs.declared.kinds.SectionKind.TheVariants as kinds
 use Rattle.wasm_reader.specs.declared.whole.How.{How}
 use Rattle.wasm_reader.specs.declared.whole.How.TheVariants.{Shortest, Kept, LeftOut}
+use Rattle.wasm_reader.specs.declared.whole.ModuleFault.{ModuleFault}
+use Rattle.wasm_reader.specs.declared.whole.ModuleFault.TheVariants as faults
 use Rattle.wasm_reader.specs.declared.whole.Offsets.{Offsets}
-use Rattle.wasm_reader.specs.declared.whole.Offsets.TheVariants.{LeaveOut}
+use Rattle.wasm_reader.specs.declared.whole.Offsets.TheVariants.{Refuse, LeaveOut}
+use Rattle.wasm_reader.specs.declared.whole.Target.{Target}
+use Rattle.wasm_reader_base.specs.declared.fault.ReadFault.{ReadFault}
+use Rattle.wasm_reader_base.specs.declared.fault.ReadFault.TheVariants.{Memory}
 use Rattle.wasm_reader.proofs.ShortModules.{sections_of, bytes_joined}
 use Rattle.wasm_reader.proofs.ShortSections.{section_unique}
 
@@ -133,6 +138,10 @@ text_framed offsets w Shortest i h n =
 text_framed offsets w Kept i h n = record { payload = w.section.payload; framed = subst (λ z. frame any_bytes wide z w.section.payload) (sym h.0.0) i.holds }
 text_framed offsets w LeftOut i h n = absurd (n refl)
 
+-- What is written for the section is the section as it stands.
+abbrev IsAgain : Rewrite → Type 0
+IsAgain v = written v ≡ bytes_of v.section
+
 module _ (offsets : Offsets) where
   -- The next section that was written is the next that stands there.
   next : (w : Rewrite) (rest : List ℕ) (how : How) → IsSection w.section → IsWritten offsets how w.section w.text → how ≢ LeftOut → (v : Rewrite) (behind : List ℕ) → IsSection v.section → (w.section.id ∷ w.text) ++ rest ≡ bytes_of v.section ++ behind → Stands w v × (rest ≡ behind)
@@ -145,29 +154,45 @@ module _ (offsets : Offsets) where
   -- One section was written, and the others stand behind it.
   one_again : (w : Rewrite) (rest : List ℕ) (how : How) → IsSection w.section → IsWritten offsets how w.section w.text → how ≢ LeftOut → (vs : List Rewrite) → AllByRecursion (λ v. IsSection v.section) vs → AllByRecursion (IsRewrite offsets) vs
       → (w.section.id ∷ w.text) ++ rest ≡ flat_map (λ v. bytes_of v.section) vs
-      → ((us : List Rewrite) → AllByRecursion (λ v. IsSection v.section) us → AllByRecursion (IsRewrite offsets) us → rest ≡ flat_map (λ v. bytes_of v.section) us → flat_map written us ≡ flat_map (λ v. bytes_of v.section) us)
-      → flat_map written vs ≡ flat_map (λ v. bytes_of v.section) vs
-  one_again w rest how i h n [] j g e others = absurd (cc e)
+      → ((us : List Rewrite) → AllByRecursion (λ v. IsSection v.section) us → AllByRecursion (IsRewrite offsets) us → rest ≡ flat_map (λ v. bytes_of v.section) us → AllByRecursion IsAgain us) → AllByRecursion IsAgain vs
+  one_again w rest how i h n [] j g e others = tt
   one_again w rest how i h n (v ∷ vs) j g e others =
       let a = next w rest how i h n v (flat_map (λ u. bytes_of u.section) vs) j.0 e in
-      let here : written v ≡ bytes_of v.section = stays offsets w v i j.0 a.0 how h n v.how g.0 in
-      ap (λ z. z ++ flat_map written vs) here ∙ ap (λ z. bytes_of v.section ++ z) (others vs j.1 g.1 a.1)
+      (stays offsets w v i j.0 a.0 how h n v.how g.0, others vs j.1 g.1 a.1)
 
-  none_again : (vs : List Rewrite) → [] ≡ flat_map (λ v. bytes_of v.section) vs → flat_map written vs ≡ flat_map (λ v. bytes_of v.section) vs
-  none_again [] e = refl
+  none_again : (vs : List Rewrite) → [] ≡ flat_map (λ v. bytes_of v.section) vs → AllByRecursion IsAgain vs
+  none_again [] e = tt
   none_again (v ∷ vs) e = absurd (cc e)
 
   first_again : (w : Rewrite) (rest : List ℕ) (how : How) → IsSection w.section → IsWritten offsets how w.section w.text → (vs : List Rewrite) → AllByRecursion (λ v. IsSection v.section) vs → AllByRecursion (IsRewrite offsets) vs
       → written_as how w.section.id w.text ++ rest ≡ flat_map (λ v. bytes_of v.section) vs
-      → ((us : List Rewrite) → AllByRecursion (λ v. IsSection v.section) us → AllByRecursion (IsRewrite offsets) us → rest ≡ flat_map (λ v. bytes_of v.section) us → flat_map written us ≡ flat_map (λ v. bytes_of v.section) us)
-      → flat_map written vs ≡ flat_map (λ v. bytes_of v.section) vs
+      → ((us : List Rewrite) → AllByRecursion (λ v. IsSection v.section) us → AllByRecursion (IsRewrite offsets) us → rest ≡ flat_map (λ v. bytes_of v.section) us → AllByRecursion IsAgain us) → AllByRecursion IsAgain vs
   first_again w rest Shortest i h vs j g e others = one_again w rest Shortest i h (λ z. cc z) vs j g e others
   first_again w rest Kept i h vs j g e others = one_again w rest Kept i h (λ z. cc z) vs j g e others
   first_again w rest LeftOut i h vs j g e others = others vs j g e
 
-  all_again : (ws vs : List Rewrite) → AllByRecursion (λ w. IsSection w.section) ws → AllByRecursion (IsRewrite offsets) ws → AllByRecursion (λ v. IsSection v.section) vs → AllByRecursion (IsRewrite offsets) vs → flat_map written ws ≡ flat_map (λ v. bytes_of v.section) vs → flat_map written vs ≡ flat_map (λ v. bytes_of v.section) vs
+  all_again : (ws vs : List Rewrite) → AllByRecursion (λ w. IsSection w.section) ws → AllByRecursion (IsRewrite offsets) ws → AllByRecursion (λ v. IsSection v.section) vs → AllByRecursion (IsRewrite offsets) vs → flat_map written ws ≡ flat_map (λ v. bytes_of v.section) vs → AllByRecursion IsAgain vs
   all_again [] vs i h j g e = none_again vs e
   all_again (w ∷ ws) vs i h j g e = first_again w (flat_map written ws) w.how i.0 h.0 vs j g e (λ us k f d. all_again ws us i.1 h.1 k f d)
+
+joined_again : (vs : List Rewrite) → AllByRecursion IsAgain vs → flat_map written vs ≡ flat_map (λ v. bytes_of v.section) vs
+joined_again [] h = refl
+joined_again (v ∷ vs) h = ap (λ z. z ++ flat_map written vs) h.0 ∙ ap (λ z. bytes_of v.section ++ z) (joined_again vs h.1)
+
+-- ---- offsets
+
+unchanged : (v : Rewrite) (how : How) → IsWritten Refuse how v.section v.text → written_as how v.section.id v.text ≡ bytes_of v.section → v.text ≡ v.section.framed
+unchanged v Shortest h e = cc e
+unchanged v Kept h e = h.0.0
+unchanged v LeftOut h e = absurd (cc e)
+
+-- Where each section is written as it stands, all stay.
+all_stay : (target : Target) (from to : ℕ) (vs : List Rewrite) → from ≡ to → AllByRecursion (IsRewrite Refuse) vs → AllByRecursion IsAgain vs → AllStay target from to vs
+all_stay target from to [] e g h = tt
+all_stay target from to (v ∷ vs) e g h = (
+  ((λ l. unchanged v v.how g.0 h.0), (λ l. e)),
+  all_stay target (from + length (bytes_of v.section)) (to + length (written v)) vs (omega (arith, e, ap length h.0)) g.1 h.1,
+)
 
 -- ---- modules
 
@@ -175,12 +200,35 @@ all_sections : (ws : List Rewrite) → AllByRecursion IsSection (sections_of ws)
 all_sections [] h = tt
 all_sections (w ∷ ws) h = (h.0, all_sections ws h.1)
 
-pub settled : AreSettled
+-- Each section of a module that was shortened is written as it stands.
+module_again : (offsets : Offsets) (bytes old text : List ℕ) (kept : ℕ) (vs : List Rewrite) → ShortensModule offsets bytes kept old (old ++ text) → HasSections text (sections_of vs) → AllByRecursion (IsRewrite offsets) vs → AllByRecursion IsAgain vs
+module_again offsets bytes old text kept vs first has each =
+    let is : text ≡ first.text = append_cancel_left old text first.text first.appended in
+    let behind : flat_map written first.rewrites ≡ flat_map bytes_of (sections_of vs) = append_cancel_left header (flat_map written first.rewrites) (flat_map bytes_of (sections_of vs)) (sym first.is ∙ sym is ∙ has.joined) in
+    all_again offsets first.rewrites vs (all_sections first.rewrites first.has.each) first.each (all_sections vs has.each) each (behind ∙ sym (bytes_joined vs))
+
+-- No offsets are lost of a module that was shortened.
+none_lost : (bytes old text : List ℕ) (kept number : ℕ) → ShortensModule Refuse bytes kept old (old ++ text) → LosesOffsets text number → ⊥
+none_lost bytes old text kept number first l =
+    let vs = l.before ++ l.holder ∷ l.after in
+    l.lost.2 (all_stay l.lost.0 (length header) (length header) vs refl l.each (module_again Refuse bytes old text kept vs first l.has l.each))
+
+only_memory : (fault : ReadFault) → (fault ≢ Memory → ⊥) → fault ≡ Memory
+only_memory Memory h = refl
+only_memory fault h = absurd (h (λ e. cc e))
+
+refused_again : (offsets : Offsets) (bytes old text : List ℕ) (kept : ℕ) (fault : ModuleFault) → ShortensModule offsets bytes kept old (old ++ text) → Explains offsets text fault → IsMemory fault
+refused_again offsets bytes old text kept (faults.Section number fault) first why =
+    let is : text ≡ first.text = append_cancel_left old text first.text first.appended in
+    only_memory fault λ n. (why n).1.none first.sections (subst (λ z. wasm_module wide z first.sections) (sym is) first.read)
+refused_again offsets bytes old text kept (faults.Offsets number) first why =
+    none_lost bytes old text kept number (subst (λ z. ShortensModule z bytes kept old (old ++ text)) why.0 first) why.1
+
+pub settled : IsIdempotent
 settled = record {
   again = λ offsets bytes old other text next kept more first second.
-      let is : text ≡ first.text = append_cancel_left old text first.text first.appended in
       let comes : next ≡ second.text = append_cancel_left other next second.text second.appended in
-      let behind : flat_map written first.rewrites ≡ flat_map bytes_of (sections_of second.rewrites) = append_cancel_left header (flat_map written first.rewrites) (flat_map bytes_of (sections_of second.rewrites)) (sym first.is ∙ sym is ∙ second.has.joined) in
-      let same = all_again offsets first.rewrites second.rewrites (all_sections first.rewrites first.has.each) first.each (all_sections second.rewrites second.has.each) second.each (behind ∙ sym (bytes_joined second.rewrites)) in
+      let same = joined_again second.rewrites (module_again offsets bytes old text kept second.rewrites first second.has second.each) in
       comes ∙ second.is ∙ ap (λ z. header ++ z) (same ∙ bytes_joined second.rewrites) ∙ sym second.has.joined;
+  accepted = refused_again;
 }

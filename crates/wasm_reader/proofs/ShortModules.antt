@@ -1,10 +1,8 @@
 -- How a module is written as shortly as can be.
-use Rattle.std.proofs.Common.{◌≡◌, ◌≢◌, ◌⊎◌, inl, inr, ℕ, ◌≤◌, ◌<◌, ◌+◌, ◌-◌, ◌^◌, suc, List, [], ◌∷◌, ◌++◌, length, map, take, drop, Bool, true, false, ◌||◌, not, Option, Some, None, refl, sym, ap, subst, ◌∙◌, append_assoc, append-nil, arith}
+use Rattle.std.proofs.Common.{◌≡◌, ◌≢◌, ℕ, ◌≤◌, ◌<◌, ◌+◌, ◌-◌, ◌^◌, suc, List, [], ◌∷◌, ◌++◌, length, map, take, drop, Bool, false, Decides, Some, None, refl, sym, ap, subst, ◌∙◌, append_assoc, append-nil, arith}
 use Rattle.std.specs.List.{AllByRecursion, flat_map}
 use Rattle.std.proofs.lemmas.Grind.{flat_map-append}
 use Rattle.std.proofs.lemmas.List.{length-append, length-drop, length-map, take_at, take_all, drop_at}
-use Rattle.std.proofs.lemmas.Slice.Eq.{bytes_eq-Decides}
-use Rattle.std.specs.Str.{bytes_eq}
 use Rattle.wasm_base.specs.Going.{FillsNothing}
 use Rattle.wasm_base.specs.Numbers.{wide}
 use Rattle.wasm_base.specs.Formats.{any_bytes, any_section, frame, header, members, wasm_module}
@@ -12,15 +10,16 @@ use Rattle.wasm_base.specs.Reading.{Reads, ReadsNothing}
 use Rattle.wasm_base.proofs.BaseLaws.{frame_bytes_unique}
 use Rattle.wasm_base.proofs.NumberLaws.{u32_unique}
 use Rattle.wasm_base.proofs.ReadingSteps.{reads_same}
-use Rattle.wasm_reader.specs.Outlines.{Section, IsSection, IsNameOf, HasSections, bytes_of, EndsAt}
+use Rattle.wasm_reader.specs.Outlines.{Section, IsSection, HasSections, bytes_of, EndsAt}
 use Rattle.wasm_reader.specs.Sections.{Takes, Shortens}
-use Rattle.wasm_reader.specs.Shortening.{holds_offsets, IsLedInto, StaysInPlace, IsTextFor, IsWritten, Rewrite, IsRewrite, written, written_as, id_written, keeps, count_kept, IsMoved, IsUnmoved, HoldsNoOffsets, ShortensModule, LosesOffsets, GainsSection, IsFirstHolder, first_of, leaves_out, lost_at, HasTally, Rewrites, StopsAfter, IsFrontOf}
+use Rattle.wasm_reader.specs.Shortening.{holds_offsets, KeepsOffsets, HasLostOffsets, IsTextFor, IsWritten, Rewrite, IsRewrite, written, written_as, id_written, IsChange, IsFirst, size_before, size_after, ShortensModule, LosesOffsets, GainsSection, leaves_out, lost_at, HasTally, Rewrites, StopsAfter, IsFrontOf}
 use Rattle.wasm_reader.specs.declared.kinds.SectionKind.{SectionKind}
 use Rattle.wasm_reader.specs.declared.whole.How.{How}
 use Rattle.wasm_reader.specs.declared.whole.How.TheVariants.{Shortest, Kept, LeftOut}
 use Rattle.wasm_reader.specs.declared.whole.Offsets.{Offsets}
 use Rattle.wasm_reader.specs.declared.whole.Offsets.TheVariants.{Refuse, LeaveOut}
 use Rattle.wasm_reader.specs.declared.whole.Tally.{Tally}
+use Rattle.wasm_reader.proofs.KeptOffsets.{all_map, first_lost, not_lost, nothing, nothing_known}
 use Rattle.wasm_reader.proofs.ReadOutlines.{All-append, joined_more, no_module, ends_behind, sections_read, any_of}
 
 -- ---- a section
@@ -47,48 +46,12 @@ whole_frame kind s n old new i h =
       h.appended,
     )
 
--- A section of the core has no name.
-holder_custom : (s : Section) → IsSection s → holds_offsets s.name ≡ true → s.id ≡ 0
-holder_custom s i h = go s.name i.named h
-  where
-    go : (n : Option (List ℕ)) → IsNameOf s.id s.payload n → holds_offsets n ≡ true → s.id ≡ 0
-    go (Some n) g h = g.0
-    go None g h = absurd (cc h)
-
-pub holder_stays : (s : Section) (text : List ℕ) → IsSection s → holds_offsets s.name ≡ true → StaysInPlace s text
-holder_stays s text i h led = absurd (apart s.id (holder_custom s i h) led)
-  where
-    apart : (id : ℕ) → id ≡ 0 → IsLedInto id → ⊥
-    apart id e (inl f) = omega (arith, e, f)
-    apart id e (inr f) = omega (arith, e, f)
-
-leaves : (offsets : Offsets) (holds : Bool) → leaves_out offsets holds ≡ true → (offsets ≡ LeaveOut) × (holds ≡ true)
-leaves Refuse holds e = absurd (cc e)
-leaves LeaveOut holds e = (refl, e)
-
 pub stays_in : (offsets : Offsets) (holds : Bool) → leaves_out offsets holds ≡ false → offsets ≡ LeaveOut → holds ≡ false
 stays_in Refuse holds e l = absurd (cc l)
 stays_in LeaveOut holds e l = e
 
--- A section that is left out stays where nothing leads.
-pub left_out : (offsets : Offsets) (s : Section) (old new : List ℕ) → IsSection s → leaves_out offsets (holds_offsets s.name) ≡ true → new ≡ old → GainsSection offsets s LeftOut false old new
-left_out offsets s old new i e is =
-    let l = leaves offsets (holds_offsets s.name) e in
-    record { text = []; written = (refl, l.0, l.1); moved = holder_stays s [] i l.1; appended = is ∙ sym (append-nil old) }
-
-pub is_moved_text : (b : Bool) (s : Section) (given text : List ℕ) → given ≡ text → IsMoved b s given → IsMoved b s text
-is_moved_text b s given text e m = subst (λ z. IsMoved b s z) e m
-
-pub not_led : (s : Section) (text : List ℕ) → (IsLedInto s.id → ⊥) → IsMoved false s text
-not_led s text n = λ led. absurd (n led)
-
-pub led : (s : Section) (text : List ℕ) (differs : Bool) → IsLedInto s.id → differs ≡ not (bytes_eq text s.framed) → IsMoved differs s text
-led s text true l e = λ stays. absurd (cc (e ∙ ap not ((bytes_eq-Decides text s.framed).1 (stays l))))
-led s text false l e = λ m. (bytes_eq-Decides text s.framed).0 (not_false (bytes_eq text s.framed) (sym e))
-  where
-    not_false : (b : Bool) → not b ≡ false → b ≡ true
-    not_false true k = refl
-    not_false false k = absurd (cc k)
+pub is_change_text : (b : Bool) (s : Section) (given text : List ℕ) → given ≡ text → IsChange b s given → IsChange b s text
+is_change_text b s given text e m = subst (λ z. IsChange b s z) e m
 
 pub after_id : (old text new : List ℕ) (id start : ℕ) → start ≡ length old → new ≡ (old ++ id ∷ []) ++ text → take (length new - (start + 1)) (drop (start + 1) new) ≡ text
 after_id old text new id start l e =
@@ -108,89 +71,32 @@ behind_id Shortest s text h = refl
 behind_id Kept s text h = refl
 behind_id LeftOut s text h = absurd h
 
-pub gains : (offsets : Offsets) (s : Section) (how : How) (is_moved : Bool) (text old new : List ℕ) → IsTextFor how s text → (offsets ≡ LeaveOut → holds_offsets s.name ≡ false) → IsMoved is_moved s text → new ≡ (old ++ s.id ∷ []) ++ text → GainsSection offsets s how is_moved old new
-gains offsets s how is_moved text old new h n d e = record {
+pub gains : (offsets : Offsets) (s : Section) (how : How) (is_changed : Bool) (text old new : List ℕ) → IsTextFor how s text → (offsets ≡ LeaveOut → holds_offsets s.name ≡ false) → IsChange is_changed s text → new ≡ (old ++ s.id ∷ []) ++ text → GainsSection offsets s how is_changed old new
+gains offsets s how is_changed text old new h n d e = record {
   text = text;
   written = is_written offsets how s text h n;
-  moved = d;
+  changed = d;
   appended = e ∙ append_assoc old (s.id ∷ []) text ∙ ap (λ z. old ++ z) (sym (behind_id how s text h));
 }
 
--- ---- what is known of sections that were written
-
-pub nothing_known : HasTally [] (record { sections = 0; kept = 0; holder = None; is_moved = false })
-nothing_known = record { sections = refl; kept = refl; holder = tt; stays = λ e. tt; moves = λ e. absurd (cc e) }
-
-kept_more : (ws : List Rewrite) (w : Rewrite) → count_kept (ws ++ w ∷ []) ≡ count_kept ws + keeps w.how
-kept_more [] w = omega arith
-kept_more (v ∷ ws) w = omega (arith, kept_more ws w)
-
-pub holder_next : (ws : List Rewrite) (w : Rewrite) (found : Option ℕ) (number : ℕ) → IsFirstHolder ws found → length ws + 1 ≡ number → IsFirstHolder (ws ++ w ∷ []) (first_of found (holds_offsets w.section.name) number)
-holder_next ws w (Some found) number h e = (h.0, h.1 ++ w ∷ [], h.2, ap (λ z. z ++ w ∷ []) h.3 ∙ append_assoc h.0 (h.2 ∷ h.1) (w ∷ []), h.4, h.5, h.6)
-holder_next ws w None number h e = here (holds_offsets w.section.name) refl
-  where
-    here : (b : Bool) → holds_offsets w.section.name ≡ b → IsFirstHolder (ws ++ w ∷ []) (first_of None b number)
-    here true k = (ws, [], w, refl, e, h, k)
-    here false k = All-append HoldsNoOffsets ws (w ∷ []) h (k, tt)
-
-front_of_all : (P : Rewrite → Type 0) (ws : List Rewrite) (w : Rewrite) → AllByRecursion P (ws ++ w ∷ []) → AllByRecursion P ws × P w
-front_of_all P [] w h = (tt, h.0)
-front_of_all P (v ∷ ws) w h = let g = front_of_all P ws w h.1 in ((h.0, g.0), g.1)
-
-pub or_left : (a b : Bool) → a ≡ true → true ≡ (a || b)
-or_left true b e = refl
-or_left false b e = absurd (cc e)
-
-pub or_right : (a b : Bool) → a ≡ false → b ≡ (a || b)
-or_right true b e = absurd (cc e)
-or_right false b e = refl
-
-or_true : (a b : Bool) → (a || b) ≡ true → (a ≡ true) ⊎ (b ≡ true)
-or_true true b e = inl refl
-or_true false b e = inr e
-
-or_false : (a b : Bool) → (a || b) ≡ false → (a ≡ false) × (b ≡ false)
-or_false true b e = absurd (cc e)
-or_false false b e = (refl, e)
-
-unmoved : (b : Bool) (w : Rewrite) → IsMoved b w.section w.text → b ≡ false → IsUnmoved w
-unmoved false w m e = m
-unmoved true w m e = absurd (cc e)
-
-moved : (b : Bool) (w : Rewrite) → IsMoved b w.section w.text → b ≡ true → IsUnmoved w → ⊥
-moved false w m e = absurd (cc e)
-moved true w m e = m
-
--- One section more.
-pub tally_more : (ws : List Rewrite) (w : Rewrite) (old new : Tally) (is_moved : Bool) → HasTally ws old → IsMoved is_moved w.section w.text → new.sections ≡ old.sections + 1 → new.kept ≡ old.kept + keeps w.how → new.holder ≡ first_of old.holder (holds_offsets w.section.name) new.sections
-    → new.is_moved ≡ (old.is_moved || is_moved) → HasTally (ws ++ w ∷ []) new
-tally_more ws w old new is_moved h d s k f m = record {
-  sections = omega (arith, s, h.sections, length-append ws (w ∷ []));
-  kept = k ∙ ap (λ z. z + keeps w.how) h.kept ∙ sym (kept_more ws w);
-  holder = subst (λ z. IsFirstHolder (ws ++ w ∷ []) z) (sym f) (holder_next ws w old.holder new.sections h.holder (omega (arith, s, h.sections)));
-  stays = λ e. let both = or_false old.is_moved is_moved (sym m ∙ e) in All-append IsUnmoved ws (w ∷ []) (h.stays both.0) (unmoved is_moved w d both.1, tt);
-  moves = λ e all. let g = front_of_all IsUnmoved ws w all in either (or_true old.is_moved is_moved (sym m ∙ e)) g;
-}
-  where
-    either : (old.is_moved ≡ true) ⊎ (is_moved ≡ true) → AllByRecursion IsUnmoved ws × IsUnmoved w → ⊥
-    either (inl e) g = h.moves e g.0
-    either (inr e) g = moved is_moved w d e g.1
-
 -- ---- sections one after the other
 
-pub rewrites_start : (offsets : Offsets) (bytes old : List ℕ) → Rewrites offsets bytes bytes old old (record { sections = 0; kept = 0; holder = None; is_moved = false })
+pub rewrites_start : (offsets : Offsets) (bytes old : List ℕ) → Rewrites offsets bytes bytes old old nothing
 rewrites_start offsets bytes old = record { rewrites = []; joined = refl; sections = tt; each = tt; tallied = nothing_known; appended = sym (append-nil old) }
 
-pub rewrites_step : (offsets : Offsets) (bytes rest after old middle new : List ℕ) (tally next : Tally) (s : Section) (how : How) (is_moved : Bool) → Rewrites offsets bytes rest old middle tally → IsSection s → rest ≡ bytes_of s ++ after
-    → GainsSection offsets s how is_moved middle new → ((ws : List Rewrite) (w : Rewrite) → HasTally ws tally → s ≡ w.section → how ≡ w.how → IsMoved is_moved w.section w.text → HasTally (ws ++ w ∷ []) next) → Rewrites offsets bytes after old new next
-rewrites_step offsets bytes rest after old middle new tally next s how is_moved r i e g t =
+pub rewrites_step : (offsets : Offsets) (bytes rest after old middle new : List ℕ) (tally next : Tally) (s : Section) (how : How) (is_changed is_level : Bool) (from to : ℕ) → Rewrites offsets bytes rest old middle tally → IsSection s → rest ≡ bytes_of s ++ after
+    → GainsSection offsets s how is_changed middle new → Decides is_level (from ≡ to) → from + length rest ≡ length bytes → to + length old ≡ length middle
+    → ((ws : List Rewrite) (w : Rewrite) → HasTally ws tally → s ≡ w.section → how ≡ w.how → IsChange is_changed w.section w.text → Decides is_level (size_before ws ≡ size_after ws) → HasTally (ws ++ w ∷ []) next) → Rewrites offsets bytes after old new next
+rewrites_step offsets bytes rest after old middle new tally next s how is_changed is_level from to r i e g l f b t =
     let w : Rewrite = record { section = s; how = how; text = g.text } in
+    let before : size_before r.rewrites ≡ from = omega (arith, f, ap length r.joined, length-append (flat_map (λ v. bytes_of v.section) r.rewrites) rest) in
+    let after_all : size_after r.rewrites ≡ to = omega (arith, b, ap length r.appended, length-append old (flat_map written r.rewrites)) in
     record {
       rewrites = r.rewrites ++ w ∷ [];
       joined = joined_more (λ v. bytes_of v.section) bytes rest after r.rewrites w r.joined e;
       sections = All-append (λ v. IsSection v.section) r.rewrites (w ∷ []) r.sections (i, tt);
       each = All-append (IsRewrite offsets) r.rewrites (w ∷ []) r.each (g.written, tt);
-      tallied = t r.rewrites w r.tallied refl refl g.moved;
+      tallied = t r.rewrites w r.tallied refl refl g.changed ((λ k. before ∙ l.0 k ∙ sym after_all), (λ k. l.1 (sym before ∙ k ∙ after_all)));
       appended = g.appended ∙ ap (λ z. z ++ written w) r.appended ∙ append_assoc old (flat_map written r.rewrites) (written w) ∙ ap (λ z. old ++ (flat_map written r.rewrites ++ z)) (sym (append-nil (written w))) ∙ ap (λ z. old ++ z) (sym (flat_map-append written r.rewrites (w ∷ [])));
     }
 
@@ -227,6 +133,13 @@ rewrites_few offsets bytes rest old now tally r = omega (arith, r.tallied.sectio
 
 pub rewrites_below : (offsets : Offsets) (bytes rest old now : List ℕ) (tally : Tally) → Rewrites offsets bytes rest old now tally → length bytes < 2 ^ 64 → length rest ≢ 0 → tally.sections + 1 < 2 ^ 64
 rewrites_below offsets bytes rest old now tally r l more = omega (arith, rewrites_few offsets bytes rest old now tally r, l, more)
+
+-- What is left, and what is new, are parts of the whole.
+pub rewrites_rest : (offsets : Offsets) (bytes rest old now : List ℕ) (tally : Tally) → Rewrites offsets bytes rest old now tally → length rest ≤ length bytes
+rewrites_rest offsets bytes rest old now tally r = omega (arith, ap length r.joined, length-append (flat_map (λ w. bytes_of w.section) r.rewrites) rest)
+
+pub rewrites_longer : (offsets : Offsets) (bytes rest old now : List ℕ) (tally : Tally) → Rewrites offsets bytes rest old now tally → length old ≤ length now
+rewrites_longer offsets bytes rest old now tally r = omega (arith, ap length r.appended, length-append old (flat_map written r.rewrites))
 
 pub rewrites_front : (offsets : Offsets) (bytes rest old now : List ℕ) (tally : Tally) → Rewrites offsets bytes rest old now tally → IsFrontOf old now
 rewrites_front offsets bytes rest old now tally r = (flat_map written r.rewrites, r.appended)
@@ -279,7 +192,7 @@ module _ (offsets : Offsets) (bytes start old middle new : List ℕ) (tally : Ta
   has : HasSections bytes (sections_of r.rewrites)
   has = record { joined = e ∙ ap (λ z. header ++ z) behind; each = all_sections r.rewrites r.sections }
 
-  module_shortened : (offsets ≡ Refuse → AllByRecursion HoldsNoOffsets r.rewrites ⊎ AllByRecursion IsUnmoved r.rewrites) → ShortensModule offsets bytes tally.kept old new
+  module_shortened : (offsets ≡ Refuse → AllByRecursion (KeepsOffsets r.rewrites) r.rewrites) → ShortensModule offsets bytes tally.kept old new
   module_shortened fits =
       let out = written_spelled offsets r.rewrites r.sections r.each in
       record {
@@ -298,17 +211,17 @@ module _ (offsets : Offsets) (bytes start old middle new : List ℕ) (tally : Ta
       }
 
   -- Nothing is refused.
-  pub keeps_offsets : lost_at offsets tally.is_moved tally.holder ≡ None → ShortensModule offsets bytes tally.kept old new
-  keeps_offsets n = cases offsets tally.is_moved tally.holder refl refl refl n
+  pub keeps_offsets : lost_at offsets tally ≡ None → ShortensModule offsets bytes tally.kept old new
+  keeps_offsets n = module_shortened λ l. kept (subst (λ o. lost_at o tally ≡ None) l n)
     where
-      cases : (o : Offsets) (b : Bool) (h : Option ℕ) → offsets ≡ o → tally.is_moved ≡ b → tally.holder ≡ h → lost_at o b h ≡ None → ShortensModule offsets bytes tally.kept old new
-      cases Refuse true h e f k n = module_shortened λ l. inl (subst (λ z. IsFirstHolder r.rewrites z) (k ∙ n) r.tallied.holder)
-      cases Refuse false h e f k n = module_shortened λ l. inr (r.tallied.stays f)
-      cases LeaveOut b h e f k n = module_shortened λ l. absurd (cc (sym e ∙ l))
+      kept : lost_at Refuse tally ≡ None → AllByRecursion (KeepsOffsets r.rewrites) r.rewrites
+      kept k =
+          let none : IsFirst (HasLostOffsets r.rewrites) r.rewrites None = subst (λ z. IsFirst (HasLostOffsets r.rewrites) r.rewrites z) k (first_lost r.rewrites tally r.tallied) in
+          all_map (λ w. HasLostOffsets r.rewrites w → ⊥) (KeepsOffsets r.rewrites) (not_lost r.rewrites tally r.tallied) r.rewrites none
 
-  loses : (number : ℕ) → offsets ≡ Refuse → tally.holder ≡ Some number → tally.is_moved ≡ true → LosesOffsets bytes number
-  loses number o h k =
-      let f : IsFirstHolder r.rewrites (Some number) = subst (λ z. IsFirstHolder r.rewrites z) h r.tallied.holder in
+  loses : (number : ℕ) → offsets ≡ Refuse → lost_at Refuse tally ≡ Some number → LosesOffsets bytes number
+  loses number o k =
+      let f : IsFirst (HasLostOffsets r.rewrites) r.rewrites (Some number) = subst (λ z. IsFirst (HasLostOffsets r.rewrites) r.rewrites z) k (first_lost r.rewrites tally r.tallied) in
       let is = f.3 in
       record {
         before = f.0;
@@ -317,18 +230,16 @@ module _ (offsets : Offsets) (bytes start old middle new : List ℕ) (tally : Ta
         has = subst (λ z. HasSections bytes (sections_of z)) is has;
         each = subst (λ z. AllByRecursion (IsRewrite Refuse) z) is (subst (λ z. AllByRecursion (IsRewrite z) r.rewrites) o r.each);
         counted = f.4;
-        first = f.5;
-        holds = f.6;
-        moved = λ all. r.tallied.moves k (subst (λ z. AllByRecursion IsUnmoved z) (sym is) all);
+        first = subst (λ z. AllByRecursion (KeepsOffsets z) f.0) is (all_map (λ w. HasLostOffsets r.rewrites w → ⊥) (KeepsOffsets r.rewrites) (not_lost r.rewrites tally r.tallied) f.0 f.5);
+        lost = subst (λ z. HasLostOffsets z f.2) is f.6;
       }
 
-  pub loses_at : (number : ℕ) → lost_at offsets tally.is_moved tally.holder ≡ Some number → (offsets ≡ Refuse) × LosesOffsets bytes number
-  loses_at number n = cases offsets tally.is_moved tally.holder refl refl refl n
+  pub loses_at : (number : ℕ) → lost_at offsets tally ≡ Some number → (offsets ≡ Refuse) × LosesOffsets bytes number
+  loses_at number n = cases offsets refl n
     where
-      cases : (o : Offsets) (b : Bool) (h : Option ℕ) → offsets ≡ o → tally.is_moved ≡ b → tally.holder ≡ h → lost_at o b h ≡ Some number → (offsets ≡ Refuse) × LosesOffsets bytes number
-      cases Refuse true h e f k n = (e, loses number e (k ∙ n) f)
-      cases Refuse false h e f k n = absurd (cc n)
-      cases LeaveOut b h e f k n = absurd (cc n)
+      cases : (o : Offsets) → offsets ≡ o → lost_at o tally ≡ Some number → (offsets ≡ Refuse) × LosesOffsets bytes number
+      cases Refuse e k = (e, loses number e k)
+      cases LeaveOut e k = absurd (cc k)
 
 pub stops_at : (bytes start : List ℕ) (number : ℕ) → bytes ≡ header ++ start → StopsAfter start number → EndsAt bytes number × FillsNothing wasm_module bytes
 stops_at bytes start number e s =

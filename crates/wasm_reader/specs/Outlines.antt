@@ -57,7 +57,7 @@ section_kind_of s = kind_at s.id s.name
 
 -- ---- outlines
 
--- the number of items, where an outline tells it: of types too
+-- the number of items, where an outline has it: also of a type section, whose items are its entries, a recursion group being one
 abbrev pub count_in : Contents → Option ℕ
 count_in (Types xs) = Some (length xs)
 count_in x = number_in x

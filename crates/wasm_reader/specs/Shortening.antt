@@ -1,5 +1,5 @@
 -- Modules, written as shortly as can be.
-use Rattle.std.specs.Prelude.{◌≡◌, ◌≢◌, ◌⊎◌, ◌||◌, ℕ, ◌+◌, ◌≤◌, List, [], ◌∷◌, ◌++◌, length, map, codes, nat_eq, Bool, true, false, Option, Some, None}
+use Rattle.std.specs.Prelude.{◌≡◌, ◌≢◌, ◌⊎◌, ◌||◌, ℕ, ◌+◌, ◌≤◌, List, [], ◌∷◌, ◌++◌, length, map, codes, nat_eq, min, Bool, true, false, if◌then◌else◌, Decides, MatchBool, Option, Some, None, is_some}
 use Rattle.std.specs.List.{AllByRecursion, flat_map, starts_with}
 use Rattle.std.specs.Str.{bytes_eq}
 use Rattle.wasm_base.specs.Numbers.{wide}
@@ -11,6 +11,7 @@ use Rattle.wasm_base.specs.declared.section_id.SectionId.TheVariants as ids
 use Rattle.wasm_custom.specs.Linking.{linking_name}
 use Rattle.wasm_reader.specs.Outlines.{Section, bytes_of, section_kind_of, IsSection, HasSections, EndsAt}
 use Rattle.wasm_reader.specs.Sections.{section, Shortens}
+use Rattle.wasm_reader.specs.declared.whole.Found.{Found}
 use Rattle.wasm_reader.specs.declared.whole.How.{How}
 use Rattle.wasm_reader.specs.declared.whole.How.TheVariants.{Shortest, Kept, LeftOut}
 use Rattle.wasm_reader.specs.declared.whole.ModuleFault.{ModuleFault}
@@ -18,29 +19,50 @@ use Rattle.wasm_reader.specs.declared.whole.ModuleFault.TheVariants as faults
 use Rattle.wasm_reader.specs.declared.whole.Offsets.{Offsets}
 use Rattle.wasm_reader.specs.declared.whole.Offsets.TheVariants.{Refuse, LeaveOut}
 use Rattle.wasm_reader.specs.declared.whole.Tally.{Tally}
+use Rattle.wasm_reader.specs.declared.whole.Target.{Target}
+use Rattle.wasm_reader.specs.declared.whole.Target.TheVariants.{CodeAndData, Relocated, Module}
 pub use Rattle.wasm_reader_base.specs.Shortest.{IsFrontOf}
 use Rattle.wasm_reader_base.specs.declared.fault.ReadFault.TheVariants.{Memory}
 
--- ---- sections that hold offsets
+-- ---- custom sections that hold offsets
 
--- whether the name begins so
+-- whether the name begins with these bytes
 abbrev pub begins_with : List ℕ → List ℕ → Bool
 begins_with front n = starts_with nat_eq n front
 
--- whether a custom section of the name holds offsets into other sections: symbols, a map of sources, relocations, debugging information, or metadata of code
-abbrev pub names_offsets : List ℕ → Bool
-names_offsets n =
-    bytes_eq n linking_name || bytes_eq n (codes "sourceMappingURL") || begins_with (codes "reloc.") n || begins_with (codes ".debug_") n
+-- whether a custom section of the name holds offsets into code and data: symbols, debugging information, the name of a file with such information and what ties the module to it, or metadata of code
+abbrev pub names_code_offsets : List ℕ → Bool
+names_code_offsets n =
+    bytes_eq n linking_name || bytes_eq n (codes "external_debug_info") || bytes_eq n (codes "build_id") || begins_with (codes ".debug_") n
     || begins_with (codes "metadata.code.") n
+
+-- what the offsets in a custom section of the name lead into: relocations name any section, and a source map counts from the first byte of the module
+abbrev pub target_named : List ℕ → Option Target
+target_named n =
+    if begins_with (codes "reloc.") n then Some Relocated else
+    (if bytes_eq n (codes "sourceMappingURL") then Some Module else
+    (if names_code_offsets n then Some CodeAndData else None))
+
+-- what the offsets in a section lead into, by its name
+abbrev pub target_of : Option (List ℕ) → Option Target
+target_of (Some n) = target_named n
+target_of None = None
 
 -- whether a section holds offsets, by its name
 abbrev pub holds_offsets : Option (List ℕ) → Bool
-holds_offsets (Some n) = names_offsets n
-holds_offsets None = false
+holds_offsets n = is_some (target_of n)
 
--- Offsets lead into a section of the id: code, or data.
-abbrev pub IsLedInto : ℕ → Type 0
-IsLedInto id = (id ≡ number_of ids.Code) ⊎ (id ≡ number_of ids.Data)
+-- Such offsets count from the front of a section of the id.
+abbrev pub IsLedInto : Target → ℕ → Type 0
+IsLedInto CodeAndData id = (id ≡ number_of ids.Code) ⊎ (id ≡ number_of ids.Data)
+IsLedInto Relocated id = (id ≡ number_of ids.Code) ⊎ ((id ≡ number_of ids.Data) ⊎ (id ≡ number_of ids.Custom))
+IsLedInto Module id = (id ≡ number_of ids.Code) ⊎ (id ≡ number_of ids.Data)
+
+-- Such offsets count from the first byte of the module, and lead into a section of the id.
+abbrev pub IsPlaced : Target → ℕ → Type 0
+IsPlaced CodeAndData id = ⊥
+IsPlaced Relocated id = ⊥
+IsPlaced Module id = id ≡ number_of ids.Code
 
 -- ---- what is written for a section
 
@@ -91,28 +113,33 @@ count_kept (w ∷ ws) = keeps w.how + count_kept ws
 abbrev pub id_written : Rewrite → List ℕ
 id_written w = written_as w.how w.section.id []
 
--- Offsets do not lead into the section, or it is written as it stands.
-abbrev pub StaysInPlace : Section → List ℕ → Type 0
-StaysInPlace s text = IsLedInto s.id → text ≡ s.framed
+-- Such offsets find the section where it was: it begins at `from` in the module, and is written at `to`.
+abbrev pub Stays : Target → ℕ → ℕ → Rewrite → Type 0
+Stays target from to w = (IsLedInto target w.section.id → w.text ≡ w.section.framed) × (IsPlaced target w.section.id → from ≡ to)
 
--- the same of a rewrite
-abbrev pub IsUnmoved : Rewrite → Type 0
-IsUnmoved w = StaysInPlace w.section w.text
+-- All of these sections stay, one after the other, from these offsets on.
+abbrev pub AllStay : Target → ℕ → ℕ → List Rewrite → Type 0
+AllStay target from to [] = Unit {0}
+AllStay target from to (w ∷ ws) = Stays target from to w × AllStay target (from + length (bytes_of w.section)) (to + length (written w)) ws
 
--- The section holds no offsets.
-abbrev pub HoldsNoOffsets : Rewrite → Type 0
-HoldsNoOffsets w = holds_offsets w.section.name ≡ false
+-- The offsets in a section of a module lead where they did: it holds none, or all sections of the module stay.
+abbrev pub KeepsOffsets : List Rewrite → Rewrite → Type 0
+KeepsOffsets all w = (target : Target) → target_of w.section.name ≡ Some target → AllStay target (length header) (length header) all
+
+-- The section holds offsets, and not all sections of the module stay.
+abbrev pub HasLostOffsets : List Rewrite → Rewrite → Type 0
+HasLostOffsets all w = (target : Target) × (target_of w.section.name ≡ Some target) × (AllStay target (length header) (length header) all → ⊥)
 
 -- ---- modules
 
--- The header and sections are appended: each section of the module in its shortest text, or, where it is not read as its kind, as it stands, and so many are so. Where sections that hold
--- offsets are refused, there is none, or each section that offsets lead into is written as it stands; where they are left out, these alone are. What is appended is a module of sections with the same ids, and no longer.
+-- The header and sections are appended: each section of the module in its shortest text, or, where it is not read as its kind, as it stands, and so many are so. Where a module that would lose
+-- offsets is refused, each section keeps its offsets; otherwise those that hold offsets are left out, and these alone. What is appended is a module of sections with the same ids, and no longer.
 pub record ShortensModule (offsets : Offsets) (bytes : List ℕ) (kept : ℕ) (old new : List ℕ) : Type 0 where
   pub rewrites : List Rewrite
   pub has : HasSections bytes (map (λ w. w.section) rewrites)
   pub each : AllByRecursion (IsRewrite offsets) rewrites
   pub counted : kept ≡ count_kept rewrites
-  pub fitting : offsets ≡ Refuse → AllByRecursion HoldsNoOffsets rewrites ⊎ AllByRecursion IsUnmoved rewrites
+  pub fitting : offsets ≡ Refuse → AllByRecursion (KeepsOffsets rewrites) rewrites
   pub text : List ℕ
   pub is : text ≡ header ++ flat_map written rewrites
   pub appended : new ≡ old ++ text
@@ -121,7 +148,7 @@ pub record ShortensModule (offsets : Offsets) (bytes : List ℕ) (kept : ℕ) (o
   pub read : wasm_module wide text sections
   pub same_ids : map (λ s. s.0) sections ≡ flat_map id_written rewrites
 
--- The section with this number, counted from 1, is the first that holds offsets, and one that offsets lead into is not as it was.
+-- The section with this number, counted from 1, is the first whose offsets are lost: they do not lead where they did, once each section is written as shortly as can be.
 pub record LosesOffsets (bytes : List ℕ) (number : ℕ) : Type 0 where
   pub before : List Rewrite
   pub holder : Rewrite
@@ -129,9 +156,8 @@ pub record LosesOffsets (bytes : List ℕ) (number : ℕ) : Type 0 where
   pub has : HasSections bytes (map (λ w. w.section) (before ++ holder ∷ after))
   pub each : AllByRecursion (IsRewrite Refuse) (before ++ holder ∷ after)
   pub counted : length before + 1 ≡ number
-  pub first : AllByRecursion HoldsNoOffsets before
-  pub holds : holds_offsets holder.section.name ≡ true
-  pub moved : AllByRecursion IsUnmoved (before ++ holder ∷ after) → ⊥
+  pub first : AllByRecursion (KeepsOffsets (before ++ holder ∷ after)) before
+  pub lost : HasLostOffsets (before ++ holder ∷ after) holder
 
 -- The section of this number is none of any bytes, in no module, or memory was refused; or it loses its offsets.
 abbrev pub Explains : Offsets → List ℕ → ModuleFault → Type 0
@@ -140,47 +166,80 @@ Explains offsets bytes (faults.Offsets number) = (offsets ≡ Refuse) × LosesOf
 
 -- ---- on the way
 
--- Whether the section is written in another way than it stands, and offsets lead into it.
-abbrev pub IsMoved : Bool → Section → List ℕ → Type 0
-IsMoved true s text = StaysInPlace s text → ⊥
-IsMoved false s text = StaysInPlace s text
+-- Whether the text differs from the section's frame.
+abbrev pub IsChange : Bool → Section → List ℕ → Type 0
+IsChange is_changed s text = MatchBool is_changed (text ≢ s.framed) (text ≡ s.framed)
 
 -- The bytes gain what is written for the section.
-pub record GainsSection (offsets : Offsets) (s : Section) (how : How) (is_moved : Bool) (old new : List ℕ) : Type 0 where
+pub record GainsSection (offsets : Offsets) (s : Section) (how : How) (is_changed : Bool) (old new : List ℕ) : Type 0 where
   pub text : List ℕ
   pub written : IsWritten offsets how s text
-  pub moved : IsMoved is_moved s text
+  pub changed : IsChange is_changed s text
   pub appended : new ≡ old ++ written_as how s.id text
 
--- No section holds offsets, or the one of this number is the first that does.
-abbrev pub IsFirstHolder : List Rewrite → Option ℕ → Type 0
-IsFirstHolder rewrites None = AllByRecursion HoldsNoOffsets rewrites
-IsFirstHolder rewrites (Some number) = (before after : List Rewrite) × (holder : Rewrite) × (rewrites ≡ before ++ holder ∷ after) × (length before + 1 ≡ number) × AllByRecursion HoldsNoOffsets before × (holds_offsets holder.section.name ≡ true)
+-- Whether the section moves away from such offsets, where it is so changed, and begins at the offset at which it is written, or does not.
+abbrev pub AreMoved : Bool → Target → ℕ → Bool → Bool → Type 0
+AreMoved is_moved target id is_changed is_level =
+    (w : Rewrite) (from to : ℕ) → id ≡ w.section.id → IsChange is_changed w.section w.text → Decides is_level (from ≡ to) → MatchBool is_moved (Stays target from to w → ⊥) (Stays target from to w)
+
+-- how many bytes sections have, and how many are written for them
+abbrev pub size_before : List Rewrite → ℕ
+size_before ws = length (flat_map (λ w. bytes_of w.section) ws)
+
+abbrev pub size_after : List Rewrite → ℕ
+size_after ws = length (flat_map written ws)
+
+-- The section's offsets are of this class.
+abbrev pub IsInto : Target → Rewrite → Type 0
+IsInto target w = target_of w.section.name ≡ Some target
+
+-- No section is such, or the one of this number is the first.
+abbrev pub IsFirst : (Rewrite → Type 0) → List Rewrite → Option ℕ → Type 0
+IsFirst P rewrites None = AllByRecursion (λ w. P w → ⊥) rewrites
+IsFirst P rewrites (Some number) = (before after : List Rewrite) × (w : Rewrite) × (rewrites ≡ before ++ w ∷ after) × (length before + 1 ≡ number) × AllByRecursion (λ v. P v → ⊥) before × P w
+
+-- What is known of offsets of one class: the first section that holds such, and whether one that they lead into moves.
+pub record HasFound (target : Target) (rewrites : List Rewrite) (found : Found) : Type 0 where
+  pub holder : IsFirst (IsInto target) rewrites found.holder
+  pub moved : MatchBool found.is_moved (AllStay target (length header) (length header) rewrites → ⊥) (AllStay target (length header) (length header) rewrites)
 
 -- whether a section is left out
 abbrev pub leaves_out : Offsets → Bool → Bool
 leaves_out Refuse holds = false
 leaves_out LeaveOut holds = holds
 
--- the number of the section for which a module is refused: one that holds offsets, where one that they lead into is moved
-abbrev pub lost_at : Offsets → Bool → Option ℕ → Option ℕ
-lost_at Refuse true holder = holder
-lost_at Refuse false holder = None
-lost_at LeaveOut is_moved holder = None
-
--- the number that was found, or else this one, where the section holds offsets
+-- the number that was found, or else this one, where the section is such
 abbrev pub first_of : Option ℕ → Bool → ℕ → Option ℕ
-first_of (Some found) holds number = Some found
+first_of (Some found) is_such number = Some found
 first_of None true number = Some number
 first_of None false number = None
+
+-- the lesser number
+abbrev pub earlier : Option ℕ → Option ℕ → Option ℕ
+earlier None b = b
+earlier (Some a) None = Some a
+earlier (Some a) (Some b) = Some (min a b)
+
+-- the number of the first section whose offsets of one class are lost
+abbrev pub lost : Found → Option ℕ
+lost found = if found.is_moved then found.holder else None
+
+-- what is known of offsets of a class
+abbrev pub found_of : Target → Tally → Found
+found_of CodeAndData tally = tally.code_and_data
+found_of Relocated tally = tally.relocated
+found_of Module tally = tally.in_module
+
+-- the number of the section for which a module is refused: the first whose offsets are lost
+abbrev pub lost_at : Offsets → Tally → Option ℕ
+lost_at Refuse tally = earlier (lost tally.code_and_data) (earlier (lost tally.relocated) (lost tally.in_module))
+lost_at LeaveOut tally = None
 
 -- What is known of sections that were written.
 pub record HasTally (rewrites : List Rewrite) (tally : Tally) : Type 0 where
   pub sections : tally.sections ≡ length rewrites
   pub kept : tally.kept ≡ count_kept rewrites
-  pub holder : IsFirstHolder rewrites tally.holder
-  pub stays : tally.is_moved ≡ false → AllByRecursion IsUnmoved rewrites
-  pub moves : tally.is_moved ≡ true → AllByRecursion IsUnmoved rewrites → ⊥
+  pub found : (target : Target) → HasFound target rewrites (found_of target tally)
 
 -- Sections stand at the front of the bytes, and rest behind them; what is written for these is appended.
 pub record Rewrites (offsets : Offsets) (bytes rest old new : List ℕ) (tally : Tally) : Type 0 where
@@ -202,6 +261,12 @@ pub record StopsAfter (bytes : List ℕ) (number : ℕ) : Type 0 where
 
 -- ---- what is said of all modules
 
--- A module that was shortened is shortened to the same bytes again.
-pub record AreSettled : Type 0 where
+-- The module is not written for want of memory.
+abbrev pub IsMemory : ModuleFault → Type 0
+IsMemory (faults.Section number fault) = fault ≡ Memory
+IsMemory (faults.Offsets number) = ⊥
+
+-- A module that was shortened is shortened again, unless memory is refused, and to the same bytes.
+pub record IsIdempotent : Type 0 where
   pub again : (offsets : Offsets) (bytes old other text next : List ℕ) (kept more : ℕ) → ShortensModule offsets bytes kept old (old ++ text) → ShortensModule offsets text more other (other ++ next) → next ≡ text
+  pub accepted : (offsets : Offsets) (bytes old text : List ℕ) (kept : ℕ) (fault : ModuleFault) → ShortensModule offsets bytes kept old (old ++ text) → Explains offsets text fault → IsMemory fault

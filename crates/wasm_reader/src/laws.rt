@@ -1,7 +1,7 @@
 //! What is promised of all lists of bytes, and not of a call: each function does nothing, and its clause is the promise.
 ghost use Rattle.wasm_reader.specs.Modules.{HaveOneListing};
 ghost use Rattle.wasm_reader.specs.Sections.{HaveOneText};
-ghost use Rattle.wasm_reader.specs.Shortening.{AreSettled};
+ghost use Rattle.wasm_reader.specs.Shortening.{IsIdempotent};
 
 /// Two sections of a kind that are shortened gain one text exactly where they are read as the same items.
 #[tactic(auto, using(crate::proofs::ShortSections::one_text))]
@@ -15,8 +15,8 @@ pub fn modules()
     ensures { HaveOneListing }
 {}
 
-/// A module that was shortened is shortened to the same bytes again.
+/// Shortening is idempotent: a module that was shortened is shortened again, to the same bytes, unless memory is refused.
 #[tactic(auto, using(crate::proofs::ShortAgain::settled))]
 pub fn shortened()
-    ensures { AreSettled }
+    ensures { IsIdempotent }
 {}

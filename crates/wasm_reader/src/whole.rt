@@ -1,21 +1,30 @@
 // Modules, written as shortly as can be.
-ghost use Rattle.std.specs.Prelude.{◌≡◌, ◌≢◌, ◌++◌, ◌∷◌, [], ◌+◌, ◌<◌, ◌≤◌, ◌^◌, List, ℕ, length, IfOk, IfErr, OnOk, OnErr};
+ghost use Rattle.std.specs.Prelude.{◌≡◌, ◌≢◌, ◌++◌, ◌∷◌, [], ◌+◌, ◌<◌, ◌≤◌, ◌^◌, List, ℕ, Some, length, IfOk, IfErr, OnOk, OnErr};
 ghost use Rattle.std.specs.Bool.{Decides};
 ghost use Rattle.wasm_base.specs.Formats.{header};
 ghost use Rattle.wasm_reader_base.specs.declared.fault.ReadFault.TheVariants.{Memory};
 ghost use Rattle.wasm_reader.specs.Outlines.{section_of, IsSection};
 ghost use Rattle.wasm_reader.specs.Shortening.{
-  names_offsets,
+  names_code_offsets,
+  target_named,
+  target_of,
   holds_offsets,
   IsLedInto,
+  IsPlaced,
   IsTextFor,
   GainsSection,
   keeps,
   first_of,
+  earlier,
+  lost,
   leaves_out,
   lost_at,
   Rewrite,
-  IsMoved,
+  IsChange,
+  AreMoved,
+  size_before,
+  size_after,
+  HasFound,
   HasTally,
   Rewrites,
   StopsAfter,
@@ -30,13 +39,19 @@ use crate::standing::{Standing, read_standing};
 use std::alloc::{AllocError, Allocator};
 use wasm_reader_base::ReadFault;
 
-/// What is done with custom sections that hold offsets into the code or data section: those called `linking` and `sourceMappingURL`, and those whose names begin with `reloc.`,
-/// `.debug_` or `metadata.code.`.
+/// Says what to do with custom sections that hold offsets.
+///
+/// A custom section is known by its name, and holds offsets
+///
+/// - into code and data: `linking`, `external_debug_info`, `build_id`, `.debug_*`, `metadata.code.*`;
+/// - into any section that a relocation names: `reloc.*`;
+/// - into code, from the first byte of the module: `sourceMappingURL`.
 #[derive(Clone, Copy, PartialEq, Eq, Debug)]
 pub enum Offsets {
-    /// A module that has one is refused where its code or data section would be written in another way.
+    /// Refuses a module that would lose offsets. The code and data sections must stay, byte for byte, beside any of these; beside `reloc.*` each custom section too, and beside
+    /// `sourceMappingURL` the bytes before a code section must stay as many.
     Refuse,
-    /// They are left out.
+    /// Leaves these sections out.
     LeaveOut,
 }
 
@@ -45,8 +60,19 @@ pub enum Offsets {
 pub enum ModuleFault {
     /// No frame of an id stands where the section of this number is, counted from 1, or no header for 0; or memory was refused there.
     Section { number: usize, fault: ReadFault },
-    /// The section of this number holds offsets, and the code or data section would be written in another way.
+    /// The section of this number, counted from 1, holds offsets that would no longer lead where they do. It is the first such section.
     Offsets { number: usize },
+}
+
+/// What the offsets in a custom section lead into.
+#[derive(Clone, Copy, PartialEq, Eq, Debug)]
+pub(crate) enum Target {
+    /// Code and data, from the front of a section.
+    CodeAndData,
+    /// Code, data and custom sections, from the front of a section.
+    Relocated,
+    /// Code, from the first byte of the module.
+    Module,
 }
 
 /// What is written for a section.
@@ -60,33 +86,82 @@ pub(crate) enum How {
     LeftOut,
 }
 
-/// Whether offsets lead into a section of the id: the code or the data section.
-fn is_led_into(id: u8) -> bool
-    ensures { Decides result (IsLedInto id) }
-{
-    id == 10 || id == 11
-}
-
-/// Whether a custom section of the name holds offsets.
-fn has_offsets(name: &str) -> bool
-    ensures { result ≡ names_offsets name.now }
+/// Whether a custom section of the name holds offsets into code and data.
+fn has_code_offsets(name: &str) -> bool
+    ensures { result ≡ names_code_offsets name.now }
 {
     let bytes = name.as_bytes();
     name == "linking"
-        || name == "sourceMappingURL"
-        || bytes.starts_with(b"reloc.")
+        || name == "external_debug_info"
+        || name == "build_id"
         || bytes.starts_with(b".debug_")
         || bytes.starts_with(b"metadata.code.")
 }
 
+/// What the offsets in a custom section of the name lead into, where it holds any.
+fn target_named(name: &str) -> Option<Target>
+    ensures { result ≡ target_named name.now }
+{
+    if name.as_bytes().starts_with(b"reloc.") {
+        Some(Target::Relocated)
+    } else if name == "sourceMappingURL" {
+        Some(Target::Module)
+    } else if has_code_offsets(name) {
+        Some(Target::CodeAndData)
+    } else {
+        None
+    }
+}
+
+impl Target {
+    /// Whether such offsets count from the front of a section of the id.
+    fn leads_into(self, id: u8) -> bool
+        ensures { Decides result (IsLedInto self id) }
+    {
+        match self {
+            Target::CodeAndData | Target::Module => id == 10 || id == 11,
+            Target::Relocated => id == 10 || id == 11 || id == 0,
+        }
+    }
+
+    /// Whether such offsets count from the first byte of the module, into a section of the id.
+    fn leads_to_place(self, id: u8) -> bool
+        ensures { Decides result (IsPlaced self id) }
+    {
+        match self {
+            Target::CodeAndData | Target::Relocated => false,
+            Target::Module => id == 10,
+        }
+    }
+
+    /// Whether a section of the id moves away from such offsets, where it is changed or not, and as many bytes are written before it as stood there or not.
+    fn loses(self, id: u8, is_changed: bool, is_level: bool) -> bool
+        ensures { AreMoved result self id is_changed is_level }
+    {
+        (is_changed && self.leads_into(id)) || (!is_level && self.leads_to_place(id))
+    }
+}
+
 impl Standing<'_> {
-    /// Whether it holds offsets, by its name.
-    fn holds_offsets(&self) -> bool
-        ensures { result ≡ holds_offsets (section_of self.now).name }
+    /// What its offsets lead into, where it holds any, by its name.
+    fn target(&self) -> Option<Target>
+        ensures { result ≡ target_of (section_of self.now).name }
     {
         match self.name {
-            Some(name) => has_offsets(name),
-            None => false,
+            Some(name) => target_named(name),
+            None => None,
+        }
+    }
+
+    /// Whether its offsets lead into this.
+    fn is_into(&self, target: Target) -> bool
+        ensures { Decides result (target_of (section_of self.now).name ≡ Some target) }
+    {
+        match (self.target(), target) {
+            (Some(Target::CodeAndData), Target::CodeAndData)
+            | (Some(Target::Relocated), Target::Relocated)
+            | (Some(Target::Module), Target::Module) => true,
+            _ => false,
         }
     }
 }
@@ -117,22 +192,22 @@ fn is_left_out(section: &Standing<'_>, offsets: Offsets) -> bool
 {
     match offsets {
         Offsets::Refuse => false,
-        Offsets::LeaveOut => section.holds_offsets(),
+        Offsets::LeaveOut => section.target().is_some(),
     }
 }
 
-/// Whether offsets lead into the section, and the text is not its frame as it stands.
-fn is_moved(section: &Standing<'_>, text: &[u8]) -> bool
-    ensures { IsMoved result (section_of section.now) text.now }
+/// Whether the text differs from the section's frame.
+fn is_changed(section: &Standing<'_>, text: &[u8]) -> bool
+    ensures { IsChange result (section_of section.now) text.now }
 {
-    is_led_into(section.id) && text != section.framed
+    text != section.framed
 }
 
-/// What was written for a section, and whether offsets into it no longer lead where they did.
+/// What was written for a section, and whether that differs from its frame.
 #[derive(Clone, Copy)]
 struct Written {
     how: How,
-    is_moved: bool,
+    is_changed: bool,
 }
 
 /// Appends what is written for the section, its id and a frame. A refused call leaves the sink as it was.
@@ -142,22 +217,22 @@ fn append_section<A: Allocator + Copy>(
     sink: &mut Vec<u8, A>,
 ) -> Result<Written, ReadFault>
     requires { IsSection (section_of section.now) }
-    ensures ok { IfOk result (λ x. GainsSection offsets (section_of section.now) x.how x.is_moved sink.old.items sink.new.items) }
+    ensures ok { IfOk result (λ x. GainsSection offsets (section_of section.now) x.how x.is_changed sink.old.items sink.new.items) }
     ensures err { OnErr result (sink.new.items ≡ sink.old.items) }
     ensures memory { IfErr result (λ e. e ≡ Memory) }
 {
     if is_left_out(section, offsets) {
         return Ok(Written {
             how: How::LeftOut,
-            is_moved: false,
+            is_changed: is_changed(section, b""),
         });
     }
     let start = sink.len();
     sink.push(section.id)?;
     match append_frame(section, sink) {
         Ok(how) => {
-            let is_moved = is_moved(section, &sink[start + 1..]);
-            Ok(Written { how, is_moved })
+            let is_changed = is_changed(section, &sink[start + 1..]);
+            Ok(Written { how, is_changed })
         }
         Err(fault) => {
             sink.truncate(start);
@@ -166,23 +241,38 @@ fn append_section<A: Allocator + Copy>(
     }
 }
 
+/// What is known of offsets of one class.
+#[derive(Clone, Copy)]
+struct Found {
+    /// The number of the first section that holds such, counted from 1.
+    holder: Option<usize>,
+    /// Whether one that they lead into moves.
+    is_moved: bool,
+}
+
 /// What is known of the sections that were written.
 #[derive(Clone, Copy)]
 struct Tally {
     sections: usize,
     kept: usize,
-    /// The number of the first that holds offsets, counted from 1.
-    holder: Option<usize>,
-    /// Whether one that offsets lead into is not as it was.
-    is_moved: bool,
+    code_and_data: Found,
+    relocated: Found,
+    in_module: Found,
 }
+
+/// Of no section.
+const NONE_FOUND: Found = Found {
+    holder: None,
+    is_moved: false,
+};
 
 /// Before any section.
 const NOTHING: Tally = Tally {
     sections: 0,
     kept: 0,
-    holder: None,
-    is_moved: false,
+    code_and_data: NONE_FOUND,
+    relocated: NONE_FOUND,
+    in_module: NONE_FOUND,
 };
 
 impl How {
@@ -198,42 +288,101 @@ impl How {
     }
 }
 
-/// The first number of a section that holds offsets: that which was found before, or else this one, where it does.
-fn first_holder(found: Option<usize>, holds_offsets: bool, number: usize) -> Option<usize>
-    ensures { result ≡ first_of found holds_offsets number }
+/// The number that was found before, or else this one, where the section is such.
+fn first_holder(found: Option<usize>, is_such: bool, number: usize) -> Option<usize>
+    ensures { result ≡ first_of found is_such number }
 {
     match found {
         Some(found) => Some(found),
-        None if holds_offsets => Some(number),
+        None if is_such => Some(number),
         None => None,
     }
 }
 
-impl Tally {
-    /// With one section more.
-    fn and(self, section: &Standing<'_>, written: Written) -> Tally
-        requires { self.sections + 1 < 2 ^ 64 × self.kept ≤ self.sections }
-        ensures tallied { (ws : List Rewrite) (w : Rewrite) → HasTally ws self → section_of section.now ≡ w.section → written.how ≡ w.how → IsMoved written.is_moved w.section w.text → HasTally (ws ++ w ∷ []) result }
-        ensures kept { result.kept ≤ result.sections }
+/// The lesser number.
+fn earlier(a: Option<usize>, b: Option<usize>) -> Option<usize>
+    ensures { result ≡ earlier a b }
+{
+    match (a, b) {
+        (Some(first), Some(second)) => Some(first.min(second)),
+        (Some(number), None) | (None, Some(number)) => Some(number),
+        (None, None) => None,
+    }
+}
+
+impl Found {
+    /// With one section more, which has this number.
+    fn and(
+        self,
+        target: Target,
+        section: &Standing<'_>,
+        is_changed: bool,
+        is_level: bool,
+        number: usize,
+    ) -> Found
+        ensures { (ws : List Rewrite) (w : Rewrite) → HasFound target ws self → length ws + 1 ≡ number → section_of section.now ≡ w.section → IsChange is_changed w.section w.text → Decides is_level (size_before ws ≡ size_after ws) → HasFound target (ws ++ w ∷ []) result }
     {
-        let sections = self.sections + 1;
-        Tally {
-            sections,
-            kept: self.kept + written.how.keeps(),
-            holder: first_holder(self.holder, section.holds_offsets(), sections),
-            is_moved: self.is_moved || written.is_moved,
+        let loses = target.loses(section.id, is_changed, is_level);
+        Found {
+            holder: first_holder(self.holder, section.is_into(target), number),
+            is_moved: self.is_moved || loses,
         }
     }
 
-    /// The number of a section that is refused, since its offsets no longer lead where they did.
-    fn lost_at(self, offsets: Offsets) -> Option<usize>
-        ensures { result ≡ lost_at offsets self.is_moved self.holder }
+    /// The number of the first section whose offsets are lost.
+    fn lost(self) -> Option<usize>
+        ensures { result ≡ lost self }
     {
-        match offsets {
-            Offsets::Refuse if self.is_moved => self.holder,
-            Offsets::Refuse | Offsets::LeaveOut => None,
+        if self.is_moved { self.holder } else { None }
+    }
+}
+
+impl Tally {
+    /// With one section more. `is_level` says whether as many bytes were written before it as stood there.
+    fn and(self, section: &Standing<'_>, written: Written, is_level: bool) -> Tally
+        requires { self.sections + 1 < 2 ^ 64 × self.kept ≤ self.sections }
+        ensures tallied { (ws : List Rewrite) (w : Rewrite) → HasTally ws self → section_of section.now ≡ w.section → written.how ≡ w.how → IsChange written.is_changed w.section w.text → Decides is_level (size_before ws ≡ size_after ws) → HasTally (ws ++ w ∷ []) result }
+        ensures kept { result.kept ≤ result.sections }
+    {
+        let sections = self.sections + 1;
+        let is_changed = written.is_changed;
+        let code = Target::CodeAndData;
+        let relocated = Target::Relocated;
+        let module = Target::Module;
+        Tally {
+            sections,
+            kept: self.kept + written.how.keeps(),
+            code_and_data: self
+                .code_and_data
+                .and(code, section, is_changed, is_level, sections),
+            relocated: self
+                .relocated
+                .and(relocated, section, is_changed, is_level, sections),
+            in_module: self
+                .in_module
+                .and(module, section, is_changed, is_level, sections),
         }
     }
+
+    /// The number of a section that is refused: the first whose offsets are lost.
+    fn lost_at(self, offsets: Offsets) -> Option<usize>
+        ensures { result ≡ lost_at offsets self }
+    {
+        match offsets {
+            Offsets::Refuse => earlier(
+                self.code_and_data.lost(),
+                earlier(self.relocated.lost(), self.in_module.lost()),
+            ),
+            Offsets::LeaveOut => None,
+        }
+    }
+}
+
+/// Whether the numbers are the same.
+fn is_same(a: usize, b: usize) -> bool
+    ensures { Decides result (a ≡ b) }
+{
+    a == b
 }
 
 /// Appends what is written for sections one after the other. Beside a fault stands the number of the section, counted from 1. A refused call leaves what was in the sink at its front.
@@ -247,6 +396,7 @@ fn append_sections<A: Allocator + Copy>(
     ensures front { IsFrontOf sink.old.items sink.new.items }
     ensures none { IfErr result (λ e. e.1 ≢ Memory → StopsAfter bytes.now e.0) }
 {
+    let start = sink.len();
     let mut rest = bytes;
     let mut tally = NOTHING;
     loop {
@@ -254,6 +404,7 @@ fn append_sections<A: Allocator + Copy>(
             return Ok(tally);
         }
         let number = tally.sections + 1;
+        let is_level = is_same(bytes.len() - rest.len(), sink.len() - start);
         let (section, after) = match read_standing(rest, *sink.allocator()) {
             Ok(read) => read,
             Err(fault) => return Err((number, fault)),
@@ -262,7 +413,7 @@ fn append_sections<A: Allocator + Copy>(
             Ok(written) => written,
             Err(fault) => return Err((number, fault)),
         };
-        tally = tally.and(&section, written);
+        tally = tally.and(&section, written, is_level);
         rest = after;
     }
 }
@@ -312,7 +463,8 @@ fn append_module<A: Allocator + Copy>(
 /// Appends the module with each section in its one shortest text, and tells how many sections are kept as they stand, since they are not read as sections of their kinds: a custom section's is what its
 /// name stands for. A refused call leaves the sink as it was.
 ///
-/// A section that gets shorter has its parts in other places. `offsets` says what becomes of the custom sections that hold offsets into code or data.
+/// A section that gets shorter has its parts at other offsets, and those behind it begin at others. `offsets` says what becomes of custom sections that hold offsets: a module that would lose some is refused
+/// ([`Offsets::Refuse`]), or written without these sections. A module that was shortened is not refused again.
 ///
 /// ```text
 /// let kept = shorten_module(bytes, Offsets::Refuse, &mut sink)?;

@@ -19,11 +19,11 @@ pub fn texts() {}
 /// ```
 pub fn modules() {}
 
-/// A module that was shortened is shortened to the same bytes again.
+/// Shortening is idempotent: a module that was shortened is shortened again, to the same bytes, unless memory is refused.
 ///
 /// # Proved
 ///
 /// ```text
-/// ensures { AreSettled }
+/// ensures { IsIdempotent }
 /// ```
 pub fn shortened() {}

@@ -17,13 +17,14 @@ pub struct Outlined<'a> {
     pub offset: usize,
     /// How many bytes its frame holds.
     pub size: u32,
-    /// How many items it has, where it is read as a section of its id, and its items are counted: types, and what `list_module` counts.
+    /// The number of its items, where it is read as a section of its id, and its items are counted: what `list_module` counts, and the entries of a type section. A recursion group is one entry,
+    /// however many types it defines.
     pub items: Option<u32>,
     /// The name of a custom section, where one stands there.
     pub name: Option<&'a str>,
 }
 
-/// The number of types in what the frame of a type section holds.
+/// The number of entries in the payload of a type section.
 ///
 /// # Proved
 ///
@@ -31,9 +32,9 @@ pub struct Outlined<'a> {
 /// ensures found { IfOk result (λ count. IsCount kinds.Types bytes.now count) }
 /// ensures none { IfErr result (λ e. e ≢ Memory → IsCount kinds.Types bytes.now None) }
 /// ```
-fn count_types<A: Allocator + Copy>(bytes: &[u8], alloc: A) -> Result<Option<u32>, ReadFault> {
-    let types = read_types(bytes, alloc)?;
-    Ok(Some(types.len() as u32))
+fn count_entries<A: Allocator + Copy>(bytes: &[u8], alloc: A) -> Result<Option<u32>, ReadFault> {
+    let entries = read_types(bytes, alloc)?;
+    Ok(Some(entries.len() as u32))
 }
 
 /// The number of items of a section, where it is read as its kind and these are counted.
@@ -47,7 +48,7 @@ fn count_types<A: Allocator + Copy>(bytes: &[u8], alloc: A) -> Result<Option<u32
 fn count<A: Allocator + Copy>(section: &Standing<'_>, alloc: A) -> Result<Option<u32>, ReadFault> {
     let kind = section.kind();
     let counted = match kind {
-        SectionKind::Types => count_types(section.payload, alloc),
+        SectionKind::Types => count_entries(section.payload, alloc),
         _ => read_number(kind, section.payload, alloc),
     };
     match counted {

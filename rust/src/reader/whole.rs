@@ -8,13 +8,19 @@ use crate::reader::standing::{Standing, read_standing};
 use crate::alloc::{AllocError, Allocator};
 use crate::reader::base::ReadFault;
 
-/// What is done with custom sections that hold offsets into the code or data section: those called `linking` and `sourceMappingURL`, and those whose names begin with `reloc.`,
-/// `.debug_` or `metadata.code.`.
+/// Says what to do with custom sections that hold offsets.
+///
+/// A custom section is known by its name, and holds offsets
+///
+/// - into code and data: `linking`, `external_debug_info`, `build_id`, `.debug_*`, `metadata.code.*`;
+/// - into any section that a relocation names: `reloc.*`;
+/// - into code, from the first byte of the module: `sourceMappingURL`.
 #[derive(Clone, Copy, PartialEq, Eq, Debug)]
 pub enum Offsets {
-    /// A module that has one is refused where its code or data section would be written in another way.
+    /// Refuses a module that would lose offsets. The code and data sections must stay, byte for byte, beside any of these; beside `reloc.*` each custom section too, and beside
+    /// `sourceMappingURL` the bytes before a code section must stay as many.
     Refuse,
-    /// They are left out.
+    /// Leaves these sections out.
     LeaveOut,
 }
 
@@ -23,8 +29,19 @@ pub enum Offsets {
 pub enum ModuleFault {
     /// No frame of an id stands where the section of this number is, counted from 1, or no header for 0; or memory was refused there.
     Section { number: usize, fault: ReadFault },
-    /// The section of this number holds offsets, and the code or data section would be written in another way.
+    /// The section of this number, counted from 1, holds offsets that would no longer lead where they do. It is the first such section.
     Offsets { number: usize },
+}
+
+/// What the offsets in a custom section lead into.
+#[derive(Clone, Copy, PartialEq, Eq, Debug)]
+pub(in crate::reader) enum Target {
+    /// Code and data, from the front of a section.
+    CodeAndData,
+    /// Code, data and custom sections, from the front of a section.
+    Relocated,
+    /// Code, from the first byte of the module.
+    Module,
 }
 
 /// What is written for a section.
@@ -38,45 +55,110 @@ pub(in crate::reader) enum How {
     LeftOut,
 }
 
-/// Whether offsets lead into a section of the id: the code or the data section.
+/// Whether a custom section of the name holds offsets into code and data.
 ///
 /// # Proved
 ///
 /// ```text
-/// ensures { Decides result (IsLedInto id) }
+/// ensures { result ≡ names_code_offsets name.now }
 /// ```
-fn is_led_into(id: u8) -> bool {
-    id == 10 || id == 11
-}
-
-/// Whether a custom section of the name holds offsets.
-///
-/// # Proved
-///
-/// ```text
-/// ensures { result ≡ names_offsets name.now }
-/// ```
-fn has_offsets(name: &str) -> bool {
+fn has_code_offsets(name: &str) -> bool {
     let bytes = name.as_bytes();
     name == "linking"
-        || name == "sourceMappingURL"
-        || bytes.starts_with(b"reloc.")
+        || name == "external_debug_info"
+        || name == "build_id"
         || bytes.starts_with(b".debug_")
         || bytes.starts_with(b"metadata.code.")
 }
 
-impl Standing<'_> {
-    /// Whether it holds offsets, by its name.
+/// What the offsets in a custom section of the name lead into, where it holds any.
+///
+/// # Proved
+///
+/// ```text
+/// ensures { result ≡ target_named name.now }
+/// ```
+fn target_named(name: &str) -> Option<Target> {
+    if name.as_bytes().starts_with(b"reloc.") {
+        Some(Target::Relocated)
+    } else if name == "sourceMappingURL" {
+        Some(Target::Module)
+    } else if has_code_offsets(name) {
+        Some(Target::CodeAndData)
+    } else {
+        None
+    }
+}
+
+impl Target {
+    /// Whether such offsets count from the front of a section of the id.
     ///
     /// # Proved
     ///
     /// ```text
-    /// ensures { result ≡ holds_offsets (section_of self.now).name }
+    /// ensures { Decides result (IsLedInto self id) }
     /// ```
-    fn holds_offsets(&self) -> bool {
+    fn leads_into(self, id: u8) -> bool {
+        match self {
+            Target::CodeAndData | Target::Module => id == 10 || id == 11,
+            Target::Relocated => id == 10 || id == 11 || id == 0,
+        }
+    }
+
+    /// Whether such offsets count from the first byte of the module, into a section of the id.
+    ///
+    /// # Proved
+    ///
+    /// ```text
+    /// ensures { Decides result (IsPlaced self id) }
+    /// ```
+    fn leads_to_place(self, id: u8) -> bool {
+        match self {
+            Target::CodeAndData | Target::Relocated => false,
+            Target::Module => id == 10,
+        }
+    }
+
+    /// Whether a section of the id moves away from such offsets, where it is changed or not, and as many bytes are written before it as stood there or not.
+    ///
+    /// # Proved
+    ///
+    /// ```text
+    /// ensures { AreMoved result self id is_changed is_level }
+    /// ```
+    fn loses(self, id: u8, is_changed: bool, is_level: bool) -> bool {
+        (is_changed && self.leads_into(id)) || (!is_level && self.leads_to_place(id))
+    }
+}
+
+impl Standing<'_> {
+    /// What its offsets lead into, where it holds any, by its name.
+    ///
+    /// # Proved
+    ///
+    /// ```text
+    /// ensures { result ≡ target_of (section_of self.now).name }
+    /// ```
+    fn target(&self) -> Option<Target> {
         match self.name {
-            Some(name) => has_offsets(name),
-            None => false,
+            Some(name) => target_named(name),
+            None => None,
+        }
+    }
+
+    /// Whether its offsets lead into this.
+    ///
+    /// # Proved
+    ///
+    /// ```text
+    /// ensures { Decides result (target_of (section_of self.now).name ≡ Some target) }
+    /// ```
+    fn is_into(&self, target: Target) -> bool {
+        match (self.target(), target) {
+            (Some(Target::CodeAndData), Target::CodeAndData)
+            | (Some(Target::Relocated), Target::Relocated)
+            | (Some(Target::Module), Target::Module) => true,
+            _ => false,
         }
     }
 }
@@ -120,26 +202,26 @@ fn append_frame<A: Allocator + Copy>(
 fn is_left_out(section: &Standing<'_>, offsets: Offsets) -> bool {
     match offsets {
         Offsets::Refuse => false,
-        Offsets::LeaveOut => section.holds_offsets(),
+        Offsets::LeaveOut => section.target().is_some(),
     }
 }
 
-/// Whether offsets lead into the section, and the text is not its frame as it stands.
+/// Whether the text differs from the section's frame.
 ///
 /// # Proved
 ///
 /// ```text
-/// ensures { IsMoved result (section_of section.now) text.now }
+/// ensures { IsChange result (section_of section.now) text.now }
 /// ```
-fn is_moved(section: &Standing<'_>, text: &[u8]) -> bool {
-    is_led_into(section.id) && text != section.framed
+fn is_changed(section: &Standing<'_>, text: &[u8]) -> bool {
+    text != section.framed
 }
 
-/// What was written for a section, and whether offsets into it no longer lead where they did.
+/// What was written for a section, and whether that differs from its frame.
 #[derive(Clone, Copy)]
 struct Written {
     how: How,
-    is_moved: bool,
+    is_changed: bool,
 }
 
 /// Appends what is written for the section, its id and a frame. A refused call leaves the sink as it was.
@@ -153,7 +235,7 @@ struct Written {
 /// # Proved
 ///
 /// ```text
-/// ensures ok { IfOk result (λ x. GainsSection offsets (section_of section.now) x.how x.is_moved sink.old.items sink.new.items) }
+/// ensures ok { IfOk result (λ x. GainsSection offsets (section_of section.now) x.how x.is_changed sink.old.items sink.new.items) }
 /// ensures err { OnErr result (sink.new.items ≡ sink.old.items) }
 /// ensures memory { IfErr result (λ e. e ≡ Memory) }
 /// ```
@@ -165,15 +247,15 @@ fn append_section<A: Allocator + Copy>(
     if is_left_out(section, offsets) {
         return Ok(Written {
             how: How::LeftOut,
-            is_moved: false,
+            is_changed: is_changed(section, b""),
         });
     }
     let start = sink.len();
     sink.push(section.id)?;
     match append_frame(section, sink) {
         Ok(how) => {
-            let is_moved = is_moved(section, &sink[start + 1..]);
-            Ok(Written { how, is_moved })
+            let is_changed = is_changed(section, &sink[start + 1..]);
+            Ok(Written { how, is_changed })
         }
         Err(fault) => {
             sink.truncate(start);
@@ -182,23 +264,38 @@ fn append_section<A: Allocator + Copy>(
     }
 }
 
+/// What is known of offsets of one class.
+#[derive(Clone, Copy)]
+struct Found {
+    /// The number of the first section that holds such, counted from 1.
+    holder: Option<usize>,
+    /// Whether one that they lead into moves.
+    is_moved: bool,
+}
+
 /// What is known of the sections that were written.
 #[derive(Clone, Copy)]
 struct Tally {
     sections: usize,
     kept: usize,
-    /// The number of the first that holds offsets, counted from 1.
-    holder: Option<usize>,
-    /// Whether one that offsets lead into is not as it was.
-    is_moved: bool,
+    code_and_data: Found,
+    relocated: Found,
+    in_module: Found,
 }
+
+/// Of no section.
+const NONE_FOUND: Found = Found {
+    holder: None,
+    is_moved: false,
+};
 
 /// Before any section.
 const NOTHING: Tally = Tally {
     sections: 0,
     kept: 0,
-    holder: None,
-    is_moved: false,
+    code_and_data: NONE_FOUND,
+    relocated: NONE_FOUND,
+    in_module: NONE_FOUND,
 };
 
 impl How {
@@ -218,23 +315,73 @@ impl How {
     }
 }
 
-/// The first number of a section that holds offsets: that which was found before, or else this one, where it does.
+/// The number that was found before, or else this one, where the section is such.
 ///
 /// # Proved
 ///
 /// ```text
-/// ensures { result ≡ first_of found holds_offsets number }
+/// ensures { result ≡ first_of found is_such number }
 /// ```
-fn first_holder(found: Option<usize>, holds_offsets: bool, number: usize) -> Option<usize> {
+fn first_holder(found: Option<usize>, is_such: bool, number: usize) -> Option<usize> {
     match found {
         Some(found) => Some(found),
-        None if holds_offsets => Some(number),
+        None if is_such => Some(number),
         None => None,
     }
 }
 
+/// The lesser number.
+///
+/// # Proved
+///
+/// ```text
+/// ensures { result ≡ earlier a b }
+/// ```
+fn earlier(a: Option<usize>, b: Option<usize>) -> Option<usize> {
+    match (a, b) {
+        (Some(first), Some(second)) => Some(first.min(second)),
+        (Some(number), None) | (None, Some(number)) => Some(number),
+        (None, None) => None,
+    }
+}
+
+impl Found {
+    /// With one section more, which has this number.
+    ///
+    /// # Proved
+    ///
+    /// ```text
+    /// ensures { (ws : List Rewrite) (w : Rewrite) → HasFound target ws self → length ws + 1 ≡ number → section_of section.now ≡ w.section → IsChange is_changed w.section w.text → Decides is_level (size_before ws ≡ size_after ws) → HasFound target (ws ++ w ∷ []) result }
+    /// ```
+    fn and(
+        self,
+        target: Target,
+        section: &Standing<'_>,
+        is_changed: bool,
+        is_level: bool,
+        number: usize,
+    ) -> Found {
+        let loses = target.loses(section.id, is_changed, is_level);
+        Found {
+            holder: first_holder(self.holder, section.is_into(target), number),
+            is_moved: self.is_moved || loses,
+        }
+    }
+
+    /// The number of the first section whose offsets are lost.
+    ///
+    /// # Proved
+    ///
+    /// ```text
+    /// ensures { result ≡ lost self }
+    /// ```
+    fn lost(self) -> Option<usize> {
+        if self.is_moved { self.holder } else { None }
+    }
+}
+
 impl Tally {
-    /// With one section more.
+    /// With one section more. `is_level` says whether as many bytes were written before it as stood there.
     ///
     /// # Asks
     ///
@@ -245,32 +392,57 @@ impl Tally {
     /// # Proved
     ///
     /// ```text
-    /// ensures tallied { (ws : List Rewrite) (w : Rewrite) → HasTally ws self → section_of section.now ≡ w.section → written.how ≡ w.how → IsMoved written.is_moved w.section w.text → HasTally (ws ++ w ∷ []) result }
+    /// ensures tallied { (ws : List Rewrite) (w : Rewrite) → HasTally ws self → section_of section.now ≡ w.section → written.how ≡ w.how → IsChange written.is_changed w.section w.text → Decides is_level (size_before ws ≡ size_after ws) → HasTally (ws ++ w ∷ []) result }
     /// ensures kept { result.kept ≤ result.sections }
     /// ```
-    fn and(self, section: &Standing<'_>, written: Written) -> Tally {
+    fn and(self, section: &Standing<'_>, written: Written, is_level: bool) -> Tally {
         let sections = self.sections + 1;
+        let is_changed = written.is_changed;
+        let code = Target::CodeAndData;
+        let relocated = Target::Relocated;
+        let module = Target::Module;
         Tally {
             sections,
             kept: self.kept + written.how.keeps(),
-            holder: first_holder(self.holder, section.holds_offsets(), sections),
-            is_moved: self.is_moved || written.is_moved,
+            code_and_data: self
+                .code_and_data
+                .and(code, section, is_changed, is_level, sections),
+            relocated: self
+                .relocated
+                .and(relocated, section, is_changed, is_level, sections),
+            in_module: self
+                .in_module
+                .and(module, section, is_changed, is_level, sections),
         }
     }
 
-    /// The number of a section that is refused, since its offsets no longer lead where they did.
+    /// The number of a section that is refused: the first whose offsets are lost.
     ///
     /// # Proved
     ///
     /// ```text
-    /// ensures { result ≡ lost_at offsets self.is_moved self.holder }
+    /// ensures { result ≡ lost_at offsets self }
     /// ```
     fn lost_at(self, offsets: Offsets) -> Option<usize> {
         match offsets {
-            Offsets::Refuse if self.is_moved => self.holder,
-            Offsets::Refuse | Offsets::LeaveOut => None,
+            Offsets::Refuse => earlier(
+                self.code_and_data.lost(),
+                earlier(self.relocated.lost(), self.in_module.lost()),
+            ),
+            Offsets::LeaveOut => None,
         }
     }
+}
+
+/// Whether the numbers are the same.
+///
+/// # Proved
+///
+/// ```text
+/// ensures { Decides result (a ≡ b) }
+/// ```
+fn is_same(a: usize, b: usize) -> bool {
+    a == b
 }
 
 /// Appends what is written for sections one after the other. Beside a fault stands the number of the section, counted from 1. A refused call leaves what was in the sink at its front.
@@ -293,6 +465,7 @@ fn append_sections<A: Allocator + Copy>(
     offsets: Offsets,
     sink: &mut Vec<u8, A>,
 ) -> Result<Tally, (usize, ReadFault)> {
+    let start = sink.len();
     let mut rest = bytes;
     let mut tally = NOTHING;
     loop {
@@ -300,6 +473,7 @@ fn append_sections<A: Allocator + Copy>(
             return Ok(tally);
         }
         let number = tally.sections + 1;
+        let is_level = is_same(bytes.len() - rest.len(), sink.len() - start);
         let (section, after) = match read_standing(rest, *sink.allocator()) {
             Ok(read) => read,
             Err(fault) => return Err((number, fault)),
@@ -308,7 +482,7 @@ fn append_sections<A: Allocator + Copy>(
             Ok(written) => written,
             Err(fault) => return Err((number, fault)),
         };
-        tally = tally.and(&section, written);
+        tally = tally.and(&section, written, is_level);
         rest = after;
     }
 }
@@ -366,7 +540,8 @@ fn append_module<A: Allocator + Copy>(
 /// Appends the module with each section in its one shortest text, and tells how many sections are kept as they stand, since they are not read as sections of their kinds: a custom section's is what its
 /// name stands for. A refused call leaves the sink as it was.
 ///
-/// A section that gets shorter has its parts in other places. `offsets` says what becomes of the custom sections that hold offsets into code or data.
+/// A section that gets shorter has its parts at other offsets, and those behind it begin at others. `offsets` says what becomes of custom sections that hold offsets: a module that would lose some is refused
+/// ([`Offsets::Refuse`]), or written without these sections. A module that was shortened is not refused again.
 ///
 /// ```text
 /// let kept = shorten_module(bytes, Offsets::Refuse, &mut sink)?;

@@ -49,6 +49,12 @@ fn offsets_stand_behind_sizes_however_these_are_padded() {
     check(&SHORT, &short);
 }
 
+/// Two types in one recursion group.
+#[test]
+fn a_recursion_group_is_one_entry() {
+    check(&["01 07 01 4e 02 5f 00 5f 00"], &[line(1, 10, 7, Some(1))]);
+}
+
 #[test]
 fn each_id_in_any_order() {
     let sections = [

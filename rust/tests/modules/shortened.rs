@@ -114,7 +114,7 @@ fn what_is_not_read_as_its_kind_is_kept_as_it_stands() {
 }
 
 /// Custom sections that hold offsets, the first two of which are read as what their names stand for.
-fn holders() -> [String; 7] {
+fn holders() -> [String; 9] {
     [
         custom("linking", "02"),
         custom("metadata.code.branch_hint", "00"),
@@ -123,6 +123,8 @@ fn holders() -> [String; 7] {
         custom(".debug_info", "ff"),
         custom("sourceMappingURL", "01 61"),
         custom("metadata.code.other", ""),
+        custom("external_debug_info", "01 61"),
+        custom("build_id", "02 abcd"),
     ]
 }
 
@@ -159,12 +161,18 @@ fn offsets_into_code_that_stays() {
     for (place, holder) in holders().iter().enumerate() {
         // The third is no linking section: its version is none.
         let kept = usize::from(place == 2);
-        check(
-            Offsets::Refuse,
-            &[types, functions, exports, code, holder],
-            kept,
-            &[short_types, short_functions, short_exports, code, holder],
+        let (given, short) = (
+            [types, functions, exports, code, holder],
+            [short_types, short_functions, short_exports, code, holder],
         );
+        // The sixth is a source map, whose columns count what stands before the code.
+        if place == 5 {
+            check_refused(&given, 5);
+            check(Offsets::LeaveOut, &given, 0, &short[..4]);
+        } else {
+            check(Offsets::Refuse, &given, kept, &short);
+        }
+        check(Offsets::Refuse, &short, kept, &short);
         check(Offsets::LeaveOut, &[code, holder], 0, &[code]);
         check(Offsets::Refuse, &[holder], kept, &[holder]);
     }
@@ -203,6 +211,76 @@ fn the_first_that_holds_offsets_is_named() {
     );
 }
 
+/// A type section, and a custom section `a`, each with a padded size and in its fewest bytes.
+const TYPES: [&str; 2] = ["01 8480808000 01 60 00 00", "01 04 01 60 00 00"];
+const ANY: [&str; 2] = ["00 8200 01 61", "00 02 01 61"];
+
+/// A function section and a code section that get no shorter.
+const STAYING: [&str; 2] = ["03 02 01 00", "0a 04 01 02 00 0b"];
+
+#[test]
+fn a_source_map_counts_from_the_first_byte_of_the_module() {
+    let [functions, code] = STAYING;
+    let map = custom("sourceMappingURL", "01 75");
+    // The code would move from 0x18 to 0x14.
+    let moving = [TYPES[0], functions, code, &map];
+    check_refused(&moving, 4);
+    check(Offsets::LeaveOut, &moving, 0, &[TYPES[1], functions, code]);
+    // What is behind the code may get shorter, and so may any section where there is no code.
+    let behind = |any| [TYPES[1], functions, code, &map, any];
+    check(Offsets::Refuse, &behind(ANY[0]), 0, &behind(ANY[1]));
+    check(Offsets::Refuse, &[TYPES[0], &map], 0, &[TYPES[1], &map]);
+    // The map itself stands before the code, and its size is padded; of two code sections the second moves.
+    let padded = "00 9300 10 736f757263654d617070696e6755524c 01 75";
+    check_refused(&[padded, functions, code], 1);
+    check_refused(&[code, &map, ANY[0], code], 2);
+}
+
+#[test]
+fn relocations_lead_into_custom_sections() {
+    let [functions, code] = STAYING;
+    // The length of its name is padded, so its bytes would move by 2.
+    let padded = "00 12 8b8000 2e64656275675f696e666f 01020304";
+    let debug = custom(".debug_info", "01020304");
+    let relocations = custom("reloc..debug_info", "00 00");
+    check_refused(&[padded, &relocations], 2);
+    check(Offsets::LeaveOut, &[padded, &relocations], 0, &[]);
+    // Which section they are of is not decoded, and so each custom section is to stay; other sections may get shorter.
+    check_refused(&[&debug, &relocations, ANY[0]], 2);
+    let others = |types| [types, functions, code, &debug, &relocations, ANY[1]];
+    check(Offsets::Refuse, &others(TYPES[0]), 0, &others(TYPES[1]));
+    check_refused(&["00 9400 11 72656c6f632e2e64656275675f696e666f 00 00"], 1);
+}
+
+#[test]
+fn debugging_information_in_another_file() {
+    let [functions, code] = STAYING;
+    for name in ["external_debug_info", "build_id"] {
+        let holder = custom(name, "02 6162");
+        check_refused(&[TYPES[1], functions, "0a 05 01 8200 00 0b", &holder], 4);
+        let unmoved = |types, any| [types, functions, code, &holder, any];
+        check(
+            Offsets::Refuse,
+            &unmoved(TYPES[0], ANY[0]),
+            0,
+            &unmoved(TYPES[1], ANY[1]),
+        );
+    }
+}
+
+/// A section that keeps its offsets is not the one that is named.
+#[test]
+fn the_first_whose_offsets_are_lost_is_named() {
+    let code = STAYING[1];
+    let (debug, map) = (custom(".debug_info", ""), custom("sourceMappingURL", ""));
+    let relocations = custom("reloc.CODE", "03 00");
+    check_refused(&[&debug, &relocations, TYPES[0], &map, code], 4);
+    check_refused(&[&debug, &map, ANY[0], code, &relocations], 2);
+    check_refused(&[&debug, &relocations, ANY[0], code, &map], 2);
+    check_refused(&[&map, code, &debug, ANY[0], &relocations], 5);
+    check_refused(&[code, &map, &relocations, &debug, PADDED[3]], 2);
+}
+
 #[test]
 fn names_that_hold_no_offsets() {
     for name in [
@@ -215,6 +293,10 @@ fn names_that_hold_no_offsets() {
         "debug_info",
         "metadata.code",
         "sourceMappingURL2",
+        "external_debug_infos",
+        "external_debug",
+        "build_id2",
+        "build",
         "x.reloc.CODE",
     ] {
         let section = custom(name, "01");

@@ -2,7 +2,7 @@
 use crate::program::{Answer, Folder};
 use crate::samples::{PADDED, SHORT, UNREAD, custom, module};
 
-const REFUSED: &str = "holds offsets into code or data, which would get shorter; --drop-offsets leaves such sections out";
+const REFUSED: &str = "holds offsets that would no longer lead where they do; --drop-offsets leaves such sections out";
 
 #[test]
 fn padded_numbers_get_shorter() {

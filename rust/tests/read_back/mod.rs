@@ -224,7 +224,7 @@ pub fn smaller_module<A: Allocator + Copy>(
     shorten_module(bytes, Offsets::Refuse, sink)
 }
 
-/// Shortens a module, and then what came of it: both are the same.
+/// Shortens a module, and then what came of it: both are the same, and the second call is refused for want of memory alone.
 ///
 /// # Asks
 ///
@@ -236,6 +236,7 @@ pub fn smaller_module<A: Allocator + Copy>(
 ///
 /// ```text
 /// ensures same { OnOk result (twice.new.items ≡ once.new.items) }
+/// ensures accepted { IfErr result (λ fault. IsMemory fault ⊎ Explains LeaveOut bytes.now fault) }
 /// ```
 pub fn shortened_twice<A: Allocator + Copy>(
     bytes: &[u8],

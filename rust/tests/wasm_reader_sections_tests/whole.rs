@@ -32,12 +32,56 @@ const PADDED_CODE: &[u8] = b"\0asm\x01\0\0\0\x0A\x06\x01\x83\x00\x00\x01\x0B";
 const CODE: &[u8] = b"\0asm\x01\0\0\0\x0A\x05\x01\x03\x00\x01\x0B";
 
 /// Custom sections that hold offsets.
-static OFFSETS: [&[u8]; 5] = [
+static OFFSETS: [&[u8]; 7] = [
     b"\x00\x09\x07linking\x02",
     b"\x00\x11\x10sourceMappingURL",
     b"\x00\x0B\x0Areloc.CODE",
     b"\x00\x0C\x0B.debug_info",
     b"\x00\x1A\x19metadata.code.branch_hint",
+    b"\x00\x14\x13external_debug_info",
+    b"\x00\x09\x08build_id",
+];
+
+/// Modules with a section whose offsets would be lost, and its number: a source map behind code that would move from 0x18 to 0x14; relocations of a section whose name's length is padded, so that its bytes would
+/// move by 2; and code of padded size beside a section that names a file with offsets into it.
+static LOST: [(&[u8], usize); 3] = [
+    (
+        b"\0asm\x01\0\0\0\x01\x84\x80\x80\x80\x00\x01\x60\x00\x00\x03\x02\x01\x00\
+        \x0A\x04\x01\x02\x00\x0B\x00\x13\x10sourceMappingURL\x01u",
+        4,
+    ),
+    (
+        b"\0asm\x01\0\0\0\x00\x12\x8B\x80\x00.debug_info\x01\x02\x03\x04\
+        \x00\x14\x11reloc..debug_info\x00\x00",
+        2,
+    ),
+    (
+        b"\0asm\x01\0\0\0\x0A\x84\x00\x01\x02\x00\x0B\
+        \x00\x18\x13external_debug_info\x03a.w",
+        2,
+    ),
+];
+
+/// Modules that are shortened beside such sections, and what they become: a section behind the code; a type section, where each custom section stays; and a type section before code that stays.
+static SAVED: [(&[u8], &[u8]); 3] = [
+    (
+        b"\0asm\x01\0\0\0\x01\x04\x01\x60\x00\x00\x03\x02\x01\x00\x0A\x04\x01\x02\x00\x0B\
+        \x00\x13\x10sourceMappingURL\x01u\x00\x82\x00\x01a",
+        b"\0asm\x01\0\0\0\x01\x04\x01\x60\x00\x00\x03\x02\x01\x00\x0A\x04\x01\x02\x00\x0B\
+        \x00\x13\x10sourceMappingURL\x01u\x00\x02\x01a",
+    ),
+    (
+        b"\0asm\x01\0\0\0\x01\x84\x00\x01\x60\x00\x00\x00\x10\x0B.debug_info\x01\x02\x03\x04\
+        \x00\x14\x11reloc..debug_info\x01\x00",
+        b"\0asm\x01\0\0\0\x01\x04\x01\x60\x00\x00\x00\x10\x0B.debug_info\x01\x02\x03\x04\
+        \x00\x14\x11reloc..debug_info\x01\x00",
+    ),
+    (
+        b"\0asm\x01\0\0\0\x01\x84\x00\x01\x60\x00\x00\x03\x02\x01\x00\x0A\x04\x01\x02\x00\x0B\
+        \x00\x18\x13external_debug_info\x03a.w",
+        b"\0asm\x01\0\0\0\x01\x04\x01\x60\x00\x00\x03\x02\x01\x00\x0A\x04\x01\x02\x00\x0B\
+        \x00\x18\x13external_debug_info\x03a.w",
+    ),
 ];
 
 /// What stands before in a sink.
@@ -151,6 +195,20 @@ fn offsets() {
     }
 }
 
+#[test]
+fn offsets_that_are_lost_and_kept() {
+    let rt = crate::host::HostRuntime;
+    let heap = Refusing::new(rt.alloc());
+    for (bytes, number) in LOST {
+        let given = outcome(&heap, 0, bytes, Offsets::Refuse, &[]).expect("accepted");
+        check(&rt, given, Err(ModuleFault::Offsets { number }));
+    }
+    for (bytes, text) in SAVED {
+        check_shortened(&rt, &heap, bytes, Offsets::Refuse, text, 0);
+        check_shortened(&rt, &heap, text, Offsets::Refuse, text, 0);
+    }
+}
+
 /// What is no module is not shortened, and has no outline.
 #[test]
 fn none() {
@@ -187,6 +245,17 @@ static LINES: [Line; 5] = [
 fn check_line(rt: &impl Abort, given: &Outlined<'_>, expected: &Line) {
     let line = (given.id, given.offset, given.size, given.items, given.name);
     assert_eq!(rt; line, *expected);
+}
+
+/// A type section of one entry: a recursion group of two types.
+const GROUP: &[u8] = b"\0asm\x01\0\0\0\x01\x07\x01\x4E\x02\x5F\x00\x5F\x00";
+
+#[test]
+fn a_recursion_group_is_one_entry() {
+    let rt = crate::host::HostRuntime;
+    let lines = outline(rt.alloc(), GROUP).expect("accepted");
+    assert_eq!(rt; lines.len(), 1);
+    check_line(&rt, &lines[0], &(1, 10, 7, Some(1), None));
 }
 
 #[test]

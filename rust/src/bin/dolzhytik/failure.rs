@@ -24,7 +24,7 @@ pub enum Failure {
         number: usize,
         fault: ReadFault,
     },
-    /// A section holds offsets, and would no longer fit.
+    /// A section holds offsets that would no longer lead where they do.
     Offsets {
         input: Input,
         number: usize,
@@ -91,7 +91,7 @@ impl fmt::Display for Failure {
                 name,
             } => write!(
                 f,
-                "{input}: section {number}, {name:?}, holds offsets into code or data, which would get shorter; \
+                "{input}: section {number}, {name:?}, holds offsets that would no longer lead where they do; \
                  --drop-offsets leaves such sections out"
             ),
             Failure::NotText { recipe, line } => write!(f, "{recipe}: line {line}: not UTF-8"),

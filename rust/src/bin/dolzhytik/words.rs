@@ -17,15 +17,16 @@ pub const HELP: &str = "
 outline   prints a line for each section of a module: its number, id, offset, size and number of items, and what
           it is called. The offset, in hexadecimal, is the place in the file of what the section's frame holds, and
           the size, in decimal, how many bytes that has. Items are - where the section is not read as its kind, in
-          custom sections and in those of ids past 13.
+          custom sections and in those of ids past 13. Of a type section they are its entries: a recursion group
+          is one.
 shorten   writes the module with each section in its fewest bytes. A section that is not read as its kind is kept,
           byte for byte.
 build     writes the module of a recipe, a text.
 
 -o FILE, --output FILE   where the module goes. The file is replaced as a whole, or not at all; it may be the input.
---drop-offsets           leaves out the custom sections that hold offsets into code or data: linking, reloc.*,
-                         .debug_*, sourceMappingURL, metadata.code.*. A module that has one is refused without it
-                         where its code or data gets shorter.
+--drop-offsets           leaves out the custom sections that hold offsets: linking, reloc.*, .debug_*,
+                         metadata.code.*, external_debug_info, build_id, sourceMappingURL. Without it a module is
+                         refused where offsets in one of them would no longer lead where they do.
 -h, --help               prints this.
 -V, --version            prints the version.
 

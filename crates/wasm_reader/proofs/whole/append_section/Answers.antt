@@ -1,7 +1,7 @@
 use Rattle.std.proofs.Common.{sym, ap, ◌++◌, ◌∙◌}
 use Rattle.wasm_reader.specs.Outlines.{section_of}
 use Rattle.wasm_reader.specs.Shortening.{holds_offsets}
-use Rattle.wasm_reader.proofs.ShortModules.{gains, stays_in, is_moved_text, after_id}
+use Rattle.wasm_reader.proofs.ShortModules.{gains, stays_in, is_change_text, after_id}
 use Rattle.wasm_reader.proofs.whole.append_section.Goals as goal
 
 pub returns-in-Ok-clause-ok : goal.returns-in-Ok-clause-ok
@@ -11,5 +11,5 @@ returns-in-Ok-clause-ok g c =
     let gained = text.2 ∙ ap (λ z. z ++ text.0) c.in_ok-push.ensures.items in
     gains c.args.offsets s c.in-Ok.how _ text.0 c.args.sink.now.items _ text.1
     (stays_in c.args.offsets (holds_offsets s.name) (sym c.is_left_out.ensures ∙ c.if-is_left_out.false))
-    (is_moved_text _ s _ text.0 (after_id c.args.sink.now.items text.0 c.deref.result.now s.id c.len-start.result (search (c.len-start.ensures, c.args.sink.now.ok)) (c.deref.ensures.value ∙ gained)) c.is_moved-is_moved.ensures)
+    (is_change_text _ s _ text.0 (after_id c.args.sink.now.items text.0 c.deref.result.now s.id c.len-start.result (search (c.len-start.ensures, c.args.sink.now.ok)) (c.deref.ensures.value ∙ gained)) c.is_changed-is_changed.ensures)
     gained

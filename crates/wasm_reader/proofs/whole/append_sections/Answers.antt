@@ -1,7 +1,7 @@
-use Rattle.std.proofs.Common.{sym, ◌∙◌, arith}
+use Rattle.std.proofs.Common.{◌≡◌, sym, ◌∙◌, length, arith}
 use Rattle.std.proofs.lemmas.Bool.{eqb-false}
 use Rattle.wasm_reader_base.proofs.ReadWhole.{empty_not}
-use Rattle.wasm_reader.proofs.ShortModules.{rewrites_below, rewrites_stop, rewrites_step}
+use Rattle.wasm_reader.proofs.ShortModules.{rewrites_below, rewrites_longer, rewrites_rest, rewrites_stop, rewrites_step}
 use Rattle.wasm_reader.proofs.whole.append_sections.Goals as goal
 
 pub overflow_add-number : goal.overflow_add-number
@@ -19,7 +19,12 @@ and-tally-requires g c = (
 )
 
 pub loop-rest-preserved : goal.loop-rest-preserved
-loop-rest-preserved g c = (
-  rewrites_step _ _ _ _ _ _ _ _ _ _ _ _ c.loop-rest.invariant.0 c.in-Ok.ensures.found c.in-Ok.ensures.split c.in-Ok-append_section.ensures.ok c.and-tally.ensures.tallied,
-  c.and-tally.ensures.kept,
-)
+loop-rest-preserved g c =
+    let at_start : c.len-start.result ≡ length c.args.sink.now.items = search (c.len-start.ensures, c.args.sink.now.ok) in
+    let at_end : c.len.result ≡ length c.loop-rest.sink.items = search (c.len.ensures, c.loop-rest.sink.ok) in
+    let rest = rewrites_rest _ _ _ _ _ _ c.loop-rest.invariant.0 in
+    let longer = rewrites_longer _ _ _ _ _ _ c.loop-rest.invariant.0 in (
+      rewrites_step _ _ _ _ _ _ _ _ _ _ _ _ _ _ _ c.loop-rest.invariant.0 c.in-Ok.ensures.found c.in-Ok.ensures.split c.in-Ok-append_section.ensures.ok c.is_same-is_level.ensures
+          (omega (arith, rest)) (omega (arith, at_start, at_end, longer)) c.and-tally.ensures.tallied,
+      c.and-tally.ensures.kept,
+    )

@@ -2,9 +2,9 @@ use Rattle.std.proofs.Common.{map}
 use Rattle.std.proofs.lemmas.List.{length-map}
 use Rattle.wasm_types.specs.Items.{entry_view}
 use Rattle.wasm_reader.proofs.ReadOutlines.{types_counted}
-use Rattle.wasm_reader.proofs.outlines.count_types.Goals as goal
+use Rattle.wasm_reader.proofs.outlines.count_entries.Goals as goal
 
 pub returns-clause-found : goal.returns-clause-found
 returns-clause-found g c =
-    let types = c.in_ok-types.types.items in
-    types_counted c.args.bytes.now (map entry_view types) _ c.in_ok-types.ensures.found (search (c.len.ensures, length-map types entry_view))
+    let entries = c.in_ok-entries.entries.items in
+    types_counted c.args.bytes.now (map entry_view entries) _ c.in_ok-entries.ensures.found (search (c.len.ensures, length-map entries entry_view))
