@@ -4,7 +4,7 @@ use Rattle.wasm_custom.specs.CoreDumps.{instance_view}
 use Rattle.wasm_custom.specs.Hints.{hints_view}
 use Rattle.wasm_reader_base.specs.Shortest.{AppendsShortest}
 use Rattle.wasm_reader.specs.Kinds.{Contents, Hints, CoreInstances, content, contents_of, kind_in}
-use Rattle.wasm_reader.proofs.KindLaws.{AppendsItems, items_appended}
+use Rattle.wasm_reader.proofs.KindLaws.{AppendsItems, items_appended, custom_appended}
 use Rattle.wasm_reader.proofs.kinds.append_content.Goals as goal
 
 -- As what the items are is told by a case of a match.
@@ -16,3 +16,9 @@ returns-in-Hints g c = on_ok c.append_hints.result _ _ c.append_hints.ensures.ok
 
 pub returns-in-CoreInstances : goal.returns-in-CoreInstances
 returns-in-CoreInstances g c = on_ok c.append_instances.result _ _ c.append_instances.ensures.ok λ a. of_items _ _ _ _ (ap contents_of c.in-CoreInstances.is ∙ ap (λ v. CoreInstances (map instance_view v)) (sym c.deref-in-CoreInstances.ensures.value)) a
+
+pub returns-in_ok-extend_from_slice-in-Custom : goal.returns-in_ok-extend_from_slice-in-Custom
+returns-in_ok-extend_from_slice-in-Custom g c =
+    let new = c.extend_from_slice.new.self.items in
+    subst (λ z. AppendsShortest (content (kind_in z)) z c.args.out.now.items new) (sym (ap contents_of c.in-Custom.is))
+    (custom_appended c.in-Custom.name.now c.in-Custom.bytes.now c.args.out.now.items c.write_minimal-in-Custom.new.out.items new c.in_ok-write_minimal-in-Custom.ensures.ok c.in_ok-extend_from_slice-in-Custom.ensures.items)
