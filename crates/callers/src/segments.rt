@@ -12,9 +12,7 @@ pub fn copy_of_array<'a>(segment: &DataSegment<'a, [u8; 3]>) -> R<DataSegment<'a
 }
 
 /// Copies a segment whose bytes are a slice.
-pub fn copy_of_slice<'a, 'b>(
-    segment: &DataSegment<'a, &'b [u8]>,
-) -> R<DataSegment<'a, &'b [u8]>>
+pub fn copy_of_slice<'a, 'b>(segment: &DataSegment<'a, &'b [u8]>) -> R<DataSegment<'a, &'b [u8]>>
     ensures { IfOk result (λ copy. copy ≡ segment.now) }
 {
     segment.clone()

@@ -49,8 +49,13 @@ pub const CORE_FUNCTION_EXACT_SORT: u8 = 0x20;
 
 // The sorts of the standard's "Binary Format", and that of the proposal for exact types.
 const _: () = prove!(CORE_FUNCTION_SORT == 0x00);
+
 const _: () = prove!(CORE_TABLE_SORT == 0x01);
+
 const _: () = prove!(CORE_MEMORY_SORT == 0x02);
+
 const _: () = prove!(CORE_GLOBAL_SORT == 0x03);
+
 const _: () = prove!(CORE_TAG_SORT == 0x04);
+
 const _: () = prove!(CORE_FUNCTION_EXACT_SORT == 0x20);

@@ -125,11 +125,17 @@ impl SymbolTable {
 
 // The flags of the tool conventions, "Linking".
 const _: () = prove!(<SymbolTable>::WASM_SYM_BINDING_WEAK == 0x1);
+
 const _: () = prove!(<SymbolTable>::WASM_SYM_BINDING_LOCAL == 0x2);
+
 const _: () = prove!(<SymbolTable>::WASM_SYM_VISIBILITY_HIDDEN == 0x4);
+
 const _: () = prove!(<SymbolTable>::WASM_SYM_UNDEFINED == 0x10);
+
 const _: () = prove!(<SymbolTable>::WASM_SYM_EXPORTED == 0x20);
+
 const _: () = prove!(<SymbolTable>::WASM_SYM_EXPLICIT_NAME == 0x40);
+
 const _: () = prove!(<SymbolTable>::WASM_SYM_NO_STRIP == 0x80);
 
 impl<A: Allocator> SymbolTable<A> {

@@ -51,8 +51,13 @@ pub const CORE_FUNCTION_EXACT_SORT: u8 = 0x20;
 
 // The sorts of the standard's "Binary Format", and that of the proposal for exact types.
 const _: () = assert!(CORE_FUNCTION_SORT == 0x00);
+
 const _: () = assert!(CORE_TABLE_SORT == 0x01);
+
 const _: () = assert!(CORE_MEMORY_SORT == 0x02);
+
 const _: () = assert!(CORE_GLOBAL_SORT == 0x03);
+
 const _: () = assert!(CORE_TAG_SORT == 0x04);
+
 const _: () = assert!(CORE_FUNCTION_EXACT_SORT == 0x20);
