@@ -17,7 +17,7 @@ pub trait Encode {
     /// What is promised to readers of the text. A section must promise its headline here.
     ghost reading: { Self → Type 0 } = { λ _. ⊤ };
 
-    /// What is too long for memory to matter: its encoding is refused as `TooLong` before any memory is asked for.
+    /// overlong: `encode` returns `TooLong` for such a value, whatever memory there is.
     ghost overlong: { Self → Type 0 } = { λ _. ⊥ };
 
     /// Appends the text. A refused call leaves the bytes of the sink as they were.

@@ -15,7 +15,7 @@ use crate::base::refused::R;
 /// fits: { Self → Type 0 }
 /// // What is promised to readers of the text. A section must promise its headline here.
 /// reading: { Self → Type 0 } = { λ _. ⊤ }
-/// // What is too long for memory to matter: its encoding is refused as `TooLong` before any memory is asked for.
+/// // overlong: `encode` returns `TooLong` for such a value, whatever memory there is.
 /// overlong: { Self → Type 0 } = { λ _. ⊥ }
 /// ```
 pub trait Encode {
