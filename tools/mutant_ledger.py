@@ -101,10 +101,15 @@ def sum_of(top, below, uses, edit, judging):
     return checksum(logic(), judging, uses, sum_of_interface(top), [*map(sum_of_interface, below)], edit.text, own)
 
 
-def share_of_the_day(names):
-    """Returns the twentieth of the names, in their order, that is tried again: neighbours, which share checks, drawn by the date of the commit."""
-    when = subprocess.run(["git", "log", "-1", "--format=%cs"], capture_output=True, text=True, check=True).stdout.strip()
-    share = date.fromisoformat(when).toordinal() % SHARES
+def day_of_commit():
+    """Returns the date of the commit, or of today where there is no repository of git."""
+    said = subprocess.run(["git", "log", "-1", "--format=%cs"], capture_output=True, text=True, check=False)
+    return date.today() if said.returncode else date.fromisoformat(said.stdout.strip())
+
+
+def share_of(names, day):
+    """Returns the twentieth of the names, in their order, that is tried again on a day: neighbours, which share checks. Twenty days in a row have them all."""
+    share = day.toordinal() % SHARES
     return set(names[len(names) * share // SHARES : len(names) * (share + 1) // SHARES])
 
 
