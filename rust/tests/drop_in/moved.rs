@@ -30,7 +30,7 @@ fn emit(expr: &Expr, body: &mut Function) {
     body.instruction(&operation);
 }
 
-/// A module that exports the expression as a function of its variable.
+/// Compiles the expression to an exported function of its variable.
 fn compile(expr: &Expr) -> Module {
     let mut types = TypeSection::new();
     types.ty().function([ValType::I64], [ValType::I64]);
@@ -52,21 +52,32 @@ fn compile(expr: &Expr) -> Module {
 
 use wasm_encoder::alloc::Global;
 use wasm_encoder::base::Refused;
-use wasm_encoder::custom::{self, CustomSection};
-use wasm_encoder::{NameSection, base};
+use wasm_encoder::{NameSection, code, custom, insn};
 
-/// The name of a module, which somebody gives. A name that is too long, or too large for the memory, is refused.
+/// Names the module. A name that is too long, or an allocation that fails, is an error.
 fn named(name: &str) -> Result<NameSection, Refused> {
     let mut names = custom::NameSection::new(Global);
     names.module(name)?;
     Ok(names.into())
 }
 
-/// A whole module by calls that refuse: it keeps a text, or this says why not, and nothing ends the program.
-fn note(text: &[u8]) -> Result<Vec<u8>, Refused> {
+/// Encodes the instructions as the body of a function without parameters.
+fn body(instructions: &[insn::Instruction<'_>]) -> Result<wasm_encoder::Function, Refused> {
+    let mut body = code::Function::new(Global, [])?;
+    for instruction in instructions {
+        body.instruction(instruction)?;
+    }
+    Ok(body.into())
+}
+
+use wasm_encoder::base;
+use wasm_encoder::custom::CustomSection;
+
+/// Builds a module of one custom section, `note`, without a panic or an abort.
+fn note(data: &[u8]) -> Result<Vec<u8>, Refused> {
     let note: CustomSection = CustomSection {
         name: base::CowStr::Borrowed("note"),
-        bytes: base::CowSlice::Borrowed(text),
+        bytes: base::CowSlice::Borrowed(data),
     };
     let mut module = base::Module::new(Global)?;
     module.section(&note)?;
@@ -82,6 +93,8 @@ fn the_program_makes_its_module() {
     let bytes = "0061736d01000000 01060160017e017e 03020100 070501016600 00 0a0c010a00 2000 2000 7e 427f 7c 0b";
     assert_eq!(module.as_slice(), crate::checks::bytes_of(bytes));
     module.section(&named("m").unwrap());
+    let end = body(&[insn::Instruction::LocalGet(0), insn::Instruction::End]).unwrap();
+    assert_eq!(end.into_raw_body(), [0, 0x20, 0, 0x0b]);
     assert!(module.finish().ends_with(b"\x00\x09\x04name\x00\x02\x01m"));
     assert!(note(b"text").unwrap().ends_with(b"\x00\x09\x04notetext"));
 }
