@@ -3,7 +3,8 @@ use crate::program::{Answer, Folder};
 use crate::samples::{PADDED, SHORT, module};
 use std::fs;
 
-/// The system's error for a file that does not exist. Windows has another one where its folder does not exist.
+/// The system's error for a file that does not exist. Windows has another error if the folder of
+/// the file does not exist either.
 fn not_found(folder: &Folder, name: &str) -> String {
     let error = fs::metadata(folder.path(name)).unwrap_err();
     format!("{name}: {error}")
