@@ -62,7 +62,13 @@ pub struct Row {
 /// All opcodes: below a line of names, lines of bytes or of a prefix and a number, a name, and a shape.
 pub fn table() -> &'static [Row] {
     static TABLE: OnceLock<Vec<Row>> = OnceLock::new();
-    TABLE.get_or_init(|| include_str!("../tools/instructions.tsv").lines().skip(1).map(row).collect())
+    TABLE.get_or_init(|| {
+        include_str!("../tools/instructions.tsv")
+            .lines()
+            .skip(1)
+            .map(row)
+            .collect()
+    })
 }
 
 fn row(line: &'static str) -> Row {
@@ -71,8 +77,16 @@ fn row(line: &'static str) -> Row {
     let shape = words.nth(1).expect("a shape");
     let byte = u8::from_str_radix(&op[..2], 16).expect("two digits");
     match op.get(3..) {
-        Some(number) => Row { prefix: Some(byte), number: number.parse().expect("a number"), shape },
-        None => Row { prefix: None, number: u32::from(byte), shape },
+        Some(number) => Row {
+            prefix: Some(byte),
+            number: number.parse().expect("a number"),
+            shape,
+        },
+        None => Row {
+            prefix: None,
+            number: u32::from(byte),
+            shape,
+        },
     }
 }
 
@@ -86,11 +100,18 @@ fn u32_any<G: Along>(g: &mut G) -> Option<()> {
     g.number(32, any).map(|_| ())
 }
 
-const ABSTRACT: [u8; 14] = [0x70, 0x6F, 0x6E, 0x6D, 0x6C, 0x6B, 0x6A, 0x69, 0x74, 0x73, 0x72, 0x71, 0x68, 0x75];
+const ABSTRACT: [u8; 14] = [
+    0x70, 0x6F, 0x6E, 0x6D, 0x6C, 0x6B, 0x6A, 0x69, 0x74, 0x73, 0x72, 0x71, 0x68, 0x75,
+];
 
 /// A heap type whose first byte is none of `left_out`.
 fn heap_but<G: Along>(g: &mut G, left_out: &[u8]) -> Option<()> {
-    let tags: Vec<u8> = ABSTRACT.iter().copied().filter(|tag| !left_out.contains(tag)).chain([0x62, 0x65]).collect();
+    let tags: Vec<u8> = ABSTRACT
+        .iter()
+        .copied()
+        .filter(|tag| !left_out.contains(tag))
+        .chain([0x62, 0x65])
+        .collect();
     match g.tag_or_else(&tags, 2)? {
         Some(0x62) => u32_any(g),
         Some(0x65) => g.tag(&ABSTRACT).map(|_| ()),
@@ -126,7 +147,10 @@ fn value<G: Along>(g: &mut G) -> Option<()> {
 }
 
 fn block<G: Along>(g: &mut G) -> Option<()> {
-    match g.tag_or_else(&[0x40, 0x7F, 0x7E, 0x7D, 0x7C, 0x7B, 0x70, 0x6F, 0x63, 0x64], 3)? {
+    match g.tag_or_else(
+        &[0x40, 0x7F, 0x7E, 0x7D, 0x7C, 0x7B, 0x70, 0x6F, 0x63, 0x64],
+        3,
+    )? {
         Some(tag) => reference_after(g, tag),
         None => g.index(),
     }
@@ -290,7 +314,11 @@ fn table_type<G: Along>(g: &mut G) -> Option<()> {
     reference(g)?;
     let flags = g.tag(&[0, 1, 2, 3, 4, 5, 6, 7])?;
     g.number(64, any)?;
-    if flags & 1 != 0 { g.number(64, any).map(|_| ()) } else { Some(()) }
+    if flags & 1 != 0 {
+        g.number(64, any).map(|_| ())
+    } else {
+        Some(())
+    }
 }
 
 fn table_item<G: Along>(g: &mut G) -> Option<()> {
@@ -381,7 +409,11 @@ fn subtype<G: Along>(g: &mut G) -> Option<()> {
 }
 
 fn type_item<G: Along>(g: &mut G) -> Option<()> {
-    if g.fixed_or_else(&[0x4E])? { g.vector(subtype) } else { subtype(g) }
+    if g.fixed_or_else(&[0x4E])? {
+        g.vector(subtype)
+    } else {
+        subtype(g)
+    }
 }
 
 // ---- custom sections
@@ -420,7 +452,11 @@ fn symbol<G: Along>(g: &mut G) -> Option<()> {
         return Some(());
     }
     u32_any(g)?;
-    if is_defined || flags & 0x40 != 0 { g.name() } else { Some(()) }
+    if is_defined || flags & 0x40 != 0 {
+        g.name()
+    } else {
+        Some(())
+    }
 }
 
 fn link<G: Along>(g: &mut G) -> Option<()> {
@@ -490,8 +526,29 @@ fn until_end<G: Along>(g: &mut G, item: fn(&mut G) -> Option<()>) -> Option<()> 
 
 /// The kinds of sections, in the order of their numbers.
 pub const KINDS: [&str; 23] = [
-    "Bodies", "Segments", "DataCount", "Elements", "Exports", "Functions", "Globals", "Imports", "Memories", "Start", "Tables", "Tags", "Names", "Linking",
-    "Producers", "Hints", "Core", "CoreModules", "CoreInstances", "CoreStack", "Custom", "Raw", "Types",
+    "Bodies",
+    "Segments",
+    "DataCount",
+    "Elements",
+    "Exports",
+    "Functions",
+    "Globals",
+    "Imports",
+    "Memories",
+    "Start",
+    "Tables",
+    "Tags",
+    "Names",
+    "Linking",
+    "Producers",
+    "Hints",
+    "Core",
+    "CoreModules",
+    "CoreInstances",
+    "CoreStack",
+    "Custom",
+    "Raw",
+    "Types",
 ];
 
 fn content<G: Along>(g: &mut G, kind: &str) -> Option<()> {
@@ -514,10 +571,14 @@ fn content<G: Along>(g: &mut G, kind: &str) -> Option<()> {
             until_end(g, link)
         }
         "Producers" => g.named("producers").and_then(|()| g.vector(field)),
-        "Hints" => g.named("metadata.code.branch_hint").and_then(|()| g.vector(hints)),
+        "Hints" => g
+            .named("metadata.code.branch_hint")
+            .and_then(|()| g.vector(hints)),
         "Core" => g.named("core").and_then(|()| core_module(g)),
         "CoreModules" => g.named("coremodules").and_then(|()| g.vector(core_module)),
-        "CoreInstances" => g.named("coreinstances").and_then(|()| g.vector(core_instance)),
+        "CoreInstances" => g
+            .named("coreinstances")
+            .and_then(|()| g.vector(core_instance)),
         "CoreStack" => {
             g.named("corestack")?;
             core_module(g)?;

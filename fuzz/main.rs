@@ -25,9 +25,23 @@ const BLANK: u8 = 0xA5;
 /// The shortest text by the library, and how many bytes were taken. `Err` is the number of a cause, or 0 where what it left is not what it says.
 fn by_library(kind: u32, bytes: &[u8], room: &mut [u8]) -> Result<(usize, u64), u32> {
     let (mut taken, mut cause) = (7, 7);
-    let answer = unsafe { dz_shorten(kind, bytes.as_ptr(), bytes.len(), room.as_mut_ptr(), room.len(), &mut taken, &mut cause) };
+    let answer = unsafe {
+        dz_shorten(
+            kind,
+            bytes.as_ptr(),
+            bytes.len(),
+            room.as_mut_ptr(),
+            room.len(),
+            &mut taken,
+            &mut cause,
+        )
+    };
     match (answer, taken, cause) {
-        (NO_ANSWER, 0, cause) => Err(if room.iter().all(|byte| *byte == BLANK) { cause } else { 0 }),
+        (NO_ANSWER, 0, cause) => Err(if room.iter().all(|byte| *byte == BLANK) {
+            cause
+        } else {
+            0
+        }),
         (answer, taken, 0) => Ok((answer as usize, taken)),
         _ => Err(0),
     }
@@ -38,7 +52,13 @@ fn agree(kind: u32, bytes: &[u8]) -> (bool, bool) {
     let mut room = vec![BLANK; bytes.len()];
     let library = by_library(kind, bytes, &mut room);
     match (shortened(bytes, KINDS[kind as usize]), library) {
-        (Some((text, taken)), Ok((length, by))) => (taken as u64 == by && length == text.len() && room[..length] == text[..] && room[length..].iter().all(|byte| *byte == BLANK), true),
+        (Some((text, taken)), Ok((length, by))) => (
+            taken as u64 == by
+                && length == text.len()
+                && room[..length] == text[..]
+                && room[length..].iter().all(|byte| *byte == BLANK),
+            true,
+        ),
         // A padded number is no fault, and memory is there.
         (None, Err(cause)) => ((1..=7).contains(&cause) && cause != 2, false),
         _ => (false, false),
@@ -50,7 +70,10 @@ fn show(bytes: &[u8]) -> String {
 }
 
 fn main() -> ExitCode {
-    let args: Vec<u64> = env::args().skip(1).map(|arg| arg.parse().expect("numbers: a seed, and how many inputs")).collect();
+    let args: Vec<u64> = env::args()
+        .skip(1)
+        .map(|arg| arg.parse().expect("numbers: a seed, and how many inputs"))
+        .collect();
     let [seed, count] = args[..] else {
         eprintln!("usage: fuzz SEED INPUTS");
         return ExitCode::from(2);
@@ -72,6 +95,13 @@ fn main() -> ExitCode {
     for (kind, texts) in KINDS.iter().zip(texts) {
         println!("{kind}: {texts} texts of {}", count / KINDS.len() as u64);
     }
-    println!("seed {seed}: {count} inputs of {bytes} bytes, {differences} differences, {} s", begun.elapsed().as_secs());
-    if differences == 0 { ExitCode::SUCCESS } else { ExitCode::FAILURE }
+    println!(
+        "seed {seed}: {count} inputs of {bytes} bytes, {differences} differences, {} s",
+        begun.elapsed().as_secs()
+    );
+    if differences == 0 {
+        ExitCode::SUCCESS
+    } else {
+        ExitCode::FAILURE
+    }
 }

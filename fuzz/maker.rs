@@ -43,7 +43,16 @@ pub struct Maker<'r> {
 }
 
 /// Names: some of several bytes a character, and some that are the start or the end of another.
-const NAMES: [&str; 8] = ["", "a", "main", "\u{e9}", "name", "\u{20ac}x", "core", "\u{1F980}"];
+const NAMES: [&str; 8] = [
+    "",
+    "a",
+    "main",
+    "\u{e9}",
+    "name",
+    "\u{20ac}x",
+    "core",
+    "\u{1F980}",
+];
 
 impl Maker<'_> {
     /// Spreads a shortest number over more bytes: zeros, or copies of the sign.
@@ -53,7 +62,9 @@ impl Maker<'_> {
         }
         let length = self.text.len() - begun;
         // A number too long at times.
-        let more = self.random.below(most - length + 1 + usize::from(self.random.0 % 16 == 0));
+        let more = self
+            .random
+            .below(most - length + 1 + usize::from(self.random.0 % 16 == 0));
         for _ in 0..more {
             if let Some(last) = self.text.last_mut() {
                 *last |= 0x80;
@@ -94,7 +105,11 @@ impl Along for Maker<'_> {
     }
 
     fn tag_or_else(&mut self, tags: &[u8], others: u32) -> Option<Option<u8>> {
-        if self.random.below(tags.len() + others as usize) < others as usize { Some(None) } else { self.tag(tags).map(Some) }
+        if self.random.below(tags.len() + others as usize) < others as usize {
+            Some(None)
+        } else {
+            self.tag(tags).map(Some)
+        }
     }
 
     fn fixed_or_else(&mut self, bytes: &[u8]) -> Option<bool> {
@@ -119,7 +134,10 @@ impl Along for Maker<'_> {
     }
 
     fn number(&mut self, bits: u32, is_in: fn(u64) -> bool) -> Option<u64> {
-        let n = (0..200).map(|_| self.some(bits)).find(|n| is_in(*n)).or_else(|| (0..200).find(|n| is_in(*n)))?;
+        let n = (0..200)
+            .map(|_| self.some(bits))
+            .find(|n| is_in(*n))
+            .or_else(|| (0..200).find(|n| is_in(*n)))?;
         self.unsigned(n, bits);
         Some(n)
     }
@@ -129,7 +147,11 @@ impl Along for Maker<'_> {
         let n = if self.random.one_in(2) { n } else { !n };
         let begun = self.text.len();
         put_signed(&mut self.text, n);
-        self.pad(begun, bits.div_ceil(7) as usize, if n < 0 { 0x7F } else { 0x00 });
+        self.pad(
+            begun,
+            bits.div_ceil(7) as usize,
+            if n < 0 { 0x7F } else { 0x00 },
+        );
         Some(n)
     }
 
@@ -222,7 +244,8 @@ impl Along for Maker<'_> {
 
 /// Bytes that mean something in many places.
 const BYTES: [u8; 24] = [
-    0x00, 0x01, 0x02, 0x03, 0x04, 0x05, 0x0B, 0x1C, 0x1F, 0x20, 0x40, 0x41, 0x60, 0x62, 0x63, 0x64, 0x65, 0x6F, 0x70, 0x7E, 0x7F, 0x80, 0xFC, 0xFF,
+    0x00, 0x01, 0x02, 0x03, 0x04, 0x05, 0x0B, 0x1C, 0x1F, 0x20, 0x40, 0x41, 0x60, 0x62, 0x63, 0x64,
+    0x65, 0x6F, 0x70, 0x7E, 0x7F, 0x80, 0xFC, 0xFF,
 ];
 
 /// One change: a byte is another, comes or goes, or what follows is cut off.
@@ -231,7 +254,11 @@ fn change(random: &mut Random, text: &mut Vec<u8>) {
         return;
     }
     let place = random.below(text.len());
-    let byte = if random.one_in(2) { random.one_of(&BYTES) } else { random.next() as u8 };
+    let byte = if random.one_in(2) {
+        random.one_of(&BYTES)
+    } else {
+        random.next() as u8
+    };
     match random.below(8) {
         0 => text.insert(place, byte),
         1 => drop(text.remove(place)),
@@ -246,7 +273,11 @@ fn change(random: &mut Random, text: &mut Vec<u8>) {
 /// A text of the kind, changed at times, with bytes behind it at times; or, at times, any bytes.
 pub fn input(random: &mut Random, kind: &str) -> Vec<u8> {
     let left = 1 + random.below(8);
-    let mut maker = Maker { random, text: Vec::new(), left };
+    let mut maker = Maker {
+        random,
+        text: Vec::new(),
+        left,
+    };
     if maker.random.one_in(16) {
         let count = maker.random.below(12);
         let _ = maker.raw(count);

@@ -13,18 +13,40 @@ use plain::Plain;
 use std::env;
 use std::process::ExitCode;
 use std::time::Instant;
-use whole::{Answer, CARES, HOLDERS, Section, first_broken, sections, shortened_module, shortest_module, why_refused};
+use whole::{
+    Answer, CARES, HOLDERS, Section, first_broken, sections, shortened_module, shortest_module,
+    why_refused,
+};
 
 // ---- modules
 
 /// Names of custom sections of no kind that hold offsets.
-const HOLDING: [&str; 7] = ["sourceMappingURL", "external_debug_info", "build_id", ".debug_info", ".debug_", "metadata.code.a", "metadata.code."];
+const HOLDING: [&str; 7] = [
+    "sourceMappingURL",
+    "external_debug_info",
+    "build_id",
+    ".debug_info",
+    ".debug_",
+    "metadata.code.a",
+    "metadata.code.",
+];
 
 /// What relocations are of, behind `reloc.`.
 const TARGETS: [&str; 5] = ["CODE", "DATA", ".debug_info", "name", ""];
 
 /// Names of custom sections that hold no offsets, though some nearly.
-const OTHERS: [&str; 10] = ["sourceMappingURLs", "reloc", ".debug", "metadata.code", "linkin", "external_debug_inf", "build_ids", "dylink.0", "debug_info", ""];
+const OTHERS: [&str; 10] = [
+    "sourceMappingURLs",
+    "reloc",
+    ".debug",
+    "metadata.code",
+    "linkin",
+    "external_debug_inf",
+    "build_ids",
+    "dylink.0",
+    "debug_info",
+    "",
+];
 
 /// The id of the sections of a kind.
 fn id_of(random: &mut Random, kind: &str) -> u8 {
@@ -49,7 +71,10 @@ fn id_of(random: &mut Random, kind: &str) -> u8 {
 
 /// What a frame at the front holds, or all bytes where there is none. Of a frame that is cut off it is what is left.
 fn unframed(bytes: &[u8]) -> &[u8] {
-    let mut along = Plain { rest: bytes, text: Vec::new() };
+    let mut along = Plain {
+        rest: bytes,
+        text: Vec::new(),
+    };
     match along.unsigned(32) {
         Some(size) => &along.rest[..along.rest.len().min(size as usize)],
         None => bytes,
@@ -59,7 +84,11 @@ fn unframed(bytes: &[u8]) -> &[u8] {
 /// Relocations: the index of a section, and entries of a type, an offset, an index, and an addend for most types.
 fn relocations(random: &mut Random) -> Vec<u8> {
     let (section, count) = (random.below(6) as u64, random.below(3));
-    let mut maker = Maker { random, text: Vec::new(), left: 0 };
+    let mut maker = Maker {
+        random,
+        text: Vec::new(),
+        left: 0,
+    };
     maker.unsigned(section, 32);
     maker.unsigned(count as u64, 32);
     for _ in 0..count {
@@ -76,11 +105,24 @@ fn relocations(random: &mut Random) -> Vec<u8> {
 /// A custom section of no kind: its name, whose length is padded at times, and relocations or any bytes.
 fn custom(random: &mut Random) -> Vec<u8> {
     let (name, data) = match random.below(8) {
-        0..3 => (format!("reloc.{}", random.one_of(&TARGETS)), relocations(random)),
-        3..6 => (random.one_of(&HOLDING).to_owned(), (0..random.below(4)).map(|place| 0x80 >> place).collect()),
-        _ => (random.one_of(&OTHERS).to_owned(), (0..random.below(4)).map(|place| 0x80 >> place).collect()),
+        0..3 => (
+            format!("reloc.{}", random.one_of(&TARGETS)),
+            relocations(random),
+        ),
+        3..6 => (
+            random.one_of(&HOLDING).to_owned(),
+            (0..random.below(4)).map(|place| 0x80 >> place).collect(),
+        ),
+        _ => (
+            random.one_of(&OTHERS).to_owned(),
+            (0..random.below(4)).map(|place| 0x80 >> place).collect(),
+        ),
     };
-    let mut maker = Maker { random, text: Vec::new(), left: 0 };
+    let mut maker = Maker {
+        random,
+        text: Vec::new(),
+        left: 0,
+    };
     maker.unsigned(name.len() as u64, 32);
     let mut text = maker.text;
     text.extend(name.bytes());
@@ -90,7 +132,11 @@ fn custom(random: &mut Random) -> Vec<u8> {
 
 /// Puts a frame around what it holds. Its size is padded at times.
 fn framed(random: &mut Random, payload: &[u8]) -> Vec<u8> {
-    let mut maker = Maker { random, text: Vec::new(), left: 0 };
+    let mut maker = Maker {
+        random,
+        text: Vec::new(),
+        left: 0,
+    };
     maker.unsigned(payload.len() as u64, 32);
     maker.text.extend(payload);
     maker.text
@@ -104,8 +150,16 @@ fn add_section(random: &mut Random, module: &mut Vec<u8>) {
         module.extend(framed(random, &payload));
         return;
     }
-    let kind = if random.one_in(4) { ["Bodies", "Segments"][random.below(2)] } else { random.one_of(&KINDS) };
-    let id = if random.one_in(24) { random.below(15) as u8 } else { id_of(random, kind) };
+    let kind = if random.one_in(4) {
+        ["Bodies", "Segments"][random.below(2)]
+    } else {
+        random.one_of(&KINDS)
+    };
+    let id = if random.one_in(24) {
+        random.below(15) as u8
+    } else {
+        id_of(random, kind)
+    };
     let text = input(random, kind);
     module.push(id);
     if random.one_in(64) {
@@ -143,9 +197,15 @@ fn by_library(bytes: &[u8], offsets: Offsets) -> Option<Answer> {
     let answer = shorten_module(bytes, offsets, &mut sink);
     let text = sink.strip_prefix(&BEFORE)?;
     match answer {
-        Ok(kept) => Some(Answer::Shortened { text: text.to_vec(), kept }),
+        Ok(kept) => Some(Answer::Shortened {
+            text: text.to_vec(),
+            kept,
+        }),
         Err(_) if !text.is_empty() => None,
-        Err(ModuleFault::Section { fault: ReadFault::Memory | ReadFault::NotShortest, .. }) => None,
+        Err(ModuleFault::Section {
+            fault: ReadFault::Memory | ReadFault::NotShortest,
+            ..
+        }) => None,
         Err(ModuleFault::Section { number, .. }) => Some(Answer::NoSection(number)),
         Err(ModuleFault::Offsets { number }) => Some(Answer::Offsets(number)),
     }
@@ -153,24 +213,39 @@ fn by_library(bytes: &[u8], offsets: Offsets) -> Option<Answer> {
 
 /// Whether the text is a module of the same ids in the same order, but those that are left out, no longer, and shortened to itself.
 fn is_settled(bytes: &[u8], text: &[u8], kept: usize, offsets: Offsets) -> bool {
-    let (Ok(before), Ok(after)) = (sections(bytes), sections(text)) else { return false };
+    let (Ok(before), Ok(after)) = (sections(bytes), sections(text)) else {
+        return false;
+    };
     let is_in = |section: &&Section<'_>| offsets == Offsets::Refuse || section.holder().is_none();
     let ids = before.iter().filter(is_in).map(|section| section.id);
     let again = by_library(text, offsets);
-    ids.eq(after.iter().map(|section| section.id)) && text.len() <= bytes.len() && again == Some(Answer::Shortened { text: text.to_vec(), kept })
+    ids.eq(after.iter().map(|section| section.id))
+        && text.len() <= bytes.len()
+        && again
+            == Some(Answer::Shortened {
+                text: text.to_vec(),
+                kept,
+            })
 }
 
 /// Whether the outline is that of the plain reader.
 fn is_outlined(bytes: &[u8]) -> bool {
     match (outline(Global, bytes), sections(bytes)) {
-        (Err((number, fault)), Err(expected)) => number == expected && ![ReadFault::Memory, ReadFault::NotShortest].contains(&fault),
-        (Ok(lines), Ok(expected)) => lines.iter().copied().eq(expected.iter().map(|section| Outlined {
-            id: section.id,
-            offset: section.offset,
-            size: section.payload.len() as u32,
-            items: section.items(),
-            name: section.name,
-        })),
+        (Err((number, fault)), Err(expected)) => {
+            number == expected && ![ReadFault::Memory, ReadFault::NotShortest].contains(&fault)
+        }
+        (Ok(lines), Ok(expected)) => {
+            lines
+                .iter()
+                .copied()
+                .eq(expected.iter().map(|section| Outlined {
+                    id: section.id,
+                    offset: section.offset,
+                    size: section.payload.len() as u32,
+                    items: section.items(),
+                    name: section.name,
+                }))
+        }
         _ => false,
     }
 }
@@ -197,12 +272,17 @@ impl Counts {
     fn count_offsets(&mut self, bytes: &[u8], answer: &Answer) {
         match answer {
             Answer::Shortened { text, .. } if text.len() < bytes.len() => {
-                let first = sections(bytes).ok().and_then(|all| all.iter().find_map(Section::holder));
+                let first = sections(bytes)
+                    .ok()
+                    .and_then(|all| all.iter().find_map(Section::holder));
                 if let Some(place) = HOLDERS.iter().position(|holder| Some(*holder) == first) {
                     self.saved[place] += 1;
                 }
             }
-            Answer::Offsets(number) if shortest_module(bytes).is_some_and(|text| first_broken(bytes, &text).is_none()) => {
+            Answer::Offsets(number)
+                if shortest_module(bytes)
+                    .is_some_and(|text| first_broken(bytes, &text).is_none()) =>
+            {
                 let why = why_refused(bytes, *number);
                 if let Some(place) = CARES.iter().position(|care| Some(*care) == why) {
                     self.careful[place] += 1;
@@ -252,11 +332,15 @@ fn agree(bytes: &[u8], offsets: Offsets, counts: &mut Counts) -> bool {
                 return false;
             }
         }
-    } else if sections(bytes).is_ok_and(|sections| sections.iter().any(|section| section.holder().is_some())) {
+    } else if sections(bytes)
+        .is_ok_and(|sections| sections.iter().any(|section| section.holder().is_some()))
+    {
         counts.left_out += 1;
     }
     match given {
-        Some(Answer::Shortened { text, kept }) => is_settled(bytes, &text, kept, offsets) && expected == Answer::Shortened { text, kept },
+        Some(Answer::Shortened { text, kept }) => {
+            is_settled(bytes, &text, kept, offsets) && expected == Answer::Shortened { text, kept }
+        }
         Some(answer) => answer == expected,
         None => false,
     }
@@ -267,7 +351,10 @@ fn show(bytes: &[u8]) -> String {
 }
 
 fn main() -> ExitCode {
-    let args: Vec<u64> = env::args().skip(1).map(|arg| arg.parse().expect("numbers: a seed, and how many inputs")).collect();
+    let args: Vec<u64> = env::args()
+        .skip(1)
+        .map(|arg| arg.parse().expect("numbers: a seed, and how many inputs"))
+        .collect();
     let [seed, count] = args[..] else {
         eprintln!("usage: modules SEED INPUTS");
         return ExitCode::from(2);
@@ -278,18 +365,45 @@ fn main() -> ExitCode {
     for _ in 0..count {
         let module = module(&mut random);
         bytes += module.len();
-        let is_same = agree(&module, Offsets::Refuse, &mut counts) & agree(&module, Offsets::LeaveOut, &mut counts) & is_outlined(&module);
+        let is_same = agree(&module, Offsets::Refuse, &mut counts)
+            & agree(&module, Offsets::LeaveOut, &mut counts)
+            & is_outlined(&module);
         if !is_same {
             differences += 1;
             println!("module {}", show(&module));
         }
     }
-    let Counts { shortened, shorter, with_kept, no_section, offsets, left_out, broken, saved, careful } = counts;
-    println!("{shortened} modules shortened, {shorter} of them by bytes, {with_kept} with a section that was kept; {offsets} refused for offsets, {no_section} for a section that is none");
+    let Counts {
+        shortened,
+        shorter,
+        with_kept,
+        no_section,
+        offsets,
+        left_out,
+        broken,
+        saved,
+        careful,
+    } = counts;
+    println!(
+        "{shortened} modules shortened, {shorter} of them by bytes, {with_kept} with a section that was kept; {offsets} refused for offsets, {no_section} for a section that is none"
+    );
     println!("{left_out} modules with a section to leave out");
     println!("{broken} modules whose offsets lead elsewhere");
-    println!("modules with offsets that are kept, shortened by bytes: {:?}", HOLDERS.iter().zip(saved).collect::<Vec<_>>());
-    println!("modules refused though no offset would lead elsewhere: {:?}", CARES.iter().zip(careful).collect::<Vec<_>>());
-    println!("seed {seed}: {count} modules of {bytes} bytes, {differences} differences, {} s", begun.elapsed().as_secs());
-    if differences == 0 { ExitCode::SUCCESS } else { ExitCode::FAILURE }
+    println!(
+        "modules with offsets that are kept, shortened by bytes: {:?}",
+        HOLDERS.iter().zip(saved).collect::<Vec<_>>()
+    );
+    println!(
+        "modules refused though no offset would lead elsewhere: {:?}",
+        CARES.iter().zip(careful).collect::<Vec<_>>()
+    );
+    println!(
+        "seed {seed}: {count} modules of {bytes} bytes, {differences} differences, {} s",
+        begun.elapsed().as_secs()
+    );
+    if differences == 0 {
+        ExitCode::SUCCESS
+    } else {
+        ExitCode::FAILURE
+    }
 }

@@ -28,7 +28,12 @@ pub fn put_signed(text: &mut Vec<u8>, mut n: i64) {
 /// The shape of each opcode, by its prefix, or 0, and its number.
 fn shapes() -> &'static HashMap<(u8, u32), &'static str> {
     static SHAPES: OnceLock<HashMap<(u8, u32), &'static str>> = OnceLock::new();
-    SHAPES.get_or_init(|| table().iter().map(|row| ((row.prefix.unwrap_or(0), row.number), row.shape)).collect())
+    SHAPES.get_or_init(|| {
+        table()
+            .iter()
+            .map(|row| ((row.prefix.unwrap_or(0), row.number), row.shape))
+            .collect()
+    })
 }
 
 impl<'a> Plain<'a> {
@@ -143,8 +148,16 @@ impl Along for Plain<'_> {
     fn opcode(&mut self, with_end: bool) -> Option<&'static str> {
         let byte = self.byte()?;
         self.text.push(byte);
-        let number = if (0xFB..=0xFE).contains(&byte) { self.number(32, |_| true)? as u32 } else { u32::from(byte) };
-        let prefix = if (0xFB..=0xFE).contains(&byte) { byte } else { 0 };
+        let number = if (0xFB..=0xFE).contains(&byte) {
+            self.number(32, |_| true)? as u32
+        } else {
+            u32::from(byte)
+        };
+        let prefix = if (0xFB..=0xFE).contains(&byte) {
+            byte
+        } else {
+            0
+        };
         if byte == 0x0B && !with_end {
             return None;
         }
@@ -176,7 +189,10 @@ impl Along for Plain<'_> {
 
     fn frame(&mut self, content: &dyn Fn(&mut Self) -> Option<()>) -> Option<()> {
         let size = self.unsigned(32)?;
-        let mut inner = Plain { rest: self.take(size as usize)?, text: Vec::new() };
+        let mut inner = Plain {
+            rest: self.take(size as usize)?,
+            text: Vec::new(),
+        };
         content(&mut inner)?;
         if !inner.rest.is_empty() {
             return None;
@@ -201,7 +217,10 @@ impl Along for Plain<'_> {
 
 /// The shortest text of the section of the kind that stands at the front, and how many bytes it takes there.
 pub fn shortened(bytes: &[u8], kind: &str) -> Option<(Vec<u8>, usize)> {
-    let mut along = Plain { rest: bytes, text: Vec::new() };
+    let mut along = Plain {
+        rest: bytes,
+        text: Vec::new(),
+    };
     crate::grammar::section(&mut along, kind)?;
     let taken = bytes.len() - along.rest.len();
     Some((along.text, taken))

@@ -17,19 +17,31 @@ pub struct Section<'a> {
 }
 
 fn name(payload: &[u8]) -> Option<&str> {
-    let mut along = Plain { rest: payload, text: Vec::new() };
+    let mut along = Plain {
+        rest: payload,
+        text: Vec::new(),
+    };
     let length = along.unsigned(32)?;
     std::str::from_utf8(along.take(length as usize)?).ok()
 }
 
 fn section(bytes: &[u8], at: usize) -> Option<Section<'_>> {
-    let mut along = Plain { rest: &bytes[at..], text: Vec::new() };
+    let mut along = Plain {
+        rest: &bytes[at..],
+        text: Vec::new(),
+    };
     let id = along.byte()?;
     let size = along.unsigned(32)? as usize;
     let offset = bytes.len() - along.rest.len();
     let payload = along.take(size)?;
     let name = if id == 0 { name(payload) } else { None };
-    Some(Section { id, offset, framed: &bytes[at + 1..offset + size], payload, name })
+    Some(Section {
+        id,
+        offset,
+        framed: &bytes[at + 1..offset + size],
+        payload,
+        name,
+    })
 }
 
 /// All sections, or the number of the first that is none.
@@ -89,7 +101,12 @@ impl Section<'_> {
         match self.id {
             0 | 14.. => None,
             8 | 12 => Some(1),
-            _ => Plain { rest: self.payload, text: Vec::new() }.unsigned(32).map(|count| count as u32),
+            _ => Plain {
+                rest: self.payload,
+                text: Vec::new(),
+            }
+            .unsigned(32)
+            .map(|count| count as u32),
         }
     }
 
@@ -125,7 +142,13 @@ pub enum Holder {
     SourceMap,
 }
 
-pub const HOLDERS: [Holder; 5] = [Holder::Symbols, Holder::Relocations, Holder::Debug, Holder::Metadata, Holder::SourceMap];
+pub const HOLDERS: [Holder; 5] = [
+    Holder::Symbols,
+    Holder::Relocations,
+    Holder::Debug,
+    Holder::Metadata,
+    Holder::SourceMap,
+];
 
 /// Types of relocations that have an addend (Linking.md), and of these the ones whose addend is an offset in a function, or in a custom section.
 const WITH_ADDEND: [u8; 15] = [3, 4, 5, 8, 9, 11, 14, 15, 16, 17, 21, 22, 23, 25, 27];
@@ -140,10 +163,17 @@ struct Relocations {
 }
 
 fn relocations(section: &Section<'_>) -> Option<Relocations> {
-    let mut along = Plain { rest: section.payload, text: Vec::new() };
+    let mut along = Plain {
+        rest: section.payload,
+        text: Vec::new(),
+    };
     let length = along.unsigned(32)?;
     along.take(length as usize)?;
-    let mut found = Relocations { section: along.unsigned(32)? as usize, in_functions: false, in_custom: false };
+    let mut found = Relocations {
+        section: along.unsigned(32)? as usize,
+        in_functions: false,
+        in_custom: false,
+    };
     for _ in 0..along.unsigned(32)? {
         let kind = along.byte()?;
         along.unsigned(32)?;
@@ -159,7 +189,12 @@ fn relocations(section: &Section<'_>) -> Option<Relocations> {
 
 /// Whether each byte of the payload has the same offset in it, before and after.
 fn has_same_payload(before: &Section<'_>, after: &Section<'_>) -> bool {
-    before.payload.len() == after.payload.len() && before.payload.iter().enumerate().all(|(offset, byte)| after.payload[offset] == *byte)
+    before.payload.len() == after.payload.len()
+        && before
+            .payload
+            .iter()
+            .enumerate()
+            .all(|(offset, byte)| after.payload[offset] == *byte)
 }
 
 /// Whether the bytes that the offsets in a section lead to stand elsewhere, once the sections before are written as those after.
@@ -170,10 +205,14 @@ fn is_broken(holder: &Section<'_>, before: &[Section<'_>], after: &[Section<'_>]
         None | Some(Holder::Symbols) => false,
         Some(Holder::Debug | Holder::Metadata) => moves(&[10]),
         // The place in the module of each byte of the code.
-        Some(Holder::SourceMap) => pairs().any(|(b, a)| b.id == 10 && (b.offset != a.offset || !has_same_payload(b, a))),
+        Some(Holder::SourceMap) => {
+            pairs().any(|(b, a)| b.id == 10 && (b.offset != a.offset || !has_same_payload(b, a)))
+        }
         Some(Holder::Relocations) => relocations(holder).is_some_and(|found| {
             let at = pairs().nth(found.section);
-            at.is_some_and(|(b, a)| [0, 10, 11].contains(&b.id) && !has_same_payload(b, a)) || (found.in_functions && moves(&[10])) || (found.in_custom && moves(&[0]))
+            at.is_some_and(|(b, a)| [0, 10, 11].contains(&b.id) && !has_same_payload(b, a))
+                || (found.in_functions && moves(&[10]))
+                || (found.in_custom && moves(&[0]))
         }),
     }
 }
@@ -181,7 +220,10 @@ fn is_broken(holder: &Section<'_>, before: &[Section<'_>], after: &[Section<'_>]
 /// The number of the first section whose offsets lead elsewhere, of a module and the same module with its sections written in another way.
 pub fn first_broken(before: &[u8], after: &[u8]) -> Option<usize> {
     let (before, after) = (sections(before).ok()?, sections(after).ok()?);
-    before.iter().position(|section| is_broken(section, &before, &after)).map(|place| place + 1)
+    before
+        .iter()
+        .position(|section| is_broken(section, &before, &after))
+        .map(|place| place + 1)
 }
 
 // ---- modules
@@ -189,7 +231,10 @@ pub fn first_broken(before: &[u8], after: &[u8]) -> Option<usize> {
 /// What shortening a module comes to.
 #[derive(PartialEq, Eq, Debug)]
 pub enum Answer {
-    Shortened { text: Vec<u8>, kept: usize },
+    Shortened {
+        text: Vec<u8>,
+        kept: usize,
+    },
     /// The section of this number is none.
     NoSection(usize),
     /// The section of this number holds offsets that would be lost.
@@ -210,7 +255,11 @@ where
 {
     let one = |section: &'b Section<'a>| {
         let shortest = section.shortest();
-        Rewritten { section, is_kept: shortest.is_none(), text: shortest.unwrap_or_else(|| section.framed.to_vec()) }
+        Rewritten {
+            section,
+            is_kept: shortest.is_none(),
+            text: shortest.unwrap_or_else(|| section.framed.to_vec()),
+        }
     };
     sections.map(one).collect()
 }
@@ -226,10 +275,19 @@ fn joined(written: &[Rewritten<'_, '_>]) -> Vec<u8> {
 
 /// Whether docs/FORMAT.md says that a module with such a holder is refused.
 fn is_refused(holder: Holder, written: &[Rewritten<'_, '_>]) -> bool {
-    let differs = |ids: &[u8]| written.iter().any(|w| ids.contains(&w.section.id) && w.text != w.section.framed);
+    let differs = |ids: &[u8]| {
+        written
+            .iter()
+            .any(|w| ids.contains(&w.section.id) && w.text != w.section.framed)
+    };
     let moves = || {
-        let last = written.iter().rposition(|w| w.section.id == 10).unwrap_or(0);
-        written[..last].iter().any(|w| w.text.len() != w.section.framed.len())
+        let last = written
+            .iter()
+            .rposition(|w| w.section.id == 10)
+            .unwrap_or(0);
+        written[..last]
+            .iter()
+            .any(|w| w.text.len() != w.section.framed.len())
     };
     match holder {
         Holder::Relocations => differs(&[0, 10, 11]),
@@ -249,11 +307,22 @@ pub fn shortened_module(bytes: &[u8], leaves_out: bool) -> Answer {
         Ok(sections) => sections,
         Err(number) => return Answer::NoSection(number),
     };
-    let written = rewritten(sections.iter().filter(|section| !(leaves_out && section.holder().is_some())));
-    let lost = written.iter().position(|w| w.section.holder().is_some_and(|holder| is_refused(holder, &written)));
+    let written = rewritten(
+        sections
+            .iter()
+            .filter(|section| !(leaves_out && section.holder().is_some())),
+    );
+    let lost = written.iter().position(|w| {
+        w.section
+            .holder()
+            .is_some_and(|holder| is_refused(holder, &written))
+    });
     match lost {
         Some(place) if !leaves_out => Answer::Offsets(place + 1),
-        _ => Answer::Shortened { text: joined(&written), kept: written.iter().filter(|w| w.is_kept).count() },
+        _ => Answer::Shortened {
+            text: joined(&written),
+            kept: written.iter().filter(|w| w.is_kept).count(),
+        },
     }
 }
 
@@ -270,7 +339,12 @@ pub enum Care {
     OtherTarget,
 }
 
-pub const CARES: [Care; 4] = [Care::Symbols, Care::SizeAlone, Care::DataAlone, Care::OtherTarget];
+pub const CARES: [Care; 4] = [
+    Care::Symbols,
+    Care::SizeAlone,
+    Care::DataAlone,
+    Care::OtherTarget,
+];
 
 /// Why the section of this number is named, where no offset in the module would lead elsewhere.
 pub fn why_refused(before: &[u8], number: usize) -> Option<Care> {
@@ -280,12 +354,16 @@ pub fn why_refused(before: &[u8], number: usize) -> Option<Care> {
     let payload_moves = |ids: &[u8]| {
         let text = joined(&written);
         let after = sections(&text).unwrap_or_default();
-        all.iter().zip(&after).any(|(b, a)| ids.contains(&b.id) && !has_same_payload(b, a))
+        all.iter()
+            .zip(&after)
+            .any(|(b, a)| ids.contains(&b.id) && !has_same_payload(b, a))
     };
     Some(match holder {
         Holder::Symbols => Care::Symbols,
         Holder::Relocations if payload_moves(&[0, 10, 11]) => Care::OtherTarget,
-        Holder::Debug | Holder::Metadata | Holder::SourceMap if payload_moves(&[11]) => Care::DataAlone,
+        Holder::Debug | Holder::Metadata | Holder::SourceMap if payload_moves(&[11]) => {
+            Care::DataAlone
+        }
         _ => Care::SizeAlone,
     })
 }

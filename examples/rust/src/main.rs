@@ -228,12 +228,16 @@ fn outline(module: &[u8]) {
     match outlined(module) {
         Ok(sections) => {
             for section in sections {
-                print!("{} at {}, {} bytes", section.id, section.offset, section.size);
+                print!(
+                    "{} at {}, {} bytes",
+                    section.id, section.offset, section.size
+                );
                 if section.items != NO_ANSWER {
                     print!(", {} items", section.items);
                 }
                 if section.name_size != NO_ANSWER {
-                    let name = &module[section.name_offset as usize..][..section.name_size as usize];
+                    let name =
+                        &module[section.name_offset as usize..][..section.name_size as usize];
                     print!(", {}", String::from_utf8_lossy(name));
                 }
                 println!();
@@ -277,7 +281,8 @@ fn shorten_module(module: &[u8], drop_offsets: u32) {
 }
 
 /// A type, a custom section of padded numbers called `name`, one without a name, and seven functions that don't stand there.
-const OUTLINED: &[u8] = b"\0asm\x01\0\0\0\x01\x04\x01\x60\0\0\0\x87\0\x84\0name\xFF\0\x01\x05\x03\x01\x07";
+const OUTLINED: &[u8] =
+    b"\0asm\x01\0\0\0\x01\x04\x01\x60\0\0\0\x87\0\x84\0name\xFF\0\x01\x05\x03\x01\x07";
 
 /// A padded code section, and symbols, which hold offsets into it.
 const SYMBOLS: &[u8] = b"\0asm\x01\0\0\0\x0A\x84\0\x01\x02\0\x0B\0\x08\x07linking";

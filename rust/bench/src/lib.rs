@@ -10,6 +10,7 @@ use drop_in::{self as code, self as exports, self as functions, self as imports,
 
 #[allow(unused_imports, unused_variables, clippy::all)]
 #[cfg_attr(feature = "drop-in", allow(dead_code))]
+#[rustfmt::skip]
 mod calls;
 #[cfg(feature = "drop-in")]
 mod drop_in;

@@ -10,6 +10,7 @@ use std::slice;
 mod host;
 
 #[allow(unused_imports, clippy::all, reason = "written by tools/to-rust")]
+#[rustfmt::skip]
 mod calls;
 
 /// The list of so many items from this one on.

@@ -8,10 +8,12 @@
 //! What the proved calls answer as a refusal is what it is in the crate: a panic where a count, run or length would pass 4294967295, and [`handle_alloc_error`] where memory is
 //! refused.
 
+#[rustfmt::skip]
 mod calls;
 mod code;
 mod custom;
 mod encode;
+#[rustfmt::skip]
 mod instruction;
 mod module;
 mod sections;

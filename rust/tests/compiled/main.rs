@@ -1,6 +1,7 @@
 //! Modules of the worked callers in node, where there is one: the compiled functions are called, and the module for a linker is valid.
 #[allow(dead_code, unused_imports, clippy::all)]
 #[path = "../examples/mod.rs"]
+#[rustfmt::skip]
 mod examples;
 
 use dolzhytik::alloc::Global;

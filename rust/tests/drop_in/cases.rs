@@ -33,7 +33,6 @@ pub fn check_all() {
 }
 
 /// The cases from the line 1 of the table on.
-#[rustfmt::skip]
 fn from_0() {
     check(
         "00",
@@ -438,7 +437,6 @@ fn from_0() {
 }
 
 /// The cases from the line 51 of the table on.
-#[rustfmt::skip]
 fn from_50() {
     check(
         "364201ac02",
@@ -843,7 +841,6 @@ fn from_50() {
 }
 
 /// The cases from the line 101 of the table on.
-#[rustfmt::skip]
 fn from_100() {
     check(
         "68",
@@ -1248,7 +1245,6 @@ fn from_100() {
 }
 
 /// The cases from the line 151 of the table on.
-#[rustfmt::skip]
 fn from_150() {
     check(
         "9a",
@@ -1653,7 +1649,6 @@ fn from_150() {
 }
 
 /// The cases from the line 201 of the table on.
-#[rustfmt::skip]
 fn from_200() {
     check(
         "e0ac02",
@@ -2058,7 +2053,6 @@ fn from_200() {
 }
 
 /// The cases from the line 251 of the table on.
-#[rustfmt::skip]
 fn from_250() {
     check(
         "fc05",
@@ -2463,7 +2457,6 @@ fn from_250() {
 }
 
 /// The cases from the line 301 of the table on.
-#[rustfmt::skip]
 fn from_300() {
     check(
         "fd2003",
@@ -2868,7 +2861,6 @@ fn from_300() {
 }
 
 /// The cases from the line 351 of the table on.
-#[rustfmt::skip]
 fn from_350() {
     check(
         "fd52",
@@ -3273,7 +3265,6 @@ fn from_350() {
 }
 
 /// The cases from the line 401 of the table on.
-#[rustfmt::skip]
 fn from_400() {
     check(
         "fd8401",
@@ -3678,7 +3669,6 @@ fn from_400() {
 }
 
 /// The cases from the line 451 of the table on.
-#[rustfmt::skip]
 fn from_450() {
     check(
         "fdc001",
@@ -4083,7 +4073,6 @@ fn from_450() {
 }
 
 /// The cases from the line 501 of the table on.
-#[rustfmt::skip]
 fn from_500() {
     check(
         "fdfc01",
@@ -4488,7 +4477,6 @@ fn from_500() {
 }
 
 /// The cases from the line 551 of the table on.
-#[rustfmt::skip]
 fn from_550() {
     check(
         "fe254201ac02",
@@ -4893,7 +4881,6 @@ fn from_550() {
 }
 
 /// The cases from the line 601 of the table on.
-#[rustfmt::skip]
 fn from_600() {
     check(
         "fe5701ac02",

@@ -31,7 +31,7 @@ pub fn section(section: &impl Section, id: u8, expected: &[u8]) {
 pub fn check(
     text: &str,
     value: Instruction<'_>,
-    call: impl FnOnce(&mut InstructionSink<'_>),
+    call: fn(&mut InstructionSink<'_>),
     proved: insn::Instruction<'_>,
 ) {
     let expected = bytes_of(text);

@@ -1,4 +1,5 @@
 //! Tests of the names at the root of the package: by hand, but for `cases`.
+#[rustfmt::skip]
 mod cases;
 mod checks;
 mod every_call;

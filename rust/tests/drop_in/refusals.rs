@@ -161,8 +161,9 @@ fn more_than_there_is() {
     DataSection::new().passive(longest);
 }
 
+/// On other systems `ulimit -v` is no limit.
 #[test]
-#[cfg(unix)]
+#[cfg(target_os = "linux")]
 fn memory_that_is_refused() {
     let child = std::process::Command::new("sh")
         .args(["-c", "ulimit -v 2000000 && exec \"$0\" \"$@\""])

@@ -2,11 +2,12 @@
 use crate::program::{Answer, Folder};
 use crate::samples::{PADDED, SHORT, module};
 use std::fs;
-use std::io;
 
-/// What the system says where a file is not there.
-fn not_there() -> io::Error {
-    fs::metadata("no/such/file").unwrap_err()
+/// The system's error for a file that does not exist. Windows has another error if the folder of
+/// the file does not exist either.
+fn not_found(folder: &Folder, name: &str) -> String {
+    let error = fs::metadata(folder.path(name)).unwrap_err();
+    format!("{name}: {error}")
 }
 
 #[test]
@@ -27,7 +28,7 @@ fn inputs_that_are_not_there() {
         &["shorten", "a", "-o", "b"],
         &["build", "a", "-o", "b"],
     ] {
-        let fault = Answer::fault(&format!("a: {}", not_there()));
+        let fault = Answer::fault(&not_found(&folder, "a"));
         assert_eq!(folder.call(words, b""), fault);
     }
     assert!(folder.names().is_empty());
@@ -42,7 +43,7 @@ fn outputs_that_cannot_be_written() {
     let folder = Folder::new("unwritten");
     folder.write("a.wasm", module(&PADDED));
     let fault = folder.call(&["shorten", "a.wasm", "-o", "no/b.wasm"], b"");
-    let told = Answer::fault(&format!("no/b.wasm: {}", not_there()));
+    let told = Answer::fault(&not_found(&folder, "no/b.wasm"));
     assert_eq!(fault, told);
     fs::create_dir(folder.path("folder")).unwrap();
     let fault = folder.call(&["shorten", "a.wasm", "-o", "folder"], b"");
@@ -66,8 +67,6 @@ fn options_stand_anywhere_and_files_behind_dashes() {
 #[cfg(unix)]
 mod on_unix {
     use super::*;
-    use std::ffi::OsStr;
-    use std::os::unix::ffi::OsStrExt;
     use std::os::unix::fs::{FileTypeExt, PermissionsExt, symlink};
     use std::process::Command;
 
@@ -116,8 +115,13 @@ mod on_unix {
         assert_eq!(folder.names(), ["a.wasm", "b.wasm"]);
     }
 
+    /// The file systems of macOS have no such names.
     #[test]
+    #[cfg(not(target_os = "macos"))]
     fn a_name_that_is_no_text() {
+        use std::ffi::OsStr;
+        use std::os::unix::ffi::OsStrExt;
+
         let folder = Folder::new("bytes");
         let name = OsStr::from_bytes(b"\xff.wasm");
         fs::write(folder.path("").join(name), module(&PADDED)).unwrap();

@@ -2,9 +2,11 @@
 #![allow(dead_code, unused_imports, reason = "no test program uses all of it")]
 
 mod memory;
+#[rustfmt::skip]
 mod refusals;
+#[rustfmt::skip]
 mod streams;
 
-pub use refusals::{Heap, MOST};
 pub use memory::Refusing;
+pub use refusals::{Heap, MOST};
 pub use streams::{EndlessReader, FailingReader, FailingWriter};

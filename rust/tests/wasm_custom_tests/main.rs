@@ -11,18 +11,26 @@ mod host;
 #[path = "../test_support/mod.rs"]
 mod test_support;
 #[cfg(test)]
+#[rustfmt::skip]
 mod checks;
 #[cfg(test)]
+#[rustfmt::skip]
 mod core_dumps;
 #[cfg(test)]
+#[rustfmt::skip]
 mod further_entries;
 #[cfg(test)]
+#[rustfmt::skip]
 mod lengths;
 #[cfg(test)]
+#[rustfmt::skip]
 mod names;
 #[cfg(test)]
+#[rustfmt::skip]
 mod refusals;
 #[cfg(test)]
+#[rustfmt::skip]
 mod sections;
 #[cfg(test)]
+#[rustfmt::skip]
 mod whole_refusals;

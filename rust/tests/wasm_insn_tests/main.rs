@@ -11,30 +11,44 @@ mod host;
 #[path = "../test_support/mod.rs"]
 mod test_support;
 #[cfg(test)]
+#[rustfmt::skip]
 mod base;
 #[cfg(test)]
+#[rustfmt::skip]
 mod base_refusals;
 #[cfg(test)]
+#[rustfmt::skip]
 mod cases;
 #[cfg(test)]
+#[rustfmt::skip]
 mod checks;
 #[cfg(test)]
+#[rustfmt::skip]
 mod clones;
 #[cfg(test)]
+#[rustfmt::skip]
 mod cows;
 #[cfg(test)]
+#[rustfmt::skip]
 mod debug;
 #[cfg(test)]
+#[rustfmt::skip]
 mod encode_refusals;
 #[cfg(test)]
+#[rustfmt::skip]
 mod examples;
 #[cfg(test)]
+#[rustfmt::skip]
 mod immediates;
 #[cfg(test)]
+#[rustfmt::skip]
 mod lengths;
 #[cfg(test)]
+#[rustfmt::skip]
 mod rows;
 #[cfg(test)]
+#[rustfmt::skip]
 mod sink;
 #[cfg(test)]
+#[rustfmt::skip]
 mod table;

@@ -11,42 +11,61 @@ mod host;
 mod test_support;
 #[allow(dead_code)]
 #[path = "../examples/mod.rs"]
+#[rustfmt::skip]
 mod examples;
 #[allow(dead_code)]
 #[path = "../callers/mod.rs"]
+#[rustfmt::skip]
 mod callers;
 #[allow(dead_code)]
 #[path = "../read_back/mod.rs"]
+#[rustfmt::skip]
 mod read_back;
 #[cfg(test)]
+#[rustfmt::skip]
 mod appended;
 #[cfg(test)]
+#[rustfmt::skip]
 mod called;
 #[cfg(test)]
+#[rustfmt::skip]
 mod checks;
 #[cfg(test)]
+#[rustfmt::skip]
 mod custom_rows;
 #[cfg(test)]
+#[rustfmt::skip]
 mod custom_seen;
 #[cfg(test)]
+#[rustfmt::skip]
 mod example_bytes;
 #[cfg(test)]
+#[rustfmt::skip]
 mod example_refusals;
 #[cfg(test)]
+#[rustfmt::skip]
 mod faults;
 #[cfg(test)]
+#[rustfmt::skip]
 mod modules;
 #[cfg(test)]
+#[rustfmt::skip]
 mod numbers;
 #[cfg(test)]
+#[rustfmt::skip]
 mod refusals;
 #[cfg(test)]
+#[rustfmt::skip]
 mod rows;
 #[cfg(test)]
+#[rustfmt::skip]
 mod seen;
 #[cfg(test)]
+#[rustfmt::skip]
 mod shortest;
 #[cfg(test)]
+#[rustfmt::skip]
 mod whole;
 #[cfg(test)]
+#[rustfmt::skip]
 mod written_back;

@@ -12,20 +12,29 @@ mod host;
 mod test_support;
 #[allow(dead_code)]
 #[path = "../callers/mod.rs"]
+#[rustfmt::skip]
 mod callers;
 #[cfg(test)]
+#[rustfmt::skip]
 mod base;
 #[cfg(test)]
+#[rustfmt::skip]
 mod checks;
 #[cfg(test)]
+#[rustfmt::skip]
 mod frames;
 #[cfg(test)]
+#[rustfmt::skip]
 mod instructions;
 #[cfg(test)]
+#[rustfmt::skip]
 mod passed;
 #[cfg(test)]
+#[rustfmt::skip]
 mod refusals;
 #[cfg(test)]
+#[rustfmt::skip]
 mod shorten;
 #[cfg(test)]
+#[rustfmt::skip]
 mod walks;

@@ -12,24 +12,35 @@ mod host;
 mod test_support;
 #[allow(dead_code)]
 #[path = "../callers/mod.rs"]
+#[rustfmt::skip]
 mod callers;
 #[cfg(test)]
+#[rustfmt::skip]
 mod checks;
 #[cfg(test)]
+#[rustfmt::skip]
 mod code;
 #[cfg(test)]
+#[rustfmt::skip]
 mod code_refusals;
 #[cfg(test)]
+#[rustfmt::skip]
 mod functions;
 #[cfg(test)]
+#[rustfmt::skip]
 mod lengths;
 #[cfg(test)]
+#[rustfmt::skip]
 mod samples;
 #[cfg(test)]
+#[rustfmt::skip]
 mod section_refusals;
 #[cfg(test)]
+#[rustfmt::skip]
 mod sections;
 #[cfg(test)]
+#[rustfmt::skip]
 mod segment_refusals;
 #[cfg(test)]
+#[rustfmt::skip]
 mod segments;

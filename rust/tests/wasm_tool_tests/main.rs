@@ -10,10 +10,14 @@ mod host;
 #[path = "../test_support/mod.rs"]
 mod test_support;
 #[cfg(test)]
+#[rustfmt::skip]
 mod checks;
 #[cfg(test)]
+#[rustfmt::skip]
 mod failures;
 #[cfg(test)]
+#[rustfmt::skip]
 mod listings;
 #[cfg(test)]
+#[rustfmt::skip]
 mod recipes;

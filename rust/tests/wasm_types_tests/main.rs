@@ -11,22 +11,32 @@ mod host;
 #[path = "../test_support/mod.rs"]
 mod test_support;
 #[cfg(test)]
+#[rustfmt::skip]
 mod calls;
 #[cfg(test)]
+#[rustfmt::skip]
 mod checks;
 #[cfg(test)]
+#[rustfmt::skip]
 mod faults;
 #[cfg(test)]
+#[rustfmt::skip]
 mod lengths;
 #[cfg(test)]
+#[rustfmt::skip]
 mod refusals;
 #[cfg(test)]
+#[rustfmt::skip]
 mod rows;
 #[cfg(test)]
+#[rustfmt::skip]
 mod samples;
 #[cfg(test)]
+#[rustfmt::skip]
 mod seen;
 #[cfg(test)]
+#[rustfmt::skip]
 mod shortest;
 #[cfg(test)]
+#[rustfmt::skip]
 mod texts;
