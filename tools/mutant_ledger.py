@@ -17,6 +17,7 @@ import hashlib
 import os
 import re
 import subprocess
+import sys
 import tempfile
 from datetime import date
 
@@ -120,10 +121,14 @@ class Ledger:
         self.path = path
 
     def lines(self):
-        """Returns the checksum of each mutant of the file, by its name."""
-        with contextlib.suppress(FileNotFoundError):
-            return dict(it.split(" ") for it in text_of(self.path).splitlines())
-        return {}
+        """Returns the checksum of each mutant of the file, by its name. Stops at a line of another form."""
+        found = {}
+        for number, line in enumerate(text_of(self.path).splitlines() if os.path.exists(self.path) else [], 1):
+            if not re.fullmatch(r"\w+/\w+ [0-9a-f]{32}", line):
+                sys.exit(f"{self.path}:{number}: not 'CRATE/MUTANT CHECKSUM'")
+            name, _, covered = line.partition(" ")
+            found[name] = covered
+        return found
 
     def record(self, crate, names, verdicts):
         """Records verdicts of a crate that has mutants of these names: the checksum of each that was rejected, and "" of each that was not."""
