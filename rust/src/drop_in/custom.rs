@@ -1,10 +1,10 @@
 //! The custom sections.
 use super::{
-    BranchHint, CoreDumpValue, DataSymbolDefinition, Encode, Section, copied, counted, default,
-    done, encoded, section, taken,
+    BranchHint, CoreDumpValue, DataSymbolDefinition, Encode, Section, SectionId, copied, counted,
+    default, done, encoded, section, taken,
 };
 use crate::alloc::Global;
-use crate::base::{self, CowSlice, CowStr, SectionId};
+use crate::base::{self, CowSlice, CowStr};
 use crate::custom;
 use std::borrow::Cow;
 

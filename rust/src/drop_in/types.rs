@@ -1,7 +1,7 @@
 //! The type section, and the types that a module defines.
-use super::{Encode, copied, counted, default, done, encoded, section, taken};
+use super::{by_proved, copied, counted, default, done, encoded, section, taken};
 use crate::alloc::Global;
-use crate::base::{self, ValType};
+use crate::base::ValType;
 use crate::types;
 use crate::types::{ArrayType, ContType, FieldType, StorageType};
 use std::hash::{Hash, Hasher};
@@ -136,21 +136,7 @@ impl From<SubType> for types::SubType {
     }
 }
 
-/// Writes the bytes of a type as those of the proved one, which is made of a copy.
-macro_rules! by_proved {
-    ($($name:ident)*) => {
-        $(
-            impl Encode for $name {
-                fn encode(&self, sink: &mut Vec<u8>) {
-                    let proved = types::$name::from(self.clone());
-                    done(base::Encode::encode(&proved, sink))
-                }
-            }
-        )*
-    };
-}
-
-by_proved! { StructType CompositeInnerType CompositeType SubType }
+by_proved! { types: StructType CompositeInnerType CompositeType SubType }
 
 /// The type section, over the proved [`types::TypeSection`].
 ///
