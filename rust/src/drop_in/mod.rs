@@ -5,6 +5,8 @@
 //! its op and its parts. A body and a module are bytes here, since the crate lends them before their end, and so [`Function::raw`] and [`Module::section`] append by themselves, as do
 //! the calls on values of which nothing is known here: [`encode_vec`], and `encode` of a list and of an option. Nothing of this is proved; it is tested.
 //!
+//! Values that the proved calls take are the same types here, but for `kinds` and `imports`, whose enums have the crate's cases and sizes, and `From` both ways.
+//!
 //! What the proved calls answer as a refusal is what it is in the crate: a panic where a count, run or length would pass 4294967295, and [`handle_alloc_error`] where memory is
 //! refused.
 
@@ -12,6 +14,7 @@
 mod calls;
 mod code;
 mod custom;
+mod debug;
 mod encode;
 mod imports;
 #[rustfmt::skip]

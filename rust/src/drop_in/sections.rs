@@ -1,4 +1,5 @@
 //! The sections of counted items.
+use super::debug::debugged;
 use super::{
     ConstExpr, ExportKind, TagType, copied, counted, default, done, handed, section, taken,
 };
@@ -14,7 +15,6 @@ macro_rules! sections {
         $(
             $(#[$doc])*
             #[doc = concat!("\n\nOver the proved [`", stringify!($name), "`](crate::sections::", stringify!($name), ").")]
-            #[derive(Debug)]
             pub struct $name(pub(super) sections::$name);
 
             impl $name {
@@ -29,6 +29,7 @@ macro_rules! sections {
             copied!($name);
             counted!($name);
             section!($name of $id);
+            debugged!($name after [Number Number] num_added);
         )*
     };
 }
