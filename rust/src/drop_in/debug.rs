@@ -1,4 +1,4 @@
-//! `Debug` of the builders: a struct of the builder's own name, with the bytes of its entries and their number.
+//! `Debug` of the builders: a struct of the builder's own name, with the bytes of its entries and mostly their number.
 use crate::base::Encode;
 use std::fmt;
 

@@ -6,6 +6,15 @@ use crate::sections::{GlobalType, MemoryType, TableType};
 use std::borrow::Cow;
 
 /// The type of an imported item.
+///
+/// ```
+/// use dolzhytik::{EntityType, ImportSection, TagKind, TagType};
+///
+/// let mut imports = ImportSection::new();
+/// imports.import("env", "f", EntityType::Function(0));
+/// imports.import("env", "t", TagType { kind: TagKind::Exception, func_type_idx: 0 });
+/// assert_eq!(imports.len(), 2);
+/// ```
 #[derive(Clone, Copy, Debug, PartialEq, Eq)]
 pub enum EntityType {
     /// A function of the type with this index.
@@ -43,6 +52,18 @@ pub struct ImportCompact<'a> {
 }
 
 /// An entry of the import section: one import, or several of one module.
+///
+/// ```
+/// use dolzhytik::{EntityType, ImportSection, Imports};
+///
+/// let mut imports = ImportSection::new();
+/// imports.imports(Imports::Compact2 {
+///     module: "env",
+///     ty: EntityType::Function(0),
+///     names: vec!["f", "g"].into(),
+/// });
+/// assert_eq!(imports.len(), 1);
+/// ```
 #[derive(Clone, Debug)]
 pub enum Imports<'a> {
     /// One import.
@@ -67,12 +88,20 @@ pub enum Imports<'a> {
 
 impl ImportSection {
     /// Appends an entry.
+    ///
+    /// # Panics
+    ///
+    /// Panics if the length of a name, the number of items or the number of entries would pass 4294967295.
     pub fn imports<'a>(&mut self, imports: Imports<'a>) -> &mut Self {
         done(self.0.imports(imports.proved()));
         self
     }
 
     /// Appends an import.
+    ///
+    /// # Panics
+    ///
+    /// Panics if the length of a name or the number of entries would pass 4294967295.
     #[inline]
     pub fn import(&mut self, module: &str, name: &str, ty: impl Into<EntityType>) -> &mut Self {
         done(self.0.import(module, name, ty.into().into()));
@@ -126,14 +155,14 @@ macro_rules! same_entities {
         impl From<$from> for $to {
             #[inline]
             fn from(ty: $from) -> Self {
-                use $from as From;
+                use $from as Given;
                 match ty {
-                    From::Function(index) => Self::Function(index),
-                    From::Table(ty) => Self::Table(ty),
-                    From::Memory(ty) => Self::Memory(ty),
-                    From::Global(ty) => Self::Global(ty),
-                    From::Tag(ty) => Self::Tag(ty.into()),
-                    From::FunctionExact(index) => Self::FunctionExact(index),
+                    Given::Function(index) => Self::Function(index),
+                    Given::Table(ty) => Self::Table(ty),
+                    Given::Memory(ty) => Self::Memory(ty),
+                    Given::Global(ty) => Self::Global(ty),
+                    Given::Tag(ty) => Self::Tag(ty.into()),
+                    Given::FunctionExact(index) => Self::FunctionExact(index),
                 }
             }
         }

@@ -75,6 +75,14 @@ pub enum TagKind {
 }
 
 /// The type of a tag.
+///
+/// ```
+/// use dolzhytik::{TagKind, TagSection, TagType};
+///
+/// let mut tags = TagSection::new();
+/// tags.tag(TagType { kind: TagKind::Exception, func_type_idx: 0 });
+/// assert_eq!(tags.len(), 1);
+/// ```
 #[derive(Clone, Copy, Debug, PartialEq, Eq)]
 pub struct TagType {
     /// The kind of the tag.
