@@ -9,6 +9,14 @@
 #[cfg(not(target_pointer_width = "64"))]
 compile_error!("the proofs take a pointer to have 64 bits, and this target's have not");
 
+#[cfg(feature = "wasmparser")]
+compile_error!(
+    "there are no conversions of `wasmparser`'s types: write a `match`, or decode with `dolzhytik::reader`"
+);
+
+#[cfg(feature = "component-model")]
+compile_error!("there are no components: keep `wasm-encoder` beside this package for them");
+
 pub mod alloc;
 mod drop_in;
 pub mod hex;

@@ -1,9 +1,11 @@
 //! Constant expressions, functions, and what instructions are written with.
+use super::debug::debugged;
 use super::{Encode, Instruction, copied, counted, default, done, encoded, section, taken};
 use crate::alloc::Global;
 use crate::base::{self, EncodeOnce, HeapType, R, ValType, vec_of};
 use crate::immediates::{Ieee32, Ieee64};
 use crate::{code, insn};
+use std::fmt;
 
 /// Writes instructions behind the bytes of a list, with a named call for each.
 ///
@@ -133,7 +135,6 @@ impl Encode for Function {
 }
 
 /// The code section, over the proved [`code::CodeSection`].
-#[derive(Debug)]
 pub struct CodeSection(code::CodeSection);
 
 default!(CodeSection);
@@ -141,6 +142,7 @@ taken!(CodeSection of code, ConstExpr of code);
 copied!(CodeSection);
 counted!(CodeSection);
 section!(CodeSection of Code);
+debugged!(CodeSection after [Number Number] num_added);
 
 impl CodeSection {
     /// No bodies.
@@ -166,11 +168,19 @@ impl CodeSection {
 }
 
 /// An expression that gives a constant, over the proved [`code::ConstExpr`].
-#[derive(Debug)]
 pub struct ConstExpr(pub(super) code::ConstExpr);
 
 copied!(ConstExpr);
 encoded!(ConstExpr);
+
+impl fmt::Debug for ConstExpr {
+    fn fmt(&self, f: &mut fmt::Formatter<'_>) -> fmt::Result {
+        let mut bytes = Vec::new();
+        self.encode(&mut bytes);
+        let _end = bytes.pop();
+        f.debug_struct("ConstExpr").field("bytes", &bytes).finish()
+    }
+}
 
 /// Writes the calls of `ConstExpr` that begin with an instruction or append one.
 macro_rules! instructions {

@@ -1,12 +1,14 @@
 //! The custom sections.
+use super::debug::{self, Before, debugged};
 use super::{
-    BranchHint, CoreDumpValue, DataSymbolDefinition, Encode, Section, copied, counted, default,
-    done, encoded, section, taken,
+    BranchHint, CoreDumpValue, DataSymbolDefinition, Encode, Section, SectionId, copied, counted,
+    default, done, encoded, section, taken,
 };
 use crate::alloc::Global;
-use crate::base::{self, CowSlice, CowStr, SectionId};
+use crate::base::{self, CowSlice, CowStr};
 use crate::custom;
 use std::borrow::Cow;
+use std::fmt;
 
 /// A custom section of these data.
 #[derive(Clone, Debug, PartialEq)]
@@ -55,7 +57,6 @@ macro_rules! over_proved {
         $(
             $(#[$doc])*
             #[doc = concat!("\n\nOver the proved [`", stringify!($name), "`](crate::custom::", stringify!($name), ").")]
-            #[derive(Debug)]
             pub struct $name(custom::$name);
 
             impl $name {
@@ -105,6 +106,20 @@ encoded!(NameMap, IndirectNameMap, SymbolTable, ProducersField);
 section!(NameSection of Custom, LinkingSection of Custom, ProducersSection of Custom);
 section!(BranchHints of Custom, CoreDumpModulesSection of Custom);
 section!(CoreDumpInstancesSection of Custom);
+
+// A custom section has a size and a name first; a list has its count, and a symbol table the id and the size of its subsection too.
+debugged!(
+    NameMap after [Number] count,
+    IndirectNameMap after [Number] count,
+    ProducersField after [Number] num_values,
+    SymbolTable after [Number Number Number] num_added,
+    NameSection after [Number Name],
+    LinkingSection after [Number Name Number],
+    ProducersSection after [Number Name Number] num_fields,
+    BranchHints after [Number Name Number] num_hints,
+    CoreDumpModulesSection after [Number Name Number] num_added,
+    CoreDumpInstancesSection after [Number Name Number] num_added
+);
 
 impl NameMap {
     /// Appends a name. Neither order nor repeats are checked.
@@ -295,8 +310,10 @@ impl CoreDumpInstancesSection {
     }
 }
 
+/// The parts before the name of a process or thread: the section's size and name, and the byte 00.
+const MARKED: &[Before] = &[Before::Number, Before::Name, Before::Number];
+
 /// The section `core`: the name of a process.
-#[derive(Debug)]
 pub struct CoreDumpSection(custom::CoreDumpSection);
 
 copied!(CoreDumpSection);
@@ -310,6 +327,19 @@ impl CoreDumpSection {
     }
 }
 
+impl fmt::Debug for CoreDumpSection {
+    fn fmt(&self, f: &mut fmt::Formatter<'_>) -> fmt::Result {
+        let mut section = f.debug_struct("CoreDumpSection");
+        let Some(marked) = debug::after(&self.0, MARKED) else {
+            return section.finish_non_exhaustive();
+        };
+        let (_, name) = debug::number(&marked);
+        section
+            .field("name", &String::from_utf8_lossy(name))
+            .finish()
+    }
+}
+
 /// The process has no name.
 impl Default for CoreDumpSection {
     fn default() -> Self {
@@ -318,7 +348,6 @@ impl Default for CoreDumpSection {
 }
 
 /// The section `corestack`: the frames of a thread.
-#[derive(Debug)]
 pub struct CoreDumpStackSection(custom::CoreDumpStackSection);
 
 copied!(CoreDumpStackSection);
@@ -357,6 +386,23 @@ impl CoreDumpStackSection {
     /// The section as a custom one. Its data is owned.
     pub fn as_custom<'a>(&'a self) -> CustomSection<'a> {
         done(self.0.as_custom(Global)).into()
+    }
+}
+
+impl fmt::Debug for CoreDumpStackSection {
+    fn fmt(&self, f: &mut fmt::Formatter<'_>) -> fmt::Result {
+        let mut stack = f.debug_struct("CoreDumpStackSection");
+        let Some(marked) = debug::after(&self.0, MARKED) else {
+            return stack.finish_non_exhaustive();
+        };
+        let (length, rest) = debug::number(&marked);
+        let (name, rest) = rest.split_at(length);
+        let (count, frames) = debug::number(rest);
+        stack
+            .field("frame_bytes", &frames)
+            .field("count", &count)
+            .field("name", &String::from_utf8_lossy(name))
+            .finish()
     }
 }
 

@@ -1,15 +1,12 @@
 //! Values and sections as bytes.
-use super::done;
+use super::{SectionId, done};
 use crate::base;
-use crate::base::{AbstractHeapType, HeapType, RefType, SectionId, ValType};
+use crate::base::{AbstractHeapType, HeapType, RefType, ValType};
 use crate::custom::{CoreDumpValue, RawCustomSection};
 use crate::immediates::{
     BlockType, Catch, Handle, Ieee32, Ieee64, MemArg, MemArgOrdering, Ordering,
 };
-use crate::sections::{
-    DataCountSection, EntityType, ExportKind, GlobalType, MemoryType, StartSection, TableType,
-    TagType,
-};
+use crate::sections::{DataCountSection, GlobalType, MemoryType, StartSection, TableType};
 use crate::types::{ArrayType, ContType, FieldType, StorageType};
 
 /// A value that a module can hold as bytes.
@@ -51,15 +48,8 @@ macro_rules! hands_on {
 hands_on! { u8 u32 u64 usize i32 i64 }
 hands_on! { AbstractHeapType HeapType RefType ValType StorageType FieldType ArrayType ContType }
 hands_on! { BlockType Catch Handle Ieee32 Ieee64 MemArg MemArgOrdering Ordering }
-hands_on! { EntityType ExportKind GlobalType MemoryType TableType TagType CoreDumpValue }
+hands_on! { GlobalType MemoryType TableType CoreDumpValue }
 hands_on! { DataCountSection StartSection RawCustomSection<'_> }
-
-/// One byte.
-impl Encode for SectionId {
-    fn encode(&self, sink: &mut Vec<u8>) {
-        u8::from(*self).encode(sink);
-    }
-}
 
 /// The name: a count of bytes, and these.
 impl Encode for str {
@@ -100,18 +90,21 @@ impl<T: Encode> Encode for Option<T> {
 }
 
 impl Section for StartSection {
+    #[inline]
     fn id(&self) -> u8 {
         SectionId::Start.into()
     }
 }
 
 impl Section for DataCountSection {
+    #[inline]
     fn id(&self) -> u8 {
         SectionId::DataCount.into()
     }
 }
 
 impl Section for RawCustomSection<'_> {
+    #[inline]
     fn id(&self) -> u8 {
         SectionId::Custom.into()
     }

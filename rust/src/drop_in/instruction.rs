@@ -8,7 +8,10 @@ use std::borrow::Cow;
 use std::slice;
 
 /// An instruction.
+///
+/// A `match` on it outside this package needs a wildcard, as in the crate.
 #[derive(Clone, Debug)]
+#[non_exhaustive]
 pub enum Instruction<'a> {
     /// Its op is `00`.
     Unreachable,

@@ -5,6 +5,8 @@
 //! its op and its parts. A body and a module are bytes here, since the crate lends them before their end, and so [`Function::raw`] and [`Module::section`] append by themselves, as do
 //! the calls on values of which nothing is known here: [`encode_vec`], and `encode` of a list and of an option. Nothing of this is proved; it is tested.
 //!
+//! Values that the proved calls take are the same types here, but for `kinds` and `imports`, whose enums have the crate's cases and sizes, and `From` both ways.
+//!
 //! What the proved calls answer as a refusal is what it is in the crate: a panic where a count, run or length would pass 4294967295, and [`handle_alloc_error`] where memory is
 //! refused.
 
@@ -12,9 +14,12 @@
 mod calls;
 mod code;
 mod custom;
+mod debug;
 mod encode;
+mod imports;
 #[rustfmt::skip]
 mod instruction;
+mod kinds;
 mod module;
 mod sections;
 mod types;
@@ -22,17 +27,13 @@ mod values;
 
 pub use crate::base::{
     AbstractHeapType, CORE_FUNCTION_EXACT_SORT, CORE_FUNCTION_SORT, CORE_GLOBAL_SORT,
-    CORE_MEMORY_SORT, CORE_TABLE_SORT, CORE_TAG_SORT, HeapType, RefType, SectionId, ValType,
-    encoding_size,
+    CORE_MEMORY_SORT, CORE_TABLE_SORT, CORE_TAG_SORT, HeapType, RefType, ValType, encoding_size,
 };
 pub use crate::custom::{BranchHint, CoreDumpValue, DataSymbolDefinition, RawCustomSection};
 pub use crate::immediates::{
     BlockType, Catch, Handle, Ieee32, Ieee64, Lane, MemArg, MemArgOrdering, MemArgTarget, Ordering,
 };
-pub use crate::sections::{
-    DataCountSection, EntityType, ExportKind, GlobalType, Import, ImportCompact, MemoryType,
-    StartSection, TableType, TagKind, TagType,
-};
+pub use crate::sections::{DataCountSection, GlobalType, MemoryType, StartSection, TableType};
 pub use crate::types::{ArrayType, ContType, FieldType, StorageType};
 pub use code::{CodeSection, ConstExpr, Function, InstructionSink};
 pub use custom::{
@@ -41,11 +42,13 @@ pub use custom::{
     ProducersField, ProducersSection, SymbolTable,
 };
 pub use encode::{Encode, Section, encode_section, encode_vec};
+pub use imports::{EntityType, Import, ImportCompact, Imports};
 pub use instruction::Instruction;
+pub use kinds::{ExportKind, SectionId, TagKind, TagType};
 pub use module::{Module, RawSection};
 pub use sections::{
     DataSection, DataSegment, DataSegmentMode, ElementMode, ElementSection, ElementSegment,
-    Elements, ExportSection, FunctionSection, GlobalSection, ImportSection, Imports, MemorySection,
+    Elements, ExportSection, FunctionSection, GlobalSection, ImportSection, MemorySection,
     TableSection, TagSection,
 };
 pub use types::{
@@ -137,6 +140,21 @@ macro_rules! encoded {
     };
 }
 
+/// Writes the bytes of a type as those of the proved one, which is made of a copy.
+macro_rules! by_proved {
+    ($module:ident: $($name:ident)*) => {
+        $(
+            impl $crate::drop_in::Encode for $name {
+                #[inline]
+                fn encode(&self, sink: &mut Vec<u8>) {
+                    let proved = $crate::$module::$name::from(self.clone());
+                    $crate::drop_in::done($crate::base::Encode::encode(&proved, sink))
+                }
+            }
+        )*
+    };
+}
+
 /// Writes the id of a section, and its bytes.
 macro_rules! section {
     ($($name:ident of $id:ident),*) => {
@@ -144,8 +162,9 @@ macro_rules! section {
             $crate::drop_in::encoded!($name);
 
             impl $crate::drop_in::Section for $name {
+                #[inline]
                 fn id(&self) -> u8 {
-                    $crate::base::SectionId::$id.into()
+                    $crate::SectionId::$id.into()
                 }
             }
         )*
@@ -171,4 +190,4 @@ macro_rules! counted {
     };
 }
 
-use {copied, counted, default, encoded, section, taken};
+use {by_proved, copied, counted, default, encoded, section, taken};

@@ -1,11 +1,12 @@
 //! The sections of counted items.
-use super::{ConstExpr, copied, counted, default, done, handed, section, taken};
+use super::debug::debugged;
+use super::{
+    ConstExpr, ExportKind, TagType, copied, counted, default, done, handed, section, taken,
+};
 use crate::alloc::Global;
 use crate::base::{CowSlice, RefType};
 use crate::sections;
-use crate::sections::{
-    EntityType, ExportKind, GlobalType, Import, ImportCompact, MemoryType, TableType, TagType,
-};
+use crate::sections::{GlobalType, MemoryType, TableType};
 use std::borrow::Cow;
 
 /// Writes a section over the proved one of its name.
@@ -14,8 +15,7 @@ macro_rules! sections {
         $(
             $(#[$doc])*
             #[doc = concat!("\n\nOver the proved [`", stringify!($name), "`](crate::sections::", stringify!($name), ").")]
-            #[derive(Debug)]
-            pub struct $name(sections::$name);
+            pub struct $name(pub(super) sections::$name);
 
             impl $name {
                 /// No entries.
@@ -29,6 +29,7 @@ macro_rules! sections {
             copied!($name);
             counted!($name);
             section!($name of $id);
+            debugged!($name after [Number Number] num_added);
         )*
     };
 }
@@ -88,7 +89,7 @@ impl MemorySection {
 impl TagSection {
     /// Appends a tag.
     pub fn tag(&mut self, tag_type: TagType) -> &mut Self {
-        done(self.0.tag(tag_type));
+        done(self.0.tag(tag_type.into()));
         self
     }
 }
@@ -111,62 +112,7 @@ impl ExportSection {
     /// Appends an export.
     #[inline]
     pub fn export(&mut self, name: &str, kind: ExportKind, index: u32) -> &mut Self {
-        done(self.0.export(name, kind, index));
-        self
-    }
-}
-
-/// An entry of the import section: one import, or several of one module.
-#[derive(Clone, Debug)]
-pub enum Imports<'a> {
-    /// One import.
-    Single(Import<'a>),
-    /// Items of one module, a type for each.
-    Compact1 {
-        /// The name of the module.
-        module: &'a str,
-        /// The items.
-        items: Cow<'a, [ImportCompact<'a>]>,
-    },
-    /// Items of one module and of one type.
-    Compact2 {
-        /// The name of the module.
-        module: &'a str,
-        /// The type of each item.
-        ty: EntityType,
-        /// The names of the items.
-        names: Cow<'a, [&'a str]>,
-    },
-}
-
-impl<'a> Imports<'a> {
-    fn proved(self) -> sections::Imports<'a> {
-        match self {
-            Imports::Single(import) => sections::Imports::Single(import),
-            Imports::Compact1 { module, items } => sections::Imports::Compact1 {
-                module,
-                items: handed(items),
-            },
-            Imports::Compact2 { module, ty, names } => sections::Imports::Compact2 {
-                module,
-                ty,
-                names: handed(names),
-            },
-        }
-    }
-}
-
-impl ImportSection {
-    /// Appends an entry.
-    pub fn imports<'a>(&mut self, imports: Imports<'a>) -> &mut Self {
-        done(self.0.imports(imports.proved()));
-        self
-    }
-
-    /// Appends an import.
-    #[inline]
-    pub fn import(&mut self, module: &str, name: &str, ty: impl Into<EntityType>) -> &mut Self {
-        done(self.0.import(module, name, ty.into()));
+        done(self.0.export(name, kind.into(), index));
         self
     }
 }

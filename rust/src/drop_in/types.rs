@@ -1,13 +1,14 @@
 //! The type section, and the types that a module defines.
-use super::{Encode, copied, counted, default, done, encoded, section, taken};
+use super::debug::debugged;
+use super::{by_proved, copied, counted, default, done, encoded, section, taken};
 use crate::alloc::Global;
-use crate::base::{self, ValType};
+use crate::base::ValType;
 use crate::types;
 use crate::types::{ArrayType, ContType, FieldType, StorageType};
+use std::fmt;
 use std::hash::{Hash, Hasher};
 
 /// The type of a function.
-#[derive(Debug)]
 pub struct FuncType(types::FuncType);
 
 copied!(FuncType);
@@ -32,6 +33,15 @@ impl FuncType {
     /// The types of the results.
     pub fn results(&self) -> &[ValType] {
         self.0.results()
+    }
+}
+
+impl fmt::Debug for FuncType {
+    fn fmt(&self, f: &mut fmt::Formatter<'_>) -> fmt::Result {
+        f.debug_struct("FuncType")
+            .field("params", &self.params())
+            .field("results", &self.results())
+            .finish()
     }
 }
 
@@ -136,21 +146,7 @@ impl From<SubType> for types::SubType {
     }
 }
 
-/// Writes the bytes of a type as those of the proved one, which is made of a copy.
-macro_rules! by_proved {
-    ($($name:ident)*) => {
-        $(
-            impl Encode for $name {
-                fn encode(&self, sink: &mut Vec<u8>) {
-                    let proved = types::$name::from(self.clone());
-                    done(base::Encode::encode(&proved, sink))
-                }
-            }
-        )*
-    };
-}
-
-by_proved! { StructType CompositeInnerType CompositeType SubType }
+by_proved! { types: StructType CompositeInnerType CompositeType SubType }
 
 /// The type section, over the proved [`types::TypeSection`].
 ///
@@ -161,7 +157,6 @@ by_proved! { StructType CompositeInnerType CompositeType SubType }
 /// types.ty().function([ValType::I32, ValType::I32], [ValType::I64]);
 /// assert_eq!(types.len(), 1);
 /// ```
-#[derive(Debug)]
 pub struct TypeSection(types::TypeSection);
 
 default!(TypeSection);
@@ -169,6 +164,7 @@ taken!(TypeSection of types);
 copied!(TypeSection);
 counted!(TypeSection);
 section!(TypeSection of Type);
+debugged!(TypeSection after [Number Number] num_added);
 
 impl TypeSection {
     /// No types.

@@ -1,14 +1,8 @@
 //! What Rust programs do with values that the proved calls take: conversions, orders, constants and predicates.
-use crate::base::{AbstractHeapType, HeapType, RefType, SectionId, ValType};
+use crate::base::{AbstractHeapType, HeapType, RefType, ValType};
 use crate::immediates::{Ieee32, Ieee64};
 use crate::types::StorageType;
 use std::cmp::Ordering;
-
-impl SectionId {
-    /// The type section. The case is `Types`; this constant is a value, a pattern, and can be cast as well.
-    #[allow(non_upper_case_globals)]
-    pub const Type: SectionId = SectionId::Types;
-}
 
 impl From<f32> for Ieee32 {
     fn from(value: f32) -> Self {
@@ -113,7 +107,6 @@ macro_rules! ordered {
 }
 
 ordered! {
-    SectionId by |id| *id as u8;
     AbstractHeapType by |ty| *ty as u8;
     HeapType by |ty| match *ty {
         HeapType::Abstract { shared, ty } => (0, u32::from(ty as u8), shared),

@@ -15,6 +15,642 @@ const MEMARG: MemArg = MemArg {
     ordering: None,
 };
 
+/// Returns the first byte of an instruction. All cases have an arm, and the wildcard is not unreachable: the enum may grow.
+#[deny(unreachable_patterns)]
+pub fn first_byte(instruction: &Instruction<'_>) -> Option<u8> {
+    Some(match instruction {
+        Instruction::Unreachable => 0x00,
+        Instruction::Nop => 0x01,
+        Instruction::Block(..) => 0x02,
+        Instruction::Loop(..) => 0x03,
+        Instruction::If(..) => 0x04,
+        Instruction::Else => 0x05,
+        Instruction::Try(..) => 0x06,
+        Instruction::Catch(..) => 0x07,
+        Instruction::Throw(..) => 0x08,
+        Instruction::Rethrow(..) => 0x09,
+        Instruction::ThrowRef => 0x0A,
+        Instruction::End => 0x0B,
+        Instruction::Br(..) => 0x0C,
+        Instruction::BrIf(..) => 0x0D,
+        Instruction::BrTable(..) => 0x0E,
+        Instruction::Return => 0x0F,
+        Instruction::Call(..) => 0x10,
+        Instruction::CallIndirect { .. } => 0x11,
+        Instruction::ReturnCall(..) => 0x12,
+        Instruction::ReturnCallIndirect { .. } => 0x13,
+        Instruction::CallRef(..) => 0x14,
+        Instruction::ReturnCallRef(..) => 0x15,
+        Instruction::Delegate(..) => 0x18,
+        Instruction::CatchAll => 0x19,
+        Instruction::Drop => 0x1A,
+        Instruction::Select => 0x1B,
+        Instruction::TypedSelect(..)
+        | Instruction::TypedSelectMulti(..) => 0x1C,
+        Instruction::TryTable(..) => 0x1F,
+        Instruction::LocalGet(..) => 0x20,
+        Instruction::LocalSet(..) => 0x21,
+        Instruction::LocalTee(..) => 0x22,
+        Instruction::GlobalGet(..) => 0x23,
+        Instruction::GlobalSet(..) => 0x24,
+        Instruction::TableGet(..) => 0x25,
+        Instruction::TableSet(..) => 0x26,
+        Instruction::I32Load(..) => 0x28,
+        Instruction::I64Load(..) => 0x29,
+        Instruction::F32Load(..) => 0x2A,
+        Instruction::F64Load(..) => 0x2B,
+        Instruction::I32Load8S(..) => 0x2C,
+        Instruction::I32Load8U(..) => 0x2D,
+        Instruction::I32Load16S(..) => 0x2E,
+        Instruction::I32Load16U(..) => 0x2F,
+        Instruction::I64Load8S(..) => 0x30,
+        Instruction::I64Load8U(..) => 0x31,
+        Instruction::I64Load16S(..) => 0x32,
+        Instruction::I64Load16U(..) => 0x33,
+        Instruction::I64Load32S(..) => 0x34,
+        Instruction::I64Load32U(..) => 0x35,
+        Instruction::I32Store(..) => 0x36,
+        Instruction::I64Store(..) => 0x37,
+        Instruction::F32Store(..) => 0x38,
+        Instruction::F64Store(..) => 0x39,
+        Instruction::I32Store8(..) => 0x3A,
+        Instruction::I32Store16(..) => 0x3B,
+        Instruction::I64Store8(..) => 0x3C,
+        Instruction::I64Store16(..) => 0x3D,
+        Instruction::I64Store32(..) => 0x3E,
+        Instruction::MemorySize(..) => 0x3F,
+        Instruction::MemoryGrow(..) => 0x40,
+        Instruction::I32Const(..) => 0x41,
+        Instruction::I64Const(..) => 0x42,
+        Instruction::F32Const(..) => 0x43,
+        Instruction::F64Const(..) => 0x44,
+        Instruction::I32Eqz => 0x45,
+        Instruction::I32Eq => 0x46,
+        Instruction::I32Ne => 0x47,
+        Instruction::I32LtS => 0x48,
+        Instruction::I32LtU => 0x49,
+        Instruction::I32GtS => 0x4A,
+        Instruction::I32GtU => 0x4B,
+        Instruction::I32LeS => 0x4C,
+        Instruction::I32LeU => 0x4D,
+        Instruction::I32GeS => 0x4E,
+        Instruction::I32GeU => 0x4F,
+        Instruction::I64Eqz => 0x50,
+        Instruction::I64Eq => 0x51,
+        Instruction::I64Ne => 0x52,
+        Instruction::I64LtS => 0x53,
+        Instruction::I64LtU => 0x54,
+        Instruction::I64GtS => 0x55,
+        Instruction::I64GtU => 0x56,
+        Instruction::I64LeS => 0x57,
+        Instruction::I64LeU => 0x58,
+        Instruction::I64GeS => 0x59,
+        Instruction::I64GeU => 0x5A,
+        Instruction::F32Eq => 0x5B,
+        Instruction::F32Ne => 0x5C,
+        Instruction::F32Lt => 0x5D,
+        Instruction::F32Gt => 0x5E,
+        Instruction::F32Le => 0x5F,
+        Instruction::F32Ge => 0x60,
+        Instruction::F64Eq => 0x61,
+        Instruction::F64Ne => 0x62,
+        Instruction::F64Lt => 0x63,
+        Instruction::F64Gt => 0x64,
+        Instruction::F64Le => 0x65,
+        Instruction::F64Ge => 0x66,
+        Instruction::I32Clz => 0x67,
+        Instruction::I32Ctz => 0x68,
+        Instruction::I32Popcnt => 0x69,
+        Instruction::I32Add => 0x6A,
+        Instruction::I32Sub => 0x6B,
+        Instruction::I32Mul => 0x6C,
+        Instruction::I32DivS => 0x6D,
+        Instruction::I32DivU => 0x6E,
+        Instruction::I32RemS => 0x6F,
+        Instruction::I32RemU => 0x70,
+        Instruction::I32And => 0x71,
+        Instruction::I32Or => 0x72,
+        Instruction::I32Xor => 0x73,
+        Instruction::I32Shl => 0x74,
+        Instruction::I32ShrS => 0x75,
+        Instruction::I32ShrU => 0x76,
+        Instruction::I32Rotl => 0x77,
+        Instruction::I32Rotr => 0x78,
+        Instruction::I64Clz => 0x79,
+        Instruction::I64Ctz => 0x7A,
+        Instruction::I64Popcnt => 0x7B,
+        Instruction::I64Add => 0x7C,
+        Instruction::I64Sub => 0x7D,
+        Instruction::I64Mul => 0x7E,
+        Instruction::I64DivS => 0x7F,
+        Instruction::I64DivU => 0x80,
+        Instruction::I64RemS => 0x81,
+        Instruction::I64RemU => 0x82,
+        Instruction::I64And => 0x83,
+        Instruction::I64Or => 0x84,
+        Instruction::I64Xor => 0x85,
+        Instruction::I64Shl => 0x86,
+        Instruction::I64ShrS => 0x87,
+        Instruction::I64ShrU => 0x88,
+        Instruction::I64Rotl => 0x89,
+        Instruction::I64Rotr => 0x8A,
+        Instruction::F32Abs => 0x8B,
+        Instruction::F32Neg => 0x8C,
+        Instruction::F32Ceil => 0x8D,
+        Instruction::F32Floor => 0x8E,
+        Instruction::F32Trunc => 0x8F,
+        Instruction::F32Nearest => 0x90,
+        Instruction::F32Sqrt => 0x91,
+        Instruction::F32Add => 0x92,
+        Instruction::F32Sub => 0x93,
+        Instruction::F32Mul => 0x94,
+        Instruction::F32Div => 0x95,
+        Instruction::F32Min => 0x96,
+        Instruction::F32Max => 0x97,
+        Instruction::F32Copysign => 0x98,
+        Instruction::F64Abs => 0x99,
+        Instruction::F64Neg => 0x9A,
+        Instruction::F64Ceil => 0x9B,
+        Instruction::F64Floor => 0x9C,
+        Instruction::F64Trunc => 0x9D,
+        Instruction::F64Nearest => 0x9E,
+        Instruction::F64Sqrt => 0x9F,
+        Instruction::F64Add => 0xA0,
+        Instruction::F64Sub => 0xA1,
+        Instruction::F64Mul => 0xA2,
+        Instruction::F64Div => 0xA3,
+        Instruction::F64Min => 0xA4,
+        Instruction::F64Max => 0xA5,
+        Instruction::F64Copysign => 0xA6,
+        Instruction::I32WrapI64 => 0xA7,
+        Instruction::I32TruncF32S => 0xA8,
+        Instruction::I32TruncF32U => 0xA9,
+        Instruction::I32TruncF64S => 0xAA,
+        Instruction::I32TruncF64U => 0xAB,
+        Instruction::I64ExtendI32S => 0xAC,
+        Instruction::I64ExtendI32U => 0xAD,
+        Instruction::I64TruncF32S => 0xAE,
+        Instruction::I64TruncF32U => 0xAF,
+        Instruction::I64TruncF64S => 0xB0,
+        Instruction::I64TruncF64U => 0xB1,
+        Instruction::F32ConvertI32S => 0xB2,
+        Instruction::F32ConvertI32U => 0xB3,
+        Instruction::F32ConvertI64S => 0xB4,
+        Instruction::F32ConvertI64U => 0xB5,
+        Instruction::F32DemoteF64 => 0xB6,
+        Instruction::F64ConvertI32S => 0xB7,
+        Instruction::F64ConvertI32U => 0xB8,
+        Instruction::F64ConvertI64S => 0xB9,
+        Instruction::F64ConvertI64U => 0xBA,
+        Instruction::F64PromoteF32 => 0xBB,
+        Instruction::I32ReinterpretF32 => 0xBC,
+        Instruction::I64ReinterpretF64 => 0xBD,
+        Instruction::F32ReinterpretI32 => 0xBE,
+        Instruction::F64ReinterpretI64 => 0xBF,
+        Instruction::I32Extend8S => 0xC0,
+        Instruction::I32Extend16S => 0xC1,
+        Instruction::I64Extend8S => 0xC2,
+        Instruction::I64Extend16S => 0xC3,
+        Instruction::I64Extend32S => 0xC4,
+        Instruction::RefNull(..) => 0xD0,
+        Instruction::RefIsNull => 0xD1,
+        Instruction::RefFunc(..) => 0xD2,
+        Instruction::RefEq => 0xD3,
+        Instruction::RefAsNonNull => 0xD4,
+        Instruction::BrOnNull(..) => 0xD5,
+        Instruction::BrOnNonNull(..) => 0xD6,
+        Instruction::ContNew(..) => 0xE0,
+        Instruction::ContBind { .. } => 0xE1,
+        Instruction::Suspend(..) => 0xE2,
+        Instruction::Resume { .. } => 0xE3,
+        Instruction::ResumeThrow { .. } => 0xE4,
+        Instruction::ResumeThrowRef { .. } => 0xE5,
+        Instruction::Switch { .. } => 0xE6,
+        Instruction::StructNew(..)
+        | Instruction::StructNewDefault(..)
+        | Instruction::StructGet { .. }
+        | Instruction::StructGetS { .. }
+        | Instruction::StructGetU { .. }
+        | Instruction::StructSet { .. }
+        | Instruction::ArrayNew(..)
+        | Instruction::ArrayNewDefault(..)
+        | Instruction::ArrayNewFixed { .. }
+        | Instruction::ArrayNewData { .. }
+        | Instruction::ArrayNewElem { .. }
+        | Instruction::ArrayGet(..)
+        | Instruction::ArrayGetS(..)
+        | Instruction::ArrayGetU(..)
+        | Instruction::ArraySet(..)
+        | Instruction::ArrayLen
+        | Instruction::ArrayFill(..)
+        | Instruction::ArrayCopy { .. }
+        | Instruction::ArrayInitData { .. }
+        | Instruction::ArrayInitElem { .. }
+        | Instruction::RefTestNonNull(..)
+        | Instruction::RefTestNullable(..)
+        | Instruction::RefCastNonNull(..)
+        | Instruction::RefCastNullable(..)
+        | Instruction::BrOnCast { .. }
+        | Instruction::BrOnCastFail { .. }
+        | Instruction::AnyConvertExtern
+        | Instruction::ExternConvertAny
+        | Instruction::RefI31
+        | Instruction::I31GetS
+        | Instruction::I31GetU
+        | Instruction::StructNewDesc(..)
+        | Instruction::StructNewDefaultDesc(..)
+        | Instruction::RefGetDesc(..)
+        | Instruction::RefCastDescEqNonNull(..)
+        | Instruction::RefCastDescEqNullable(..)
+        | Instruction::BrOnCastDescEq { .. }
+        | Instruction::BrOnCastDescEqFail { .. } => 0xFB,
+        Instruction::I32TruncSatF32S
+        | Instruction::I32TruncSatF32U
+        | Instruction::I32TruncSatF64S
+        | Instruction::I32TruncSatF64U
+        | Instruction::I64TruncSatF32S
+        | Instruction::I64TruncSatF32U
+        | Instruction::I64TruncSatF64S
+        | Instruction::I64TruncSatF64U
+        | Instruction::MemoryInit { .. }
+        | Instruction::DataDrop(..)
+        | Instruction::MemoryCopy { .. }
+        | Instruction::MemoryFill(..)
+        | Instruction::TableInit { .. }
+        | Instruction::ElemDrop(..)
+        | Instruction::TableCopy { .. }
+        | Instruction::TableGrow(..)
+        | Instruction::TableSize(..)
+        | Instruction::TableFill(..)
+        | Instruction::MemoryDiscard(..)
+        | Instruction::I64Add128
+        | Instruction::I64Sub128
+        | Instruction::I64MulWideS
+        | Instruction::I64MulWideU => 0xFC,
+        Instruction::V128Load(..)
+        | Instruction::V128Load8x8S(..)
+        | Instruction::V128Load8x8U(..)
+        | Instruction::V128Load16x4S(..)
+        | Instruction::V128Load16x4U(..)
+        | Instruction::V128Load32x2S(..)
+        | Instruction::V128Load32x2U(..)
+        | Instruction::V128Load8Splat(..)
+        | Instruction::V128Load16Splat(..)
+        | Instruction::V128Load32Splat(..)
+        | Instruction::V128Load64Splat(..)
+        | Instruction::V128Store(..)
+        | Instruction::V128Const(..)
+        | Instruction::I8x16Shuffle(..)
+        | Instruction::I8x16Swizzle
+        | Instruction::I8x16Splat
+        | Instruction::I16x8Splat
+        | Instruction::I32x4Splat
+        | Instruction::I64x2Splat
+        | Instruction::F32x4Splat
+        | Instruction::F64x2Splat
+        | Instruction::I8x16ExtractLaneS(..)
+        | Instruction::I8x16ExtractLaneU(..)
+        | Instruction::I8x16ReplaceLane(..)
+        | Instruction::I16x8ExtractLaneS(..)
+        | Instruction::I16x8ExtractLaneU(..)
+        | Instruction::I16x8ReplaceLane(..)
+        | Instruction::I32x4ExtractLane(..)
+        | Instruction::I32x4ReplaceLane(..)
+        | Instruction::I64x2ExtractLane(..)
+        | Instruction::I64x2ReplaceLane(..)
+        | Instruction::F32x4ExtractLane(..)
+        | Instruction::F32x4ReplaceLane(..)
+        | Instruction::F64x2ExtractLane(..)
+        | Instruction::F64x2ReplaceLane(..)
+        | Instruction::I8x16Eq
+        | Instruction::I8x16Ne
+        | Instruction::I8x16LtS
+        | Instruction::I8x16LtU
+        | Instruction::I8x16GtS
+        | Instruction::I8x16GtU
+        | Instruction::I8x16LeS
+        | Instruction::I8x16LeU
+        | Instruction::I8x16GeS
+        | Instruction::I8x16GeU
+        | Instruction::I16x8Eq
+        | Instruction::I16x8Ne
+        | Instruction::I16x8LtS
+        | Instruction::I16x8LtU
+        | Instruction::I16x8GtS
+        | Instruction::I16x8GtU
+        | Instruction::I16x8LeS
+        | Instruction::I16x8LeU
+        | Instruction::I16x8GeS
+        | Instruction::I16x8GeU
+        | Instruction::I32x4Eq
+        | Instruction::I32x4Ne
+        | Instruction::I32x4LtS
+        | Instruction::I32x4LtU
+        | Instruction::I32x4GtS
+        | Instruction::I32x4GtU
+        | Instruction::I32x4LeS
+        | Instruction::I32x4LeU
+        | Instruction::I32x4GeS
+        | Instruction::I32x4GeU
+        | Instruction::F32x4Eq
+        | Instruction::F32x4Ne
+        | Instruction::F32x4Lt
+        | Instruction::F32x4Gt
+        | Instruction::F32x4Le
+        | Instruction::F32x4Ge
+        | Instruction::F64x2Eq
+        | Instruction::F64x2Ne
+        | Instruction::F64x2Lt
+        | Instruction::F64x2Gt
+        | Instruction::F64x2Le
+        | Instruction::F64x2Ge
+        | Instruction::V128Not
+        | Instruction::V128And
+        | Instruction::V128AndNot
+        | Instruction::V128Or
+        | Instruction::V128Xor
+        | Instruction::V128Bitselect
+        | Instruction::V128AnyTrue
+        | Instruction::V128Load8Lane { .. }
+        | Instruction::V128Load16Lane { .. }
+        | Instruction::V128Load32Lane { .. }
+        | Instruction::V128Load64Lane { .. }
+        | Instruction::V128Store8Lane { .. }
+        | Instruction::V128Store16Lane { .. }
+        | Instruction::V128Store32Lane { .. }
+        | Instruction::V128Store64Lane { .. }
+        | Instruction::V128Load32Zero(..)
+        | Instruction::V128Load64Zero(..)
+        | Instruction::F32x4DemoteF64x2Zero
+        | Instruction::F64x2PromoteLowF32x4
+        | Instruction::I8x16Abs
+        | Instruction::I8x16Neg
+        | Instruction::I8x16Popcnt
+        | Instruction::I8x16AllTrue
+        | Instruction::I8x16Bitmask
+        | Instruction::I8x16NarrowI16x8S
+        | Instruction::I8x16NarrowI16x8U
+        | Instruction::F32x4Ceil
+        | Instruction::F32x4Floor
+        | Instruction::F32x4Trunc
+        | Instruction::F32x4Nearest
+        | Instruction::I8x16Shl
+        | Instruction::I8x16ShrS
+        | Instruction::I8x16ShrU
+        | Instruction::I8x16Add
+        | Instruction::I8x16AddSatS
+        | Instruction::I8x16AddSatU
+        | Instruction::I8x16Sub
+        | Instruction::I8x16SubSatS
+        | Instruction::I8x16SubSatU
+        | Instruction::F64x2Ceil
+        | Instruction::F64x2Floor
+        | Instruction::I8x16MinS
+        | Instruction::I8x16MinU
+        | Instruction::I8x16MaxS
+        | Instruction::I8x16MaxU
+        | Instruction::F64x2Trunc
+        | Instruction::I8x16AvgrU
+        | Instruction::I16x8ExtAddPairwiseI8x16S
+        | Instruction::I16x8ExtAddPairwiseI8x16U
+        | Instruction::I32x4ExtAddPairwiseI16x8S
+        | Instruction::I32x4ExtAddPairwiseI16x8U
+        | Instruction::I16x8Abs
+        | Instruction::I16x8Neg
+        | Instruction::I16x8Q15MulrSatS
+        | Instruction::I16x8AllTrue
+        | Instruction::I16x8Bitmask
+        | Instruction::I16x8NarrowI32x4S
+        | Instruction::I16x8NarrowI32x4U
+        | Instruction::I16x8ExtendLowI8x16S
+        | Instruction::I16x8ExtendHighI8x16S
+        | Instruction::I16x8ExtendLowI8x16U
+        | Instruction::I16x8ExtendHighI8x16U
+        | Instruction::I16x8Shl
+        | Instruction::I16x8ShrS
+        | Instruction::I16x8ShrU
+        | Instruction::I16x8Add
+        | Instruction::I16x8AddSatS
+        | Instruction::I16x8AddSatU
+        | Instruction::I16x8Sub
+        | Instruction::I16x8SubSatS
+        | Instruction::I16x8SubSatU
+        | Instruction::F64x2Nearest
+        | Instruction::I16x8Mul
+        | Instruction::I16x8MinS
+        | Instruction::I16x8MinU
+        | Instruction::I16x8MaxS
+        | Instruction::I16x8MaxU
+        | Instruction::I16x8AvgrU
+        | Instruction::I16x8ExtMulLowI8x16S
+        | Instruction::I16x8ExtMulHighI8x16S
+        | Instruction::I16x8ExtMulLowI8x16U
+        | Instruction::I16x8ExtMulHighI8x16U
+        | Instruction::I32x4Abs
+        | Instruction::I32x4Neg
+        | Instruction::I32x4AllTrue
+        | Instruction::I32x4Bitmask
+        | Instruction::I32x4ExtendLowI16x8S
+        | Instruction::I32x4ExtendHighI16x8S
+        | Instruction::I32x4ExtendLowI16x8U
+        | Instruction::I32x4ExtendHighI16x8U
+        | Instruction::I32x4Shl
+        | Instruction::I32x4ShrS
+        | Instruction::I32x4ShrU
+        | Instruction::I32x4Add
+        | Instruction::I32x4Sub
+        | Instruction::I32x4Mul
+        | Instruction::I32x4MinS
+        | Instruction::I32x4MinU
+        | Instruction::I32x4MaxS
+        | Instruction::I32x4MaxU
+        | Instruction::I32x4DotI16x8S
+        | Instruction::I32x4ExtMulLowI16x8S
+        | Instruction::I32x4ExtMulHighI16x8S
+        | Instruction::I32x4ExtMulLowI16x8U
+        | Instruction::I32x4ExtMulHighI16x8U
+        | Instruction::I64x2Abs
+        | Instruction::I64x2Neg
+        | Instruction::I64x2AllTrue
+        | Instruction::I64x2Bitmask
+        | Instruction::I64x2ExtendLowI32x4S
+        | Instruction::I64x2ExtendHighI32x4S
+        | Instruction::I64x2ExtendLowI32x4U
+        | Instruction::I64x2ExtendHighI32x4U
+        | Instruction::I64x2Shl
+        | Instruction::I64x2ShrS
+        | Instruction::I64x2ShrU
+        | Instruction::I64x2Add
+        | Instruction::I64x2Sub
+        | Instruction::I64x2Mul
+        | Instruction::I64x2Eq
+        | Instruction::I64x2Ne
+        | Instruction::I64x2LtS
+        | Instruction::I64x2GtS
+        | Instruction::I64x2LeS
+        | Instruction::I64x2GeS
+        | Instruction::I64x2ExtMulLowI32x4S
+        | Instruction::I64x2ExtMulHighI32x4S
+        | Instruction::I64x2ExtMulLowI32x4U
+        | Instruction::I64x2ExtMulHighI32x4U
+        | Instruction::F32x4Abs
+        | Instruction::F32x4Neg
+        | Instruction::F32x4Sqrt
+        | Instruction::F32x4Add
+        | Instruction::F32x4Sub
+        | Instruction::F32x4Mul
+        | Instruction::F32x4Div
+        | Instruction::F32x4Min
+        | Instruction::F32x4Max
+        | Instruction::F32x4PMin
+        | Instruction::F32x4PMax
+        | Instruction::F64x2Abs
+        | Instruction::F64x2Neg
+        | Instruction::F64x2Sqrt
+        | Instruction::F64x2Add
+        | Instruction::F64x2Sub
+        | Instruction::F64x2Mul
+        | Instruction::F64x2Div
+        | Instruction::F64x2Min
+        | Instruction::F64x2Max
+        | Instruction::F64x2PMin
+        | Instruction::F64x2PMax
+        | Instruction::I32x4TruncSatF32x4S
+        | Instruction::I32x4TruncSatF32x4U
+        | Instruction::F32x4ConvertI32x4S
+        | Instruction::F32x4ConvertI32x4U
+        | Instruction::I32x4TruncSatF64x2SZero
+        | Instruction::I32x4TruncSatF64x2UZero
+        | Instruction::F64x2ConvertLowI32x4S
+        | Instruction::F64x2ConvertLowI32x4U
+        | Instruction::I8x16RelaxedSwizzle
+        | Instruction::I32x4RelaxedTruncF32x4S
+        | Instruction::I32x4RelaxedTruncF32x4U
+        | Instruction::I32x4RelaxedTruncF64x2SZero
+        | Instruction::I32x4RelaxedTruncF64x2UZero
+        | Instruction::F32x4RelaxedMadd
+        | Instruction::F32x4RelaxedNmadd
+        | Instruction::F64x2RelaxedMadd
+        | Instruction::F64x2RelaxedNmadd
+        | Instruction::I8x16RelaxedLaneselect
+        | Instruction::I16x8RelaxedLaneselect
+        | Instruction::I32x4RelaxedLaneselect
+        | Instruction::I64x2RelaxedLaneselect
+        | Instruction::F32x4RelaxedMin
+        | Instruction::F32x4RelaxedMax
+        | Instruction::F64x2RelaxedMin
+        | Instruction::F64x2RelaxedMax
+        | Instruction::I16x8RelaxedQ15mulrS
+        | Instruction::I16x8RelaxedDotI8x16I7x16S
+        | Instruction::I32x4RelaxedDotI8x16I7x16AddS => 0xFD,
+        Instruction::MemoryAtomicNotify(..)
+        | Instruction::MemoryAtomicWait32(..)
+        | Instruction::MemoryAtomicWait64(..)
+        | Instruction::AtomicFence(..)
+        | Instruction::Pause
+        | Instruction::I32AtomicLoad(..)
+        | Instruction::I64AtomicLoad(..)
+        | Instruction::I32AtomicLoad8U(..)
+        | Instruction::I32AtomicLoad16U(..)
+        | Instruction::I64AtomicLoad8U(..)
+        | Instruction::I64AtomicLoad16U(..)
+        | Instruction::I64AtomicLoad32U(..)
+        | Instruction::I32AtomicStore(..)
+        | Instruction::I64AtomicStore(..)
+        | Instruction::I32AtomicStore8(..)
+        | Instruction::I32AtomicStore16(..)
+        | Instruction::I64AtomicStore8(..)
+        | Instruction::I64AtomicStore16(..)
+        | Instruction::I64AtomicStore32(..)
+        | Instruction::I32AtomicRmwAdd(..)
+        | Instruction::I64AtomicRmwAdd(..)
+        | Instruction::I32AtomicRmw8AddU(..)
+        | Instruction::I32AtomicRmw16AddU(..)
+        | Instruction::I64AtomicRmw8AddU(..)
+        | Instruction::I64AtomicRmw16AddU(..)
+        | Instruction::I64AtomicRmw32AddU(..)
+        | Instruction::I32AtomicRmwSub(..)
+        | Instruction::I64AtomicRmwSub(..)
+        | Instruction::I32AtomicRmw8SubU(..)
+        | Instruction::I32AtomicRmw16SubU(..)
+        | Instruction::I64AtomicRmw8SubU(..)
+        | Instruction::I64AtomicRmw16SubU(..)
+        | Instruction::I64AtomicRmw32SubU(..)
+        | Instruction::I32AtomicRmwAnd(..)
+        | Instruction::I64AtomicRmwAnd(..)
+        | Instruction::I32AtomicRmw8AndU(..)
+        | Instruction::I32AtomicRmw16AndU(..)
+        | Instruction::I64AtomicRmw8AndU(..)
+        | Instruction::I64AtomicRmw16AndU(..)
+        | Instruction::I64AtomicRmw32AndU(..)
+        | Instruction::I32AtomicRmwOr(..)
+        | Instruction::I64AtomicRmwOr(..)
+        | Instruction::I32AtomicRmw8OrU(..)
+        | Instruction::I32AtomicRmw16OrU(..)
+        | Instruction::I64AtomicRmw8OrU(..)
+        | Instruction::I64AtomicRmw16OrU(..)
+        | Instruction::I64AtomicRmw32OrU(..)
+        | Instruction::I32AtomicRmwXor(..)
+        | Instruction::I64AtomicRmwXor(..)
+        | Instruction::I32AtomicRmw8XorU(..)
+        | Instruction::I32AtomicRmw16XorU(..)
+        | Instruction::I64AtomicRmw8XorU(..)
+        | Instruction::I64AtomicRmw16XorU(..)
+        | Instruction::I64AtomicRmw32XorU(..)
+        | Instruction::I32AtomicRmwXchg(..)
+        | Instruction::I64AtomicRmwXchg(..)
+        | Instruction::I32AtomicRmw8XchgU(..)
+        | Instruction::I32AtomicRmw16XchgU(..)
+        | Instruction::I64AtomicRmw8XchgU(..)
+        | Instruction::I64AtomicRmw16XchgU(..)
+        | Instruction::I64AtomicRmw32XchgU(..)
+        | Instruction::I32AtomicRmwCmpxchg(..)
+        | Instruction::I64AtomicRmwCmpxchg(..)
+        | Instruction::I32AtomicRmw8CmpxchgU(..)
+        | Instruction::I32AtomicRmw16CmpxchgU(..)
+        | Instruction::I64AtomicRmw8CmpxchgU(..)
+        | Instruction::I64AtomicRmw16CmpxchgU(..)
+        | Instruction::I64AtomicRmw32CmpxchgU(..)
+        | Instruction::GlobalAtomicGet { .. }
+        | Instruction::GlobalAtomicSet { .. }
+        | Instruction::GlobalAtomicRmwAdd { .. }
+        | Instruction::GlobalAtomicRmwSub { .. }
+        | Instruction::GlobalAtomicRmwAnd { .. }
+        | Instruction::GlobalAtomicRmwOr { .. }
+        | Instruction::GlobalAtomicRmwXor { .. }
+        | Instruction::GlobalAtomicRmwXchg { .. }
+        | Instruction::GlobalAtomicRmwCmpxchg { .. }
+        | Instruction::TableAtomicGet { .. }
+        | Instruction::TableAtomicSet { .. }
+        | Instruction::TableAtomicRmwXchg { .. }
+        | Instruction::TableAtomicRmwCmpxchg { .. }
+        | Instruction::StructAtomicGet { .. }
+        | Instruction::StructAtomicGetS { .. }
+        | Instruction::StructAtomicGetU { .. }
+        | Instruction::StructAtomicSet { .. }
+        | Instruction::StructAtomicRmwAdd { .. }
+        | Instruction::StructAtomicRmwSub { .. }
+        | Instruction::StructAtomicRmwAnd { .. }
+        | Instruction::StructAtomicRmwOr { .. }
+        | Instruction::StructAtomicRmwXor { .. }
+        | Instruction::StructAtomicRmwXchg { .. }
+        | Instruction::StructAtomicRmwCmpxchg { .. }
+        | Instruction::ArrayAtomicGet { .. }
+        | Instruction::ArrayAtomicGetS { .. }
+        | Instruction::ArrayAtomicGetU { .. }
+        | Instruction::ArrayAtomicSet { .. }
+        | Instruction::ArrayAtomicRmwAdd { .. }
+        | Instruction::ArrayAtomicRmwSub { .. }
+        | Instruction::ArrayAtomicRmwAnd { .. }
+        | Instruction::ArrayAtomicRmwOr { .. }
+        | Instruction::ArrayAtomicRmwXor { .. }
+        | Instruction::ArrayAtomicRmwXchg { .. }
+        | Instruction::ArrayAtomicRmwCmpxchg { .. }
+        | Instruction::RefI31Shared => 0xFE,
+        _ => return None,
+    })
+}
+
 /// Checks all 628 cases.
 pub fn check_all() {
     from_0();

@@ -1,4 +1,5 @@
 //! What the tests of this folder compare.
+use crate::cases::first_byte;
 use dolzhytik::{Encode, Function, Instruction, InstructionSink, Module, Section, base, hex, insn};
 
 /// The bytes of a value.
@@ -36,6 +37,7 @@ pub fn check(
 ) {
     let expected = bytes_of(text);
     assert_eq!(encoded(&value), expected, "{value:?}");
+    assert_eq!(first_byte(&value), Some(expected[0]), "{value:?}");
 
     let mut called = Vec::new();
     call(&mut InstructionSink::new(&mut called));

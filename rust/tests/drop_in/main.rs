@@ -4,6 +4,7 @@ mod cases;
 mod checks;
 mod every_call;
 mod moved;
+mod programs;
 mod refusals;
 mod rows;
 mod said_lengths;

@@ -1,0 +1,196 @@
+//! The import section, and the types of imported items.
+use super::{ImportSection, TagType, by_proved, done, handed};
+use crate::base::CowSlice;
+use crate::sections;
+use crate::sections::{GlobalType, MemoryType, TableType};
+use std::borrow::Cow;
+
+/// The type of an imported item.
+///
+/// ```
+/// use dolzhytik::{EntityType, ImportSection, TagKind, TagType};
+///
+/// let mut imports = ImportSection::new();
+/// imports.import("env", "f", EntityType::Function(0));
+/// imports.import("env", "t", TagType { kind: TagKind::Exception, func_type_idx: 0 });
+/// assert_eq!(imports.len(), 2);
+/// ```
+#[derive(Clone, Copy, Debug, PartialEq, Eq)]
+pub enum EntityType {
+    /// A function of the type with this index.
+    Function(u32),
+    /// A table.
+    Table(TableType),
+    /// A memory.
+    Memory(MemoryType),
+    /// A global.
+    Global(GlobalType),
+    /// A tag.
+    Tag(TagType),
+    /// A function of exactly the type with this index.
+    FunctionExact(u32),
+}
+
+/// An import: the names of a module and of an item, and the item's type.
+#[derive(Clone, Debug)]
+pub struct Import<'a> {
+    /// The name of the module.
+    pub module: &'a str,
+    /// The name of the item.
+    pub name: &'a str,
+    /// The type of the item.
+    pub ty: EntityType,
+}
+
+/// An item of [`Imports::Compact1`].
+#[derive(Clone, Debug)]
+pub struct ImportCompact<'a> {
+    /// The name of the item.
+    pub name: &'a str,
+    /// The type of the item.
+    pub ty: EntityType,
+}
+
+/// An entry of the import section: one import, or several of one module.
+///
+/// ```
+/// use dolzhytik::{EntityType, ImportSection, Imports};
+///
+/// let mut imports = ImportSection::new();
+/// imports.imports(Imports::Compact2 {
+///     module: "env",
+///     ty: EntityType::Function(0),
+///     names: vec!["f", "g"].into(),
+/// });
+/// assert_eq!(imports.len(), 1);
+/// ```
+#[derive(Clone, Debug)]
+pub enum Imports<'a> {
+    /// One import.
+    Single(Import<'a>),
+    /// Items of one module, a type for each.
+    Compact1 {
+        /// The name of the module.
+        module: &'a str,
+        /// The items.
+        items: Cow<'a, [ImportCompact<'a>]>,
+    },
+    /// Items of one module and of one type.
+    Compact2 {
+        /// The name of the module.
+        module: &'a str,
+        /// The type of each item.
+        ty: EntityType,
+        /// The names of the items.
+        names: Cow<'a, [&'a str]>,
+    },
+}
+
+impl ImportSection {
+    /// Appends an entry.
+    ///
+    /// # Panics
+    ///
+    /// Panics if the length of a name, the number of items or the number of entries would pass 4294967295.
+    pub fn imports<'a>(&mut self, imports: Imports<'a>) -> &mut Self {
+        done(self.0.imports(imports.proved()));
+        self
+    }
+
+    /// Appends an import.
+    ///
+    /// # Panics
+    ///
+    /// Panics if the length of a name or the number of entries would pass 4294967295.
+    #[inline]
+    pub fn import(&mut self, module: &str, name: &str, ty: impl Into<EntityType>) -> &mut Self {
+        done(self.0.import(module, name, ty.into().into()));
+        self
+    }
+}
+
+impl<'a> Imports<'a> {
+    /// The entry for a proved call. A borrowed list of items is copied, since their types are converted.
+    fn proved(self) -> sections::Imports<'a> {
+        match self {
+            Imports::Single(import) => sections::Imports::Single(import.into()),
+            Imports::Compact1 { module, items } => {
+                let items = items.into_owned().into_iter();
+                let items: Vec<_> = items.map(sections::ImportCompact::from).collect();
+                sections::Imports::Compact1 {
+                    module,
+                    items: CowSlice::Owned(items.into()),
+                }
+            }
+            Imports::Compact2 { module, ty, names } => sections::Imports::Compact2 {
+                module,
+                ty: ty.into(),
+                names: handed(names),
+            },
+        }
+    }
+}
+
+by_proved! { sections: EntityType }
+
+/// Implements the conversions from the types of items to [`EntityType`].
+macro_rules! entities {
+    ($($case:ident($ty:ty))*) => {
+        $(
+            impl From<$ty> for EntityType {
+                #[inline]
+                fn from(ty: $ty) -> Self {
+                    EntityType::$case(ty)
+                }
+            }
+        )*
+    };
+}
+
+entities! { Table(TableType) Memory(MemoryType) Global(GlobalType) Tag(TagType) }
+
+/// Implements a conversion between two types of entities, which have the same cases.
+macro_rules! same_entities {
+    ($from:path => $to:path) => {
+        impl From<$from> for $to {
+            #[inline]
+            fn from(ty: $from) -> Self {
+                use $from as Given;
+                match ty {
+                    Given::Function(index) => Self::Function(index),
+                    Given::Table(ty) => Self::Table(ty),
+                    Given::Memory(ty) => Self::Memory(ty),
+                    Given::Global(ty) => Self::Global(ty),
+                    Given::Tag(ty) => Self::Tag(ty.into()),
+                    Given::FunctionExact(index) => Self::FunctionExact(index),
+                }
+            }
+        }
+    };
+}
+
+same_entities!(EntityType => sections::EntityType);
+same_entities!(sections::EntityType => EntityType);
+
+/// Implements the conversions between a record and the proved one, which have the same fields and an entity type.
+macro_rules! same_fields {
+    ($($name:ident { $($field:ident),* })*) => {
+        $(
+            impl<'a> From<$name<'a>> for sections::$name<'a> {
+                #[inline]
+                fn from(import: $name<'a>) -> Self {
+                    Self { ty: import.ty.into(), $($field: import.$field),* }
+                }
+            }
+
+            impl<'a> From<sections::$name<'a>> for $name<'a> {
+                #[inline]
+                fn from(import: sections::$name<'a>) -> Self {
+                    Self { ty: import.ty.into(), $($field: import.$field),* }
+                }
+            }
+        )*
+    };
+}
+
+same_fields! { Import { module, name } ImportCompact { name } }

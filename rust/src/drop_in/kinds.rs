@@ -1,0 +1,183 @@
+//! The kinds of sections, exports and tags: enums of one byte, with the crate's cases and numbers.
+use super::{Encode, by_proved};
+use crate::{base, sections};
+
+/// The id of a section, by the WebAssembly core specification, "Binary Format", "Modules".
+///
+/// ```
+/// use dolzhytik::SectionId::{self, *};
+///
+/// assert_eq!(Type as u8, 1);
+/// assert_eq!(u8::from(SectionId::DataCount), 12);
+/// assert!([Import, Function].iter().all(|id| *id < Code));
+/// ```
+#[derive(Clone, Copy, Debug, PartialEq, Eq, PartialOrd, Ord, Hash)]
+#[repr(u8)]
+pub enum SectionId {
+    /// The id of custom sections.
+    Custom = 0,
+    /// The id of the type section.
+    Type = 1,
+    /// The id of the import section.
+    Import = 2,
+    /// The id of the function section.
+    Function = 3,
+    /// The id of the table section.
+    Table = 4,
+    /// The id of the memory section.
+    Memory = 5,
+    /// The id of the global section.
+    Global = 6,
+    /// The id of the export section.
+    Export = 7,
+    /// The id of the start section.
+    Start = 8,
+    /// The id of the element section.
+    Element = 9,
+    /// The id of the code section.
+    Code = 10,
+    /// The id of the data section.
+    Data = 11,
+    /// The id of the data count section.
+    DataCount = 12,
+    /// The id of the tag section.
+    Tag = 13,
+}
+
+/// The kind of an export: an argument of [`ExportSection::export`](super::ExportSection::export).
+///
+/// ```
+/// use dolzhytik::ExportKind;
+///
+/// assert_eq!(ExportKind::Memory as u8, 2);
+/// ```
+#[derive(Clone, Copy, Debug, PartialEq, Eq, Hash)]
+#[repr(u8)]
+pub enum ExportKind {
+    /// A function.
+    Func = base::CORE_FUNCTION_SORT,
+    /// A table.
+    Table = base::CORE_TABLE_SORT,
+    /// A memory.
+    Memory = base::CORE_MEMORY_SORT,
+    /// A global.
+    Global = base::CORE_GLOBAL_SORT,
+    /// A tag.
+    Tag = base::CORE_TAG_SORT,
+}
+
+/// The kind of a tag.
+#[derive(Clone, Copy, Debug, PartialEq, Eq)]
+#[repr(u8)]
+pub enum TagKind {
+    /// An exception.
+    Exception = 0,
+}
+
+/// The type of a tag.
+///
+/// ```
+/// use dolzhytik::{TagKind, TagSection, TagType};
+///
+/// let mut tags = TagSection::new();
+/// tags.tag(TagType { kind: TagKind::Exception, func_type_idx: 0 });
+/// assert_eq!(tags.len(), 1);
+/// ```
+#[derive(Clone, Copy, Debug, PartialEq, Eq)]
+pub struct TagType {
+    /// The kind of the tag.
+    pub kind: TagKind,
+    /// The index of a function type, whose parameters the tag carries.
+    pub func_type_idx: u32,
+}
+
+impl From<SectionId> for u8 {
+    #[inline]
+    fn from(id: SectionId) -> u8 {
+        id as u8
+    }
+}
+
+/// Appends one byte.
+impl Encode for SectionId {
+    #[inline]
+    fn encode(&self, sink: &mut Vec<u8>) {
+        sink.push(*self as u8);
+    }
+}
+
+by_proved! { sections: ExportKind TagType }
+
+/// Implements the conversions between an enum and the proved one, by pairs of cases. Both have the same numbers, so that a conversion compiles to nothing.
+macro_rules! same_cases {
+    ($($name:ident of $module:ident { $($case:ident = $proved:ident),* })*) => {
+        $(
+            impl From<$name> for $module::$name {
+                #[inline]
+                fn from(value: $name) -> Self {
+                    match value {
+                        $($name::$case => Self::$proved,)*
+                    }
+                }
+            }
+
+            impl From<$module::$name> for $name {
+                #[inline]
+                fn from(value: $module::$name) -> Self {
+                    match value {
+                        $($module::$name::$proved => Self::$case,)*
+                    }
+                }
+            }
+        )*
+    };
+}
+
+same_cases! {
+    SectionId of base {
+        Custom = Custom,
+        Type = Types,
+        Import = Import,
+        Function = Function,
+        Table = Table,
+        Memory = Memory,
+        Global = Global,
+        Export = Export,
+        Start = Start,
+        Element = Element,
+        Code = Code,
+        Data = Data,
+        DataCount = DataCount,
+        Tag = Tag
+    }
+    ExportKind of sections {
+        Func = Func,
+        Table = Table,
+        Memory = Memory,
+        Global = Global,
+        Tag = Tag
+    }
+    TagKind of sections {
+        Exception = Exception
+    }
+}
+
+impl From<TagType> for sections::TagType {
+    #[inline]
+    fn from(ty: TagType) -> Self {
+        sections::TagType {
+            kind: ty.kind.into(),
+            func_type_idx: ty.func_type_idx,
+        }
+    }
+}
+
+impl From<sections::TagType> for TagType {
+    #[inline]
+    fn from(ty: sections::TagType) -> Self {
+        TagType {
+            kind: ty.kind.into(),
+            func_type_idx: ty.func_type_idx,
+        }
+    }
+}

@@ -1,0 +1,401 @@
+//! Programs as they are written for the crate: each compiles here too, and does what it does there. The expectations are from the crate's signatures and the WebAssembly core
+//! specification.
+
+/// A program that imports one case by name, and makes constants of casts.
+mod one_case {
+    use dolzhytik::SectionId;
+    use dolzhytik::SectionId::Type;
+
+    const TYPE: u8 = Type as u8;
+    const CODE: u8 = SectionId::Code as u8;
+
+    fn name_of(id: u8) -> &'static str {
+        match id {
+            TYPE => "types",
+            CODE => "code",
+            _ => "another",
+        }
+    }
+
+    #[test]
+    fn casts_are_constants_and_patterns() {
+        assert_eq!([1, 10, 13].map(name_of), ["types", "code", "another"]);
+        assert_eq!(Type, SectionId::Type);
+    }
+}
+
+/// A program that imports all cases.
+mod all_cases {
+    use dolzhytik::SectionId::{self, *};
+
+    /// The order of sections in a module: WebAssembly core specification, "Modules" of the binary format.
+    const ORDER: [SectionId; 13] = [
+        Type, Import, Function, Table, Memory, Tag, Global, Export, Start, Element, DataCount,
+        Code, Data,
+    ];
+
+    /// Where a section goes in a module. No arm is missing.
+    fn rank(id: SectionId) -> Option<u8> {
+        match id {
+            Custom => None,
+            Type => Some(1),
+            Import | Function | Table | Memory => Some(id as u8),
+            Tag => Some(6),
+            Global | Export | Start | Element => Some(id as u8 + 1),
+            DataCount => Some(11),
+            Code | Data => Some(u8::from(id) + 2),
+        }
+    }
+
+    #[test]
+    fn numbers_are_those_of_the_specification() {
+        let ids = [1, 2, 3, 4, 5, 13, 6, 7, 8, 9, 12, 10, 11];
+        assert_eq!(ORDER.map(|id| id as u8), ids);
+        assert_eq!(ORDER.map(u8::from), ids);
+        assert_eq!((Custom as u8, rank(Custom)), (0, None));
+        assert!(ORDER.map(rank).is_sorted());
+    }
+
+    #[test]
+    fn an_id_is_one_byte() {
+        assert_eq!(size_of::<SectionId>(), 1);
+        assert_eq!(size_of::<Option<SectionId>>(), 1);
+        assert_eq!(
+            ORDER.map(|id| crate::checks::encoded(&id)),
+            ORDER.map(|id| vec![id as u8])
+        );
+        assert!(Custom < Type && Data < Tag);
+        assert_eq!(format!("{Type:?} {DataCount:?}"), "Type DataCount");
+    }
+}
+
+/// A program that keeps the kinds of what it exports, and imports a tag.
+mod kinds {
+    use crate::checks::encoded;
+    use dolzhytik::ExportKind::*;
+    use dolzhytik::TagKind::Exception;
+    use dolzhytik::*;
+    use std::collections::HashMap;
+
+    const fn byte_of(kind: ExportKind) -> u8 {
+        kind as u8
+    }
+
+    #[test]
+    fn kinds_are_one_byte() {
+        let kinds = [Func, Table, Memory, Global, Tag];
+        assert_eq!(kinds.map(byte_of), [0, 1, 2, 3, 4]);
+        assert_eq!(
+            kinds.map(byte_of),
+            [
+                CORE_FUNCTION_SORT,
+                CORE_TABLE_SORT,
+                CORE_MEMORY_SORT,
+                CORE_GLOBAL_SORT,
+                CORE_TAG_SORT
+            ]
+        );
+        assert_eq!(
+            kinds.map(|kind| encoded(&kind)),
+            kinds.map(|kind| vec![kind as u8])
+        );
+        assert_eq!((size_of::<ExportKind>(), size_of::<TagKind>()), (1, 1));
+        assert_eq!((Exception as u8, TagKind::Exception as usize), (0, 0));
+        assert_eq!(HashMap::from([(Func, 2), (Tag, 1)])[&Tag], 1);
+    }
+
+    /// The name `f`, the kind's byte and the index, after the number of exports.
+    #[test]
+    fn each_kind_is_exported() {
+        for kind in [Func, Table, Memory, Global, Tag] {
+            let mut exports = ExportSection::new();
+            exports.export("f", kind, 7);
+            crate::checks::section(
+                &exports,
+                SectionId::Export as u8,
+                &[5, 1, 1, b'f', kind as u8, 7],
+            );
+        }
+    }
+
+    /// An attribute byte, 0 for an exception, and the index of a type.
+    #[test]
+    fn a_tag_is_imported_and_defined() {
+        let ty = TagType {
+            kind: Exception,
+            func_type_idx: 3,
+        };
+        let TagType {
+            kind,
+            func_type_idx,
+        } = ty;
+        assert_eq!((kind, func_type_idx), (TagKind::Exception, 3));
+        assert_eq!(encoded(&ty), [0, 3]);
+        assert_eq!(encoded(&EntityType::from(ty)), [CORE_TAG_SORT, 0, 3]);
+
+        let mut imports = ImportSection::new();
+        imports
+            .import("m", "t", ty)
+            .imports(Imports::Single(Import {
+                module: "m",
+                name: "t",
+                ty: ty.into(),
+            }));
+        crate::checks::section(
+            &imports,
+            SectionId::Import as u8,
+            &[15, 2, 1, b'm', 1, b't', 4, 0, 3, 1, b'm', 1, b't', 4, 0, 3],
+        );
+        let mut tags = TagSection::new();
+        tags.tag(ty);
+        crate::checks::section(&tags, SectionId::Tag as u8, &[3, 1, 0, 3]);
+    }
+
+    /// A list of items that is owned, and one that is borrowed, is one entry of the same bytes.
+    #[test]
+    fn items_of_one_module() {
+        let items = [
+            ImportCompact {
+                name: "a",
+                ty: EntityType::Function(1),
+            },
+            ImportCompact {
+                name: "t",
+                ty: TagType {
+                    kind: Exception,
+                    func_type_idx: 3,
+                }
+                .into(),
+            },
+        ];
+        for items in [items.to_vec().into(), items.as_slice().into()] {
+            let mut imports = ImportSection::new();
+            imports.imports(Imports::Compact1 { module: "m", items });
+            let bytes = [15, 1, 1, b'm', 0, 0x7F, 2, 1, b'a', 0, 1, 1, b't', 4, 0, 3];
+            crate::checks::section(&imports, 2, &bytes);
+        }
+    }
+}
+
+/// A program that builds parts with the proved calls, whose values have the cases of the root's.
+mod beside_proved_values {
+    use dolzhytik::{
+        EntityType, ExportKind, Import, ImportCompact, SectionId, TagKind, TagType, base, sections,
+    };
+    use std::fmt::Debug;
+
+    /// Checks that a value and its proved one are converted to each other.
+    fn both_ways<T, P>(value: T, proved: P)
+    where
+        T: From<P> + PartialEq + Debug + Copy,
+        P: From<T> + PartialEq + Debug + Copy,
+    {
+        assert_eq!(P::from(value), proved);
+        assert_eq!(T::from(proved), value);
+    }
+
+    #[test]
+    fn conversions_keep_the_case() {
+        both_ways(SectionId::Type, base::SectionId::Types);
+        both_ways(ExportKind::Tag, sections::ExportKind::Tag);
+        both_ways(TagKind::Exception, sections::TagKind::Exception);
+        both_ways(EntityType::Function(1), sections::EntityType::Function(1));
+        both_ways(
+            EntityType::FunctionExact(1),
+            sections::EntityType::FunctionExact(1),
+        );
+        let proved = sections::TagType {
+            kind: sections::TagKind::Exception,
+            func_type_idx: 3,
+        };
+        both_ways(
+            TagType {
+                kind: TagKind::Exception,
+                func_type_idx: 3,
+            },
+            proved,
+        );
+        both_ways(
+            EntityType::Tag(proved.into()),
+            sections::EntityType::Tag(proved),
+        );
+        let import = sections::Import {
+            module: "m",
+            name: "t",
+            ty: proved.into(),
+        };
+        let Import { module, name, ty } = import.into();
+        assert_eq!(
+            (module, name, ty),
+            ("m", "t", EntityType::Tag(proved.into()))
+        );
+        let item = sections::ImportCompact {
+            name: "t",
+            ty: proved.into(),
+        };
+        let ImportCompact { name, ty } = item.into();
+        assert_eq!((name, ty), ("t", EntityType::Tag(proved.into())));
+    }
+
+    /// Both have the same ids, and a conversion keeps the id.
+    #[test]
+    fn all_ids_and_kinds_are_the_same() {
+        use SectionId::*;
+        let ids = [
+            Custom, Type, Import, Function, Table, Memory, Global, Export, Start, Element, Code,
+            Data, DataCount, Tag,
+        ];
+        assert!(ids.into_iter().map(|id| id as u8).eq(0..14));
+        for id in ids {
+            let proved = base::SectionId::from(id);
+            assert_eq!((proved as u8, SectionId::from(proved)), (id as u8, id));
+        }
+        let kinds = [
+            ExportKind::Func,
+            ExportKind::Table,
+            ExportKind::Memory,
+            ExportKind::Global,
+            ExportKind::Tag,
+        ];
+        for kind in kinds {
+            let proved = sections::ExportKind::from(kind);
+            assert_eq!((proved as u8, ExportKind::from(proved)), (kind as u8, kind));
+        }
+    }
+}
+
+/// A program that prints builders and values: each as a struct of its own name, whose bytes are those of its entries.
+mod printed {
+    use dolzhytik::*;
+
+    /// Checks that values print as these texts.
+    macro_rules! prints {
+        ($($value:expr => $text:literal)*) => {
+            $(assert_eq!(format!("{:?}", $value), $text);)*
+        };
+    }
+
+    #[test]
+    fn builders_without_entries() {
+        prints! {
+            TypeSection::new() => "TypeSection { bytes: [], num_added: 0 }"
+            ImportSection::new() => "ImportSection { bytes: [], num_added: 0 }"
+            FunctionSection::new() => "FunctionSection { bytes: [], num_added: 0 }"
+            TableSection::new() => "TableSection { bytes: [], num_added: 0 }"
+            MemorySection::new() => "MemorySection { bytes: [], num_added: 0 }"
+            TagSection::new() => "TagSection { bytes: [], num_added: 0 }"
+            GlobalSection::new() => "GlobalSection { bytes: [], num_added: 0 }"
+            ExportSection::new() => "ExportSection { bytes: [], num_added: 0 }"
+            ElementSection::new() => "ElementSection { bytes: [], num_added: 0 }"
+            CodeSection::new() => "CodeSection { bytes: [], num_added: 0 }"
+            DataSection::new() => "DataSection { bytes: [], num_added: 0 }"
+            NameSection::new() => "NameSection { bytes: [] }"
+            NameMap::new() => "NameMap { bytes: [], count: 0 }"
+            IndirectNameMap::new() => "IndirectNameMap { bytes: [], count: 0 }"
+            LinkingSection::new() => "LinkingSection { bytes: [] }"
+            SymbolTable::new() => "SymbolTable { bytes: [], num_added: 0 }"
+            ProducersSection::new() => "ProducersSection { bytes: [], num_fields: 0 }"
+            ProducersField::new() => "ProducersField { bytes: [], num_values: 0 }"
+            BranchHints::new() => "BranchHints { bytes: [], num_hints: 0 }"
+            CoreDumpModulesSection::new() => "CoreDumpModulesSection { bytes: [], num_added: 0 }"
+            CoreDumpInstancesSection::new() => "CoreDumpInstancesSection { bytes: [], num_added: 0 }"
+            CoreDumpSection::new("a") => "CoreDumpSection { name: \"a\" }"
+            CoreDumpStackSection::new("a") => "CoreDumpStackSection { frame_bytes: [], count: 0, name: \"a\" }"
+            ConstExpr::empty() => "ConstExpr { bytes: [] }"
+            Function::new([]) => "Function { bytes: [0] }"
+            Module::new() => "Module { bytes: [0, 97, 115, 109, 1, 0, 0, 0] }"
+        }
+    }
+
+    #[test]
+    fn sections_of_entries() {
+        let mut types = TypeSection::new();
+        types.ty().function([ValType::I32], []);
+        let mut functions = FunctionSection::new();
+        functions.function(300);
+        let mut exports = ExportSection::new();
+        exports.export("f", ExportKind::Tag, 7);
+        let mut code = CodeSection::new();
+        code.raw(&[0, 0x0B]);
+        let mut data = DataSection::new();
+        data.passive([7]);
+        prints! {
+            types => "TypeSection { bytes: [96, 1, 127, 0], num_added: 1 }"
+            functions => "FunctionSection { bytes: [172, 2], num_added: 1 }"
+            exports => "ExportSection { bytes: [1, 102, 4, 7], num_added: 1 }"
+            code => "CodeSection { bytes: [2, 0, 11], num_added: 1 }"
+            data => "DataSection { bytes: [1, 1, 7], num_added: 1 }"
+        }
+    }
+
+    /// A count and a size of two bytes each are no entries.
+    #[test]
+    fn entries_behind_a_long_count() {
+        let mut functions = FunctionSection::new();
+        (0..200).for_each(|_| {
+            functions.function(5);
+        });
+        let fives = vec!["5"; 200].join(", ");
+        assert_eq!(
+            format!("{functions:?}"),
+            format!("FunctionSection {{ bytes: [{fives}], num_added: 200 }}")
+        );
+        let name = "m".repeat(200);
+        assert_eq!(
+            format!("{:?}", CoreDumpSection::new(&name)),
+            format!("CoreDumpSection {{ name: {name:?} }}")
+        );
+    }
+
+    #[test]
+    fn custom_sections_of_entries() {
+        let mut map = NameMap::new();
+        map.append(0, "a");
+        let mut indirect = IndirectNameMap::new();
+        indirect.append(1, &map);
+        let mut names = NameSection::new();
+        names.module("m");
+        let mut symbols = SymbolTable::new();
+        symbols.table(SymbolTable::WASM_SYM_UNDEFINED, 0, None);
+        let mut linking = LinkingSection::new();
+        linking.symbol_table(&symbols);
+        let mut field = ProducersField::new();
+        field.value("a", "1");
+        let mut producers = ProducersSection::new();
+        producers.field("sdk", &field);
+        let mut modules = CoreDumpModulesSection::new();
+        modules.module("a");
+        let mut stack = CoreDumpStackSection::new("main");
+        stack.frame(1, 2, 3, [], [CoreDumpValue::Missing]);
+        prints! {
+            map => "NameMap { bytes: [0, 1, 97], count: 1 }"
+            indirect => "IndirectNameMap { bytes: [1, 1, 0, 1, 97], count: 1 }"
+            names => "NameSection { bytes: [0, 2, 1, 109] }"
+            symbols => "SymbolTable { bytes: [5, 16, 0], num_added: 1 }"
+            linking => "LinkingSection { bytes: [8, 4, 1, 5, 16, 0] }"
+            field => "ProducersField { bytes: [1, 97, 1, 49], num_values: 1 }"
+            producers => "ProducersSection { bytes: [3, 115, 100, 107, 1, 1, 97, 1, 49], num_fields: 1 }"
+            modules => "CoreDumpModulesSection { bytes: [0, 1, 97], num_added: 1 }"
+            stack => "CoreDumpStackSection { frame_bytes: [0, 1, 2, 3, 0, 1, 1], count: 1, name: \"main\" }"
+        }
+    }
+
+    #[test]
+    fn values_of_builders_and_types() {
+        let offset = ConstExpr::i32_const(7);
+        let elements = Elements::Functions(vec![1].into());
+        let mode = ElementMode::Active {
+            table: None,
+            offset: &offset,
+        };
+        prints! {
+            ElementSegment { mode, elements } => "ElementSegment { mode: Active { table: None, offset: ConstExpr { bytes: [65, 7] } }, elements: Functions([1]) }"
+            FuncType::new([ValType::I32], []) => "FuncType { params: [I32], results: [] }"
+            EntityType::Tag(TagType { kind: TagKind::Exception, func_type_idx: 3 }) => "Tag(TagType { kind: Exception, func_type_idx: 3 })"
+            Instruction::I32Const(7) => "I32Const(7)"
+            StartSection { function_index: 1 } => "StartSection { function_index: 1 }"
+        }
+        let text = format!("{:#?}", ConstExpr::empty());
+        assert_eq!(text, "ConstExpr {\n    bytes: [],\n}");
+    }
+}
