@@ -1,7 +1,7 @@
 """The ledger of rejected mutants: tools/mutants.ledger, a line 'CRATE/MUTANT CHECKSUM' for each mutant that the prover rejected.
 
 A function is proved from its own body and proof files, from the contracts of what it calls, and from definitions and lemmas. So the checksum covers exactly
-- the mutant, and the mutated function with its proof files;
+- the mutant, and the mutated function with its proof files, and those of its cycle;
 - its crate's definitions, lemmas, line of crates.txt, and sources without comments, blank lines and the bodies of other functions;
 - the same of each crate below;
 - the kit's logic, and how the tool judges what a check prints.
@@ -27,6 +27,8 @@ from rattle_functions import functions_of
 SHARES = 20
 # The proof files of one function. No other function cites them.
 OF_FUNCTION = ("Answers.antt", "Invariants.antt", "Proof.antt")
+# Functions that call one another are proved together, under this name.
+CYCLE = re.compile(r"#\[cycle\((\w+)\)\]")
 COMMENT_OR_TEXT = re.compile(r"""//[^\n]*|/\*.*?\*/|b?r(#*)".*?"\1|b?"(?:[^"\\]|\\.)*"|b?'(?:\\(?:u\{[^}]*\}|x..|.)|[^'\\\n])'""", re.S)
 
 
@@ -84,9 +86,18 @@ def functions_in(path, source):
 
 
 def of_function(top, function):
-    """Returns the source of a function, and its proof files: those of all functions of its name."""
+    """Returns the source of a function, and its proof files: those of all functions of its name.
+    A function of a cycle has one proof with the others there: also their sources and proof files."""
     own = functions_in(function.path, text_of(f"{top}/{function.path}"))[function]
-    return [own] + [text_of(it) for it in files_below(f"{top}/proofs") if os.path.basename(os.path.dirname(it)).lstrip("+") == function.name]
+    others, names = [], {function.name}
+    if cycle := CYCLE.search(own):
+        paths = [it.removeprefix(f"{top}/") for it in files_below(f"{top}/src")]
+        found = [it for path in paths for it in functions_in(path, text_of(f"{top}/{path}")).items()]
+        members = [it for it in found if cycle[0] in it[1]]
+        others = [source for it, source in members if it != function]
+        names |= {cycle[1], *(it.name for it, _ in members)}
+    proofs = [it for it in files_below(f"{top}/proofs") if os.path.basename(os.path.dirname(it)).lstrip("+") in names]
+    return [own, *others, *map(text_of, proofs)]
 
 
 @functools.lru_cache(maxsize=None)
