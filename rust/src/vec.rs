@@ -256,7 +256,7 @@ impl<'a, T, A: Allocator> IntoIterator for &'a Vec<T, A> {
 /// assert_eq!(bytes, [0x7F, 0xE5, 0x8E, 0x26]);
 /// # Ok::<(), dolzhytik::base::Refused>(())
 /// ```
-pub trait Sink: DerefMut<Target = [u8]> + sealed::Sealed {
+pub trait Sink: DerefMut<Target = [u8]> + Sealed {
     /// How many bytes there is room for, with those that stand there.
     fn capacity(&self) -> usize;
 
@@ -389,6 +389,9 @@ impl Sink for vec::Vec<u8> {
         self.truncate(len);
     }
 }
+
+/// What keeps [`Sink`] for the types of this package.
+pub(crate) use sealed::Sealed;
 
 mod sealed {
     pub trait Sealed {}

@@ -33,8 +33,8 @@ impl<A: Allocator> Model for CodeSection<A> {
 
 /// A raw body that is given as bytes.
 #[derive(Clone, Copy)]
-struct RawBody<'a> {
-    bytes: &'a [u8],
+pub(crate) struct RawBody<'a> {
+    pub(crate) bytes: &'a [u8],
 }
 
 impl Encode for RawBody<'_> {
@@ -42,6 +42,7 @@ impl Encode for RawBody<'_> {
 
     ghost fits = { λ body. FrameFits body.bytes.now };
 
+    #[inline]
     fn encode<A: Allocator>(&self, sink: &mut Vec<u8, A>) -> R<()> {
         encode_frame(sink, self.bytes)
     }

@@ -57,10 +57,7 @@ impl<A: Allocator> ConstExpr<A> {
     {
         let mut stored = Vec::new(alloc);
         append_all(&mut stored, bytes)?;
-        Ok(ConstExpr {
-            first: None,
-            bytes: stored,
-        })
+        Ok(ConstExpr::stored(stored))
     }
 
     /// The instructions, one after another.
@@ -75,11 +72,19 @@ impl<A: Allocator> ConstExpr<A> {
     {
         let mut bytes = Vec::new(alloc);
         encode_each(instructions, &mut bytes)?;
-        Ok(ConstExpr { first: None, bytes })
+        Ok(ConstExpr::stored(bytes))
+    }
+
+    /// The instructions that these bytes encode. It takes no memory.
+    pub(crate) fn stored(bytes: Vec<u8, A>) -> Self
+        ensures { result ≡ bytes.items }
+    {
+        ConstExpr { first: None, bytes }
     }
 
     /// The instruction alone. It takes no memory.
-    fn of(alloc: A, first: First) -> Self
+    #[inline]
+    pub(crate) fn of(alloc: A, first: First) -> Self
         ensures { Stores (instruction_of first) [] result }
     {
         let bytes = Vec::new(alloc);
@@ -90,6 +95,7 @@ impl<A: Allocator> ConstExpr<A> {
     }
 
     /// `GlobalGet` alone.
+    #[inline]
     pub fn global_get(alloc: A, index: u32) -> R<Self>
         ensures stores { IfOk result (Stores (Instruction.GlobalGet index) []) }
         ensures memory { result ≢ Err TooLong }
@@ -98,6 +104,7 @@ impl<A: Allocator> ConstExpr<A> {
     }
 
     /// `RefNull` alone.
+    #[inline]
     pub fn ref_null(alloc: A, ty: HeapType) -> R<Self>
         ensures stores { IfOk result (Stores (Instruction.RefNull ty) []) }
         ensures memory { result ≢ Err TooLong }
@@ -106,6 +113,7 @@ impl<A: Allocator> ConstExpr<A> {
     }
 
     /// `RefFunc` alone.
+    #[inline]
     pub fn ref_func(alloc: A, function_index: u32) -> R<Self>
         ensures stores { IfOk result (Stores (Instruction.RefFunc function_index) []) }
         ensures memory { result ≢ Err TooLong }
@@ -114,6 +122,7 @@ impl<A: Allocator> ConstExpr<A> {
     }
 
     /// `I32Const` alone.
+    #[inline]
     pub fn i32_const(alloc: A, value: i32) -> R<Self>
         ensures stores { IfOk result (Stores (Instruction.I32Const value) []) }
         ensures memory { result ≢ Err TooLong }
@@ -122,6 +131,7 @@ impl<A: Allocator> ConstExpr<A> {
     }
 
     /// `I64Const` alone.
+    #[inline]
     pub fn i64_const(alloc: A, value: i64) -> R<Self>
         ensures stores { IfOk result (Stores (Instruction.I64Const value) []) }
         ensures memory { result ≢ Err TooLong }
@@ -130,6 +140,7 @@ impl<A: Allocator> ConstExpr<A> {
     }
 
     /// `F32Const` alone.
+    #[inline]
     pub fn f32_const(alloc: A, value: Ieee32) -> R<Self>
         ensures stores { IfOk result (Stores (Instruction.F32Const value) []) }
         ensures memory { result ≢ Err TooLong }
@@ -138,6 +149,7 @@ impl<A: Allocator> ConstExpr<A> {
     }
 
     /// `F64Const` alone.
+    #[inline]
     pub fn f64_const(alloc: A, value: Ieee64) -> R<Self>
         ensures stores { IfOk result (Stores (Instruction.F64Const value) []) }
         ensures memory { result ≢ Err TooLong }
@@ -151,10 +163,11 @@ impl<A: Allocator> ConstExpr<A> {
         ensures memory { result ≢ Err TooLong }
     {
         let bytes = Vec::with_capacity(alloc, VECTOR_BYTES)?;
-        ConstExpr { first: None, bytes }.with_v128_const(value)
+        ConstExpr::stored(bytes).with_v128_const(value)
     }
 
     /// This, and then `GlobalGet`.
+    #[inline]
     pub fn with_global_get(mut self, index: u32) -> R<Self>
         ensures stores { IfOk result (Stores (Instruction.GlobalGet index) self) }
         ensures memory { result ≢ Err TooLong }
@@ -164,6 +177,7 @@ impl<A: Allocator> ConstExpr<A> {
     }
 
     /// This, and then `RefNull`.
+    #[inline]
     pub fn with_ref_null(mut self, ty: HeapType) -> R<Self>
         ensures stores { IfOk result (Stores (Instruction.RefNull ty) self) }
         ensures memory { result ≢ Err TooLong }
@@ -173,6 +187,7 @@ impl<A: Allocator> ConstExpr<A> {
     }
 
     /// This, and then `RefFunc`.
+    #[inline]
     pub fn with_ref_func(mut self, function_index: u32) -> R<Self>
         ensures stores { IfOk result (Stores (Instruction.RefFunc function_index) self) }
         ensures memory { result ≢ Err TooLong }
@@ -182,6 +197,7 @@ impl<A: Allocator> ConstExpr<A> {
     }
 
     /// This, and then `I32Const`.
+    #[inline]
     pub fn with_i32_const(mut self, value: i32) -> R<Self>
         ensures stores { IfOk result (Stores (Instruction.I32Const value) self) }
         ensures memory { result ≢ Err TooLong }
@@ -191,6 +207,7 @@ impl<A: Allocator> ConstExpr<A> {
     }
 
     /// This, and then `I64Const`.
+    #[inline]
     pub fn with_i64_const(mut self, value: i64) -> R<Self>
         ensures stores { IfOk result (Stores (Instruction.I64Const value) self) }
         ensures memory { result ≢ Err TooLong }
@@ -200,6 +217,7 @@ impl<A: Allocator> ConstExpr<A> {
     }
 
     /// This, and then `F32Const`.
+    #[inline]
     pub fn with_f32_const(mut self, value: Ieee32) -> R<Self>
         ensures stores { IfOk result (Stores (Instruction.F32Const value) self) }
         ensures memory { result ≢ Err TooLong }
@@ -209,6 +227,7 @@ impl<A: Allocator> ConstExpr<A> {
     }
 
     /// This, and then `F64Const`.
+    #[inline]
     pub fn with_f64_const(mut self, value: Ieee64) -> R<Self>
         ensures stores { IfOk result (Stores (Instruction.F64Const value) self) }
         ensures memory { result ≢ Err TooLong }
@@ -218,6 +237,7 @@ impl<A: Allocator> ConstExpr<A> {
     }
 
     /// This, and then `V128Const`.
+    #[inline]
     pub fn with_v128_const(mut self, value: i128) -> R<Self>
         ensures stores { IfOk result (Stores (Instruction.VectorImmediate (VectorImmediate.V128Const value)) self) }
         ensures memory { result ≢ Err TooLong }
@@ -227,6 +247,7 @@ impl<A: Allocator> ConstExpr<A> {
     }
 
     /// This, and then `I32Add`.
+    #[inline]
     pub fn with_i32_add(mut self) -> R<Self>
         ensures stores { IfOk result (Stores (Instruction.Numeric Numeric.I32Add) self) }
         ensures memory { result ≢ Err TooLong }
@@ -236,6 +257,7 @@ impl<A: Allocator> ConstExpr<A> {
     }
 
     /// This, and then `I32Sub`.
+    #[inline]
     pub fn with_i32_sub(mut self) -> R<Self>
         ensures stores { IfOk result (Stores (Instruction.Numeric Numeric.I32Sub) self) }
         ensures memory { result ≢ Err TooLong }
@@ -245,6 +267,7 @@ impl<A: Allocator> ConstExpr<A> {
     }
 
     /// This, and then `I32Mul`.
+    #[inline]
     pub fn with_i32_mul(mut self) -> R<Self>
         ensures stores { IfOk result (Stores (Instruction.Numeric Numeric.I32Mul) self) }
         ensures memory { result ≢ Err TooLong }
@@ -254,6 +277,7 @@ impl<A: Allocator> ConstExpr<A> {
     }
 
     /// This, and then `I64Add`.
+    #[inline]
     pub fn with_i64_add(mut self) -> R<Self>
         ensures stores { IfOk result (Stores (Instruction.Numeric Numeric.I64Add) self) }
         ensures memory { result ≢ Err TooLong }
@@ -263,6 +287,7 @@ impl<A: Allocator> ConstExpr<A> {
     }
 
     /// This, and then `I64Sub`.
+    #[inline]
     pub fn with_i64_sub(mut self) -> R<Self>
         ensures stores { IfOk result (Stores (Instruction.Numeric Numeric.I64Sub) self) }
         ensures memory { result ≢ Err TooLong }
@@ -272,6 +297,7 @@ impl<A: Allocator> ConstExpr<A> {
     }
 
     /// This, and then `I64Mul`.
+    #[inline]
     pub fn with_i64_mul(mut self) -> R<Self>
         ensures stores { IfOk result (Stores (Instruction.Numeric Numeric.I64Mul) self) }
         ensures memory { result ≢ Err TooLong }
@@ -294,7 +320,7 @@ impl<A: Allocator> ConstExpr<A> {
 
 /// The index of `RefFunc`, where the bytes begin with it.
 #[tactic(auto, using(crate::proofs::RefFuncLaws::ref_func_steps))]
-fn function_at_front(bytes: &[u8]) -> Option<u32>
+pub(crate) fn function_at_front(bytes: &[u8]) -> Option<u32>
     ensures { IsRefFunc bytes.now result }
 {
     let [op, rest @ ..] = bytes else {
@@ -345,7 +371,7 @@ impl<A: Allocator + Copy> ConstExpr<A> {
 
 /// Bytes that are stored, as a part of a layout.
 #[derive(Drop)]
-struct Stored<'a>(&'a [u8]);
+pub(crate) struct Stored<'a>(pub(crate) &'a [u8]);
 
 /// The bytes as they are.
 impl Encode for Stored<'_> {
@@ -353,6 +379,7 @@ impl Encode for Stored<'_> {
 
     ghost fits = { λ _. ⊤ };
 
+    #[inline]
     fn encode<A: Allocator>(&self, sink: &mut Vec<u8, A>) -> R<()> {
         sink.extend_from_slice(self.0)?;
         Ok(())
@@ -360,7 +387,7 @@ impl Encode for Stored<'_> {
 }
 
 /// The byte of `End`.
-const END: u8 = 0x0B;
+pub(crate) const END: u8 = 0x0B;
 
 /// The stored bytes, and `End`.
 impl<A: Allocator> Encode for ConstExpr<A> {
@@ -371,6 +398,7 @@ impl<A: Allocator> Encode for ConstExpr<A> {
     ghost reading = { λ e. ReadsBack expression (StoresInstructions e) (expression_text e) };
 
     #[tactic(auto, using(crate::proofs::ExpressionLaws::expression_reads))]
+    #[inline]
     fn encode<B: Allocator>(&self, sink: &mut Vec<u8, B>) -> R<()> {
         (Optional(self.first), Stored(&self.bytes), END).encode(sink)
     }

@@ -38,6 +38,7 @@ impl Encode for First {
 
     ghost fits = { λ _. ⊤ };
 
+    #[inline]
     fn encode<A: Allocator>(&self, sink: &mut Vec<u8, A>) -> R<()> {
         match *self {
             First::GlobalGet(index) => (0x23u8, index).encode(sink),

@@ -68,7 +68,7 @@ impl Encode for Op {
 
     ghost fits = { λ _. ⊤ };
 
-    #[inline]
+    #[inline(always)]
     fn encode<A: Allocator>(&self, sink: &mut Vec<u8, A>) -> R<()> {
         match *self {
             Op::Byte(byte) => byte.encode(sink),

@@ -51,6 +51,7 @@ impl Encode for ExportKind {
 
     ghost fits = { λ _. ⊤ };
 
+    #[inline]
     fn encode<A: Allocator>(&self, sink: &mut Vec<u8, A>) -> R<()> {
         (*self as u8).encode(sink)
     }
@@ -62,6 +63,7 @@ impl Encode for Export<'_> {
 
     ghost fits = { ExportFits };
 
+    #[inline]
     fn encode<A: Allocator>(&self, sink: &mut Vec<u8, A>) -> R<()> {
         (self.name, self.kind, self.index).encode(sink)
     }

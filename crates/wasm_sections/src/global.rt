@@ -54,6 +54,7 @@ impl Encode for GlobalType {
 
     ghost fits = { λ _. ⊤ };
 
+    #[inline]
     fn encode<A: Allocator>(&self, sink: &mut Vec<u8, A>) -> R<()> {
         (self.val_type, self.flags()).encode(sink)
     }

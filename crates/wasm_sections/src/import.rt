@@ -89,6 +89,7 @@ impl Encode for EntityType {
 
     ghost fits = { λ _. ⊤ };
 
+    #[inline]
     fn encode<A: Allocator>(&self, sink: &mut Vec<u8, A>) -> R<()> {
         match *self {
             EntityType::Function(index) => (CORE_FUNCTION_SORT, index).encode(sink),
@@ -160,6 +161,7 @@ impl Encode for Import<'_> {
 
     ghost fits = { λ import. ImportFits (import_item import) };
 
+    #[inline]
     fn encode<A: Allocator>(&self, sink: &mut Vec<u8, A>) -> R<()> {
         (self.module, self.name, self.ty).encode(sink)
     }
@@ -171,6 +173,7 @@ impl Encode for ImportCompact<'_> {
 
     ghost fits = { λ import. FrameFits import.name.now };
 
+    #[inline]
     fn encode<A: Allocator>(&self, sink: &mut Vec<u8, A>) -> R<()> {
         (self.name, self.ty).encode(sink)
     }
@@ -182,6 +185,7 @@ impl<A: Allocator> Encode for Imports<'_, A> {
 
     ghost fits = { λ imports. ImportFits (imports_item imports) };
 
+    #[inline]
     fn encode<B: Allocator>(&self, sink: &mut Vec<u8, B>) -> R<()> {
         match self {
             Imports::Single(import) => import.encode(sink),

@@ -74,6 +74,7 @@ impl Encode for MemoryType {
 
     ghost fits = { λ _. ⊤ };
 
+    #[inline]
     fn encode<A: Allocator>(&self, sink: &mut Vec<u8, A>) -> R<()> {
         let maximum = Optional(self.maximum);
         let page_size = Optional(self.page_size_log2);

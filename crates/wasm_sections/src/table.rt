@@ -71,6 +71,7 @@ impl Encode for TableType {
 
     ghost fits = { λ _. ⊤ };
 
+    #[inline]
     fn encode<A: Allocator>(&self, sink: &mut Vec<u8, A>) -> R<()> {
         let limits = (self.flags(), self.minimum, Optional(self.maximum));
         (self.element_type, limits).encode(sink)
@@ -190,7 +191,7 @@ impl<'a, A: Allocator + Copy> Readable<'a, A> for TableType {
 }
 
 /// What stands before a table with a first value.
-const BEFORE_INIT: [u8; 2] = [0x40, 0x00];
+pub(crate) const BEFORE_INIT: [u8; 2] = [0x40, 0x00];
 
 /// A table: its type, and the expression of its elements' first value where one is given.
 #[derive(Debug, Drop)]

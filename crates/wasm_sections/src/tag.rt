@@ -56,6 +56,7 @@ impl Encode for TagType {
 
     ghost fits = { λ _. ⊤ };
 
+    #[inline]
     fn encode<A: Allocator>(&self, sink: &mut Vec<u8, A>) -> R<()> {
         (self.kind.byte(), self.func_type_idx).encode(sink)
     }

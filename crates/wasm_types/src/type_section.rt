@@ -238,7 +238,7 @@ impl<'a, A: Allocator> CoreTypeEncoder<'a, A> {
 }
 
 /// The byte before a group.
-const REC: u8 = 0x4E;
+pub(crate) const REC: u8 = 0x4E;
 
 /// The types behind their number that all of the bytes spell, their numbers padded or not.
 pub fn read_types<'a, A: Allocator + Copy>(

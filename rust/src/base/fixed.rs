@@ -7,6 +7,7 @@ use crate::base::refused::R;
 
 /// The bytes as they are, with no count.
 impl<const N: usize> Encode for [u8; N] {
+    #[inline]
     fn encode<A: Sink>(&self, sink: &mut A) -> R<()> {
         sink.extend_from_slice(self)?;
         Ok(())

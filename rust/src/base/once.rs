@@ -113,6 +113,7 @@ where
 /// fits = { λ v. YieldsFitting I.next_gives T.fits v.items }
 /// ```
 impl<T: Encode, I: Iterator<Item = T>> EncodeOnce for VecOf<I> {
+    #[inline(always)]
     fn encode_once<A: Sink>(self, sink: &mut A) -> R<()> {
         let VecOf { items, count } = self;
         let start = sink.len();
@@ -198,6 +199,7 @@ fn append_blocks<I: Iterator<Item = u8>, A: Sink>(
 /// fits = { λ _. Unit {0} }
 /// ```
 impl<I: Iterator<Item = u8>> EncodeOnce for BytesOf<I> {
+    #[inline(always)]
     fn encode_once<A: Sink>(self, sink: &mut A) -> R<()> {
         let BytesOf { mut items, count } = self;
         let start = sink.len();
@@ -222,6 +224,7 @@ impl<I: Iterator<Item = u8>> EncodeOnce for BytesOf<I> {
 /// fits = { λ p. S.fits p.0 × T.fits p.1 }
 /// ```
 impl<S: Encode, T: EncodeOnce> EncodeOnce for (S, T) {
+    #[inline(always)]
     fn encode_once<A: Sink>(self, sink: &mut A) -> R<()> {
         let (front, back) = self;
         let start = sink.len();
@@ -244,6 +247,7 @@ impl<S: Encode, T: EncodeOnce> EncodeOnce for (S, T) {
 /// fits = { λ p. S.fits p.0 × T.fits p.1 × U.fits p.2 }
 /// ```
 impl<S: Encode, T: EncodeOnce, U: EncodeOnce> EncodeOnce for (S, T, U) {
+    #[inline(always)]
     fn encode_once<A: Sink>(self, sink: &mut A) -> R<()> {
         let (front, middle, back) = self;
         let start = sink.len();

@@ -37,6 +37,7 @@ pub struct Optional<T>(pub Option<T>);
 /// fits = { λ part. IfSome part.0 T.fits }
 /// ```
 impl<T: Encode> Encode for Optional<T> {
+    #[inline]
     fn encode<A: Sink>(&self, sink: &mut A) -> R<()> {
         match &self.0 {
             Some(part) => part.encode(sink),

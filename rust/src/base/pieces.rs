@@ -103,6 +103,7 @@ impl<A: Allocator> Pieces<A> {
     /// ```text
     /// ensures { Adds entry.now ⊤ self.old self.new result }
     /// ```
+    #[inline]
     pub fn add(&mut self, entry: &[u8]) -> R<()> {
         if self.ends.len() >= MOST_ENTRIES {
             return Err(Refused::TooLong);
@@ -121,6 +122,7 @@ impl<A: Allocator> Pieces<A> {
     /// ```text
     /// ensures { Adds (T.text item.now) (T.fits item.now) self.old self.new result }
     /// ```
+    #[inline]
     pub fn add_encoded<T: Encode>(&mut self, item: &T) -> R<()> {
         if self.ends.len() >= MOST_ENTRIES {
             return Err(Refused::TooLong);
@@ -145,6 +147,7 @@ impl<A: Allocator> Pieces<A> {
     /// ```text
     /// ensures { AddsOnce (T.gives item) (T.fits item) self.old self.new result }
     /// ```
+    #[inline]
     pub fn add_once<T: EncodeOnce>(&mut self, item: T) -> R<()> {
         if self.ends.len() >= MOST_ENTRIES {
             return Err(Refused::TooLong);

@@ -103,6 +103,7 @@ impl AbstractHeapType {
 /// fits = { λ _. ⊤ }
 /// ```
 impl Encode for AbstractHeapType {
+    #[inline]
     fn encode<A: Sink>(&self, sink: &mut A) -> R<()> {
         self.byte().encode(sink)
     }
@@ -117,6 +118,7 @@ impl Encode for AbstractHeapType {
 /// fits = { λ _. ⊤ }
 /// ```
 impl Encode for HeapType {
+    #[inline]
     fn encode<A: Sink>(&self, sink: &mut A) -> R<()> {
         match *self {
             HeapType::Abstract { shared: false, ty } => ty.encode(sink),
@@ -136,6 +138,7 @@ impl Encode for HeapType {
 /// fits = { λ _. ⊤ }
 /// ```
 impl Encode for RefType {
+    #[inline]
     fn encode<A: Sink>(&self, sink: &mut A) -> R<()> {
         let byte: u8 = match (self.nullable, self.heap_type) {
             (
@@ -168,6 +171,7 @@ impl Encode for RefType {
 /// fits = { λ _. ⊤ }
 /// ```
 impl Encode for ValType {
+    #[inline(always)]
     fn encode<A: Sink>(&self, sink: &mut A) -> R<()> {
         let byte: u8 = match *self {
             ValType::I32 => 0x7F,
@@ -175,6 +179,24 @@ impl Encode for ValType {
             ValType::F32 => 0x7D,
             ValType::F64 => 0x7C,
             ValType::V128 => 0x7B,
+            ValType::Ref(
+                RefType {
+                    nullable: true,
+                    heap_type: HeapType::Abstract {
+                        shared: false,
+                        ty: AbstractHeapType::Func,
+                    },
+                },
+            ) => 0x70,
+            ValType::Ref(
+                RefType {
+                    nullable: true,
+                    heap_type: HeapType::Abstract {
+                        shared: false,
+                        ty: AbstractHeapType::Extern,
+                    },
+                },
+            ) => 0x6F,
             ValType::Ref(ty) => return ty.encode(sink),
         };
         byte.encode(sink)

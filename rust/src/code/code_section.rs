@@ -27,8 +27,8 @@ pub struct CodeSection<A: Allocator = Global> {
 
 /// A raw body that is given as bytes.
 #[derive(Clone, Copy)]
-struct RawBody<'a> {
-    bytes: &'a [u8],
+pub(crate) struct RawBody<'a> {
+    pub(crate) bytes: &'a [u8],
 }
 
 /// # Defined
@@ -38,6 +38,7 @@ struct RawBody<'a> {
 /// fits = { λ body. FrameFits body.bytes.now }
 /// ```
 impl Encode for RawBody<'_> {
+    #[inline]
     fn encode<A: Sink>(&self, sink: &mut A) -> R<()> {
         encode_frame(sink, self.bytes)
     }

@@ -57,10 +57,7 @@ impl<A: Allocator> ConstExpr<A> {
     pub fn raw<I: IntoIterator<Item = u8>>(alloc: A, bytes: I) -> R<Self> {
         let mut stored = Vec::new(alloc);
         append_all(&mut stored, bytes)?;
-        Ok(ConstExpr {
-            first: None,
-            bytes: stored,
-        })
+        Ok(ConstExpr::stored(stored))
     }
 
     /// The instructions, one after another.
@@ -82,7 +79,18 @@ impl<A: Allocator> ConstExpr<A> {
     ) -> R<Self> {
         let mut bytes = Vec::new(alloc);
         encode_each(instructions, &mut bytes)?;
-        Ok(ConstExpr { first: None, bytes })
+        Ok(ConstExpr::stored(bytes))
+    }
+
+    /// The instructions that these bytes encode. It takes no memory.
+    ///
+    /// # Proved
+    ///
+    /// ```text
+    /// ensures { result ≡ bytes.items }
+    /// ```
+    pub(crate) fn stored(bytes: Vec<u8, A>) -> Self {
+        ConstExpr { first: None, bytes }
     }
 
     /// The instruction alone. It takes no memory.
@@ -92,7 +100,8 @@ impl<A: Allocator> ConstExpr<A> {
     /// ```text
     /// ensures { Stores (instruction_of first) [] result }
     /// ```
-    fn of(alloc: A, first: First) -> Self {
+    #[inline]
+    pub(crate) fn of(alloc: A, first: First) -> Self {
         let bytes = Vec::new(alloc);
         ConstExpr {
             first: Some(first),
@@ -108,6 +117,7 @@ impl<A: Allocator> ConstExpr<A> {
     /// ensures stores { IfOk result (Stores (Instruction.GlobalGet index) []) }
     /// ensures memory { result ≢ Err TooLong }
     /// ```
+    #[inline]
     pub fn global_get(alloc: A, index: u32) -> R<Self> {
         Ok(ConstExpr::of(alloc, First::GlobalGet(index)))
     }
@@ -120,6 +130,7 @@ impl<A: Allocator> ConstExpr<A> {
     /// ensures stores { IfOk result (Stores (Instruction.RefNull ty) []) }
     /// ensures memory { result ≢ Err TooLong }
     /// ```
+    #[inline]
     pub fn ref_null(alloc: A, ty: HeapType) -> R<Self> {
         Ok(ConstExpr::of(alloc, First::RefNull(ty)))
     }
@@ -132,6 +143,7 @@ impl<A: Allocator> ConstExpr<A> {
     /// ensures stores { IfOk result (Stores (Instruction.RefFunc function_index) []) }
     /// ensures memory { result ≢ Err TooLong }
     /// ```
+    #[inline]
     pub fn ref_func(alloc: A, function_index: u32) -> R<Self> {
         Ok(ConstExpr::of(alloc, First::RefFunc(function_index)))
     }
@@ -144,6 +156,7 @@ impl<A: Allocator> ConstExpr<A> {
     /// ensures stores { IfOk result (Stores (Instruction.I32Const value) []) }
     /// ensures memory { result ≢ Err TooLong }
     /// ```
+    #[inline]
     pub fn i32_const(alloc: A, value: i32) -> R<Self> {
         Ok(ConstExpr::of(alloc, First::I32Const(value)))
     }
@@ -156,6 +169,7 @@ impl<A: Allocator> ConstExpr<A> {
     /// ensures stores { IfOk result (Stores (Instruction.I64Const value) []) }
     /// ensures memory { result ≢ Err TooLong }
     /// ```
+    #[inline]
     pub fn i64_const(alloc: A, value: i64) -> R<Self> {
         Ok(ConstExpr::of(alloc, First::I64Const(value)))
     }
@@ -168,6 +182,7 @@ impl<A: Allocator> ConstExpr<A> {
     /// ensures stores { IfOk result (Stores (Instruction.F32Const value) []) }
     /// ensures memory { result ≢ Err TooLong }
     /// ```
+    #[inline]
     pub fn f32_const(alloc: A, value: Ieee32) -> R<Self> {
         Ok(ConstExpr::of(alloc, First::F32Const(value)))
     }
@@ -180,6 +195,7 @@ impl<A: Allocator> ConstExpr<A> {
     /// ensures stores { IfOk result (Stores (Instruction.F64Const value) []) }
     /// ensures memory { result ≢ Err TooLong }
     /// ```
+    #[inline]
     pub fn f64_const(alloc: A, value: Ieee64) -> R<Self> {
         Ok(ConstExpr::of(alloc, First::F64Const(value)))
     }
@@ -194,7 +210,7 @@ impl<A: Allocator> ConstExpr<A> {
     /// ```
     pub fn v128_const(alloc: A, value: i128) -> R<Self> {
         let bytes = Vec::with_capacity(alloc, VECTOR_BYTES)?;
-        ConstExpr { first: None, bytes }.with_v128_const(value)
+        ConstExpr::stored(bytes).with_v128_const(value)
     }
 
     /// This, and then `GlobalGet`.
@@ -205,6 +221,7 @@ impl<A: Allocator> ConstExpr<A> {
     /// ensures stores { IfOk result (Stores (Instruction.GlobalGet index) self) }
     /// ensures memory { result ≢ Err TooLong }
     /// ```
+    #[inline]
     pub fn with_global_get(mut self, index: u32) -> R<Self> {
         InstructionSink::new(&mut self.bytes).global_get(index)?;
         Ok(self)
@@ -218,6 +235,7 @@ impl<A: Allocator> ConstExpr<A> {
     /// ensures stores { IfOk result (Stores (Instruction.RefNull ty) self) }
     /// ensures memory { result ≢ Err TooLong }
     /// ```
+    #[inline]
     pub fn with_ref_null(mut self, ty: HeapType) -> R<Self> {
         InstructionSink::new(&mut self.bytes).ref_null(ty)?;
         Ok(self)
@@ -231,6 +249,7 @@ impl<A: Allocator> ConstExpr<A> {
     /// ensures stores { IfOk result (Stores (Instruction.RefFunc function_index) self) }
     /// ensures memory { result ≢ Err TooLong }
     /// ```
+    #[inline]
     pub fn with_ref_func(mut self, function_index: u32) -> R<Self> {
         InstructionSink::new(&mut self.bytes).ref_func(function_index)?;
         Ok(self)
@@ -244,6 +263,7 @@ impl<A: Allocator> ConstExpr<A> {
     /// ensures stores { IfOk result (Stores (Instruction.I32Const value) self) }
     /// ensures memory { result ≢ Err TooLong }
     /// ```
+    #[inline]
     pub fn with_i32_const(mut self, value: i32) -> R<Self> {
         InstructionSink::new(&mut self.bytes).i32_const(value)?;
         Ok(self)
@@ -257,6 +277,7 @@ impl<A: Allocator> ConstExpr<A> {
     /// ensures stores { IfOk result (Stores (Instruction.I64Const value) self) }
     /// ensures memory { result ≢ Err TooLong }
     /// ```
+    #[inline]
     pub fn with_i64_const(mut self, value: i64) -> R<Self> {
         InstructionSink::new(&mut self.bytes).i64_const(value)?;
         Ok(self)
@@ -270,6 +291,7 @@ impl<A: Allocator> ConstExpr<A> {
     /// ensures stores { IfOk result (Stores (Instruction.F32Const value) self) }
     /// ensures memory { result ≢ Err TooLong }
     /// ```
+    #[inline]
     pub fn with_f32_const(mut self, value: Ieee32) -> R<Self> {
         InstructionSink::new(&mut self.bytes).f32_const(value)?;
         Ok(self)
@@ -283,6 +305,7 @@ impl<A: Allocator> ConstExpr<A> {
     /// ensures stores { IfOk result (Stores (Instruction.F64Const value) self) }
     /// ensures memory { result ≢ Err TooLong }
     /// ```
+    #[inline]
     pub fn with_f64_const(mut self, value: Ieee64) -> R<Self> {
         InstructionSink::new(&mut self.bytes).f64_const(value)?;
         Ok(self)
@@ -296,6 +319,7 @@ impl<A: Allocator> ConstExpr<A> {
     /// ensures stores { IfOk result (Stores (Instruction.VectorImmediate (VectorImmediate.V128Const value)) self) }
     /// ensures memory { result ≢ Err TooLong }
     /// ```
+    #[inline]
     pub fn with_v128_const(mut self, value: i128) -> R<Self> {
         InstructionSink::new(&mut self.bytes).v128_const(value)?;
         Ok(self)
@@ -309,6 +333,7 @@ impl<A: Allocator> ConstExpr<A> {
     /// ensures stores { IfOk result (Stores (Instruction.Numeric Numeric.I32Add) self) }
     /// ensures memory { result ≢ Err TooLong }
     /// ```
+    #[inline]
     pub fn with_i32_add(mut self) -> R<Self> {
         InstructionSink::new(&mut self.bytes).i32_add()?;
         Ok(self)
@@ -322,6 +347,7 @@ impl<A: Allocator> ConstExpr<A> {
     /// ensures stores { IfOk result (Stores (Instruction.Numeric Numeric.I32Sub) self) }
     /// ensures memory { result ≢ Err TooLong }
     /// ```
+    #[inline]
     pub fn with_i32_sub(mut self) -> R<Self> {
         InstructionSink::new(&mut self.bytes).i32_sub()?;
         Ok(self)
@@ -335,6 +361,7 @@ impl<A: Allocator> ConstExpr<A> {
     /// ensures stores { IfOk result (Stores (Instruction.Numeric Numeric.I32Mul) self) }
     /// ensures memory { result ≢ Err TooLong }
     /// ```
+    #[inline]
     pub fn with_i32_mul(mut self) -> R<Self> {
         InstructionSink::new(&mut self.bytes).i32_mul()?;
         Ok(self)
@@ -348,6 +375,7 @@ impl<A: Allocator> ConstExpr<A> {
     /// ensures stores { IfOk result (Stores (Instruction.Numeric Numeric.I64Add) self) }
     /// ensures memory { result ≢ Err TooLong }
     /// ```
+    #[inline]
     pub fn with_i64_add(mut self) -> R<Self> {
         InstructionSink::new(&mut self.bytes).i64_add()?;
         Ok(self)
@@ -361,6 +389,7 @@ impl<A: Allocator> ConstExpr<A> {
     /// ensures stores { IfOk result (Stores (Instruction.Numeric Numeric.I64Sub) self) }
     /// ensures memory { result ≢ Err TooLong }
     /// ```
+    #[inline]
     pub fn with_i64_sub(mut self) -> R<Self> {
         InstructionSink::new(&mut self.bytes).i64_sub()?;
         Ok(self)
@@ -374,6 +403,7 @@ impl<A: Allocator> ConstExpr<A> {
     /// ensures stores { IfOk result (Stores (Instruction.Numeric Numeric.I64Mul) self) }
     /// ensures memory { result ≢ Err TooLong }
     /// ```
+    #[inline]
     pub fn with_i64_mul(mut self) -> R<Self> {
         InstructionSink::new(&mut self.bytes).i64_mul()?;
         Ok(self)
@@ -401,7 +431,7 @@ impl<A: Allocator> ConstExpr<A> {
 /// ```text
 /// ensures { IsRefFunc bytes.now result }
 /// ```
-fn function_at_front(bytes: &[u8]) -> Option<u32> {
+pub(crate) fn function_at_front(bytes: &[u8]) -> Option<u32> {
     let [op, rest @ ..] = bytes else {
         return None;
     };
@@ -460,7 +490,7 @@ impl<A: Allocator + Copy> ConstExpr<A> {
 }
 
 /// Bytes that are stored, as a part of a layout.
-struct Stored<'a>(&'a [u8]);
+pub(crate) struct Stored<'a>(pub(crate) &'a [u8]);
 
 /// The bytes as they are.
 ///
@@ -471,6 +501,7 @@ struct Stored<'a>(&'a [u8]);
 /// fits = { λ _. ⊤ }
 /// ```
 impl Encode for Stored<'_> {
+    #[inline]
     fn encode<A: Sink>(&self, sink: &mut A) -> R<()> {
         sink.extend_from_slice(self.0)?;
         Ok(())
@@ -478,7 +509,7 @@ impl Encode for Stored<'_> {
 }
 
 /// The byte of `End`.
-const END: u8 = 0x0B;
+pub(crate) const END: u8 = 0x0B;
 
 /// The stored bytes, and `End`.
 ///
@@ -490,6 +521,7 @@ const END: u8 = 0x0B;
 /// reading = { λ e. ReadsBack expression (StoresInstructions e) (expression_text e) }
 /// ```
 impl<A: Allocator> Encode for ConstExpr<A> {
+    #[inline]
     fn encode<B: Sink>(&self, sink: &mut B) -> R<()> {
         (Optional(self.first), Stored(&self.bytes), END).encode(sink)
     }

@@ -44,6 +44,7 @@ impl First {
 /// fits = { λ _. ⊤ }
 /// ```
 impl Encode for First {
+    #[inline]
     fn encode<A: Sink>(&self, sink: &mut A) -> R<()> {
         match *self {
             First::GlobalGet(index) => (0x23u8, index).encode(sink),

@@ -228,7 +228,7 @@ impl<A: Allocator> Buffer for Function<A> {
 /// ensures err { OnErr result (sink.new.items ≡ sink.old.items) }
 /// ensures memory { result ≢ Err TooLong }
 /// ```
-pub(in crate::code) fn append_all<I: IntoIterator<Item = u8>, A: Sink>(
+pub(crate) fn append_all<I: IntoIterator<Item = u8>, A: Sink>(
     sink: &mut A,
     bytes: I,
 ) -> R<()> {

@@ -18,7 +18,7 @@ use crate::base::{R, Refused, ValType};
 /// ```text
 /// ensures { GathersRuns I.into_iter_gives I.IntoIter.next_gives types result }
 /// ```
-pub(in crate::code) fn runs_of<I: IntoIterator<Item = ValType>, A: Allocator>(
+pub(crate) fn runs_of<I: IntoIterator<Item = ValType>, A: Allocator>(
     alloc: A,
     types: I,
 ) -> R<Vec<(u32, ValType), A>> {

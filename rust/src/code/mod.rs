@@ -2,12 +2,12 @@
 //! Constant expressions, function bodies and the code section of a WebAssembly module, by the core specification, "Binary Format",
 //! "Instructions" and "Modules".
 
-mod code_section;
-mod const_expr;
-mod first;
-mod function;
+pub(crate) mod code_section;
+pub(crate) mod const_expr;
+pub(crate) mod first;
+pub(crate) mod function;
 pub mod laws;
-mod locals;
+pub(crate) mod locals;
 
 pub use code_section::CodeSection;
 pub use const_expr::ConstExpr;

@@ -396,7 +396,7 @@ pub fn read_instances<'a, A: Allocator + Copy>(
 /// ensures front { IsFrontOf out.old.items out.new.items }
 /// ensures too_long { HasEncoding marked_name name.now → result ≢ Err TooLong }
 /// ```
-pub(in crate::custom) fn append_marked<B: Sink>(name: &str, out: &mut B) -> R<()> {
+pub(crate) fn append_marked<B: Sink>(name: &str, out: &mut B) -> R<()> {
     0x00u8.encode(out)?;
     name.write_minimal(out)
 }

@@ -17,7 +17,7 @@ use crate::reader::base::{ReadFault, Readable};
 /// format: { Mode → List ℕ → Said → Type 0 }
 /// view: { T → Said }
 /// ```
-pub(in crate::custom) trait ItemsAs<T>: CustomKind {
+pub(crate) trait ItemsAs<T>: CustomKind {
     // The item without where it lies in memory.
 
     // What bytes spell.
@@ -44,7 +44,7 @@ pub(in crate::custom) trait ItemsAs<T>: CustomKind {
 }
 
 /// A kind whose items are read as a `T`.
-pub(in crate::custom) trait ReadsItems<'a, T, A: Allocator + Copy>: ItemsAs<T> {
+pub(crate) trait ReadsItems<'a, T, A: Allocator + Copy>: ItemsAs<T> {
     /// The item at the front, its numbers padded or not, and the bytes after it.
     ///
     /// # Proved
@@ -87,7 +87,7 @@ fn read_items<'a, K: ReadsItems<'a, T, A>, T, A: Allocator + Copy>(
 /// ensures found { IfOk result (λ x. counted_payload K.name K.format wide bytes.now (map K.view x.items)) }
 /// ensures none { IfErr result (λ e. e ≢ Memory → FillsNothing (counted_payload K.name K.format) bytes.now) }
 /// ```
-pub(in crate::custom) fn read_counted<'a, K: ReadsItems<'a, T, A>, T, A: Allocator + Copy>(
+pub(crate) fn read_counted<'a, K: ReadsItems<'a, T, A>, T, A: Allocator + Copy>(
     bytes: &'a [u8],
     alloc: A,
 ) -> Result<Vec<T, A>, ReadFault> {
@@ -141,7 +141,7 @@ fn write_counted<K: ItemsAs<T>, T, B: Sink>(items: &[T], out: &mut B) -> R<()> {
 /// ensures err { OnErr result (out.new.items ≡ out.old.items) }
 /// ensures too_long { HasEncoding (counted_payload K.name K.format) (map K.view items.now) → result ≢ Err TooLong }
 /// ```
-pub(in crate::custom) fn append_counted<K: ItemsAs<T>, T, B: Sink>(
+pub(crate) fn append_counted<K: ItemsAs<T>, T, B: Sink>(
     items: &[T],
     out: &mut B,
 ) -> R<()> {

@@ -21,7 +21,7 @@ use crate::base::{CowSlice, CowStr, Encode, R, Refused, Section, SectionId, begi
 ///     → IsOk result }
 /// ensures capacity { vec_capacity sink.old ≤ vec_capacity sink.new }
 /// ```
-pub(in crate::custom) fn begin_custom<A: Sink>(sink: &mut A, name: &str, size: usize) -> R<()> {
+pub(crate) fn begin_custom<A: Sink>(sink: &mut A, name: &str, size: usize) -> R<()> {
     let Ok(short) = u32::try_from(name.len()) else {
         return Err(Refused::TooLong);
     };

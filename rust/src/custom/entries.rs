@@ -96,7 +96,7 @@ impl<K, A: Allocator> CustomEntries<K, A> {
     /// ```text
     /// ensures { Adds (T.text given.now) (T.fits given.now) self.old self.new result }
     /// ```
-    pub(in crate::custom) fn add_record<T: Encode>(&mut self, given: &T) -> R<()> {
+    pub(crate) fn add_record<T: Encode>(&mut self, given: &T) -> R<()> {
         self.pieces.add_encoded(given)
     }
 
@@ -113,7 +113,7 @@ impl<K, A: Allocator> CustomEntries<K, A> {
     /// ```text
     /// ensures { AddsOnce (T.gives item) (T.fits item) self.old self.new result }
     /// ```
-    pub(in crate::custom) fn add_once<T: EncodeOnce>(&mut self, item: T) -> R<()> {
+    pub(crate) fn add_once<T: EncodeOnce>(&mut self, item: T) -> R<()> {
         self.pieces.add_once(item)
     }
 
@@ -124,7 +124,7 @@ impl<K, A: Allocator> CustomEntries<K, A> {
     /// ```text
     /// ensures { result.now ≡ joined self.now }
     /// ```
-    pub(in crate::custom) fn content(&self) -> &[u8] {
+    pub(crate) fn content(&self) -> &[u8] {
         self.pieces.bytes()
     }
 }
@@ -169,7 +169,7 @@ impl<K: CustomKind, A: Allocator> CustomEntries<K, A> {
     /// ensures same { IfOk result (λ s. (text_of s.name ≡ K.name) × (items_of s.bytes ≡ entries_text K.front K.counted self.now)) }
     /// ensures memory { result ≢ Err TooLong }
     /// ```
-    pub(in crate::custom) fn owned<B: Allocator>(&self, alloc: B) -> R<CustomSection<'_, B>> {
+    pub(crate) fn owned<B: Allocator>(&self, alloc: B) -> R<CustomSection<'_, B>> {
         let data = data_of(alloc, K::front(), K::counted(), &self.pieces)?;
         Ok(CustomSection {
             name: CowStr::Borrowed(K::name()),
@@ -245,7 +245,7 @@ fn data_size<B: Allocator>(front: &[u8], count: Count, pieces: &Pieces<B>) -> us
 /// ensures few { length pieces.now ≤ longest }
 /// ensures too_many { longest < length (frame_text name.now) + length (entries_text front.now counted pieces.now) → result ≡ Err TooLong }
 /// ```
-pub(in crate::custom) fn encode_entries<A: Sink, B: Allocator>(
+pub(crate) fn encode_entries<A: Sink, B: Allocator>(
     sink: &mut A,
     name: &str,
     front: &[u8],
@@ -272,7 +272,7 @@ pub(in crate::custom) fn encode_entries<A: Sink, B: Allocator>(
 /// ensures same { IfOk result (λ v. v.items ≡ entries_text front.now counted pieces.now) }
 /// ensures memory { result ≢ Err TooLong }
 /// ```
-pub(in crate::custom) fn data_of<A: Allocator, B: Allocator>(
+pub(crate) fn data_of<A: Allocator, B: Allocator>(
     alloc: A,
     front: &[u8],
     counted: bool,

@@ -77,7 +77,7 @@ impl<K: ListKind, A: Allocator> CountedList<K, A> {
     /// ```text
     /// ensures { Adds (T.text given.now) (T.fits given.now) self.old self.new result }
     /// ```
-    pub(in crate::custom) fn add_record<T: Encode>(&mut self, given: &T) -> R<()> {
+    pub(crate) fn add_record<T: Encode>(&mut self, given: &T) -> R<()> {
         self.pieces.add_encoded(given)?;
         Ok(())
     }
@@ -127,7 +127,7 @@ impl<K: ListKind, A: Allocator + Copy> CountedList<K, A> {
 
 /// The vector of the entries of a list, as a part of an encoding.
 #[derive(Clone, Copy)]
-pub(in crate::custom) struct Entries<'a, K: ListKind, A: Allocator>(pub &'a CountedList<K, A>);
+pub(crate) struct Entries<'a, K: ListKind, A: Allocator>(pub &'a CountedList<K, A>);
 
 /// # Defined
 ///

@@ -12,7 +12,7 @@ use crate::reader::base::{ReadFault, Readable, Spelled};
 /// ensures found { IfOk result (λ x. Reads (prefixed (mark ∷ []) T.format) wide bytes.now (T.view x.0) x.1.now) }
 /// ensures none { IfErr result (λ e. e ≢ Memory → ReadsNothing (prefixed (mark ∷ []) T.format) wide bytes.now) }
 /// ```
-pub(in crate::custom) fn read_marked<'a, T: Readable<'a, A>, A: Allocator + Copy>(
+pub(crate) fn read_marked<'a, T: Readable<'a, A>, A: Allocator + Copy>(
     mark: u8,
     bytes: &'a [u8],
     alloc: A,
@@ -27,7 +27,7 @@ pub(in crate::custom) fn read_marked<'a, T: Readable<'a, A>, A: Allocator + Copy
 
 /// The name of a process or a module: the byte 00, and a name.
 #[derive(Clone, Copy, Debug)]
-pub(in crate::custom) struct MarkedName<'a>(pub &'a str);
+pub(crate) struct MarkedName<'a>(pub &'a str);
 
 /// # Defined
 ///

@@ -12,7 +12,7 @@ use crate::reader::base::{ReadFault, Readable};
 /// ensures found { IfOk result (λ rest. Reads (just name.now name_format) wide bytes.now tt rest.now) }
 /// ensures none { IfErr result (λ e. e ≢ Memory → ReadsNothing (just name.now name_format) wide bytes.now) }
 /// ```
-pub(in crate::custom) fn after_name<'a, A: Allocator + Copy>(
+pub(crate) fn after_name<'a, A: Allocator + Copy>(
     name: &str,
     bytes: &'a [u8],
     alloc: A,

@@ -5,7 +5,7 @@ use crate::vec::Sink;
 use crate::base::{Encode, R, begin_frame, encoding_size};
 
 /// What a subsection holds: its size is told before it is written.
-pub(in crate::custom) trait Content: Encode {
+pub(crate) trait Content: Encode {
     /// The number of its bytes, where that can be spelled.
     ///
     /// # Proved
@@ -30,7 +30,7 @@ impl Content for &str {
 
 /// Bytes that are spelled already.
 #[derive(Clone, Copy)]
-pub(in crate::custom) struct RawContent<'a>(pub &'a [u8]);
+pub(crate) struct RawContent<'a>(pub &'a [u8]);
 
 /// The bytes.
 ///
@@ -90,7 +90,7 @@ fn reserve_subsection<A: Sink>(sink: &mut A, size: usize) -> R<()> {
 }
 
 /// A subsection: an id, and what is lent.
-pub(in crate::custom) struct Subsection<'a, T> {
+pub(crate) struct Subsection<'a, T> {
     pub id: u8,
     pub content: &'a T,
 }

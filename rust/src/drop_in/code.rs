@@ -1,11 +1,10 @@
-//! Constant expressions, functions, and what instructions are written with.
-use super::debug::debugged;
-use super::{Encode, Instruction, copied, counted, default, done, encoded, section, taken};
+//! Functions, the code section, and what instructions are written with.
+use super::entries::{Entries, Growing, append, append_once};
+use super::{Encode, Instruction, done, listed};
 use crate::alloc::Global;
-use crate::base::{self, EncodeOnce, HeapType, R, ValType, vec_of};
-use crate::immediates::{Ieee32, Ieee64};
+use crate::base::{self, R, ValType, vec_of};
+use crate::code::code_section::RawBody;
 use crate::{code, insn};
-use std::fmt;
 
 /// Writes instructions behind the bytes of a list, with a named call for each.
 ///
@@ -26,16 +25,17 @@ impl<'a> InstructionSink<'a> {
     #[inline]
     pub(super) fn made(
         &mut self,
-        call: impl FnOnce(&mut insn::InstructionSink<'_, Vec<u8>>) -> R<()>,
+        call: impl FnOnce(&mut insn::InstructionSink<'_, Growing<'_>>) -> R<()>,
     ) -> &mut Self {
-        done(call(&mut insn::InstructionSink::new(self.sink)));
+        let mut sink = Growing(self.sink);
+        done(call(&mut insn::InstructionSink::new(&mut sink)));
         self
     }
 
     /// Appends a value by its proved `encode`: an op and its parts, where there is no proved call.
     #[inline]
     pub(super) fn emit<T: base::Encode>(&mut self, parts: &T) -> &mut Self {
-        done(parts.encode(self.sink));
+        append(parts, self.sink);
         self
     }
 
@@ -45,10 +45,13 @@ impl<'a> InstructionSink<'a> {
         T: base::Encode,
         V: IntoIterator<Item: base::Encode, IntoIter: ExactSizeIterator>,
     {
-        done((parts, done(vec_of(list))).encode_once(self.sink));
+        append_once((parts, done(vec_of(list))), self.sink);
         self
     }
 }
+
+/// The bytes that a body has room for at first.
+const BODY: usize = 16;
 
 /// The body of a function: runs of locals, and instructions. Its bytes are those of the proved [`code::Function`], from which it can be made.
 ///
@@ -83,7 +86,9 @@ impl Function {
         L: IntoIterator<Item = (u32, ValType)>,
         L::IntoIter: ExactSizeIterator,
     {
-        done(code::Function::new(Global, locals)).into()
+        let mut bytes = Vec::with_capacity(BODY);
+        append_once(done(vec_of(locals)), &mut bytes);
+        Function { bytes }
     }
 
     /// A body of one local for each type, in as few runs as there can be.
@@ -130,122 +135,32 @@ impl Function {
 /// The frame of the body.
 impl Encode for Function {
     fn encode(&self, sink: &mut Vec<u8>) {
-        done(base::encode_frame(sink, &self.bytes))
+        done(base::encode_frame(&mut Growing(sink), &self.bytes))
     }
 }
 
-/// The code section, over the proved [`code::CodeSection`].
-pub struct CodeSection(code::CodeSection);
+/// The code section.
+#[derive(Clone)]
+pub struct CodeSection(Entries);
 
-default!(CodeSection);
-taken!(CodeSection of code, ConstExpr of code);
-copied!(CodeSection);
-counted!(CodeSection);
-section!(CodeSection of Code);
-debugged!(CodeSection after [Number Number] num_added);
+listed!(CodeSection of code Code);
 
 impl CodeSection {
-    /// No bodies.
-    pub fn new() -> Self {
-        CodeSection(code::CodeSection::new(Global))
-    }
-
     /// How many bytes all bodies have, with their sizes, and without the number of bodies.
     pub fn byte_len(&self) -> usize {
-        self.0.byte_len()
+        self.0.bytes.len()
     }
 
     /// Appends a body.
+    #[inline]
     pub fn function(&mut self, func: &Function) -> &mut Self {
         self.raw(&func.bytes)
     }
 
     /// Appends a body by its bytes, without their size.
+    #[inline]
     pub fn raw(&mut self, data: &[u8]) -> &mut Self {
-        done(self.0.raw(data));
+        self.0.add(&RawBody { bytes: data });
         self
-    }
-}
-
-/// An expression that gives a constant, over the proved [`code::ConstExpr`].
-pub struct ConstExpr(pub(super) code::ConstExpr);
-
-copied!(ConstExpr);
-encoded!(ConstExpr);
-
-impl fmt::Debug for ConstExpr {
-    fn fmt(&self, f: &mut fmt::Formatter<'_>) -> fmt::Result {
-        let mut bytes = Vec::new();
-        self.encode(&mut bytes);
-        let _end = bytes.pop();
-        f.debug_struct("ConstExpr").field("bytes", &bytes).finish()
-    }
-}
-
-/// Writes the calls of `ConstExpr` that begin with an instruction or append one.
-macro_rules! instructions {
-    ($($new:ident $with:ident ($($name:ident: $type:ty)?))*) => {
-        $(
-            #[doc = concat!("The instruction `", stringify!($new), "`.")]
-            pub fn $new($($name: $type)?) -> Self {
-                ConstExpr(done(code::ConstExpr::$new(Global, $($name)?)))
-            }
-
-            #[doc = concat!("With the instruction `", stringify!($new), "` behind it.")]
-            pub fn $with(self, $($name: $type)?) -> Self {
-                ConstExpr(done(self.0.$with($($name)?)))
-            }
-        )*
-    };
-}
-
-/// Writes the calls of `ConstExpr` that append an operation.
-macro_rules! operations {
-    ($($with:ident)*) => {
-        $(
-            #[doc = concat!("`", stringify!($with), "`: with this operation behind it.")]
-            pub fn $with(self) -> Self {
-                ConstExpr(done(self.0.$with()))
-            }
-        )*
-    };
-}
-
-impl ConstExpr {
-    /// No instructions.
-    pub fn empty() -> Self {
-        ConstExpr(code::ConstExpr::empty(Global))
-    }
-
-    /// The instructions that these bytes spell, without an `end`.
-    pub fn raw(bytes: impl IntoIterator<Item = u8>) -> Self {
-        ConstExpr(done(code::ConstExpr::raw(Global, bytes)))
-    }
-
-    /// These instructions.
-    pub fn extended<'a>(insns: impl IntoIterator<Item = Instruction<'a>>) -> Self {
-        let mut bytes = Vec::new();
-        for instruction in insns {
-            instruction.encode(&mut bytes);
-        }
-        ConstExpr::raw(bytes)
-    }
-
-    instructions! {
-        global_get with_global_get(index: u32)
-        ref_null with_ref_null(ty: HeapType)
-        ref_func with_ref_func(func: u32)
-        i32_const with_i32_const(value: i32)
-        i64_const with_i64_const(value: i64)
-        f32_const with_f32_const(value: Ieee32)
-        f64_const with_f64_const(value: Ieee64)
-        v128_const with_v128_const(value: i128)
-    }
-
-    operations! { with_i32_add with_i32_sub with_i32_mul with_i64_add with_i64_sub with_i64_mul }
-
-    /// The index of the function where the expression begins with `ref.func`.
-    pub fn get_ref_func(&self) -> Option<u32> {
-        self.0.get_ref_func()
     }
 }

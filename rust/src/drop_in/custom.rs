@@ -1,11 +1,12 @@
 //! The custom sections.
+use super::entries::append;
 use super::debug::{self, Before, debugged};
 use super::{
     BranchHint, CoreDumpValue, DataSymbolDefinition, Encode, Section, SectionId, copied, counted,
     default, done, encoded, section, taken,
 };
 use crate::alloc::Global;
-use crate::base::{self, CowSlice, CowStr};
+use crate::base::{CowSlice, CowStr};
 use crate::custom;
 use std::borrow::Cow;
 use std::fmt;
@@ -25,7 +26,7 @@ impl Encode for CustomSection<'_> {
             name: CowStr::Borrowed(&self.name),
             bytes: CowSlice::Borrowed(&self.data),
         };
-        done(base::Encode::encode(&section, sink))
+        append(&section, sink)
     }
 }
 

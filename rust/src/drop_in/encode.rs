@@ -1,4 +1,5 @@
 //! Values and sections as bytes.
+use super::entries::{Growing, append};
 use super::{SectionId, done};
 use crate::base;
 use crate::base::{AbstractHeapType, HeapType, RefType, ValType};
@@ -38,7 +39,7 @@ macro_rules! hands_on {
             impl Encode for $type {
                 #[inline]
                 fn encode(&self, sink: &mut Vec<u8>) {
-                    done(base::Encode::encode(self, sink))
+                    append(self, sink)
                 }
             }
         )*
@@ -55,7 +56,7 @@ hands_on! { DataCountSection StartSection RawCustomSection<'_> }
 impl Encode for str {
     #[inline]
     fn encode(&self, sink: &mut Vec<u8>) {
-        done(base::Encode::encode(&self, sink))
+        append(&self, sink)
     }
 }
 
@@ -112,7 +113,7 @@ impl Section for RawCustomSection<'_> {
 
 /// Appends the frame of a count and these bytes.
 pub fn encode_section(sink: &mut Vec<u8>, count: u32, bytes: &[u8]) {
-    done(base::encode_section(sink, count, bytes))
+    done(base::encode_section(&mut Growing(sink), count, bytes))
 }
 
 /// Appends the vector of the elements: the length that they tell, and each of them. Where the length is too long, no element is asked for.

@@ -1,5 +1,5 @@
 //! The import section, and the types of imported items.
-use super::{ImportSection, TagType, by_proved, done, handed};
+use super::{ImportSection, TagType, by_proved, handed};
 use crate::base::CowSlice;
 use crate::sections;
 use crate::sections::{GlobalType, MemoryType, TableType};
@@ -93,7 +93,7 @@ impl ImportSection {
     ///
     /// Panics if the length of a name, the number of items or the number of entries would pass 4294967295.
     pub fn imports<'a>(&mut self, imports: Imports<'a>) -> &mut Self {
-        done(self.0.imports(imports.proved()));
+        self.0.add(&imports.proved());
         self
     }
 
@@ -104,7 +104,8 @@ impl ImportSection {
     /// Panics if the length of a name or the number of entries would pass 4294967295.
     #[inline]
     pub fn import(&mut self, module: &str, name: &str, ty: impl Into<EntityType>) -> &mut Self {
-        done(self.0.import(module, name, ty.into().into()));
+        let ty = ty.into().into();
+        self.0.add(&sections::Import { module, name, ty });
         self
     }
 }

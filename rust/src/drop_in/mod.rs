@@ -13,9 +13,11 @@
 #[rustfmt::skip]
 mod calls;
 mod code;
+mod const_expr;
 mod custom;
 mod debug;
 mod encode;
+mod entries;
 mod imports;
 #[rustfmt::skip]
 mod instruction;
@@ -35,7 +37,8 @@ pub use crate::immediates::{
 };
 pub use crate::sections::{DataCountSection, GlobalType, MemoryType, StartSection, TableType};
 pub use crate::types::{ArrayType, ContType, FieldType, StorageType};
-pub use code::{CodeSection, ConstExpr, Function, InstructionSink};
+pub use code::{CodeSection, Function, InstructionSink};
+pub use const_expr::ConstExpr;
 pub use custom::{
     BranchHints, CoreDumpInstancesSection, CoreDumpModulesSection, CoreDumpSection,
     CoreDumpStackSection, CustomSection, IndirectNameMap, LinkingSection, NameMap, NameSection,
@@ -133,7 +136,7 @@ macro_rules! encoded {
             impl $crate::drop_in::Encode for $name {
                 #[inline]
                 fn encode(&self, sink: &mut Vec<u8>) {
-                    $crate::drop_in::done($crate::base::Encode::encode(&self.0, sink))
+                    $crate::drop_in::entries::append(&self.0, sink)
                 }
             }
         )*
@@ -148,7 +151,7 @@ macro_rules! by_proved {
                 #[inline]
                 fn encode(&self, sink: &mut Vec<u8>) {
                     let proved = $crate::$module::$name::from(self.clone());
-                    $crate::drop_in::done($crate::base::Encode::encode(&proved, sink))
+                    $crate::drop_in::entries::append(&proved, sink)
                 }
             }
         )*
@@ -171,6 +174,67 @@ macro_rules! section {
     };
 }
 
+/// Writes what a section of entries has in common with others: no entries at first, their number,
+/// its bytes, and that it can be made of the proved section of its name.
+macro_rules! listed {
+    ($name:ident of $module:ident $id:ident) => {
+        impl $name {
+            /// No entries.
+            pub const fn new() -> Self {
+                $name($crate::drop_in::entries::Entries::new())
+            }
+
+            /// How many entries there are.
+            #[inline]
+            pub fn len(&self) -> u32 {
+                self.0.count
+            }
+
+            /// There are no entries.
+            #[inline]
+            pub fn is_empty(&self) -> bool {
+                self.0.count == 0
+            }
+        }
+
+        impl Default for $name {
+            fn default() -> Self {
+                $name::new()
+            }
+        }
+
+        #[doc = concat!("What the calls of [`", stringify!($module), "::", stringify!($name), "`](crate::", stringify!($module), "::", stringify!($name), ") have built. The entries are copied.")]
+        impl From<$crate::$module::$name> for $name {
+            fn from(built: $crate::$module::$name) -> Self {
+                $name($crate::drop_in::entries::Entries::taken(built.len(), |i| built.piece(i)))
+            }
+        }
+
+        impl $crate::drop_in::Encode for $name {
+            #[inline]
+            fn encode(&self, sink: &mut Vec<u8>) {
+                self.0.encode(sink)
+            }
+        }
+
+        impl $crate::drop_in::Section for $name {
+            #[inline]
+            fn id(&self) -> u8 {
+                $crate::SectionId::$id.into()
+            }
+        }
+
+        impl std::fmt::Debug for $name {
+            fn fmt(&self, f: &mut std::fmt::Formatter<'_>) -> std::fmt::Result {
+                f.debug_struct(stringify!($name))
+                    .field("bytes", &self.0.bytes.0)
+                    .field("num_added", &self.0.count)
+                    .finish()
+            }
+        }
+    };
+}
+
 /// Writes the number of entries of what stands over something proved.
 macro_rules! counted {
     ($($name:ident),*) => {
@@ -190,4 +254,4 @@ macro_rules! counted {
     };
 }
 
-use {by_proved, copied, counted, default, encoded, section, taken};
+use {by_proved, copied, counted, default, encoded, listed, section, taken};

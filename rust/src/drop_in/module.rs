@@ -1,4 +1,5 @@
 //! Modules, and sections whose bytes are given.
+use super::entries::append;
 use super::{Encode, Section, default, done};
 use crate::alloc::Global;
 use crate::base;
@@ -82,7 +83,7 @@ impl<'a> RawSection<'a> {
 
 impl Encode for RawSection<'_> {
     fn encode(&self, sink: &mut Vec<u8>) {
-        done(base::Encode::encode(&self.proved(), sink))
+        append(&self.proved(), sink)
     }
 }
 

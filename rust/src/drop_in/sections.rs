@@ -1,35 +1,22 @@
 //! The sections of counted items.
-use super::debug::debugged;
-use super::{
-    ConstExpr, ExportKind, TagType, copied, counted, default, done, handed, section, taken,
-};
-use crate::alloc::Global;
-use crate::base::{CowSlice, RefType};
+use super::entries::Entries;
+use super::{ConstExpr, ExportKind, TagType, done, handed, listed};
+use crate::base::{CowSlice, Encode, Lent, RefType, bytes_of};
 use crate::sections;
-use crate::sections::{GlobalType, MemoryType, TableType};
+use crate::sections::data::{ACTIVE, ACTIVE_IN_MEMORY, PASSIVE};
+use crate::sections::table::BEFORE_INIT;
+use crate::sections::{Export, GlobalType, MemoryType, TableType};
 use std::borrow::Cow;
 
-/// Writes a section over the proved one of its name.
+/// Writes a section whose entries are encoded by the proved calls.
 macro_rules! sections {
     ($($(#[$doc:meta])* $name:ident of $id:ident)*) => {
         $(
             $(#[$doc])*
-            #[doc = concat!("\n\nOver the proved [`", stringify!($name), "`](crate::sections::", stringify!($name), ").")]
-            pub struct $name(pub(super) sections::$name);
+            #[derive(Clone)]
+            pub struct $name(pub(super) Entries);
 
-            impl $name {
-                /// No entries.
-                pub fn new() -> Self {
-                    $name(sections::$name::new(Global))
-                }
-            }
-
-            default!($name);
-            taken!($name of sections);
-            copied!($name);
-            counted!($name);
-            section!($name of $id);
-            debugged!($name after [Number Number] num_added);
+            listed!($name of sections $id);
         )*
     };
 }
@@ -59,51 +46,55 @@ impl FunctionSection {
     /// Appends a function of this type.
     #[inline]
     pub fn function(&mut self, type_index: u32) -> &mut Self {
-        done(self.0.function(type_index));
+        self.0.add(&type_index);
         self
     }
 }
 
 impl TableSection {
     /// Appends a table.
+    #[inline]
     pub fn table(&mut self, table_type: TableType) -> &mut Self {
-        done(self.0.table(table_type));
+        self.0.add(&table_type);
         self
     }
 
     /// Appends a table whose elements begin as what the expression gives.
     pub fn table_with_init(&mut self, table_type: TableType, init: &ConstExpr) -> &mut Self {
-        done(self.0.table_with_init(table_type, &init.0));
+        self.0.add(&(BEFORE_INIT, table_type, Lent(init)));
         self
     }
 }
 
 impl MemorySection {
     /// Appends a memory.
+    #[inline]
     pub fn memory(&mut self, memory_type: MemoryType) -> &mut Self {
-        done(self.0.memory(memory_type));
+        self.0.add(&memory_type);
         self
     }
 }
 
 impl TagSection {
     /// Appends a tag.
+    #[inline]
     pub fn tag(&mut self, tag_type: TagType) -> &mut Self {
-        done(self.0.tag(tag_type.into()));
+        self.0.add(&sections::TagType::from(tag_type));
         self
     }
 }
 
 impl GlobalSection {
     /// Appends a global.
+    #[inline]
     pub fn global(&mut self, global_type: GlobalType, init_expr: &ConstExpr) -> &mut Self {
-        done(self.0.global(global_type, &init_expr.0));
+        self.0.add(&(global_type, Lent(init_expr)));
         self
     }
 
     /// Appends a global by its bytes.
     pub fn raw(&mut self, data: &[u8]) -> &mut Self {
-        done(self.0.raw(data));
+        self.0.add_bytes(data);
         self
     }
 }
@@ -112,7 +103,8 @@ impl ExportSection {
     /// Appends an export.
     #[inline]
     pub fn export(&mut self, name: &str, kind: ExportKind, index: u32) -> &mut Self {
-        done(self.0.export(name, kind.into(), index));
+        let kind = kind.into();
+        self.0.add(&Export { name, kind, index });
         self
     }
 }
@@ -151,30 +143,13 @@ pub struct ElementSegment<'a> {
     pub elements: Elements<'a>,
 }
 
-impl<'a> ElementSegment<'a> {
-    fn proved(self) -> sections::ElementSegment<'a> {
-        sections::ElementSegment {
-            mode: match self.mode {
-                ElementMode::Passive => sections::ElementMode::Passive,
-                ElementMode::Declared => sections::ElementMode::Declared,
-                ElementMode::Active { table, offset } => sections::ElementMode::Active {
-                    table,
-                    offset: &offset.0,
-                },
-            },
-            elements: self.elements.proved(),
-        }
-    }
-}
-
 impl<'a> Elements<'a> {
-    /// The elements for a proved call. A list of expressions that is borrowed is copied.
+    /// The elements for a proved call. A list of expressions is copied.
     fn proved(self) -> sections::Elements<'a> {
         match self {
             Elements::Functions(functions) => sections::Elements::Functions(handed(functions)),
             Elements::Expressions(ty, expressions) => {
-                let expressions = expressions.into_owned().into_iter();
-                let expressions: Vec<_> = expressions.map(|expression| expression.0).collect();
+                let expressions: Vec<_> = expressions.iter().map(ConstExpr::proved).collect();
                 sections::Elements::Expressions(ty, CowSlice::Owned(expressions.into()))
             }
         }
@@ -184,7 +159,18 @@ impl<'a> Elements<'a> {
 impl ElementSection {
     /// Appends a segment.
     pub fn segment<'a>(&mut self, segment: ElementSegment<'a>) -> &mut Self {
-        done(self.0.segment(segment.proved()));
+        let offset;
+        let mode = match segment.mode {
+            ElementMode::Passive => sections::ElementMode::Passive,
+            ElementMode::Declared => sections::ElementMode::Declared,
+            ElementMode::Active { table, offset: at } => {
+                offset = at.proved();
+                let offset = &offset;
+                sections::ElementMode::Active { table, offset }
+            }
+        };
+        let elements = segment.elements.proved();
+        self.0.add(&sections::ElementSegment { mode, elements });
         self
     }
 
@@ -222,7 +208,7 @@ impl ElementSection {
 
     /// Appends a segment by its bytes.
     pub fn raw(&mut self, raw_bytes: &[u8]) -> &mut Self {
-        done(self.0.raw(raw_bytes));
+        self.0.add_bytes(raw_bytes);
         self
     }
 }
@@ -272,8 +258,12 @@ impl DataSection {
         D: IntoIterator<Item = u8>,
         D::IntoIter: ExactSizeIterator,
     {
-        done(self.0.active(memory_index, &offset.0, data));
-        self
+        let offset = Lent(offset);
+        if memory_index == 0 {
+            self.with_bytes((ACTIVE, offset), data)
+        } else {
+            self.with_bytes((ACTIVE_IN_MEMORY, memory_index, offset), data)
+        }
     }
 
     /// Appends a passive segment.
@@ -282,13 +272,23 @@ impl DataSection {
         D: IntoIterator<Item = u8>,
         D::IntoIter: ExactSizeIterator,
     {
-        done(self.0.passive(data));
+        self.with_bytes(PASSIVE, data)
+    }
+
+    /// Appends a segment that begins so.
+    #[inline]
+    fn with_bytes<D>(&mut self, front: impl Encode, data: D) -> &mut Self
+    where
+        D: IntoIterator<Item = u8>,
+        D::IntoIter: ExactSizeIterator,
+    {
+        self.0.add_once((front, done(bytes_of(data))));
         self
     }
 
     /// Appends a segment by its bytes.
     pub fn raw(&mut self, already_encoded_data_segment: &[u8]) -> &mut Self {
-        done(self.0.raw(already_encoded_data_segment));
+        self.0.add_bytes(already_encoded_data_segment);
         self
     }
 }

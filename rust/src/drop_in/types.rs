@@ -1,9 +1,11 @@
 //! The type section, and the types that a module defines.
-use super::debug::debugged;
-use super::{by_proved, copied, counted, default, done, encoded, section, taken};
+use super::entries::Entries;
+use super::{by_proved, copied, done, encoded, listed, taken};
 use crate::alloc::Global;
-use crate::base::ValType;
+use crate::base::{ValType, vec_of};
 use crate::types;
+use crate::types::type_section::REC;
+use crate::types::types::{FUNC, STRUCT};
 use crate::types::{ArrayType, ContType, FieldType, StorageType};
 use std::fmt;
 use std::hash::{Hash, Hasher};
@@ -148,7 +150,7 @@ impl From<SubType> for types::SubType {
 
 by_proved! { types: StructType CompositeInnerType CompositeType SubType }
 
-/// The type section, over the proved [`types::TypeSection`].
+/// The type section.
 ///
 /// ```
 /// use dolzhytik::{TypeSection, ValType};
@@ -157,33 +159,25 @@ by_proved! { types: StructType CompositeInnerType CompositeType SubType }
 /// types.ty().function([ValType::I32, ValType::I32], [ValType::I64]);
 /// assert_eq!(types.len(), 1);
 /// ```
-pub struct TypeSection(types::TypeSection);
+#[derive(Clone)]
+pub struct TypeSection(Entries);
 
-default!(TypeSection);
-taken!(TypeSection of types);
-copied!(TypeSection);
-counted!(TypeSection);
-section!(TypeSection of Type);
-debugged!(TypeSection after [Number Number] num_added);
+listed!(TypeSection of types Type);
 
 impl TypeSection {
-    /// No types.
-    pub fn new() -> Self {
-        TypeSection(types::TypeSection::new(Global))
-    }
-
     /// The calls that append an entry: a type or a group. Nothing is appended, and nothing counted, until one of them is made.
     #[must_use = "an entry is appended by a call of what this answers"]
     pub fn ty(&mut self) -> CoreTypeEncoder<'_> {
-        CoreTypeEncoder(self.0.ty())
+        CoreTypeEncoder(&mut self.0)
     }
 }
 
 /// The calls that append an entry of a [`TypeSection`].
-pub struct CoreTypeEncoder<'a>(types::CoreTypeEncoder<'a>);
+pub struct CoreTypeEncoder<'a>(&'a mut Entries);
 
 impl CoreTypeEncoder<'_> {
     /// Appends the type of functions of these parameters and results.
+    #[inline]
     pub fn function<P, R>(self, params: P, results: R)
     where
         P: IntoIterator<Item = ValType>,
@@ -191,17 +185,23 @@ impl CoreTypeEncoder<'_> {
         R: IntoIterator<Item = ValType>,
         R::IntoIter: ExactSizeIterator,
     {
-        done(self.0.function(params, results))
+        let params = done(vec_of(params));
+        let results = done(vec_of(results));
+        self.0.add_once((FUNC, params, results))
     }
 
     /// Appends the type of a function.
     pub fn func_type(self, ty: &FuncType) {
-        done(self.0.func_type(&ty.0))
+        self.0.add(&ty.0)
     }
 
     /// Appends the type of arrays of these elements.
     pub fn array(self, ty: &StorageType, mutable: bool) {
-        done(self.0.array(ty, mutable))
+        let element_type = *ty;
+        self.0.add(&ArrayType(FieldType {
+            element_type,
+            mutable,
+        }))
     }
 
     /// Appends the type of structures of these fields.
@@ -210,18 +210,17 @@ impl CoreTypeEncoder<'_> {
         F: IntoIterator<Item = FieldType>,
         F::IntoIter: ExactSizeIterator,
     {
-        done(self.0.struct_(fields))
+        self.0.add_once((STRUCT, done(vec_of(fields))))
     }
 
     /// Appends the type of continuations.
     pub fn cont(self, ty: &ContType) {
-        done(self.0.cont(ty))
+        self.0.add(ty)
     }
 
     /// Appends a type and what it is a subtype of. The lists of the type are copied.
     pub fn subtype(self, ty: &SubType) {
-        let proved = types::SubType::from(ty.clone());
-        done(self.0.subtype(&proved))
+        self.0.add(&types::SubType::from(ty.clone()))
     }
 
     /// Appends a group of types that may refer to one another: one entry.
@@ -230,6 +229,7 @@ impl CoreTypeEncoder<'_> {
         T: IntoIterator<Item = SubType>,
         T::IntoIter: ExactSizeIterator,
     {
-        done(self.0.rec(types.into_iter().map(types::SubType::from)))
+        let types = types.into_iter().map(types::SubType::from);
+        self.0.add_once((REC, done(vec_of(types))))
     }
 }

@@ -356,7 +356,7 @@ impl Atomic {
     /// ```text
     /// ensures { Appends (arguments_text (atomic_row self).arguments) (arguments_fit (atomic_row self).arguments) sink.old sink.new result }
     /// ```
-    pub(in crate::insn) fn encode_arguments<A: Sink>(self, sink: &mut A) -> R<()> {
+    pub(crate) fn encode_arguments<A: Sink>(self, sink: &mut A) -> R<()> {
         match self {
             Atomic::MemoryAtomicNotify(a)
             | Atomic::MemoryAtomicWait32(a)

@@ -70,7 +70,7 @@ pub enum Shape {
 /// fits = { λ _. ⊤ }
 /// ```
 impl Encode for Op {
-    #[inline]
+    #[inline(always)]
     fn encode<A: Sink>(&self, sink: &mut A) -> R<()> {
         match *self {
             Op::Byte(byte) => byte.encode(sink),

@@ -403,7 +403,7 @@ fn cast_ranged(label: u32, from: RefType, to: RefType) {
 /// ```text
 /// ensures { IsPlainWhereAligned instruction.now }
 /// ```
-pub(in crate::insn) fn arguments_ranged<A: Allocator>(instruction: &Instruction<'_, A>) {
+pub(crate) fn arguments_ranged<A: Allocator>(instruction: &Instruction<'_, A>) {
     match instruction {
         Instruction::Block(a) | Instruction::Loop(a) | Instruction::If(a) | Instruction::Try(a) =>
             a.ranged(),

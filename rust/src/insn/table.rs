@@ -5,7 +5,7 @@ use crate::insn::op::{Op, Shape};
 
 /// Ops after a prefix that follow one another and have one shape: the first number, the last one, and the shape.
 #[derive(Clone, Copy)]
-pub(in crate::insn) struct Run(u32, u32, Shape);
+pub(crate) struct Run(u32, u32, Shape);
 
 /// The shapes of one-byte ops, each at its op's place: eight places a line.
 static ONE_BYTE: [Option<Shape>; 256] = [

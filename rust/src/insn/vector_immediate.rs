@@ -13,7 +13,7 @@ use crate::immediates::{Lane, MemArg};
 /// ```text
 /// ensures { result ≡ vector_text value }
 /// ```
-pub(in crate::insn) fn vector_bytes(value: i128) -> [u8; 16] {
+pub(crate) fn vector_bytes(value: i128) -> [u8; 16] {
     value.to_le_bytes()
 }
 
@@ -118,7 +118,7 @@ impl VectorImmediate {
     /// ```text
     /// ensures { Appends (arguments_text (vector_immediate_row self).arguments) (arguments_fit (vector_immediate_row self).arguments) sink.old sink.new result }
     /// ```
-    pub(in crate::insn) fn encode_arguments<A: Sink>(self, sink: &mut A) -> R<()> {
+    pub(crate) fn encode_arguments<A: Sink>(self, sink: &mut A) -> R<()> {
         match self {
             VectorImmediate::V128Load(a)
             | VectorImmediate::V128Load8x8S(a)

@@ -12,7 +12,7 @@ use crate::reader::base::{Passed, ReadFault, pass_many};
 /// ensures found { IfOk result (λ count. (xs : List P.Value) × vec P.format wide bytes.now xs × (count ≡ Some (length xs))) }
 /// ensures none { IfErr result (λ e. e ≢ Memory → FillsNothing (vec P.format) bytes.now) }
 /// ```
-pub(in crate::reader) fn count_passed<'a, P: Passed<'a, A>, A: Allocator + Copy>(
+pub(crate) fn count_passed<'a, P: Passed<'a, A>, A: Allocator + Copy>(
     bytes: &'a [u8],
     alloc: A,
 ) -> Result<Option<u32>, ReadFault> {

@@ -140,7 +140,7 @@ pub enum Items<'a, A: Allocator = Global> {
 /// ```text
 /// ensures { result ≡ kind_among_ids id }
 /// ```
-pub(in crate::reader) fn kind_of_id(id: u8) -> SectionKind {
+pub(crate) fn kind_of_id(id: u8) -> SectionKind {
     match id {
         0 => SectionKind::Custom,
         2 => SectionKind::Imports,
@@ -166,7 +166,7 @@ pub(in crate::reader) fn kind_of_id(id: u8) -> SectionKind {
 /// ```text
 /// ensures { result ≡ kind_named name.now }
 /// ```
-pub(in crate::reader) fn kind_of_name(name: &str) -> SectionKind {
+pub(crate) fn kind_of_name(name: &str) -> SectionKind {
     match name {
         "name" => SectionKind::Names,
         "linking" => SectionKind::Linking,
@@ -188,7 +188,7 @@ pub(in crate::reader) fn kind_of_name(name: &str) -> SectionKind {
 /// ensures found { IfOk result (λ x. content kind wide bytes.now (contents_of x)) }
 /// ensures none { IfErr result (λ e. e ≢ Memory → FillsNothing (content kind) bytes.now) }
 /// ```
-pub(in crate::reader) fn read_content<'a, A: Allocator + Copy + 'a>(
+pub(crate) fn read_content<'a, A: Allocator + Copy + 'a>(
     kind: SectionKind,
     bytes: &'a [u8],
     alloc: A,
@@ -294,7 +294,7 @@ pub(in crate::reader) fn read_content<'a, A: Allocator + Copy + 'a>(
 /// ensures found { IfOk result (λ number. (x : Contents) × content kind wide bytes.now x × (number ≡ number_in x)) }
 /// ensures none { IfErr result (λ e. e ≢ Memory → FillsNothing (content kind) bytes.now) }
 /// ```
-pub(in crate::reader) fn read_number<'a, A: Allocator + Copy>(
+pub(crate) fn read_number<'a, A: Allocator + Copy>(
     kind: SectionKind,
     bytes: &'a [u8],
     alloc: A,
@@ -328,7 +328,7 @@ pub(in crate::reader) fn read_number<'a, A: Allocator + Copy>(
 /// ```text
 /// ensures { OnOk result (AppendsShortest (content (kind_in (contents_of items.entry))) (contents_of items.entry) out.old.items out.new.items) }
 /// ```
-pub(in crate::reader) fn append_content<A: Allocator, B: Sink>(
+pub(crate) fn append_content<A: Allocator, B: Sink>(
     items: Items<'_, A>,
     out: &mut B,
 ) -> R<()> {

@@ -7,15 +7,15 @@
 
 pub mod base;
 pub mod insn;
-mod counts;
-mod kinds;
+pub(crate) mod counts;
+pub(crate) mod kinds;
 pub mod laws;
-mod modules;
-mod outlines;
-mod section;
-mod shortest;
-mod standing;
-mod whole;
+pub(crate) mod modules;
+pub(crate) mod outlines;
+pub(crate) mod section;
+pub(crate) mod shortest;
+pub(crate) mod standing;
+pub(crate) mod whole;
 
 pub use kinds::{Items, SectionKind};
 pub use modules::{Listed, list_module};

@@ -7,7 +7,7 @@ use crate::alloc::Allocator;
 use crate::reader::base::{ReadFault, Readable};
 
 /// The magic and the version of a module.
-pub(in crate::reader) const HEADER: [u8; 8] = [0x00, 0x61, 0x73, 0x6D, 0x01, 0x00, 0x00, 0x00];
+pub(crate) const HEADER: [u8; 8] = [0x00, 0x61, 0x73, 0x6D, 0x01, 0x00, 0x00, 0x00];
 
 /// A section of a module.
 #[derive(Clone, Copy, PartialEq, Eq, Debug)]
@@ -28,7 +28,7 @@ pub struct Listed {
 /// ensures none { IfErr result (λ _. ReadsNothing (fixed header (tt {0})) wide bytes.now) }
 /// ensures cause { IfErr result (λ e. (e ≡ Ended) ⊎ (e ≡ UnknownTag)) }
 /// ```
-pub(in crate::reader) fn read_header(bytes: &[u8]) -> Result<&[u8], ReadFault> {
+pub(crate) fn read_header(bytes: &[u8]) -> Result<&[u8], ReadFault> {
     match bytes.split_first_chunk::<8>() {
         None => Err(ReadFault::Ended),
         Some((front, rest)) => {

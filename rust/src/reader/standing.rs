@@ -7,14 +7,14 @@ use crate::reader::base::{ReadFault, Readable};
 
 /// A section of a module.
 #[derive(Clone, Copy, Debug)]
-pub(in crate::reader) struct Standing<'a> {
-    pub(in crate::reader) id: u8,
+pub(crate) struct Standing<'a> {
+    pub(crate) id: u8,
     /// The size and what it counts.
-    pub(in crate::reader) framed: &'a [u8],
+    pub(crate) framed: &'a [u8],
     /// What stands behind the size.
-    pub(in crate::reader) payload: &'a [u8],
+    pub(crate) payload: &'a [u8],
     /// The name at the front of a custom section, where one stands there.
-    pub(in crate::reader) name: Option<&'a str>,
+    pub(crate) name: Option<&'a str>,
 }
 
 impl Standing<'_> {
@@ -25,7 +25,7 @@ impl Standing<'_> {
     /// ```text
     /// ensures { result ≡ kind_of_section (section_of self.now) }
     /// ```
-    pub(in crate::reader) fn kind(&self) -> SectionKind {
+    pub(crate) fn kind(&self) -> SectionKind {
         match self.name {
             Some(name) => kind_of_name(name),
             None if self.id == 1 => SectionKind::Types,
@@ -66,7 +66,7 @@ fn read_name<'a, A: Allocator + Copy>(
 /// ensures split { IfOk result (λ x. bytes.now ≡ bytes_of (section_of x.0) ++ x.1.now) }
 /// ensures none { IfErr result (λ e. e ≢ Memory → ReadsNothing any_section wide bytes.now) }
 /// ```
-pub(in crate::reader) fn read_standing<'a, A: Allocator + Copy>(
+pub(crate) fn read_standing<'a, A: Allocator + Copy>(
     bytes: &'a [u8],
     alloc: A,
 ) -> Result<(Standing<'a>, &'a [u8]), ReadFault> {

@@ -35,7 +35,7 @@ pub enum ModuleFault {
 
 /// What the offsets in a custom section lead into.
 #[derive(Clone, Copy, PartialEq, Eq, Debug)]
-pub(in crate::reader) enum Target {
+pub(crate) enum Target {
     /// Code and data, from the front of a section.
     CodeAndData,
     /// Code, data and custom sections, from the front of a section.
@@ -46,7 +46,7 @@ pub(in crate::reader) enum Target {
 
 /// What is written for a section.
 #[derive(Clone, Copy, PartialEq, Eq, Debug)]
-pub(in crate::reader) enum How {
+pub(crate) enum How {
     /// Its shortest text.
     Shortest,
     /// Its bytes as they stand, which are not read as its kind.

@@ -80,7 +80,7 @@ fn hex_bytes<A: Allocator>(alloc: A, text: &[u8]) -> Result<Vec<u8, A>, Trouble>
 /// ensures listed { IfOk result (λ lines. Lists text.now (string_bytes lines)) }
 /// ensures usage { IfErr result (λ trouble. trouble ≢ Usage) }
 /// ```
-pub(in crate::recipe) fn listing<A: Allocator + Copy>(alloc: A, text: &[u8]) -> Result<String<A>, Trouble> {
+pub(crate) fn listing<A: Allocator + Copy>(alloc: A, text: &[u8]) -> Result<String<A>, Trouble> {
     let bytes = hex_bytes(alloc, text)?;
     let sections = list_module(alloc, &bytes).map_err(|(number, fault)| Trouble::Section {
         number,

@@ -12,7 +12,7 @@ use crate::reader::base::ReadFault;
 
 /// Why the program gives no answer.
 #[derive(Debug)]
-pub(in crate::recipe) enum Trouble {
+pub(crate) enum Trouble {
     Usage,
     NotText,
     BadHex,
@@ -43,7 +43,7 @@ impl From<AllocError> for Trouble {
 /// ```text
 /// ensures { result ≡ troubles.Section 0 faults.Memory }
 /// ```
-pub(in crate::recipe) fn unlisted() -> Trouble {
+pub(crate) fn unlisted() -> Trouble {
     Trouble::Section {
         number: 0,
         fault: ReadFault::Memory,

@@ -12,7 +12,7 @@ use crate::custom::NameSection;
 use crate::sections::{CountedSection, DataSection, ExportKind, ExportSection, FunctionSection, GlobalSection, GlobalType, ItemKind, MemorySection, MemoryType, StartSection};
 
 /// The sections to which the lines read so far have added.
-pub(in crate::recipe) struct Recipe<A: Allocator> {
+pub(crate) struct Recipe<A: Allocator> {
     types: Pieces<A>,
     functions: FunctionSection<A>,
     memories: MemorySection<A>,

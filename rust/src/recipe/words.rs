@@ -2,7 +2,7 @@
 // The words of a line.
 
 /// The words of a text, which are parted by spaces.
-pub(in crate::recipe) struct Words<'a> {
+pub(crate) struct Words<'a> {
     rest: &'a str,
 }
 
@@ -12,7 +12,7 @@ impl<'a> Words<'a> {
     /// ```text
     /// ensures { result.rest.now ≡ text.now }
     /// ```
-    pub(in crate::recipe) fn new(text: &'a str) -> Self {
+    pub(crate) fn new(text: &'a str) -> Self {
         Words { rest: text }
     }
 
@@ -23,7 +23,7 @@ impl<'a> Words<'a> {
     /// ```text
     /// ensures { result.now ≡ without_spaces self.now.rest.now }
     /// ```
-    pub(in crate::recipe) fn rest(&self) -> &'a str {
+    pub(crate) fn rest(&self) -> &'a str {
         self.rest.trim_start_matches(' ')
     }
 }

@@ -76,7 +76,7 @@ impl<K, A: Allocator> CountedSection<K, A> {
     /// ```text
     /// ensures { Adds (T.text given.now) (T.fits given.now) self.old self.new result }
     /// ```
-    pub(in crate::sections) fn add_record<T: Encode>(&mut self, given: &T) -> R<()> {
+    pub(crate) fn add_record<T: Encode>(&mut self, given: &T) -> R<()> {
         self.pieces.add_encoded(given)
     }
 
@@ -93,7 +93,7 @@ impl<K, A: Allocator> CountedSection<K, A> {
     /// ```text
     /// ensures { AddsOnce (T.gives item) (T.fits item) self.old self.new result }
     /// ```
-    pub(in crate::sections) fn add_once<T: EncodeOnce>(&mut self, item: T) -> R<()> {
+    pub(crate) fn add_once<T: EncodeOnce>(&mut self, item: T) -> R<()> {
         self.pieces.add_once(item)
     }
 
@@ -104,7 +104,7 @@ impl<K, A: Allocator> CountedSection<K, A> {
     /// ```text
     /// ensures { Adds piece.now ⊤ self.old self.new result }
     /// ```
-    pub(in crate::sections) fn add_piece(&mut self, piece: &[u8]) -> R<()> {
+    pub(crate) fn add_piece(&mut self, piece: &[u8]) -> R<()> {
         self.pieces.add(piece)
     }
 }

@@ -237,11 +237,11 @@ impl<A: Allocator> DataSection<A> {
 }
 
 // Flags of a segment.
-const ACTIVE: u8 = 0x00;
+pub(crate) const ACTIVE: u8 = 0x00;
 
-const PASSIVE: u8 = 0x01;
+pub(crate) const PASSIVE: u8 = 0x01;
 
-const ACTIVE_IN_MEMORY: u8 = 0x02;
+pub(crate) const ACTIVE_IN_MEMORY: u8 = 0x02;
 
 /// Bytes behind their number.
 #[derive(Clone, Copy, Debug)]

@@ -54,6 +54,7 @@ pub struct Export<'a> {
 /// fits = { λ _. ⊤ }
 /// ```
 impl Encode for ExportKind {
+    #[inline]
     fn encode<A: Sink>(&self, sink: &mut A) -> R<()> {
         (*self as u8).encode(sink)
     }
@@ -68,6 +69,7 @@ impl Encode for ExportKind {
 /// fits = { ExportFits }
 /// ```
 impl Encode for Export<'_> {
+    #[inline]
     fn encode<A: Sink>(&self, sink: &mut A) -> R<()> {
         (self.name, self.kind, self.index).encode(sink)
     }

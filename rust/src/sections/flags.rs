@@ -10,6 +10,6 @@
 /// ensures small { result ≤ weight }
 /// ```
 #[inline]
-pub(in crate::sections) fn where_set(set: bool, weight: u8) -> u8 {
+pub(crate) fn where_set(set: bool, weight: u8) -> u8 {
     if set { weight } else { 0 }
 }

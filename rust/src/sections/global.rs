@@ -64,6 +64,7 @@ impl GlobalType {
 /// fits = { λ _. ⊤ }
 /// ```
 impl Encode for GlobalType {
+    #[inline]
     fn encode<A: Sink>(&self, sink: &mut A) -> R<()> {
         (self.val_type, self.flags()).encode(sink)
     }

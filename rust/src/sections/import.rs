@@ -97,6 +97,7 @@ impl From<TagType> for EntityType {
 /// fits = { λ _. ⊤ }
 /// ```
 impl Encode for EntityType {
+    #[inline]
     fn encode<A: Sink>(&self, sink: &mut A) -> R<()> {
         match *self {
             EntityType::Function(index) => (CORE_FUNCTION_SORT, index).encode(sink),
@@ -175,6 +176,7 @@ impl<A: Allocator + Copy> Imports<'_, A> {
 /// fits = { λ import. ImportFits (import_item import) }
 /// ```
 impl Encode for Import<'_> {
+    #[inline]
     fn encode<A: Sink>(&self, sink: &mut A) -> R<()> {
         (self.module, self.name, self.ty).encode(sink)
     }
@@ -189,6 +191,7 @@ impl Encode for Import<'_> {
 /// fits = { λ import. FrameFits import.name.now }
 /// ```
 impl Encode for ImportCompact<'_> {
+    #[inline]
     fn encode<A: Sink>(&self, sink: &mut A) -> R<()> {
         (self.name, self.ty).encode(sink)
     }
@@ -203,6 +206,7 @@ impl Encode for ImportCompact<'_> {
 /// fits = { λ imports. ImportFits (imports_item imports) }
 /// ```
 impl<A: Allocator> Encode for Imports<'_, A> {
+    #[inline]
     fn encode<B: Sink>(&self, sink: &mut B) -> R<()> {
         match self {
             Imports::Single(import) => import.encode(sink),

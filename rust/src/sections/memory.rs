@@ -98,6 +98,7 @@ impl MemoryType {
 /// fits = { λ _. ⊤ }
 /// ```
 impl Encode for MemoryType {
+    #[inline]
     fn encode<A: Sink>(&self, sink: &mut A) -> R<()> {
         let maximum = Optional(self.maximum);
         let page_size = Optional(self.page_size_log2);
@@ -144,11 +145,11 @@ impl<A: Allocator> MemorySection<A> {
 
 /// The flags of limits.
 #[derive(Clone, Copy, Debug)]
-pub(in crate::sections) struct Flags {
-    pub(in crate::sections) has_maximum: bool,
-    pub(in crate::sections) shared: bool,
-    pub(in crate::sections) is_64: bool,
-    pub(in crate::sections) has_page_size: bool,
+pub(crate) struct Flags {
+    pub(crate) has_maximum: bool,
+    pub(crate) shared: bool,
+    pub(crate) is_64: bool,
+    pub(crate) has_page_size: bool,
 }
 
 /// # Defined

@@ -3,20 +3,20 @@
 //!
 //! The crate also reads their items, by `Readable` of `wasm_reader_base`, goes over them by `Passed`, and writes those that were read in their fewest bytes, by `Shorten`.
 
-mod counted_section;
-mod data;
-mod element;
-mod element_items;
-mod export;
-mod flags;
-mod function;
-mod global;
-mod import;
+pub(crate) mod counted_section;
+pub(crate) mod data;
+pub(crate) mod element;
+pub(crate) mod element_items;
+pub(crate) mod export;
+pub(crate) mod flags;
+pub(crate) mod function;
+pub(crate) mod global;
+pub(crate) mod import;
 pub mod laws;
-mod memory;
-mod start;
-mod table;
-mod tag;
+pub(crate) mod memory;
+pub(crate) mod start;
+pub(crate) mod table;
+pub(crate) mod tag;
 
 pub use counted_section::{CountedSection, ItemKind, RecordOf};
 pub use data::{DataItems, DataSection, DataSegment, DataSegmentMode, Segment, read_segments};

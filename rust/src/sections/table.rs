@@ -85,6 +85,7 @@ impl TableType {
 /// fits = { λ _. ⊤ }
 /// ```
 impl Encode for TableType {
+    #[inline]
     fn encode<A: Sink>(&self, sink: &mut A) -> R<()> {
         let limits = (self.flags(), self.minimum, Optional(self.maximum));
         (self.element_type, limits).encode(sink)
@@ -210,7 +211,7 @@ impl<'a, A: Allocator + Copy> Readable<'a, A> for TableType {
 }
 
 /// What stands before a table with a first value.
-const BEFORE_INIT: [u8; 2] = [0x40, 0x00];
+pub(crate) const BEFORE_INIT: [u8; 2] = [0x40, 0x00];
 
 /// A table: its type, and the expression of its elements' first value where one is given.
 #[derive(Debug)]

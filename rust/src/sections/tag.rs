@@ -66,6 +66,7 @@ impl TagKind {
 /// fits = { λ _. ⊤ }
 /// ```
 impl Encode for TagType {
+    #[inline]
     fn encode<A: Sink>(&self, sink: &mut A) -> R<()> {
         (self.kind.byte(), self.func_type_idx).encode(sink)
     }

@@ -14,7 +14,7 @@ use crate::reader::base::{ReadFault, Readable, Spelled};
 /// ensures found { IfOk result (λ x. Reads s33 wide bytes.now x.0 x.1.now) }
 /// ensures none { IfErr result (λ e. e ≢ Memory → ReadsNothing s33 wide bytes.now) }
 /// ```
-pub(in crate::types) fn read_index(bytes: &[u8]) -> Result<(u32, &[u8]), ReadFault> {
+pub(crate) fn read_index(bytes: &[u8]) -> Result<(u32, &[u8]), ReadFault> {
     let (groups, rest) = read_groups(bytes, 5)?;
     if groups.last >= 0x40 {
         return Err(ReadFault::UnknownTag);

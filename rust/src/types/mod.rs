@@ -3,12 +3,12 @@
 //! answer being what the grammar reads there, with padded numbers too, and a cause other than `ReadFault::Memory` saying that no reading
 //! exists.
 
-mod fields;
-mod items;
+pub(crate) mod fields;
+pub(crate) mod items;
 pub mod laws;
-mod shapes;
-mod type_section;
-mod types;
+pub(crate) mod shapes;
+pub(crate) mod type_section;
+pub(crate) mod types;
 
 pub use items::{SubItem, TypeEntry};
 pub use type_section::{CoreTypeEncoder, TypeItems, TypeSection, append_types, read_types};

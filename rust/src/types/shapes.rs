@@ -108,7 +108,7 @@ fn read_describes_after<'a, A: Allocator + Copy>(
 /// ensures found { IfOk result (λ x. Reads (after_composite tag) wide bytes.now (composite_in x.0) x.1.now) }
 /// ensures none { IfErr result (λ e. e ≢ Memory → ReadsNothing (after_composite tag) wide bytes.now) }
 /// ```
-pub(in crate::types) fn read_composite_after<'a, A: Allocator + Copy>(
+pub(crate) fn read_composite_after<'a, A: Allocator + Copy>(
     tag: u8,
     bytes: &'a [u8],
     alloc: A,

@@ -309,13 +309,13 @@ impl Encode for FieldType {
 }
 
 // The bytes that tell what a composite type is.
-pub(in crate::types) const CONT: u8 = 0x5D;
+pub(crate) const CONT: u8 = 0x5D;
 
-pub(in crate::types) const ARRAY: u8 = 0x5E;
+pub(crate) const ARRAY: u8 = 0x5E;
 
-pub(in crate::types) const STRUCT: u8 = 0x5F;
+pub(crate) const STRUCT: u8 = 0x5F;
 
-pub(in crate::types) const FUNC: u8 = 0x60;
+pub(crate) const FUNC: u8 = 0x60;
 
 /// A byte, the element type.
 ///

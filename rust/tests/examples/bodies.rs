@@ -12,7 +12,7 @@ use dolzhytik::code::Function;
 /// ```text
 /// ensures { IfOk result (λ function. IsPlainBody function first_body) }
 /// ```
-pub(in crate::examples) fn first_function<A: Allocator>(alloc: A) -> R<Function<A>> {
+pub(crate) fn first_function<A: Allocator>(alloc: A) -> R<Function<A>> {
     let mut function = Function::new(alloc, [(1, ValType::I32)])?;
     let mut sink = function.instructions();
     sink.end()?;
@@ -26,7 +26,7 @@ pub(in crate::examples) fn first_function<A: Allocator>(alloc: A) -> R<Function<
 /// ```text
 /// ensures { IfOk result (λ function. IsPlainBody function (local_body index)) }
 /// ```
-pub(in crate::examples) fn local_function<A: Allocator>(alloc: A, index: u32) -> R<Function<A>> {
+pub(crate) fn local_function<A: Allocator>(alloc: A, index: u32) -> R<Function<A>> {
     let mut function = Function::new(alloc, [])?;
     let mut sink = function.instructions();
     sink.local_get(index)?;

@@ -89,7 +89,7 @@ pub fn lower(operation: Operation) -> Instruction<'static> {
 /// ```text
 /// ensures { OnOk result (GainsOperations (operation ∷ []) function.old function.new) }
 /// ```
-pub(in crate::examples) fn emit<A: Allocator>(function: &mut Function<A>, operation: Operation) -> R<()> {
+pub(crate) fn emit<A: Allocator>(function: &mut Function<A>, operation: Operation) -> R<()> {
     function.instruction(&lower(operation))
 }
 

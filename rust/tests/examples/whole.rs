@@ -62,7 +62,7 @@ fn add_stored<A: Allocator + Copy>(built: &mut Module<A>, alloc: A) -> R<()> {
 /// ```text
 /// ensures { IfOk result (λ section. HoldsImports section (ready ∷ [])) }
 /// ```
-pub(in crate::examples) fn imports<A: Allocator + Copy>(alloc: A) -> R<ImportSection<A>> {
+pub(crate) fn imports<A: Allocator + Copy>(alloc: A) -> R<ImportSection<A>> {
     let mut section = ImportSection::new(alloc);
     section.import("host", "ready", EntityType::Function(0))?;
     Ok(section)
@@ -89,7 +89,7 @@ fn functions<A: Allocator + Copy>(alloc: A) -> R<FunctionSection<A>> {
 /// ```text
 /// ensures { IfOk result (λ section. HoldsMemories section (one_page ∷ [])) }
 /// ```
-pub(in crate::examples) fn memories<A: Allocator + Copy>(alloc: A) -> R<MemorySection<A>> {
+pub(crate) fn memories<A: Allocator + Copy>(alloc: A) -> R<MemorySection<A>> {
     let mut section = MemorySection::new(alloc);
     section.memory(MemoryType {
         minimum: 1,

@@ -189,7 +189,7 @@ pub fn read_memories<'a, A: Allocator + Copy + 'a>(
 /// ```text
 /// ensures { IfOk result (λ section. HoldsTags section (thrown 0 ∷ thrown index ∷ [])) }
 /// ```
-pub(in crate::read_back) fn tags<A: Allocator + Copy>(alloc: A, index: u32) -> R<TagSection<A>> {
+pub(crate) fn tags<A: Allocator + Copy>(alloc: A, index: u32) -> R<TagSection<A>> {
     let mut section = TagSection::new(alloc);
     section.tag(TagType {
         kind: TagKind::Exception,

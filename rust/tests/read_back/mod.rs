@@ -26,7 +26,7 @@ use dolzhytik::sections::FunctionSection;
 /// ensures err { OnErr result (sink.new.items ≡ sink.old.items) }
 /// ensures none { IfErr result (λ e. e ≢ Memory → ReadsNothing (section kind) wide text.now.items) }
 /// ```
-pub(in crate::read_back) fn read_and_shorten<'a, A: Allocator + Copy + 'a>(
+pub(crate) fn read_and_shorten<'a, A: Allocator + Copy + 'a>(
     kind: SectionKind,
     text: &'a Vec<u8, A>,
     sink: &mut Vec<u8, A>,

@@ -133,7 +133,7 @@ pub fn read_segments<'a, A: Allocator + Copy + 'a>(
 /// ```text
 /// ensures { IfOk result (λ function. IsPlainBody function (of_two_locals index)) }
 /// ```
-pub(in crate::read_back) fn of_locals<A: Allocator + Copy>(alloc: A, index: u32) -> R<Function<A>> {
+pub(crate) fn of_locals<A: Allocator + Copy>(alloc: A, index: u32) -> R<Function<A>> {
     let mut function = Function::new_with_locals_types(alloc, [ValType::I32, ValType::I32])?;
     let mut sink = function.instructions();
     sink.local_get(index)?;
@@ -148,7 +148,7 @@ pub(in crate::read_back) fn of_locals<A: Allocator + Copy>(alloc: A, index: u32)
 /// ```text
 /// ensures { IfOk result (λ function. IsPlainBody function empty_body) }
 /// ```
-pub(in crate::read_back) fn of_nothing<A: Allocator>(alloc: A) -> R<Function<A>> {
+pub(crate) fn of_nothing<A: Allocator>(alloc: A) -> R<Function<A>> {
     let mut function = Function::new(alloc, [])?;
     let mut sink = function.instructions();
     sink.end()?;

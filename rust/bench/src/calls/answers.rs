@@ -14,7 +14,7 @@ pub const NO_ANSWER: u64 = 18446744073709551615;
 
 /// Why a workload has no answer.
 #[derive(Clone, Copy)]
-pub(in crate::calls) enum Fault {
+pub(crate) enum Fault {
     /// The input is none that the workload reads.
     WrongInput,
     /// The library has refused a call.
@@ -56,7 +56,7 @@ fn copied(bytes: &[u8], out: &mut [u8]) -> u64 {
 /// // The bytes of the entries.
 /// content: { Self → List ℕ }
 /// ```
-pub(in crate::calls) trait Entries: Section {
+pub(crate) trait Entries: Section {
     /// How many bytes the entries have together, without their number; none where these are more than can be counted.
     ///
     /// # Proved
@@ -134,7 +134,7 @@ impl Entries for TypeSection {
 /// ensures answers { Answers (S.id_of section.now) (S.content section.now) (S.text section.now) phase out.old out.new result }
 /// ensures wrong { IfErr result (λ fault. fault ≡ faults.WrongInput → 2 < phase) }
 /// ```
-pub(in crate::calls) fn answer<S: Entries>(
+pub(crate) fn answer<S: Entries>(
     alloc: Global,
     section: &S,
     phase: u32,
@@ -163,7 +163,7 @@ pub(in crate::calls) fn answer<S: Entries>(
 /// ```text
 /// ensures { MatchResult outcome (λ n. result ≡ n) (λ _. result ≡ NO_ANSWER) }
 /// ```
-pub(in crate::calls) fn number(outcome: Result<u64, Fault>) -> u64 {
+pub(crate) fn number(outcome: Result<u64, Fault>) -> u64 {
     match outcome {
         Ok(n) => n,
         Err(_) => NO_ANSWER,

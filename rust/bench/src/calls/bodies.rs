@@ -6,6 +6,6 @@ use dolzhytik::base::{R, ValType};
 use dolzhytik::code::Function;
 
 /// A function with these runs of locals.
-pub(in crate::calls) fn with_locals(alloc: Global, runs: &[(u32, ValType)]) -> R<Function> {
+pub(crate) fn with_locals(alloc: Global, runs: &[(u32, ValType)]) -> R<Function> {
     Function::new(alloc, runs.iter().copied())
 }

@@ -12,7 +12,7 @@ use dolzhytik::insn::{BlockType, Ieee32, Ieee64, InstructionSink, MemArg, MemArg
 type Sink<'a> = InstructionSink<'a, Function>;
 
 /// Reads a memory argument: the offset, the alignment and the index of the memory.
-pub(in crate::calls) fn mem_arg(words: &mut Words<'_>) -> Result<MemArg, Fault> {
+pub(crate) fn mem_arg(words: &mut Words<'_>) -> Result<MemArg, Fault> {
     let offset = words.next()?;
     let align = words.next()?;
     let memory = words.next()?;
@@ -145,7 +145,7 @@ fn variable_call(sink: &mut Sink<'_>, code: u32, words: &mut Words<'_>) -> Resul
 /// ```text
 /// ensures { sink.new.sink.ghost_name ≡ sink.old.sink.ghost_name }
 /// ```
-pub(in crate::calls) fn call(sink: &mut Sink<'_>, words: &mut Words<'_>) -> Result<(), Fault> {
+pub(crate) fn call(sink: &mut Sink<'_>, words: &mut Words<'_>) -> Result<(), Fault> {
     let code = words.next()?;
     variable_call(sink, code, words)
 }

@@ -11,7 +11,7 @@ use dolzhytik::sections::ExportKind;
 /// ```text
 /// ensures { MatchResult result (λ kind. kind_code kind ≡ number) (λ _. 4 < number) }
 /// ```
-pub(in crate::calls) fn export_kind_of(number: u8) -> Result<ExportKind, Fault> {
+pub(crate) fn export_kind_of(number: u8) -> Result<ExportKind, Fault> {
     match number {
         0 => Ok(ExportKind::Func),
         1 => Ok(ExportKind::Table),

@@ -4,7 +4,7 @@
 use crate::calls::answers::Fault;
 
 /// Names that are cut from a text one after another.
-pub(in crate::calls) struct Names<'a> {
+pub(crate) struct Names<'a> {
     rest: &'a str,
 }
 
@@ -17,7 +17,7 @@ impl<'a> Names<'a> {
     /// ensures ok { IfOk result (λ names. names.rest.now ≡ bytes.now) }
     /// ensures err { OnErr result (IsUtf8 bytes.now → ⊥) }
     /// ```
-    pub(in crate::calls) fn new(bytes: &'a [u8]) -> Result<Self, Fault> {
+    pub(crate) fn new(bytes: &'a [u8]) -> Result<Self, Fault> {
         match str::from_utf8(bytes) {
             Ok(text) => Ok(Names { rest: text }),
             Err(_) => Err(Fault::WrongInput),
@@ -31,7 +31,7 @@ impl<'a> Names<'a> {
     /// ```text
     /// ensures { IsTrue result ↔ (self.now.rest.now ≡ []) }
     /// ```
-    pub(in crate::calls) fn is_empty(&self) -> bool {
+    pub(crate) fn is_empty(&self) -> bool {
         self.rest.is_empty()
     }
 
@@ -43,7 +43,7 @@ impl<'a> Names<'a> {
     /// ensures cut { IfOk result (λ name. (length name.now ≡ count) × (self.old.rest.now ≡ name.now ++ self.new.rest.now)) }
     /// ensures utf8 { IfOk result (λ name. IsUtf8 name.now) }
     /// ```
-    pub(in crate::calls) fn next(&mut self, count: u32) -> Result<&'a str, Fault> {
+    pub(crate) fn next(&mut self, count: u32) -> Result<&'a str, Fault> {
         let Some((name, rest)) = self.rest.split_at_checked(count as usize) else {
             return Err(Fault::WrongInput);
         };

@@ -93,7 +93,7 @@ fn variable<'a>(code: u32, words: &mut Words<'a>) -> Result<Instruction<'a>, Fau
 
 /// Reads an instruction. Each of the functions above knows some codes and hands the others on, so that the compiler makes one jump of
 /// them.
-pub(in crate::calls) fn value<'a>(words: &mut Words<'a>) -> Result<Instruction<'a>, Fault> {
+pub(crate) fn value<'a>(words: &mut Words<'a>) -> Result<Instruction<'a>, Fault> {
     let code = words.next()?;
     variable(code, words)
 }

@@ -4,7 +4,7 @@
 use crate::calls::answers::Fault;
 
 /// Words that are read one after another.
-pub(in crate::calls) struct Words<'a> {
+pub(crate) struct Words<'a> {
     rest: &'a [u32],
 }
 
@@ -14,7 +14,7 @@ impl<'a> Words<'a> {
     /// ```text
     /// ensures { result.rest.now ≡ words.now }
     /// ```
-    pub(in crate::calls) fn new(words: &'a [u32]) -> Self {
+    pub(crate) fn new(words: &'a [u32]) -> Self {
         Words { rest: words }
     }
 
@@ -25,7 +25,7 @@ impl<'a> Words<'a> {
     /// ```text
     /// ensures { IsTrue result ↔ (self.now.rest.now ≡ []) }
     /// ```
-    pub(in crate::calls) fn is_empty(&self) -> bool {
+    pub(crate) fn is_empty(&self) -> bool {
         self.rest.is_empty()
     }
 
@@ -37,7 +37,7 @@ impl<'a> Words<'a> {
     /// ensures ok { IfOk result (λ word. self.old.rest.now ≡ word ∷ self.new.rest.now) }
     /// ensures err { OnErr result (self.old.rest.now ≡ []) }
     /// ```
-    pub(in crate::calls) fn next(&mut self) -> Result<u32, Fault> {
+    pub(crate) fn next(&mut self) -> Result<u32, Fault> {
         match self.rest {
             [] => Err(Fault::WrongInput),
             [word, rest @ ..] => {
@@ -55,7 +55,7 @@ impl<'a> Words<'a> {
     /// ensures ok { IfOk result (λ n. (low : ℕ) × (high : ℕ) × (self.old.rest.now ≡ low ∷ high ∷ self.new.rest.now) × (n ≡ low + 2 ^ 32 * high)) }
     /// ensures err { OnErr result (length self.old.rest.now < 2) }
     /// ```
-    pub(in crate::calls) fn wide(&mut self) -> Result<u64, Fault> {
+    pub(crate) fn wide(&mut self) -> Result<u64, Fault> {
         let low = self.next()?;
         let high = self.next()?;
         Ok(u64::from(low) | (u64::from(high) << 32))
@@ -69,7 +69,7 @@ impl<'a> Words<'a> {
     /// ensures ok { IfOk result (λ words. (length words.now ≡ count) × (self.old.rest.now ≡ words.now ++ self.new.rest.now)) }
     /// ensures err { OnErr result (length self.old.rest.now < count) }
     /// ```
-    pub(in crate::calls) fn take(&mut self, count: u32) -> Result<&'a [u32], Fault> {
+    pub(crate) fn take(&mut self, count: u32) -> Result<&'a [u32], Fault> {
         let Some((words, rest)) = self.rest.split_at_checked(count as usize) else {
             return Err(Fault::WrongInput);
         };

@@ -24,7 +24,7 @@ pub struct DzSection {
 /// ```text
 /// ensures { result ≡ fault_number fault }
 /// ```
-pub(in crate::calls) fn number_of(fault: ReadFault) -> u32 {
+pub(crate) fn number_of(fault: ReadFault) -> u32 {
     match fault {
         ReadFault::Ended => 1,
         ReadFault::NotShortest => 2,

@@ -15,7 +15,7 @@ const NOT_TEXT: u32 = 7;
 /// ```text
 /// ensures { result ≡ cause_number cause }
 /// ```
-pub(in crate::calls) fn number_of(cause: RecipeCause) -> u32 {
+pub(crate) fn number_of(cause: RecipeCause) -> u32 {
     match cause {
         RecipeCause::UnknownCommand => 1,
         RecipeCause::BadNumber => 2,
@@ -33,7 +33,7 @@ pub(in crate::calls) fn number_of(cause: RecipeCause) -> u32 {
 /// ```text
 /// ensures { Gives bytes.now out.old out.new result }
 /// ```
-pub(in crate::calls) fn copied(bytes: &[u8], out: &mut [u8]) -> u64 {
+pub(crate) fn copied(bytes: &[u8], out: &mut [u8]) -> u64 {
     let count = bytes.len();
     if count <= out.len() {
         let (room, _) = out.split_at_mut(count);

@@ -302,7 +302,7 @@ impl<'a, A: Allocator + Copy> Readable<'a, A> for i64 {
 /// ensures none { IfErr result (λ e. e ≢ Memory → ReadsNothing s33 wide bytes.now) }
 /// ```
 #[inline]
-pub(in crate::reader::base) fn read_index(bytes: &[u8]) -> Result<(u32, &[u8]), ReadFault> {
+pub(crate) fn read_index(bytes: &[u8]) -> Result<(u32, &[u8]), ReadFault> {
     let (groups, rest) = read_few_groups(bytes)?;
     if groups.last >= 0x40 {
         return Err(ReadFault::UnknownTag);

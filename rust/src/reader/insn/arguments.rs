@@ -45,7 +45,7 @@ pub enum Arg<A: Allocator = Global> {
 /// ensures none { IfErr result (λ e. e ≢ Memory → ReadsNothing (part parts.Unsigned) wide bytes.now) }
 /// ```
 #[inline(always)]
-pub(in crate::reader::insn) fn read_unsigned<'a, A: Allocator + Copy>(
+pub(crate) fn read_unsigned<'a, A: Allocator + Copy>(
     bytes: &'a [u8],
     alloc: A,
 ) -> Result<(Arg<A>, &'a [u8]), ReadFault> {
@@ -62,7 +62,7 @@ pub(in crate::reader::insn) fn read_unsigned<'a, A: Allocator + Copy>(
 /// ensures none { IfErr result (λ e. e ≢ Memory → ReadsNothing (part parts.Signed32) wide bytes.now) }
 /// ```
 #[inline(always)]
-pub(in crate::reader::insn) fn read_signed32<'a, A: Allocator + Copy>(
+pub(crate) fn read_signed32<'a, A: Allocator + Copy>(
     bytes: &'a [u8],
     alloc: A,
 ) -> Result<(Arg<A>, &'a [u8]), ReadFault> {
@@ -79,7 +79,7 @@ pub(in crate::reader::insn) fn read_signed32<'a, A: Allocator + Copy>(
 /// ensures none { IfErr result (λ e. e ≢ Memory → ReadsNothing (part parts.Signed64) wide bytes.now) }
 /// ```
 #[inline(always)]
-pub(in crate::reader::insn) fn read_signed64<'a, A: Allocator + Copy>(
+pub(crate) fn read_signed64<'a, A: Allocator + Copy>(
     bytes: &'a [u8],
     alloc: A,
 ) -> Result<(Arg<A>, &'a [u8]), ReadFault> {
@@ -147,7 +147,7 @@ fn read_vector<'a, A: Allocator + Copy>(
 /// ensures none { IfErr result (λ e. e ≢ Memory → ReadsNothing (part parts.Memory) wide bytes.now) }
 /// ```
 #[inline(always)]
-pub(in crate::reader::insn) fn read_memory<'a, A: Allocator + Copy>(
+pub(crate) fn read_memory<'a, A: Allocator + Copy>(
     bytes: &'a [u8],
     alloc: A,
 ) -> Result<(Arg<A>, &'a [u8]), ReadFault> {
@@ -197,7 +197,7 @@ fn read_lanes<'a, A: Allocator + Copy>(
 /// ensures none { IfErr result (λ e. e ≢ Memory → ReadsNothing (part parts.Block) wide bytes.now) }
 /// ```
 #[inline(always)]
-pub(in crate::reader::insn) fn read_block<'a, A: Allocator + Copy>(
+pub(crate) fn read_block<'a, A: Allocator + Copy>(
     bytes: &'a [u8],
     alloc: A,
 ) -> Result<(Arg<A>, &'a [u8]), ReadFault> {
@@ -335,7 +335,7 @@ fn read_flag<'a, A: Allocator + Copy>(
 /// ensures found { IfOk result (λ x. Reads (part wanted) wide bytes.now (argument_view x.0) x.1.now) }
 /// ensures none { IfErr result (λ e. e ≢ Memory → ReadsNothing (part wanted) wide bytes.now) }
 /// ```
-pub(in crate::reader::insn) fn read_part<'a, A: Allocator + Copy>(
+pub(crate) fn read_part<'a, A: Allocator + Copy>(
     wanted: Part,
     bytes: &'a [u8],
     alloc: A,
@@ -438,7 +438,7 @@ fn list_one<'a, A: Allocator + Copy>(
 /// ensures none { IfErr result (λ e. e ≢ Memory → ReadsNothing (arguments (parts_of shape)) wide bytes.now) }
 /// ```
 #[inline]
-pub(in crate::reader::insn) fn read_arguments<'a, A: Allocator + Copy>(
+pub(crate) fn read_arguments<'a, A: Allocator + Copy>(
     shape: Shape,
     bytes: &'a [u8],
     alloc: A,
@@ -505,7 +505,7 @@ fn keep_one<'a, A: Allocator + Copy>(
 /// ensures none { IfErr result (λ e. e ≢ Memory → ReadsNothing (arguments (parts_of shape)) wide bytes.now) }
 /// ```
 #[inline]
-pub(in crate::reader::insn) fn read_arguments_into<'a, A: Allocator + Copy>(
+pub(crate) fn read_arguments_into<'a, A: Allocator + Copy>(
     shape: Shape,
     bytes: &'a [u8],
     alloc: A,
@@ -565,7 +565,7 @@ fn append_argument<A: Allocator, B: Sink>(arg: &Arg<A>, out: &mut B) -> R<()> {
 /// ensures front { IsFrontOf out.old.items out.new.items }
 /// ensures too_long { ArePlain (map argument_view args.now) → result ≢ Err TooLong }
 /// ```
-pub(in crate::reader::insn) fn append_arguments<A: Allocator, B: Sink>(
+pub(crate) fn append_arguments<A: Allocator, B: Sink>(
     args: &[Arg<A>],
     out: &mut B,
 ) -> R<()> {

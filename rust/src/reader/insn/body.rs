@@ -44,7 +44,7 @@ pub fn read_code<'a, A: Allocator + Copy>(
 /// ensures front { IsFrontOf out.old.items out.new.items }
 /// ensures too_long { HasEncoding (members (instruction table)) (map plain_view code.now) → result ≢ Err TooLong }
 /// ```
-pub(in crate::reader::insn) fn append_code<A: Allocator, B: Sink>(
+pub(crate) fn append_code<A: Allocator, B: Sink>(
     code: &[Plain<A>],
     out: &mut B,
 ) -> R<()> {

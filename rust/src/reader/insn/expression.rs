@@ -9,7 +9,7 @@ use crate::base::R;
 use crate::reader::base::{ReadFault, Readable, Shorten, Spelled};
 
 /// The opcode of `End`.
-pub(in crate::reader::insn) const END: u8 = 0x0B;
+pub(crate) const END: u8 = 0x0B;
 
 /// The instructions of a constant expression, without the `End` that ends it.
 #[derive(Debug)]

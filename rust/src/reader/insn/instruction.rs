@@ -24,7 +24,7 @@ pub struct Plain<A: Allocator = Global> {
 /// ensures none { IfErr result (λ e. e ≢ Memory → ReadsNothing opcode wide bytes.now) }
 /// ```
 #[inline]
-pub(in crate::reader::insn) fn read_op<'a, A: Allocator + Copy>(
+pub(crate) fn read_op<'a, A: Allocator + Copy>(
     bytes: &'a [u8],
     alloc: A,
 ) -> Result<(Op, &'a [u8]), ReadFault> {
@@ -70,7 +70,7 @@ impl<'a, A: Allocator + Copy> Readable<'a, A> for Plain<A> {
 /// ensures found { IfOk result (λ x. Reads (instruction table) wide bytes.now (record { op = x.0; arguments = map argument_view args.new.items }) x.1.now) }
 /// ensures none { IfErr result (λ e. e ≢ Memory → ReadsNothing (instruction table) wide bytes.now) }
 /// ```
-pub(in crate::reader::insn) fn read_instruction_into<'a, A: Allocator + Copy>(
+pub(crate) fn read_instruction_into<'a, A: Allocator + Copy>(
     bytes: &'a [u8],
     alloc: A,
     args: &mut Vec<Arg<A>, A>,
@@ -92,7 +92,7 @@ pub(in crate::reader::insn) fn read_instruction_into<'a, A: Allocator + Copy>(
 /// ensures front { IsFrontOf out.old.items out.new.items }
 /// ensures too_long { HasEncoding (instruction table) (record { op = op; arguments = map argument_view args.now }) → result ≢ Err TooLong }
 /// ```
-pub(in crate::reader::insn) fn append_instruction<A: Allocator, B: Sink>(
+pub(crate) fn append_instruction<A: Allocator, B: Sink>(
     op: Op,
     args: &[Arg<A>],
     out: &mut B,

@@ -1,0 +1,314 @@
+//! What the sections at the root are made of: bytes that the proved calls append to, and the number of entries.
+use super::{done, refuse};
+use crate::alloc::AllocError;
+use crate::base::{Encode, EncodeOnce, Refused, encode_section};
+use crate::vec::{Sealed, Sink};
+use std::ops::{Deref, DerefMut};
+
+/// The bytes that a list of a few has room for, and those of one that outgrows it.
+const FEW: usize = 16;
+const MANY: usize = 128;
+
+/// The most bytes for which a new list is had for less than an old one grows.
+const MOVED: usize = 1024;
+
+/// A `std` vector of someone else as a sink that refuses nothing: where memory is refused, the
+/// program ends, as in the crate. So no call over it has a path for a refusal.
+pub struct Growing<'a>(pub &'a mut Vec<u8>);
+
+/// The same of a vector that is owned, which is found with one step less.
+#[derive(Clone, Debug, Default, PartialEq, Eq)]
+pub struct List(pub Vec<u8>);
+
+/// Makes room for so many bytes: at least twice as many as before, and many where there were a few.
+#[cold]
+#[inline(never)]
+fn grow(old: &mut Vec<u8>, more: usize) {
+    let count = old.len().saturating_add(more);
+    let room = count.max(2 * old.capacity());
+    if room > MOVED {
+        return old.reserve(more);
+    }
+    let least = if old.capacity() < FEW { FEW } else { MANY };
+    let mut new = Vec::with_capacity(room.max(least));
+    new.extend_from_slice(old);
+    *old = new;
+}
+
+/// Writes a sink that refuses nothing over a `std` vector in a tuple.
+macro_rules! growing {
+    ($ty:ty) => {
+        impl Deref for $ty {
+            type Target = [u8];
+
+            #[inline]
+            fn deref(&self) -> &[u8] {
+                &self.0
+            }
+        }
+
+        impl DerefMut for $ty {
+            #[inline]
+            fn deref_mut(&mut self) -> &mut [u8] {
+                &mut self.0
+            }
+        }
+
+        impl Sealed for $ty {}
+
+        impl Sink for $ty {
+            #[inline]
+            fn capacity(&self) -> usize {
+                self.0.capacity()
+            }
+
+            #[inline]
+            fn reserve(&mut self, more: usize) -> Result<(), AllocError> {
+                if self.0.capacity() - self.0.len() < more {
+                    grow(&mut self.0, more);
+                }
+                Ok(())
+            }
+
+            #[inline]
+            fn push(&mut self, byte: u8) -> Result<(), AllocError> {
+                if self.0.len() == self.0.capacity() {
+                    grow(&mut self.0, 1);
+                }
+                self.0.push(byte);
+                Ok(())
+            }
+
+            #[inline]
+            fn push_reserved(&mut self, byte: u8) {
+                self.0.extend_from_slice(&[byte]);
+            }
+
+            #[inline]
+            fn push_both_reserved(&mut self, bytes: [u8; 2]) {
+                self.0.extend_from_slice(&bytes);
+            }
+
+            #[inline]
+            fn extend_from_slice(&mut self, bytes: &[u8]) -> Result<(), AllocError> {
+                self.0.extend_from_slice(bytes);
+                Ok(())
+            }
+
+            #[inline]
+            fn extend<I: IntoIterator<Item = u8>>(&mut self, bytes: I) -> Result<(), AllocError> {
+                let list: &mut Vec<u8> = &mut self.0;
+                Extend::extend(list, bytes);
+                Ok(())
+            }
+
+            #[inline]
+            fn truncate(&mut self, len: usize) {
+                self.0.truncate(len);
+            }
+        }
+    };
+}
+
+growing!(Growing<'_>);
+growing!(List);
+
+/// The bytes of which so many take no memory of their own.
+const INLINE: usize = 30;
+
+/// Bytes of which a few take no memory of their own. They refuse nothing, as [`Growing`].
+#[derive(Clone)]
+pub enum Bytes {
+    Inline(u8, [u8; INLINE]),
+    Listed(Vec<u8>),
+}
+
+impl Bytes {
+    /// No bytes.
+    #[inline]
+    pub const fn new() -> Self {
+        Bytes::Inline(0, [0; INLINE])
+    }
+
+    /// The bytes as a list, with room for so many more.
+    #[cold]
+    #[inline(never)]
+    fn listed(&mut self, more: usize) -> &mut Vec<u8> {
+        if let Bytes::Inline(..) = self {
+            let mut list = Vec::with_capacity((self.len() + more).max(2 * INLINE));
+            list.extend_from_slice(self);
+            *self = Bytes::Listed(list);
+        }
+        match self {
+            Bytes::Listed(list) => list,
+            Bytes::Inline(..) => unreachable!("the bytes were made a list"),
+        }
+    }
+}
+
+impl From<Vec<u8>> for Bytes {
+    fn from(list: Vec<u8>) -> Self {
+        Bytes::Listed(list)
+    }
+}
+
+impl Deref for Bytes {
+    type Target = [u8];
+
+    #[inline]
+    fn deref(&self) -> &[u8] {
+        match self {
+            Bytes::Inline(len, bytes) => &bytes[..usize::from(*len)],
+            Bytes::Listed(list) => list,
+        }
+    }
+}
+
+impl DerefMut for Bytes {
+    #[inline]
+    fn deref_mut(&mut self) -> &mut [u8] {
+        match self {
+            Bytes::Inline(len, bytes) => &mut bytes[..usize::from(*len)],
+            Bytes::Listed(list) => list,
+        }
+    }
+}
+
+impl Sealed for Bytes {}
+
+impl Sink for Bytes {
+    #[inline]
+    fn capacity(&self) -> usize {
+        match self {
+            Bytes::Inline(..) => INLINE,
+            Bytes::Listed(list) => list.capacity(),
+        }
+    }
+
+    #[inline]
+    fn reserve(&mut self, more: usize) -> Result<(), AllocError> {
+        if self.capacity() - self.len() < more {
+            self.listed(more).reserve(more);
+        }
+        Ok(())
+    }
+
+    #[inline]
+    fn push(&mut self, byte: u8) -> Result<(), AllocError> {
+        self.extend_from_slice(&[byte])
+    }
+
+    #[inline]
+    fn push_reserved(&mut self, byte: u8) {
+        self.extend_from_slice(&[byte]).ok();
+    }
+
+    #[inline]
+    fn push_both_reserved(&mut self, bytes: [u8; 2]) {
+        self.extend_from_slice(&bytes).ok();
+    }
+
+    #[inline]
+    fn extend_from_slice(&mut self, bytes: &[u8]) -> Result<(), AllocError> {
+        if let Bytes::Inline(len, room) = self
+            && let Some(end) = usize::from(*len).checked_add(bytes.len())
+            && let Some(place) = room.get_mut(usize::from(*len)..end)
+        {
+            place.copy_from_slice(bytes);
+            *len = end as u8;
+        } else {
+            self.listed(bytes.len()).extend_from_slice(bytes);
+        }
+        Ok(())
+    }
+
+    #[inline]
+    fn extend<I: IntoIterator<Item = u8>>(&mut self, bytes: I) -> Result<(), AllocError> {
+        bytes.into_iter().try_for_each(|byte| self.push(byte))
+    }
+
+    #[inline]
+    fn truncate(&mut self, len: usize) {
+        match self {
+            Bytes::Inline(had, _) => *had = len.min(usize::from(*had)) as u8,
+            Bytes::Listed(list) => list.truncate(len),
+        }
+    }
+}
+
+/// Appends the encoding of a value by its proved `encode`.
+#[inline]
+pub fn append(value: &impl Encode, bytes: &mut Vec<u8>) {
+    done(value.encode(&mut Growing(bytes)))
+}
+
+/// Appends the encoding of a value that is used up.
+#[inline]
+pub fn append_once(value: impl EncodeOnce, bytes: &mut Vec<u8>) {
+    done(value.encode_once(&mut Growing(bytes)))
+}
+
+/// The entries of a section: their bytes, one after another, and their number.
+#[derive(Clone, Debug, Default)]
+pub struct Entries {
+    pub bytes: List,
+    pub count: u32,
+}
+
+impl Entries {
+    /// No entries. They take no memory.
+    pub const fn new() -> Self {
+        Entries {
+            bytes: List(Vec::new()),
+            count: 0,
+        }
+    }
+
+    /// The number of entries with one more.
+    #[inline]
+    fn counted(&self) -> u32 {
+        match self.count.checked_add(1) {
+            Some(count) => count,
+            None => refuse(Refused::TooLong),
+        }
+    }
+
+    /// Adds an entry by the proved `encode` of its record.
+    #[inline]
+    pub fn add(&mut self, record: &impl Encode) {
+        let count = self.counted();
+        done(record.encode(&mut self.bytes));
+        self.count = count;
+    }
+
+    /// Adds an entry by the proved `encode_once` of its record.
+    #[inline]
+    pub fn add_once(&mut self, record: impl EncodeOnce) {
+        let count = self.counted();
+        done(record.encode_once(&mut self.bytes));
+        self.count = count;
+    }
+
+    /// Adds an entry of these bytes.
+    #[inline]
+    pub fn add_bytes(&mut self, entry: &[u8]) {
+        let count = self.counted();
+        self.bytes.0.extend_from_slice(entry);
+        self.count = count;
+    }
+
+    /// Adds the entries that a proved section has: so many, and the bytes of each.
+    pub fn taken<'a>(count: u32, piece: impl Fn(u32) -> Option<&'a [u8]>) -> Self {
+        let mut entries = Entries::new();
+        for entry in (0..count).filter_map(piece) {
+            entries.add_bytes(entry);
+        }
+        entries
+    }
+
+    /// Appends the size and the payload of a section of these entries.
+    #[inline]
+    pub fn encode(&self, bytes: &mut Vec<u8>) {
+        done(encode_section(&mut Growing(bytes), self.count, &self.bytes))
+    }
+}
