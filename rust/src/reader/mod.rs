@@ -5,8 +5,11 @@
 //! [`read_section`] reads a section of a [`SectionKind`], without its id, into [`Items`], and [`shorten`] writes it in its fewest bytes. A custom section is
 //! read as what its name stands for, or, as any is, as its name and data.
 
-pub mod base;
-pub mod insn;
+pub(crate) mod base;
+pub(crate) mod insn;
+pub use base::*;
+pub use insn::*;
+
 mod counts;
 mod kinds;
 pub mod laws;
