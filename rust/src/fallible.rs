@@ -1,11 +1,12 @@
 //! The proved builders, which return an error where those at the root panic or abort.
 //!
-//! Use them where a program must go on when memory runs out or when input is too long. A call that can fail returns
-//! [`Refused`] and leaves the builder unchanged: [`Refused::Memory`] where memory is refused, and [`Refused::TooLong`]
-//! where a count, run or length would pass 4294967295. Calls that make something take an [`Allocator`] first. [`Global`]
-//! is the program's own; one of yours can hold a builder to a budget.
+//! Use them where a program must go on when memory runs out or a list is too long. A call that can fail returns
+//! [`Refused`] and leaves the builder unchanged ([`add_all`] returns how many items it added): [`Refused::Memory`] where
+//! memory is refused, and [`Refused::TooLong`] where a count, run or length would pass 4294967295. Calls that make
+//! something take an [`Allocator`] first. [`Global`] is the program's own; one of yours can hold a builder to a budget.
 //!
-//! The names are those of the root, and [`From`] converts what is built here to the root's type:
+//! Builders have the names of those at the root, and [`From`] converts what is built here with [`Global`] to the root's
+//! type:
 //!
 //! ```
 //! use dolzhytik::fallible::{self, Global, Refused};
@@ -26,13 +27,15 @@
 //!
 //! Types without a builder, such as [`ValType`], [`MemArg`] and [`MemoryType`], are the root's own. [`SectionId`],
 //! [`ExportKind`], [`TagKind`], [`TagType`], [`EntityType`], [`Import`] and [`ImportCompact`] convert both ways.
-//! [`Instruction`] is made of a borrowed instruction of the root, whose lists it borrows.
+//! `Instruction::from(&instruction)` converts an instruction of the root, and borrows its lists.
+//!
+//! A glob import of this module hides the [`Vec`](std::vec::Vec) and [`String`](std::string::String) of `std`.
 //!
 //! # Proved and asked
 //!
 //! Each page has under **Proved** what holds of a call, and under **Asks** what the caller owes: mostly that an iterator
-//! ends, or has the length that it says. Where a caller breaks that, a call may panic or return something wrong. By hand
-//! and not proved are [`Vec`], [`String`], [`Sink`], [`Allocator`] and [`hex`].
+//! ends, or has the length that it reports. Otherwise a call may panic or return something wrong. Written by hand and not
+//! proved are [`Vec`], [`String`], [`Sink`], [`Allocator`], their impls and errors, and [`hex`].
 //!
 //! # Instructions
 //!
@@ -52,14 +55,14 @@ pub use crate::string::*;
 pub use crate::types::*;
 pub use crate::vec::*;
 
-/// Hexadecimal text, as recipes have it.
+/// Hexadecimal text: encoded in lower case, decoded from either case.
 pub mod hex {
     pub use crate::hex::*;
 }
 
-/// What is proved of all bytes and not of one call, such as that a format has one reading.
+/// What is proved of all bytes rather than of a call, such as that a format is unambiguous.
 ///
-/// Each function does nothing: its page has the clauses.
+/// The functions do nothing: their pages have the clauses.
 pub mod laws {
     pub use crate::base::laws as base;
     pub use crate::code::laws as code;
@@ -70,11 +73,11 @@ pub mod laws {
     pub use crate::types::laws as types;
 }
 
-/// Recipes of modules: lines of text that each add an item to a section. Only with the feature `programs`.
+/// Recipes of modules: lines of text that each add an item to a section. It needs the feature `programs`.
 ///
-/// [`assemble`](recipe::assemble) returns the module of a recipe, or the first error in it. [`run`](recipe::run) is the
-/// program `wasmrow`. The page
-/// [RECIPES](https://github.com/dolzhytik/dolzhytik/blob/main/docs/RECIPES.md) has the lines.
+/// [`assemble`](recipe::assemble) returns the module of a recipe, or the first error in it, and [`run`](recipe::run) is
+/// the program `wasmrow`. The page [Recipes](https://github.com/dolzhytik/dolzhytik/blob/main/docs/RECIPES.md) has the
+/// lines.
 #[cfg(feature = "programs")]
 pub mod recipe {
     pub use crate::recipe::*;

@@ -9,7 +9,7 @@ use std::fmt;
 
 /// Writes instructions behind the bytes of a list, with a named call for each.
 ///
-/// The calls that [`insn::InstructionSink`] has too are made by those. The others append the op of the table and its parts, by the proved `encode` of these.
+/// The calls that [`fallible::InstructionSink`](crate::fallible::InstructionSink) has too are made by those. The others append the op of the table and its parts, by the proved `encode` of these.
 #[derive(Debug)]
 pub struct InstructionSink<'a> {
     sink: &'a mut Vec<u8>,
@@ -50,7 +50,7 @@ impl<'a> InstructionSink<'a> {
     }
 }
 
-/// The body of a function: runs of locals, and instructions. Its bytes are those of the proved [`code::Function`], from which it can be made.
+/// The body of a function: runs of locals, and instructions. Its bytes are those of the proved [`fallible::Function`](crate::fallible::Function), from which it can be made.
 ///
 /// ```
 /// use dolzhytik::{CodeSection, Function, Instruction, ValType};
@@ -67,7 +67,7 @@ pub struct Function {
     bytes: Vec<u8>,
 }
 
-/// What the calls of [`code::Function`] have built.
+/// What the calls of [`fallible::Function`](crate::fallible::Function) have built.
 impl From<code::Function> for Function {
     fn from(built: code::Function) -> Self {
         Function {
@@ -134,7 +134,7 @@ impl Encode for Function {
     }
 }
 
-/// The code section, over the proved [`code::CodeSection`].
+/// The code section, over the proved [`fallible::CodeSection`](crate::fallible::CodeSection).
 pub struct CodeSection(code::CodeSection);
 
 default!(CodeSection);
@@ -167,7 +167,7 @@ impl CodeSection {
     }
 }
 
-/// An expression that gives a constant, over the proved [`code::ConstExpr`].
+/// An expression that gives a constant, over the proved [`fallible::ConstExpr`](crate::fallible::ConstExpr).
 pub struct ConstExpr(pub(super) code::ConstExpr);
 
 copied!(ConstExpr);

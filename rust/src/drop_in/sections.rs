@@ -14,7 +14,7 @@ macro_rules! sections {
     ($($(#[$doc:meta])* $name:ident of $id:ident)*) => {
         $(
             $(#[$doc])*
-            #[doc = concat!("\n\nOver the proved [`", stringify!($name), "`](crate::sections::", stringify!($name), ").")]
+            #[doc = concat!("\n\nOver the proved [`", stringify!($name), "`](crate::fallible::", stringify!($name), ").")]
             pub struct $name(pub(super) sections::$name);
 
             impl $name {

@@ -148,7 +148,7 @@ impl From<SubType> for types::SubType {
 
 by_proved! { types: StructType CompositeInnerType CompositeType SubType }
 
-/// The type section, over the proved [`types::TypeSection`].
+/// The type section, over the proved [`fallible::TypeSection`](crate::fallible::TypeSection).
 ///
 /// ```
 /// use dolzhytik::{TypeSection, ValType};

@@ -1,4 +1,6 @@
 // Written by tools/to-rust from crates/wasm_reader/src/lib.rt: change that.
+#![doc = include_str!("../reader.md")]
+
 //! Reads sections, exactly: an answer is the items that the grammar reads there, with padded numbers too, and a cause other than
 //! [`ReadFault::Memory`] says that no reading exists.
 //!
