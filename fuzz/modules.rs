@@ -5,7 +5,7 @@ mod maker;
 mod plain;
 mod whole;
 
-use dolzhytik::alloc::Global;
+use dolzhytik::fallible::Global;
 use dolzhytik::reader::{ModuleFault, Offsets, Outlined, ReadFault, outline, shorten_module};
 use grammar::KINDS;
 use maker::{Maker, Random, input};
@@ -193,7 +193,7 @@ const BEFORE: [u8; 3] = [0x0A, 0x80, 0xA5];
 
 /// What the library answers, or `None` where the sink or the cause is not what it says.
 fn by_library(bytes: &[u8], offsets: Offsets) -> Option<Answer> {
-    let mut sink = dolzhytik::vec::Vec::from_slice(Global, &BEFORE).ok()?;
+    let mut sink = dolzhytik::fallible::Vec::from_slice(Global, &BEFORE).ok()?;
     let answer = shorten_module(bytes, offsets, &mut sink);
     let text = sink.strip_prefix(&BEFORE)?;
     match answer {

@@ -2,27 +2,6 @@
 //!
 //! Every list of the package takes its memory from the global allocator of the program, and answers where that has none. Before each such request its allocator
 //! is asked: [`Global`] grants all, and one of your own can hold a builder to a budget, or refuse each request in turn in a test.
-//!
-//! ```
-//! use dolzhytik::alloc::{AllocError, Allocator};
-//! use dolzhytik::base::{Refused, SectionId};
-//! use dolzhytik::sections::FunctionSection;
-//!
-//! /// Refuses all requests of more than so many bytes.
-//! #[derive(Clone, Copy)]
-//! struct AtMost(usize);
-//!
-//! impl Allocator for AtMost {
-//!     fn grant(&self, bytes: usize) -> Result<(), AllocError> {
-//!         if bytes <= self.0 { Ok(()) } else { Err(AllocError) }
-//!     }
-//! }
-//!
-//! let mut functions = FunctionSection::new(AtMost(64));
-//! while functions.function(7).is_ok() {}
-//! assert_eq!(functions.function(7), Err(Refused::Memory));
-//! assert!(functions.len() > 0);
-//! ```
 use std::collections::TryReserveError;
 use std::fmt;
 
@@ -55,6 +34,25 @@ impl From<AllocError> for std::io::Error {
 pub struct AllocFailed<T>(pub T);
 
 /// Grants or refuses memory.
+///
+/// ```
+/// use dolzhytik::fallible::{AllocError, Allocator, FunctionSection, Refused};
+///
+/// /// Refuses all requests of more than so many bytes.
+/// #[derive(Clone, Copy)]
+/// struct AtMost(usize);
+///
+/// impl Allocator for AtMost {
+///     fn grant(&self, bytes: usize) -> Result<(), AllocError> {
+///         if bytes <= self.0 { Ok(()) } else { Err(AllocError) }
+///     }
+/// }
+///
+/// let mut functions = FunctionSection::new(AtMost(64));
+/// while functions.function(7).is_ok() {}
+/// assert_eq!(functions.function(7), Err(Refused::Memory));
+/// assert!(functions.len() > 0);
+/// ```
 pub trait Allocator {
     /// Grants a list that asks for a buffer of so many bytes, or refuses it. It is asked once for each buffer, and not told when one is given back.
     fn grant(&self, bytes: usize) -> Result<(), AllocError>;

@@ -17,22 +17,35 @@ compile_error!(
 #[cfg(feature = "component-model")]
 compile_error!("there are no components: keep `wasm-encoder` beside this package for them");
 
-pub mod alloc;
+mod alloc;
 mod drop_in;
-pub mod hex;
-pub mod string;
-pub mod vec;
+pub mod fallible;
+mod hex;
+mod string;
+mod vec;
 
-/// Names the modules that `tools/to-rust` writes: they keep the names of their source, arguments of which clauses alone speak, and what is called in the proved build alone.
+/// Declares the modules that `tools/to-rust` writes: they keep the names of their source, arguments of which clauses alone speak, and what is called in the proved build alone.
 macro_rules! written {
-    ($($name:ident)*) => {
+    ($($(#[$attribute:meta])* $visibility:vis mod $name:ident;)*) => {
         $(
+            $(#[$attribute])*
             #[allow(dead_code, non_upper_case_globals, unused_imports, unused_mut, unused_variables, clippy::all)]
-            pub mod $name;
+            $visibility mod $name;
         )*
     };
 }
 
 pub use drop_in::*;
 
-written! { base code custom immediates insn reader recipe sections types }
+written! {
+    mod base;
+    mod code;
+    mod custom;
+    mod immediates;
+    mod insn;
+    pub mod reader;
+    #[cfg(feature = "programs")]
+    mod recipe;
+    mod sections;
+    mod types;
+}

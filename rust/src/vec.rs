@@ -10,12 +10,12 @@ use std::vec;
 /// It is a `std` vector with an allocator beside it, and becomes one, and comes of one, without a copy:
 ///
 /// ```
-/// use dolzhytik::{alloc::Global, base::Module};
+/// use dolzhytik::fallible::{Global, Module};
 ///
 /// let module = Module::new(Global)?;
 /// let bytes: Vec<u8> = module.finish().into();
 /// assert_eq!(bytes, b"\0asm\x01\0\0\0");
-/// # Ok::<(), dolzhytik::base::Refused>(())
+/// # Ok::<(), dolzhytik::fallible::Refused>(())
 /// ```
 pub struct Vec<T, A: Allocator = Global> {
     items: vec::Vec<T>,
@@ -249,12 +249,12 @@ impl<'a, T, A: Allocator> IntoIterator for &'a Vec<T, A> {
 /// What bytes are appended to: a [`Vec`] of the package, or a `std` vector of your own.
 ///
 /// ```
-/// use dolzhytik::base::Encode;
+/// use dolzhytik::fallible::Encode;
 ///
 /// let mut bytes = vec![0x7F];
 /// 624485u32.encode(&mut bytes)?;
 /// assert_eq!(bytes, [0x7F, 0xE5, 0x8E, 0x26]);
-/// # Ok::<(), dolzhytik::base::Refused>(())
+/// # Ok::<(), dolzhytik::fallible::Refused>(())
 /// ```
 pub trait Sink: DerefMut<Target = [u8]> + Sealed {
     /// How many bytes there is room for, with those that stand there.

@@ -2,7 +2,7 @@
 //! so that whoever has the Rust crate can measure it too.
 use dolzhytik as wasm_encoder;
 
-use dolzhytik::alloc::Global;
+use dolzhytik::fallible::Global;
 use std::borrow::Cow;
 use wasm_encoder::{
     BlockType, CodeSection, EntityType, ExportKind, ExportSection, Function, FunctionSection,

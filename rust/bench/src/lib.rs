@@ -1,6 +1,6 @@
 //! The workloads of `bench/` in the build by rustc: the border by which the drivers call them as they call those of the proved build.
 use calls::{data, name_section, reading, types};
-use dolzhytik::alloc::Global;
+use dolzhytik::fallible::Global;
 use std::slice;
 
 #[cfg(not(feature = "drop-in"))]

@@ -1,7 +1,7 @@
 //! The functions of `dolzhytik.h` on any platform. What each does stands in [`calls`], which is written from the proved source; here is the border: pointers and
 //! lengths become slices.
 use calls::{DzOutlined, DzSection, causes, listing, outlining, recipes, shortest, whole};
-use dolzhytik::alloc::Global;
+use dolzhytik::fallible::Global;
 use std::slice;
 
 #[cfg(test)]

@@ -38,7 +38,7 @@ console.log(instance.exports.fib(10), WebAssembly.Module.customSections(module, 
 /// A reader is what the Rust crate hasn't.
 #[test]
 fn its_module_is_read_section_by_section() {
-    use wasm_encoder::{alloc::Global, reader::list_module};
+    use wasm_encoder::{fallible::Global, reader::list_module};
 
     let module = compile(SOURCE);
     let sections = list_module(Global, &module).expect("a module");

@@ -4,24 +4,24 @@
 //! The formats are those of the WebAssembly core specification, "Binary Format". What bytes spell is defined in
 //! `specs/Formats.antt`, what a call appends in `specs/Calls.antt`, and [`laws`] says that bytes are read in one way.
 
-pub(crate) mod counted;
-pub(crate) mod cow;
-pub(crate) mod encode;
-pub(crate) mod fixed;
-pub(crate) mod frames;
-pub(crate) mod kind;
+mod counted;
+mod cow;
+mod encode;
+mod fixed;
+mod frames;
+mod kind;
 pub mod laws;
-pub(crate) mod leb128;
-pub(crate) mod modules;
-pub(crate) mod once;
-pub(crate) mod parts;
-pub(crate) mod pieces;
-pub(crate) mod refused;
-pub(crate) mod section_id;
-pub(crate) mod sections;
-pub(crate) mod tuples;
-pub(crate) mod types;
-pub(crate) mod vectors;
+mod leb128;
+mod modules;
+mod once;
+mod parts;
+mod pieces;
+mod refused;
+mod section_id;
+mod sections;
+mod tuples;
+mod types;
+mod vectors;
 
 pub use counted::{Counted, add_all};
 pub use cow::{CowSlice, CowStr};

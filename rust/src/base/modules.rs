@@ -9,8 +9,7 @@ use crate::alloc::{Allocator, Global};
 /// A module, seen as its bytes.
 ///
 /// ```
-/// # use dolzhytik::{alloc::Global, base::*, code::*, custom::*, immediates::*, insn::*, reader::*, recipe::*, sections::*, types::*};
-/// # use dolzhytik::vec::Vec;
+/// # use dolzhytik::{fallible::*, reader::*};
 /// # fn example(alloc: Global) -> Result<(), Box<dyn std::error::Error>> {
 /// let mut module = Module::new(alloc)?;
 /// module.section(&RawSection { id: 1, bytes: &[0] })?;

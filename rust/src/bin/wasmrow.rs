@@ -1,7 +1,6 @@
 //! Reads a recipe from standard input and writes the module in hexadecimal; with `--read` it goes the other way.
-use dolzhytik::alloc::{AllocError, Global};
-use dolzhytik::recipe::run;
-use dolzhytik::string::String;
+use dolzhytik::fallible::recipe::run;
+use dolzhytik::fallible::{AllocError, Global, String};
 use std::env;
 use std::io::{self, IsTerminal};
 use std::process::ExitCode;

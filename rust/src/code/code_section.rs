@@ -9,8 +9,7 @@ use crate::base::{Counted, Encode, Pieces, R, Section, SectionId, encode_frame};
 /// The bodies of a module's functions, seen as the bytes of each entry: the frame of a raw body.
 ///
 /// ```
-/// # use dolzhytik::{alloc::Global, base::*, code::*, custom::*, immediates::*, insn::*, reader::*, recipe::*, sections::*, types::*};
-/// # use dolzhytik::vec::Vec;
+/// # use dolzhytik::{fallible::*, reader::*};
 /// # fn example(alloc: Global) -> Result<(), Box<dyn std::error::Error>> {
 /// # let mut module = Module::new(alloc)?;
 /// let mut code = CodeSection::new(alloc);

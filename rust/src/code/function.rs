@@ -10,8 +10,7 @@ use crate::insn::{Buffer, Instruction, InstructionSink};
 /// A function, seen as its raw body: the runs of its locals, and its instructions.
 ///
 /// ```
-/// # use dolzhytik::{alloc::Global, base::*, code::*, custom::*, immediates::*, insn::*, reader::*, recipe::*, sections::*, types::*};
-/// # use dolzhytik::vec::Vec;
+/// # use dolzhytik::{fallible::*, reader::*};
 /// # fn example(alloc: Global) -> Result<(), Box<dyn std::error::Error>> {
 /// # let mut code = CodeSection::new(alloc);
 /// let mut function = Function::new(alloc, [(1, ValType::I32)])?;

@@ -14,8 +14,7 @@ use crate::reader::base::{ReadFault, Readable, Shorten, read_whole};
 /// The process that was dumped, seen as the data of its section: the byte 00, and its name.
 ///
 /// ```
-/// # use dolzhytik::{alloc::Global, base::*, code::*, custom::*, immediates::*, insn::*, reader::*, recipe::*, sections::*, types::*};
-/// # use dolzhytik::vec::Vec;
+/// # use dolzhytik::{fallible::*, reader::*};
 /// # fn example(alloc: Global) -> Result<(), Box<dyn std::error::Error>> {
 /// # let mut module = Module::new(alloc)?;
 /// module.section(&CoreDumpSection::new(alloc, "a.wasm")?)?;
@@ -100,8 +99,7 @@ impl<A: Allocator> Section for CoreDumpSection<A> {
 /// The modules of the process, by their names.
 ///
 /// ```
-/// # use dolzhytik::{alloc::Global, base::*, code::*, custom::*, immediates::*, insn::*, reader::*, recipe::*, sections::*, types::*};
-/// # use dolzhytik::vec::Vec;
+/// # use dolzhytik::{fallible::*, reader::*};
 /// # fn example(alloc: Global) -> Result<(), Box<dyn std::error::Error>> {
 /// # let mut module = Module::new(alloc)?;
 /// let mut modules = CoreDumpModulesSection::new(alloc);
@@ -180,8 +178,7 @@ impl<A: Allocator> CoreDumpModulesSection<A> {
 /// The instances of the process. `len` is their number.
 ///
 /// ```
-/// # use dolzhytik::{alloc::Global, base::*, code::*, custom::*, immediates::*, insn::*, reader::*, recipe::*, sections::*, types::*};
-/// # use dolzhytik::vec::Vec;
+/// # use dolzhytik::{fallible::*, reader::*};
 /// # fn example(alloc: Global) -> Result<(), Box<dyn std::error::Error>> {
 /// # let mut module = Module::new(alloc)?;
 /// let mut instances = CoreDumpInstancesSection::new(alloc);

@@ -16,8 +16,7 @@ use crate::reader::base::{ReadFault, Readable, Shorten, Spelled, read_whole};
 /// each frame.
 ///
 /// ```
-/// # use dolzhytik::{alloc::Global, base::*, code::*, custom::*, immediates::*, insn::*, reader::*, recipe::*, sections::*, types::*};
-/// # use dolzhytik::vec::Vec;
+/// # use dolzhytik::{fallible::*, reader::*};
 /// # fn example(alloc: Global) -> Result<(), Box<dyn std::error::Error>> {
 /// let mut stack = CoreDumpStackSection::new(alloc, "main")?;
 /// stack.frame(0, 42, 51, [CoreDumpValue::I32(1)], [CoreDumpValue::Missing])?;

@@ -38,8 +38,7 @@ pub(crate) fn begin_custom<A: Sink>(sink: &mut A, name: &str, size: usize) -> R<
 /// A custom section of any name and data.
 ///
 /// ```
-/// # use dolzhytik::{alloc::Global, base::*, code::*, custom::*, immediates::*, insn::*, reader::*, recipe::*, sections::*, types::*};
-/// # use dolzhytik::vec::Vec;
+/// # use dolzhytik::{fallible::*, reader::*};
 /// # fn example(alloc: Global) -> Result<(), Box<dyn std::error::Error>> {
 /// # let mut module = Module::new(alloc)?;
 /// # let bytes = *b"\0\x01";

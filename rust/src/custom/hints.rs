@@ -12,8 +12,7 @@ use crate::reader::base::{ReadFault, Readable, Shorten, Spelled};
 /// Which branches are likely to be taken: a list of hints for each function. It stands before the code section.
 ///
 /// ```
-/// # use dolzhytik::{alloc::Global, base::*, code::*, custom::*, immediates::*, insn::*, reader::*, recipe::*, sections::*, types::*};
-/// # use dolzhytik::vec::Vec;
+/// # use dolzhytik::{fallible::*, reader::*};
 /// # fn example(alloc: Global) -> Result<(), Box<dyn std::error::Error>> {
 /// let mut function = Function::new(alloc, [])?;
 /// function.instruction(&Instruction::I32Const(1))?;

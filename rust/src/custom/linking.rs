@@ -13,8 +13,7 @@ use crate::reader::base::{Framed, ReadFault, Readable, Shorten, Spelled, append_
 /// What a linker needs to know of a module: the version 2 of the format, and a subsection for each call. `new` takes no memory.
 ///
 /// ```
-/// # use dolzhytik::{alloc::Global, base::*, code::*, custom::*, immediates::*, insn::*, reader::*, recipe::*, sections::*, types::*};
-/// # use dolzhytik::vec::Vec;
+/// # use dolzhytik::{fallible::*, reader::*};
 /// # fn example(alloc: Global) -> Result<(), Box<dyn std::error::Error>> {
 /// # let mut module = Module::new(alloc)?;
 /// let mut symbols = SymbolTable::new(alloc);

@@ -10,23 +10,23 @@
 //!
 //! [`ReadFault::Memory`]: crate::reader::base::ReadFault::Memory
 
-pub(crate) mod core_dumps;
-pub(crate) mod core_stack;
-pub(crate) mod core_values;
-pub(crate) mod counted;
-pub(crate) mod custom_section;
-pub(crate) mod entries;
-pub(crate) mod hints;
+mod core_dumps;
+mod core_stack;
+mod core_values;
+mod counted;
+mod custom_section;
+mod entries;
+mod hints;
 pub mod laws;
-pub(crate) mod linking;
-pub(crate) mod lists;
-pub(crate) mod marked;
-pub(crate) mod named;
-pub(crate) mod names;
-pub(crate) mod producers;
-pub(crate) mod raw_custom;
-pub(crate) mod subsections;
-pub(crate) mod symbols;
+mod linking;
+mod lists;
+mod marked;
+mod named;
+mod names;
+mod producers;
+mod raw_custom;
+mod subsections;
+mod symbols;
 
 pub use core_dumps::{
     CoreDumpInstancesSection, CoreDumpModulesSection, CoreDumpSection, InstanceItems, ModuleItems,

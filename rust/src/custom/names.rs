@@ -84,8 +84,7 @@ impl<A: Allocator> IndirectNameMap<A> {
 /// The names of a module and of its parts: a subsection for each call, in the order of the calls.
 ///
 /// ```
-/// # use dolzhytik::{alloc::Global, base::*, code::*, custom::*, immediates::*, insn::*, reader::*, recipe::*, sections::*, types::*};
-/// # use dolzhytik::vec::Vec;
+/// # use dolzhytik::{fallible::*, reader::*};
 /// # fn example(alloc: Global) -> Result<(), Box<dyn std::error::Error>> {
 /// # let mut module = Module::new(alloc)?;
 /// let mut functions = NameMap::new(alloc);

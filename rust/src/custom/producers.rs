@@ -46,8 +46,7 @@ impl<A: Allocator> ProducersField<A> {
 /// What has produced the module.
 ///
 /// ```
-/// # use dolzhytik::{alloc::Global, base::*, code::*, custom::*, immediates::*, insn::*, reader::*, recipe::*, sections::*, types::*};
-/// # use dolzhytik::vec::Vec;
+/// # use dolzhytik::{fallible::*, reader::*};
 /// # fn example(alloc: Global) -> Result<(), Box<dyn std::error::Error>> {
 /// # let mut module = Module::new(alloc)?;
 /// let mut field = ProducersField::new(alloc);

@@ -8,8 +8,7 @@ use crate::base::{Encode, R, Section, SectionId};
 /// the module finds something else there, or nothing.
 ///
 /// ```
-/// # use dolzhytik::{alloc::Global, base::*, code::*, custom::*, immediates::*, insn::*, reader::*, recipe::*, sections::*, types::*};
-/// # use dolzhytik::vec::Vec;
+/// # use dolzhytik::{fallible::*, reader::*};
 /// # fn example(alloc: Global) -> Result<(), Box<dyn std::error::Error>> {
 /// # let mut module = Module::new(alloc)?;
 /// module.section(&RawCustomSection(&[2, 1, b'a']))?;

@@ -11,8 +11,7 @@ use crate::reader::base::{ReadFault, Readable, Shorten, Spelled, read_optional};
 /// Symbols, in the order in which they are added. A table is encoded as subsection 8 of a linking section.
 ///
 /// ```
-/// # use dolzhytik::{alloc::Global, base::*, code::*, custom::*, immediates::*, insn::*, reader::*, recipe::*, sections::*, types::*};
-/// # use dolzhytik::vec::Vec;
+/// # use dolzhytik::{fallible::*, reader::*};
 /// # fn example(alloc: Global) -> Result<(), Box<dyn std::error::Error>> {
 /// let mut symbols = SymbolTable::new(alloc);
 /// symbols.function(SymbolTable::WASM_SYM_EXPORTED, 0, Some("f"))?;

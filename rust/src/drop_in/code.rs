@@ -8,7 +8,7 @@ use crate::{code, insn};
 
 /// Writes instructions behind the bytes of a list, with a named call for each.
 ///
-/// The calls that [`insn::InstructionSink`] has too are made by those. The others append the op of the table and its parts, by the proved `encode` of these.
+/// The calls that [`fallible::InstructionSink`](crate::fallible::InstructionSink) has too are made by those. The others append the op of the table and its parts, by the proved `encode` of these.
 #[derive(Debug)]
 pub struct InstructionSink<'a> {
     sink: &'a mut Vec<u8>,
@@ -53,7 +53,7 @@ impl<'a> InstructionSink<'a> {
 /// The bytes that a body has room for at first.
 const BODY: usize = 16;
 
-/// The body of a function: runs of locals, and instructions. Its bytes are those of the proved [`code::Function`], from which it can be made.
+/// The body of a function: runs of locals, and instructions. Its bytes are those of the proved [`fallible::Function`](crate::fallible::Function), from which it can be made.
 ///
 /// ```
 /// use dolzhytik::{CodeSection, Function, Instruction, ValType};
@@ -70,7 +70,7 @@ pub struct Function {
     bytes: Vec<u8>,
 }
 
-/// What the calls of [`code::Function`] have built.
+/// What the calls of [`fallible::Function`](crate::fallible::Function) have built.
 impl From<code::Function> for Function {
     fn from(built: code::Function) -> Self {
         Function {
@@ -139,7 +139,7 @@ impl Encode for Function {
     }
 }
 
-/// The code section.
+/// The code section. Its entries are encoded as those of the proved [`fallible::CodeSection`](crate::fallible::CodeSection).
 #[derive(Clone)]
 pub struct CodeSection(Entries);
 

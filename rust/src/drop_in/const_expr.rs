@@ -25,7 +25,7 @@ pub struct ConstExpr {
     rest: Bytes,
 }
 
-/// What the calls of [`code::ConstExpr`] have built. The bytes are copied.
+/// What the calls of [`fallible::ConstExpr`](crate::fallible::ConstExpr) have built. The bytes are copied.
 impl From<code::ConstExpr> for ConstExpr {
     fn from(built: code::ConstExpr) -> Self {
         let mut rest = Bytes::new();

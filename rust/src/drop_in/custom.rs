@@ -57,7 +57,7 @@ macro_rules! over_proved {
     ($($(#[$doc:meta])* $name:ident)*) => {
         $(
             $(#[$doc])*
-            #[doc = concat!("\n\nOver the proved [`", stringify!($name), "`](crate::custom::", stringify!($name), ").")]
+            #[doc = concat!("\n\nOver the proved [`", stringify!($name), "`](crate::fallible::", stringify!($name), ").")]
             pub struct $name(custom::$name);
 
             impl $name {

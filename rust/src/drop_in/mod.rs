@@ -1,7 +1,6 @@
 //! The names of the Rust crate `wasm-encoder`, over the proved calls.
 //!
-//! Each call hands on to the one of its name in [`base`](crate::base), [`insn`](crate::insn), [`code`](crate::code), [`sections`](crate::sections),
-//! [`types`](crate::types) or [`custom`](crate::custom), whose page says what is proved of it. An instruction for which there is no proved call is written by the proved `encode` of
+//! Each call hands on to the one of its name in [`fallible`](crate::fallible), whose page says what is proved of it. An instruction for which there is no proved call is written by the proved `encode` of
 //! its op and its parts. A body and a module are bytes here, since the crate lends them before their end, and so [`Function::raw`] and [`Module::section`] append by themselves, as do
 //! the calls on values of which nothing is known here: [`encode_vec`], and `encode` of a list and of an option. Nothing of this is proved; it is tested.
 //!
@@ -106,7 +105,7 @@ macro_rules! default {
 macro_rules! taken {
     ($($name:ident of $module:ident),*) => {
         $(
-            #[doc = concat!("What the calls of [`", stringify!($module), "::", stringify!($name), "`](crate::", stringify!($module), "::", stringify!($name), ") have built.")]
+            #[doc = concat!("What the calls of [`fallible::", stringify!($name), "`](crate::fallible::", stringify!($name), ") have built.")]
             impl From<$crate::$module::$name> for $name {
                 fn from(built: $crate::$module::$name) -> Self {
                     $name(built)

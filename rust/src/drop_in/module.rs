@@ -30,7 +30,7 @@ impl Module {
         done(base::Module::new(Global)).into()
     }
 
-    /// Appends a section, as [`base::Module::section`](crate::base::Module::section) does.
+    /// Appends a section, as [`fallible::Module::section`](crate::fallible::Module::section) does.
     pub fn section(&mut self, section: &impl Section) -> &mut Self {
         section.append_to(&mut self.bytes);
         self
@@ -54,7 +54,7 @@ impl Module {
 
 default!(Module);
 
-/// What the calls of [`base::Module`](crate::base::Module) have built.
+/// What the calls of [`fallible::Module`](crate::fallible::Module) have built.
 impl From<base::Module> for Module {
     fn from(built: base::Module) -> Self {
         Module {

@@ -13,6 +13,7 @@ macro_rules! sections {
     ($($(#[$doc:meta])* $name:ident of $id:ident)*) => {
         $(
             $(#[$doc])*
+            #[doc = concat!("\n\nIts entries are encoded as those of the proved [`fallible::", stringify!($name), "`](crate::fallible::", stringify!($name), ").")]
             #[derive(Clone)]
             pub struct $name(pub(super) Entries);
 

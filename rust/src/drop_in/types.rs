@@ -150,7 +150,7 @@ impl From<SubType> for types::SubType {
 
 by_proved! { types: StructType CompositeInnerType CompositeType SubType }
 
-/// The type section.
+/// The type section. Its entries are encoded as those of the proved [`fallible::TypeSection`](crate::fallible::TypeSection).
 ///
 /// ```
 /// use dolzhytik::{TypeSection, ValType};

@@ -4,11 +4,11 @@
 //!
 //! The text of an immediate is in `specs/Immediates.antt`, and what bytes spell it in `specs/PlainImmediates.antt`.
 
-pub(crate) mod block_type;
-pub(crate) mod control;
-pub(crate) mod floats;
+mod block_type;
+mod control;
+mod floats;
 pub mod laws;
-pub(crate) mod memory;
+mod memory;
 
 pub use block_type::BlockType;
 pub use control::{Catch, Handle};

@@ -9,19 +9,19 @@
 //! The opcode table is `specs/Table.antt`, the text of an instruction `specs/Instructions.antt`, and what bytes spell an
 //! instruction `specs/Plain.antt`.
 
-pub(crate) mod aggregate;
-pub(crate) mod atomic;
-pub(crate) mod instruction;
+mod aggregate;
+mod atomic;
+mod instruction;
 pub mod laws;
-pub(crate) mod numeric;
-pub(crate) mod op;
-pub(crate) mod part;
-pub(crate) mod prefixed_numeric;
-pub(crate) mod ranged;
-pub(crate) mod sink;
-pub(crate) mod table;
-pub(crate) mod vector;
-pub(crate) mod vector_immediate;
+mod numeric;
+mod op;
+mod part;
+mod prefixed_numeric;
+mod ranged;
+mod sink;
+mod table;
+mod vector;
+mod vector_immediate;
 
 pub use aggregate::Aggregate;
 pub use atomic::Atomic;

@@ -1,6 +1,8 @@
 // Written by tools/to-rust from crates/wasm_reader/src/laws.rt: change that.
 //! What is promised of all lists of bytes, and not of a call: each function does nothing, and its clause is the promise.
 
+pub use crate::reader::insn::laws as insn;
+
 /// Two sections of a kind that are shortened gain one text exactly where they are read as the same items.
 ///
 /// # Proved

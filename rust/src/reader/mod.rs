@@ -1,21 +1,26 @@
 // Written by tools/to-rust from crates/wasm_reader/src/lib.rt: change that.
+#![doc = include_str!("../reader.md")]
+
 //! Reads sections, exactly: an answer is the items that the grammar reads there, with padded numbers too, and a cause other than
 //! [`ReadFault::Memory`] says that no reading exists.
 //!
 //! [`read_section`] reads a section of a [`SectionKind`], without its id, into [`Items`], and [`shorten`] writes it in its fewest bytes. A custom section is
 //! read as what its name stands for, or, as any is, as its name and data.
 
-pub mod base;
-pub mod insn;
-pub(crate) mod counts;
-pub(crate) mod kinds;
+pub(crate) mod base;
+pub(crate) mod insn;
+pub use base::*;
+pub use insn::*;
+
+mod counts;
+mod kinds;
 pub mod laws;
-pub(crate) mod modules;
-pub(crate) mod outlines;
-pub(crate) mod section;
-pub(crate) mod shortest;
-pub(crate) mod standing;
-pub(crate) mod whole;
+mod modules;
+mod outlines;
+mod section;
+mod shortest;
+mod standing;
+mod whole;
 
 pub use kinds::{Items, SectionKind};
 pub use modules::{Listed, list_module};

@@ -4,11 +4,11 @@
 //! What a text says is defined: its lines and their words in `specs/Lines.antt`, the entry or the fault of each line, and the module
 //! of the sections that the entries add to, in `specs/Recipe.antt`. [`assemble`] gives that module, and [`run`] is the program around it.
 
-pub(crate) mod fault;
-pub(crate) mod listing;
-pub(crate) mod program;
-pub(crate) mod recipe;
-pub(crate) mod words;
+mod fault;
+mod listing;
+mod program;
+mod recipe;
+mod words;
 
 pub use fault::{RecipeCause, RecipeFault};
 pub use program::run;

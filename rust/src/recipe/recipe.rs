@@ -481,8 +481,8 @@ fn without_return(line: &str) -> &str {
 /// those needed are ignored.
 ///
 /// ```
-/// # use dolzhytik::{alloc::Global, base::*, code::*, custom::*, immediates::*, insn::*, reader::*, recipe::*, sections::*, types::*};
-/// # use dolzhytik::vec::Vec;
+/// # use dolzhytik::fallible::recipe::*;
+/// # use dolzhytik::{fallible::*, reader::*};
 /// # fn example(alloc: Global) -> Result<(), Box<dyn std::error::Error>> {
 /// let module = assemble(alloc, "body 200020016a0b")?;
 /// # Ok(())

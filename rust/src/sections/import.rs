@@ -14,8 +14,7 @@ use crate::reader::base::{Dropped, Passed, ReadFault, Readable, Spelled, pass_ma
 /// What a module imports.
 ///
 /// ```
-/// # use dolzhytik::{alloc::Global, base::*, code::*, custom::*, immediates::*, insn::*, reader::*, recipe::*, sections::*, types::*};
-/// # use dolzhytik::vec::Vec;
+/// # use dolzhytik::{fallible::*, reader::*};
 /// # fn example(alloc: Global) -> Result<(), Box<dyn std::error::Error>> {
 /// # let mut module = Module::new(alloc)?;
 /// let mut imports = ImportSection::new(alloc);

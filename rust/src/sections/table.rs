@@ -14,8 +14,7 @@ use crate::reader::insn::Expression;
 /// The tables that a module defines.
 ///
 /// ```
-/// # use dolzhytik::{alloc::Global, base::*, code::*, custom::*, immediates::*, insn::*, reader::*, recipe::*, sections::*, types::*};
-/// # use dolzhytik::vec::Vec;
+/// # use dolzhytik::{fallible::*, reader::*};
 /// # fn example(alloc: Global) -> Result<(), Box<dyn std::error::Error>> {
 /// # let mut module = Module::new(alloc)?;
 /// let mut tables = TableSection::new(alloc);

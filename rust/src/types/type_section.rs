@@ -11,8 +11,7 @@ use crate::reader::base::{ReadFault, read_whole};
 /// The types that a module defines, seen as the bytes of each entry.
 ///
 /// ```
-/// # use dolzhytik::{alloc::Global, base::*, code::*, custom::*, immediates::*, insn::*, reader::*, recipe::*, sections::*, types::*};
-/// # use dolzhytik::vec::Vec;
+/// # use dolzhytik::{fallible::*, reader::*};
 /// # fn example(alloc: Global) -> Result<(), Box<dyn std::error::Error>> {
 /// # let mut module = Module::new(alloc)?;
 /// let mut types = TypeSection::new(alloc);

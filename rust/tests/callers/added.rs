@@ -1,9 +1,9 @@
 // Written by tools/to-rust from crates/callers/src/added.rt: change that.
 //! Calls that add an entry to a custom section: the entry is known.
 
-use dolzhytik::alloc::Allocator;
-use dolzhytik::base::R;
-use dolzhytik::custom::{NameMap, NameSection, SymbolTable};
+use dolzhytik::fallible::Allocator;
+use dolzhytik::fallible::R;
+use dolzhytik::fallible::{NameMap, NameSection, SymbolTable};
 
 /// Names of types, in the subsection 4.
 ///

@@ -1,10 +1,10 @@
 // Written by tools/to-rust from crates/callers/src/bodies.rt: change that.
 //! A caller of a function's sinks: the body is known to the byte, and so is the length between.
 
-use dolzhytik::alloc::Allocator;
-use dolzhytik::base::R;
-use dolzhytik::code::Function;
-use dolzhytik::insn::BlockType;
+use dolzhytik::fallible::Allocator;
+use dolzhytik::fallible::R;
+use dolzhytik::fallible::Function;
+use dolzhytik::fallible::BlockType;
 
 /// A constant, and then an empty block that is entered where it is not 0. The result is the place of the branch.
 ///

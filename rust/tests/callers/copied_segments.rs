@@ -1,9 +1,9 @@
 // Written by tools/to-rust from crates/callers/src/copied_segments.rt: change that.
 //! Copies of what core sections are made of.
 
-use dolzhytik::alloc::Allocator;
-use dolzhytik::base::R;
-use dolzhytik::sections::{DataSegmentMode, ElementMode, ElementSegment, Elements, FunctionSection, Imports};
+use dolzhytik::fallible::Allocator;
+use dolzhytik::fallible::R;
+use dolzhytik::fallible::{DataSegmentMode, ElementMode, ElementSegment, Elements, FunctionSection, Imports};
 
 /// A function section of the same entries.
 ///

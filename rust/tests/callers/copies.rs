@@ -1,12 +1,12 @@
 // Written by tools/to-rust from crates/callers/src/copies.rt: change that.
 //! Copies of builders and values: each is equal to the first one, or says the same.
 
-use dolzhytik::alloc::Allocator;
-use dolzhytik::base::{Module, R};
-use dolzhytik::code::{CodeSection, Function};
-use dolzhytik::custom::{CoreDumpSection, CoreDumpStackSection, CustomSection, NameMap, NameSection};
-use dolzhytik::insn::Instruction;
-use dolzhytik::types::{CompositeInnerType, CompositeType, FuncType, StructType, SubType, TypeSection};
+use dolzhytik::fallible::Allocator;
+use dolzhytik::fallible::{Module, R};
+use dolzhytik::fallible::{CodeSection, Function};
+use dolzhytik::fallible::{CoreDumpSection, CoreDumpStackSection, CustomSection, NameMap, NameSection};
+use dolzhytik::fallible::Instruction;
+use dolzhytik::fallible::{CompositeInnerType, CompositeType, FuncType, StructType, SubType, TypeSection};
 
 /// A module of the same sections.
 ///

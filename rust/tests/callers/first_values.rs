@@ -1,11 +1,11 @@
 // Written by tools/to-rust from crates/callers/src/first_values.rt: change that.
 //! Callers that add items whose first values are expressions, and prove what a reader finds.
 
-use dolzhytik::vec::Vec;
-use dolzhytik::alloc::Allocator;
-use dolzhytik::base::{Encode, HeapType, R, RefType, ValType};
-use dolzhytik::code::ConstExpr;
-use dolzhytik::sections::{GlobalSection, GlobalType, TableSection, TableType};
+use dolzhytik::fallible::Vec;
+use dolzhytik::fallible::Allocator;
+use dolzhytik::fallible::{Encode, HeapType, R, RefType, ValType};
+use dolzhytik::fallible::ConstExpr;
+use dolzhytik::fallible::{GlobalSection, GlobalType, TableSection, TableType};
 
 /// A global section of one global, which can't be set and has the value of the global at the index.
 ///

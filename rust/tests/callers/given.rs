@@ -1,13 +1,13 @@
 // Written by tools/to-rust from crates/callers/src/given.rt: change that.
 //! Values that are made of parts, and data that are given out as custom sections.
 
-use dolzhytik::vec::Vec;
-use dolzhytik::alloc::Allocator;
-use dolzhytik::base::{R, ValType};
-use dolzhytik::code::ConstExpr;
-use dolzhytik::custom::{CoreDumpInstancesSection, CoreDumpModulesSection, CoreDumpStackSection, CustomSection};
-use dolzhytik::immediates::{Ieee32, Ieee64};
-use dolzhytik::types::FuncType;
+use dolzhytik::fallible::Vec;
+use dolzhytik::fallible::Allocator;
+use dolzhytik::fallible::{R, ValType};
+use dolzhytik::fallible::ConstExpr;
+use dolzhytik::fallible::{CoreDumpInstancesSection, CoreDumpModulesSection, CoreDumpStackSection, CustomSection};
+use dolzhytik::fallible::{Ieee32, Ieee64};
+use dolzhytik::fallible::FuncType;
 
 /// A constant of 32 bits.
 ///

@@ -1,10 +1,10 @@
 // Written by tools/to-rust from crates/callers/src/instructions.rt: change that.
 //! Callers of the sink: what they append is known to the byte.
 
-use dolzhytik::vec::{Sink, Vec};
-use dolzhytik::alloc::Allocator;
-use dolzhytik::base::R;
-use dolzhytik::insn::{BlockType, Buffer, InstructionSink};
+use dolzhytik::fallible::{Sink, Vec};
+use dolzhytik::fallible::Allocator;
+use dolzhytik::fallible::R;
+use dolzhytik::fallible::{BlockType, Buffer, InstructionSink};
 
 /// The sum of two locals, in any buffer.
 ///

@@ -1,10 +1,10 @@
 // Written by tools/to-rust from crates/callers/src/queries.rt: change that.
 //! Counts and entries: what a builder says of itself.
 
-use dolzhytik::alloc::Allocator;
-use dolzhytik::code::CodeSection;
-use dolzhytik::custom::{NameMap, NameSection};
-use dolzhytik::types::TypeSection;
+use dolzhytik::fallible::Allocator;
+use dolzhytik::fallible::CodeSection;
+use dolzhytik::fallible::{NameMap, NameSection};
+use dolzhytik::fallible::TypeSection;
 
 /// How many bodies there are.
 ///

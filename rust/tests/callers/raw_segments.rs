@@ -1,9 +1,9 @@
 // Written by tools/to-rust from crates/callers/src/raw_segments.rt: change that.
 //! A segment that is encoded already.
 
-use dolzhytik::alloc::Allocator;
-use dolzhytik::base::R;
-use dolzhytik::sections::ElementSection;
+use dolzhytik::fallible::Allocator;
+use dolzhytik::fallible::R;
+use dolzhytik::fallible::ElementSection;
 
 /// An element segment of these bytes.
 ///

@@ -1,9 +1,9 @@
 // Written by tools/to-rust from crates/callers/src/readers.rt: change that.
 //! Readers of instructions: where a walk begins, what is before it, and a body as a whole.
 
-use dolzhytik::alloc::Allocator;
-use dolzhytik::reader::base::ReadFault;
-use dolzhytik::reader::insn::{Body, Instructions, read_body};
+use dolzhytik::fallible::Allocator;
+use dolzhytik::reader::ReadFault;
+use dolzhytik::reader::{Body, Instructions, read_body};
 
 /// The walk that begins at the first byte.
 ///

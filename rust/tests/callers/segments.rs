@@ -1,9 +1,9 @@
 // Written by tools/to-rust from crates/callers/src/segments.rt: change that.
 //! Copies of data segments, whose bytes are those of the segment.
 
-use dolzhytik::vec::Vec;
-use dolzhytik::base::R;
-use dolzhytik::sections::DataSegment;
+use dolzhytik::fallible::Vec;
+use dolzhytik::fallible::R;
+use dolzhytik::fallible::DataSegment;
 
 /// Copies a segment whose bytes are an array.
 ///

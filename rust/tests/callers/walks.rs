@@ -1,9 +1,10 @@
 // Written by tools/to-rust from crates/callers/src/walks.rt: change that.
 //! Callers of the reader, which prove what they answer.
 
-use dolzhytik::alloc::Allocator;
-use dolzhytik::reader::base::ReadFault;
-use dolzhytik::reader::insn::{Instructions, laws};
+use dolzhytik::fallible::Allocator;
+use dolzhytik::reader::ReadFault;
+use dolzhytik::reader::Instructions;
+use dolzhytik::reader::laws::insn as laws;
 
 /// How many instructions a body has. The bytes are those of the body without its size.
 ///

@@ -4,7 +4,7 @@
 #[rustfmt::skip]
 mod examples;
 
-use dolzhytik::alloc::Global;
+use dolzhytik::fallible::Global;
 use examples::{compiled_module, object_module};
 use std::process::Command;
 

@@ -1,10 +1,10 @@
 // Written by tools/drop-in from tools/instructions.tsv: change that.
 //! Each instruction as a value, by its call, and as a proved value, and the bytes that it must have.
 use crate::checks::check;
-use dolzhytik::base::CowSlice;
+use dolzhytik::fallible::CowSlice;
 use dolzhytik::{
     AbstractHeapType, BlockType, Catch, Handle, HeapType, Ieee32, Ieee64, Instruction, MemArg,
-    MemArgTarget, Ordering, RefType, ValType, insn,
+    MemArgTarget, Ordering, RefType, ValType, fallible,
 };
 use std::borrow::Cow;
 
@@ -676,7 +676,7 @@ fn from_0() {
         |sink| {
             sink.unreachable();
         },
-        insn::Instruction::Unreachable,
+        fallible::Instruction::Unreachable,
     );
     check(
         "01",
@@ -684,7 +684,7 @@ fn from_0() {
         |sink| {
             sink.nop();
         },
-        insn::Instruction::Nop,
+        fallible::Instruction::Nop,
     );
     check(
         "02c000",
@@ -692,7 +692,7 @@ fn from_0() {
         |sink| {
             sink.block(BlockType::FunctionType(64));
         },
-        insn::Instruction::Block(BlockType::FunctionType(64)),
+        fallible::Instruction::Block(BlockType::FunctionType(64)),
     );
     check(
         "03c000",
@@ -700,7 +700,7 @@ fn from_0() {
         |sink| {
             sink.loop_(BlockType::FunctionType(64));
         },
-        insn::Instruction::Loop(BlockType::FunctionType(64)),
+        fallible::Instruction::Loop(BlockType::FunctionType(64)),
     );
     check(
         "04c000",
@@ -708,7 +708,7 @@ fn from_0() {
         |sink| {
             sink.if_(BlockType::FunctionType(64));
         },
-        insn::Instruction::If(BlockType::FunctionType(64)),
+        fallible::Instruction::If(BlockType::FunctionType(64)),
     );
     check(
         "05",
@@ -716,7 +716,7 @@ fn from_0() {
         |sink| {
             sink.else_();
         },
-        insn::Instruction::Else,
+        fallible::Instruction::Else,
     );
     check(
         "06c000",
@@ -724,7 +724,7 @@ fn from_0() {
         |sink| {
             sink.try_(BlockType::FunctionType(64));
         },
-        insn::Instruction::Try(BlockType::FunctionType(64)),
+        fallible::Instruction::Try(BlockType::FunctionType(64)),
     );
     check(
         "07ac02",
@@ -732,7 +732,7 @@ fn from_0() {
         |sink| {
             sink.catch(300);
         },
-        insn::Instruction::Catch(300),
+        fallible::Instruction::Catch(300),
     );
     check(
         "08ac02",
@@ -740,7 +740,7 @@ fn from_0() {
         |sink| {
             sink.throw(300);
         },
-        insn::Instruction::Throw(300),
+        fallible::Instruction::Throw(300),
     );
     check(
         "09ac02",
@@ -748,7 +748,7 @@ fn from_0() {
         |sink| {
             sink.rethrow(300);
         },
-        insn::Instruction::Rethrow(300),
+        fallible::Instruction::Rethrow(300),
     );
     check(
         "0a",
@@ -756,7 +756,7 @@ fn from_0() {
         |sink| {
             sink.throw_ref();
         },
-        insn::Instruction::ThrowRef,
+        fallible::Instruction::ThrowRef,
     );
     check(
         "0b",
@@ -764,7 +764,7 @@ fn from_0() {
         |sink| {
             sink.end();
         },
-        insn::Instruction::End,
+        fallible::Instruction::End,
     );
     check(
         "0cac02",
@@ -772,7 +772,7 @@ fn from_0() {
         |sink| {
             sink.br(300);
         },
-        insn::Instruction::Br(300),
+        fallible::Instruction::Br(300),
     );
     check(
         "0dac02",
@@ -780,7 +780,7 @@ fn from_0() {
         |sink| {
             sink.br_if(300);
         },
-        insn::Instruction::BrIf(300),
+        fallible::Instruction::BrIf(300),
     );
     check(
         "0e0200ac0205",
@@ -788,7 +788,7 @@ fn from_0() {
         |sink| {
             sink.br_table([0, 300], 5);
         },
-        insn::Instruction::BrTable(CowSlice::Borrowed(&[0, 300]), 5),
+        fallible::Instruction::BrTable(CowSlice::Borrowed(&[0, 300]), 5),
     );
     check(
         "0f",
@@ -796,7 +796,7 @@ fn from_0() {
         |sink| {
             sink.return_();
         },
-        insn::Instruction::Return,
+        fallible::Instruction::Return,
     );
     check(
         "10ac02",
@@ -804,7 +804,7 @@ fn from_0() {
         |sink| {
             sink.call(300);
         },
-        insn::Instruction::Call(300),
+        fallible::Instruction::Call(300),
     );
     check(
         "1101ac02",
@@ -812,7 +812,7 @@ fn from_0() {
         |sink| {
             sink.call_indirect(300, 1);
         },
-        insn::Instruction::CallIndirect { type_index: 1, table_index: 300 },
+        fallible::Instruction::CallIndirect { type_index: 1, table_index: 300 },
     );
     check(
         "12ac02",
@@ -820,7 +820,7 @@ fn from_0() {
         |sink| {
             sink.return_call(300);
         },
-        insn::Instruction::ReturnCall(300),
+        fallible::Instruction::ReturnCall(300),
     );
     check(
         "1301ac02",
@@ -828,7 +828,7 @@ fn from_0() {
         |sink| {
             sink.return_call_indirect(300, 1);
         },
-        insn::Instruction::ReturnCallIndirect { type_index: 1, table_index: 300 },
+        fallible::Instruction::ReturnCallIndirect { type_index: 1, table_index: 300 },
     );
     check(
         "14ac02",
@@ -836,7 +836,7 @@ fn from_0() {
         |sink| {
             sink.call_ref(300);
         },
-        insn::Instruction::CallRef(300),
+        fallible::Instruction::CallRef(300),
     );
     check(
         "15ac02",
@@ -844,7 +844,7 @@ fn from_0() {
         |sink| {
             sink.return_call_ref(300);
         },
-        insn::Instruction::ReturnCallRef(300),
+        fallible::Instruction::ReturnCallRef(300),
     );
     check(
         "18ac02",
@@ -852,7 +852,7 @@ fn from_0() {
         |sink| {
             sink.delegate(300);
         },
-        insn::Instruction::Delegate(300),
+        fallible::Instruction::Delegate(300),
     );
     check(
         "19",
@@ -860,7 +860,7 @@ fn from_0() {
         |sink| {
             sink.catch_all();
         },
-        insn::Instruction::CatchAll,
+        fallible::Instruction::CatchAll,
     );
     check(
         "1a",
@@ -868,7 +868,7 @@ fn from_0() {
         |sink| {
             sink.drop();
         },
-        insn::Instruction::Drop,
+        fallible::Instruction::Drop,
     );
     check(
         "1b",
@@ -876,7 +876,7 @@ fn from_0() {
         |sink| {
             sink.select();
         },
-        insn::Instruction::Select,
+        fallible::Instruction::Select,
     );
     check(
         "1c017f",
@@ -884,7 +884,7 @@ fn from_0() {
         |sink| {
             sink.typed_select(ValType::I32);
         },
-        insn::Instruction::TypedSelect(ValType::I32),
+        fallible::Instruction::TypedSelect(ValType::I32),
     );
     check(
         "1c027f7e",
@@ -892,7 +892,7 @@ fn from_0() {
         |sink| {
             sink.typed_select_multi(&[ValType::I32, ValType::I64]);
         },
-        insn::Instruction::TypedSelectMulti(CowSlice::Borrowed(&[ValType::I32, ValType::I64])),
+        fallible::Instruction::TypedSelectMulti(CowSlice::Borrowed(&[ValType::I32, ValType::I64])),
     );
     check(
         "1f40020000010302",
@@ -900,7 +900,7 @@ fn from_0() {
         |sink| {
             sink.try_table(BlockType::Empty, [Catch::One { tag: 0, label: 1 }, Catch::AllRef { label: 2 }]);
         },
-        insn::Instruction::TryTable(BlockType::Empty, CowSlice::Borrowed(&[Catch::One { tag: 0, label: 1 }, Catch::AllRef { label: 2 }])),
+        fallible::Instruction::TryTable(BlockType::Empty, CowSlice::Borrowed(&[Catch::One { tag: 0, label: 1 }, Catch::AllRef { label: 2 }])),
     );
     check(
         "20ac02",
@@ -908,7 +908,7 @@ fn from_0() {
         |sink| {
             sink.local_get(300);
         },
-        insn::Instruction::LocalGet(300),
+        fallible::Instruction::LocalGet(300),
     );
     check(
         "21ac02",
@@ -916,7 +916,7 @@ fn from_0() {
         |sink| {
             sink.local_set(300);
         },
-        insn::Instruction::LocalSet(300),
+        fallible::Instruction::LocalSet(300),
     );
     check(
         "22ac02",
@@ -924,7 +924,7 @@ fn from_0() {
         |sink| {
             sink.local_tee(300);
         },
-        insn::Instruction::LocalTee(300),
+        fallible::Instruction::LocalTee(300),
     );
     check(
         "23ac02",
@@ -932,7 +932,7 @@ fn from_0() {
         |sink| {
             sink.global_get(300);
         },
-        insn::Instruction::GlobalGet(300),
+        fallible::Instruction::GlobalGet(300),
     );
     check(
         "24ac02",
@@ -940,7 +940,7 @@ fn from_0() {
         |sink| {
             sink.global_set(300);
         },
-        insn::Instruction::GlobalSet(300),
+        fallible::Instruction::GlobalSet(300),
     );
     check(
         "25ac02",
@@ -948,7 +948,7 @@ fn from_0() {
         |sink| {
             sink.table_get(300);
         },
-        insn::Instruction::TableGet(300),
+        fallible::Instruction::TableGet(300),
     );
     check(
         "26ac02",
@@ -956,7 +956,7 @@ fn from_0() {
         |sink| {
             sink.table_set(300);
         },
-        insn::Instruction::TableSet(300),
+        fallible::Instruction::TableSet(300),
     );
     check(
         "284201ac02",
@@ -964,7 +964,7 @@ fn from_0() {
         |sink| {
             sink.i32_load(MEMARG);
         },
-        insn::Instruction::I32Load(MEMARG),
+        fallible::Instruction::I32Load(MEMARG),
     );
     check(
         "294201ac02",
@@ -972,7 +972,7 @@ fn from_0() {
         |sink| {
             sink.i64_load(MEMARG);
         },
-        insn::Instruction::I64Load(MEMARG),
+        fallible::Instruction::I64Load(MEMARG),
     );
     check(
         "2a4201ac02",
@@ -980,7 +980,7 @@ fn from_0() {
         |sink| {
             sink.f32_load(MEMARG);
         },
-        insn::Instruction::F32Load(MEMARG),
+        fallible::Instruction::F32Load(MEMARG),
     );
     check(
         "2b4201ac02",
@@ -988,7 +988,7 @@ fn from_0() {
         |sink| {
             sink.f64_load(MEMARG);
         },
-        insn::Instruction::F64Load(MEMARG),
+        fallible::Instruction::F64Load(MEMARG),
     );
     check(
         "2c4201ac02",
@@ -996,7 +996,7 @@ fn from_0() {
         |sink| {
             sink.i32_load8_s(MEMARG);
         },
-        insn::Instruction::I32Load8S(MEMARG),
+        fallible::Instruction::I32Load8S(MEMARG),
     );
     check(
         "2d4201ac02",
@@ -1004,7 +1004,7 @@ fn from_0() {
         |sink| {
             sink.i32_load8_u(MEMARG);
         },
-        insn::Instruction::I32Load8U(MEMARG),
+        fallible::Instruction::I32Load8U(MEMARG),
     );
     check(
         "2e4201ac02",
@@ -1012,7 +1012,7 @@ fn from_0() {
         |sink| {
             sink.i32_load16_s(MEMARG);
         },
-        insn::Instruction::I32Load16S(MEMARG),
+        fallible::Instruction::I32Load16S(MEMARG),
     );
     check(
         "2f4201ac02",
@@ -1020,7 +1020,7 @@ fn from_0() {
         |sink| {
             sink.i32_load16_u(MEMARG);
         },
-        insn::Instruction::I32Load16U(MEMARG),
+        fallible::Instruction::I32Load16U(MEMARG),
     );
     check(
         "304201ac02",
@@ -1028,7 +1028,7 @@ fn from_0() {
         |sink| {
             sink.i64_load8_s(MEMARG);
         },
-        insn::Instruction::I64Load8S(MEMARG),
+        fallible::Instruction::I64Load8S(MEMARG),
     );
     check(
         "314201ac02",
@@ -1036,7 +1036,7 @@ fn from_0() {
         |sink| {
             sink.i64_load8_u(MEMARG);
         },
-        insn::Instruction::I64Load8U(MEMARG),
+        fallible::Instruction::I64Load8U(MEMARG),
     );
     check(
         "324201ac02",
@@ -1044,7 +1044,7 @@ fn from_0() {
         |sink| {
             sink.i64_load16_s(MEMARG);
         },
-        insn::Instruction::I64Load16S(MEMARG),
+        fallible::Instruction::I64Load16S(MEMARG),
     );
     check(
         "334201ac02",
@@ -1052,7 +1052,7 @@ fn from_0() {
         |sink| {
             sink.i64_load16_u(MEMARG);
         },
-        insn::Instruction::I64Load16U(MEMARG),
+        fallible::Instruction::I64Load16U(MEMARG),
     );
     check(
         "344201ac02",
@@ -1060,7 +1060,7 @@ fn from_0() {
         |sink| {
             sink.i64_load32_s(MEMARG);
         },
-        insn::Instruction::I64Load32S(MEMARG),
+        fallible::Instruction::I64Load32S(MEMARG),
     );
     check(
         "354201ac02",
@@ -1068,7 +1068,7 @@ fn from_0() {
         |sink| {
             sink.i64_load32_u(MEMARG);
         },
-        insn::Instruction::I64Load32U(MEMARG),
+        fallible::Instruction::I64Load32U(MEMARG),
     );
 }
 
@@ -1080,7 +1080,7 @@ fn from_50() {
         |sink| {
             sink.i32_store(MEMARG);
         },
-        insn::Instruction::I32Store(MEMARG),
+        fallible::Instruction::I32Store(MEMARG),
     );
     check(
         "374201ac02",
@@ -1088,7 +1088,7 @@ fn from_50() {
         |sink| {
             sink.i64_store(MEMARG);
         },
-        insn::Instruction::I64Store(MEMARG),
+        fallible::Instruction::I64Store(MEMARG),
     );
     check(
         "384201ac02",
@@ -1096,7 +1096,7 @@ fn from_50() {
         |sink| {
             sink.f32_store(MEMARG);
         },
-        insn::Instruction::F32Store(MEMARG),
+        fallible::Instruction::F32Store(MEMARG),
     );
     check(
         "394201ac02",
@@ -1104,7 +1104,7 @@ fn from_50() {
         |sink| {
             sink.f64_store(MEMARG);
         },
-        insn::Instruction::F64Store(MEMARG),
+        fallible::Instruction::F64Store(MEMARG),
     );
     check(
         "3a4201ac02",
@@ -1112,7 +1112,7 @@ fn from_50() {
         |sink| {
             sink.i32_store8(MEMARG);
         },
-        insn::Instruction::I32Store8(MEMARG),
+        fallible::Instruction::I32Store8(MEMARG),
     );
     check(
         "3b4201ac02",
@@ -1120,7 +1120,7 @@ fn from_50() {
         |sink| {
             sink.i32_store16(MEMARG);
         },
-        insn::Instruction::I32Store16(MEMARG),
+        fallible::Instruction::I32Store16(MEMARG),
     );
     check(
         "3c4201ac02",
@@ -1128,7 +1128,7 @@ fn from_50() {
         |sink| {
             sink.i64_store8(MEMARG);
         },
-        insn::Instruction::I64Store8(MEMARG),
+        fallible::Instruction::I64Store8(MEMARG),
     );
     check(
         "3d4201ac02",
@@ -1136,7 +1136,7 @@ fn from_50() {
         |sink| {
             sink.i64_store16(MEMARG);
         },
-        insn::Instruction::I64Store16(MEMARG),
+        fallible::Instruction::I64Store16(MEMARG),
     );
     check(
         "3e4201ac02",
@@ -1144,7 +1144,7 @@ fn from_50() {
         |sink| {
             sink.i64_store32(MEMARG);
         },
-        insn::Instruction::I64Store32(MEMARG),
+        fallible::Instruction::I64Store32(MEMARG),
     );
     check(
         "3fac02",
@@ -1152,7 +1152,7 @@ fn from_50() {
         |sink| {
             sink.memory_size(300);
         },
-        insn::Instruction::MemorySize(300),
+        fallible::Instruction::MemorySize(300),
     );
     check(
         "40ac02",
@@ -1160,7 +1160,7 @@ fn from_50() {
         |sink| {
             sink.memory_grow(300);
         },
-        insn::Instruction::MemoryGrow(300),
+        fallible::Instruction::MemoryGrow(300),
     );
     check(
         "41c0bb78",
@@ -1168,7 +1168,7 @@ fn from_50() {
         |sink| {
             sink.i32_const(-123456);
         },
-        insn::Instruction::I32Const(-123456),
+        fallible::Instruction::I32Const(-123456),
     );
     check(
         "42b5b8f0fe2d",
@@ -1176,7 +1176,7 @@ fn from_50() {
         |sink| {
             sink.i64_const(12345678901);
         },
-        insn::Instruction::I64Const(12345678901),
+        fallible::Instruction::I64Const(12345678901),
     );
     check(
         "430000803f",
@@ -1184,7 +1184,7 @@ fn from_50() {
         |sink| {
             sink.f32_const(Ieee32::new(1065353216));
         },
-        insn::Instruction::F32Const(Ieee32::new(1065353216)),
+        fallible::Instruction::F32Const(Ieee32::new(1065353216)),
     );
     check(
         "44000000000000f03f",
@@ -1192,7 +1192,7 @@ fn from_50() {
         |sink| {
             sink.f64_const(Ieee64::new(4607182418800017408));
         },
-        insn::Instruction::F64Const(Ieee64::new(4607182418800017408)),
+        fallible::Instruction::F64Const(Ieee64::new(4607182418800017408)),
     );
     check(
         "45",
@@ -1200,7 +1200,7 @@ fn from_50() {
         |sink| {
             sink.i32_eqz();
         },
-        insn::Instruction::Numeric(insn::Numeric::I32Eqz),
+        fallible::Instruction::Numeric(fallible::Numeric::I32Eqz),
     );
     check(
         "46",
@@ -1208,7 +1208,7 @@ fn from_50() {
         |sink| {
             sink.i32_eq();
         },
-        insn::Instruction::Numeric(insn::Numeric::I32Eq),
+        fallible::Instruction::Numeric(fallible::Numeric::I32Eq),
     );
     check(
         "47",
@@ -1216,7 +1216,7 @@ fn from_50() {
         |sink| {
             sink.i32_ne();
         },
-        insn::Instruction::Numeric(insn::Numeric::I32Ne),
+        fallible::Instruction::Numeric(fallible::Numeric::I32Ne),
     );
     check(
         "48",
@@ -1224,7 +1224,7 @@ fn from_50() {
         |sink| {
             sink.i32_lt_s();
         },
-        insn::Instruction::Numeric(insn::Numeric::I32LtS),
+        fallible::Instruction::Numeric(fallible::Numeric::I32LtS),
     );
     check(
         "49",
@@ -1232,7 +1232,7 @@ fn from_50() {
         |sink| {
             sink.i32_lt_u();
         },
-        insn::Instruction::Numeric(insn::Numeric::I32LtU),
+        fallible::Instruction::Numeric(fallible::Numeric::I32LtU),
     );
     check(
         "4a",
@@ -1240,7 +1240,7 @@ fn from_50() {
         |sink| {
             sink.i32_gt_s();
         },
-        insn::Instruction::Numeric(insn::Numeric::I32GtS),
+        fallible::Instruction::Numeric(fallible::Numeric::I32GtS),
     );
     check(
         "4b",
@@ -1248,7 +1248,7 @@ fn from_50() {
         |sink| {
             sink.i32_gt_u();
         },
-        insn::Instruction::Numeric(insn::Numeric::I32GtU),
+        fallible::Instruction::Numeric(fallible::Numeric::I32GtU),
     );
     check(
         "4c",
@@ -1256,7 +1256,7 @@ fn from_50() {
         |sink| {
             sink.i32_le_s();
         },
-        insn::Instruction::Numeric(insn::Numeric::I32LeS),
+        fallible::Instruction::Numeric(fallible::Numeric::I32LeS),
     );
     check(
         "4d",
@@ -1264,7 +1264,7 @@ fn from_50() {
         |sink| {
             sink.i32_le_u();
         },
-        insn::Instruction::Numeric(insn::Numeric::I32LeU),
+        fallible::Instruction::Numeric(fallible::Numeric::I32LeU),
     );
     check(
         "4e",
@@ -1272,7 +1272,7 @@ fn from_50() {
         |sink| {
             sink.i32_ge_s();
         },
-        insn::Instruction::Numeric(insn::Numeric::I32GeS),
+        fallible::Instruction::Numeric(fallible::Numeric::I32GeS),
     );
     check(
         "4f",
@@ -1280,7 +1280,7 @@ fn from_50() {
         |sink| {
             sink.i32_ge_u();
         },
-        insn::Instruction::Numeric(insn::Numeric::I32GeU),
+        fallible::Instruction::Numeric(fallible::Numeric::I32GeU),
     );
     check(
         "50",
@@ -1288,7 +1288,7 @@ fn from_50() {
         |sink| {
             sink.i64_eqz();
         },
-        insn::Instruction::Numeric(insn::Numeric::I64Eqz),
+        fallible::Instruction::Numeric(fallible::Numeric::I64Eqz),
     );
     check(
         "51",
@@ -1296,7 +1296,7 @@ fn from_50() {
         |sink| {
             sink.i64_eq();
         },
-        insn::Instruction::Numeric(insn::Numeric::I64Eq),
+        fallible::Instruction::Numeric(fallible::Numeric::I64Eq),
     );
     check(
         "52",
@@ -1304,7 +1304,7 @@ fn from_50() {
         |sink| {
             sink.i64_ne();
         },
-        insn::Instruction::Numeric(insn::Numeric::I64Ne),
+        fallible::Instruction::Numeric(fallible::Numeric::I64Ne),
     );
     check(
         "53",
@@ -1312,7 +1312,7 @@ fn from_50() {
         |sink| {
             sink.i64_lt_s();
         },
-        insn::Instruction::Numeric(insn::Numeric::I64LtS),
+        fallible::Instruction::Numeric(fallible::Numeric::I64LtS),
     );
     check(
         "54",
@@ -1320,7 +1320,7 @@ fn from_50() {
         |sink| {
             sink.i64_lt_u();
         },
-        insn::Instruction::Numeric(insn::Numeric::I64LtU),
+        fallible::Instruction::Numeric(fallible::Numeric::I64LtU),
     );
     check(
         "55",
@@ -1328,7 +1328,7 @@ fn from_50() {
         |sink| {
             sink.i64_gt_s();
         },
-        insn::Instruction::Numeric(insn::Numeric::I64GtS),
+        fallible::Instruction::Numeric(fallible::Numeric::I64GtS),
     );
     check(
         "56",
@@ -1336,7 +1336,7 @@ fn from_50() {
         |sink| {
             sink.i64_gt_u();
         },
-        insn::Instruction::Numeric(insn::Numeric::I64GtU),
+        fallible::Instruction::Numeric(fallible::Numeric::I64GtU),
     );
     check(
         "57",
@@ -1344,7 +1344,7 @@ fn from_50() {
         |sink| {
             sink.i64_le_s();
         },
-        insn::Instruction::Numeric(insn::Numeric::I64LeS),
+        fallible::Instruction::Numeric(fallible::Numeric::I64LeS),
     );
     check(
         "58",
@@ -1352,7 +1352,7 @@ fn from_50() {
         |sink| {
             sink.i64_le_u();
         },
-        insn::Instruction::Numeric(insn::Numeric::I64LeU),
+        fallible::Instruction::Numeric(fallible::Numeric::I64LeU),
     );
     check(
         "59",
@@ -1360,7 +1360,7 @@ fn from_50() {
         |sink| {
             sink.i64_ge_s();
         },
-        insn::Instruction::Numeric(insn::Numeric::I64GeS),
+        fallible::Instruction::Numeric(fallible::Numeric::I64GeS),
     );
     check(
         "5a",
@@ -1368,7 +1368,7 @@ fn from_50() {
         |sink| {
             sink.i64_ge_u();
         },
-        insn::Instruction::Numeric(insn::Numeric::I64GeU),
+        fallible::Instruction::Numeric(fallible::Numeric::I64GeU),
     );
     check(
         "5b",
@@ -1376,7 +1376,7 @@ fn from_50() {
         |sink| {
             sink.f32_eq();
         },
-        insn::Instruction::Numeric(insn::Numeric::F32Eq),
+        fallible::Instruction::Numeric(fallible::Numeric::F32Eq),
     );
     check(
         "5c",
@@ -1384,7 +1384,7 @@ fn from_50() {
         |sink| {
             sink.f32_ne();
         },
-        insn::Instruction::Numeric(insn::Numeric::F32Ne),
+        fallible::Instruction::Numeric(fallible::Numeric::F32Ne),
     );
     check(
         "5d",
@@ -1392,7 +1392,7 @@ fn from_50() {
         |sink| {
             sink.f32_lt();
         },
-        insn::Instruction::Numeric(insn::Numeric::F32Lt),
+        fallible::Instruction::Numeric(fallible::Numeric::F32Lt),
     );
     check(
         "5e",
@@ -1400,7 +1400,7 @@ fn from_50() {
         |sink| {
             sink.f32_gt();
         },
-        insn::Instruction::Numeric(insn::Numeric::F32Gt),
+        fallible::Instruction::Numeric(fallible::Numeric::F32Gt),
     );
     check(
         "5f",
@@ -1408,7 +1408,7 @@ fn from_50() {
         |sink| {
             sink.f32_le();
         },
-        insn::Instruction::Numeric(insn::Numeric::F32Le),
+        fallible::Instruction::Numeric(fallible::Numeric::F32Le),
     );
     check(
         "60",
@@ -1416,7 +1416,7 @@ fn from_50() {
         |sink| {
             sink.f32_ge();
         },
-        insn::Instruction::Numeric(insn::Numeric::F32Ge),
+        fallible::Instruction::Numeric(fallible::Numeric::F32Ge),
     );
     check(
         "61",
@@ -1424,7 +1424,7 @@ fn from_50() {
         |sink| {
             sink.f64_eq();
         },
-        insn::Instruction::Numeric(insn::Numeric::F64Eq),
+        fallible::Instruction::Numeric(fallible::Numeric::F64Eq),
     );
     check(
         "62",
@@ -1432,7 +1432,7 @@ fn from_50() {
         |sink| {
             sink.f64_ne();
         },
-        insn::Instruction::Numeric(insn::Numeric::F64Ne),
+        fallible::Instruction::Numeric(fallible::Numeric::F64Ne),
     );
     check(
         "63",
@@ -1440,7 +1440,7 @@ fn from_50() {
         |sink| {
             sink.f64_lt();
         },
-        insn::Instruction::Numeric(insn::Numeric::F64Lt),
+        fallible::Instruction::Numeric(fallible::Numeric::F64Lt),
     );
     check(
         "64",
@@ -1448,7 +1448,7 @@ fn from_50() {
         |sink| {
             sink.f64_gt();
         },
-        insn::Instruction::Numeric(insn::Numeric::F64Gt),
+        fallible::Instruction::Numeric(fallible::Numeric::F64Gt),
     );
     check(
         "65",
@@ -1456,7 +1456,7 @@ fn from_50() {
         |sink| {
             sink.f64_le();
         },
-        insn::Instruction::Numeric(insn::Numeric::F64Le),
+        fallible::Instruction::Numeric(fallible::Numeric::F64Le),
     );
     check(
         "66",
@@ -1464,7 +1464,7 @@ fn from_50() {
         |sink| {
             sink.f64_ge();
         },
-        insn::Instruction::Numeric(insn::Numeric::F64Ge),
+        fallible::Instruction::Numeric(fallible::Numeric::F64Ge),
     );
     check(
         "67",
@@ -1472,7 +1472,7 @@ fn from_50() {
         |sink| {
             sink.i32_clz();
         },
-        insn::Instruction::Numeric(insn::Numeric::I32Clz),
+        fallible::Instruction::Numeric(fallible::Numeric::I32Clz),
     );
 }
 
@@ -1484,7 +1484,7 @@ fn from_100() {
         |sink| {
             sink.i32_ctz();
         },
-        insn::Instruction::Numeric(insn::Numeric::I32Ctz),
+        fallible::Instruction::Numeric(fallible::Numeric::I32Ctz),
     );
     check(
         "69",
@@ -1492,7 +1492,7 @@ fn from_100() {
         |sink| {
             sink.i32_popcnt();
         },
-        insn::Instruction::Numeric(insn::Numeric::I32Popcnt),
+        fallible::Instruction::Numeric(fallible::Numeric::I32Popcnt),
     );
     check(
         "6a",
@@ -1500,7 +1500,7 @@ fn from_100() {
         |sink| {
             sink.i32_add();
         },
-        insn::Instruction::Numeric(insn::Numeric::I32Add),
+        fallible::Instruction::Numeric(fallible::Numeric::I32Add),
     );
     check(
         "6b",
@@ -1508,7 +1508,7 @@ fn from_100() {
         |sink| {
             sink.i32_sub();
         },
-        insn::Instruction::Numeric(insn::Numeric::I32Sub),
+        fallible::Instruction::Numeric(fallible::Numeric::I32Sub),
     );
     check(
         "6c",
@@ -1516,7 +1516,7 @@ fn from_100() {
         |sink| {
             sink.i32_mul();
         },
-        insn::Instruction::Numeric(insn::Numeric::I32Mul),
+        fallible::Instruction::Numeric(fallible::Numeric::I32Mul),
     );
     check(
         "6d",
@@ -1524,7 +1524,7 @@ fn from_100() {
         |sink| {
             sink.i32_div_s();
         },
-        insn::Instruction::Numeric(insn::Numeric::I32DivS),
+        fallible::Instruction::Numeric(fallible::Numeric::I32DivS),
     );
     check(
         "6e",
@@ -1532,7 +1532,7 @@ fn from_100() {
         |sink| {
             sink.i32_div_u();
         },
-        insn::Instruction::Numeric(insn::Numeric::I32DivU),
+        fallible::Instruction::Numeric(fallible::Numeric::I32DivU),
     );
     check(
         "6f",
@@ -1540,7 +1540,7 @@ fn from_100() {
         |sink| {
             sink.i32_rem_s();
         },
-        insn::Instruction::Numeric(insn::Numeric::I32RemS),
+        fallible::Instruction::Numeric(fallible::Numeric::I32RemS),
     );
     check(
         "70",
@@ -1548,7 +1548,7 @@ fn from_100() {
         |sink| {
             sink.i32_rem_u();
         },
-        insn::Instruction::Numeric(insn::Numeric::I32RemU),
+        fallible::Instruction::Numeric(fallible::Numeric::I32RemU),
     );
     check(
         "71",
@@ -1556,7 +1556,7 @@ fn from_100() {
         |sink| {
             sink.i32_and();
         },
-        insn::Instruction::Numeric(insn::Numeric::I32And),
+        fallible::Instruction::Numeric(fallible::Numeric::I32And),
     );
     check(
         "72",
@@ -1564,7 +1564,7 @@ fn from_100() {
         |sink| {
             sink.i32_or();
         },
-        insn::Instruction::Numeric(insn::Numeric::I32Or),
+        fallible::Instruction::Numeric(fallible::Numeric::I32Or),
     );
     check(
         "73",
@@ -1572,7 +1572,7 @@ fn from_100() {
         |sink| {
             sink.i32_xor();
         },
-        insn::Instruction::Numeric(insn::Numeric::I32Xor),
+        fallible::Instruction::Numeric(fallible::Numeric::I32Xor),
     );
     check(
         "74",
@@ -1580,7 +1580,7 @@ fn from_100() {
         |sink| {
             sink.i32_shl();
         },
-        insn::Instruction::Numeric(insn::Numeric::I32Shl),
+        fallible::Instruction::Numeric(fallible::Numeric::I32Shl),
     );
     check(
         "75",
@@ -1588,7 +1588,7 @@ fn from_100() {
         |sink| {
             sink.i32_shr_s();
         },
-        insn::Instruction::Numeric(insn::Numeric::I32ShrS),
+        fallible::Instruction::Numeric(fallible::Numeric::I32ShrS),
     );
     check(
         "76",
@@ -1596,7 +1596,7 @@ fn from_100() {
         |sink| {
             sink.i32_shr_u();
         },
-        insn::Instruction::Numeric(insn::Numeric::I32ShrU),
+        fallible::Instruction::Numeric(fallible::Numeric::I32ShrU),
     );
     check(
         "77",
@@ -1604,7 +1604,7 @@ fn from_100() {
         |sink| {
             sink.i32_rotl();
         },
-        insn::Instruction::Numeric(insn::Numeric::I32Rotl),
+        fallible::Instruction::Numeric(fallible::Numeric::I32Rotl),
     );
     check(
         "78",
@@ -1612,7 +1612,7 @@ fn from_100() {
         |sink| {
             sink.i32_rotr();
         },
-        insn::Instruction::Numeric(insn::Numeric::I32Rotr),
+        fallible::Instruction::Numeric(fallible::Numeric::I32Rotr),
     );
     check(
         "79",
@@ -1620,7 +1620,7 @@ fn from_100() {
         |sink| {
             sink.i64_clz();
         },
-        insn::Instruction::Numeric(insn::Numeric::I64Clz),
+        fallible::Instruction::Numeric(fallible::Numeric::I64Clz),
     );
     check(
         "7a",
@@ -1628,7 +1628,7 @@ fn from_100() {
         |sink| {
             sink.i64_ctz();
         },
-        insn::Instruction::Numeric(insn::Numeric::I64Ctz),
+        fallible::Instruction::Numeric(fallible::Numeric::I64Ctz),
     );
     check(
         "7b",
@@ -1636,7 +1636,7 @@ fn from_100() {
         |sink| {
             sink.i64_popcnt();
         },
-        insn::Instruction::Numeric(insn::Numeric::I64Popcnt),
+        fallible::Instruction::Numeric(fallible::Numeric::I64Popcnt),
     );
     check(
         "7c",
@@ -1644,7 +1644,7 @@ fn from_100() {
         |sink| {
             sink.i64_add();
         },
-        insn::Instruction::Numeric(insn::Numeric::I64Add),
+        fallible::Instruction::Numeric(fallible::Numeric::I64Add),
     );
     check(
         "7d",
@@ -1652,7 +1652,7 @@ fn from_100() {
         |sink| {
             sink.i64_sub();
         },
-        insn::Instruction::Numeric(insn::Numeric::I64Sub),
+        fallible::Instruction::Numeric(fallible::Numeric::I64Sub),
     );
     check(
         "7e",
@@ -1660,7 +1660,7 @@ fn from_100() {
         |sink| {
             sink.i64_mul();
         },
-        insn::Instruction::Numeric(insn::Numeric::I64Mul),
+        fallible::Instruction::Numeric(fallible::Numeric::I64Mul),
     );
     check(
         "7f",
@@ -1668,7 +1668,7 @@ fn from_100() {
         |sink| {
             sink.i64_div_s();
         },
-        insn::Instruction::Numeric(insn::Numeric::I64DivS),
+        fallible::Instruction::Numeric(fallible::Numeric::I64DivS),
     );
     check(
         "80",
@@ -1676,7 +1676,7 @@ fn from_100() {
         |sink| {
             sink.i64_div_u();
         },
-        insn::Instruction::Numeric(insn::Numeric::I64DivU),
+        fallible::Instruction::Numeric(fallible::Numeric::I64DivU),
     );
     check(
         "81",
@@ -1684,7 +1684,7 @@ fn from_100() {
         |sink| {
             sink.i64_rem_s();
         },
-        insn::Instruction::Numeric(insn::Numeric::I64RemS),
+        fallible::Instruction::Numeric(fallible::Numeric::I64RemS),
     );
     check(
         "82",
@@ -1692,7 +1692,7 @@ fn from_100() {
         |sink| {
             sink.i64_rem_u();
         },
-        insn::Instruction::Numeric(insn::Numeric::I64RemU),
+        fallible::Instruction::Numeric(fallible::Numeric::I64RemU),
     );
     check(
         "83",
@@ -1700,7 +1700,7 @@ fn from_100() {
         |sink| {
             sink.i64_and();
         },
-        insn::Instruction::Numeric(insn::Numeric::I64And),
+        fallible::Instruction::Numeric(fallible::Numeric::I64And),
     );
     check(
         "84",
@@ -1708,7 +1708,7 @@ fn from_100() {
         |sink| {
             sink.i64_or();
         },
-        insn::Instruction::Numeric(insn::Numeric::I64Or),
+        fallible::Instruction::Numeric(fallible::Numeric::I64Or),
     );
     check(
         "85",
@@ -1716,7 +1716,7 @@ fn from_100() {
         |sink| {
             sink.i64_xor();
         },
-        insn::Instruction::Numeric(insn::Numeric::I64Xor),
+        fallible::Instruction::Numeric(fallible::Numeric::I64Xor),
     );
     check(
         "86",
@@ -1724,7 +1724,7 @@ fn from_100() {
         |sink| {
             sink.i64_shl();
         },
-        insn::Instruction::Numeric(insn::Numeric::I64Shl),
+        fallible::Instruction::Numeric(fallible::Numeric::I64Shl),
     );
     check(
         "87",
@@ -1732,7 +1732,7 @@ fn from_100() {
         |sink| {
             sink.i64_shr_s();
         },
-        insn::Instruction::Numeric(insn::Numeric::I64ShrS),
+        fallible::Instruction::Numeric(fallible::Numeric::I64ShrS),
     );
     check(
         "88",
@@ -1740,7 +1740,7 @@ fn from_100() {
         |sink| {
             sink.i64_shr_u();
         },
-        insn::Instruction::Numeric(insn::Numeric::I64ShrU),
+        fallible::Instruction::Numeric(fallible::Numeric::I64ShrU),
     );
     check(
         "89",
@@ -1748,7 +1748,7 @@ fn from_100() {
         |sink| {
             sink.i64_rotl();
         },
-        insn::Instruction::Numeric(insn::Numeric::I64Rotl),
+        fallible::Instruction::Numeric(fallible::Numeric::I64Rotl),
     );
     check(
         "8a",
@@ -1756,7 +1756,7 @@ fn from_100() {
         |sink| {
             sink.i64_rotr();
         },
-        insn::Instruction::Numeric(insn::Numeric::I64Rotr),
+        fallible::Instruction::Numeric(fallible::Numeric::I64Rotr),
     );
     check(
         "8b",
@@ -1764,7 +1764,7 @@ fn from_100() {
         |sink| {
             sink.f32_abs();
         },
-        insn::Instruction::Numeric(insn::Numeric::F32Abs),
+        fallible::Instruction::Numeric(fallible::Numeric::F32Abs),
     );
     check(
         "8c",
@@ -1772,7 +1772,7 @@ fn from_100() {
         |sink| {
             sink.f32_neg();
         },
-        insn::Instruction::Numeric(insn::Numeric::F32Neg),
+        fallible::Instruction::Numeric(fallible::Numeric::F32Neg),
     );
     check(
         "8d",
@@ -1780,7 +1780,7 @@ fn from_100() {
         |sink| {
             sink.f32_ceil();
         },
-        insn::Instruction::Numeric(insn::Numeric::F32Ceil),
+        fallible::Instruction::Numeric(fallible::Numeric::F32Ceil),
     );
     check(
         "8e",
@@ -1788,7 +1788,7 @@ fn from_100() {
         |sink| {
             sink.f32_floor();
         },
-        insn::Instruction::Numeric(insn::Numeric::F32Floor),
+        fallible::Instruction::Numeric(fallible::Numeric::F32Floor),
     );
     check(
         "8f",
@@ -1796,7 +1796,7 @@ fn from_100() {
         |sink| {
             sink.f32_trunc();
         },
-        insn::Instruction::Numeric(insn::Numeric::F32Trunc),
+        fallible::Instruction::Numeric(fallible::Numeric::F32Trunc),
     );
     check(
         "90",
@@ -1804,7 +1804,7 @@ fn from_100() {
         |sink| {
             sink.f32_nearest();
         },
-        insn::Instruction::Numeric(insn::Numeric::F32Nearest),
+        fallible::Instruction::Numeric(fallible::Numeric::F32Nearest),
     );
     check(
         "91",
@@ -1812,7 +1812,7 @@ fn from_100() {
         |sink| {
             sink.f32_sqrt();
         },
-        insn::Instruction::Numeric(insn::Numeric::F32Sqrt),
+        fallible::Instruction::Numeric(fallible::Numeric::F32Sqrt),
     );
     check(
         "92",
@@ -1820,7 +1820,7 @@ fn from_100() {
         |sink| {
             sink.f32_add();
         },
-        insn::Instruction::Numeric(insn::Numeric::F32Add),
+        fallible::Instruction::Numeric(fallible::Numeric::F32Add),
     );
     check(
         "93",
@@ -1828,7 +1828,7 @@ fn from_100() {
         |sink| {
             sink.f32_sub();
         },
-        insn::Instruction::Numeric(insn::Numeric::F32Sub),
+        fallible::Instruction::Numeric(fallible::Numeric::F32Sub),
     );
     check(
         "94",
@@ -1836,7 +1836,7 @@ fn from_100() {
         |sink| {
             sink.f32_mul();
         },
-        insn::Instruction::Numeric(insn::Numeric::F32Mul),
+        fallible::Instruction::Numeric(fallible::Numeric::F32Mul),
     );
     check(
         "95",
@@ -1844,7 +1844,7 @@ fn from_100() {
         |sink| {
             sink.f32_div();
         },
-        insn::Instruction::Numeric(insn::Numeric::F32Div),
+        fallible::Instruction::Numeric(fallible::Numeric::F32Div),
     );
     check(
         "96",
@@ -1852,7 +1852,7 @@ fn from_100() {
         |sink| {
             sink.f32_min();
         },
-        insn::Instruction::Numeric(insn::Numeric::F32Min),
+        fallible::Instruction::Numeric(fallible::Numeric::F32Min),
     );
     check(
         "97",
@@ -1860,7 +1860,7 @@ fn from_100() {
         |sink| {
             sink.f32_max();
         },
-        insn::Instruction::Numeric(insn::Numeric::F32Max),
+        fallible::Instruction::Numeric(fallible::Numeric::F32Max),
     );
     check(
         "98",
@@ -1868,7 +1868,7 @@ fn from_100() {
         |sink| {
             sink.f32_copysign();
         },
-        insn::Instruction::Numeric(insn::Numeric::F32Copysign),
+        fallible::Instruction::Numeric(fallible::Numeric::F32Copysign),
     );
     check(
         "99",
@@ -1876,7 +1876,7 @@ fn from_100() {
         |sink| {
             sink.f64_abs();
         },
-        insn::Instruction::Numeric(insn::Numeric::F64Abs),
+        fallible::Instruction::Numeric(fallible::Numeric::F64Abs),
     );
 }
 
@@ -1888,7 +1888,7 @@ fn from_150() {
         |sink| {
             sink.f64_neg();
         },
-        insn::Instruction::Numeric(insn::Numeric::F64Neg),
+        fallible::Instruction::Numeric(fallible::Numeric::F64Neg),
     );
     check(
         "9b",
@@ -1896,7 +1896,7 @@ fn from_150() {
         |sink| {
             sink.f64_ceil();
         },
-        insn::Instruction::Numeric(insn::Numeric::F64Ceil),
+        fallible::Instruction::Numeric(fallible::Numeric::F64Ceil),
     );
     check(
         "9c",
@@ -1904,7 +1904,7 @@ fn from_150() {
         |sink| {
             sink.f64_floor();
         },
-        insn::Instruction::Numeric(insn::Numeric::F64Floor),
+        fallible::Instruction::Numeric(fallible::Numeric::F64Floor),
     );
     check(
         "9d",
@@ -1912,7 +1912,7 @@ fn from_150() {
         |sink| {
             sink.f64_trunc();
         },
-        insn::Instruction::Numeric(insn::Numeric::F64Trunc),
+        fallible::Instruction::Numeric(fallible::Numeric::F64Trunc),
     );
     check(
         "9e",
@@ -1920,7 +1920,7 @@ fn from_150() {
         |sink| {
             sink.f64_nearest();
         },
-        insn::Instruction::Numeric(insn::Numeric::F64Nearest),
+        fallible::Instruction::Numeric(fallible::Numeric::F64Nearest),
     );
     check(
         "9f",
@@ -1928,7 +1928,7 @@ fn from_150() {
         |sink| {
             sink.f64_sqrt();
         },
-        insn::Instruction::Numeric(insn::Numeric::F64Sqrt),
+        fallible::Instruction::Numeric(fallible::Numeric::F64Sqrt),
     );
     check(
         "a0",
@@ -1936,7 +1936,7 @@ fn from_150() {
         |sink| {
             sink.f64_add();
         },
-        insn::Instruction::Numeric(insn::Numeric::F64Add),
+        fallible::Instruction::Numeric(fallible::Numeric::F64Add),
     );
     check(
         "a1",
@@ -1944,7 +1944,7 @@ fn from_150() {
         |sink| {
             sink.f64_sub();
         },
-        insn::Instruction::Numeric(insn::Numeric::F64Sub),
+        fallible::Instruction::Numeric(fallible::Numeric::F64Sub),
     );
     check(
         "a2",
@@ -1952,7 +1952,7 @@ fn from_150() {
         |sink| {
             sink.f64_mul();
         },
-        insn::Instruction::Numeric(insn::Numeric::F64Mul),
+        fallible::Instruction::Numeric(fallible::Numeric::F64Mul),
     );
     check(
         "a3",
@@ -1960,7 +1960,7 @@ fn from_150() {
         |sink| {
             sink.f64_div();
         },
-        insn::Instruction::Numeric(insn::Numeric::F64Div),
+        fallible::Instruction::Numeric(fallible::Numeric::F64Div),
     );
     check(
         "a4",
@@ -1968,7 +1968,7 @@ fn from_150() {
         |sink| {
             sink.f64_min();
         },
-        insn::Instruction::Numeric(insn::Numeric::F64Min),
+        fallible::Instruction::Numeric(fallible::Numeric::F64Min),
     );
     check(
         "a5",
@@ -1976,7 +1976,7 @@ fn from_150() {
         |sink| {
             sink.f64_max();
         },
-        insn::Instruction::Numeric(insn::Numeric::F64Max),
+        fallible::Instruction::Numeric(fallible::Numeric::F64Max),
     );
     check(
         "a6",
@@ -1984,7 +1984,7 @@ fn from_150() {
         |sink| {
             sink.f64_copysign();
         },
-        insn::Instruction::Numeric(insn::Numeric::F64Copysign),
+        fallible::Instruction::Numeric(fallible::Numeric::F64Copysign),
     );
     check(
         "a7",
@@ -1992,7 +1992,7 @@ fn from_150() {
         |sink| {
             sink.i32_wrap_i64();
         },
-        insn::Instruction::Numeric(insn::Numeric::I32WrapI64),
+        fallible::Instruction::Numeric(fallible::Numeric::I32WrapI64),
     );
     check(
         "a8",
@@ -2000,7 +2000,7 @@ fn from_150() {
         |sink| {
             sink.i32_trunc_f32_s();
         },
-        insn::Instruction::Numeric(insn::Numeric::I32TruncF32S),
+        fallible::Instruction::Numeric(fallible::Numeric::I32TruncF32S),
     );
     check(
         "a9",
@@ -2008,7 +2008,7 @@ fn from_150() {
         |sink| {
             sink.i32_trunc_f32_u();
         },
-        insn::Instruction::Numeric(insn::Numeric::I32TruncF32U),
+        fallible::Instruction::Numeric(fallible::Numeric::I32TruncF32U),
     );
     check(
         "aa",
@@ -2016,7 +2016,7 @@ fn from_150() {
         |sink| {
             sink.i32_trunc_f64_s();
         },
-        insn::Instruction::Numeric(insn::Numeric::I32TruncF64S),
+        fallible::Instruction::Numeric(fallible::Numeric::I32TruncF64S),
     );
     check(
         "ab",
@@ -2024,7 +2024,7 @@ fn from_150() {
         |sink| {
             sink.i32_trunc_f64_u();
         },
-        insn::Instruction::Numeric(insn::Numeric::I32TruncF64U),
+        fallible::Instruction::Numeric(fallible::Numeric::I32TruncF64U),
     );
     check(
         "ac",
@@ -2032,7 +2032,7 @@ fn from_150() {
         |sink| {
             sink.i64_extend_i32_s();
         },
-        insn::Instruction::Numeric(insn::Numeric::I64ExtendI32S),
+        fallible::Instruction::Numeric(fallible::Numeric::I64ExtendI32S),
     );
     check(
         "ad",
@@ -2040,7 +2040,7 @@ fn from_150() {
         |sink| {
             sink.i64_extend_i32_u();
         },
-        insn::Instruction::Numeric(insn::Numeric::I64ExtendI32U),
+        fallible::Instruction::Numeric(fallible::Numeric::I64ExtendI32U),
     );
     check(
         "ae",
@@ -2048,7 +2048,7 @@ fn from_150() {
         |sink| {
             sink.i64_trunc_f32_s();
         },
-        insn::Instruction::Numeric(insn::Numeric::I64TruncF32S),
+        fallible::Instruction::Numeric(fallible::Numeric::I64TruncF32S),
     );
     check(
         "af",
@@ -2056,7 +2056,7 @@ fn from_150() {
         |sink| {
             sink.i64_trunc_f32_u();
         },
-        insn::Instruction::Numeric(insn::Numeric::I64TruncF32U),
+        fallible::Instruction::Numeric(fallible::Numeric::I64TruncF32U),
     );
     check(
         "b0",
@@ -2064,7 +2064,7 @@ fn from_150() {
         |sink| {
             sink.i64_trunc_f64_s();
         },
-        insn::Instruction::Numeric(insn::Numeric::I64TruncF64S),
+        fallible::Instruction::Numeric(fallible::Numeric::I64TruncF64S),
     );
     check(
         "b1",
@@ -2072,7 +2072,7 @@ fn from_150() {
         |sink| {
             sink.i64_trunc_f64_u();
         },
-        insn::Instruction::Numeric(insn::Numeric::I64TruncF64U),
+        fallible::Instruction::Numeric(fallible::Numeric::I64TruncF64U),
     );
     check(
         "b2",
@@ -2080,7 +2080,7 @@ fn from_150() {
         |sink| {
             sink.f32_convert_i32_s();
         },
-        insn::Instruction::Numeric(insn::Numeric::F32ConvertI32S),
+        fallible::Instruction::Numeric(fallible::Numeric::F32ConvertI32S),
     );
     check(
         "b3",
@@ -2088,7 +2088,7 @@ fn from_150() {
         |sink| {
             sink.f32_convert_i32_u();
         },
-        insn::Instruction::Numeric(insn::Numeric::F32ConvertI32U),
+        fallible::Instruction::Numeric(fallible::Numeric::F32ConvertI32U),
     );
     check(
         "b4",
@@ -2096,7 +2096,7 @@ fn from_150() {
         |sink| {
             sink.f32_convert_i64_s();
         },
-        insn::Instruction::Numeric(insn::Numeric::F32ConvertI64S),
+        fallible::Instruction::Numeric(fallible::Numeric::F32ConvertI64S),
     );
     check(
         "b5",
@@ -2104,7 +2104,7 @@ fn from_150() {
         |sink| {
             sink.f32_convert_i64_u();
         },
-        insn::Instruction::Numeric(insn::Numeric::F32ConvertI64U),
+        fallible::Instruction::Numeric(fallible::Numeric::F32ConvertI64U),
     );
     check(
         "b6",
@@ -2112,7 +2112,7 @@ fn from_150() {
         |sink| {
             sink.f32_demote_f64();
         },
-        insn::Instruction::Numeric(insn::Numeric::F32DemoteF64),
+        fallible::Instruction::Numeric(fallible::Numeric::F32DemoteF64),
     );
     check(
         "b7",
@@ -2120,7 +2120,7 @@ fn from_150() {
         |sink| {
             sink.f64_convert_i32_s();
         },
-        insn::Instruction::Numeric(insn::Numeric::F64ConvertI32S),
+        fallible::Instruction::Numeric(fallible::Numeric::F64ConvertI32S),
     );
     check(
         "b8",
@@ -2128,7 +2128,7 @@ fn from_150() {
         |sink| {
             sink.f64_convert_i32_u();
         },
-        insn::Instruction::Numeric(insn::Numeric::F64ConvertI32U),
+        fallible::Instruction::Numeric(fallible::Numeric::F64ConvertI32U),
     );
     check(
         "b9",
@@ -2136,7 +2136,7 @@ fn from_150() {
         |sink| {
             sink.f64_convert_i64_s();
         },
-        insn::Instruction::Numeric(insn::Numeric::F64ConvertI64S),
+        fallible::Instruction::Numeric(fallible::Numeric::F64ConvertI64S),
     );
     check(
         "ba",
@@ -2144,7 +2144,7 @@ fn from_150() {
         |sink| {
             sink.f64_convert_i64_u();
         },
-        insn::Instruction::Numeric(insn::Numeric::F64ConvertI64U),
+        fallible::Instruction::Numeric(fallible::Numeric::F64ConvertI64U),
     );
     check(
         "bb",
@@ -2152,7 +2152,7 @@ fn from_150() {
         |sink| {
             sink.f64_promote_f32();
         },
-        insn::Instruction::Numeric(insn::Numeric::F64PromoteF32),
+        fallible::Instruction::Numeric(fallible::Numeric::F64PromoteF32),
     );
     check(
         "bc",
@@ -2160,7 +2160,7 @@ fn from_150() {
         |sink| {
             sink.i32_reinterpret_f32();
         },
-        insn::Instruction::Numeric(insn::Numeric::I32ReinterpretF32),
+        fallible::Instruction::Numeric(fallible::Numeric::I32ReinterpretF32),
     );
     check(
         "bd",
@@ -2168,7 +2168,7 @@ fn from_150() {
         |sink| {
             sink.i64_reinterpret_f64();
         },
-        insn::Instruction::Numeric(insn::Numeric::I64ReinterpretF64),
+        fallible::Instruction::Numeric(fallible::Numeric::I64ReinterpretF64),
     );
     check(
         "be",
@@ -2176,7 +2176,7 @@ fn from_150() {
         |sink| {
             sink.f32_reinterpret_i32();
         },
-        insn::Instruction::Numeric(insn::Numeric::F32ReinterpretI32),
+        fallible::Instruction::Numeric(fallible::Numeric::F32ReinterpretI32),
     );
     check(
         "bf",
@@ -2184,7 +2184,7 @@ fn from_150() {
         |sink| {
             sink.f64_reinterpret_i64();
         },
-        insn::Instruction::Numeric(insn::Numeric::F64ReinterpretI64),
+        fallible::Instruction::Numeric(fallible::Numeric::F64ReinterpretI64),
     );
     check(
         "c0",
@@ -2192,7 +2192,7 @@ fn from_150() {
         |sink| {
             sink.i32_extend8_s();
         },
-        insn::Instruction::Numeric(insn::Numeric::I32Extend8S),
+        fallible::Instruction::Numeric(fallible::Numeric::I32Extend8S),
     );
     check(
         "c1",
@@ -2200,7 +2200,7 @@ fn from_150() {
         |sink| {
             sink.i32_extend16_s();
         },
-        insn::Instruction::Numeric(insn::Numeric::I32Extend16S),
+        fallible::Instruction::Numeric(fallible::Numeric::I32Extend16S),
     );
     check(
         "c2",
@@ -2208,7 +2208,7 @@ fn from_150() {
         |sink| {
             sink.i64_extend8_s();
         },
-        insn::Instruction::Numeric(insn::Numeric::I64Extend8S),
+        fallible::Instruction::Numeric(fallible::Numeric::I64Extend8S),
     );
     check(
         "c3",
@@ -2216,7 +2216,7 @@ fn from_150() {
         |sink| {
             sink.i64_extend16_s();
         },
-        insn::Instruction::Numeric(insn::Numeric::I64Extend16S),
+        fallible::Instruction::Numeric(fallible::Numeric::I64Extend16S),
     );
     check(
         "c4",
@@ -2224,7 +2224,7 @@ fn from_150() {
         |sink| {
             sink.i64_extend32_s();
         },
-        insn::Instruction::Numeric(insn::Numeric::I64Extend32S),
+        fallible::Instruction::Numeric(fallible::Numeric::I64Extend32S),
     );
     check(
         "d0c000",
@@ -2232,7 +2232,7 @@ fn from_150() {
         |sink| {
             sink.ref_null(HeapType::Concrete(64));
         },
-        insn::Instruction::RefNull(HeapType::Concrete(64)),
+        fallible::Instruction::RefNull(HeapType::Concrete(64)),
     );
     check(
         "d1",
@@ -2240,7 +2240,7 @@ fn from_150() {
         |sink| {
             sink.ref_is_null();
         },
-        insn::Instruction::RefIsNull,
+        fallible::Instruction::RefIsNull,
     );
     check(
         "d2ac02",
@@ -2248,7 +2248,7 @@ fn from_150() {
         |sink| {
             sink.ref_func(300);
         },
-        insn::Instruction::RefFunc(300),
+        fallible::Instruction::RefFunc(300),
     );
     check(
         "d3",
@@ -2256,7 +2256,7 @@ fn from_150() {
         |sink| {
             sink.ref_eq();
         },
-        insn::Instruction::RefEq,
+        fallible::Instruction::RefEq,
     );
     check(
         "d4",
@@ -2264,7 +2264,7 @@ fn from_150() {
         |sink| {
             sink.ref_as_non_null();
         },
-        insn::Instruction::RefAsNonNull,
+        fallible::Instruction::RefAsNonNull,
     );
     check(
         "d5ac02",
@@ -2272,7 +2272,7 @@ fn from_150() {
         |sink| {
             sink.br_on_null(300);
         },
-        insn::Instruction::BrOnNull(300),
+        fallible::Instruction::BrOnNull(300),
     );
     check(
         "d6ac02",
@@ -2280,7 +2280,7 @@ fn from_150() {
         |sink| {
             sink.br_on_non_null(300);
         },
-        insn::Instruction::BrOnNonNull(300),
+        fallible::Instruction::BrOnNonNull(300),
     );
 }
 
@@ -2292,7 +2292,7 @@ fn from_200() {
         |sink| {
             sink.cont_new(300);
         },
-        insn::Instruction::ContNew(300),
+        fallible::Instruction::ContNew(300),
     );
     check(
         "e101ac02",
@@ -2300,7 +2300,7 @@ fn from_200() {
         |sink| {
             sink.cont_bind(1, 300);
         },
-        insn::Instruction::ContBind { argument_index: 1, result_index: 300 },
+        fallible::Instruction::ContBind { argument_index: 1, result_index: 300 },
     );
     check(
         "e2ac02",
@@ -2308,7 +2308,7 @@ fn from_200() {
         |sink| {
             sink.suspend(300);
         },
-        insn::Instruction::Suspend(300),
+        fallible::Instruction::Suspend(300),
     );
     check(
         "e301020003040105",
@@ -2316,7 +2316,7 @@ fn from_200() {
         |sink| {
             sink.resume(1, [Handle::OnLabel { tag: 3, label: 4 }, Handle::OnSwitch { tag: 5 }]);
         },
-        insn::Instruction::Resume { cont_type_index: 1, resume_table: CowSlice::Borrowed(&[Handle::OnLabel { tag: 3, label: 4 }, Handle::OnSwitch { tag: 5 }]) },
+        fallible::Instruction::Resume { cont_type_index: 1, resume_table: CowSlice::Borrowed(&[Handle::OnLabel { tag: 3, label: 4 }, Handle::OnSwitch { tag: 5 }]) },
     );
     check(
         "e401ac02020003040105",
@@ -2324,7 +2324,7 @@ fn from_200() {
         |sink| {
             sink.resume_throw(1, 300, [Handle::OnLabel { tag: 3, label: 4 }, Handle::OnSwitch { tag: 5 }]);
         },
-        insn::Instruction::ResumeThrow { cont_type_index: 1, tag_index: 300, resume_table: CowSlice::Borrowed(&[Handle::OnLabel { tag: 3, label: 4 }, Handle::OnSwitch { tag: 5 }]) },
+        fallible::Instruction::ResumeThrow { cont_type_index: 1, tag_index: 300, resume_table: CowSlice::Borrowed(&[Handle::OnLabel { tag: 3, label: 4 }, Handle::OnSwitch { tag: 5 }]) },
     );
     check(
         "e501020003040105",
@@ -2332,7 +2332,7 @@ fn from_200() {
         |sink| {
             sink.resume_throw_ref(1, [Handle::OnLabel { tag: 3, label: 4 }, Handle::OnSwitch { tag: 5 }]);
         },
-        insn::Instruction::ResumeThrowRef { cont_type_index: 1, resume_table: CowSlice::Borrowed(&[Handle::OnLabel { tag: 3, label: 4 }, Handle::OnSwitch { tag: 5 }]) },
+        fallible::Instruction::ResumeThrowRef { cont_type_index: 1, resume_table: CowSlice::Borrowed(&[Handle::OnLabel { tag: 3, label: 4 }, Handle::OnSwitch { tag: 5 }]) },
     );
     check(
         "e601ac02",
@@ -2340,7 +2340,7 @@ fn from_200() {
         |sink| {
             sink.switch(1, 300);
         },
-        insn::Instruction::Switch { cont_type_index: 1, tag_index: 300 },
+        fallible::Instruction::Switch { cont_type_index: 1, tag_index: 300 },
     );
     check(
         "fb00ac02",
@@ -2348,7 +2348,7 @@ fn from_200() {
         |sink| {
             sink.struct_new(300);
         },
-        insn::Instruction::StructNew(300),
+        fallible::Instruction::StructNew(300),
     );
     check(
         "fb01ac02",
@@ -2356,7 +2356,7 @@ fn from_200() {
         |sink| {
             sink.struct_new_default(300);
         },
-        insn::Instruction::StructNewDefault(300),
+        fallible::Instruction::StructNewDefault(300),
     );
     check(
         "fb0201ac02",
@@ -2364,7 +2364,7 @@ fn from_200() {
         |sink| {
             sink.struct_get(1, 300);
         },
-        insn::Instruction::StructGet { struct_type_index: 1, field_index: 300 },
+        fallible::Instruction::StructGet { struct_type_index: 1, field_index: 300 },
     );
     check(
         "fb0301ac02",
@@ -2372,7 +2372,7 @@ fn from_200() {
         |sink| {
             sink.struct_get_s(1, 300);
         },
-        insn::Instruction::StructGetS { struct_type_index: 1, field_index: 300 },
+        fallible::Instruction::StructGetS { struct_type_index: 1, field_index: 300 },
     );
     check(
         "fb0401ac02",
@@ -2380,7 +2380,7 @@ fn from_200() {
         |sink| {
             sink.struct_get_u(1, 300);
         },
-        insn::Instruction::StructGetU { struct_type_index: 1, field_index: 300 },
+        fallible::Instruction::StructGetU { struct_type_index: 1, field_index: 300 },
     );
     check(
         "fb0501ac02",
@@ -2388,7 +2388,7 @@ fn from_200() {
         |sink| {
             sink.struct_set(1, 300);
         },
-        insn::Instruction::StructSet { struct_type_index: 1, field_index: 300 },
+        fallible::Instruction::StructSet { struct_type_index: 1, field_index: 300 },
     );
     check(
         "fb06ac02",
@@ -2396,7 +2396,7 @@ fn from_200() {
         |sink| {
             sink.array_new(300);
         },
-        insn::Instruction::ArrayNew(300),
+        fallible::Instruction::ArrayNew(300),
     );
     check(
         "fb07ac02",
@@ -2404,7 +2404,7 @@ fn from_200() {
         |sink| {
             sink.array_new_default(300);
         },
-        insn::Instruction::ArrayNewDefault(300),
+        fallible::Instruction::ArrayNewDefault(300),
     );
     check(
         "fb0801ac02",
@@ -2412,7 +2412,7 @@ fn from_200() {
         |sink| {
             sink.array_new_fixed(1, 300);
         },
-        insn::Instruction::ArrayNewFixed { array_type_index: 1, array_size: 300 },
+        fallible::Instruction::ArrayNewFixed { array_type_index: 1, array_size: 300 },
     );
     check(
         "fb0901ac02",
@@ -2420,7 +2420,7 @@ fn from_200() {
         |sink| {
             sink.array_new_data(1, 300);
         },
-        insn::Instruction::ArrayNewData { array_type_index: 1, array_data_index: 300 },
+        fallible::Instruction::ArrayNewData { array_type_index: 1, array_data_index: 300 },
     );
     check(
         "fb0a01ac02",
@@ -2428,7 +2428,7 @@ fn from_200() {
         |sink| {
             sink.array_new_elem(1, 300);
         },
-        insn::Instruction::ArrayNewElem { array_type_index: 1, array_elem_index: 300 },
+        fallible::Instruction::ArrayNewElem { array_type_index: 1, array_elem_index: 300 },
     );
     check(
         "fb0bac02",
@@ -2436,7 +2436,7 @@ fn from_200() {
         |sink| {
             sink.array_get(300);
         },
-        insn::Instruction::ArrayGet(300),
+        fallible::Instruction::ArrayGet(300),
     );
     check(
         "fb0cac02",
@@ -2444,7 +2444,7 @@ fn from_200() {
         |sink| {
             sink.array_get_s(300);
         },
-        insn::Instruction::ArrayGetS(300),
+        fallible::Instruction::ArrayGetS(300),
     );
     check(
         "fb0dac02",
@@ -2452,7 +2452,7 @@ fn from_200() {
         |sink| {
             sink.array_get_u(300);
         },
-        insn::Instruction::ArrayGetU(300),
+        fallible::Instruction::ArrayGetU(300),
     );
     check(
         "fb0eac02",
@@ -2460,7 +2460,7 @@ fn from_200() {
         |sink| {
             sink.array_set(300);
         },
-        insn::Instruction::ArraySet(300),
+        fallible::Instruction::ArraySet(300),
     );
     check(
         "fb0f",
@@ -2468,7 +2468,7 @@ fn from_200() {
         |sink| {
             sink.array_len();
         },
-        insn::Instruction::Aggregate(insn::Aggregate::ArrayLen),
+        fallible::Instruction::Aggregate(fallible::Aggregate::ArrayLen),
     );
     check(
         "fb10ac02",
@@ -2476,7 +2476,7 @@ fn from_200() {
         |sink| {
             sink.array_fill(300);
         },
-        insn::Instruction::ArrayFill(300),
+        fallible::Instruction::ArrayFill(300),
     );
     check(
         "fb1101ac02",
@@ -2484,7 +2484,7 @@ fn from_200() {
         |sink| {
             sink.array_copy(1, 300);
         },
-        insn::Instruction::ArrayCopy { array_type_index_dst: 1, array_type_index_src: 300 },
+        fallible::Instruction::ArrayCopy { array_type_index_dst: 1, array_type_index_src: 300 },
     );
     check(
         "fb1201ac02",
@@ -2492,7 +2492,7 @@ fn from_200() {
         |sink| {
             sink.array_init_data(1, 300);
         },
-        insn::Instruction::ArrayInitData { array_type_index: 1, array_data_index: 300 },
+        fallible::Instruction::ArrayInitData { array_type_index: 1, array_data_index: 300 },
     );
     check(
         "fb1301ac02",
@@ -2500,7 +2500,7 @@ fn from_200() {
         |sink| {
             sink.array_init_elem(1, 300);
         },
-        insn::Instruction::ArrayInitElem { array_type_index: 1, array_elem_index: 300 },
+        fallible::Instruction::ArrayInitElem { array_type_index: 1, array_elem_index: 300 },
     );
     check(
         "fb14c000",
@@ -2508,7 +2508,7 @@ fn from_200() {
         |sink| {
             sink.ref_test_non_null(HeapType::Concrete(64));
         },
-        insn::Instruction::RefTestNonNull(HeapType::Concrete(64)),
+        fallible::Instruction::RefTestNonNull(HeapType::Concrete(64)),
     );
     check(
         "fb15c000",
@@ -2516,7 +2516,7 @@ fn from_200() {
         |sink| {
             sink.ref_test_nullable(HeapType::Concrete(64));
         },
-        insn::Instruction::RefTestNullable(HeapType::Concrete(64)),
+        fallible::Instruction::RefTestNullable(HeapType::Concrete(64)),
     );
     check(
         "fb16c000",
@@ -2524,7 +2524,7 @@ fn from_200() {
         |sink| {
             sink.ref_cast_non_null(HeapType::Concrete(64));
         },
-        insn::Instruction::RefCastNonNull(HeapType::Concrete(64)),
+        fallible::Instruction::RefCastNonNull(HeapType::Concrete(64)),
     );
     check(
         "fb17c000",
@@ -2532,7 +2532,7 @@ fn from_200() {
         |sink| {
             sink.ref_cast_nullable(HeapType::Concrete(64));
         },
-        insn::Instruction::RefCastNullable(HeapType::Concrete(64)),
+        fallible::Instruction::RefCastNullable(HeapType::Concrete(64)),
     );
     check(
         "fb1801016e6d",
@@ -2540,7 +2540,7 @@ fn from_200() {
         |sink| {
             sink.br_on_cast(1, RefType { nullable: true, heap_type: HeapType::Abstract { shared: false, ty: AbstractHeapType::Any } }, RefType { nullable: false, heap_type: HeapType::Abstract { shared: false, ty: AbstractHeapType::Eq } });
         },
-        insn::Instruction::BrOnCast { relative_depth: 1, from_ref_type: RefType { nullable: true, heap_type: HeapType::Abstract { shared: false, ty: AbstractHeapType::Any } }, to_ref_type: RefType { nullable: false, heap_type: HeapType::Abstract { shared: false, ty: AbstractHeapType::Eq } } },
+        fallible::Instruction::BrOnCast { relative_depth: 1, from_ref_type: RefType { nullable: true, heap_type: HeapType::Abstract { shared: false, ty: AbstractHeapType::Any } }, to_ref_type: RefType { nullable: false, heap_type: HeapType::Abstract { shared: false, ty: AbstractHeapType::Eq } } },
     );
     check(
         "fb1901016e6d",
@@ -2548,7 +2548,7 @@ fn from_200() {
         |sink| {
             sink.br_on_cast_fail(1, RefType { nullable: true, heap_type: HeapType::Abstract { shared: false, ty: AbstractHeapType::Any } }, RefType { nullable: false, heap_type: HeapType::Abstract { shared: false, ty: AbstractHeapType::Eq } });
         },
-        insn::Instruction::BrOnCastFail { relative_depth: 1, from_ref_type: RefType { nullable: true, heap_type: HeapType::Abstract { shared: false, ty: AbstractHeapType::Any } }, to_ref_type: RefType { nullable: false, heap_type: HeapType::Abstract { shared: false, ty: AbstractHeapType::Eq } } },
+        fallible::Instruction::BrOnCastFail { relative_depth: 1, from_ref_type: RefType { nullable: true, heap_type: HeapType::Abstract { shared: false, ty: AbstractHeapType::Any } }, to_ref_type: RefType { nullable: false, heap_type: HeapType::Abstract { shared: false, ty: AbstractHeapType::Eq } } },
     );
     check(
         "fb1a",
@@ -2556,7 +2556,7 @@ fn from_200() {
         |sink| {
             sink.any_convert_extern();
         },
-        insn::Instruction::Aggregate(insn::Aggregate::AnyConvertExtern),
+        fallible::Instruction::Aggregate(fallible::Aggregate::AnyConvertExtern),
     );
     check(
         "fb1b",
@@ -2564,7 +2564,7 @@ fn from_200() {
         |sink| {
             sink.extern_convert_any();
         },
-        insn::Instruction::Aggregate(insn::Aggregate::ExternConvertAny),
+        fallible::Instruction::Aggregate(fallible::Aggregate::ExternConvertAny),
     );
     check(
         "fb1c",
@@ -2572,7 +2572,7 @@ fn from_200() {
         |sink| {
             sink.ref_i31();
         },
-        insn::Instruction::Aggregate(insn::Aggregate::RefI31),
+        fallible::Instruction::Aggregate(fallible::Aggregate::RefI31),
     );
     check(
         "fb1d",
@@ -2580,7 +2580,7 @@ fn from_200() {
         |sink| {
             sink.i31_get_s();
         },
-        insn::Instruction::Aggregate(insn::Aggregate::I31GetS),
+        fallible::Instruction::Aggregate(fallible::Aggregate::I31GetS),
     );
     check(
         "fb1e",
@@ -2588,7 +2588,7 @@ fn from_200() {
         |sink| {
             sink.i31_get_u();
         },
-        insn::Instruction::Aggregate(insn::Aggregate::I31GetU),
+        fallible::Instruction::Aggregate(fallible::Aggregate::I31GetU),
     );
     check(
         "fb20ac02",
@@ -2596,7 +2596,7 @@ fn from_200() {
         |sink| {
             sink.struct_new_desc(300);
         },
-        insn::Instruction::StructNewDesc(300),
+        fallible::Instruction::StructNewDesc(300),
     );
     check(
         "fb21ac02",
@@ -2604,7 +2604,7 @@ fn from_200() {
         |sink| {
             sink.struct_new_default_desc(300);
         },
-        insn::Instruction::StructNewDefaultDesc(300),
+        fallible::Instruction::StructNewDefaultDesc(300),
     );
     check(
         "fb22ac02",
@@ -2612,7 +2612,7 @@ fn from_200() {
         |sink| {
             sink.ref_get_desc(300);
         },
-        insn::Instruction::RefGetDesc(300),
+        fallible::Instruction::RefGetDesc(300),
     );
     check(
         "fb23c000",
@@ -2620,7 +2620,7 @@ fn from_200() {
         |sink| {
             sink.ref_cast_desc_eq_non_null(HeapType::Concrete(64));
         },
-        insn::Instruction::RefCastDescEqNonNull(HeapType::Concrete(64)),
+        fallible::Instruction::RefCastDescEqNonNull(HeapType::Concrete(64)),
     );
     check(
         "fb24c000",
@@ -2628,7 +2628,7 @@ fn from_200() {
         |sink| {
             sink.ref_cast_desc_eq_nullable(HeapType::Concrete(64));
         },
-        insn::Instruction::RefCastDescEqNullable(HeapType::Concrete(64)),
+        fallible::Instruction::RefCastDescEqNullable(HeapType::Concrete(64)),
     );
     check(
         "fb2501016e6d",
@@ -2636,7 +2636,7 @@ fn from_200() {
         |sink| {
             sink.br_on_cast_desc_eq(1, RefType { nullable: true, heap_type: HeapType::Abstract { shared: false, ty: AbstractHeapType::Any } }, RefType { nullable: false, heap_type: HeapType::Abstract { shared: false, ty: AbstractHeapType::Eq } });
         },
-        insn::Instruction::BrOnCastDescEq { relative_depth: 1, from_ref_type: RefType { nullable: true, heap_type: HeapType::Abstract { shared: false, ty: AbstractHeapType::Any } }, to_ref_type: RefType { nullable: false, heap_type: HeapType::Abstract { shared: false, ty: AbstractHeapType::Eq } } },
+        fallible::Instruction::BrOnCastDescEq { relative_depth: 1, from_ref_type: RefType { nullable: true, heap_type: HeapType::Abstract { shared: false, ty: AbstractHeapType::Any } }, to_ref_type: RefType { nullable: false, heap_type: HeapType::Abstract { shared: false, ty: AbstractHeapType::Eq } } },
     );
     check(
         "fb2601016e6d",
@@ -2644,7 +2644,7 @@ fn from_200() {
         |sink| {
             sink.br_on_cast_desc_eq_fail(1, RefType { nullable: true, heap_type: HeapType::Abstract { shared: false, ty: AbstractHeapType::Any } }, RefType { nullable: false, heap_type: HeapType::Abstract { shared: false, ty: AbstractHeapType::Eq } });
         },
-        insn::Instruction::BrOnCastDescEqFail { relative_depth: 1, from_ref_type: RefType { nullable: true, heap_type: HeapType::Abstract { shared: false, ty: AbstractHeapType::Any } }, to_ref_type: RefType { nullable: false, heap_type: HeapType::Abstract { shared: false, ty: AbstractHeapType::Eq } } },
+        fallible::Instruction::BrOnCastDescEqFail { relative_depth: 1, from_ref_type: RefType { nullable: true, heap_type: HeapType::Abstract { shared: false, ty: AbstractHeapType::Any } }, to_ref_type: RefType { nullable: false, heap_type: HeapType::Abstract { shared: false, ty: AbstractHeapType::Eq } } },
     );
     check(
         "fc00",
@@ -2652,7 +2652,7 @@ fn from_200() {
         |sink| {
             sink.i32_trunc_sat_f32_s();
         },
-        insn::Instruction::PrefixedNumeric(insn::PrefixedNumeric::I32TruncSatF32S),
+        fallible::Instruction::PrefixedNumeric(fallible::PrefixedNumeric::I32TruncSatF32S),
     );
     check(
         "fc01",
@@ -2660,7 +2660,7 @@ fn from_200() {
         |sink| {
             sink.i32_trunc_sat_f32_u();
         },
-        insn::Instruction::PrefixedNumeric(insn::PrefixedNumeric::I32TruncSatF32U),
+        fallible::Instruction::PrefixedNumeric(fallible::PrefixedNumeric::I32TruncSatF32U),
     );
     check(
         "fc02",
@@ -2668,7 +2668,7 @@ fn from_200() {
         |sink| {
             sink.i32_trunc_sat_f64_s();
         },
-        insn::Instruction::PrefixedNumeric(insn::PrefixedNumeric::I32TruncSatF64S),
+        fallible::Instruction::PrefixedNumeric(fallible::PrefixedNumeric::I32TruncSatF64S),
     );
     check(
         "fc03",
@@ -2676,7 +2676,7 @@ fn from_200() {
         |sink| {
             sink.i32_trunc_sat_f64_u();
         },
-        insn::Instruction::PrefixedNumeric(insn::PrefixedNumeric::I32TruncSatF64U),
+        fallible::Instruction::PrefixedNumeric(fallible::PrefixedNumeric::I32TruncSatF64U),
     );
     check(
         "fc04",
@@ -2684,7 +2684,7 @@ fn from_200() {
         |sink| {
             sink.i64_trunc_sat_f32_s();
         },
-        insn::Instruction::PrefixedNumeric(insn::PrefixedNumeric::I64TruncSatF32S),
+        fallible::Instruction::PrefixedNumeric(fallible::PrefixedNumeric::I64TruncSatF32S),
     );
 }
 
@@ -2696,7 +2696,7 @@ fn from_250() {
         |sink| {
             sink.i64_trunc_sat_f32_u();
         },
-        insn::Instruction::PrefixedNumeric(insn::PrefixedNumeric::I64TruncSatF32U),
+        fallible::Instruction::PrefixedNumeric(fallible::PrefixedNumeric::I64TruncSatF32U),
     );
     check(
         "fc06",
@@ -2704,7 +2704,7 @@ fn from_250() {
         |sink| {
             sink.i64_trunc_sat_f64_s();
         },
-        insn::Instruction::PrefixedNumeric(insn::PrefixedNumeric::I64TruncSatF64S),
+        fallible::Instruction::PrefixedNumeric(fallible::PrefixedNumeric::I64TruncSatF64S),
     );
     check(
         "fc07",
@@ -2712,7 +2712,7 @@ fn from_250() {
         |sink| {
             sink.i64_trunc_sat_f64_u();
         },
-        insn::Instruction::PrefixedNumeric(insn::PrefixedNumeric::I64TruncSatF64U),
+        fallible::Instruction::PrefixedNumeric(fallible::PrefixedNumeric::I64TruncSatF64U),
     );
     check(
         "fc0801ac02",
@@ -2720,7 +2720,7 @@ fn from_250() {
         |sink| {
             sink.memory_init(300, 1);
         },
-        insn::Instruction::MemoryInit { data_index: 1, mem: 300 },
+        fallible::Instruction::MemoryInit { data_index: 1, mem: 300 },
     );
     check(
         "fc09ac02",
@@ -2728,7 +2728,7 @@ fn from_250() {
         |sink| {
             sink.data_drop(300);
         },
-        insn::Instruction::DataDrop(300),
+        fallible::Instruction::DataDrop(300),
     );
     check(
         "fc0a01ac02",
@@ -2736,7 +2736,7 @@ fn from_250() {
         |sink| {
             sink.memory_copy(1, 300);
         },
-        insn::Instruction::MemoryCopy { dst_mem: 1, src_mem: 300 },
+        fallible::Instruction::MemoryCopy { dst_mem: 1, src_mem: 300 },
     );
     check(
         "fc0bac02",
@@ -2744,7 +2744,7 @@ fn from_250() {
         |sink| {
             sink.memory_fill(300);
         },
-        insn::Instruction::MemoryFill(300),
+        fallible::Instruction::MemoryFill(300),
     );
     check(
         "fc0c01ac02",
@@ -2752,7 +2752,7 @@ fn from_250() {
         |sink| {
             sink.table_init(300, 1);
         },
-        insn::Instruction::TableInit { elem_index: 1, table: 300 },
+        fallible::Instruction::TableInit { elem_index: 1, table: 300 },
     );
     check(
         "fc0dac02",
@@ -2760,7 +2760,7 @@ fn from_250() {
         |sink| {
             sink.elem_drop(300);
         },
-        insn::Instruction::ElemDrop(300),
+        fallible::Instruction::ElemDrop(300),
     );
     check(
         "fc0e01ac02",
@@ -2768,7 +2768,7 @@ fn from_250() {
         |sink| {
             sink.table_copy(1, 300);
         },
-        insn::Instruction::TableCopy { dst_table: 1, src_table: 300 },
+        fallible::Instruction::TableCopy { dst_table: 1, src_table: 300 },
     );
     check(
         "fc0fac02",
@@ -2776,7 +2776,7 @@ fn from_250() {
         |sink| {
             sink.table_grow(300);
         },
-        insn::Instruction::TableGrow(300),
+        fallible::Instruction::TableGrow(300),
     );
     check(
         "fc10ac02",
@@ -2784,7 +2784,7 @@ fn from_250() {
         |sink| {
             sink.table_size(300);
         },
-        insn::Instruction::TableSize(300),
+        fallible::Instruction::TableSize(300),
     );
     check(
         "fc11ac02",
@@ -2792,7 +2792,7 @@ fn from_250() {
         |sink| {
             sink.table_fill(300);
         },
-        insn::Instruction::TableFill(300),
+        fallible::Instruction::TableFill(300),
     );
     check(
         "fc12ac02",
@@ -2800,7 +2800,7 @@ fn from_250() {
         |sink| {
             sink.memory_discard(300);
         },
-        insn::Instruction::MemoryDiscard(300),
+        fallible::Instruction::MemoryDiscard(300),
     );
     check(
         "fc13",
@@ -2808,7 +2808,7 @@ fn from_250() {
         |sink| {
             sink.i64_add128();
         },
-        insn::Instruction::PrefixedNumeric(insn::PrefixedNumeric::I64Add128),
+        fallible::Instruction::PrefixedNumeric(fallible::PrefixedNumeric::I64Add128),
     );
     check(
         "fc14",
@@ -2816,7 +2816,7 @@ fn from_250() {
         |sink| {
             sink.i64_sub128();
         },
-        insn::Instruction::PrefixedNumeric(insn::PrefixedNumeric::I64Sub128),
+        fallible::Instruction::PrefixedNumeric(fallible::PrefixedNumeric::I64Sub128),
     );
     check(
         "fc15",
@@ -2824,7 +2824,7 @@ fn from_250() {
         |sink| {
             sink.i64_mul_wide_s();
         },
-        insn::Instruction::PrefixedNumeric(insn::PrefixedNumeric::I64MulWideS),
+        fallible::Instruction::PrefixedNumeric(fallible::PrefixedNumeric::I64MulWideS),
     );
     check(
         "fc16",
@@ -2832,7 +2832,7 @@ fn from_250() {
         |sink| {
             sink.i64_mul_wide_u();
         },
-        insn::Instruction::PrefixedNumeric(insn::PrefixedNumeric::I64MulWideU),
+        fallible::Instruction::PrefixedNumeric(fallible::PrefixedNumeric::I64MulWideU),
     );
     check(
         "fd004201ac02",
@@ -2840,7 +2840,7 @@ fn from_250() {
         |sink| {
             sink.v128_load(MEMARG);
         },
-        insn::Instruction::VectorImmediate(insn::VectorImmediate::V128Load(MEMARG)),
+        fallible::Instruction::VectorImmediate(fallible::VectorImmediate::V128Load(MEMARG)),
     );
     check(
         "fd014201ac02",
@@ -2848,7 +2848,7 @@ fn from_250() {
         |sink| {
             sink.v128_load8x8_s(MEMARG);
         },
-        insn::Instruction::VectorImmediate(insn::VectorImmediate::V128Load8x8S(MEMARG)),
+        fallible::Instruction::VectorImmediate(fallible::VectorImmediate::V128Load8x8S(MEMARG)),
     );
     check(
         "fd024201ac02",
@@ -2856,7 +2856,7 @@ fn from_250() {
         |sink| {
             sink.v128_load8x8_u(MEMARG);
         },
-        insn::Instruction::VectorImmediate(insn::VectorImmediate::V128Load8x8U(MEMARG)),
+        fallible::Instruction::VectorImmediate(fallible::VectorImmediate::V128Load8x8U(MEMARG)),
     );
     check(
         "fd034201ac02",
@@ -2864,7 +2864,7 @@ fn from_250() {
         |sink| {
             sink.v128_load16x4_s(MEMARG);
         },
-        insn::Instruction::VectorImmediate(insn::VectorImmediate::V128Load16x4S(MEMARG)),
+        fallible::Instruction::VectorImmediate(fallible::VectorImmediate::V128Load16x4S(MEMARG)),
     );
     check(
         "fd044201ac02",
@@ -2872,7 +2872,7 @@ fn from_250() {
         |sink| {
             sink.v128_load16x4_u(MEMARG);
         },
-        insn::Instruction::VectorImmediate(insn::VectorImmediate::V128Load16x4U(MEMARG)),
+        fallible::Instruction::VectorImmediate(fallible::VectorImmediate::V128Load16x4U(MEMARG)),
     );
     check(
         "fd054201ac02",
@@ -2880,7 +2880,7 @@ fn from_250() {
         |sink| {
             sink.v128_load32x2_s(MEMARG);
         },
-        insn::Instruction::VectorImmediate(insn::VectorImmediate::V128Load32x2S(MEMARG)),
+        fallible::Instruction::VectorImmediate(fallible::VectorImmediate::V128Load32x2S(MEMARG)),
     );
     check(
         "fd064201ac02",
@@ -2888,7 +2888,7 @@ fn from_250() {
         |sink| {
             sink.v128_load32x2_u(MEMARG);
         },
-        insn::Instruction::VectorImmediate(insn::VectorImmediate::V128Load32x2U(MEMARG)),
+        fallible::Instruction::VectorImmediate(fallible::VectorImmediate::V128Load32x2U(MEMARG)),
     );
     check(
         "fd074201ac02",
@@ -2896,7 +2896,7 @@ fn from_250() {
         |sink| {
             sink.v128_load8_splat(MEMARG);
         },
-        insn::Instruction::VectorImmediate(insn::VectorImmediate::V128Load8Splat(MEMARG)),
+        fallible::Instruction::VectorImmediate(fallible::VectorImmediate::V128Load8Splat(MEMARG)),
     );
     check(
         "fd084201ac02",
@@ -2904,7 +2904,7 @@ fn from_250() {
         |sink| {
             sink.v128_load16_splat(MEMARG);
         },
-        insn::Instruction::VectorImmediate(insn::VectorImmediate::V128Load16Splat(MEMARG)),
+        fallible::Instruction::VectorImmediate(fallible::VectorImmediate::V128Load16Splat(MEMARG)),
     );
     check(
         "fd094201ac02",
@@ -2912,7 +2912,7 @@ fn from_250() {
         |sink| {
             sink.v128_load32_splat(MEMARG);
         },
-        insn::Instruction::VectorImmediate(insn::VectorImmediate::V128Load32Splat(MEMARG)),
+        fallible::Instruction::VectorImmediate(fallible::VectorImmediate::V128Load32Splat(MEMARG)),
     );
     check(
         "fd0a4201ac02",
@@ -2920,7 +2920,7 @@ fn from_250() {
         |sink| {
             sink.v128_load64_splat(MEMARG);
         },
-        insn::Instruction::VectorImmediate(insn::VectorImmediate::V128Load64Splat(MEMARG)),
+        fallible::Instruction::VectorImmediate(fallible::VectorImmediate::V128Load64Splat(MEMARG)),
     );
     check(
         "fd0b4201ac02",
@@ -2928,7 +2928,7 @@ fn from_250() {
         |sink| {
             sink.v128_store(MEMARG);
         },
-        insn::Instruction::VectorImmediate(insn::VectorImmediate::V128Store(MEMARG)),
+        fallible::Instruction::VectorImmediate(fallible::VectorImmediate::V128Store(MEMARG)),
     );
     check(
         "fd0cfeffffffffffffffffffffffffffffff",
@@ -2936,7 +2936,7 @@ fn from_250() {
         |sink| {
             sink.v128_const(-2);
         },
-        insn::Instruction::VectorImmediate(insn::VectorImmediate::V128Const(-2)),
+        fallible::Instruction::VectorImmediate(fallible::VectorImmediate::V128Const(-2)),
     );
     check(
         "fd0d000102030405060708090a0b0c0d0e0f",
@@ -2944,7 +2944,7 @@ fn from_250() {
         |sink| {
             sink.i8x16_shuffle([0, 1, 2, 3, 4, 5, 6, 7, 8, 9, 10, 11, 12, 13, 14, 15]);
         },
-        insn::Instruction::VectorImmediate(insn::VectorImmediate::I8x16Shuffle([0, 1, 2, 3, 4, 5, 6, 7, 8, 9, 10, 11, 12, 13, 14, 15])),
+        fallible::Instruction::VectorImmediate(fallible::VectorImmediate::I8x16Shuffle([0, 1, 2, 3, 4, 5, 6, 7, 8, 9, 10, 11, 12, 13, 14, 15])),
     );
     check(
         "fd0e",
@@ -2952,7 +2952,7 @@ fn from_250() {
         |sink| {
             sink.i8x16_swizzle();
         },
-        insn::Instruction::Vector(insn::Vector::I8x16Swizzle),
+        fallible::Instruction::Vector(fallible::Vector::I8x16Swizzle),
     );
     check(
         "fd0f",
@@ -2960,7 +2960,7 @@ fn from_250() {
         |sink| {
             sink.i8x16_splat();
         },
-        insn::Instruction::Vector(insn::Vector::I8x16Splat),
+        fallible::Instruction::Vector(fallible::Vector::I8x16Splat),
     );
     check(
         "fd10",
@@ -2968,7 +2968,7 @@ fn from_250() {
         |sink| {
             sink.i16x8_splat();
         },
-        insn::Instruction::Vector(insn::Vector::I16x8Splat),
+        fallible::Instruction::Vector(fallible::Vector::I16x8Splat),
     );
     check(
         "fd11",
@@ -2976,7 +2976,7 @@ fn from_250() {
         |sink| {
             sink.i32x4_splat();
         },
-        insn::Instruction::Vector(insn::Vector::I32x4Splat),
+        fallible::Instruction::Vector(fallible::Vector::I32x4Splat),
     );
     check(
         "fd12",
@@ -2984,7 +2984,7 @@ fn from_250() {
         |sink| {
             sink.i64x2_splat();
         },
-        insn::Instruction::Vector(insn::Vector::I64x2Splat),
+        fallible::Instruction::Vector(fallible::Vector::I64x2Splat),
     );
     check(
         "fd13",
@@ -2992,7 +2992,7 @@ fn from_250() {
         |sink| {
             sink.f32x4_splat();
         },
-        insn::Instruction::Vector(insn::Vector::F32x4Splat),
+        fallible::Instruction::Vector(fallible::Vector::F32x4Splat),
     );
     check(
         "fd14",
@@ -3000,7 +3000,7 @@ fn from_250() {
         |sink| {
             sink.f64x2_splat();
         },
-        insn::Instruction::Vector(insn::Vector::F64x2Splat),
+        fallible::Instruction::Vector(fallible::Vector::F64x2Splat),
     );
     check(
         "fd1503",
@@ -3008,7 +3008,7 @@ fn from_250() {
         |sink| {
             sink.i8x16_extract_lane_s(3);
         },
-        insn::Instruction::VectorImmediate(insn::VectorImmediate::I8x16ExtractLaneS(3)),
+        fallible::Instruction::VectorImmediate(fallible::VectorImmediate::I8x16ExtractLaneS(3)),
     );
     check(
         "fd1603",
@@ -3016,7 +3016,7 @@ fn from_250() {
         |sink| {
             sink.i8x16_extract_lane_u(3);
         },
-        insn::Instruction::VectorImmediate(insn::VectorImmediate::I8x16ExtractLaneU(3)),
+        fallible::Instruction::VectorImmediate(fallible::VectorImmediate::I8x16ExtractLaneU(3)),
     );
     check(
         "fd1703",
@@ -3024,7 +3024,7 @@ fn from_250() {
         |sink| {
             sink.i8x16_replace_lane(3);
         },
-        insn::Instruction::VectorImmediate(insn::VectorImmediate::I8x16ReplaceLane(3)),
+        fallible::Instruction::VectorImmediate(fallible::VectorImmediate::I8x16ReplaceLane(3)),
     );
     check(
         "fd1803",
@@ -3032,7 +3032,7 @@ fn from_250() {
         |sink| {
             sink.i16x8_extract_lane_s(3);
         },
-        insn::Instruction::VectorImmediate(insn::VectorImmediate::I16x8ExtractLaneS(3)),
+        fallible::Instruction::VectorImmediate(fallible::VectorImmediate::I16x8ExtractLaneS(3)),
     );
     check(
         "fd1903",
@@ -3040,7 +3040,7 @@ fn from_250() {
         |sink| {
             sink.i16x8_extract_lane_u(3);
         },
-        insn::Instruction::VectorImmediate(insn::VectorImmediate::I16x8ExtractLaneU(3)),
+        fallible::Instruction::VectorImmediate(fallible::VectorImmediate::I16x8ExtractLaneU(3)),
     );
     check(
         "fd1a03",
@@ -3048,7 +3048,7 @@ fn from_250() {
         |sink| {
             sink.i16x8_replace_lane(3);
         },
-        insn::Instruction::VectorImmediate(insn::VectorImmediate::I16x8ReplaceLane(3)),
+        fallible::Instruction::VectorImmediate(fallible::VectorImmediate::I16x8ReplaceLane(3)),
     );
     check(
         "fd1b03",
@@ -3056,7 +3056,7 @@ fn from_250() {
         |sink| {
             sink.i32x4_extract_lane(3);
         },
-        insn::Instruction::VectorImmediate(insn::VectorImmediate::I32x4ExtractLane(3)),
+        fallible::Instruction::VectorImmediate(fallible::VectorImmediate::I32x4ExtractLane(3)),
     );
     check(
         "fd1c03",
@@ -3064,7 +3064,7 @@ fn from_250() {
         |sink| {
             sink.i32x4_replace_lane(3);
         },
-        insn::Instruction::VectorImmediate(insn::VectorImmediate::I32x4ReplaceLane(3)),
+        fallible::Instruction::VectorImmediate(fallible::VectorImmediate::I32x4ReplaceLane(3)),
     );
     check(
         "fd1d03",
@@ -3072,7 +3072,7 @@ fn from_250() {
         |sink| {
             sink.i64x2_extract_lane(3);
         },
-        insn::Instruction::VectorImmediate(insn::VectorImmediate::I64x2ExtractLane(3)),
+        fallible::Instruction::VectorImmediate(fallible::VectorImmediate::I64x2ExtractLane(3)),
     );
     check(
         "fd1e03",
@@ -3080,7 +3080,7 @@ fn from_250() {
         |sink| {
             sink.i64x2_replace_lane(3);
         },
-        insn::Instruction::VectorImmediate(insn::VectorImmediate::I64x2ReplaceLane(3)),
+        fallible::Instruction::VectorImmediate(fallible::VectorImmediate::I64x2ReplaceLane(3)),
     );
     check(
         "fd1f03",
@@ -3088,7 +3088,7 @@ fn from_250() {
         |sink| {
             sink.f32x4_extract_lane(3);
         },
-        insn::Instruction::VectorImmediate(insn::VectorImmediate::F32x4ExtractLane(3)),
+        fallible::Instruction::VectorImmediate(fallible::VectorImmediate::F32x4ExtractLane(3)),
     );
 }
 
@@ -3100,7 +3100,7 @@ fn from_300() {
         |sink| {
             sink.f32x4_replace_lane(3);
         },
-        insn::Instruction::VectorImmediate(insn::VectorImmediate::F32x4ReplaceLane(3)),
+        fallible::Instruction::VectorImmediate(fallible::VectorImmediate::F32x4ReplaceLane(3)),
     );
     check(
         "fd2103",
@@ -3108,7 +3108,7 @@ fn from_300() {
         |sink| {
             sink.f64x2_extract_lane(3);
         },
-        insn::Instruction::VectorImmediate(insn::VectorImmediate::F64x2ExtractLane(3)),
+        fallible::Instruction::VectorImmediate(fallible::VectorImmediate::F64x2ExtractLane(3)),
     );
     check(
         "fd2203",
@@ -3116,7 +3116,7 @@ fn from_300() {
         |sink| {
             sink.f64x2_replace_lane(3);
         },
-        insn::Instruction::VectorImmediate(insn::VectorImmediate::F64x2ReplaceLane(3)),
+        fallible::Instruction::VectorImmediate(fallible::VectorImmediate::F64x2ReplaceLane(3)),
     );
     check(
         "fd23",
@@ -3124,7 +3124,7 @@ fn from_300() {
         |sink| {
             sink.i8x16_eq();
         },
-        insn::Instruction::Vector(insn::Vector::I8x16Eq),
+        fallible::Instruction::Vector(fallible::Vector::I8x16Eq),
     );
     check(
         "fd24",
@@ -3132,7 +3132,7 @@ fn from_300() {
         |sink| {
             sink.i8x16_ne();
         },
-        insn::Instruction::Vector(insn::Vector::I8x16Ne),
+        fallible::Instruction::Vector(fallible::Vector::I8x16Ne),
     );
     check(
         "fd25",
@@ -3140,7 +3140,7 @@ fn from_300() {
         |sink| {
             sink.i8x16_lt_s();
         },
-        insn::Instruction::Vector(insn::Vector::I8x16LtS),
+        fallible::Instruction::Vector(fallible::Vector::I8x16LtS),
     );
     check(
         "fd26",
@@ -3148,7 +3148,7 @@ fn from_300() {
         |sink| {
             sink.i8x16_lt_u();
         },
-        insn::Instruction::Vector(insn::Vector::I8x16LtU),
+        fallible::Instruction::Vector(fallible::Vector::I8x16LtU),
     );
     check(
         "fd27",
@@ -3156,7 +3156,7 @@ fn from_300() {
         |sink| {
             sink.i8x16_gt_s();
         },
-        insn::Instruction::Vector(insn::Vector::I8x16GtS),
+        fallible::Instruction::Vector(fallible::Vector::I8x16GtS),
     );
     check(
         "fd28",
@@ -3164,7 +3164,7 @@ fn from_300() {
         |sink| {
             sink.i8x16_gt_u();
         },
-        insn::Instruction::Vector(insn::Vector::I8x16GtU),
+        fallible::Instruction::Vector(fallible::Vector::I8x16GtU),
     );
     check(
         "fd29",
@@ -3172,7 +3172,7 @@ fn from_300() {
         |sink| {
             sink.i8x16_le_s();
         },
-        insn::Instruction::Vector(insn::Vector::I8x16LeS),
+        fallible::Instruction::Vector(fallible::Vector::I8x16LeS),
     );
     check(
         "fd2a",
@@ -3180,7 +3180,7 @@ fn from_300() {
         |sink| {
             sink.i8x16_le_u();
         },
-        insn::Instruction::Vector(insn::Vector::I8x16LeU),
+        fallible::Instruction::Vector(fallible::Vector::I8x16LeU),
     );
     check(
         "fd2b",
@@ -3188,7 +3188,7 @@ fn from_300() {
         |sink| {
             sink.i8x16_ge_s();
         },
-        insn::Instruction::Vector(insn::Vector::I8x16GeS),
+        fallible::Instruction::Vector(fallible::Vector::I8x16GeS),
     );
     check(
         "fd2c",
@@ -3196,7 +3196,7 @@ fn from_300() {
         |sink| {
             sink.i8x16_ge_u();
         },
-        insn::Instruction::Vector(insn::Vector::I8x16GeU),
+        fallible::Instruction::Vector(fallible::Vector::I8x16GeU),
     );
     check(
         "fd2d",
@@ -3204,7 +3204,7 @@ fn from_300() {
         |sink| {
             sink.i16x8_eq();
         },
-        insn::Instruction::Vector(insn::Vector::I16x8Eq),
+        fallible::Instruction::Vector(fallible::Vector::I16x8Eq),
     );
     check(
         "fd2e",
@@ -3212,7 +3212,7 @@ fn from_300() {
         |sink| {
             sink.i16x8_ne();
         },
-        insn::Instruction::Vector(insn::Vector::I16x8Ne),
+        fallible::Instruction::Vector(fallible::Vector::I16x8Ne),
     );
     check(
         "fd2f",
@@ -3220,7 +3220,7 @@ fn from_300() {
         |sink| {
             sink.i16x8_lt_s();
         },
-        insn::Instruction::Vector(insn::Vector::I16x8LtS),
+        fallible::Instruction::Vector(fallible::Vector::I16x8LtS),
     );
     check(
         "fd30",
@@ -3228,7 +3228,7 @@ fn from_300() {
         |sink| {
             sink.i16x8_lt_u();
         },
-        insn::Instruction::Vector(insn::Vector::I16x8LtU),
+        fallible::Instruction::Vector(fallible::Vector::I16x8LtU),
     );
     check(
         "fd31",
@@ -3236,7 +3236,7 @@ fn from_300() {
         |sink| {
             sink.i16x8_gt_s();
         },
-        insn::Instruction::Vector(insn::Vector::I16x8GtS),
+        fallible::Instruction::Vector(fallible::Vector::I16x8GtS),
     );
     check(
         "fd32",
@@ -3244,7 +3244,7 @@ fn from_300() {
         |sink| {
             sink.i16x8_gt_u();
         },
-        insn::Instruction::Vector(insn::Vector::I16x8GtU),
+        fallible::Instruction::Vector(fallible::Vector::I16x8GtU),
     );
     check(
         "fd33",
@@ -3252,7 +3252,7 @@ fn from_300() {
         |sink| {
             sink.i16x8_le_s();
         },
-        insn::Instruction::Vector(insn::Vector::I16x8LeS),
+        fallible::Instruction::Vector(fallible::Vector::I16x8LeS),
     );
     check(
         "fd34",
@@ -3260,7 +3260,7 @@ fn from_300() {
         |sink| {
             sink.i16x8_le_u();
         },
-        insn::Instruction::Vector(insn::Vector::I16x8LeU),
+        fallible::Instruction::Vector(fallible::Vector::I16x8LeU),
     );
     check(
         "fd35",
@@ -3268,7 +3268,7 @@ fn from_300() {
         |sink| {
             sink.i16x8_ge_s();
         },
-        insn::Instruction::Vector(insn::Vector::I16x8GeS),
+        fallible::Instruction::Vector(fallible::Vector::I16x8GeS),
     );
     check(
         "fd36",
@@ -3276,7 +3276,7 @@ fn from_300() {
         |sink| {
             sink.i16x8_ge_u();
         },
-        insn::Instruction::Vector(insn::Vector::I16x8GeU),
+        fallible::Instruction::Vector(fallible::Vector::I16x8GeU),
     );
     check(
         "fd37",
@@ -3284,7 +3284,7 @@ fn from_300() {
         |sink| {
             sink.i32x4_eq();
         },
-        insn::Instruction::Vector(insn::Vector::I32x4Eq),
+        fallible::Instruction::Vector(fallible::Vector::I32x4Eq),
     );
     check(
         "fd38",
@@ -3292,7 +3292,7 @@ fn from_300() {
         |sink| {
             sink.i32x4_ne();
         },
-        insn::Instruction::Vector(insn::Vector::I32x4Ne),
+        fallible::Instruction::Vector(fallible::Vector::I32x4Ne),
     );
     check(
         "fd39",
@@ -3300,7 +3300,7 @@ fn from_300() {
         |sink| {
             sink.i32x4_lt_s();
         },
-        insn::Instruction::Vector(insn::Vector::I32x4LtS),
+        fallible::Instruction::Vector(fallible::Vector::I32x4LtS),
     );
     check(
         "fd3a",
@@ -3308,7 +3308,7 @@ fn from_300() {
         |sink| {
             sink.i32x4_lt_u();
         },
-        insn::Instruction::Vector(insn::Vector::I32x4LtU),
+        fallible::Instruction::Vector(fallible::Vector::I32x4LtU),
     );
     check(
         "fd3b",
@@ -3316,7 +3316,7 @@ fn from_300() {
         |sink| {
             sink.i32x4_gt_s();
         },
-        insn::Instruction::Vector(insn::Vector::I32x4GtS),
+        fallible::Instruction::Vector(fallible::Vector::I32x4GtS),
     );
     check(
         "fd3c",
@@ -3324,7 +3324,7 @@ fn from_300() {
         |sink| {
             sink.i32x4_gt_u();
         },
-        insn::Instruction::Vector(insn::Vector::I32x4GtU),
+        fallible::Instruction::Vector(fallible::Vector::I32x4GtU),
     );
     check(
         "fd3d",
@@ -3332,7 +3332,7 @@ fn from_300() {
         |sink| {
             sink.i32x4_le_s();
         },
-        insn::Instruction::Vector(insn::Vector::I32x4LeS),
+        fallible::Instruction::Vector(fallible::Vector::I32x4LeS),
     );
     check(
         "fd3e",
@@ -3340,7 +3340,7 @@ fn from_300() {
         |sink| {
             sink.i32x4_le_u();
         },
-        insn::Instruction::Vector(insn::Vector::I32x4LeU),
+        fallible::Instruction::Vector(fallible::Vector::I32x4LeU),
     );
     check(
         "fd3f",
@@ -3348,7 +3348,7 @@ fn from_300() {
         |sink| {
             sink.i32x4_ge_s();
         },
-        insn::Instruction::Vector(insn::Vector::I32x4GeS),
+        fallible::Instruction::Vector(fallible::Vector::I32x4GeS),
     );
     check(
         "fd40",
@@ -3356,7 +3356,7 @@ fn from_300() {
         |sink| {
             sink.i32x4_ge_u();
         },
-        insn::Instruction::Vector(insn::Vector::I32x4GeU),
+        fallible::Instruction::Vector(fallible::Vector::I32x4GeU),
     );
     check(
         "fd41",
@@ -3364,7 +3364,7 @@ fn from_300() {
         |sink| {
             sink.f32x4_eq();
         },
-        insn::Instruction::Vector(insn::Vector::F32x4Eq),
+        fallible::Instruction::Vector(fallible::Vector::F32x4Eq),
     );
     check(
         "fd42",
@@ -3372,7 +3372,7 @@ fn from_300() {
         |sink| {
             sink.f32x4_ne();
         },
-        insn::Instruction::Vector(insn::Vector::F32x4Ne),
+        fallible::Instruction::Vector(fallible::Vector::F32x4Ne),
     );
     check(
         "fd43",
@@ -3380,7 +3380,7 @@ fn from_300() {
         |sink| {
             sink.f32x4_lt();
         },
-        insn::Instruction::Vector(insn::Vector::F32x4Lt),
+        fallible::Instruction::Vector(fallible::Vector::F32x4Lt),
     );
     check(
         "fd44",
@@ -3388,7 +3388,7 @@ fn from_300() {
         |sink| {
             sink.f32x4_gt();
         },
-        insn::Instruction::Vector(insn::Vector::F32x4Gt),
+        fallible::Instruction::Vector(fallible::Vector::F32x4Gt),
     );
     check(
         "fd45",
@@ -3396,7 +3396,7 @@ fn from_300() {
         |sink| {
             sink.f32x4_le();
         },
-        insn::Instruction::Vector(insn::Vector::F32x4Le),
+        fallible::Instruction::Vector(fallible::Vector::F32x4Le),
     );
     check(
         "fd46",
@@ -3404,7 +3404,7 @@ fn from_300() {
         |sink| {
             sink.f32x4_ge();
         },
-        insn::Instruction::Vector(insn::Vector::F32x4Ge),
+        fallible::Instruction::Vector(fallible::Vector::F32x4Ge),
     );
     check(
         "fd47",
@@ -3412,7 +3412,7 @@ fn from_300() {
         |sink| {
             sink.f64x2_eq();
         },
-        insn::Instruction::Vector(insn::Vector::F64x2Eq),
+        fallible::Instruction::Vector(fallible::Vector::F64x2Eq),
     );
     check(
         "fd48",
@@ -3420,7 +3420,7 @@ fn from_300() {
         |sink| {
             sink.f64x2_ne();
         },
-        insn::Instruction::Vector(insn::Vector::F64x2Ne),
+        fallible::Instruction::Vector(fallible::Vector::F64x2Ne),
     );
     check(
         "fd49",
@@ -3428,7 +3428,7 @@ fn from_300() {
         |sink| {
             sink.f64x2_lt();
         },
-        insn::Instruction::Vector(insn::Vector::F64x2Lt),
+        fallible::Instruction::Vector(fallible::Vector::F64x2Lt),
     );
     check(
         "fd4a",
@@ -3436,7 +3436,7 @@ fn from_300() {
         |sink| {
             sink.f64x2_gt();
         },
-        insn::Instruction::Vector(insn::Vector::F64x2Gt),
+        fallible::Instruction::Vector(fallible::Vector::F64x2Gt),
     );
     check(
         "fd4b",
@@ -3444,7 +3444,7 @@ fn from_300() {
         |sink| {
             sink.f64x2_le();
         },
-        insn::Instruction::Vector(insn::Vector::F64x2Le),
+        fallible::Instruction::Vector(fallible::Vector::F64x2Le),
     );
     check(
         "fd4c",
@@ -3452,7 +3452,7 @@ fn from_300() {
         |sink| {
             sink.f64x2_ge();
         },
-        insn::Instruction::Vector(insn::Vector::F64x2Ge),
+        fallible::Instruction::Vector(fallible::Vector::F64x2Ge),
     );
     check(
         "fd4d",
@@ -3460,7 +3460,7 @@ fn from_300() {
         |sink| {
             sink.v128_not();
         },
-        insn::Instruction::Vector(insn::Vector::V128Not),
+        fallible::Instruction::Vector(fallible::Vector::V128Not),
     );
     check(
         "fd4e",
@@ -3468,7 +3468,7 @@ fn from_300() {
         |sink| {
             sink.v128_and();
         },
-        insn::Instruction::Vector(insn::Vector::V128And),
+        fallible::Instruction::Vector(fallible::Vector::V128And),
     );
     check(
         "fd4f",
@@ -3476,7 +3476,7 @@ fn from_300() {
         |sink| {
             sink.v128_andnot();
         },
-        insn::Instruction::Vector(insn::Vector::V128AndNot),
+        fallible::Instruction::Vector(fallible::Vector::V128AndNot),
     );
     check(
         "fd50",
@@ -3484,7 +3484,7 @@ fn from_300() {
         |sink| {
             sink.v128_or();
         },
-        insn::Instruction::Vector(insn::Vector::V128Or),
+        fallible::Instruction::Vector(fallible::Vector::V128Or),
     );
     check(
         "fd51",
@@ -3492,7 +3492,7 @@ fn from_300() {
         |sink| {
             sink.v128_xor();
         },
-        insn::Instruction::Vector(insn::Vector::V128Xor),
+        fallible::Instruction::Vector(fallible::Vector::V128Xor),
     );
 }
 
@@ -3504,7 +3504,7 @@ fn from_350() {
         |sink| {
             sink.v128_bitselect();
         },
-        insn::Instruction::Vector(insn::Vector::V128Bitselect),
+        fallible::Instruction::Vector(fallible::Vector::V128Bitselect),
     );
     check(
         "fd53",
@@ -3512,7 +3512,7 @@ fn from_350() {
         |sink| {
             sink.v128_any_true();
         },
-        insn::Instruction::Vector(insn::Vector::V128AnyTrue),
+        fallible::Instruction::Vector(fallible::Vector::V128AnyTrue),
     );
     check(
         "fd544201ac0203",
@@ -3520,7 +3520,7 @@ fn from_350() {
         |sink| {
             sink.v128_load8_lane(MEMARG, 3);
         },
-        insn::Instruction::VectorImmediate(insn::VectorImmediate::V128Load8Lane { memarg: MEMARG, lane: 3 }),
+        fallible::Instruction::VectorImmediate(fallible::VectorImmediate::V128Load8Lane { memarg: MEMARG, lane: 3 }),
     );
     check(
         "fd554201ac0203",
@@ -3528,7 +3528,7 @@ fn from_350() {
         |sink| {
             sink.v128_load16_lane(MEMARG, 3);
         },
-        insn::Instruction::VectorImmediate(insn::VectorImmediate::V128Load16Lane { memarg: MEMARG, lane: 3 }),
+        fallible::Instruction::VectorImmediate(fallible::VectorImmediate::V128Load16Lane { memarg: MEMARG, lane: 3 }),
     );
     check(
         "fd564201ac0203",
@@ -3536,7 +3536,7 @@ fn from_350() {
         |sink| {
             sink.v128_load32_lane(MEMARG, 3);
         },
-        insn::Instruction::VectorImmediate(insn::VectorImmediate::V128Load32Lane { memarg: MEMARG, lane: 3 }),
+        fallible::Instruction::VectorImmediate(fallible::VectorImmediate::V128Load32Lane { memarg: MEMARG, lane: 3 }),
     );
     check(
         "fd574201ac0203",
@@ -3544,7 +3544,7 @@ fn from_350() {
         |sink| {
             sink.v128_load64_lane(MEMARG, 3);
         },
-        insn::Instruction::VectorImmediate(insn::VectorImmediate::V128Load64Lane { memarg: MEMARG, lane: 3 }),
+        fallible::Instruction::VectorImmediate(fallible::VectorImmediate::V128Load64Lane { memarg: MEMARG, lane: 3 }),
     );
     check(
         "fd584201ac0203",
@@ -3552,7 +3552,7 @@ fn from_350() {
         |sink| {
             sink.v128_store8_lane(MEMARG, 3);
         },
-        insn::Instruction::VectorImmediate(insn::VectorImmediate::V128Store8Lane { memarg: MEMARG, lane: 3 }),
+        fallible::Instruction::VectorImmediate(fallible::VectorImmediate::V128Store8Lane { memarg: MEMARG, lane: 3 }),
     );
     check(
         "fd594201ac0203",
@@ -3560,7 +3560,7 @@ fn from_350() {
         |sink| {
             sink.v128_store16_lane(MEMARG, 3);
         },
-        insn::Instruction::VectorImmediate(insn::VectorImmediate::V128Store16Lane { memarg: MEMARG, lane: 3 }),
+        fallible::Instruction::VectorImmediate(fallible::VectorImmediate::V128Store16Lane { memarg: MEMARG, lane: 3 }),
     );
     check(
         "fd5a4201ac0203",
@@ -3568,7 +3568,7 @@ fn from_350() {
         |sink| {
             sink.v128_store32_lane(MEMARG, 3);
         },
-        insn::Instruction::VectorImmediate(insn::VectorImmediate::V128Store32Lane { memarg: MEMARG, lane: 3 }),
+        fallible::Instruction::VectorImmediate(fallible::VectorImmediate::V128Store32Lane { memarg: MEMARG, lane: 3 }),
     );
     check(
         "fd5b4201ac0203",
@@ -3576,7 +3576,7 @@ fn from_350() {
         |sink| {
             sink.v128_store64_lane(MEMARG, 3);
         },
-        insn::Instruction::VectorImmediate(insn::VectorImmediate::V128Store64Lane { memarg: MEMARG, lane: 3 }),
+        fallible::Instruction::VectorImmediate(fallible::VectorImmediate::V128Store64Lane { memarg: MEMARG, lane: 3 }),
     );
     check(
         "fd5c4201ac02",
@@ -3584,7 +3584,7 @@ fn from_350() {
         |sink| {
             sink.v128_load32_zero(MEMARG);
         },
-        insn::Instruction::VectorImmediate(insn::VectorImmediate::V128Load32Zero(MEMARG)),
+        fallible::Instruction::VectorImmediate(fallible::VectorImmediate::V128Load32Zero(MEMARG)),
     );
     check(
         "fd5d4201ac02",
@@ -3592,7 +3592,7 @@ fn from_350() {
         |sink| {
             sink.v128_load64_zero(MEMARG);
         },
-        insn::Instruction::VectorImmediate(insn::VectorImmediate::V128Load64Zero(MEMARG)),
+        fallible::Instruction::VectorImmediate(fallible::VectorImmediate::V128Load64Zero(MEMARG)),
     );
     check(
         "fd5e",
@@ -3600,7 +3600,7 @@ fn from_350() {
         |sink| {
             sink.f32x4_demote_f64x2_zero();
         },
-        insn::Instruction::Vector(insn::Vector::F32x4DemoteF64x2Zero),
+        fallible::Instruction::Vector(fallible::Vector::F32x4DemoteF64x2Zero),
     );
     check(
         "fd5f",
@@ -3608,7 +3608,7 @@ fn from_350() {
         |sink| {
             sink.f64x2_promote_low_f32x4();
         },
-        insn::Instruction::Vector(insn::Vector::F64x2PromoteLowF32x4),
+        fallible::Instruction::Vector(fallible::Vector::F64x2PromoteLowF32x4),
     );
     check(
         "fd60",
@@ -3616,7 +3616,7 @@ fn from_350() {
         |sink| {
             sink.i8x16_abs();
         },
-        insn::Instruction::Vector(insn::Vector::I8x16Abs),
+        fallible::Instruction::Vector(fallible::Vector::I8x16Abs),
     );
     check(
         "fd61",
@@ -3624,7 +3624,7 @@ fn from_350() {
         |sink| {
             sink.i8x16_neg();
         },
-        insn::Instruction::Vector(insn::Vector::I8x16Neg),
+        fallible::Instruction::Vector(fallible::Vector::I8x16Neg),
     );
     check(
         "fd62",
@@ -3632,7 +3632,7 @@ fn from_350() {
         |sink| {
             sink.i8x16_popcnt();
         },
-        insn::Instruction::Vector(insn::Vector::I8x16Popcnt),
+        fallible::Instruction::Vector(fallible::Vector::I8x16Popcnt),
     );
     check(
         "fd63",
@@ -3640,7 +3640,7 @@ fn from_350() {
         |sink| {
             sink.i8x16_all_true();
         },
-        insn::Instruction::Vector(insn::Vector::I8x16AllTrue),
+        fallible::Instruction::Vector(fallible::Vector::I8x16AllTrue),
     );
     check(
         "fd64",
@@ -3648,7 +3648,7 @@ fn from_350() {
         |sink| {
             sink.i8x16_bitmask();
         },
-        insn::Instruction::Vector(insn::Vector::I8x16Bitmask),
+        fallible::Instruction::Vector(fallible::Vector::I8x16Bitmask),
     );
     check(
         "fd65",
@@ -3656,7 +3656,7 @@ fn from_350() {
         |sink| {
             sink.i8x16_narrow_i16x8_s();
         },
-        insn::Instruction::Vector(insn::Vector::I8x16NarrowI16x8S),
+        fallible::Instruction::Vector(fallible::Vector::I8x16NarrowI16x8S),
     );
     check(
         "fd66",
@@ -3664,7 +3664,7 @@ fn from_350() {
         |sink| {
             sink.i8x16_narrow_i16x8_u();
         },
-        insn::Instruction::Vector(insn::Vector::I8x16NarrowI16x8U),
+        fallible::Instruction::Vector(fallible::Vector::I8x16NarrowI16x8U),
     );
     check(
         "fd67",
@@ -3672,7 +3672,7 @@ fn from_350() {
         |sink| {
             sink.f32x4_ceil();
         },
-        insn::Instruction::Vector(insn::Vector::F32x4Ceil),
+        fallible::Instruction::Vector(fallible::Vector::F32x4Ceil),
     );
     check(
         "fd68",
@@ -3680,7 +3680,7 @@ fn from_350() {
         |sink| {
             sink.f32x4_floor();
         },
-        insn::Instruction::Vector(insn::Vector::F32x4Floor),
+        fallible::Instruction::Vector(fallible::Vector::F32x4Floor),
     );
     check(
         "fd69",
@@ -3688,7 +3688,7 @@ fn from_350() {
         |sink| {
             sink.f32x4_trunc();
         },
-        insn::Instruction::Vector(insn::Vector::F32x4Trunc),
+        fallible::Instruction::Vector(fallible::Vector::F32x4Trunc),
     );
     check(
         "fd6a",
@@ -3696,7 +3696,7 @@ fn from_350() {
         |sink| {
             sink.f32x4_nearest();
         },
-        insn::Instruction::Vector(insn::Vector::F32x4Nearest),
+        fallible::Instruction::Vector(fallible::Vector::F32x4Nearest),
     );
     check(
         "fd6b",
@@ -3704,7 +3704,7 @@ fn from_350() {
         |sink| {
             sink.i8x16_shl();
         },
-        insn::Instruction::Vector(insn::Vector::I8x16Shl),
+        fallible::Instruction::Vector(fallible::Vector::I8x16Shl),
     );
     check(
         "fd6c",
@@ -3712,7 +3712,7 @@ fn from_350() {
         |sink| {
             sink.i8x16_shr_s();
         },
-        insn::Instruction::Vector(insn::Vector::I8x16ShrS),
+        fallible::Instruction::Vector(fallible::Vector::I8x16ShrS),
     );
     check(
         "fd6d",
@@ -3720,7 +3720,7 @@ fn from_350() {
         |sink| {
             sink.i8x16_shr_u();
         },
-        insn::Instruction::Vector(insn::Vector::I8x16ShrU),
+        fallible::Instruction::Vector(fallible::Vector::I8x16ShrU),
     );
     check(
         "fd6e",
@@ -3728,7 +3728,7 @@ fn from_350() {
         |sink| {
             sink.i8x16_add();
         },
-        insn::Instruction::Vector(insn::Vector::I8x16Add),
+        fallible::Instruction::Vector(fallible::Vector::I8x16Add),
     );
     check(
         "fd6f",
@@ -3736,7 +3736,7 @@ fn from_350() {
         |sink| {
             sink.i8x16_add_sat_s();
         },
-        insn::Instruction::Vector(insn::Vector::I8x16AddSatS),
+        fallible::Instruction::Vector(fallible::Vector::I8x16AddSatS),
     );
     check(
         "fd70",
@@ -3744,7 +3744,7 @@ fn from_350() {
         |sink| {
             sink.i8x16_add_sat_u();
         },
-        insn::Instruction::Vector(insn::Vector::I8x16AddSatU),
+        fallible::Instruction::Vector(fallible::Vector::I8x16AddSatU),
     );
     check(
         "fd71",
@@ -3752,7 +3752,7 @@ fn from_350() {
         |sink| {
             sink.i8x16_sub();
         },
-        insn::Instruction::Vector(insn::Vector::I8x16Sub),
+        fallible::Instruction::Vector(fallible::Vector::I8x16Sub),
     );
     check(
         "fd72",
@@ -3760,7 +3760,7 @@ fn from_350() {
         |sink| {
             sink.i8x16_sub_sat_s();
         },
-        insn::Instruction::Vector(insn::Vector::I8x16SubSatS),
+        fallible::Instruction::Vector(fallible::Vector::I8x16SubSatS),
     );
     check(
         "fd73",
@@ -3768,7 +3768,7 @@ fn from_350() {
         |sink| {
             sink.i8x16_sub_sat_u();
         },
-        insn::Instruction::Vector(insn::Vector::I8x16SubSatU),
+        fallible::Instruction::Vector(fallible::Vector::I8x16SubSatU),
     );
     check(
         "fd74",
@@ -3776,7 +3776,7 @@ fn from_350() {
         |sink| {
             sink.f64x2_ceil();
         },
-        insn::Instruction::Vector(insn::Vector::F64x2Ceil),
+        fallible::Instruction::Vector(fallible::Vector::F64x2Ceil),
     );
     check(
         "fd75",
@@ -3784,7 +3784,7 @@ fn from_350() {
         |sink| {
             sink.f64x2_floor();
         },
-        insn::Instruction::Vector(insn::Vector::F64x2Floor),
+        fallible::Instruction::Vector(fallible::Vector::F64x2Floor),
     );
     check(
         "fd76",
@@ -3792,7 +3792,7 @@ fn from_350() {
         |sink| {
             sink.i8x16_min_s();
         },
-        insn::Instruction::Vector(insn::Vector::I8x16MinS),
+        fallible::Instruction::Vector(fallible::Vector::I8x16MinS),
     );
     check(
         "fd77",
@@ -3800,7 +3800,7 @@ fn from_350() {
         |sink| {
             sink.i8x16_min_u();
         },
-        insn::Instruction::Vector(insn::Vector::I8x16MinU),
+        fallible::Instruction::Vector(fallible::Vector::I8x16MinU),
     );
     check(
         "fd78",
@@ -3808,7 +3808,7 @@ fn from_350() {
         |sink| {
             sink.i8x16_max_s();
         },
-        insn::Instruction::Vector(insn::Vector::I8x16MaxS),
+        fallible::Instruction::Vector(fallible::Vector::I8x16MaxS),
     );
     check(
         "fd79",
@@ -3816,7 +3816,7 @@ fn from_350() {
         |sink| {
             sink.i8x16_max_u();
         },
-        insn::Instruction::Vector(insn::Vector::I8x16MaxU),
+        fallible::Instruction::Vector(fallible::Vector::I8x16MaxU),
     );
     check(
         "fd7a",
@@ -3824,7 +3824,7 @@ fn from_350() {
         |sink| {
             sink.f64x2_trunc();
         },
-        insn::Instruction::Vector(insn::Vector::F64x2Trunc),
+        fallible::Instruction::Vector(fallible::Vector::F64x2Trunc),
     );
     check(
         "fd7b",
@@ -3832,7 +3832,7 @@ fn from_350() {
         |sink| {
             sink.i8x16_avgr_u();
         },
-        insn::Instruction::Vector(insn::Vector::I8x16AvgrU),
+        fallible::Instruction::Vector(fallible::Vector::I8x16AvgrU),
     );
     check(
         "fd7c",
@@ -3840,7 +3840,7 @@ fn from_350() {
         |sink| {
             sink.i16x8_extadd_pairwise_i8x16_s();
         },
-        insn::Instruction::Vector(insn::Vector::I16x8ExtAddPairwiseI8x16S),
+        fallible::Instruction::Vector(fallible::Vector::I16x8ExtAddPairwiseI8x16S),
     );
     check(
         "fd7d",
@@ -3848,7 +3848,7 @@ fn from_350() {
         |sink| {
             sink.i16x8_extadd_pairwise_i8x16_u();
         },
-        insn::Instruction::Vector(insn::Vector::I16x8ExtAddPairwiseI8x16U),
+        fallible::Instruction::Vector(fallible::Vector::I16x8ExtAddPairwiseI8x16U),
     );
     check(
         "fd7e",
@@ -3856,7 +3856,7 @@ fn from_350() {
         |sink| {
             sink.i32x4_extadd_pairwise_i16x8_s();
         },
-        insn::Instruction::Vector(insn::Vector::I32x4ExtAddPairwiseI16x8S),
+        fallible::Instruction::Vector(fallible::Vector::I32x4ExtAddPairwiseI16x8S),
     );
     check(
         "fd7f",
@@ -3864,7 +3864,7 @@ fn from_350() {
         |sink| {
             sink.i32x4_extadd_pairwise_i16x8_u();
         },
-        insn::Instruction::Vector(insn::Vector::I32x4ExtAddPairwiseI16x8U),
+        fallible::Instruction::Vector(fallible::Vector::I32x4ExtAddPairwiseI16x8U),
     );
     check(
         "fd8001",
@@ -3872,7 +3872,7 @@ fn from_350() {
         |sink| {
             sink.i16x8_abs();
         },
-        insn::Instruction::Vector(insn::Vector::I16x8Abs),
+        fallible::Instruction::Vector(fallible::Vector::I16x8Abs),
     );
     check(
         "fd8101",
@@ -3880,7 +3880,7 @@ fn from_350() {
         |sink| {
             sink.i16x8_neg();
         },
-        insn::Instruction::Vector(insn::Vector::I16x8Neg),
+        fallible::Instruction::Vector(fallible::Vector::I16x8Neg),
     );
     check(
         "fd8201",
@@ -3888,7 +3888,7 @@ fn from_350() {
         |sink| {
             sink.i16x8_q15mulr_sat_s();
         },
-        insn::Instruction::Vector(insn::Vector::I16x8Q15MulrSatS),
+        fallible::Instruction::Vector(fallible::Vector::I16x8Q15MulrSatS),
     );
     check(
         "fd8301",
@@ -3896,7 +3896,7 @@ fn from_350() {
         |sink| {
             sink.i16x8_all_true();
         },
-        insn::Instruction::Vector(insn::Vector::I16x8AllTrue),
+        fallible::Instruction::Vector(fallible::Vector::I16x8AllTrue),
     );
 }
 
@@ -3908,7 +3908,7 @@ fn from_400() {
         |sink| {
             sink.i16x8_bitmask();
         },
-        insn::Instruction::Vector(insn::Vector::I16x8Bitmask),
+        fallible::Instruction::Vector(fallible::Vector::I16x8Bitmask),
     );
     check(
         "fd8501",
@@ -3916,7 +3916,7 @@ fn from_400() {
         |sink| {
             sink.i16x8_narrow_i32x4_s();
         },
-        insn::Instruction::Vector(insn::Vector::I16x8NarrowI32x4S),
+        fallible::Instruction::Vector(fallible::Vector::I16x8NarrowI32x4S),
     );
     check(
         "fd8601",
@@ -3924,7 +3924,7 @@ fn from_400() {
         |sink| {
             sink.i16x8_narrow_i32x4_u();
         },
-        insn::Instruction::Vector(insn::Vector::I16x8NarrowI32x4U),
+        fallible::Instruction::Vector(fallible::Vector::I16x8NarrowI32x4U),
     );
     check(
         "fd8701",
@@ -3932,7 +3932,7 @@ fn from_400() {
         |sink| {
             sink.i16x8_extend_low_i8x16_s();
         },
-        insn::Instruction::Vector(insn::Vector::I16x8ExtendLowI8x16S),
+        fallible::Instruction::Vector(fallible::Vector::I16x8ExtendLowI8x16S),
     );
     check(
         "fd8801",
@@ -3940,7 +3940,7 @@ fn from_400() {
         |sink| {
             sink.i16x8_extend_high_i8x16_s();
         },
-        insn::Instruction::Vector(insn::Vector::I16x8ExtendHighI8x16S),
+        fallible::Instruction::Vector(fallible::Vector::I16x8ExtendHighI8x16S),
     );
     check(
         "fd8901",
@@ -3948,7 +3948,7 @@ fn from_400() {
         |sink| {
             sink.i16x8_extend_low_i8x16_u();
         },
-        insn::Instruction::Vector(insn::Vector::I16x8ExtendLowI8x16U),
+        fallible::Instruction::Vector(fallible::Vector::I16x8ExtendLowI8x16U),
     );
     check(
         "fd8a01",
@@ -3956,7 +3956,7 @@ fn from_400() {
         |sink| {
             sink.i16x8_extend_high_i8x16_u();
         },
-        insn::Instruction::Vector(insn::Vector::I16x8ExtendHighI8x16U),
+        fallible::Instruction::Vector(fallible::Vector::I16x8ExtendHighI8x16U),
     );
     check(
         "fd8b01",
@@ -3964,7 +3964,7 @@ fn from_400() {
         |sink| {
             sink.i16x8_shl();
         },
-        insn::Instruction::Vector(insn::Vector::I16x8Shl),
+        fallible::Instruction::Vector(fallible::Vector::I16x8Shl),
     );
     check(
         "fd8c01",
@@ -3972,7 +3972,7 @@ fn from_400() {
         |sink| {
             sink.i16x8_shr_s();
         },
-        insn::Instruction::Vector(insn::Vector::I16x8ShrS),
+        fallible::Instruction::Vector(fallible::Vector::I16x8ShrS),
     );
     check(
         "fd8d01",
@@ -3980,7 +3980,7 @@ fn from_400() {
         |sink| {
             sink.i16x8_shr_u();
         },
-        insn::Instruction::Vector(insn::Vector::I16x8ShrU),
+        fallible::Instruction::Vector(fallible::Vector::I16x8ShrU),
     );
     check(
         "fd8e01",
@@ -3988,7 +3988,7 @@ fn from_400() {
         |sink| {
             sink.i16x8_add();
         },
-        insn::Instruction::Vector(insn::Vector::I16x8Add),
+        fallible::Instruction::Vector(fallible::Vector::I16x8Add),
     );
     check(
         "fd8f01",
@@ -3996,7 +3996,7 @@ fn from_400() {
         |sink| {
             sink.i16x8_add_sat_s();
         },
-        insn::Instruction::Vector(insn::Vector::I16x8AddSatS),
+        fallible::Instruction::Vector(fallible::Vector::I16x8AddSatS),
     );
     check(
         "fd9001",
@@ -4004,7 +4004,7 @@ fn from_400() {
         |sink| {
             sink.i16x8_add_sat_u();
         },
-        insn::Instruction::Vector(insn::Vector::I16x8AddSatU),
+        fallible::Instruction::Vector(fallible::Vector::I16x8AddSatU),
     );
     check(
         "fd9101",
@@ -4012,7 +4012,7 @@ fn from_400() {
         |sink| {
             sink.i16x8_sub();
         },
-        insn::Instruction::Vector(insn::Vector::I16x8Sub),
+        fallible::Instruction::Vector(fallible::Vector::I16x8Sub),
     );
     check(
         "fd9201",
@@ -4020,7 +4020,7 @@ fn from_400() {
         |sink| {
             sink.i16x8_sub_sat_s();
         },
-        insn::Instruction::Vector(insn::Vector::I16x8SubSatS),
+        fallible::Instruction::Vector(fallible::Vector::I16x8SubSatS),
     );
     check(
         "fd9301",
@@ -4028,7 +4028,7 @@ fn from_400() {
         |sink| {
             sink.i16x8_sub_sat_u();
         },
-        insn::Instruction::Vector(insn::Vector::I16x8SubSatU),
+        fallible::Instruction::Vector(fallible::Vector::I16x8SubSatU),
     );
     check(
         "fd9401",
@@ -4036,7 +4036,7 @@ fn from_400() {
         |sink| {
             sink.f64x2_nearest();
         },
-        insn::Instruction::Vector(insn::Vector::F64x2Nearest),
+        fallible::Instruction::Vector(fallible::Vector::F64x2Nearest),
     );
     check(
         "fd9501",
@@ -4044,7 +4044,7 @@ fn from_400() {
         |sink| {
             sink.i16x8_mul();
         },
-        insn::Instruction::Vector(insn::Vector::I16x8Mul),
+        fallible::Instruction::Vector(fallible::Vector::I16x8Mul),
     );
     check(
         "fd9601",
@@ -4052,7 +4052,7 @@ fn from_400() {
         |sink| {
             sink.i16x8_min_s();
         },
-        insn::Instruction::Vector(insn::Vector::I16x8MinS),
+        fallible::Instruction::Vector(fallible::Vector::I16x8MinS),
     );
     check(
         "fd9701",
@@ -4060,7 +4060,7 @@ fn from_400() {
         |sink| {
             sink.i16x8_min_u();
         },
-        insn::Instruction::Vector(insn::Vector::I16x8MinU),
+        fallible::Instruction::Vector(fallible::Vector::I16x8MinU),
     );
     check(
         "fd9801",
@@ -4068,7 +4068,7 @@ fn from_400() {
         |sink| {
             sink.i16x8_max_s();
         },
-        insn::Instruction::Vector(insn::Vector::I16x8MaxS),
+        fallible::Instruction::Vector(fallible::Vector::I16x8MaxS),
     );
     check(
         "fd9901",
@@ -4076,7 +4076,7 @@ fn from_400() {
         |sink| {
             sink.i16x8_max_u();
         },
-        insn::Instruction::Vector(insn::Vector::I16x8MaxU),
+        fallible::Instruction::Vector(fallible::Vector::I16x8MaxU),
     );
     check(
         "fd9b01",
@@ -4084,7 +4084,7 @@ fn from_400() {
         |sink| {
             sink.i16x8_avgr_u();
         },
-        insn::Instruction::Vector(insn::Vector::I16x8AvgrU),
+        fallible::Instruction::Vector(fallible::Vector::I16x8AvgrU),
     );
     check(
         "fd9c01",
@@ -4092,7 +4092,7 @@ fn from_400() {
         |sink| {
             sink.i16x8_extmul_low_i8x16_s();
         },
-        insn::Instruction::Vector(insn::Vector::I16x8ExtMulLowI8x16S),
+        fallible::Instruction::Vector(fallible::Vector::I16x8ExtMulLowI8x16S),
     );
     check(
         "fd9d01",
@@ -4100,7 +4100,7 @@ fn from_400() {
         |sink| {
             sink.i16x8_extmul_high_i8x16_s();
         },
-        insn::Instruction::Vector(insn::Vector::I16x8ExtMulHighI8x16S),
+        fallible::Instruction::Vector(fallible::Vector::I16x8ExtMulHighI8x16S),
     );
     check(
         "fd9e01",
@@ -4108,7 +4108,7 @@ fn from_400() {
         |sink| {
             sink.i16x8_extmul_low_i8x16_u();
         },
-        insn::Instruction::Vector(insn::Vector::I16x8ExtMulLowI8x16U),
+        fallible::Instruction::Vector(fallible::Vector::I16x8ExtMulLowI8x16U),
     );
     check(
         "fd9f01",
@@ -4116,7 +4116,7 @@ fn from_400() {
         |sink| {
             sink.i16x8_extmul_high_i8x16_u();
         },
-        insn::Instruction::Vector(insn::Vector::I16x8ExtMulHighI8x16U),
+        fallible::Instruction::Vector(fallible::Vector::I16x8ExtMulHighI8x16U),
     );
     check(
         "fda001",
@@ -4124,7 +4124,7 @@ fn from_400() {
         |sink| {
             sink.i32x4_abs();
         },
-        insn::Instruction::Vector(insn::Vector::I32x4Abs),
+        fallible::Instruction::Vector(fallible::Vector::I32x4Abs),
     );
     check(
         "fda101",
@@ -4132,7 +4132,7 @@ fn from_400() {
         |sink| {
             sink.i32x4_neg();
         },
-        insn::Instruction::Vector(insn::Vector::I32x4Neg),
+        fallible::Instruction::Vector(fallible::Vector::I32x4Neg),
     );
     check(
         "fda301",
@@ -4140,7 +4140,7 @@ fn from_400() {
         |sink| {
             sink.i32x4_all_true();
         },
-        insn::Instruction::Vector(insn::Vector::I32x4AllTrue),
+        fallible::Instruction::Vector(fallible::Vector::I32x4AllTrue),
     );
     check(
         "fda401",
@@ -4148,7 +4148,7 @@ fn from_400() {
         |sink| {
             sink.i32x4_bitmask();
         },
-        insn::Instruction::Vector(insn::Vector::I32x4Bitmask),
+        fallible::Instruction::Vector(fallible::Vector::I32x4Bitmask),
     );
     check(
         "fda701",
@@ -4156,7 +4156,7 @@ fn from_400() {
         |sink| {
             sink.i32x4_extend_low_i16x8_s();
         },
-        insn::Instruction::Vector(insn::Vector::I32x4ExtendLowI16x8S),
+        fallible::Instruction::Vector(fallible::Vector::I32x4ExtendLowI16x8S),
     );
     check(
         "fda801",
@@ -4164,7 +4164,7 @@ fn from_400() {
         |sink| {
             sink.i32x4_extend_high_i16x8_s();
         },
-        insn::Instruction::Vector(insn::Vector::I32x4ExtendHighI16x8S),
+        fallible::Instruction::Vector(fallible::Vector::I32x4ExtendHighI16x8S),
     );
     check(
         "fda901",
@@ -4172,7 +4172,7 @@ fn from_400() {
         |sink| {
             sink.i32x4_extend_low_i16x8_u();
         },
-        insn::Instruction::Vector(insn::Vector::I32x4ExtendLowI16x8U),
+        fallible::Instruction::Vector(fallible::Vector::I32x4ExtendLowI16x8U),
     );
     check(
         "fdaa01",
@@ -4180,7 +4180,7 @@ fn from_400() {
         |sink| {
             sink.i32x4_extend_high_i16x8_u();
         },
-        insn::Instruction::Vector(insn::Vector::I32x4ExtendHighI16x8U),
+        fallible::Instruction::Vector(fallible::Vector::I32x4ExtendHighI16x8U),
     );
     check(
         "fdab01",
@@ -4188,7 +4188,7 @@ fn from_400() {
         |sink| {
             sink.i32x4_shl();
         },
-        insn::Instruction::Vector(insn::Vector::I32x4Shl),
+        fallible::Instruction::Vector(fallible::Vector::I32x4Shl),
     );
     check(
         "fdac01",
@@ -4196,7 +4196,7 @@ fn from_400() {
         |sink| {
             sink.i32x4_shr_s();
         },
-        insn::Instruction::Vector(insn::Vector::I32x4ShrS),
+        fallible::Instruction::Vector(fallible::Vector::I32x4ShrS),
     );
     check(
         "fdad01",
@@ -4204,7 +4204,7 @@ fn from_400() {
         |sink| {
             sink.i32x4_shr_u();
         },
-        insn::Instruction::Vector(insn::Vector::I32x4ShrU),
+        fallible::Instruction::Vector(fallible::Vector::I32x4ShrU),
     );
     check(
         "fdae01",
@@ -4212,7 +4212,7 @@ fn from_400() {
         |sink| {
             sink.i32x4_add();
         },
-        insn::Instruction::Vector(insn::Vector::I32x4Add),
+        fallible::Instruction::Vector(fallible::Vector::I32x4Add),
     );
     check(
         "fdb101",
@@ -4220,7 +4220,7 @@ fn from_400() {
         |sink| {
             sink.i32x4_sub();
         },
-        insn::Instruction::Vector(insn::Vector::I32x4Sub),
+        fallible::Instruction::Vector(fallible::Vector::I32x4Sub),
     );
     check(
         "fdb501",
@@ -4228,7 +4228,7 @@ fn from_400() {
         |sink| {
             sink.i32x4_mul();
         },
-        insn::Instruction::Vector(insn::Vector::I32x4Mul),
+        fallible::Instruction::Vector(fallible::Vector::I32x4Mul),
     );
     check(
         "fdb601",
@@ -4236,7 +4236,7 @@ fn from_400() {
         |sink| {
             sink.i32x4_min_s();
         },
-        insn::Instruction::Vector(insn::Vector::I32x4MinS),
+        fallible::Instruction::Vector(fallible::Vector::I32x4MinS),
     );
     check(
         "fdb701",
@@ -4244,7 +4244,7 @@ fn from_400() {
         |sink| {
             sink.i32x4_min_u();
         },
-        insn::Instruction::Vector(insn::Vector::I32x4MinU),
+        fallible::Instruction::Vector(fallible::Vector::I32x4MinU),
     );
     check(
         "fdb801",
@@ -4252,7 +4252,7 @@ fn from_400() {
         |sink| {
             sink.i32x4_max_s();
         },
-        insn::Instruction::Vector(insn::Vector::I32x4MaxS),
+        fallible::Instruction::Vector(fallible::Vector::I32x4MaxS),
     );
     check(
         "fdb901",
@@ -4260,7 +4260,7 @@ fn from_400() {
         |sink| {
             sink.i32x4_max_u();
         },
-        insn::Instruction::Vector(insn::Vector::I32x4MaxU),
+        fallible::Instruction::Vector(fallible::Vector::I32x4MaxU),
     );
     check(
         "fdba01",
@@ -4268,7 +4268,7 @@ fn from_400() {
         |sink| {
             sink.i32x4_dot_i16x8_s();
         },
-        insn::Instruction::Vector(insn::Vector::I32x4DotI16x8S),
+        fallible::Instruction::Vector(fallible::Vector::I32x4DotI16x8S),
     );
     check(
         "fdbc01",
@@ -4276,7 +4276,7 @@ fn from_400() {
         |sink| {
             sink.i32x4_extmul_low_i16x8_s();
         },
-        insn::Instruction::Vector(insn::Vector::I32x4ExtMulLowI16x8S),
+        fallible::Instruction::Vector(fallible::Vector::I32x4ExtMulLowI16x8S),
     );
     check(
         "fdbd01",
@@ -4284,7 +4284,7 @@ fn from_400() {
         |sink| {
             sink.i32x4_extmul_high_i16x8_s();
         },
-        insn::Instruction::Vector(insn::Vector::I32x4ExtMulHighI16x8S),
+        fallible::Instruction::Vector(fallible::Vector::I32x4ExtMulHighI16x8S),
     );
     check(
         "fdbe01",
@@ -4292,7 +4292,7 @@ fn from_400() {
         |sink| {
             sink.i32x4_extmul_low_i16x8_u();
         },
-        insn::Instruction::Vector(insn::Vector::I32x4ExtMulLowI16x8U),
+        fallible::Instruction::Vector(fallible::Vector::I32x4ExtMulLowI16x8U),
     );
     check(
         "fdbf01",
@@ -4300,7 +4300,7 @@ fn from_400() {
         |sink| {
             sink.i32x4_extmul_high_i16x8_u();
         },
-        insn::Instruction::Vector(insn::Vector::I32x4ExtMulHighI16x8U),
+        fallible::Instruction::Vector(fallible::Vector::I32x4ExtMulHighI16x8U),
     );
 }
 
@@ -4312,7 +4312,7 @@ fn from_450() {
         |sink| {
             sink.i64x2_abs();
         },
-        insn::Instruction::Vector(insn::Vector::I64x2Abs),
+        fallible::Instruction::Vector(fallible::Vector::I64x2Abs),
     );
     check(
         "fdc101",
@@ -4320,7 +4320,7 @@ fn from_450() {
         |sink| {
             sink.i64x2_neg();
         },
-        insn::Instruction::Vector(insn::Vector::I64x2Neg),
+        fallible::Instruction::Vector(fallible::Vector::I64x2Neg),
     );
     check(
         "fdc301",
@@ -4328,7 +4328,7 @@ fn from_450() {
         |sink| {
             sink.i64x2_all_true();
         },
-        insn::Instruction::Vector(insn::Vector::I64x2AllTrue),
+        fallible::Instruction::Vector(fallible::Vector::I64x2AllTrue),
     );
     check(
         "fdc401",
@@ -4336,7 +4336,7 @@ fn from_450() {
         |sink| {
             sink.i64x2_bitmask();
         },
-        insn::Instruction::Vector(insn::Vector::I64x2Bitmask),
+        fallible::Instruction::Vector(fallible::Vector::I64x2Bitmask),
     );
     check(
         "fdc701",
@@ -4344,7 +4344,7 @@ fn from_450() {
         |sink| {
             sink.i64x2_extend_low_i32x4_s();
         },
-        insn::Instruction::Vector(insn::Vector::I64x2ExtendLowI32x4S),
+        fallible::Instruction::Vector(fallible::Vector::I64x2ExtendLowI32x4S),
     );
     check(
         "fdc801",
@@ -4352,7 +4352,7 @@ fn from_450() {
         |sink| {
             sink.i64x2_extend_high_i32x4_s();
         },
-        insn::Instruction::Vector(insn::Vector::I64x2ExtendHighI32x4S),
+        fallible::Instruction::Vector(fallible::Vector::I64x2ExtendHighI32x4S),
     );
     check(
         "fdc901",
@@ -4360,7 +4360,7 @@ fn from_450() {
         |sink| {
             sink.i64x2_extend_low_i32x4_u();
         },
-        insn::Instruction::Vector(insn::Vector::I64x2ExtendLowI32x4U),
+        fallible::Instruction::Vector(fallible::Vector::I64x2ExtendLowI32x4U),
     );
     check(
         "fdca01",
@@ -4368,7 +4368,7 @@ fn from_450() {
         |sink| {
             sink.i64x2_extend_high_i32x4_u();
         },
-        insn::Instruction::Vector(insn::Vector::I64x2ExtendHighI32x4U),
+        fallible::Instruction::Vector(fallible::Vector::I64x2ExtendHighI32x4U),
     );
     check(
         "fdcb01",
@@ -4376,7 +4376,7 @@ fn from_450() {
         |sink| {
             sink.i64x2_shl();
         },
-        insn::Instruction::Vector(insn::Vector::I64x2Shl),
+        fallible::Instruction::Vector(fallible::Vector::I64x2Shl),
     );
     check(
         "fdcc01",
@@ -4384,7 +4384,7 @@ fn from_450() {
         |sink| {
             sink.i64x2_shr_s();
         },
-        insn::Instruction::Vector(insn::Vector::I64x2ShrS),
+        fallible::Instruction::Vector(fallible::Vector::I64x2ShrS),
     );
     check(
         "fdcd01",
@@ -4392,7 +4392,7 @@ fn from_450() {
         |sink| {
             sink.i64x2_shr_u();
         },
-        insn::Instruction::Vector(insn::Vector::I64x2ShrU),
+        fallible::Instruction::Vector(fallible::Vector::I64x2ShrU),
     );
     check(
         "fdce01",
@@ -4400,7 +4400,7 @@ fn from_450() {
         |sink| {
             sink.i64x2_add();
         },
-        insn::Instruction::Vector(insn::Vector::I64x2Add),
+        fallible::Instruction::Vector(fallible::Vector::I64x2Add),
     );
     check(
         "fdd101",
@@ -4408,7 +4408,7 @@ fn from_450() {
         |sink| {
             sink.i64x2_sub();
         },
-        insn::Instruction::Vector(insn::Vector::I64x2Sub),
+        fallible::Instruction::Vector(fallible::Vector::I64x2Sub),
     );
     check(
         "fdd501",
@@ -4416,7 +4416,7 @@ fn from_450() {
         |sink| {
             sink.i64x2_mul();
         },
-        insn::Instruction::Vector(insn::Vector::I64x2Mul),
+        fallible::Instruction::Vector(fallible::Vector::I64x2Mul),
     );
     check(
         "fdd601",
@@ -4424,7 +4424,7 @@ fn from_450() {
         |sink| {
             sink.i64x2_eq();
         },
-        insn::Instruction::Vector(insn::Vector::I64x2Eq),
+        fallible::Instruction::Vector(fallible::Vector::I64x2Eq),
     );
     check(
         "fdd701",
@@ -4432,7 +4432,7 @@ fn from_450() {
         |sink| {
             sink.i64x2_ne();
         },
-        insn::Instruction::Vector(insn::Vector::I64x2Ne),
+        fallible::Instruction::Vector(fallible::Vector::I64x2Ne),
     );
     check(
         "fdd801",
@@ -4440,7 +4440,7 @@ fn from_450() {
         |sink| {
             sink.i64x2_lt_s();
         },
-        insn::Instruction::Vector(insn::Vector::I64x2LtS),
+        fallible::Instruction::Vector(fallible::Vector::I64x2LtS),
     );
     check(
         "fdd901",
@@ -4448,7 +4448,7 @@ fn from_450() {
         |sink| {
             sink.i64x2_gt_s();
         },
-        insn::Instruction::Vector(insn::Vector::I64x2GtS),
+        fallible::Instruction::Vector(fallible::Vector::I64x2GtS),
     );
     check(
         "fdda01",
@@ -4456,7 +4456,7 @@ fn from_450() {
         |sink| {
             sink.i64x2_le_s();
         },
-        insn::Instruction::Vector(insn::Vector::I64x2LeS),
+        fallible::Instruction::Vector(fallible::Vector::I64x2LeS),
     );
     check(
         "fddb01",
@@ -4464,7 +4464,7 @@ fn from_450() {
         |sink| {
             sink.i64x2_ge_s();
         },
-        insn::Instruction::Vector(insn::Vector::I64x2GeS),
+        fallible::Instruction::Vector(fallible::Vector::I64x2GeS),
     );
     check(
         "fddc01",
@@ -4472,7 +4472,7 @@ fn from_450() {
         |sink| {
             sink.i64x2_extmul_low_i32x4_s();
         },
-        insn::Instruction::Vector(insn::Vector::I64x2ExtMulLowI32x4S),
+        fallible::Instruction::Vector(fallible::Vector::I64x2ExtMulLowI32x4S),
     );
     check(
         "fddd01",
@@ -4480,7 +4480,7 @@ fn from_450() {
         |sink| {
             sink.i64x2_extmul_high_i32x4_s();
         },
-        insn::Instruction::Vector(insn::Vector::I64x2ExtMulHighI32x4S),
+        fallible::Instruction::Vector(fallible::Vector::I64x2ExtMulHighI32x4S),
     );
     check(
         "fdde01",
@@ -4488,7 +4488,7 @@ fn from_450() {
         |sink| {
             sink.i64x2_extmul_low_i32x4_u();
         },
-        insn::Instruction::Vector(insn::Vector::I64x2ExtMulLowI32x4U),
+        fallible::Instruction::Vector(fallible::Vector::I64x2ExtMulLowI32x4U),
     );
     check(
         "fddf01",
@@ -4496,7 +4496,7 @@ fn from_450() {
         |sink| {
             sink.i64x2_extmul_high_i32x4_u();
         },
-        insn::Instruction::Vector(insn::Vector::I64x2ExtMulHighI32x4U),
+        fallible::Instruction::Vector(fallible::Vector::I64x2ExtMulHighI32x4U),
     );
     check(
         "fde001",
@@ -4504,7 +4504,7 @@ fn from_450() {
         |sink| {
             sink.f32x4_abs();
         },
-        insn::Instruction::Vector(insn::Vector::F32x4Abs),
+        fallible::Instruction::Vector(fallible::Vector::F32x4Abs),
     );
     check(
         "fde101",
@@ -4512,7 +4512,7 @@ fn from_450() {
         |sink| {
             sink.f32x4_neg();
         },
-        insn::Instruction::Vector(insn::Vector::F32x4Neg),
+        fallible::Instruction::Vector(fallible::Vector::F32x4Neg),
     );
     check(
         "fde301",
@@ -4520,7 +4520,7 @@ fn from_450() {
         |sink| {
             sink.f32x4_sqrt();
         },
-        insn::Instruction::Vector(insn::Vector::F32x4Sqrt),
+        fallible::Instruction::Vector(fallible::Vector::F32x4Sqrt),
     );
     check(
         "fde401",
@@ -4528,7 +4528,7 @@ fn from_450() {
         |sink| {
             sink.f32x4_add();
         },
-        insn::Instruction::Vector(insn::Vector::F32x4Add),
+        fallible::Instruction::Vector(fallible::Vector::F32x4Add),
     );
     check(
         "fde501",
@@ -4536,7 +4536,7 @@ fn from_450() {
         |sink| {
             sink.f32x4_sub();
         },
-        insn::Instruction::Vector(insn::Vector::F32x4Sub),
+        fallible::Instruction::Vector(fallible::Vector::F32x4Sub),
     );
     check(
         "fde601",
@@ -4544,7 +4544,7 @@ fn from_450() {
         |sink| {
             sink.f32x4_mul();
         },
-        insn::Instruction::Vector(insn::Vector::F32x4Mul),
+        fallible::Instruction::Vector(fallible::Vector::F32x4Mul),
     );
     check(
         "fde701",
@@ -4552,7 +4552,7 @@ fn from_450() {
         |sink| {
             sink.f32x4_div();
         },
-        insn::Instruction::Vector(insn::Vector::F32x4Div),
+        fallible::Instruction::Vector(fallible::Vector::F32x4Div),
     );
     check(
         "fde801",
@@ -4560,7 +4560,7 @@ fn from_450() {
         |sink| {
             sink.f32x4_min();
         },
-        insn::Instruction::Vector(insn::Vector::F32x4Min),
+        fallible::Instruction::Vector(fallible::Vector::F32x4Min),
     );
     check(
         "fde901",
@@ -4568,7 +4568,7 @@ fn from_450() {
         |sink| {
             sink.f32x4_max();
         },
-        insn::Instruction::Vector(insn::Vector::F32x4Max),
+        fallible::Instruction::Vector(fallible::Vector::F32x4Max),
     );
     check(
         "fdea01",
@@ -4576,7 +4576,7 @@ fn from_450() {
         |sink| {
             sink.f32x4_pmin();
         },
-        insn::Instruction::Vector(insn::Vector::F32x4PMin),
+        fallible::Instruction::Vector(fallible::Vector::F32x4PMin),
     );
     check(
         "fdeb01",
@@ -4584,7 +4584,7 @@ fn from_450() {
         |sink| {
             sink.f32x4_pmax();
         },
-        insn::Instruction::Vector(insn::Vector::F32x4PMax),
+        fallible::Instruction::Vector(fallible::Vector::F32x4PMax),
     );
     check(
         "fdec01",
@@ -4592,7 +4592,7 @@ fn from_450() {
         |sink| {
             sink.f64x2_abs();
         },
-        insn::Instruction::Vector(insn::Vector::F64x2Abs),
+        fallible::Instruction::Vector(fallible::Vector::F64x2Abs),
     );
     check(
         "fded01",
@@ -4600,7 +4600,7 @@ fn from_450() {
         |sink| {
             sink.f64x2_neg();
         },
-        insn::Instruction::Vector(insn::Vector::F64x2Neg),
+        fallible::Instruction::Vector(fallible::Vector::F64x2Neg),
     );
     check(
         "fdef01",
@@ -4608,7 +4608,7 @@ fn from_450() {
         |sink| {
             sink.f64x2_sqrt();
         },
-        insn::Instruction::Vector(insn::Vector::F64x2Sqrt),
+        fallible::Instruction::Vector(fallible::Vector::F64x2Sqrt),
     );
     check(
         "fdf001",
@@ -4616,7 +4616,7 @@ fn from_450() {
         |sink| {
             sink.f64x2_add();
         },
-        insn::Instruction::Vector(insn::Vector::F64x2Add),
+        fallible::Instruction::Vector(fallible::Vector::F64x2Add),
     );
     check(
         "fdf101",
@@ -4624,7 +4624,7 @@ fn from_450() {
         |sink| {
             sink.f64x2_sub();
         },
-        insn::Instruction::Vector(insn::Vector::F64x2Sub),
+        fallible::Instruction::Vector(fallible::Vector::F64x2Sub),
     );
     check(
         "fdf201",
@@ -4632,7 +4632,7 @@ fn from_450() {
         |sink| {
             sink.f64x2_mul();
         },
-        insn::Instruction::Vector(insn::Vector::F64x2Mul),
+        fallible::Instruction::Vector(fallible::Vector::F64x2Mul),
     );
     check(
         "fdf301",
@@ -4640,7 +4640,7 @@ fn from_450() {
         |sink| {
             sink.f64x2_div();
         },
-        insn::Instruction::Vector(insn::Vector::F64x2Div),
+        fallible::Instruction::Vector(fallible::Vector::F64x2Div),
     );
     check(
         "fdf401",
@@ -4648,7 +4648,7 @@ fn from_450() {
         |sink| {
             sink.f64x2_min();
         },
-        insn::Instruction::Vector(insn::Vector::F64x2Min),
+        fallible::Instruction::Vector(fallible::Vector::F64x2Min),
     );
     check(
         "fdf501",
@@ -4656,7 +4656,7 @@ fn from_450() {
         |sink| {
             sink.f64x2_max();
         },
-        insn::Instruction::Vector(insn::Vector::F64x2Max),
+        fallible::Instruction::Vector(fallible::Vector::F64x2Max),
     );
     check(
         "fdf601",
@@ -4664,7 +4664,7 @@ fn from_450() {
         |sink| {
             sink.f64x2_pmin();
         },
-        insn::Instruction::Vector(insn::Vector::F64x2PMin),
+        fallible::Instruction::Vector(fallible::Vector::F64x2PMin),
     );
     check(
         "fdf701",
@@ -4672,7 +4672,7 @@ fn from_450() {
         |sink| {
             sink.f64x2_pmax();
         },
-        insn::Instruction::Vector(insn::Vector::F64x2PMax),
+        fallible::Instruction::Vector(fallible::Vector::F64x2PMax),
     );
     check(
         "fdf801",
@@ -4680,7 +4680,7 @@ fn from_450() {
         |sink| {
             sink.i32x4_trunc_sat_f32x4_s();
         },
-        insn::Instruction::Vector(insn::Vector::I32x4TruncSatF32x4S),
+        fallible::Instruction::Vector(fallible::Vector::I32x4TruncSatF32x4S),
     );
     check(
         "fdf901",
@@ -4688,7 +4688,7 @@ fn from_450() {
         |sink| {
             sink.i32x4_trunc_sat_f32x4_u();
         },
-        insn::Instruction::Vector(insn::Vector::I32x4TruncSatF32x4U),
+        fallible::Instruction::Vector(fallible::Vector::I32x4TruncSatF32x4U),
     );
     check(
         "fdfa01",
@@ -4696,7 +4696,7 @@ fn from_450() {
         |sink| {
             sink.f32x4_convert_i32x4_s();
         },
-        insn::Instruction::Vector(insn::Vector::F32x4ConvertI32x4S),
+        fallible::Instruction::Vector(fallible::Vector::F32x4ConvertI32x4S),
     );
     check(
         "fdfb01",
@@ -4704,7 +4704,7 @@ fn from_450() {
         |sink| {
             sink.f32x4_convert_i32x4_u();
         },
-        insn::Instruction::Vector(insn::Vector::F32x4ConvertI32x4U),
+        fallible::Instruction::Vector(fallible::Vector::F32x4ConvertI32x4U),
     );
 }
 
@@ -4716,7 +4716,7 @@ fn from_500() {
         |sink| {
             sink.i32x4_trunc_sat_f64x2_s_zero();
         },
-        insn::Instruction::Vector(insn::Vector::I32x4TruncSatF64x2SZero),
+        fallible::Instruction::Vector(fallible::Vector::I32x4TruncSatF64x2SZero),
     );
     check(
         "fdfd01",
@@ -4724,7 +4724,7 @@ fn from_500() {
         |sink| {
             sink.i32x4_trunc_sat_f64x2_u_zero();
         },
-        insn::Instruction::Vector(insn::Vector::I32x4TruncSatF64x2UZero),
+        fallible::Instruction::Vector(fallible::Vector::I32x4TruncSatF64x2UZero),
     );
     check(
         "fdfe01",
@@ -4732,7 +4732,7 @@ fn from_500() {
         |sink| {
             sink.f64x2_convert_low_i32x4_s();
         },
-        insn::Instruction::Vector(insn::Vector::F64x2ConvertLowI32x4S),
+        fallible::Instruction::Vector(fallible::Vector::F64x2ConvertLowI32x4S),
     );
     check(
         "fdff01",
@@ -4740,7 +4740,7 @@ fn from_500() {
         |sink| {
             sink.f64x2_convert_low_i32x4_u();
         },
-        insn::Instruction::Vector(insn::Vector::F64x2ConvertLowI32x4U),
+        fallible::Instruction::Vector(fallible::Vector::F64x2ConvertLowI32x4U),
     );
     check(
         "fd8002",
@@ -4748,7 +4748,7 @@ fn from_500() {
         |sink| {
             sink.i8x16_relaxed_swizzle();
         },
-        insn::Instruction::Vector(insn::Vector::I8x16RelaxedSwizzle),
+        fallible::Instruction::Vector(fallible::Vector::I8x16RelaxedSwizzle),
     );
     check(
         "fd8102",
@@ -4756,7 +4756,7 @@ fn from_500() {
         |sink| {
             sink.i32x4_relaxed_trunc_f32x4_s();
         },
-        insn::Instruction::Vector(insn::Vector::I32x4RelaxedTruncF32x4S),
+        fallible::Instruction::Vector(fallible::Vector::I32x4RelaxedTruncF32x4S),
     );
     check(
         "fd8202",
@@ -4764,7 +4764,7 @@ fn from_500() {
         |sink| {
             sink.i32x4_relaxed_trunc_f32x4_u();
         },
-        insn::Instruction::Vector(insn::Vector::I32x4RelaxedTruncF32x4U),
+        fallible::Instruction::Vector(fallible::Vector::I32x4RelaxedTruncF32x4U),
     );
     check(
         "fd8302",
@@ -4772,7 +4772,7 @@ fn from_500() {
         |sink| {
             sink.i32x4_relaxed_trunc_f64x2_s_zero();
         },
-        insn::Instruction::Vector(insn::Vector::I32x4RelaxedTruncF64x2SZero),
+        fallible::Instruction::Vector(fallible::Vector::I32x4RelaxedTruncF64x2SZero),
     );
     check(
         "fd8402",
@@ -4780,7 +4780,7 @@ fn from_500() {
         |sink| {
             sink.i32x4_relaxed_trunc_f64x2_u_zero();
         },
-        insn::Instruction::Vector(insn::Vector::I32x4RelaxedTruncF64x2UZero),
+        fallible::Instruction::Vector(fallible::Vector::I32x4RelaxedTruncF64x2UZero),
     );
     check(
         "fd8502",
@@ -4788,7 +4788,7 @@ fn from_500() {
         |sink| {
             sink.f32x4_relaxed_madd();
         },
-        insn::Instruction::Vector(insn::Vector::F32x4RelaxedMadd),
+        fallible::Instruction::Vector(fallible::Vector::F32x4RelaxedMadd),
     );
     check(
         "fd8602",
@@ -4796,7 +4796,7 @@ fn from_500() {
         |sink| {
             sink.f32x4_relaxed_nmadd();
         },
-        insn::Instruction::Vector(insn::Vector::F32x4RelaxedNmadd),
+        fallible::Instruction::Vector(fallible::Vector::F32x4RelaxedNmadd),
     );
     check(
         "fd8702",
@@ -4804,7 +4804,7 @@ fn from_500() {
         |sink| {
             sink.f64x2_relaxed_madd();
         },
-        insn::Instruction::Vector(insn::Vector::F64x2RelaxedMadd),
+        fallible::Instruction::Vector(fallible::Vector::F64x2RelaxedMadd),
     );
     check(
         "fd8802",
@@ -4812,7 +4812,7 @@ fn from_500() {
         |sink| {
             sink.f64x2_relaxed_nmadd();
         },
-        insn::Instruction::Vector(insn::Vector::F64x2RelaxedNmadd),
+        fallible::Instruction::Vector(fallible::Vector::F64x2RelaxedNmadd),
     );
     check(
         "fd8902",
@@ -4820,7 +4820,7 @@ fn from_500() {
         |sink| {
             sink.i8x16_relaxed_laneselect();
         },
-        insn::Instruction::Vector(insn::Vector::I8x16RelaxedLaneselect),
+        fallible::Instruction::Vector(fallible::Vector::I8x16RelaxedLaneselect),
     );
     check(
         "fd8a02",
@@ -4828,7 +4828,7 @@ fn from_500() {
         |sink| {
             sink.i16x8_relaxed_laneselect();
         },
-        insn::Instruction::Vector(insn::Vector::I16x8RelaxedLaneselect),
+        fallible::Instruction::Vector(fallible::Vector::I16x8RelaxedLaneselect),
     );
     check(
         "fd8b02",
@@ -4836,7 +4836,7 @@ fn from_500() {
         |sink| {
             sink.i32x4_relaxed_laneselect();
         },
-        insn::Instruction::Vector(insn::Vector::I32x4RelaxedLaneselect),
+        fallible::Instruction::Vector(fallible::Vector::I32x4RelaxedLaneselect),
     );
     check(
         "fd8c02",
@@ -4844,7 +4844,7 @@ fn from_500() {
         |sink| {
             sink.i64x2_relaxed_laneselect();
         },
-        insn::Instruction::Vector(insn::Vector::I64x2RelaxedLaneselect),
+        fallible::Instruction::Vector(fallible::Vector::I64x2RelaxedLaneselect),
     );
     check(
         "fd8d02",
@@ -4852,7 +4852,7 @@ fn from_500() {
         |sink| {
             sink.f32x4_relaxed_min();
         },
-        insn::Instruction::Vector(insn::Vector::F32x4RelaxedMin),
+        fallible::Instruction::Vector(fallible::Vector::F32x4RelaxedMin),
     );
     check(
         "fd8e02",
@@ -4860,7 +4860,7 @@ fn from_500() {
         |sink| {
             sink.f32x4_relaxed_max();
         },
-        insn::Instruction::Vector(insn::Vector::F32x4RelaxedMax),
+        fallible::Instruction::Vector(fallible::Vector::F32x4RelaxedMax),
     );
     check(
         "fd8f02",
@@ -4868,7 +4868,7 @@ fn from_500() {
         |sink| {
             sink.f64x2_relaxed_min();
         },
-        insn::Instruction::Vector(insn::Vector::F64x2RelaxedMin),
+        fallible::Instruction::Vector(fallible::Vector::F64x2RelaxedMin),
     );
     check(
         "fd9002",
@@ -4876,7 +4876,7 @@ fn from_500() {
         |sink| {
             sink.f64x2_relaxed_max();
         },
-        insn::Instruction::Vector(insn::Vector::F64x2RelaxedMax),
+        fallible::Instruction::Vector(fallible::Vector::F64x2RelaxedMax),
     );
     check(
         "fd9102",
@@ -4884,7 +4884,7 @@ fn from_500() {
         |sink| {
             sink.i16x8_relaxed_q15mulr_s();
         },
-        insn::Instruction::Vector(insn::Vector::I16x8RelaxedQ15mulrS),
+        fallible::Instruction::Vector(fallible::Vector::I16x8RelaxedQ15mulrS),
     );
     check(
         "fd9202",
@@ -4892,7 +4892,7 @@ fn from_500() {
         |sink| {
             sink.i16x8_relaxed_dot_i8x16_i7x16_s();
         },
-        insn::Instruction::Vector(insn::Vector::I16x8RelaxedDotI8x16I7x16S),
+        fallible::Instruction::Vector(fallible::Vector::I16x8RelaxedDotI8x16I7x16S),
     );
     check(
         "fd9302",
@@ -4900,7 +4900,7 @@ fn from_500() {
         |sink| {
             sink.i32x4_relaxed_dot_i8x16_i7x16_add_s();
         },
-        insn::Instruction::Vector(insn::Vector::I32x4RelaxedDotI8x16I7x16AddS),
+        fallible::Instruction::Vector(fallible::Vector::I32x4RelaxedDotI8x16I7x16AddS),
     );
     check(
         "fe004201ac02",
@@ -4908,7 +4908,7 @@ fn from_500() {
         |sink| {
             sink.memory_atomic_notify(MEMARG);
         },
-        insn::Instruction::Atomic(insn::Atomic::MemoryAtomicNotify(MEMARG)),
+        fallible::Instruction::Atomic(fallible::Atomic::MemoryAtomicNotify(MEMARG)),
     );
     check(
         "fe014201ac02",
@@ -4916,7 +4916,7 @@ fn from_500() {
         |sink| {
             sink.memory_atomic_wait32(MEMARG);
         },
-        insn::Instruction::Atomic(insn::Atomic::MemoryAtomicWait32(MEMARG)),
+        fallible::Instruction::Atomic(fallible::Atomic::MemoryAtomicWait32(MEMARG)),
     );
     check(
         "fe024201ac02",
@@ -4924,7 +4924,7 @@ fn from_500() {
         |sink| {
             sink.memory_atomic_wait64(MEMARG);
         },
-        insn::Instruction::Atomic(insn::Atomic::MemoryAtomicWait64(MEMARG)),
+        fallible::Instruction::Atomic(fallible::Atomic::MemoryAtomicWait64(MEMARG)),
     );
     check(
         "fe0301",
@@ -4932,7 +4932,7 @@ fn from_500() {
         |sink| {
             sink.atomic_fence(Ordering::AcqRel);
         },
-        insn::Instruction::Atomic(insn::Atomic::AtomicFence(Ordering::AcqRel)),
+        fallible::Instruction::Atomic(fallible::Atomic::AtomicFence(Ordering::AcqRel)),
     );
     check(
         "fe04",
@@ -4940,7 +4940,7 @@ fn from_500() {
         |sink| {
             sink.pause();
         },
-        insn::Instruction::Atomic(insn::Atomic::Pause),
+        fallible::Instruction::Atomic(fallible::Atomic::Pause),
     );
     check(
         "fe104201ac02",
@@ -4948,7 +4948,7 @@ fn from_500() {
         |sink| {
             sink.i32_atomic_load(MEMARG);
         },
-        insn::Instruction::Atomic(insn::Atomic::I32AtomicLoad(MEMARG)),
+        fallible::Instruction::Atomic(fallible::Atomic::I32AtomicLoad(MEMARG)),
     );
     check(
         "fe114201ac02",
@@ -4956,7 +4956,7 @@ fn from_500() {
         |sink| {
             sink.i64_atomic_load(MEMARG);
         },
-        insn::Instruction::Atomic(insn::Atomic::I64AtomicLoad(MEMARG)),
+        fallible::Instruction::Atomic(fallible::Atomic::I64AtomicLoad(MEMARG)),
     );
     check(
         "fe124201ac02",
@@ -4964,7 +4964,7 @@ fn from_500() {
         |sink| {
             sink.i32_atomic_load8_u(MEMARG);
         },
-        insn::Instruction::Atomic(insn::Atomic::I32AtomicLoad8U(MEMARG)),
+        fallible::Instruction::Atomic(fallible::Atomic::I32AtomicLoad8U(MEMARG)),
     );
     check(
         "fe134201ac02",
@@ -4972,7 +4972,7 @@ fn from_500() {
         |sink| {
             sink.i32_atomic_load16_u(MEMARG);
         },
-        insn::Instruction::Atomic(insn::Atomic::I32AtomicLoad16U(MEMARG)),
+        fallible::Instruction::Atomic(fallible::Atomic::I32AtomicLoad16U(MEMARG)),
     );
     check(
         "fe144201ac02",
@@ -4980,7 +4980,7 @@ fn from_500() {
         |sink| {
             sink.i64_atomic_load8_u(MEMARG);
         },
-        insn::Instruction::Atomic(insn::Atomic::I64AtomicLoad8U(MEMARG)),
+        fallible::Instruction::Atomic(fallible::Atomic::I64AtomicLoad8U(MEMARG)),
     );
     check(
         "fe154201ac02",
@@ -4988,7 +4988,7 @@ fn from_500() {
         |sink| {
             sink.i64_atomic_load16_u(MEMARG);
         },
-        insn::Instruction::Atomic(insn::Atomic::I64AtomicLoad16U(MEMARG)),
+        fallible::Instruction::Atomic(fallible::Atomic::I64AtomicLoad16U(MEMARG)),
     );
     check(
         "fe164201ac02",
@@ -4996,7 +4996,7 @@ fn from_500() {
         |sink| {
             sink.i64_atomic_load32_u(MEMARG);
         },
-        insn::Instruction::Atomic(insn::Atomic::I64AtomicLoad32U(MEMARG)),
+        fallible::Instruction::Atomic(fallible::Atomic::I64AtomicLoad32U(MEMARG)),
     );
     check(
         "fe174201ac02",
@@ -5004,7 +5004,7 @@ fn from_500() {
         |sink| {
             sink.i32_atomic_store(MEMARG);
         },
-        insn::Instruction::Atomic(insn::Atomic::I32AtomicStore(MEMARG)),
+        fallible::Instruction::Atomic(fallible::Atomic::I32AtomicStore(MEMARG)),
     );
     check(
         "fe184201ac02",
@@ -5012,7 +5012,7 @@ fn from_500() {
         |sink| {
             sink.i64_atomic_store(MEMARG);
         },
-        insn::Instruction::Atomic(insn::Atomic::I64AtomicStore(MEMARG)),
+        fallible::Instruction::Atomic(fallible::Atomic::I64AtomicStore(MEMARG)),
     );
     check(
         "fe194201ac02",
@@ -5020,7 +5020,7 @@ fn from_500() {
         |sink| {
             sink.i32_atomic_store8(MEMARG);
         },
-        insn::Instruction::Atomic(insn::Atomic::I32AtomicStore8(MEMARG)),
+        fallible::Instruction::Atomic(fallible::Atomic::I32AtomicStore8(MEMARG)),
     );
     check(
         "fe1a4201ac02",
@@ -5028,7 +5028,7 @@ fn from_500() {
         |sink| {
             sink.i32_atomic_store16(MEMARG);
         },
-        insn::Instruction::Atomic(insn::Atomic::I32AtomicStore16(MEMARG)),
+        fallible::Instruction::Atomic(fallible::Atomic::I32AtomicStore16(MEMARG)),
     );
     check(
         "fe1b4201ac02",
@@ -5036,7 +5036,7 @@ fn from_500() {
         |sink| {
             sink.i64_atomic_store8(MEMARG);
         },
-        insn::Instruction::Atomic(insn::Atomic::I64AtomicStore8(MEMARG)),
+        fallible::Instruction::Atomic(fallible::Atomic::I64AtomicStore8(MEMARG)),
     );
     check(
         "fe1c4201ac02",
@@ -5044,7 +5044,7 @@ fn from_500() {
         |sink| {
             sink.i64_atomic_store16(MEMARG);
         },
-        insn::Instruction::Atomic(insn::Atomic::I64AtomicStore16(MEMARG)),
+        fallible::Instruction::Atomic(fallible::Atomic::I64AtomicStore16(MEMARG)),
     );
     check(
         "fe1d4201ac02",
@@ -5052,7 +5052,7 @@ fn from_500() {
         |sink| {
             sink.i64_atomic_store32(MEMARG);
         },
-        insn::Instruction::Atomic(insn::Atomic::I64AtomicStore32(MEMARG)),
+        fallible::Instruction::Atomic(fallible::Atomic::I64AtomicStore32(MEMARG)),
     );
     check(
         "fe1e4201ac02",
@@ -5060,7 +5060,7 @@ fn from_500() {
         |sink| {
             sink.i32_atomic_rmw_add(MEMARG);
         },
-        insn::Instruction::Atomic(insn::Atomic::I32AtomicRmwAdd(MEMARG)),
+        fallible::Instruction::Atomic(fallible::Atomic::I32AtomicRmwAdd(MEMARG)),
     );
     check(
         "fe1f4201ac02",
@@ -5068,7 +5068,7 @@ fn from_500() {
         |sink| {
             sink.i64_atomic_rmw_add(MEMARG);
         },
-        insn::Instruction::Atomic(insn::Atomic::I64AtomicRmwAdd(MEMARG)),
+        fallible::Instruction::Atomic(fallible::Atomic::I64AtomicRmwAdd(MEMARG)),
     );
     check(
         "fe204201ac02",
@@ -5076,7 +5076,7 @@ fn from_500() {
         |sink| {
             sink.i32_atomic_rmw8_add_u(MEMARG);
         },
-        insn::Instruction::Atomic(insn::Atomic::I32AtomicRmw8AddU(MEMARG)),
+        fallible::Instruction::Atomic(fallible::Atomic::I32AtomicRmw8AddU(MEMARG)),
     );
     check(
         "fe214201ac02",
@@ -5084,7 +5084,7 @@ fn from_500() {
         |sink| {
             sink.i32_atomic_rmw16_add_u(MEMARG);
         },
-        insn::Instruction::Atomic(insn::Atomic::I32AtomicRmw16AddU(MEMARG)),
+        fallible::Instruction::Atomic(fallible::Atomic::I32AtomicRmw16AddU(MEMARG)),
     );
     check(
         "fe224201ac02",
@@ -5092,7 +5092,7 @@ fn from_500() {
         |sink| {
             sink.i64_atomic_rmw8_add_u(MEMARG);
         },
-        insn::Instruction::Atomic(insn::Atomic::I64AtomicRmw8AddU(MEMARG)),
+        fallible::Instruction::Atomic(fallible::Atomic::I64AtomicRmw8AddU(MEMARG)),
     );
     check(
         "fe234201ac02",
@@ -5100,7 +5100,7 @@ fn from_500() {
         |sink| {
             sink.i64_atomic_rmw16_add_u(MEMARG);
         },
-        insn::Instruction::Atomic(insn::Atomic::I64AtomicRmw16AddU(MEMARG)),
+        fallible::Instruction::Atomic(fallible::Atomic::I64AtomicRmw16AddU(MEMARG)),
     );
     check(
         "fe244201ac02",
@@ -5108,7 +5108,7 @@ fn from_500() {
         |sink| {
             sink.i64_atomic_rmw32_add_u(MEMARG);
         },
-        insn::Instruction::Atomic(insn::Atomic::I64AtomicRmw32AddU(MEMARG)),
+        fallible::Instruction::Atomic(fallible::Atomic::I64AtomicRmw32AddU(MEMARG)),
     );
 }
 
@@ -5120,7 +5120,7 @@ fn from_550() {
         |sink| {
             sink.i32_atomic_rmw_sub(MEMARG);
         },
-        insn::Instruction::Atomic(insn::Atomic::I32AtomicRmwSub(MEMARG)),
+        fallible::Instruction::Atomic(fallible::Atomic::I32AtomicRmwSub(MEMARG)),
     );
     check(
         "fe264201ac02",
@@ -5128,7 +5128,7 @@ fn from_550() {
         |sink| {
             sink.i64_atomic_rmw_sub(MEMARG);
         },
-        insn::Instruction::Atomic(insn::Atomic::I64AtomicRmwSub(MEMARG)),
+        fallible::Instruction::Atomic(fallible::Atomic::I64AtomicRmwSub(MEMARG)),
     );
     check(
         "fe274201ac02",
@@ -5136,7 +5136,7 @@ fn from_550() {
         |sink| {
             sink.i32_atomic_rmw8_sub_u(MEMARG);
         },
-        insn::Instruction::Atomic(insn::Atomic::I32AtomicRmw8SubU(MEMARG)),
+        fallible::Instruction::Atomic(fallible::Atomic::I32AtomicRmw8SubU(MEMARG)),
     );
     check(
         "fe284201ac02",
@@ -5144,7 +5144,7 @@ fn from_550() {
         |sink| {
             sink.i32_atomic_rmw16_sub_u(MEMARG);
         },
-        insn::Instruction::Atomic(insn::Atomic::I32AtomicRmw16SubU(MEMARG)),
+        fallible::Instruction::Atomic(fallible::Atomic::I32AtomicRmw16SubU(MEMARG)),
     );
     check(
         "fe294201ac02",
@@ -5152,7 +5152,7 @@ fn from_550() {
         |sink| {
             sink.i64_atomic_rmw8_sub_u(MEMARG);
         },
-        insn::Instruction::Atomic(insn::Atomic::I64AtomicRmw8SubU(MEMARG)),
+        fallible::Instruction::Atomic(fallible::Atomic::I64AtomicRmw8SubU(MEMARG)),
     );
     check(
         "fe2a4201ac02",
@@ -5160,7 +5160,7 @@ fn from_550() {
         |sink| {
             sink.i64_atomic_rmw16_sub_u(MEMARG);
         },
-        insn::Instruction::Atomic(insn::Atomic::I64AtomicRmw16SubU(MEMARG)),
+        fallible::Instruction::Atomic(fallible::Atomic::I64AtomicRmw16SubU(MEMARG)),
     );
     check(
         "fe2b4201ac02",
@@ -5168,7 +5168,7 @@ fn from_550() {
         |sink| {
             sink.i64_atomic_rmw32_sub_u(MEMARG);
         },
-        insn::Instruction::Atomic(insn::Atomic::I64AtomicRmw32SubU(MEMARG)),
+        fallible::Instruction::Atomic(fallible::Atomic::I64AtomicRmw32SubU(MEMARG)),
     );
     check(
         "fe2c4201ac02",
@@ -5176,7 +5176,7 @@ fn from_550() {
         |sink| {
             sink.i32_atomic_rmw_and(MEMARG);
         },
-        insn::Instruction::Atomic(insn::Atomic::I32AtomicRmwAnd(MEMARG)),
+        fallible::Instruction::Atomic(fallible::Atomic::I32AtomicRmwAnd(MEMARG)),
     );
     check(
         "fe2d4201ac02",
@@ -5184,7 +5184,7 @@ fn from_550() {
         |sink| {
             sink.i64_atomic_rmw_and(MEMARG);
         },
-        insn::Instruction::Atomic(insn::Atomic::I64AtomicRmwAnd(MEMARG)),
+        fallible::Instruction::Atomic(fallible::Atomic::I64AtomicRmwAnd(MEMARG)),
     );
     check(
         "fe2e4201ac02",
@@ -5192,7 +5192,7 @@ fn from_550() {
         |sink| {
             sink.i32_atomic_rmw8_and_u(MEMARG);
         },
-        insn::Instruction::Atomic(insn::Atomic::I32AtomicRmw8AndU(MEMARG)),
+        fallible::Instruction::Atomic(fallible::Atomic::I32AtomicRmw8AndU(MEMARG)),
     );
     check(
         "fe2f4201ac02",
@@ -5200,7 +5200,7 @@ fn from_550() {
         |sink| {
             sink.i32_atomic_rmw16_and_u(MEMARG);
         },
-        insn::Instruction::Atomic(insn::Atomic::I32AtomicRmw16AndU(MEMARG)),
+        fallible::Instruction::Atomic(fallible::Atomic::I32AtomicRmw16AndU(MEMARG)),
     );
     check(
         "fe304201ac02",
@@ -5208,7 +5208,7 @@ fn from_550() {
         |sink| {
             sink.i64_atomic_rmw8_and_u(MEMARG);
         },
-        insn::Instruction::Atomic(insn::Atomic::I64AtomicRmw8AndU(MEMARG)),
+        fallible::Instruction::Atomic(fallible::Atomic::I64AtomicRmw8AndU(MEMARG)),
     );
     check(
         "fe314201ac02",
@@ -5216,7 +5216,7 @@ fn from_550() {
         |sink| {
             sink.i64_atomic_rmw16_and_u(MEMARG);
         },
-        insn::Instruction::Atomic(insn::Atomic::I64AtomicRmw16AndU(MEMARG)),
+        fallible::Instruction::Atomic(fallible::Atomic::I64AtomicRmw16AndU(MEMARG)),
     );
     check(
         "fe324201ac02",
@@ -5224,7 +5224,7 @@ fn from_550() {
         |sink| {
             sink.i64_atomic_rmw32_and_u(MEMARG);
         },
-        insn::Instruction::Atomic(insn::Atomic::I64AtomicRmw32AndU(MEMARG)),
+        fallible::Instruction::Atomic(fallible::Atomic::I64AtomicRmw32AndU(MEMARG)),
     );
     check(
         "fe334201ac02",
@@ -5232,7 +5232,7 @@ fn from_550() {
         |sink| {
             sink.i32_atomic_rmw_or(MEMARG);
         },
-        insn::Instruction::Atomic(insn::Atomic::I32AtomicRmwOr(MEMARG)),
+        fallible::Instruction::Atomic(fallible::Atomic::I32AtomicRmwOr(MEMARG)),
     );
     check(
         "fe344201ac02",
@@ -5240,7 +5240,7 @@ fn from_550() {
         |sink| {
             sink.i64_atomic_rmw_or(MEMARG);
         },
-        insn::Instruction::Atomic(insn::Atomic::I64AtomicRmwOr(MEMARG)),
+        fallible::Instruction::Atomic(fallible::Atomic::I64AtomicRmwOr(MEMARG)),
     );
     check(
         "fe354201ac02",
@@ -5248,7 +5248,7 @@ fn from_550() {
         |sink| {
             sink.i32_atomic_rmw8_or_u(MEMARG);
         },
-        insn::Instruction::Atomic(insn::Atomic::I32AtomicRmw8OrU(MEMARG)),
+        fallible::Instruction::Atomic(fallible::Atomic::I32AtomicRmw8OrU(MEMARG)),
     );
     check(
         "fe364201ac02",
@@ -5256,7 +5256,7 @@ fn from_550() {
         |sink| {
             sink.i32_atomic_rmw16_or_u(MEMARG);
         },
-        insn::Instruction::Atomic(insn::Atomic::I32AtomicRmw16OrU(MEMARG)),
+        fallible::Instruction::Atomic(fallible::Atomic::I32AtomicRmw16OrU(MEMARG)),
     );
     check(
         "fe374201ac02",
@@ -5264,7 +5264,7 @@ fn from_550() {
         |sink| {
             sink.i64_atomic_rmw8_or_u(MEMARG);
         },
-        insn::Instruction::Atomic(insn::Atomic::I64AtomicRmw8OrU(MEMARG)),
+        fallible::Instruction::Atomic(fallible::Atomic::I64AtomicRmw8OrU(MEMARG)),
     );
     check(
         "fe384201ac02",
@@ -5272,7 +5272,7 @@ fn from_550() {
         |sink| {
             sink.i64_atomic_rmw16_or_u(MEMARG);
         },
-        insn::Instruction::Atomic(insn::Atomic::I64AtomicRmw16OrU(MEMARG)),
+        fallible::Instruction::Atomic(fallible::Atomic::I64AtomicRmw16OrU(MEMARG)),
     );
     check(
         "fe394201ac02",
@@ -5280,7 +5280,7 @@ fn from_550() {
         |sink| {
             sink.i64_atomic_rmw32_or_u(MEMARG);
         },
-        insn::Instruction::Atomic(insn::Atomic::I64AtomicRmw32OrU(MEMARG)),
+        fallible::Instruction::Atomic(fallible::Atomic::I64AtomicRmw32OrU(MEMARG)),
     );
     check(
         "fe3a4201ac02",
@@ -5288,7 +5288,7 @@ fn from_550() {
         |sink| {
             sink.i32_atomic_rmw_xor(MEMARG);
         },
-        insn::Instruction::Atomic(insn::Atomic::I32AtomicRmwXor(MEMARG)),
+        fallible::Instruction::Atomic(fallible::Atomic::I32AtomicRmwXor(MEMARG)),
     );
     check(
         "fe3b4201ac02",
@@ -5296,7 +5296,7 @@ fn from_550() {
         |sink| {
             sink.i64_atomic_rmw_xor(MEMARG);
         },
-        insn::Instruction::Atomic(insn::Atomic::I64AtomicRmwXor(MEMARG)),
+        fallible::Instruction::Atomic(fallible::Atomic::I64AtomicRmwXor(MEMARG)),
     );
     check(
         "fe3c4201ac02",
@@ -5304,7 +5304,7 @@ fn from_550() {
         |sink| {
             sink.i32_atomic_rmw8_xor_u(MEMARG);
         },
-        insn::Instruction::Atomic(insn::Atomic::I32AtomicRmw8XorU(MEMARG)),
+        fallible::Instruction::Atomic(fallible::Atomic::I32AtomicRmw8XorU(MEMARG)),
     );
     check(
         "fe3d4201ac02",
@@ -5312,7 +5312,7 @@ fn from_550() {
         |sink| {
             sink.i32_atomic_rmw16_xor_u(MEMARG);
         },
-        insn::Instruction::Atomic(insn::Atomic::I32AtomicRmw16XorU(MEMARG)),
+        fallible::Instruction::Atomic(fallible::Atomic::I32AtomicRmw16XorU(MEMARG)),
     );
     check(
         "fe3e4201ac02",
@@ -5320,7 +5320,7 @@ fn from_550() {
         |sink| {
             sink.i64_atomic_rmw8_xor_u(MEMARG);
         },
-        insn::Instruction::Atomic(insn::Atomic::I64AtomicRmw8XorU(MEMARG)),
+        fallible::Instruction::Atomic(fallible::Atomic::I64AtomicRmw8XorU(MEMARG)),
     );
     check(
         "fe3f4201ac02",
@@ -5328,7 +5328,7 @@ fn from_550() {
         |sink| {
             sink.i64_atomic_rmw16_xor_u(MEMARG);
         },
-        insn::Instruction::Atomic(insn::Atomic::I64AtomicRmw16XorU(MEMARG)),
+        fallible::Instruction::Atomic(fallible::Atomic::I64AtomicRmw16XorU(MEMARG)),
     );
     check(
         "fe404201ac02",
@@ -5336,7 +5336,7 @@ fn from_550() {
         |sink| {
             sink.i64_atomic_rmw32_xor_u(MEMARG);
         },
-        insn::Instruction::Atomic(insn::Atomic::I64AtomicRmw32XorU(MEMARG)),
+        fallible::Instruction::Atomic(fallible::Atomic::I64AtomicRmw32XorU(MEMARG)),
     );
     check(
         "fe414201ac02",
@@ -5344,7 +5344,7 @@ fn from_550() {
         |sink| {
             sink.i32_atomic_rmw_xchg(MEMARG);
         },
-        insn::Instruction::Atomic(insn::Atomic::I32AtomicRmwXchg(MEMARG)),
+        fallible::Instruction::Atomic(fallible::Atomic::I32AtomicRmwXchg(MEMARG)),
     );
     check(
         "fe424201ac02",
@@ -5352,7 +5352,7 @@ fn from_550() {
         |sink| {
             sink.i64_atomic_rmw_xchg(MEMARG);
         },
-        insn::Instruction::Atomic(insn::Atomic::I64AtomicRmwXchg(MEMARG)),
+        fallible::Instruction::Atomic(fallible::Atomic::I64AtomicRmwXchg(MEMARG)),
     );
     check(
         "fe434201ac02",
@@ -5360,7 +5360,7 @@ fn from_550() {
         |sink| {
             sink.i32_atomic_rmw8_xchg_u(MEMARG);
         },
-        insn::Instruction::Atomic(insn::Atomic::I32AtomicRmw8XchgU(MEMARG)),
+        fallible::Instruction::Atomic(fallible::Atomic::I32AtomicRmw8XchgU(MEMARG)),
     );
     check(
         "fe444201ac02",
@@ -5368,7 +5368,7 @@ fn from_550() {
         |sink| {
             sink.i32_atomic_rmw16_xchg_u(MEMARG);
         },
-        insn::Instruction::Atomic(insn::Atomic::I32AtomicRmw16XchgU(MEMARG)),
+        fallible::Instruction::Atomic(fallible::Atomic::I32AtomicRmw16XchgU(MEMARG)),
     );
     check(
         "fe454201ac02",
@@ -5376,7 +5376,7 @@ fn from_550() {
         |sink| {
             sink.i64_atomic_rmw8_xchg_u(MEMARG);
         },
-        insn::Instruction::Atomic(insn::Atomic::I64AtomicRmw8XchgU(MEMARG)),
+        fallible::Instruction::Atomic(fallible::Atomic::I64AtomicRmw8XchgU(MEMARG)),
     );
     check(
         "fe464201ac02",
@@ -5384,7 +5384,7 @@ fn from_550() {
         |sink| {
             sink.i64_atomic_rmw16_xchg_u(MEMARG);
         },
-        insn::Instruction::Atomic(insn::Atomic::I64AtomicRmw16XchgU(MEMARG)),
+        fallible::Instruction::Atomic(fallible::Atomic::I64AtomicRmw16XchgU(MEMARG)),
     );
     check(
         "fe474201ac02",
@@ -5392,7 +5392,7 @@ fn from_550() {
         |sink| {
             sink.i64_atomic_rmw32_xchg_u(MEMARG);
         },
-        insn::Instruction::Atomic(insn::Atomic::I64AtomicRmw32XchgU(MEMARG)),
+        fallible::Instruction::Atomic(fallible::Atomic::I64AtomicRmw32XchgU(MEMARG)),
     );
     check(
         "fe484201ac02",
@@ -5400,7 +5400,7 @@ fn from_550() {
         |sink| {
             sink.i32_atomic_rmw_cmpxchg(MEMARG);
         },
-        insn::Instruction::Atomic(insn::Atomic::I32AtomicRmwCmpxchg(MEMARG)),
+        fallible::Instruction::Atomic(fallible::Atomic::I32AtomicRmwCmpxchg(MEMARG)),
     );
     check(
         "fe494201ac02",
@@ -5408,7 +5408,7 @@ fn from_550() {
         |sink| {
             sink.i64_atomic_rmw_cmpxchg(MEMARG);
         },
-        insn::Instruction::Atomic(insn::Atomic::I64AtomicRmwCmpxchg(MEMARG)),
+        fallible::Instruction::Atomic(fallible::Atomic::I64AtomicRmwCmpxchg(MEMARG)),
     );
     check(
         "fe4a4201ac02",
@@ -5416,7 +5416,7 @@ fn from_550() {
         |sink| {
             sink.i32_atomic_rmw8_cmpxchg_u(MEMARG);
         },
-        insn::Instruction::Atomic(insn::Atomic::I32AtomicRmw8CmpxchgU(MEMARG)),
+        fallible::Instruction::Atomic(fallible::Atomic::I32AtomicRmw8CmpxchgU(MEMARG)),
     );
     check(
         "fe4b4201ac02",
@@ -5424,7 +5424,7 @@ fn from_550() {
         |sink| {
             sink.i32_atomic_rmw16_cmpxchg_u(MEMARG);
         },
-        insn::Instruction::Atomic(insn::Atomic::I32AtomicRmw16CmpxchgU(MEMARG)),
+        fallible::Instruction::Atomic(fallible::Atomic::I32AtomicRmw16CmpxchgU(MEMARG)),
     );
     check(
         "fe4c4201ac02",
@@ -5432,7 +5432,7 @@ fn from_550() {
         |sink| {
             sink.i64_atomic_rmw8_cmpxchg_u(MEMARG);
         },
-        insn::Instruction::Atomic(insn::Atomic::I64AtomicRmw8CmpxchgU(MEMARG)),
+        fallible::Instruction::Atomic(fallible::Atomic::I64AtomicRmw8CmpxchgU(MEMARG)),
     );
     check(
         "fe4d4201ac02",
@@ -5440,7 +5440,7 @@ fn from_550() {
         |sink| {
             sink.i64_atomic_rmw16_cmpxchg_u(MEMARG);
         },
-        insn::Instruction::Atomic(insn::Atomic::I64AtomicRmw16CmpxchgU(MEMARG)),
+        fallible::Instruction::Atomic(fallible::Atomic::I64AtomicRmw16CmpxchgU(MEMARG)),
     );
     check(
         "fe4e4201ac02",
@@ -5448,7 +5448,7 @@ fn from_550() {
         |sink| {
             sink.i64_atomic_rmw32_cmpxchg_u(MEMARG);
         },
-        insn::Instruction::Atomic(insn::Atomic::I64AtomicRmw32CmpxchgU(MEMARG)),
+        fallible::Instruction::Atomic(fallible::Atomic::I64AtomicRmw32CmpxchgU(MEMARG)),
     );
     check(
         "fe4f01ac02",
@@ -5456,7 +5456,7 @@ fn from_550() {
         |sink| {
             sink.global_atomic_get(Ordering::AcqRel, 300);
         },
-        insn::Instruction::Atomic(insn::Atomic::GlobalAtomicGet { ordering: Ordering::AcqRel, global_index: 300 }),
+        fallible::Instruction::Atomic(fallible::Atomic::GlobalAtomicGet { ordering: Ordering::AcqRel, global_index: 300 }),
     );
     check(
         "fe5001ac02",
@@ -5464,7 +5464,7 @@ fn from_550() {
         |sink| {
             sink.global_atomic_set(Ordering::AcqRel, 300);
         },
-        insn::Instruction::Atomic(insn::Atomic::GlobalAtomicSet { ordering: Ordering::AcqRel, global_index: 300 }),
+        fallible::Instruction::Atomic(fallible::Atomic::GlobalAtomicSet { ordering: Ordering::AcqRel, global_index: 300 }),
     );
     check(
         "fe5101ac02",
@@ -5472,7 +5472,7 @@ fn from_550() {
         |sink| {
             sink.global_atomic_rmw_add(Ordering::AcqRel, 300);
         },
-        insn::Instruction::Atomic(insn::Atomic::GlobalAtomicRmwAdd { ordering: Ordering::AcqRel, global_index: 300 }),
+        fallible::Instruction::Atomic(fallible::Atomic::GlobalAtomicRmwAdd { ordering: Ordering::AcqRel, global_index: 300 }),
     );
     check(
         "fe5201ac02",
@@ -5480,7 +5480,7 @@ fn from_550() {
         |sink| {
             sink.global_atomic_rmw_sub(Ordering::AcqRel, 300);
         },
-        insn::Instruction::Atomic(insn::Atomic::GlobalAtomicRmwSub { ordering: Ordering::AcqRel, global_index: 300 }),
+        fallible::Instruction::Atomic(fallible::Atomic::GlobalAtomicRmwSub { ordering: Ordering::AcqRel, global_index: 300 }),
     );
     check(
         "fe5301ac02",
@@ -5488,7 +5488,7 @@ fn from_550() {
         |sink| {
             sink.global_atomic_rmw_and(Ordering::AcqRel, 300);
         },
-        insn::Instruction::Atomic(insn::Atomic::GlobalAtomicRmwAnd { ordering: Ordering::AcqRel, global_index: 300 }),
+        fallible::Instruction::Atomic(fallible::Atomic::GlobalAtomicRmwAnd { ordering: Ordering::AcqRel, global_index: 300 }),
     );
     check(
         "fe5401ac02",
@@ -5496,7 +5496,7 @@ fn from_550() {
         |sink| {
             sink.global_atomic_rmw_or(Ordering::AcqRel, 300);
         },
-        insn::Instruction::Atomic(insn::Atomic::GlobalAtomicRmwOr { ordering: Ordering::AcqRel, global_index: 300 }),
+        fallible::Instruction::Atomic(fallible::Atomic::GlobalAtomicRmwOr { ordering: Ordering::AcqRel, global_index: 300 }),
     );
     check(
         "fe5501ac02",
@@ -5504,7 +5504,7 @@ fn from_550() {
         |sink| {
             sink.global_atomic_rmw_xor(Ordering::AcqRel, 300);
         },
-        insn::Instruction::Atomic(insn::Atomic::GlobalAtomicRmwXor { ordering: Ordering::AcqRel, global_index: 300 }),
+        fallible::Instruction::Atomic(fallible::Atomic::GlobalAtomicRmwXor { ordering: Ordering::AcqRel, global_index: 300 }),
     );
     check(
         "fe5601ac02",
@@ -5512,7 +5512,7 @@ fn from_550() {
         |sink| {
             sink.global_atomic_rmw_xchg(Ordering::AcqRel, 300);
         },
-        insn::Instruction::Atomic(insn::Atomic::GlobalAtomicRmwXchg { ordering: Ordering::AcqRel, global_index: 300 }),
+        fallible::Instruction::Atomic(fallible::Atomic::GlobalAtomicRmwXchg { ordering: Ordering::AcqRel, global_index: 300 }),
     );
 }
 
@@ -5524,7 +5524,7 @@ fn from_600() {
         |sink| {
             sink.global_atomic_rmw_cmpxchg(Ordering::AcqRel, 300);
         },
-        insn::Instruction::Atomic(insn::Atomic::GlobalAtomicRmwCmpxchg { ordering: Ordering::AcqRel, global_index: 300 }),
+        fallible::Instruction::Atomic(fallible::Atomic::GlobalAtomicRmwCmpxchg { ordering: Ordering::AcqRel, global_index: 300 }),
     );
     check(
         "fe5801ac02",
@@ -5532,7 +5532,7 @@ fn from_600() {
         |sink| {
             sink.table_atomic_get(Ordering::AcqRel, 300);
         },
-        insn::Instruction::Atomic(insn::Atomic::TableAtomicGet { ordering: Ordering::AcqRel, table_index: 300 }),
+        fallible::Instruction::Atomic(fallible::Atomic::TableAtomicGet { ordering: Ordering::AcqRel, table_index: 300 }),
     );
     check(
         "fe5901ac02",
@@ -5540,7 +5540,7 @@ fn from_600() {
         |sink| {
             sink.table_atomic_set(Ordering::AcqRel, 300);
         },
-        insn::Instruction::Atomic(insn::Atomic::TableAtomicSet { ordering: Ordering::AcqRel, table_index: 300 }),
+        fallible::Instruction::Atomic(fallible::Atomic::TableAtomicSet { ordering: Ordering::AcqRel, table_index: 300 }),
     );
     check(
         "fe5a01ac02",
@@ -5548,7 +5548,7 @@ fn from_600() {
         |sink| {
             sink.table_atomic_rmw_xchg(Ordering::AcqRel, 300);
         },
-        insn::Instruction::Atomic(insn::Atomic::TableAtomicRmwXchg { ordering: Ordering::AcqRel, table_index: 300 }),
+        fallible::Instruction::Atomic(fallible::Atomic::TableAtomicRmwXchg { ordering: Ordering::AcqRel, table_index: 300 }),
     );
     check(
         "fe5b01ac02",
@@ -5556,7 +5556,7 @@ fn from_600() {
         |sink| {
             sink.table_atomic_rmw_cmpxchg(Ordering::AcqRel, 300);
         },
-        insn::Instruction::Atomic(insn::Atomic::TableAtomicRmwCmpxchg { ordering: Ordering::AcqRel, table_index: 300 }),
+        fallible::Instruction::Atomic(fallible::Atomic::TableAtomicRmwCmpxchg { ordering: Ordering::AcqRel, table_index: 300 }),
     );
     check(
         "fe5c0101ac02",
@@ -5564,7 +5564,7 @@ fn from_600() {
         |sink| {
             sink.struct_atomic_get(Ordering::AcqRel, 1, 300);
         },
-        insn::Instruction::Atomic(insn::Atomic::StructAtomicGet { ordering: Ordering::AcqRel, struct_type_index: 1, field_index: 300 }),
+        fallible::Instruction::Atomic(fallible::Atomic::StructAtomicGet { ordering: Ordering::AcqRel, struct_type_index: 1, field_index: 300 }),
     );
     check(
         "fe5d0101ac02",
@@ -5572,7 +5572,7 @@ fn from_600() {
         |sink| {
             sink.struct_atomic_get_s(Ordering::AcqRel, 1, 300);
         },
-        insn::Instruction::Atomic(insn::Atomic::StructAtomicGetS { ordering: Ordering::AcqRel, struct_type_index: 1, field_index: 300 }),
+        fallible::Instruction::Atomic(fallible::Atomic::StructAtomicGetS { ordering: Ordering::AcqRel, struct_type_index: 1, field_index: 300 }),
     );
     check(
         "fe5e0101ac02",
@@ -5580,7 +5580,7 @@ fn from_600() {
         |sink| {
             sink.struct_atomic_get_u(Ordering::AcqRel, 1, 300);
         },
-        insn::Instruction::Atomic(insn::Atomic::StructAtomicGetU { ordering: Ordering::AcqRel, struct_type_index: 1, field_index: 300 }),
+        fallible::Instruction::Atomic(fallible::Atomic::StructAtomicGetU { ordering: Ordering::AcqRel, struct_type_index: 1, field_index: 300 }),
     );
     check(
         "fe5f0101ac02",
@@ -5588,7 +5588,7 @@ fn from_600() {
         |sink| {
             sink.struct_atomic_set(Ordering::AcqRel, 1, 300);
         },
-        insn::Instruction::Atomic(insn::Atomic::StructAtomicSet { ordering: Ordering::AcqRel, struct_type_index: 1, field_index: 300 }),
+        fallible::Instruction::Atomic(fallible::Atomic::StructAtomicSet { ordering: Ordering::AcqRel, struct_type_index: 1, field_index: 300 }),
     );
     check(
         "fe600101ac02",
@@ -5596,7 +5596,7 @@ fn from_600() {
         |sink| {
             sink.struct_atomic_rmw_add(Ordering::AcqRel, 1, 300);
         },
-        insn::Instruction::Atomic(insn::Atomic::StructAtomicRmwAdd { ordering: Ordering::AcqRel, struct_type_index: 1, field_index: 300 }),
+        fallible::Instruction::Atomic(fallible::Atomic::StructAtomicRmwAdd { ordering: Ordering::AcqRel, struct_type_index: 1, field_index: 300 }),
     );
     check(
         "fe610101ac02",
@@ -5604,7 +5604,7 @@ fn from_600() {
         |sink| {
             sink.struct_atomic_rmw_sub(Ordering::AcqRel, 1, 300);
         },
-        insn::Instruction::Atomic(insn::Atomic::StructAtomicRmwSub { ordering: Ordering::AcqRel, struct_type_index: 1, field_index: 300 }),
+        fallible::Instruction::Atomic(fallible::Atomic::StructAtomicRmwSub { ordering: Ordering::AcqRel, struct_type_index: 1, field_index: 300 }),
     );
     check(
         "fe620101ac02",
@@ -5612,7 +5612,7 @@ fn from_600() {
         |sink| {
             sink.struct_atomic_rmw_and(Ordering::AcqRel, 1, 300);
         },
-        insn::Instruction::Atomic(insn::Atomic::StructAtomicRmwAnd { ordering: Ordering::AcqRel, struct_type_index: 1, field_index: 300 }),
+        fallible::Instruction::Atomic(fallible::Atomic::StructAtomicRmwAnd { ordering: Ordering::AcqRel, struct_type_index: 1, field_index: 300 }),
     );
     check(
         "fe630101ac02",
@@ -5620,7 +5620,7 @@ fn from_600() {
         |sink| {
             sink.struct_atomic_rmw_or(Ordering::AcqRel, 1, 300);
         },
-        insn::Instruction::Atomic(insn::Atomic::StructAtomicRmwOr { ordering: Ordering::AcqRel, struct_type_index: 1, field_index: 300 }),
+        fallible::Instruction::Atomic(fallible::Atomic::StructAtomicRmwOr { ordering: Ordering::AcqRel, struct_type_index: 1, field_index: 300 }),
     );
     check(
         "fe640101ac02",
@@ -5628,7 +5628,7 @@ fn from_600() {
         |sink| {
             sink.struct_atomic_rmw_xor(Ordering::AcqRel, 1, 300);
         },
-        insn::Instruction::Atomic(insn::Atomic::StructAtomicRmwXor { ordering: Ordering::AcqRel, struct_type_index: 1, field_index: 300 }),
+        fallible::Instruction::Atomic(fallible::Atomic::StructAtomicRmwXor { ordering: Ordering::AcqRel, struct_type_index: 1, field_index: 300 }),
     );
     check(
         "fe650101ac02",
@@ -5636,7 +5636,7 @@ fn from_600() {
         |sink| {
             sink.struct_atomic_rmw_xchg(Ordering::AcqRel, 1, 300);
         },
-        insn::Instruction::Atomic(insn::Atomic::StructAtomicRmwXchg { ordering: Ordering::AcqRel, struct_type_index: 1, field_index: 300 }),
+        fallible::Instruction::Atomic(fallible::Atomic::StructAtomicRmwXchg { ordering: Ordering::AcqRel, struct_type_index: 1, field_index: 300 }),
     );
     check(
         "fe660101ac02",
@@ -5644,7 +5644,7 @@ fn from_600() {
         |sink| {
             sink.struct_atomic_rmw_cmpxchg(Ordering::AcqRel, 1, 300);
         },
-        insn::Instruction::Atomic(insn::Atomic::StructAtomicRmwCmpxchg { ordering: Ordering::AcqRel, struct_type_index: 1, field_index: 300 }),
+        fallible::Instruction::Atomic(fallible::Atomic::StructAtomicRmwCmpxchg { ordering: Ordering::AcqRel, struct_type_index: 1, field_index: 300 }),
     );
     check(
         "fe6701ac02",
@@ -5652,7 +5652,7 @@ fn from_600() {
         |sink| {
             sink.array_atomic_get(Ordering::AcqRel, 300);
         },
-        insn::Instruction::Atomic(insn::Atomic::ArrayAtomicGet { ordering: Ordering::AcqRel, array_type_index: 300 }),
+        fallible::Instruction::Atomic(fallible::Atomic::ArrayAtomicGet { ordering: Ordering::AcqRel, array_type_index: 300 }),
     );
     check(
         "fe6801ac02",
@@ -5660,7 +5660,7 @@ fn from_600() {
         |sink| {
             sink.array_atomic_get_s(Ordering::AcqRel, 300);
         },
-        insn::Instruction::Atomic(insn::Atomic::ArrayAtomicGetS { ordering: Ordering::AcqRel, array_type_index: 300 }),
+        fallible::Instruction::Atomic(fallible::Atomic::ArrayAtomicGetS { ordering: Ordering::AcqRel, array_type_index: 300 }),
     );
     check(
         "fe6901ac02",
@@ -5668,7 +5668,7 @@ fn from_600() {
         |sink| {
             sink.array_atomic_get_u(Ordering::AcqRel, 300);
         },
-        insn::Instruction::Atomic(insn::Atomic::ArrayAtomicGetU { ordering: Ordering::AcqRel, array_type_index: 300 }),
+        fallible::Instruction::Atomic(fallible::Atomic::ArrayAtomicGetU { ordering: Ordering::AcqRel, array_type_index: 300 }),
     );
     check(
         "fe6a01ac02",
@@ -5676,7 +5676,7 @@ fn from_600() {
         |sink| {
             sink.array_atomic_set(Ordering::AcqRel, 300);
         },
-        insn::Instruction::Atomic(insn::Atomic::ArrayAtomicSet { ordering: Ordering::AcqRel, array_type_index: 300 }),
+        fallible::Instruction::Atomic(fallible::Atomic::ArrayAtomicSet { ordering: Ordering::AcqRel, array_type_index: 300 }),
     );
     check(
         "fe6b01ac02",
@@ -5684,7 +5684,7 @@ fn from_600() {
         |sink| {
             sink.array_atomic_rmw_add(Ordering::AcqRel, 300);
         },
-        insn::Instruction::Atomic(insn::Atomic::ArrayAtomicRmwAdd { ordering: Ordering::AcqRel, array_type_index: 300 }),
+        fallible::Instruction::Atomic(fallible::Atomic::ArrayAtomicRmwAdd { ordering: Ordering::AcqRel, array_type_index: 300 }),
     );
     check(
         "fe6c01ac02",
@@ -5692,7 +5692,7 @@ fn from_600() {
         |sink| {
             sink.array_atomic_rmw_sub(Ordering::AcqRel, 300);
         },
-        insn::Instruction::Atomic(insn::Atomic::ArrayAtomicRmwSub { ordering: Ordering::AcqRel, array_type_index: 300 }),
+        fallible::Instruction::Atomic(fallible::Atomic::ArrayAtomicRmwSub { ordering: Ordering::AcqRel, array_type_index: 300 }),
     );
     check(
         "fe6d01ac02",
@@ -5700,7 +5700,7 @@ fn from_600() {
         |sink| {
             sink.array_atomic_rmw_and(Ordering::AcqRel, 300);
         },
-        insn::Instruction::Atomic(insn::Atomic::ArrayAtomicRmwAnd { ordering: Ordering::AcqRel, array_type_index: 300 }),
+        fallible::Instruction::Atomic(fallible::Atomic::ArrayAtomicRmwAnd { ordering: Ordering::AcqRel, array_type_index: 300 }),
     );
     check(
         "fe6e01ac02",
@@ -5708,7 +5708,7 @@ fn from_600() {
         |sink| {
             sink.array_atomic_rmw_or(Ordering::AcqRel, 300);
         },
-        insn::Instruction::Atomic(insn::Atomic::ArrayAtomicRmwOr { ordering: Ordering::AcqRel, array_type_index: 300 }),
+        fallible::Instruction::Atomic(fallible::Atomic::ArrayAtomicRmwOr { ordering: Ordering::AcqRel, array_type_index: 300 }),
     );
     check(
         "fe6f01ac02",
@@ -5716,7 +5716,7 @@ fn from_600() {
         |sink| {
             sink.array_atomic_rmw_xor(Ordering::AcqRel, 300);
         },
-        insn::Instruction::Atomic(insn::Atomic::ArrayAtomicRmwXor { ordering: Ordering::AcqRel, array_type_index: 300 }),
+        fallible::Instruction::Atomic(fallible::Atomic::ArrayAtomicRmwXor { ordering: Ordering::AcqRel, array_type_index: 300 }),
     );
     check(
         "fe7001ac02",
@@ -5724,7 +5724,7 @@ fn from_600() {
         |sink| {
             sink.array_atomic_rmw_xchg(Ordering::AcqRel, 300);
         },
-        insn::Instruction::Atomic(insn::Atomic::ArrayAtomicRmwXchg { ordering: Ordering::AcqRel, array_type_index: 300 }),
+        fallible::Instruction::Atomic(fallible::Atomic::ArrayAtomicRmwXchg { ordering: Ordering::AcqRel, array_type_index: 300 }),
     );
     check(
         "fe7101ac02",
@@ -5732,7 +5732,7 @@ fn from_600() {
         |sink| {
             sink.array_atomic_rmw_cmpxchg(Ordering::AcqRel, 300);
         },
-        insn::Instruction::Atomic(insn::Atomic::ArrayAtomicRmwCmpxchg { ordering: Ordering::AcqRel, array_type_index: 300 }),
+        fallible::Instruction::Atomic(fallible::Atomic::ArrayAtomicRmwCmpxchg { ordering: Ordering::AcqRel, array_type_index: 300 }),
     );
     check(
         "fe72",
@@ -5740,6 +5740,6 @@ fn from_600() {
         |sink| {
             sink.ref_i31_shared();
         },
-        insn::Instruction::Atomic(insn::Atomic::RefI31Shared),
+        fallible::Instruction::Atomic(fallible::Atomic::RefI31Shared),
     );
 }

@@ -1,6 +1,7 @@
 //! What the tests of this folder compare.
 use crate::cases::first_byte;
-use dolzhytik::{Encode, Function, Instruction, InstructionSink, Module, Section, base, hex, insn};
+use dolzhytik::fallible::{self, Global, hex};
+use dolzhytik::{Encode, Function, Instruction, InstructionSink, Module, Section};
 
 /// The bytes of a value.
 pub fn encoded(value: &(impl Encode + ?Sized)) -> Vec<u8> {
@@ -12,9 +13,7 @@ pub fn encoded(value: &(impl Encode + ?Sized)) -> Vec<u8> {
 /// The bytes that a text of hexadecimal digits tells, with spaces between them or not.
 pub fn bytes_of(text: &str) -> Vec<u8> {
     let digits: String = text.split_whitespace().collect();
-    hex::decode(dolzhytik::alloc::Global, digits)
-        .unwrap()
-        .into()
+    hex::decode(Global, digits).unwrap().into()
 }
 
 /// Checks the bytes of a section, after its id, and that it is appended to a module with it.
@@ -33,7 +32,7 @@ pub fn check(
     text: &str,
     value: Instruction<'_>,
     call: fn(&mut InstructionSink<'_>),
-    proved: insn::Instruction<'_>,
+    proved: fallible::Instruction<'_>,
 ) {
     let expected = bytes_of(text);
     assert_eq!(encoded(&value), expected, "{value:?}");
@@ -47,9 +46,9 @@ pub fn check(
     body.instruction(&value);
     assert_eq!(body.into_raw_body()[1..], expected, "{value:?}");
 
-    for proved in [proved, insn::Instruction::from(&value)] {
+    for proved in [proved, fallible::Instruction::from(&value)] {
         let mut bytes = Vec::new();
-        base::Encode::encode(&proved, &mut bytes).unwrap();
+        fallible::Encode::encode(&proved, &mut bytes).unwrap();
         assert_eq!(bytes, expected, "{value:?}");
     }
     assert_eq!(encoded(&value.clone()), expected, "{value:?}");

@@ -436,28 +436,28 @@ fn values() {
 }
 
 #[test]
-fn what_proved_calls_have_built() -> Result<(), base::Refused> {
-    use alloc::Global;
-    let mut body = code::Function::new(Global, [])?;
+fn what_proved_calls_have_built() -> Result<(), fallible::Refused> {
+    use fallible::Global;
+    let mut body = fallible::Function::new(Global, [])?;
     body.instructions().end()?;
-    let mut proved = code::CodeSection::new(Global);
+    let mut proved = fallible::CodeSection::new(Global);
     proved.function(&body)?;
     let mut code = CodeSection::from(proved);
     code.function(&body.into());
     assert_eq!(encoded(&code), [7, 2, 2, 0, 11, 2, 0, 11]);
 
-    let offset: ConstExpr = code::ConstExpr::i32_const(Global, 7)?.into();
+    let offset: ConstExpr = fallible::ConstExpr::i32_const(Global, 7)?.into();
     assert_eq!(encoded(&offset), [0x41, 7, 11]);
-    let mut proved = sections::DataSection::new(Global);
+    let mut proved = fallible::DataSection::new(Global);
     proved.passive([1])?;
     assert_eq!(DataSection::from(proved).len(), 1);
-    let mut proved = types::TypeSection::new(Global);
+    let mut proved = fallible::TypeSection::new(Global);
     proved.ty().function([], [])?;
     assert_eq!(TypeSection::from(proved).len(), 1);
-    let mut proved = custom::NameMap::new(Global);
+    let mut proved = fallible::NameMap::new(Global);
     proved.append(0, "a")?;
     assert_eq!(encoded(&NameMap::from(proved)), [1, 0, 1, 97]);
-    let module: Module = base::Module::new(Global)?.into();
+    let module: Module = fallible::Module::new(Global)?.into();
     assert_eq!(module.as_slice(), Module::HEADER);
     Ok(())
 }

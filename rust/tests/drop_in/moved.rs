@@ -50,36 +50,34 @@ fn compile(expr: &Expr) -> Module {
     module
 }
 
-use wasm_encoder::alloc::Global;
-use wasm_encoder::base::Refused;
-use wasm_encoder::{NameSection, code, custom, insn};
+use wasm_encoder::NameSection;
+use wasm_encoder::fallible::{self, Global, Refused};
 
 /// Names the module. A name that is too long, or an allocation that fails, is an error.
 fn named(name: &str) -> Result<NameSection, Refused> {
-    let mut names = custom::NameSection::new(Global);
+    let mut names = fallible::NameSection::new(Global);
     names.module(name)?;
     Ok(names.into())
 }
 
 /// Encodes the instructions as the body of a function without parameters.
-fn body(instructions: &[insn::Instruction<'_>]) -> Result<wasm_encoder::Function, Refused> {
-    let mut body = code::Function::new(Global, [])?;
+fn body(instructions: &[fallible::Instruction<'_>]) -> Result<wasm_encoder::Function, Refused> {
+    let mut body = fallible::Function::new(Global, [])?;
     for instruction in instructions {
         body.instruction(instruction)?;
     }
     Ok(body.into())
 }
 
-use wasm_encoder::base;
-use wasm_encoder::custom::CustomSection;
+use wasm_encoder::fallible::{CowSlice, CowStr, CustomSection};
 
 /// Builds a module of one custom section, `note`, without a panic or an abort.
 fn note(data: &[u8]) -> Result<Vec<u8>, Refused> {
     let note: CustomSection = CustomSection {
-        name: base::CowStr::Borrowed("note"),
-        bytes: base::CowSlice::Borrowed(data),
+        name: CowStr::Borrowed("note"),
+        bytes: CowSlice::Borrowed(data),
     };
-    let mut module = base::Module::new(Global)?;
+    let mut module = fallible::Module::new(Global)?;
     module.section(&note)?;
     Ok(module.finish().into())
 }
@@ -93,7 +91,11 @@ fn the_program_makes_its_module() {
     let bytes = "0061736d01000000 01060160017e017e 03020100 070501016600 00 0a0c010a00 2000 2000 7e 427f 7c 0b";
     assert_eq!(module.as_slice(), crate::checks::bytes_of(bytes));
     module.section(&named("m").unwrap());
-    let end = body(&[insn::Instruction::LocalGet(0), insn::Instruction::End]).unwrap();
+    let end = body(&[
+        fallible::Instruction::LocalGet(0),
+        fallible::Instruction::End,
+    ])
+    .unwrap();
     assert_eq!(end.into_raw_body(), [0, 0x20, 0, 0x0b]);
     assert!(module.finish().ends_with(b"\x00\x09\x04name\x00\x02\x01m"));
     assert!(note(b"text").unwrap().ends_with(b"\x00\x09\x04notetext"));

@@ -180,7 +180,7 @@ mod kinds {
 /// A program that builds parts with the proved calls, whose values have the cases of the root's.
 mod beside_proved_values {
     use dolzhytik::{
-        EntityType, ExportKind, Import, ImportCompact, SectionId, TagKind, TagType, base, sections,
+        EntityType, ExportKind, Import, ImportCompact, SectionId, TagKind, TagType, fallible,
     };
     use std::fmt::Debug;
 
@@ -196,16 +196,16 @@ mod beside_proved_values {
 
     #[test]
     fn conversions_keep_the_case() {
-        both_ways(SectionId::Type, base::SectionId::Types);
-        both_ways(ExportKind::Tag, sections::ExportKind::Tag);
-        both_ways(TagKind::Exception, sections::TagKind::Exception);
-        both_ways(EntityType::Function(1), sections::EntityType::Function(1));
+        both_ways(SectionId::Type, fallible::SectionId::Types);
+        both_ways(ExportKind::Tag, fallible::ExportKind::Tag);
+        both_ways(TagKind::Exception, fallible::TagKind::Exception);
+        both_ways(EntityType::Function(1), fallible::EntityType::Function(1));
         both_ways(
             EntityType::FunctionExact(1),
-            sections::EntityType::FunctionExact(1),
+            fallible::EntityType::FunctionExact(1),
         );
-        let proved = sections::TagType {
-            kind: sections::TagKind::Exception,
+        let proved = fallible::TagType {
+            kind: fallible::TagKind::Exception,
             func_type_idx: 3,
         };
         both_ways(
@@ -217,9 +217,9 @@ mod beside_proved_values {
         );
         both_ways(
             EntityType::Tag(proved.into()),
-            sections::EntityType::Tag(proved),
+            fallible::EntityType::Tag(proved),
         );
-        let import = sections::Import {
+        let import = fallible::Import {
             module: "m",
             name: "t",
             ty: proved.into(),
@@ -229,7 +229,7 @@ mod beside_proved_values {
             (module, name, ty),
             ("m", "t", EntityType::Tag(proved.into()))
         );
-        let item = sections::ImportCompact {
+        let item = fallible::ImportCompact {
             name: "t",
             ty: proved.into(),
         };
@@ -247,7 +247,7 @@ mod beside_proved_values {
         ];
         assert!(ids.into_iter().map(|id| id as u8).eq(0..14));
         for id in ids {
-            let proved = base::SectionId::from(id);
+            let proved = fallible::SectionId::from(id);
             assert_eq!((proved as u8, SectionId::from(proved)), (id as u8, id));
         }
         let kinds = [
@@ -258,7 +258,7 @@ mod beside_proved_values {
             ExportKind::Tag,
         ];
         for kind in kinds {
-            let proved = sections::ExportKind::from(kind);
+            let proved = fallible::ExportKind::from(kind);
             assert_eq!((proved as u8, ExportKind::from(proved)), (kind as u8, kind));
         }
     }
@@ -398,4 +398,59 @@ mod printed {
         let text = format!("{:#?}", ConstExpr::empty());
         assert_eq!(text, "ConstExpr {\n    bytes: [],\n}");
     }
+}
+
+/// A program whose own modules and crates have names of modules within the package.
+mod own_names {
+    /// A module of each name, beside a glob of the package.
+    macro_rules! modules {
+        ($($name:ident)*) => {
+            pub mod all {
+                $(
+                    pub mod $name {
+                        pub const NAME: &str = stringify!($name);
+                    }
+                )*
+            }
+
+            /// By two globs, of which neither comes before the other.
+            mod beside_a_glob {
+                use super::all::*;
+                use dolzhytik::*;
+
+                pub fn names() -> Vec<&'static str> {
+                    assert_eq!(Module::new().len(), 8);
+                    vec![$($name::NAME),*]
+                }
+            }
+
+            #[test]
+            fn modules_beside_a_glob() {
+                assert_eq!(beside_a_glob::names(), [$(stringify!($name)),*]);
+            }
+
+            /// By the names of crates, in a `use` and in a path.
+            mod beside_crates {
+                use dolzhytik::*;
+                use {$($name::any::type_name as $name),*};
+
+                pub fn names() -> Vec<&'static str> {
+                    assert_eq!(Module::new().len(), 8);
+                    vec![$($name::<u8>()),*]
+                }
+
+                pub fn len() -> usize {
+                    [$($name::mem::size_of::<u8>()),*].len()
+                }
+            }
+
+            #[test]
+            fn crates_beside_a_glob() {
+                assert!(beside_crates::names().iter().all(|name| *name == "u8"));
+                assert_eq!(beside_crates::names().len(), beside_crates::len());
+            }
+        };
+    }
+
+    modules! { base code custom hex immediates insn recipe sections string types vec alloc }
 }

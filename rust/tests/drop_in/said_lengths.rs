@@ -1,7 +1,6 @@
 //! Iterators that give another number of items than their length says: the length is written as it was said, and all items after it.
 use crate::checks::section;
-use dolzhytik::alloc::{AllocError, Allocator};
-use dolzhytik::base::{Encode, Refused};
+use dolzhytik::fallible::{self, AllocError, Allocator, Encode, Refused};
 use dolzhytik::*;
 use std::cell::Cell;
 
@@ -79,15 +78,15 @@ fn at_the_root() {
 #[test]
 fn of_the_fallible_calls() {
     for (said, text, given) in LENGTHS {
-        let mut data = sections::DataSection::new(alloc::Global);
+        let mut data = fallible::DataSection::new(fallible::Global);
         data.passive(Said::new(said, given)).unwrap();
         let mut bytes = vec![];
         data.encode(&mut bytes).unwrap();
         assert_eq!(bytes, expected(&[1], text, given));
 
         let mut sink = vec![7];
-        let said_bytes = base::bytes_of(Said::new(said, given)).unwrap();
-        base::EncodeOnce::encode_once(said_bytes, &mut sink).unwrap();
+        let said_bytes = fallible::bytes_of(Said::new(said, given)).unwrap();
+        fallible::EncodeOnce::encode_once(said_bytes, &mut sink).unwrap();
         assert_eq!(sink[1..1 + text.len()], *text);
         assert!(
             sink[1 + text.len()..]
@@ -103,7 +102,7 @@ fn of_the_fallible_calls() {
 fn of_vectors() {
     for (said, _, given) in LENGTHS {
         for spare in [0, 1, 2, 5, 300, 1000] {
-            let mut bytes = dolzhytik::vec::Vec::with_capacity(alloc::Global, spare).unwrap();
+            let mut bytes = fallible::Vec::with_capacity(fallible::Global, spare).unwrap();
             bytes.extend(Said::new(said, given)).unwrap();
             assert!(bytes.iter().copied().eq(Said::new(0, given)));
         }
@@ -127,7 +126,7 @@ fn memory_that_is_refused() {
     let granted = (0..100)
         .find(|&granted| {
             let alloc = Grants(Cell::new(granted));
-            let mut data = sections::DataSection::new(&alloc);
+            let mut data = fallible::DataSection::new(&alloc);
             let answer = data.passive(Said::new(2, 300));
             let mut bytes = vec![];
             data.encode(&mut bytes).unwrap();

@@ -1,12 +1,12 @@
 // Written by tools/to-rust from crates/examples/src/adding.rt: change that.
 // A whole module by builders alone: a function that adds two numbers.
 
-use dolzhytik::vec::Vec;
-use dolzhytik::alloc::Allocator;
-use dolzhytik::base::{Module, R, ValType};
-use dolzhytik::code::{CodeSection, Function};
-use dolzhytik::sections::{ExportKind, ExportSection, FunctionSection};
-use dolzhytik::types::TypeSection;
+use dolzhytik::fallible::Vec;
+use dolzhytik::fallible::Allocator;
+use dolzhytik::fallible::{Module, R, ValType};
+use dolzhytik::fallible::{CodeSection, Function};
+use dolzhytik::fallible::{ExportKind, ExportSection, FunctionSection};
+use dolzhytik::fallible::TypeSection;
 
 /// A module that exports a function of two numbers as `add`, which gives their sum.
 ///

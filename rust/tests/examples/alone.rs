@@ -1,14 +1,14 @@
 // Written by tools/to-rust from crates/examples/src/alone.rt: change that.
 // Sections without a module.
 
-use dolzhytik::vec::Vec;
+use dolzhytik::fallible::Vec;
 use crate::examples::bodies::local_function;
-use dolzhytik::alloc::Allocator;
-use dolzhytik::base::laws::plain_names;
-use dolzhytik::base::{CowSlice, Encode, R, RefType, add_all};
-use dolzhytik::code::{CodeSection, ConstExpr};
-use dolzhytik::sections::laws::plain_exports;
-use dolzhytik::sections::{ElementSection, Elements, EntityType, Export, ExportSection, ImportSection, Imports};
+use dolzhytik::fallible::Allocator;
+use dolzhytik::fallible::laws::base::plain_names;
+use dolzhytik::fallible::{CowSlice, Encode, R, RefType, add_all};
+use dolzhytik::fallible::{CodeSection, ConstExpr};
+use dolzhytik::fallible::laws::sections::plain_exports;
+use dolzhytik::fallible::{ElementSection, Elements, EntityType, Export, ExportSection, ImportSection, Imports};
 
 /// A code section of one function, which gives the local of this index.
 ///

@@ -1,9 +1,9 @@
 // Written by tools/to-rust from crates/examples/src/bodies.rt: change that.
 // Functions that several examples add.
 
-use dolzhytik::alloc::Allocator;
-use dolzhytik::base::{R, ValType};
-use dolzhytik::code::Function;
+use dolzhytik::fallible::Allocator;
+use dolzhytik::fallible::{R, ValType};
+use dolzhytik::fallible::Function;
 
 /// A function of one local, which does nothing.
 ///

@@ -1,14 +1,14 @@
 // Written by tools/to-rust from crates/examples/src/compiled.rt: change that.
 // A module of compiled functions.
 
-use dolzhytik::vec::Vec;
+use dolzhytik::fallible::Vec;
 use crate::examples::lowering::{Operation, Operator, compile};
 use crate::examples::trees::{Expr, Statement, compile_tree};
-use dolzhytik::alloc::Allocator;
-use dolzhytik::base::{Module, R, ValType};
-use dolzhytik::code::{CodeSection, Function};
-use dolzhytik::sections::{ExportKind, ExportSection, FunctionSection};
-use dolzhytik::types::TypeSection;
+use dolzhytik::fallible::Allocator;
+use dolzhytik::fallible::{Module, R, ValType};
+use dolzhytik::fallible::{CodeSection, Function};
+use dolzhytik::fallible::{ExportKind, ExportSection, FunctionSection};
+use dolzhytik::fallible::TypeSection;
 
 /// The product of its two parameters.
 const PRODUCT: [Operation; 3] = [

@@ -1,12 +1,12 @@
 // Written by tools/to-rust from crates/examples/src/filled.rt: change that.
 // A module whose table and memory are filled.
 
-use dolzhytik::vec::Vec;
+use dolzhytik::fallible::Vec;
 use crate::examples::whole::{imports, memories};
-use dolzhytik::alloc::Allocator;
-use dolzhytik::base::{CowSlice, Module, R, RawSection, RefType};
-use dolzhytik::code::ConstExpr;
-use dolzhytik::sections::{DataCountSection, DataSection, ElementSection, Elements, TableSection, TableType};
+use dolzhytik::fallible::Allocator;
+use dolzhytik::fallible::{CowSlice, Module, R, RawSection, RefType};
+use dolzhytik::fallible::ConstExpr;
+use dolzhytik::fallible::{DataCountSection, DataSection, ElementSection, Elements, TableSection, TableType};
 
 /// A module that puts a function that it imports in a table, and bytes in a memory.
 ///

@@ -1,11 +1,11 @@
 // Written by tools/to-rust from crates/examples/src/first.rt: change that.
 // A module of one function.
 
-use dolzhytik::vec::Vec;
-use dolzhytik::alloc::Allocator;
-use dolzhytik::base::{Module, R, ValType};
-use dolzhytik::code::{CodeSection, Function};
-use dolzhytik::insn::Instruction;
+use dolzhytik::fallible::Vec;
+use dolzhytik::fallible::Allocator;
+use dolzhytik::fallible::{Module, R, ValType};
+use dolzhytik::fallible::{CodeSection, Function};
+use dolzhytik::fallible::Instruction;
 
 /// A module of a code section of one function, which has one local and does nothing.
 ///

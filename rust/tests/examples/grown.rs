@@ -1,15 +1,15 @@
 // Written by tools/to-rust from crates/examples/src/grown.rt: change that.
 // Bodies and sections of what is handed in, whatever it is. The first calls of each function show that it is plain.
 
-use dolzhytik::vec::Vec;
-use dolzhytik::alloc::Allocator;
-use dolzhytik::base::laws::plain_name;
-use dolzhytik::base::{Encode, R, add_all};
-use dolzhytik::code::Function;
-use dolzhytik::insn::Instruction;
-use dolzhytik::insn::laws::{plain_instruction, plain_instructions};
-use dolzhytik::sections::laws::{plain_entity, plain_memory};
-use dolzhytik::sections::{Import, ImportSection, MemorySection, MemoryType};
+use dolzhytik::fallible::Vec;
+use dolzhytik::fallible::Allocator;
+use dolzhytik::fallible::laws::base::plain_name;
+use dolzhytik::fallible::{Encode, R, add_all};
+use dolzhytik::fallible::Function;
+use dolzhytik::fallible::Instruction;
+use dolzhytik::fallible::laws::insn::{plain_instruction, plain_instructions};
+use dolzhytik::fallible::laws::sections::{plain_entity, plain_memory};
+use dolzhytik::fallible::{Import, ImportSection, MemorySection, MemoryType};
 
 /// The function gains an instruction that is handed in: its alignments alone have to be below 16.
 ///

@@ -1,11 +1,11 @@
 // Written by tools/to-rust from crates/examples/src/large.rt: change that.
 // Numbers of 64 bits.
 
-use dolzhytik::vec::Vec;
-use dolzhytik::alloc::Allocator;
-use dolzhytik::base::{Module, R, ValType};
-use dolzhytik::code::ConstExpr;
-use dolzhytik::sections::{GlobalSection, GlobalType, MemorySection, MemoryType};
+use dolzhytik::fallible::Vec;
+use dolzhytik::fallible::Allocator;
+use dolzhytik::fallible::{Module, R, ValType};
+use dolzhytik::fallible::ConstExpr;
+use dolzhytik::fallible::{GlobalSection, GlobalType, MemorySection, MemoryType};
 
 /// A module of a memory whose addresses have 64 bits, and of a constant that needs more than 32.
 ///

@@ -1,11 +1,11 @@
 // Written by tools/to-rust from crates/examples/src/lowering.rt: change that.
 // A compiler from the operations of a stack machine.
 
-use dolzhytik::alloc::Allocator;
-use dolzhytik::base::{R, ValType};
-use dolzhytik::code::Function;
-use dolzhytik::immediates::BlockType;
-use dolzhytik::insn::{Instruction, Numeric};
+use dolzhytik::fallible::Allocator;
+use dolzhytik::fallible::{R, ValType};
+use dolzhytik::fallible::Function;
+use dolzhytik::fallible::BlockType;
+use dolzhytik::fallible::{Instruction, Numeric};
 
 /// What is done with two numbers of 32 bits.
 #[derive(Clone, Copy, Debug)]

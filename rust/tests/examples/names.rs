@@ -1,12 +1,12 @@
 // Written by tools/to-rust from crates/examples/src/names.rt: change that.
 // A module with names for debuggers.
 
-use dolzhytik::vec::Vec;
+use dolzhytik::fallible::Vec;
 use crate::examples::bodies::first_function;
-use dolzhytik::alloc::Allocator;
-use dolzhytik::base::{Module, R};
-use dolzhytik::code::CodeSection;
-use dolzhytik::custom::{IndirectNameMap, NameMap, NameSection};
+use dolzhytik::fallible::Allocator;
+use dolzhytik::fallible::{Module, R};
+use dolzhytik::fallible::CodeSection;
+use dolzhytik::fallible::{IndirectNameMap, NameMap, NameSection};
 
 /// A module of one function, which does nothing, and of its names.
 ///

@@ -1,15 +1,15 @@
 // Written by tools/to-rust from crates/examples/src/object.rt: change that.
 // A module for a linker: hints, symbols and producers beside the code.
 
-use dolzhytik::vec::Vec;
+use dolzhytik::fallible::Vec;
 use crate::examples::whole::memories;
-use dolzhytik::alloc::Allocator;
-use dolzhytik::base::{Module, R, ValType};
-use dolzhytik::code::{CodeSection, Function};
-use dolzhytik::custom::{BranchHint, BranchHints, LinkingSection, ProducersField, ProducersSection, SymbolTable};
-use dolzhytik::immediates::{BlockType, MemArg, MemArgTarget};
-use dolzhytik::sections::FunctionSection;
-use dolzhytik::types::TypeSection;
+use dolzhytik::fallible::Allocator;
+use dolzhytik::fallible::{Module, R, ValType};
+use dolzhytik::fallible::{CodeSection, Function};
+use dolzhytik::fallible::{BranchHint, BranchHints, LinkingSection, ProducersField, ProducersSection, SymbolTable};
+use dolzhytik::fallible::{BlockType, MemArg, MemArgTarget};
+use dolzhytik::fallible::FunctionSection;
+use dolzhytik::fallible::TypeSection;
 
 /// The number of 32 bits that stands 8 bytes behind an address.
 const NUMBER: MemArg = MemArg {

@@ -1,13 +1,13 @@
 // Written by tools/to-rust from crates/examples/src/padded.rt: change that.
 // Sections of entries that are spelled already, with padded numbers.
 
-use dolzhytik::vec::Vec;
+use dolzhytik::fallible::Vec;
 use crate::examples::bodies::{first_function, local_function};
-use dolzhytik::alloc::Allocator;
-use dolzhytik::base::{Encode, Module, R, ValType};
-use dolzhytik::code::{CodeSection, ConstExpr};
-use dolzhytik::custom::NameSection;
-use dolzhytik::sections::{GlobalSection, GlobalType};
+use dolzhytik::fallible::Allocator;
+use dolzhytik::fallible::{Encode, Module, R, ValType};
+use dolzhytik::fallible::{CodeSection, ConstExpr};
+use dolzhytik::fallible::NameSection;
+use dolzhytik::fallible::{GlobalSection, GlobalType};
 
 /// A code section of a body whose number of runs is padded, and of a function, which gives the local of this index.
 ///

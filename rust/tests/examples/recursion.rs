@@ -1,10 +1,10 @@
 // Written by tools/to-rust from crates/examples/src/recursion.rt: change that.
 // Functions by named calls of a sink.
 
-use dolzhytik::alloc::Allocator;
-use dolzhytik::base::R;
-use dolzhytik::code::Function;
-use dolzhytik::insn::BlockType;
+use dolzhytik::fallible::Allocator;
+use dolzhytik::fallible::R;
+use dolzhytik::fallible::Function;
+use dolzhytik::fallible::BlockType;
 
 /// The factorial of its one parameter: 1 where this is 0, and else this times the factorial of the number below. `itself` is the
 /// index that the function has in its module.

@@ -1,11 +1,11 @@
 // Written by tools/to-rust from crates/examples/src/sums.rt: change that.
 // Global sections of a first value that is a sum.
 
-use dolzhytik::vec::Vec;
-use dolzhytik::alloc::Allocator;
-use dolzhytik::base::{Encode, R, ValType};
-use dolzhytik::code::ConstExpr;
-use dolzhytik::sections::{GlobalSection, GlobalType};
+use dolzhytik::fallible::Vec;
+use dolzhytik::fallible::Allocator;
+use dolzhytik::fallible::{Encode, R, ValType};
+use dolzhytik::fallible::ConstExpr;
+use dolzhytik::fallible::{GlobalSection, GlobalType};
 
 const CONSTANT: GlobalType = GlobalType {
     val_type: ValType::I32,

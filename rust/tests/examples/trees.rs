@@ -2,9 +2,9 @@
 // A compiler from trees.
 
 use crate::examples::lowering::{Operation, Operator, emit};
-use dolzhytik::alloc::Allocator;
-use dolzhytik::base::{R, ValType};
-use dolzhytik::code::Function;
+use dolzhytik::fallible::Allocator;
+use dolzhytik::fallible::{R, ValType};
+use dolzhytik::fallible::Function;
 
 /// An expression, whose value is a number of 32 bits.
 #[derive(Clone, Copy)]

@@ -1,12 +1,12 @@
 // Written by tools/to-rust from crates/examples/src/whole.rt: change that.
 // A module of eight sections.
 
-use dolzhytik::vec::Vec;
+use dolzhytik::fallible::Vec;
 use crate::examples::recursion::factorial;
-use dolzhytik::alloc::Allocator;
-use dolzhytik::base::{Module, R, RawSection, ValType};
-use dolzhytik::code::{CodeSection, ConstExpr, Function};
-use dolzhytik::sections::{EntityType, ExportKind, ExportSection, FunctionSection, GlobalSection, GlobalType, ImportSection, MemorySection, MemoryType, StartSection};
+use dolzhytik::fallible::Allocator;
+use dolzhytik::fallible::{Module, R, RawSection, ValType};
+use dolzhytik::fallible::{CodeSection, ConstExpr, Function};
+use dolzhytik::fallible::{EntityType, ExportKind, ExportSection, FunctionSection, GlobalSection, GlobalType, ImportSection, MemorySection, MemoryType, StartSection};
 
 /// A module that imports a function, has a global and a memory, and replaces the global by its factorial when it starts.
 ///

@@ -1,6 +1,6 @@
 //! Outlines.
 use crate::samples::{PADDED, PADDED_NAME, SHORT, UNREAD, custom, module};
-use dolzhytik::alloc::Global;
+use dolzhytik::fallible::Global;
 use dolzhytik::reader::{Outlined, ReadFault, outline};
 
 fn line(id: u8, offset: usize, size: u32, items: Option<u32>) -> Outlined<'static> {

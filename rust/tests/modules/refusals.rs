@@ -1,8 +1,7 @@
 //! Each request for memory refused in turn.
 use crate::samples::{PADDED, PADDED_NAME, SHORT, SHORT_NAME, UNREAD, module};
-use dolzhytik::alloc::{AllocError, Allocator};
+use dolzhytik::fallible::{AllocError, Allocator, Vec};
 use dolzhytik::reader::{ModuleFault, Offsets, ReadFault, outline, shorten_module};
-use dolzhytik::vec::Vec;
 use std::cell::Cell;
 
 /// Grants so many requests.

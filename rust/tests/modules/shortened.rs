@@ -1,8 +1,7 @@
 //! Modules that are shortened.
 use crate::samples::{PADDED, PADDED_NAME, SHORT, SHORT_NAME, UNREAD, bytes_of, custom, module};
-use dolzhytik::alloc::Global;
+use dolzhytik::fallible::{Global, Vec};
 use dolzhytik::reader::{ModuleFault, Offsets, ReadFault, shorten_module};
-use dolzhytik::vec::Vec;
 
 /// What a sink has before, which is none of the module's.
 const BEFORE: [u8; 2] = [0xAA, 0x03];

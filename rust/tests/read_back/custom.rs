@@ -1,13 +1,13 @@
 // Written by tools/to-rust from crates/read_back/src/custom.rt: change that.
 //! Custom sections: names, what a linker needs, producers, hints, and any name and data.
 
-use dolzhytik::vec::{Sink, Vec};
+use dolzhytik::fallible::{Sink, Vec};
 use crate::read_back::read_and_shorten;
-use dolzhytik::alloc::Allocator;
-use dolzhytik::base::{CowSlice, CowStr, Encode, R};
-use dolzhytik::custom::{BranchHint, BranchHints, CustomSection, DataSymbolDefinition, LinkingSection, NameItem, NameSection, ProducersField, ProducersSection, SymbolTable, append_names, read_names};
+use dolzhytik::fallible::Allocator;
+use dolzhytik::fallible::{CowSlice, CowStr, Encode, R};
+use dolzhytik::fallible::{BranchHint, BranchHints, CustomSection, DataSymbolDefinition, LinkingSection, NameItem, NameSection, ProducersField, ProducersSection, SymbolTable, append_names, read_names};
 use dolzhytik::reader::{Items, SectionKind};
-use dolzhytik::reader::base::ReadFault;
+use dolzhytik::reader::ReadFault;
 
 /// Writes a name section: the name of the module, and bytes of an id that no call names.
 ///

@@ -1,15 +1,15 @@
 // Written by tools/to-rust from crates/read_back/src/declared.rt: change that.
 //! Sections that declare things: types, imports, tables, memories, tags and exports.
 
-use dolzhytik::vec::Vec;
+use dolzhytik::fallible::Vec;
 use crate::read_back::read_and_shorten;
 use crate::callers::first_values::encode_null_tables;
-use dolzhytik::alloc::Allocator;
-use dolzhytik::base::{Encode, R};
+use dolzhytik::fallible::Allocator;
+use dolzhytik::fallible::{Encode, R};
 use dolzhytik::reader::{Items, SectionKind};
-use dolzhytik::reader::base::ReadFault;
-use dolzhytik::sections::{EntityType, ExportKind, ExportSection, ImportSection, MemorySection, MemoryType, TagKind, TagSection, TagType};
-use dolzhytik::types::{ArrayType, CompositeInnerType, CompositeType, FieldType, StorageType, SubType, TypeSection};
+use dolzhytik::reader::ReadFault;
+use dolzhytik::fallible::{EntityType, ExportKind, ExportSection, ImportSection, MemorySection, MemoryType, TagKind, TagSection, TagType};
+use dolzhytik::fallible::{ArrayType, CompositeInnerType, CompositeType, FieldType, StorageType, SubType, TypeSection};
 
 /// A byte that can be set.
 const BYTE: FieldType = FieldType {

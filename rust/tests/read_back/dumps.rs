@@ -1,13 +1,13 @@
 // Written by tools/to-rust from crates/read_back/src/dumps.rt: change that.
 //! Core dumps: the process, its modules, its instances, and the stack of a thread.
 
-use dolzhytik::vec::Vec;
+use dolzhytik::fallible::Vec;
 use crate::read_back::read_and_shorten;
-use dolzhytik::alloc::Allocator;
-use dolzhytik::base::{Encode, Module, R};
-use dolzhytik::custom::{CoreDumpInstancesSection, CoreDumpModulesSection, CoreDumpSection, CoreDumpStackSection, CoreDumpValue};
+use dolzhytik::fallible::Allocator;
+use dolzhytik::fallible::{Encode, Module, R};
+use dolzhytik::fallible::{CoreDumpInstancesSection, CoreDumpModulesSection, CoreDumpSection, CoreDumpStackSection, CoreDumpValue};
 use dolzhytik::reader::{Items, SectionKind};
-use dolzhytik::reader::base::ReadFault;
+use dolzhytik::reader::ReadFault;
 
 /// Writes the section of a process.
 ///

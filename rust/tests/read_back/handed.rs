@@ -1,14 +1,14 @@
 // Written by tools/to-rust from crates/read_back/src/handed.rt: change that.
 //! What is handed in: a raw body, whatever it spells, a custom section, made and spelled already, and functions and exports of a list.
 
-use dolzhytik::vec::Vec;
+use dolzhytik::fallible::Vec;
 use crate::read_back::declared::tags;
-use dolzhytik::alloc::Allocator;
-use dolzhytik::base::{CowSlice, CowStr, Encode, Module, R, add_all};
-use dolzhytik::code::{CodeSection, Function};
-use dolzhytik::custom::{CustomSection, RawCustomSection};
-use dolzhytik::sections::laws::plain_exports;
-use dolzhytik::sections::{Export, ExportSection};
+use dolzhytik::fallible::Allocator;
+use dolzhytik::fallible::{CowSlice, CowStr, Encode, Module, R, add_all};
+use dolzhytik::fallible::{CodeSection, Function};
+use dolzhytik::fallible::{CustomSection, RawCustomSection};
+use dolzhytik::fallible::laws::sections::plain_exports;
+use dolzhytik::fallible::{Export, ExportSection};
 
 /// A code section of a raw body.
 ///

@@ -1,7 +1,7 @@
 // Written by tools/to-rust from crates/read_back/src/lib.rt: change that.
 //! Callers of the reader, which prove what it answers of each kind of section that a builder writes; sections of padded numbers, and of what is handed in.
 
-use dolzhytik::vec::{Sink, Vec};
+use dolzhytik::fallible::{Sink, Vec};
 pub mod custom;
 pub mod declared;
 pub mod dumps;
@@ -9,12 +9,12 @@ pub mod handed;
 pub mod padded;
 pub mod stored;
 
-use dolzhytik::alloc::Allocator;
-use dolzhytik::base::{Encode, R};
-use dolzhytik::custom::{NameMap, NameSection};
+use dolzhytik::fallible::Allocator;
+use dolzhytik::fallible::{Encode, R};
+use dolzhytik::fallible::{NameMap, NameSection};
 use dolzhytik::reader::{Items, ModuleFault, Offsets, SectionKind, laws, read_section, shorten, shorten_module};
-use dolzhytik::reader::base::{ReadFault, Shorten};
-use dolzhytik::sections::FunctionSection;
+use dolzhytik::reader::{ReadFault, Shorten};
+use dolzhytik::fallible::FunctionSection;
 
 /// Reads the section of this kind that a buffer holds, and shortens it.
 ///

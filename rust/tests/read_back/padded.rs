@@ -1,16 +1,16 @@
 // Written by tools/to-rust from crates/read_back/src/padded.rt: change that.
 //! Sections of which some numbers are padded: expressions and entries that are spelled already.
 
-use dolzhytik::vec::Vec;
+use dolzhytik::fallible::Vec;
 use crate::read_back::read_and_shorten;
 use crate::read_back::stored::of_nothing;
-use dolzhytik::alloc::Allocator;
-use dolzhytik::base::{CowSlice, Encode, Module, R, RefType};
-use dolzhytik::code::{CodeSection, ConstExpr};
-use dolzhytik::custom::NameSection;
+use dolzhytik::fallible::Allocator;
+use dolzhytik::fallible::{CowSlice, Encode, Module, R, RefType};
+use dolzhytik::fallible::{CodeSection, ConstExpr};
+use dolzhytik::fallible::NameSection;
 use dolzhytik::reader::{Items, SectionKind};
-use dolzhytik::reader::base::ReadFault;
-use dolzhytik::sections::{DataSection, ElementSection, Elements, TableSection, TableType};
+use dolzhytik::reader::ReadFault;
+use dolzhytik::fallible::{DataSection, ElementSection, Elements, TableSection, TableType};
 
 /// The offset 0, whose number has two bytes.
 ///

@@ -1,15 +1,15 @@
 // Written by tools/to-rust from crates/read_back/src/stored.rt: change that.
 //! Sections that store things: globals, elements, data and code, and sections of one number.
 
-use dolzhytik::vec::{Sink, Vec};
+use dolzhytik::fallible::{Sink, Vec};
 use crate::read_back::read_and_shorten;
 use crate::callers::first_values::encode_copied;
-use dolzhytik::alloc::Allocator;
-use dolzhytik::base::{CowSlice, Encode, R, ValType};
-use dolzhytik::code::{CodeSection, ConstExpr, Function};
+use dolzhytik::fallible::Allocator;
+use dolzhytik::fallible::{CowSlice, Encode, R, ValType};
+use dolzhytik::fallible::{CodeSection, ConstExpr, Function};
 use dolzhytik::reader::{Items, SectionKind};
-use dolzhytik::reader::base::ReadFault;
-use dolzhytik::sections::{DataCountSection, DataSection, ElementMode, ElementSection, ElementSegment, Elements, StartSection};
+use dolzhytik::reader::ReadFault;
+use dolzhytik::fallible::{DataCountSection, DataSection, ElementMode, ElementSection, ElementSegment, Elements, StartSection};
 
 /// Reads a global section of one global, which has the value of another, and shortens it.
 ///

@@ -1,6 +1,6 @@
 //! What the tests' host is in Rattle: the runtime that a test is handed, and what stops it.
 #![allow(dead_code, unused_macros, reason = "no test program uses all of it")]
-use dolzhytik::alloc::Global;
+use dolzhytik::fallible::Global;
 
 /// The runtime that a test is handed.
 pub struct HostRuntime;
@@ -41,7 +41,7 @@ macro_rules! panic {
 
 macro_rules! format {
     (in $alloc:expr; $($rest:tt)*) => {{
-        let _: &dyn dolzhytik::alloc::Allocator = &$alloc;
+        let _: &dyn dolzhytik::fallible::Allocator = &$alloc;
         Ok::<_, std::fmt::Error>(::std::format!($($rest)*))
     }};
 }

@@ -1,5 +1,5 @@
 //! An allocator that refuses the requests that a test names.
-use dolzhytik::alloc::{AllocError, Allocator};
+use dolzhytik::fallible::{AllocError, Allocator};
 use std::cell::Cell;
 
 /// An allocator over another one, which refuses the requests that a test names and counts them all. A test lends it: a `&Refusing<B>` is an allocator too, and is `Copy`.

@@ -2,7 +2,7 @@
 // What all tests refuse requests with.
 
 use crate::test_support::memory::Refusing;
-use dolzhytik::alloc::Global;
+use dolzhytik::fallible::Global;
 
 /// More requests than any call in a test makes, and more reads and writes.
 pub const MOST: u64 = 100;

@@ -1,8 +1,8 @@
 // Written by tools/to-rust from crates/test_support/src/streams.rt: change that.
 //! Readers and writers that fail at a call that a test names.
 
-use dolzhytik::vec::Vec;
-use dolzhytik::alloc::Allocator;
+use dolzhytik::fallible::Vec;
+use dolzhytik::fallible::Allocator;
 use std::io::{Error, ErrorKind, Read, Result, Write};
 
 /// Counts calls down to the one that fails.

@@ -1,11 +1,11 @@
 // Written by tools/to-rust from tests/wasm_custom_tests/src/checks.rtt: change that.
 // What tests compare, over plain data: an assertion beside values that own memory takes far longer to prove.
 
-use dolzhytik::vec::Vec;
-use dolzhytik::alloc::Global;
+use dolzhytik::fallible::Vec;
+use dolzhytik::fallible::Global;
 use crate::host::Abort;
 use crate::test_support::Heap;
-use dolzhytik::base::{Encode, R, Refused, Section};
+use dolzhytik::fallible::{Encode, R, Refused, Section};
 
 /// It is so.
 pub(crate) fn check_that(rt: &impl Abort, holds: bool) {

@@ -2,10 +2,10 @@
 // Core dumps: each call once, with ample memory.
 
 use crate::checks::{check, check_bytes, check_len, check_text};
-use dolzhytik::alloc::Global;
+use dolzhytik::fallible::Global;
 use crate::host::Abort;
-use dolzhytik::custom::{CoreDumpInstancesSection, CoreDumpModulesSection, CoreDumpSection, CoreDumpStackSection, CoreDumpValue, CustomSection};
-use dolzhytik::immediates::{Ieee32, Ieee64};
+use dolzhytik::fallible::{CoreDumpInstancesSection, CoreDumpModulesSection, CoreDumpSection, CoreDumpStackSection, CoreDumpValue, CustomSection};
+use dolzhytik::fallible::{Ieee32, Ieee64};
 
 #[test]
 fn process() {

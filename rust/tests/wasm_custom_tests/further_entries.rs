@@ -1,12 +1,12 @@
 // Written by tools/to-rust from tests/wasm_custom_tests/src/further_entries.rtt: change that.
 // Adds to sections and lists that hold entries, each request for memory refused in turn.
 
-use dolzhytik::vec::Vec;
+use dolzhytik::fallible::Vec;
 use crate::checks::check_that;
 use crate::refusals::{LentEntries, LentList, ListCalls, SectionCalls, check_written};
 use crate::host::Abort;
 use crate::test_support::{Heap, MOST};
-use dolzhytik::base::{Encode, R, Refused};
+use dolzhytik::fallible::{Encode, R, Refused};
 
 /// What entries are added to.
 pub(crate) trait Growing: Encode {

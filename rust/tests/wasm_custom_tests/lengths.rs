@@ -4,8 +4,8 @@
 use crate::checks::check_text;
 use std::cell::Cell;
 use crate::host::Abort;
-use dolzhytik::base::{R, Refused};
-use dolzhytik::custom::{BranchHint, BranchHints, CoreDumpInstancesSection, CoreDumpStackSection, CoreDumpValue};
+use dolzhytik::fallible::{R, Refused};
+use dolzhytik::fallible::{BranchHint, BranchHints, CoreDumpInstancesSection, CoreDumpStackSection, CoreDumpValue};
 
 /// One more than a vector can count.
 const TOO_MANY: usize = 4294967296;

@@ -2,7 +2,7 @@
 // The name section and its maps: each call once, with ample memory. Calls that take a map stand in `refusals.rt`, where each is granted all in the end.
 
 use crate::checks::{check, check_bytes, check_len, check_text, check_that};
-use dolzhytik::custom::{IndirectNameMap, NameMap, NameSection};
+use dolzhytik::fallible::{IndirectNameMap, NameMap, NameSection};
 
 #[test]
 fn module() {

@@ -1,14 +1,14 @@
 // Written by tools/to-rust from tests/wasm_custom_tests/src/refusals.rtt: change that.
 // Each request of an adding call for memory refused in turn: the answer is `Memory`, and what was given is as before.
 
-use dolzhytik::vec::Vec;
+use dolzhytik::fallible::Vec;
 use crate::checks::{check_answer, check_bytes, check_refused, check_that};
 use crate::further_entries::check_further;
-use dolzhytik::alloc::Global;
+use dolzhytik::fallible::Global;
 use crate::host::Abort;
 use crate::test_support::{Heap, MOST, Refusing};
-use dolzhytik::base::{Encode, R, Section};
-use dolzhytik::custom::{BranchHint, CountedList, CustomEntries, CustomKind, DataSymbolDefinition, HintItems, IndirectMembers, IndirectNameMap, InstanceItems, LinkingItems, ListKind, ModuleItems, NameItems, NameMap, NameMembers, ProducerItems, ProducersField, SymbolKind, SymbolMembers, SymbolTable, ValueMembers};
+use dolzhytik::fallible::{Encode, R, Section};
+use dolzhytik::fallible::{BranchHint, CountedList, CustomEntries, CustomKind, DataSymbolDefinition, HintItems, IndirectMembers, IndirectNameMap, InstanceItems, LinkingItems, ListKind, ModuleItems, NameItems, NameMap, NameMembers, ProducerItems, ProducersField, SymbolKind, SymbolMembers, SymbolTable, ValueMembers};
 
 /// A section that takes its memory from an allocator that refuses.
 pub(crate) type LentEntries<'h, K> = CustomEntries<K, &'h Refusing<Global>>;

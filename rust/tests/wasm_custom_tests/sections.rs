@@ -1,13 +1,13 @@
 // Written by tools/to-rust from tests/wasm_custom_tests/src/sections.rtt: change that.
 // Custom sections, linking, producers and hints: each call once, with ample memory.
 
-use dolzhytik::vec::Vec;
-use dolzhytik::string::String;
+use dolzhytik::fallible::{Vec, String};
 use crate::checks::{check, check_len, check_text, check_that};
-use dolzhytik::alloc::Global;
+use dolzhytik::fallible::Global;
 use crate::host::Abort;
-use dolzhytik::base::{CowSlice, CowStr, R};
-use dolzhytik::custom::{BranchHint, BranchHints, CustomSection, DataSymbolDefinition, LinkingSection, ProducersField, ProducersSection, RawCustomSection, SymbolTable, laws};
+use dolzhytik::fallible::{CowSlice, CowStr, R};
+use dolzhytik::fallible::{BranchHint, BranchHints, CustomSection, DataSymbolDefinition, LinkingSection, ProducersField, ProducersSection, RawCustomSection, SymbolTable};
+use dolzhytik::fallible::laws::custom as laws;
 
 const TEST: CustomSection<'static> = CustomSection {
     name: CowStr::Borrowed("test"),

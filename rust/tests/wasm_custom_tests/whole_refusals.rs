@@ -1,15 +1,14 @@
 // Written by tools/to-rust from tests/wasm_custom_tests/src/whole_refusals.rtt: change that.
 // Each request of constructors, copies, `as_custom` and sections without entries for memory refused in turn.
 
-use dolzhytik::vec::Vec;
-use dolzhytik::string::String;
+use dolzhytik::fallible::{Vec, String};
 use crate::checks::check_answer;
 use crate::further_entries::{Growing, check_further};
 use crate::refusals::{check_append_to, check_copy, check_encode, check_written};
 use crate::host::Abort;
 use crate::test_support::{Heap, MOST, Refusing};
-use dolzhytik::base::{CowSlice, CowStr, Encode, R};
-use dolzhytik::custom::{BranchHint, CoreDumpInstancesSection, CoreDumpModulesSection, CoreDumpSection, CoreDumpStackSection, CoreDumpValue, CustomSection, DataSymbolDefinition, RawCustomSection};
+use dolzhytik::fallible::{CowSlice, CowStr, Encode, R};
+use dolzhytik::fallible::{BranchHint, CoreDumpInstancesSection, CoreDumpModulesSection, CoreDumpSection, CoreDumpStackSection, CoreDumpValue, CustomSection, DataSymbolDefinition, RawCustomSection};
 
 /// The call gives an item of these bytes, or is refused.
 fn check_made<'h, T: Encode, F: Fn() -> R<T>>(

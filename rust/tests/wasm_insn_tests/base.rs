@@ -1,10 +1,11 @@
 // Written by tools/to-rust from tests/wasm_insn_tests/src/base.rtt: change that.
 // Each call of `wasm_base` once, with ample memory.
 
-use dolzhytik::vec::Vec;
+use dolzhytik::fallible::Vec;
 use crate::checks::{check, check_bytes, check_numbers, check_piece};
 use crate::host::Abort;
-use dolzhytik::base::{CORE_FUNCTION_EXACT_SORT, CORE_FUNCTION_SORT, CORE_GLOBAL_SORT, CORE_MEMORY_SORT, CORE_TABLE_SORT, CORE_TAG_SORT, Encode, Module, Pieces, RawSection, Refused, Section, SectionId, begin_frame, encode_frame, encode_section, encode_vec, encoding_size, laws};
+use dolzhytik::fallible::{CORE_FUNCTION_EXACT_SORT, CORE_FUNCTION_SORT, CORE_GLOBAL_SORT, CORE_MEMORY_SORT, CORE_TABLE_SORT, CORE_TAG_SORT, Encode, Module, Pieces, RawSection, Refused, Section, SectionId, begin_frame, encode_frame, encode_section, encode_vec, encoding_size};
+use dolzhytik::fallible::laws::base as laws;
 
 #[test]
 fn unsigned_numbers() {

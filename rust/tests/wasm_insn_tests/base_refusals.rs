@@ -1,12 +1,12 @@
 // Written by tools/to-rust from tests/wasm_insn_tests/src/base_refusals.rtt: change that.
 // Each request of `wasm_base` for memory refused in turn: the answer is `Memory`, and what was given is as before.
 
-use dolzhytik::vec::Vec;
+use dolzhytik::fallible::Vec;
 use crate::checks::{check_bytes, check_call, check_refusals, check_refused};
-use dolzhytik::alloc::Global;
+use dolzhytik::fallible::Global;
 use crate::host::Abort;
 use crate::test_support::{MOST, Refusing};
-use dolzhytik::base::{Encode, Module, Pieces, R, RawSection, Refused, Section, encode_section, encode_vec};
+use dolzhytik::fallible::{Encode, Module, Pieces, R, RawSection, Refused, Section, encode_section, encode_vec};
 
 const TYPES: RawSection<'static> = RawSection {
     id: 1,

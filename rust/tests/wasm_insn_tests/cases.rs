@@ -2,9 +2,9 @@
 // Written by tools/instructions from tools/instructions.tsv: do not edit.
 //! A value of each instruction, in the order of their opcodes within each enum.
 
-use dolzhytik::alloc::Global;
-use dolzhytik::base::{AbstractHeapType, CowSlice, HeapType, RefType, ValType};
-use dolzhytik::insn::{Aggregate, Atomic, BlockType, Catch, Handle, Ieee32, Ieee64, Instruction, MemArg, MemArgTarget, Numeric, Ordering, PrefixedNumeric, Vector, VectorImmediate};
+use dolzhytik::fallible::Global;
+use dolzhytik::fallible::{AbstractHeapType, CowSlice, HeapType, RefType, ValType};
+use dolzhytik::fallible::{Aggregate, Atomic, BlockType, Catch, Handle, Ieee32, Ieee64, Instruction, MemArg, MemArgTarget, Numeric, Ordering, PrefixedNumeric, Vector, VectorImmediate};
 
 const MEMARG: MemArg = MemArg {
     offset: 300,

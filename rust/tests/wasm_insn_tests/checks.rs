@@ -1,11 +1,11 @@
 // Written by tools/to-rust from tests/wasm_insn_tests/src/checks.rtt: change that.
 // What tests compare, over plain data: an assertion beside values that own memory takes far longer to prove.
 
-use dolzhytik::vec::Vec;
-use dolzhytik::alloc::Global;
+use dolzhytik::fallible::Vec;
+use dolzhytik::fallible::Global;
 use crate::host::Abort;
 use crate::test_support::{Heap, MOST, Refusing};
-use dolzhytik::base::{Encode, R, Refused};
+use dolzhytik::fallible::{Encode, R, Refused};
 
 /// The bytes are these.
 pub(crate) fn check_bytes(rt: &impl Abort, bytes: &[u8], expected: &[u8]) {
@@ -60,7 +60,7 @@ fn check_text(rt: &impl Abort, text: &str, expected: &str) {
 
 /// The bytes are these, in hexadecimal.
 pub(crate) fn check_hex(rt: &impl Abort, alloc: Global, bytes: &[u8], row: &str) {
-    let text = dolzhytik::hex::encode(alloc, bytes).expect("accepted");
+    let text = dolzhytik::fallible::hex::encode(alloc, bytes).expect("accepted");
     check_text(rt, text.as_str(), row);
 }
 

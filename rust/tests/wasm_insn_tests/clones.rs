@@ -1,13 +1,13 @@
 // Written by tools/to-rust from tests/wasm_insn_tests/src/clones.rtt: change that.
 //! A clone takes memory for the lists that an instruction owns, and answers `Memory` where it is refused.
 
-use dolzhytik::vec::Vec;
+use dolzhytik::fallible::Vec;
 use crate::checks::{check_refused, check_row};
-use dolzhytik::alloc::Global;
+use dolzhytik::fallible::Global;
 use crate::host::Abort;
 use crate::test_support::{Heap, Refusing};
-use dolzhytik::base::{CowSlice, R, ValType};
-use dolzhytik::insn::{BlockType, Catch, Handle, Instruction};
+use dolzhytik::fallible::{CowSlice, R, ValType};
+use dolzhytik::fallible::{BlockType, Catch, Handle, Instruction};
 
 /// The clone's one request is refused, and then granted. The instruction is as it was.
 fn check_clone(

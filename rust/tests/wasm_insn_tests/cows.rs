@@ -1,12 +1,11 @@
 // Written by tools/to-rust from tests/wasm_insn_tests/src/cows.rtt: change that.
 // Slices and text that are borrowed or owned.
 
-use dolzhytik::vec::Vec;
-use dolzhytik::string::String;
+use dolzhytik::fallible::{Vec, String};
 use crate::checks::{check, check_refused};
 use crate::host::Abort;
 use crate::test_support::{Heap, Refusing};
-use dolzhytik::base::{CowSlice, CowStr};
+use dolzhytik::fallible::{CowSlice, CowStr};
 
 /// The slice is 1 and 128.
 fn check_slice(rt: &impl Abort, slice: &[u32]) {

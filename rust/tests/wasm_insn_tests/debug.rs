@@ -2,8 +2,8 @@
 // Derived `Debug` texts of instructions' parts and of parts of layouts.
 
 use crate::host::Abort;
-use dolzhytik::base::{Lent, Optional, bytes_of, vec_of};
-use dolzhytik::insn::{Aggregate, Atomic, Ieee32, MemArg, MemArgTarget, Numeric, Ordering, PrefixedNumeric, Vector, VectorImmediate};
+use dolzhytik::fallible::{Lent, Optional, bytes_of, vec_of};
+use dolzhytik::fallible::{Aggregate, Atomic, Ieee32, MemArg, MemArgTarget, Numeric, Ordering, PrefixedNumeric, Vector, VectorImmediate};
 
 /// The text is this.
 fn check_text(rt: &impl Abort, text: &str, expected: &str) {

@@ -1,11 +1,10 @@
 // Written by tools/to-rust from tests/wasm_insn_tests/src/encode_refusals.rtt: change that.
 // `encode` of numbers, types and immediates, each request for memory refused in turn: the answer is `Memory`, and the sink is as before.
 
-use dolzhytik::vec::Vec;
-use dolzhytik::string::String;
+use dolzhytik::fallible::{Vec, String};
 use crate::checks::check_refusals;
-use dolzhytik::base::{AbstractHeapType, CowSlice, CowStr, HeapType, RefType, ValType};
-use dolzhytik::insn::{BlockType, Catch, Handle, Ieee32, Ieee64, MemArg, MemArgOrdering, MemArgTarget, Op, Ordering};
+use dolzhytik::fallible::{AbstractHeapType, CowSlice, CowStr, HeapType, RefType, ValType};
+use dolzhytik::fallible::{BlockType, Catch, Handle, Ieee32, Ieee64, MemArg, MemArgOrdering, MemArgTarget, Op, Ordering};
 
 #[test]
 fn numbers() {

@@ -2,9 +2,9 @@
 //! Instructions whose bytes are known from the format's documents.
 
 use crate::checks::check;
-use dolzhytik::alloc::Global;
-use dolzhytik::base::{AbstractHeapType, CowSlice, HeapType, RefType, ValType};
-use dolzhytik::insn::{Atomic, BlockType, Catch, Handle, Ieee32, Instruction, MemArg, MemArgOrdering, MemArgTarget, Ordering, Vector, VectorImmediate};
+use dolzhytik::fallible::Global;
+use dolzhytik::fallible::{AbstractHeapType, CowSlice, HeapType, RefType, ValType};
+use dolzhytik::fallible::{Atomic, BlockType, Catch, Handle, Ieee32, Instruction, MemArg, MemArgOrdering, MemArgTarget, Ordering, Vector, VectorImmediate};
 
 const ANY: HeapType = HeapType::Abstract {
     shared: false,

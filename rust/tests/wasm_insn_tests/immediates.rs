@@ -2,8 +2,8 @@
 //! Values whose bytes are known from the format's documents.
 
 use crate::checks::check;
-use dolzhytik::base::{AbstractHeapType, HeapType, RefType, ValType};
-use dolzhytik::insn::{BlockType, Catch, Handle, Ieee32, Ieee64, MemArg, MemArgOrdering, MemArgTarget, Op, Ordering};
+use dolzhytik::fallible::{AbstractHeapType, HeapType, RefType, ValType};
+use dolzhytik::fallible::{BlockType, Catch, Handle, Ieee32, Ieee64, MemArg, MemArgOrdering, MemArgTarget, Op, Ordering};
 
 const ANY: HeapType = HeapType::Abstract {
     shared: false,

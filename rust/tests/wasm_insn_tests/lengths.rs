@@ -1,11 +1,11 @@
 // Written by tools/to-rust from tests/wasm_insn_tests/src/lengths.rtt: change that.
 // Lengths that are too long are answered before any item is asked for.
 
-use dolzhytik::vec::Vec;
+use dolzhytik::fallible::Vec;
 use std::cell::Cell;
 use crate::host::Abort;
-use dolzhytik::base::{R, Refused, encode_vec};
-use dolzhytik::insn::InstructionSink;
+use dolzhytik::fallible::{R, Refused, encode_vec};
+use dolzhytik::fallible::InstructionSink;
 
 /// Labels, which count how often one was asked for.
 struct CountedLabels<'a> {

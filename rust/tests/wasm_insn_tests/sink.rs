@@ -1,11 +1,11 @@
 // Written by tools/to-rust from tests/wasm_insn_tests/src/sink.rtt: change that.
 //! Each named call of the sink writes the bytes of its instruction, and leaves the buffer where memory is refused.
 
-use dolzhytik::vec::Vec;
+use dolzhytik::fallible::Vec;
 use crate::checks::check_call;
 use crate::test_support::Refusing;
-use dolzhytik::base::{HeapType, R, ValType};
-use dolzhytik::insn::{BlockType, Buffer, Ieee32, Ieee64, InstructionSink, MemArg, MemArgTarget, Op};
+use dolzhytik::fallible::{HeapType, R, ValType};
+use dolzhytik::fallible::{BlockType, Buffer, Ieee32, Ieee64, InstructionSink, MemArg, MemArgTarget, Op};
 
 const MEMARG: MemArg = MemArg {
     offset: 4,

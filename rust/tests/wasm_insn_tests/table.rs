@@ -1,13 +1,13 @@
 // Written by tools/to-rust from tests/wasm_insn_tests/src/table.rtt: change that.
 //! Each instruction of the opcode table has the bytes of its row.
 
-use dolzhytik::vec::Vec;
+use dolzhytik::fallible::Vec;
 use crate::checks::{check_hex, check_refusals, check_row};
 use crate::{cases, rows};
-use dolzhytik::alloc::Global;
+use dolzhytik::fallible::Global;
 use crate::host::Abort;
-use dolzhytik::base::Encode;
-use dolzhytik::insn::{Aggregate, Atomic, Instruction, Numeric, PrefixedNumeric, Vector, VectorImmediate};
+use dolzhytik::fallible::Encode;
+use dolzhytik::fallible::{Aggregate, Atomic, Instruction, Numeric, PrefixedNumeric, Vector, VectorImmediate};
 
 /// The op is in the table.
 fn check_op(rt: &impl Abort, instruction: &Instruction<'_>, row: &str) {

@@ -1,16 +1,16 @@
 // Written by tools/to-rust from tests/wasm_reader_sections_tests/src/appended.rtt: change that.
 // Calls that append the minimal encoding of values that were decoded. Where a request for memory is refused, the sink is as it was.
 
-use dolzhytik::vec::Vec;
-use dolzhytik::alloc::Global;
+use dolzhytik::fallible::Vec;
+use dolzhytik::fallible::Global;
 use crate::host::Abort;
 use crate::test_support::{MOST, Refusing};
-use dolzhytik::base::{R, Refused};
-use dolzhytik::custom::{append_hints, append_instances, append_links, append_modules, append_names, append_process, append_producers, append_stack, read_hints, read_instances, read_links, read_modules, read_names, read_process, read_producers, read_stack};
-use dolzhytik::reader::base::{Framed, ReadFault, Shorten, append_all};
-use dolzhytik::reader::insn::shorten_body;
-use dolzhytik::sections::{append_imports, read_imports};
-use dolzhytik::types::{append_types, read_types};
+use dolzhytik::fallible::{R, Refused};
+use dolzhytik::fallible::{append_hints, append_instances, append_links, append_modules, append_names, append_process, append_producers, append_stack, read_hints, read_instances, read_links, read_modules, read_names, read_process, read_producers, read_stack};
+use dolzhytik::reader::{Framed, ReadFault, Shorten, append_all};
+use dolzhytik::reader::shorten_body;
+use dolzhytik::fallible::{append_imports, read_imports};
+use dolzhytik::fallible::{append_types, read_types};
 
 /// The byte that a sink has before a call.
 const BEFORE: u8 = 0xAA;

@@ -1,7 +1,7 @@
 // Written by tools/to-rust from tests/wasm_reader_sections_tests/src/called.rtt: change that.
 // The worked callers, each called once.
 
-use dolzhytik::vec::Vec;
+use dolzhytik::fallible::Vec;
 use crate::checks::check_bytes;
 use crate::callers::instructions::{append_call, append_end, append_sum, block};
 use crate::callers::readings::{load_of_alignment_16, pieces_of_a_constant};
@@ -9,11 +9,11 @@ use crate::examples::{encode_given_import, encode_memories, grow, grow_by_each};
 use crate::read_back::handed::{code_of, encode_listed_exports};
 use crate::read_back::{shortened_function, write_function, write_names, written_function, written_names};
 use crate::test_support::{MOST, Refusing};
-use dolzhytik::base::Encode;
-use dolzhytik::code::Function;
-use dolzhytik::insn::Instruction;
+use dolzhytik::fallible::Encode;
+use dolzhytik::fallible::Function;
+use dolzhytik::fallible::Instruction;
 use dolzhytik::reader::Items;
-use dolzhytik::sections::{EntityType, Export, ExportKind, Import, MemoryType};
+use dolzhytik::fallible::{EntityType, Export, ExportKind, Import, MemoryType};
 
 /// The name section of a module `m`, whose first function is `f`, without its id.
 const NAMES: &[u8] = &[

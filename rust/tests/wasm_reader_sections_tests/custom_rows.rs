@@ -2,7 +2,7 @@
 // Custom sections that are read back as their items, with ample memory.
 
 use crate::custom_seen::{Told, Value, read};
-use dolzhytik::alloc::Global;
+use dolzhytik::fallible::Global;
 use crate::host::Abort;
 use dolzhytik::reader::SectionKind;
 

@@ -1,8 +1,8 @@
 // Written by tools/to-rust from tests/wasm_reader_sections_tests/src/custom_seen.rtt: change that.
 // Items of custom sections as plain data.
 
-use dolzhytik::alloc::Global;
-use dolzhytik::custom::{CoreDumpValue, CoreFrame, DataSymbolDefinition, LinkItem, NameItem, Symbol};
+use dolzhytik::fallible::Global;
+use dolzhytik::fallible::{CoreDumpValue, CoreFrame, DataSymbolDefinition, LinkItem, NameItem, Symbol};
 use dolzhytik::reader::{Items, SectionKind, read_section};
 
 /// A value of a core dump.

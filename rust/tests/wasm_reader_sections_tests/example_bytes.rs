@@ -1,14 +1,14 @@
 // Written by tools/to-rust from tests/wasm_reader_sections_tests/src/example_bytes.rtt: change that.
 // Each example once, with ample memory.
 
-use dolzhytik::vec::Vec;
+use dolzhytik::fallible::Vec;
 use crate::checks::check_bytes;
 use crate::examples::{adding_module, choice, encode_exports, encode_group, encode_import, encode_local, encode_padded_body, encode_padded_globals, encode_padded_names, encode_reference, encode_sum, encode_sum_and_padded, factorial, filled_module, first_module, named_module, padded_module, whole_module};
-use dolzhytik::alloc::Global;
+use dolzhytik::fallible::Global;
 use crate::host::Abort;
 use crate::test_support::{MOST, Refusing};
-use dolzhytik::base::{R, Refused};
-use dolzhytik::sections::{Export, ExportKind};
+use dolzhytik::fallible::{R, Refused};
+use dolzhytik::fallible::{Export, ExportKind};
 
 #[test]
 fn module_of_one_section() {

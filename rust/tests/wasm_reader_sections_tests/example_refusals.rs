@@ -1,13 +1,13 @@
 // Written by tools/to-rust from tests/wasm_reader_sections_tests/src/example_refusals.rtt: change that.
 // Examples once with ample memory, and with each request refused.
 
-use dolzhytik::vec::Vec;
+use dolzhytik::fallible::Vec;
 use crate::checks::check_bytes;
 use crate::examples::{Expr, Operation, Operator, Statement, compile, compile_tree, compiled_module, large_module, lower, object_module};
-use dolzhytik::alloc::Global;
+use dolzhytik::fallible::Global;
 use crate::host::Abort;
 use crate::test_support::{MOST, Refusing};
-use dolzhytik::base::{Encode, R, Refused};
+use dolzhytik::fallible::{Encode, R, Refused};
 
 /// Each operation and each operator once.
 const OPERATIONS: [Operation; 16] = [

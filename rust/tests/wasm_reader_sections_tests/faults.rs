@@ -1,10 +1,10 @@
 // Written by tools/to-rust from tests/wasm_reader_sections_tests/src/faults.rtt: change that.
 // Sections that are none, and the causes.
 
-use dolzhytik::alloc::Global;
+use dolzhytik::fallible::Global;
 use crate::host::Abort;
 use dolzhytik::reader::{SectionKind, read_section};
-use dolzhytik::reader::base::ReadFault;
+use dolzhytik::reader::ReadFault;
 
 /// Nothing is read, for this cause.
 fn check(rt: &impl Abort, alloc: Global, kind: SectionKind, bytes: &[u8], expected: ReadFault) {

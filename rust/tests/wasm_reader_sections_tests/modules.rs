@@ -1,12 +1,12 @@
 // Written by tools/to-rust from tests/wasm_reader_sections_tests/src/modules.rtt: change that.
 // Lists of modules' sections.
 
-use dolzhytik::vec::Vec;
-use dolzhytik::alloc::Global;
+use dolzhytik::fallible::Vec;
+use dolzhytik::fallible::Global;
 use crate::host::Abort;
-use dolzhytik::base::R;
+use dolzhytik::fallible::R;
 use dolzhytik::reader::{Listed, list_module};
-use dolzhytik::reader::base::ReadFault;
+use dolzhytik::reader::ReadFault;
 
 /// The magic and version, and the bytes behind them.
 fn module(alloc: Global, sections: &[u8]) -> R<Vec<u8>> {

@@ -3,11 +3,11 @@
 
 use crate::rows::{BEFORE_BYTE, DATA, before_data};
 use crate::{custom_rows, faults, rows};
-use dolzhytik::alloc::Global;
+use dolzhytik::fallible::Global;
 use crate::host::Abort;
 use crate::test_support::{MOST, Refusing};
 use dolzhytik::reader::{SectionKind, list_module, read_section};
-use dolzhytik::reader::base::ReadFault;
+use dolzhytik::reader::ReadFault;
 
 /// What is asked of the reader.
 #[derive(Clone, Copy)]

@@ -1,14 +1,14 @@
 // Written by tools/to-rust from tests/wasm_reader_sections_tests/src/rows.rtt: change that.
 // Sections that are read back as their items, with ample memory.
 
-use dolzhytik::vec::Vec;
+use dolzhytik::fallible::Vec;
 use crate::seen::{Seen, read};
-use dolzhytik::alloc::Global;
+use dolzhytik::fallible::Global;
 use crate::host::Abort;
-use dolzhytik::base::{R, RefType, ValType};
-use dolzhytik::insn::Op;
+use dolzhytik::fallible::{R, RefType, ValType};
+use dolzhytik::fallible::Op;
 use dolzhytik::reader::SectionKind;
-use dolzhytik::sections::{EntityType, ExportKind, GlobalType, MemoryType, TableType, TagKind, TagType};
+use dolzhytik::fallible::{EntityType, ExportKind, GlobalType, MemoryType, TableType, TagKind, TagType};
 
 const TAG: TagType = TagType {
     kind: TagKind::Exception,

@@ -1,11 +1,11 @@
 // Written by tools/to-rust from tests/wasm_reader_sections_tests/src/seen.rtt: change that.
 // Items as plain data: an assertion beside values that own memory takes far longer to prove.
 
-use dolzhytik::alloc::Global;
-use dolzhytik::insn::Op;
+use dolzhytik::fallible::Global;
+use dolzhytik::fallible::Op;
 use dolzhytik::reader::{ElementItem, ElementItemMode, ElementList, Items, SectionKind, Segment, read_section};
-use dolzhytik::reader::insn::{Arg, Body, Expression};
-use dolzhytik::sections::{EntityType, ExportKind, GlobalType, Imports, MemoryType, TableType, TagType};
+use dolzhytik::reader::{Arg, Body, Expression};
+use dolzhytik::fallible::{EntityType, ExportKind, GlobalType, Imports, MemoryType, TableType, TagType};
 
 /// A section of no item, or of one.
 #[derive(Clone, Copy, PartialEq, Debug)]

@@ -1,17 +1,17 @@
 // Written by tools/to-rust from tests/wasm_reader_sections_tests/src/shortest.rtt: change that.
 // Sections that are shortened.
 
-use dolzhytik::vec::Vec;
+use dolzhytik::fallible::Vec;
 use crate::checks::check_bytes;
 use crate::rows::{BEFORE_BYTE, DATA, before_data};
 use crate::{custom_rows, faults, rows};
 use crate::read_back::padded_function;
-use dolzhytik::alloc::Global;
+use dolzhytik::fallible::Global;
 use crate::host::Abort;
 use crate::test_support::{MOST, Refusing};
-use dolzhytik::base::R;
+use dolzhytik::fallible::R;
 use dolzhytik::reader::{SectionKind, shorten};
-use dolzhytik::reader::base::ReadFault;
+use dolzhytik::reader::ReadFault;
 
 /// A byte that stands in the sink before the call.
 const BEFORE: u8 = 0xAA;

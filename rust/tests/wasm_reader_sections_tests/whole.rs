@@ -1,13 +1,13 @@
 // Written by tools/to-rust from tests/wasm_reader_sections_tests/src/whole.rtt: change that.
 // Whole modules: outlines, and shortest texts.
 
-use dolzhytik::vec::Vec;
+use dolzhytik::fallible::Vec;
 use crate::checks::check_bytes;
 use crate::read_back::{shortened_twice, smaller_module};
-use dolzhytik::alloc::Global;
+use dolzhytik::fallible::Global;
 use crate::host::Abort;
 use crate::test_support::{MOST, Refusing};
-use dolzhytik::base::R;
+use dolzhytik::fallible::R;
 use dolzhytik::reader::{ModuleFault, Offsets, Outlined, ReadFault, outline, shorten_module};
 
 /// A type section, a function section, a memory section that is none, a code section and a name section, with padded numbers.

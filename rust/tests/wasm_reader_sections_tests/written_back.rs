@@ -1,7 +1,7 @@
 // Written by tools/to-rust from tests/wasm_reader_sections_tests/src/written_back.rtt: change that.
 // What the callers write, read and shorten, once with ample memory, and with each request refused.
 
-use dolzhytik::vec::Vec;
+use dolzhytik::fallible::Vec;
 use crate::checks::check_bytes;
 use crate::read_back::custom::{read_custom, read_hints, read_linking, read_more_names, read_producers};
 use crate::read_back::declared::{read_exports, read_imports, read_memories, read_tables, read_tags, read_types};
@@ -9,12 +9,12 @@ use crate::read_back::dumps::{core_dump, read_instances, read_modules, read_proc
 use crate::read_back::handed::handed_module;
 use crate::read_back::padded::{padded_entries, read_padded_segment, write_padded_bodies};
 use crate::read_back::stored::{read_bodies, read_data_count, read_elements, read_globals, read_segments, read_start};
-use dolzhytik::alloc::Global;
+use dolzhytik::fallible::Global;
 use crate::host::Abort;
 use crate::test_support::{MOST, Refusing};
-use dolzhytik::base::{R, Refused};
+use dolzhytik::fallible::{R, Refused};
 use dolzhytik::reader::Items;
-use dolzhytik::reader::base::ReadFault;
+use dolzhytik::reader::ReadFault;
 
 /// The module of a core dump: its process, modules, instances and stack.
 const DUMP: &[u8] = b"\0asm\x01\0\0\0\

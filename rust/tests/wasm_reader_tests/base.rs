@@ -3,9 +3,9 @@
 
 use crate::checks::{check_fault, check_read, check_text};
 use crate::host::Abort;
-use dolzhytik::base::{AbstractHeapType, HeapType, NoGroups, RefType, ValType, read_groups};
-use dolzhytik::immediates::{BlockType, Catch, Handle, Ieee32, Ieee64, MemArg, MemArgOrdering, Ordering};
-use dolzhytik::reader::base::ReadFault;
+use dolzhytik::fallible::{AbstractHeapType, HeapType, NoGroups, RefType, ValType, read_groups};
+use dolzhytik::fallible::{BlockType, Catch, Handle, Ieee32, Ieee64, MemArg, MemArgOrdering, Ordering};
+use dolzhytik::reader::ReadFault;
 
 /// These groups were read, and so many bytes are left.
 fn check_groups(rt: &impl Abort, expected: (u128, u128, u8), left: usize, bytes: &[u8]) {

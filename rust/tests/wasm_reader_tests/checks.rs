@@ -1,11 +1,11 @@
 // Written by tools/to-rust from tests/wasm_reader_tests/src/checks.rtt: change that.
 // What tests compare, over plain data: an assertion beside values that own memory takes far longer to prove.
 
-use dolzhytik::vec::Vec;
-use dolzhytik::alloc::Global;
+use dolzhytik::fallible::Vec;
+use dolzhytik::fallible::Global;
 use crate::host::Abort;
-use dolzhytik::base::Encode;
-use dolzhytik::reader::base::{ReadFault, Readable};
+use dolzhytik::fallible::Encode;
+use dolzhytik::reader::{ReadFault, Readable};
 
 /// The bytes are these.
 pub(crate) fn check_bytes(rt: &impl Abort, bytes: &[u8], expected: &[u8]) {

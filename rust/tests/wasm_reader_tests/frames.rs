@@ -1,11 +1,11 @@
 // Written by tools/to-rust from tests/wasm_reader_tests/src/frames.rtt: change that.
 // Pairs, vectors, frames and flags, with ample memory; the texts of faults.
 
-use dolzhytik::vec::Vec;
+use dolzhytik::fallible::Vec;
 use crate::checks::{check_fault, check_left, check_numbers};
-use dolzhytik::alloc::Global;
+use dolzhytik::fallible::Global;
 use crate::host::Abort;
-use dolzhytik::reader::base::{Framed, ReadFault, Readable, read_optional};
+use dolzhytik::reader::{Framed, ReadFault, Readable, read_optional};
 
 /// A section of indices.
 type Numbers = Framed<Vec<u32>>;

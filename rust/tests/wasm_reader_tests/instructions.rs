@@ -1,14 +1,14 @@
 // Written by tools/to-rust from tests/wasm_reader_tests/src/instructions.rtt: change that.
 // Instructions, expressions and bodies, with ample memory.
 
-use dolzhytik::vec::Vec;
+use dolzhytik::fallible::Vec;
 use crate::checks::{check_fault, check_left};
-use dolzhytik::alloc::Global;
+use dolzhytik::fallible::Global;
 use crate::host::Abort;
-use dolzhytik::base::ValType;
-use dolzhytik::insn::{Op, Part, Shape};
-use dolzhytik::reader::base::{Framed, ReadFault, Readable};
-use dolzhytik::reader::insn::{Arg, Body, Expression, Plain, read_body, read_code};
+use dolzhytik::fallible::ValType;
+use dolzhytik::fallible::{Op, Part, Shape};
+use dolzhytik::reader::{Framed, ReadFault, Readable};
+use dolzhytik::reader::{Arg, Body, Expression, Plain, read_body, read_code};
 
 /// Which argument it is, and a number that it tells: its own, its offset, or how many members it has.
 fn said(arg: &Arg) -> (&'static str, i128) {

@@ -4,9 +4,9 @@
 use crate::checks::{check_cause, check_left};
 use crate::host::Abort;
 use crate::test_support::{Heap, Refusing};
-use dolzhytik::base::ValType;
-use dolzhytik::reader::base::{Dropped, Passed, ReadFault, pass_many};
-use dolzhytik::reader::insn::{Body, Expression};
+use dolzhytik::fallible::ValType;
+use dolzhytik::reader::{Dropped, Passed, ReadFault, pass_many};
+use dolzhytik::reader::{Body, Expression};
 
 /// A value of the kind stands there, and so many bytes are after it.
 fn check<'a, P: Passed<'a, Heap<'a>>>(

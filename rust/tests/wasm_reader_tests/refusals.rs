@@ -1,14 +1,14 @@
 // Written by tools/to-rust from tests/wasm_reader_tests/src/refusals.rtt: change that.
 // Each request for memory refused in turn: the cause is `Memory`, and a walk stays where it was.
 
-use dolzhytik::vec::Vec;
+use dolzhytik::fallible::Vec;
 use crate::checks::check_cause;
-use dolzhytik::alloc::Global;
+use dolzhytik::fallible::Global;
 use crate::host::Abort;
 use crate::test_support::{MOST, Refusing};
-use dolzhytik::insn::Op;
-use dolzhytik::reader::base::{Framed, ReadFault, Readable};
-use dolzhytik::reader::insn::{Body, Expression, Instructions, Plain, Step};
+use dolzhytik::fallible::Op;
+use dolzhytik::reader::{Framed, ReadFault, Readable};
+use dolzhytik::reader::{Body, Expression, Instructions, Plain, Step};
 
 /// Nothing was refused.
 fn check_read(rt: &impl Abort, given: Option<ReadFault>) {

@@ -1,14 +1,14 @@
 // Written by tools/to-rust from tests/wasm_reader_tests/src/shorten.rtt: change that.
 // What was read is written in its fewest bytes.
 
-use dolzhytik::vec::Vec;
+use dolzhytik::fallible::Vec;
 use crate::checks::{check_bytes, check_cause};
-use dolzhytik::alloc::Global;
+use dolzhytik::fallible::Global;
 use crate::host::Abort;
 use crate::test_support::{MOST, Refusing};
-use dolzhytik::base::{Refused, ValType};
-use dolzhytik::reader::base::{Framed, ReadFault, Readable, Shorten};
-use dolzhytik::reader::insn::{Body, Expression, Plain, shorten_body};
+use dolzhytik::fallible::{Refused, ValType};
+use dolzhytik::reader::{Framed, ReadFault, Readable, Shorten};
+use dolzhytik::reader::{Body, Expression, Plain, shorten_body};
 
 /// This was refused.
 fn check_refused(rt: &impl Abort, given: Option<Refused>, expected: Option<Refused>) {

@@ -1,15 +1,16 @@
 // Written by tools/to-rust from tests/wasm_reader_tests/src/walks.rtt: change that.
 // Walks over instructions, with ample memory.
 
-use dolzhytik::vec::Vec;
+use dolzhytik::fallible::Vec;
 use crate::callers::walks::{count_instructions, place_after};
-use dolzhytik::alloc::Global;
+use dolzhytik::fallible::Global;
 use crate::host::Abort;
-use dolzhytik::base::{R, ValType};
-use dolzhytik::code::Function;
-use dolzhytik::insn::Op;
-use dolzhytik::reader::base::ReadFault;
-use dolzhytik::reader::insn::{Instructions, Step, laws};
+use dolzhytik::fallible::{R, ValType};
+use dolzhytik::fallible::Function;
+use dolzhytik::fallible::Op;
+use dolzhytik::reader::ReadFault;
+use dolzhytik::reader::{Instructions, Step};
+use dolzhytik::reader::laws::insn as laws;
 
 /// The step is this.
 fn check_step(rt: &impl Abort, given: Option<Step>, place: usize, op: Op) {

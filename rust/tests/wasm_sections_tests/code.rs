@@ -1,15 +1,15 @@
 // Written by tools/to-rust from tests/wasm_sections_tests/src/code.rtt: change that.
 // Code: bytes that the format gives.
 
-use dolzhytik::vec::Vec;
+use dolzhytik::fallible::Vec;
 use crate::checks::{check, check_bytes, check_number, check_piece, check_that};
 use crate::functions::without_locals;
 use crate::callers::bodies::branch_on_one;
-use dolzhytik::alloc::Global;
+use dolzhytik::fallible::Global;
 use crate::host::Abort;
-use dolzhytik::base::{HeapType, R, Section, ValType, add_all};
-use dolzhytik::code::{CodeSection, ConstExpr, Function};
-use dolzhytik::insn::{Instruction, MemArg, MemArgTarget};
+use dolzhytik::fallible::{HeapType, R, Section, ValType, add_all};
+use dolzhytik::fallible::{CodeSection, ConstExpr, Function};
+use dolzhytik::fallible::{Instruction, MemArg, MemArgTarget};
 
 /// A load of memory 0 at offset 0, of this alignment.
 const fn load(align: u32) -> Instruction<'static> {

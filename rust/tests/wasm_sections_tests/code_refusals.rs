@@ -1,17 +1,17 @@
 // Written by tools/to-rust from tests/wasm_sections_tests/src/code_refusals.rtt: change that.
 // Each request of `wasm_code` for memory refused in turn: the answer is `Memory`, and what was given is as before.
 
-use dolzhytik::vec::Vec;
+use dolzhytik::fallible::Vec;
 use crate::checks::{
     check_answer, check_bytes, check_piece, check_refused, check_sink, check_that,
 };
 use crate::functions::without_locals;
-use dolzhytik::alloc::Global;
+use dolzhytik::fallible::Global;
 use crate::host::Abort;
 use crate::test_support::{Heap, MOST, Refusing};
-use dolzhytik::base::{Counted, CowSlice, Encode, HeapType, R, Section, ValType};
-use dolzhytik::code::{CodeSection, ConstExpr, Function};
-use dolzhytik::insn::{Buffer, Ieee32, Ieee64, Instruction};
+use dolzhytik::fallible::{Counted, CowSlice, Encode, HeapType, R, Section, ValType};
+use dolzhytik::fallible::{CodeSection, ConstExpr, Function};
+use dolzhytik::fallible::{Buffer, Ieee32, Ieee64, Instruction};
 
 /// The bytes of a buffer that is full after its first growth.
 const FULL_BUFFER: [u8; 8] = [0x01; 8];

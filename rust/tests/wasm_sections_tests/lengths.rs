@@ -2,11 +2,11 @@
 // Lengths that are too long are answered before any item is asked for.
 
 use crate::checks::check_bytes;
-use dolzhytik::alloc::Global;
+use dolzhytik::fallible::Global;
 use std::cell::Cell;
 use crate::host::Abort;
-use dolzhytik::base::{Refused, ValType};
-use dolzhytik::code::Function;
+use dolzhytik::fallible::{Refused, ValType};
+use dolzhytik::fallible::Function;
 
 /// Runs of one local each, which count how often one was asked for.
 struct CountedRuns<'a> {

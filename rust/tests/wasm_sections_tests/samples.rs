@@ -1,8 +1,8 @@
 // Written by tools/to-rust from tests/wasm_sections_tests/src/samples.rtt: change that.
 // Types that several tests use.
 
-use dolzhytik::base::{RefType, ValType};
-use dolzhytik::sections::{GlobalType, MemoryType, TableType, TagKind, TagType};
+use dolzhytik::fallible::{RefType, ValType};
+use dolzhytik::fallible::{GlobalType, MemoryType, TableType, TagKind, TagType};
 
 pub const MEMORY: MemoryType = MemoryType {
     minimum: 1,

@@ -1,15 +1,15 @@
 // Written by tools/to-rust from tests/wasm_sections_tests/src/section_refusals.rtt: change that.
 // Each request of `wasm_sections` for memory refused in turn: the answer is `Memory`, and what was given is as before.
 
-use dolzhytik::vec::Vec;
+use dolzhytik::fallible::Vec;
 use crate::checks::{check_answer, check_bytes, check_refused, check_sink, check_that};
 use crate::samples::{GLOBAL, LIMITED_MEMORY, LIMITED_TABLE, SET_GLOBAL, TABLE, TAG};
-use dolzhytik::alloc::Global;
+use dolzhytik::fallible::Global;
 use crate::host::Abort;
 use crate::test_support::{MOST, Refusing};
-use dolzhytik::base::{Counted, CowSlice, Encode, HeapType, R, Refused, Section, add_all};
-use dolzhytik::code::ConstExpr;
-use dolzhytik::sections::{CountedSection, DataCountSection, EntityType, Export, ExportItems, ExportKind, ExportSection, FunctionItems, FunctionSection, GlobalItems, Import, ImportCompact, ImportItems, Imports, ItemKind, MemoryItems, StartSection, TableItems, TagItems};
+use dolzhytik::fallible::{Counted, CowSlice, Encode, HeapType, R, Refused, Section, add_all};
+use dolzhytik::fallible::ConstExpr;
+use dolzhytik::fallible::{CountedSection, DataCountSection, EntityType, Export, ExportItems, ExportKind, ExportSection, FunctionItems, FunctionSection, GlobalItems, Import, ImportCompact, ImportItems, Imports, ItemKind, MemoryItems, StartSection, TableItems, TagItems};
 
 /// A section that takes its memory from an allocator that refuses.
 pub(crate) type OnHeap<'h, K> = CountedSection<K, &'h Refusing<Global>>;

@@ -1,16 +1,17 @@
 // Written by tools/to-rust from tests/wasm_sections_tests/src/sections.rtt: change that.
 // Each call of `wasm_sections` once, with ample memory.
 
-use dolzhytik::vec::Vec;
+use dolzhytik::fallible::Vec;
 use crate::checks::{check_bytes, check_piece, check_that};
 use crate::samples::{GLOBAL, LIMITED_MEMORY, LIMITED_TABLE, MEMORY, SET_GLOBAL, TABLE, TAG};
 use crate::callers::first_values::{encode_copied, encode_null_tables};
-use dolzhytik::alloc::Global;
+use dolzhytik::fallible::Global;
 use crate::host::Abort;
-use dolzhytik::base::{Counted, CowSlice, Encode, HeapType, Section, ValType, add_all};
-use dolzhytik::code::ConstExpr;
-use dolzhytik::insn::Instruction;
-use dolzhytik::sections::{DataCountSection, EntityType, Export, ExportKind, ExportSection, FunctionSection, GlobalSection, Import, ImportCompact, ImportSection, Imports, MemorySection, PassedImports, StartSection, TableSection, TableType, TagSection, laws};
+use dolzhytik::fallible::{Counted, CowSlice, Encode, HeapType, Section, ValType, add_all};
+use dolzhytik::fallible::ConstExpr;
+use dolzhytik::fallible::Instruction;
+use dolzhytik::fallible::{DataCountSection, EntityType, Export, ExportKind, ExportSection, FunctionSection, GlobalSection, Import, ImportCompact, ImportSection, Imports, MemorySection, PassedImports, StartSection, TableSection, TableType, TagSection};
+use dolzhytik::fallible::laws::sections as laws;
 
 /// The section has this id and these bytes.
 pub(crate) fn check<S: Section>(
@@ -420,12 +421,12 @@ fn laws_do_nothing() {
 /// Nor do those of the crates below that callers cite.
 #[test]
 fn laws_for_callers_do_nothing() {
-    dolzhytik::base::laws::payloads();
-    dolzhytik::base::laws::wide_payloads();
-    dolzhytik::code::laws::payloads();
-    dolzhytik::code::laws::wide_payloads();
-    dolzhytik::code::laws::calls::<Global>();
-    dolzhytik::code::laws::wide_calls::<Global>();
+    dolzhytik::fallible::laws::base::payloads();
+    dolzhytik::fallible::laws::base::wide_payloads();
+    dolzhytik::fallible::laws::code::payloads();
+    dolzhytik::fallible::laws::code::wide_payloads();
+    dolzhytik::fallible::laws::code::calls::<Global>();
+    dolzhytik::fallible::laws::code::wide_calls::<Global>();
     laws::plain_export(&Export {
         name: "f",
         kind: ExportKind::Func,
@@ -435,5 +436,5 @@ fn laws_for_callers_do_nothing() {
     laws::plain_memory(MEMORY);
     laws::plain_global(GLOBAL);
     laws::plain_entity(EntityType::Function(1));
-    dolzhytik::insn::laws::plain_instructions::<Global>(&[Instruction::Nop]);
+    dolzhytik::fallible::laws::insn::plain_instructions::<Global>(&[Instruction::Nop]);
 }

@@ -1,16 +1,16 @@
 // Written by tools/to-rust from tests/wasm_sections_tests/src/segment_refusals.rtt: change that.
 // Requests for memory that are refused to calls that add segments, and lengths that are too long.
 
-use dolzhytik::vec::Vec;
+use dolzhytik::fallible::Vec;
 use crate::checks::{check_answer, check_bytes, check_number, check_refused, check_that};
 use crate::section_refusals::{OnHeap, SectionCalls, check_calls, check_part};
-use dolzhytik::alloc::Global;
+use dolzhytik::fallible::Global;
 use std::cell::Cell;
 use crate::host::Abort;
 use crate::test_support::{MOST, Refusing};
-use dolzhytik::base::{CowSlice, Encode, R, RefType, Refused};
-use dolzhytik::code::ConstExpr;
-use dolzhytik::sections::{DataItems, DataSection, DataSegment, DataSegmentMode, ElementItems, ElementMode, ElementSegment, Elements};
+use dolzhytik::fallible::{CowSlice, Encode, R, RefType, Refused};
+use dolzhytik::fallible::ConstExpr;
+use dolzhytik::fallible::{DataItems, DataSection, DataSegment, DataSegmentMode, ElementItems, ElementMode, ElementSegment, Elements};
 
 const BYTES: [u8; 2] = [8, 9];
 

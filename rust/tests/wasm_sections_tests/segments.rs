@@ -1,14 +1,14 @@
 // Written by tools/to-rust from tests/wasm_sections_tests/src/segments.rtt: change that.
 // Each call that adds a segment once, with ample memory.
 
-use dolzhytik::vec::Vec;
+use dolzhytik::fallible::Vec;
 use crate::checks::check_bytes;
 use crate::sections::check;
-use dolzhytik::alloc::Global;
+use dolzhytik::fallible::Global;
 use crate::host::Abort;
-use dolzhytik::base::{CowSlice, Encode, R, RefType};
-use dolzhytik::code::ConstExpr;
-use dolzhytik::sections::{DataSection, DataSegment, DataSegmentMode, ElementMode, ElementSection, ElementSegment, Elements, GlobalSection};
+use dolzhytik::fallible::{CowSlice, Encode, R, RefType};
+use dolzhytik::fallible::ConstExpr;
+use dolzhytik::fallible::{DataSection, DataSegment, DataSegmentMode, ElementMode, ElementSection, ElementSegment, Elements, GlobalSection};
 
 /// A data section of one active segment.
 fn active_data(alloc: Global, memory: u32, offset: i32, bytes: &[u8]) -> R<DataSection> {

@@ -2,11 +2,11 @@
 // Requests for memory that are refused, and reads and writes that fail in mid-stream.
 
 use crate::checks::check_that;
-use dolzhytik::alloc::Global;
+use dolzhytik::fallible::Global;
 use std::io::{Read, Write};
 use crate::host::Abort;
 use crate::test_support::{EndlessReader, FailingReader, FailingWriter, Heap, MOST, Refusing};
-use dolzhytik::recipe::{RecipeCause, RecipeFault, assemble, run};
+use dolzhytik::fallible::recipe::{RecipeCause, RecipeFault, assemble, run};
 
 /// A recipe, and what the program writes of it.
 const TEXT: &str = "body 0b";

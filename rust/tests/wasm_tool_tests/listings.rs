@@ -1,13 +1,12 @@
 // Written by tools/to-rust from tests/wasm_tool_tests/src/listings.rtt: change that.
 // What `--read` gives.
 
-use dolzhytik::vec::Vec;
-use dolzhytik::string::String;
+use dolzhytik::fallible::{Vec, String};
 use crate::checks::{check_run, check_that};
-use dolzhytik::alloc::Global;
+use dolzhytik::fallible::Global;
 use crate::host::Abort;
 use crate::test_support::{FailingReader, FailingWriter, MOST, Refusing};
-use dolzhytik::recipe::run;
+use dolzhytik::fallible::recipe::run;
 
 /// A module of two sections, and its lines.
 const TEXT: &str = "0061736d01000000030201000705010166000000020161";

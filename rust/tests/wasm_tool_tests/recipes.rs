@@ -1,12 +1,11 @@
 // Written by tools/to-rust from tests/wasm_tool_tests/src/recipes.rtt: change that.
 // What recipes give, with ample memory.
 
-use dolzhytik::vec::Vec;
-use dolzhytik::string::String;
+use dolzhytik::fallible::{Vec, String};
 use crate::checks::{check_bytes, check_run};
-use dolzhytik::alloc::Global;
+use dolzhytik::fallible::Global;
 use crate::host::Abort;
-use dolzhytik::recipe::{RecipeCause, RecipeFault, assemble, run};
+use dolzhytik::fallible::recipe::{RecipeCause, RecipeFault, assemble, run};
 
 /// What the program answers and writes for a text.
 fn check_text(

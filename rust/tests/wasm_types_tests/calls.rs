@@ -3,8 +3,9 @@
 
 use crate::checks::{check, check_bytes, check_len, check_piece, check_that};
 use crate::samples::{BYTE, FLOAT, bytes, continuation, described, function, sub};
-use dolzhytik::base::{Encode, HeapType, Module, RefType, ValType};
-use dolzhytik::types::{ContType, FuncType, StorageType, SubType, TypeSection, laws};
+use dolzhytik::fallible::{Encode, HeapType, Module, RefType, ValType};
+use dolzhytik::fallible::{ContType, FuncType, StorageType, SubType, TypeSection};
+use dolzhytik::fallible::laws::types as laws;
 
 /// A reference to the type 5, which may be null.
 const REFERENCE: RefType = RefType {

@@ -1,10 +1,10 @@
 // Written by tools/to-rust from tests/wasm_types_tests/src/faults.rtt: change that.
 // Bytes that are no types, and the causes.
 
-use dolzhytik::alloc::Global;
+use dolzhytik::fallible::Global;
 use crate::host::Abort;
-use dolzhytik::reader::base::ReadFault;
-use dolzhytik::types::read_types;
+use dolzhytik::reader::ReadFault;
+use dolzhytik::fallible::read_types;
 
 /// The bytes, and the cause.
 type Row = (&'static [u8], ReadFault);

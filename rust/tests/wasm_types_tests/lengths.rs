@@ -3,11 +3,11 @@
 
 use crate::checks::check_text;
 use crate::samples::{BYTE, bytes, sub};
-use dolzhytik::alloc::Global;
+use dolzhytik::fallible::Global;
 use std::cell::Cell;
 use crate::host::Abort;
-use dolzhytik::base::{R, Refused, ValType};
-use dolzhytik::types::{SubType, TypeSection};
+use dolzhytik::fallible::{R, Refused, ValType};
+use dolzhytik::fallible::{SubType, TypeSection};
 
 /// One more than a vector can count.
 const TOO_MANY: usize = 4294967296;

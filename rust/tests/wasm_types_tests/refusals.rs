@@ -1,14 +1,14 @@
 // Written by tools/to-rust from tests/wasm_types_tests/src/refusals.rtt: change that.
 // Each request for memory refused in turn: the answer is `Memory`, and what was given is as before.
 
-use dolzhytik::vec::Vec;
+use dolzhytik::fallible::Vec;
 use crate::checks::{check_answer, check_bytes, check_refused, check_that};
 use crate::samples::{BYTE, FLOAT, continuation, described, final_function, function, sub};
-use dolzhytik::alloc::Global;
+use dolzhytik::fallible::Global;
 use crate::host::Abort;
 use crate::test_support::{Heap, MOST, Refusing};
-use dolzhytik::base::{Encode, R, Section, ValType};
-use dolzhytik::types::{ContType, FuncType, StorageType, SubType, TypeSection};
+use dolzhytik::fallible::{Encode, R, Section, ValType};
+use dolzhytik::fallible::{ContType, FuncType, StorageType, SubType, TypeSection};
 
 /// A type section that takes its memory from an allocator that refuses.
 type Lent<'h> = TypeSection<&'h Refusing<Global>>;

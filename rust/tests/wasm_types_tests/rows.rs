@@ -2,10 +2,10 @@
 // Type sections that are read, behind their size.
 
 use crate::seen::{Section, Seen, Shape, read};
-use dolzhytik::alloc::Global;
+use dolzhytik::fallible::Global;
 use crate::host::Abort;
-use dolzhytik::base::ValType;
-use dolzhytik::types::{FieldType, StorageType};
+use dolzhytik::fallible::ValType;
+use dolzhytik::fallible::{FieldType, StorageType};
 
 /// A byte that can be set.
 const BYTE: FieldType = FieldType {

@@ -1,10 +1,10 @@
 // Written by tools/to-rust from tests/wasm_types_tests/src/samples.rtt: change that.
 // Types that the tests add.
 
-use dolzhytik::vec::Vec;
-use dolzhytik::alloc::Allocator;
-use dolzhytik::base::{R, ValType};
-use dolzhytik::types::{ArrayType, CompositeInnerType, CompositeType, ContType, FieldType, FuncType, StorageType, StructType, SubType};
+use dolzhytik::fallible::Vec;
+use dolzhytik::fallible::Allocator;
+use dolzhytik::fallible::{R, ValType};
+use dolzhytik::fallible::{ArrayType, CompositeInnerType, CompositeType, ContType, FieldType, FuncType, StorageType, StructType, SubType};
 
 /// A byte that can be set.
 pub(crate) const BYTE: FieldType = FieldType {

@@ -1,9 +1,9 @@
 // Written by tools/to-rust from tests/wasm_types_tests/src/seen.rtt: change that.
 // What is read as plain data: an assertion beside values that own memory takes far longer to prove.
 
-use dolzhytik::alloc::Global;
-use dolzhytik::base::ValType;
-use dolzhytik::types::{CompositeInnerType, FieldType, SubItem, TypeEntry, read_types};
+use dolzhytik::fallible::Global;
+use dolzhytik::fallible::ValType;
+use dolzhytik::fallible::{CompositeInnerType, FieldType, SubItem, TypeEntry, read_types};
 
 /// A composite type's inner type.
 #[derive(Clone, Copy, PartialEq, Debug)]

@@ -1,12 +1,12 @@
 // Written by tools/to-rust from tests/wasm_types_tests/src/shortest.rtt: change that.
 // Types that are read and written again, each request for memory refused in turn.
 
-use dolzhytik::vec::Vec;
+use dolzhytik::fallible::Vec;
 use crate::host::Abort;
 use crate::test_support::{Heap, MOST, Refusing};
-use dolzhytik::base::Refused;
-use dolzhytik::reader::base::ReadFault;
-use dolzhytik::types::{TypeEntry, append_types, read_types};
+use dolzhytik::fallible::Refused;
+use dolzhytik::reader::ReadFault;
+use dolzhytik::fallible::{TypeEntry, append_types, read_types};
 
 /// Bytes, and the shortest text of the types that stand there.
 type Row = (&'static [u8], &'static [u8]);

@@ -1,15 +1,15 @@
 // Written by tools/to-rust from tests/wasm_types_tests/src/texts.rtt: change that.
 // The text of each type, with ample memory.
 
-use dolzhytik::vec::Vec;
+use dolzhytik::fallible::Vec;
 use crate::checks::check_text;
 use crate::samples::{
     BYTE, FLOAT, bytes, continuation, described, final_function, function, plain, structure, sub,
 };
-use dolzhytik::alloc::Global;
+use dolzhytik::fallible::Global;
 use crate::host::Abort;
-use dolzhytik::base::{RefType, ValType};
-use dolzhytik::types::{ArrayType, CompositeInnerType, CompositeType, ContType, FuncType, StorageType, SubType};
+use dolzhytik::fallible::{RefType, ValType};
+use dolzhytik::fallible::{ArrayType, CompositeInnerType, CompositeType, ContType, FuncType, StorageType, SubType};
 
 #[test]
 fn storage_types() {

@@ -1,13 +1,13 @@
 // Written by tools/to-rust from crates/wasm_bench/src/answers.rt: change that.
 // What workloads answer.
 
-use dolzhytik::vec::Vec;
-use dolzhytik::alloc::Global;
-use dolzhytik::base::{Module, Refused, Section};
-use dolzhytik::code::CodeSection;
-use dolzhytik::custom::NameSection;
-use dolzhytik::sections::{CountedSection, ItemKind};
-use dolzhytik::types::TypeSection;
+use dolzhytik::fallible::Vec;
+use dolzhytik::fallible::Global;
+use dolzhytik::fallible::{Module, Refused, Section};
+use dolzhytik::fallible::CodeSection;
+use dolzhytik::fallible::NameSection;
+use dolzhytik::fallible::{CountedSection, ItemKind};
+use dolzhytik::fallible::TypeSection;
 
 /// The answer of a workload whose input is wrong, or of which the library has refused a call.
 pub const NO_ANSWER: u64 = 18446744073709551615;

@@ -1,9 +1,9 @@
 // Written by tools/to-rust from crates/wasm_bench/src/bodies.rt: change that.
 // Bodies that have no instructions yet.
 
-use dolzhytik::alloc::Global;
-use dolzhytik::base::{R, ValType};
-use dolzhytik::code::Function;
+use dolzhytik::fallible::Global;
+use dolzhytik::fallible::{R, ValType};
+use dolzhytik::fallible::Function;
 
 /// A function with these runs of locals.
 pub(crate) fn with_locals(alloc: Global, runs: &[(u32, ValType)]) -> R<Function> {

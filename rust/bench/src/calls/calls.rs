@@ -4,9 +4,9 @@
 use crate::calls::answers::Fault;
 use crate::calls::codes;
 use crate::calls::words::Words;
-use dolzhytik::base::ValType;
-use dolzhytik::code::Function;
-use dolzhytik::insn::{BlockType, Ieee32, Ieee64, InstructionSink, MemArg, MemArgTarget};
+use dolzhytik::fallible::ValType;
+use dolzhytik::fallible::Function;
+use dolzhytik::fallible::{BlockType, Ieee32, Ieee64, InstructionSink, MemArg, MemArgTarget};
 
 /// The sink of a function.
 type Sink<'a> = InstructionSink<'a, Function>;

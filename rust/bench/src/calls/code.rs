@@ -6,9 +6,9 @@ use crate::calls::bodies::with_locals;
 use crate::calls::calls::call;
 use crate::calls::values::value;
 use crate::calls::words::Words;
-use dolzhytik::alloc::Global;
-use dolzhytik::base::ValType;
-use dolzhytik::code::{CodeSection, Function};
+use dolzhytik::fallible::Global;
+use dolzhytik::fallible::ValType;
+use dolzhytik::fallible::{CodeSection, Function};
 
 /// Reads the instructions of a function, and makes the call of each.
 fn add_by_calls(function: &mut Function, words: &mut Words<'_>, count: u32) -> Result<(), Fault> {

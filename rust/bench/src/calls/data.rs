@@ -2,10 +2,10 @@
 // The data section.
 
 use crate::calls::answers::{Fault, answer, number};
-use dolzhytik::alloc::Global;
-use dolzhytik::base::R;
-use dolzhytik::code::ConstExpr;
-use dolzhytik::sections::DataSection;
+use dolzhytik::fallible::Global;
+use dolzhytik::fallible::R;
+use dolzhytik::fallible::ConstExpr;
+use dolzhytik::fallible::DataSection;
 
 /// Adds an active segment of these bytes, which begins at this place.
 ///

@@ -4,8 +4,8 @@
 use crate::calls::answers::{Fault, answer, number};
 use crate::calls::kinds::export_kind_of;
 use crate::calls::names::Names;
-use dolzhytik::alloc::Global;
-use dolzhytik::sections::ExportSection;
+use dolzhytik::fallible::Global;
+use dolzhytik::fallible::ExportSection;
 
 /// A section of exports: the length of the name, the kind and the index of each.
 ///

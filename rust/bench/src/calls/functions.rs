@@ -2,9 +2,9 @@
 // The function section.
 
 use crate::calls::answers::{Fault, answer, number};
-use dolzhytik::alloc::Global;
-use dolzhytik::base::R;
-use dolzhytik::sections::FunctionSection;
+use dolzhytik::fallible::Global;
+use dolzhytik::fallible::R;
+use dolzhytik::fallible::FunctionSection;
 
 /// A section of functions of these types.
 ///

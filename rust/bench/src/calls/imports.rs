@@ -4,9 +4,9 @@
 use crate::calls::answers::{Fault, answer, number};
 use crate::calls::kinds::export_kind_of;
 use crate::calls::names::Names;
-use dolzhytik::alloc::Global;
-use dolzhytik::base::{RefType, ValType};
-use dolzhytik::sections::{EntityType, ExportKind, GlobalType, ImportSection, MemoryType, TableType, TagKind, TagType};
+use dolzhytik::fallible::Global;
+use dolzhytik::fallible::{RefType, ValType};
+use dolzhytik::fallible::{EntityType, ExportKind, GlobalType, ImportSection, MemoryType, TableType, TagKind, TagType};
 
 /// A table of functions.
 fn table(minimum: u32) -> EntityType {

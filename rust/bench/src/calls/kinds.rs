@@ -2,7 +2,7 @@
 // The kinds of exports and imports.
 
 use crate::calls::answers::Fault;
-use dolzhytik::sections::ExportKind;
+use dolzhytik::fallible::ExportKind;
 
 /// The kind of this number.
 ///

@@ -3,10 +3,10 @@
 
 use crate::calls::answers::{Fault, answer, number};
 use crate::calls::bodies::with_locals;
-use dolzhytik::alloc::Global;
-use dolzhytik::base::R;
-use dolzhytik::code::{CodeSection, Function};
-use dolzhytik::insn::{InstructionSink, MemArg, MemArgTarget};
+use dolzhytik::fallible::Global;
+use dolzhytik::fallible::R;
+use dolzhytik::fallible::{CodeSection, Function};
+use dolzhytik::fallible::{InstructionSink, MemArg, MemArgTarget};
 
 /// Eight calls, with four operands.
 ///

@@ -3,8 +3,8 @@
 
 use crate::calls::answers::{Fault, answer, number};
 use crate::calls::names::Names;
-use dolzhytik::alloc::Global;
-use dolzhytik::custom::{NameMap, NameSection};
+use dolzhytik::fallible::Global;
+use dolzhytik::fallible::{NameMap, NameSection};
 
 /// The names of functions: the length and the index of each.
 ///

@@ -2,10 +2,10 @@
 // Code sections and bodies, read.
 
 use crate::calls::answers::NO_ANSWER;
-use dolzhytik::alloc::Global;
+use dolzhytik::fallible::Global;
 use dolzhytik::reader::{Items, SectionKind, read_section};
-use dolzhytik::reader::base::ReadFault;
-use dolzhytik::reader::insn::{Body, Instructions};
+use dolzhytik::reader::ReadFault;
+use dolzhytik::reader::{Body, Instructions};
 
 /// How many instructions the bodies have together; none where these are more than can be counted.
 ///

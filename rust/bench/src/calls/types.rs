@@ -2,9 +2,9 @@
 // The type section.
 
 use crate::calls::answers::{Fault, answer, number};
-use dolzhytik::alloc::Global;
-use dolzhytik::base::ValType;
-use dolzhytik::types::TypeSection;
+use dolzhytik::fallible::Global;
+use dolzhytik::fallible::ValType;
+use dolzhytik::fallible::TypeSection;
 
 /// The type of numbers of this code.
 fn val_type(code: u8) -> Result<ValType, Fault> {

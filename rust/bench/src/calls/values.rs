@@ -5,8 +5,8 @@ use crate::calls::answers::Fault;
 use crate::calls::calls::mem_arg;
 use crate::calls::codes;
 use crate::calls::words::Words;
-use dolzhytik::base::{CowSlice, ValType};
-use dolzhytik::insn::{BlockType, Ieee32, Ieee64, Instruction, Numeric, VectorImmediate};
+use dolzhytik::fallible::{CowSlice, ValType};
+use dolzhytik::fallible::{BlockType, Ieee32, Ieee64, Instruction, Numeric, VectorImmediate};
 
 /// A branch by a table: the number of labels, these, and the default one.
 fn table<'a>(words: &mut Words<'a>) -> Result<Instruction<'a>, Fault> {

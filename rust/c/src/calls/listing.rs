@@ -2,9 +2,9 @@
 // Lists of sections.
 
 use crate::calls::NO_ANSWER;
-use dolzhytik::alloc::Global;
+use dolzhytik::fallible::Global;
 use dolzhytik::reader::{Listed, list_module};
-use dolzhytik::reader::base::ReadFault;
+use dolzhytik::reader::ReadFault;
 
 /// A section of a module.
 #[derive(Clone, Copy)]

@@ -3,7 +3,7 @@
 
 use crate::calls::NO_ANSWER;
 use crate::calls::listing::number_of;
-use dolzhytik::alloc::Global;
+use dolzhytik::fallible::Global;
 use dolzhytik::reader::{Outlined, outline};
 
 /// A section of a module, as an outline has it.

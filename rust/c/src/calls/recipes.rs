@@ -2,8 +2,8 @@
 // Recipes.
 
 use crate::calls::NO_ANSWER;
-use dolzhytik::alloc::Global;
-use dolzhytik::recipe::{RecipeCause, assemble};
+use dolzhytik::fallible::Global;
+use dolzhytik::fallible::recipe::{RecipeCause, assemble};
 
 /// The number of the cause that a recipe is no text.
 const NOT_TEXT: u32 = 7;

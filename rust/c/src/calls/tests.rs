@@ -8,10 +8,10 @@ use crate::calls::outlining::{DzOutlined, dz_outline};
 use crate::calls::recipes::{dz_assemble, number_of as cause_number};
 use crate::calls::shortest::dz_shorten;
 use crate::calls::whole::dz_shorten_module;
-use dolzhytik::alloc::Global;
+use dolzhytik::fallible::Global;
 use crate::host::Abort;
 use dolzhytik::reader::ReadFault;
-use dolzhytik::recipe::RecipeCause;
+use dolzhytik::fallible::recipe::RecipeCause;
 
 /// The module of a recipe of one body.
 const MODULE: &[u8] = b"\0asm\x01\0\0\0\x0A\x04\x01\x02\0\x0B";

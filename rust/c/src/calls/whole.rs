@@ -1,11 +1,11 @@
 // Written by tools/to-rust from crates/wasm_c/src/whole.rt: change that.
 // Shortest texts of modules.
 
-use dolzhytik::vec::Vec;
+use dolzhytik::fallible::Vec;
 use crate::calls::NO_ANSWER;
 use crate::calls::listing::number_of;
 use crate::calls::recipes::copied;
-use dolzhytik::alloc::Global;
+use dolzhytik::fallible::Global;
 use dolzhytik::reader::{ModuleFault, Offsets, shorten_module};
 
 /// The number of the cause that a section holds offsets.

@@ -3,10 +3,9 @@ use crate::failure::Failure;
 use crate::files::{Input, Output};
 use crate::progress::Progress;
 use crate::words::{Command, HELP, USAGE};
-use dolzhytik::alloc::Global;
+use dolzhytik::fallible::recipe::assemble;
+use dolzhytik::fallible::{self, Global};
 use dolzhytik::reader::{ModuleFault, Offsets, Outlined, ReadFault, outline, shorten_module};
-use dolzhytik::recipe::assemble;
-use dolzhytik::vec;
 use std::io::{self, Write};
 
 /// Does what was asked for.
@@ -78,7 +77,7 @@ fn show_outline(input: &Input) -> Result<(), Failure> {
     print(&format!("{head}{lines}"))
 }
 
-fn outlined<'a>(input: &Input, bytes: &'a [u8]) -> Result<vec::Vec<Outlined<'a>>, Failure> {
+fn outlined<'a>(input: &Input, bytes: &'a [u8]) -> Result<fallible::Vec<Outlined<'a>>, Failure> {
     outline(Global, bytes).map_err(|(number, fault)| no_module(input, number, fault))
 }
 
@@ -117,7 +116,7 @@ fn shorten(input: &Input, output: &Output, offsets: Offsets) -> Result<(), Failu
     let bytes = input.read()?;
     let progress = Progress::of(bytes.len());
     progress.begin("shortening");
-    let mut shortened = vec::Vec::new(Global);
+    let mut shortened = fallible::Vec::new(Global);
     let kept = shorten_module(&bytes, offsets, &mut shortened)
         .map_err(|fault| why_not(input, &bytes, fault))?;
     let left_out = match offsets {

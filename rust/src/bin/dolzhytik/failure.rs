@@ -1,9 +1,9 @@
 //! Why there is no answer, and how that is told.
 use crate::files::{Input, Output};
 use crate::words::{USAGE, Usage};
-use dolzhytik::alloc::AllocError;
+use dolzhytik::fallible::AllocError;
+use dolzhytik::fallible::recipe::RecipeFault;
 use dolzhytik::reader::ReadFault;
-use dolzhytik::recipe::RecipeFault;
 use std::{fmt, io};
 
 /// Why there is no answer.
@@ -107,7 +107,7 @@ impl fmt::Display for Failure {
 #[cfg(test)]
 mod tests {
     use super::*;
-    use dolzhytik::recipe::RecipeCause;
+    use dolzhytik::fallible::recipe::RecipeCause;
 
     #[track_caller]
     fn check(failure: Failure, text: &str) {

@@ -6,20 +6,20 @@
 //! instructions and items of sections in the crates above; [`Spelled`] says what bytes spell it. What is written in its fewest bytes has
 //! [`Shorten`]. What is gone over and not kept has [`Passed`].
 
-pub(crate) mod fault;
-pub(crate) mod fixed;
-pub(crate) mod frames;
-pub(crate) mod immediates;
-pub(crate) mod leb128;
-pub(crate) mod names;
-pub(crate) mod optional;
-pub(crate) mod passed;
-pub(crate) mod readable;
-pub(crate) mod shorten;
-pub(crate) mod tuples;
-pub(crate) mod types;
-pub(crate) mod vectors;
-pub(crate) mod whole;
+mod fault;
+mod fixed;
+mod frames;
+mod immediates;
+mod leb128;
+mod names;
+mod optional;
+mod passed;
+mod readable;
+mod shorten;
+mod tuples;
+mod types;
+mod vectors;
+mod whole;
 
 pub use fault::ReadFault;
 pub use frames::{Framed, frame_since};

@@ -5,13 +5,13 @@
 //! [`Instructions`] goes over the instructions of a body or an expression and keeps one of them; [`laws`] says what its places are.
 //! By `Passed` of `wasm_reader_base` bodies and expressions are gone over, and nothing is kept.
 
-pub(crate) mod arguments;
-pub(crate) mod body;
-pub(crate) mod expression;
-pub(crate) mod instruction;
+mod arguments;
+mod body;
+mod expression;
+mod instruction;
 pub mod laws;
-pub(crate) mod passed;
-pub(crate) mod walk;
+mod passed;
+mod walk;
 
 pub use arguments::Arg;
 pub use body::{Body, read_body, read_code, shorten_body};

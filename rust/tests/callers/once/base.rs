@@ -1,8 +1,8 @@
 // Written by tools/to-rust from crates/callers/src/once/base.rt: change that.
 //! A section of a count and bytes.
 
-use dolzhytik::vec::Vec;
-use dolzhytik::base::encode_section;
+use dolzhytik::fallible::Vec;
+use dolzhytik::fallible::encode_section;
 
 #[test]
 fn section() {

@@ -1,10 +1,10 @@
 // Written by tools/to-rust from crates/callers/src/once/code.rt: change that.
 //! Constant expressions and functions.
 
-use dolzhytik::base::{HeapType, ValType};
-use dolzhytik::code::{ConstExpr, Function};
-use dolzhytik::immediates::{Ieee32, Ieee64};
-use dolzhytik::insn::Instruction;
+use dolzhytik::fallible::{HeapType, ValType};
+use dolzhytik::fallible::{ConstExpr, Function};
+use dolzhytik::fallible::{Ieee32, Ieee64};
+use dolzhytik::fallible::Instruction;
 
 #[test]
 fn integers() {

@@ -1,7 +1,7 @@
 // Written by tools/to-rust from crates/callers/src/once/custom.rt: change that.
 //! Entries of custom sections.
 
-use dolzhytik::custom::{BranchHint, BranchHints, CoreDumpInstancesSection, CoreDumpStackSection, CoreDumpValue, DataSymbolDefinition, IndirectNameMap, LinkingSection, NameMap, NameSection, ProducersField, ProducersSection, SymbolTable};
+use dolzhytik::fallible::{BranchHint, BranchHints, CoreDumpInstancesSection, CoreDumpStackSection, CoreDumpValue, DataSymbolDefinition, IndirectNameMap, LinkingSection, NameMap, NameSection, ProducersField, ProducersSection, SymbolTable};
 
 #[test]
 fn names() {

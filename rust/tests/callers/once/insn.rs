@@ -1,10 +1,10 @@
 // Written by tools/to-rust from crates/callers/src/once/insn.rt: change that.
 //! Instructions, and calls of a sink.
 
-use dolzhytik::vec::Vec;
-use dolzhytik::base::ValType;
-use dolzhytik::immediates::{Ieee32, Ieee64, Ordering};
-use dolzhytik::insn::{Aggregate, Atomic, BlockType, Instruction, InstructionSink, Numeric, Op, PrefixedNumeric, Vector, VectorImmediate};
+use dolzhytik::fallible::Vec;
+use dolzhytik::fallible::ValType;
+use dolzhytik::fallible::{Ieee32, Ieee64, Ordering};
+use dolzhytik::fallible::{Aggregate, Atomic, BlockType, Instruction, InstructionSink, Numeric, Op, PrefixedNumeric, Vector, VectorImmediate};
 
 #[test]
 fn opcodes() {

@@ -1,83 +1,83 @@
 // Written by tools/to-rust from crates/callers/src/once/laws.rt: change that.
 //! The laws, which do nothing and promise.
 
-use dolzhytik::alloc::Global;
+use dolzhytik::fallible::Global;
 
 #[test]
 fn base() {
-    dolzhytik::base::laws::numbers();
-    dolzhytik::base::laws::frames();
-    dolzhytik::base::laws::payloads();
-    dolzhytik::base::laws::wide_payloads();
-    dolzhytik::base::laws::types();
-    dolzhytik::base::laws::constants();
-    dolzhytik::base::laws::wide()
+    dolzhytik::fallible::laws::base::numbers();
+    dolzhytik::fallible::laws::base::frames();
+    dolzhytik::fallible::laws::base::payloads();
+    dolzhytik::fallible::laws::base::wide_payloads();
+    dolzhytik::fallible::laws::base::types();
+    dolzhytik::fallible::laws::base::constants();
+    dolzhytik::fallible::laws::base::wide()
 }
 
 #[test]
 fn instructions() {
-    dolzhytik::immediates::laws::immediates();
-    dolzhytik::immediates::laws::memory_arguments();
-    dolzhytik::immediates::laws::wide();
-    dolzhytik::insn::laws::opcodes();
-    dolzhytik::insn::laws::rows::<Global>();
-    dolzhytik::insn::laws::cases::<Global>();
-    dolzhytik::insn::laws::instructions::<Global>();
-    dolzhytik::insn::laws::lists();
-    dolzhytik::insn::laws::wide()
+    dolzhytik::fallible::laws::immediates::immediates();
+    dolzhytik::fallible::laws::immediates::memory_arguments();
+    dolzhytik::fallible::laws::immediates::wide();
+    dolzhytik::fallible::laws::insn::opcodes();
+    dolzhytik::fallible::laws::insn::rows::<Global>();
+    dolzhytik::fallible::laws::insn::cases::<Global>();
+    dolzhytik::fallible::laws::insn::instructions::<Global>();
+    dolzhytik::fallible::laws::insn::lists();
+    dolzhytik::fallible::laws::insn::wide()
 }
 
 #[test]
 fn code() {
-    dolzhytik::code::laws::expressions();
-    dolzhytik::code::laws::bodies();
-    dolzhytik::code::laws::offset::<Global>();
-    dolzhytik::code::laws::payloads();
-    dolzhytik::code::laws::wide_payloads();
-    dolzhytik::code::laws::calls::<Global>();
-    dolzhytik::code::laws::wide_calls::<Global>();
-    dolzhytik::code::laws::wide();
-    dolzhytik::code::laws::locals();
-    dolzhytik::code::laws::nothing_stands()
+    dolzhytik::fallible::laws::code::expressions();
+    dolzhytik::fallible::laws::code::bodies();
+    dolzhytik::fallible::laws::code::offset::<Global>();
+    dolzhytik::fallible::laws::code::payloads();
+    dolzhytik::fallible::laws::code::wide_payloads();
+    dolzhytik::fallible::laws::code::calls::<Global>();
+    dolzhytik::fallible::laws::code::wide_calls::<Global>();
+    dolzhytik::fallible::laws::code::wide();
+    dolzhytik::fallible::laws::code::locals();
+    dolzhytik::fallible::laws::code::nothing_stands()
 }
 
 #[test]
 fn sections() {
-    dolzhytik::sections::laws::sections();
-    dolzhytik::sections::laws::wide();
-    dolzhytik::sections::laws::calls();
-    dolzhytik::sections::laws::wide_calls();
-    dolzhytik::sections::laws::given_elements::<Global>();
-    dolzhytik::sections::laws::payloads();
-    dolzhytik::sections::laws::wide_payloads();
-    dolzhytik::sections::laws::nothing_stands()
+    dolzhytik::fallible::laws::sections::sections();
+    dolzhytik::fallible::laws::sections::wide();
+    dolzhytik::fallible::laws::sections::calls();
+    dolzhytik::fallible::laws::sections::wide_calls();
+    dolzhytik::fallible::laws::sections::given_elements::<Global>();
+    dolzhytik::fallible::laws::sections::payloads();
+    dolzhytik::fallible::laws::sections::wide_payloads();
+    dolzhytik::fallible::laws::sections::nothing_stands()
 }
 
 #[test]
 fn type_sections() {
-    dolzhytik::types::laws::types();
-    dolzhytik::types::laws::wide();
-    dolzhytik::types::laws::calls();
-    dolzhytik::types::laws::wide_calls();
-    dolzhytik::types::laws::payloads();
-    dolzhytik::types::laws::wide_payloads();
-    dolzhytik::types::laws::nothing_stands()
+    dolzhytik::fallible::laws::types::types();
+    dolzhytik::fallible::laws::types::wide();
+    dolzhytik::fallible::laws::types::calls();
+    dolzhytik::fallible::laws::types::wide_calls();
+    dolzhytik::fallible::laws::types::payloads();
+    dolzhytik::fallible::laws::types::wide_payloads();
+    dolzhytik::fallible::laws::types::nothing_stands()
 }
 
 #[test]
 fn custom_sections() {
-    dolzhytik::custom::laws::sections();
-    dolzhytik::custom::laws::wide();
-    dolzhytik::custom::laws::calls();
-    dolzhytik::custom::laws::wide_calls();
-    dolzhytik::custom::laws::payloads();
-    dolzhytik::custom::laws::wide_payloads();
-    dolzhytik::custom::laws::nothing_stands()
+    dolzhytik::fallible::laws::custom::sections();
+    dolzhytik::fallible::laws::custom::wide();
+    dolzhytik::fallible::laws::custom::calls();
+    dolzhytik::fallible::laws::custom::wide_calls();
+    dolzhytik::fallible::laws::custom::payloads();
+    dolzhytik::fallible::laws::custom::wide_payloads();
+    dolzhytik::fallible::laws::custom::nothing_stands()
 }
 
 #[test]
 fn readers() {
-    dolzhytik::reader::insn::laws::places();
+    dolzhytik::reader::laws::insn::places();
     dolzhytik::reader::laws::texts();
     dolzhytik::reader::laws::modules();
     dolzhytik::reader::laws::shortened()

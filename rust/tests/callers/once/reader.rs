@@ -1,7 +1,7 @@
 // Written by tools/to-rust from crates/callers/src/once/reader.rt: change that.
 //! Calls of readers.
 
-use dolzhytik::reader::insn::Instructions;
+use dolzhytik::reader::Instructions;
 
 #[test]
 fn walk() {

@@ -1,9 +1,9 @@
 // Written by tools/to-rust from crates/callers/src/once/sections.rt: change that.
 //! Items of core sections.
 
-use dolzhytik::base::{CowSlice, RefType, ValType};
-use dolzhytik::sections::laws::{plain_export, plain_global, plain_table};
-use dolzhytik::sections::{DataSection, DataSegment, DataSegmentMode, ElementMode, ElementSection, ElementSegment, Elements, Export, ExportKind, GlobalType, MemoryType, TableType, TagKind, TagSection, TagType};
+use dolzhytik::fallible::{CowSlice, RefType, ValType};
+use dolzhytik::fallible::laws::sections::{plain_export, plain_global, plain_table};
+use dolzhytik::fallible::{DataSection, DataSegment, DataSegmentMode, ElementMode, ElementSection, ElementSegment, Elements, Export, ExportKind, GlobalType, MemoryType, TableType, TagKind, TagSection, TagType};
 
 /// A byte that is not active.
 fn passive_byte<'a>() -> DataSegment<'a, [u8; 1]> {

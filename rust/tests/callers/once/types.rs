@@ -1,8 +1,8 @@
 // Written by tools/to-rust from crates/callers/src/once/types.rt: change that.
 //! Calls of a type section.
 
-use dolzhytik::base::ValType;
-use dolzhytik::types::{ArrayType, CompositeInnerType, CompositeType, ContType, FieldType, FuncType, StorageType, SubType, TypeSection};
+use dolzhytik::fallible::ValType;
+use dolzhytik::fallible::{ArrayType, CompositeInnerType, CompositeType, ContType, FieldType, FuncType, StorageType, SubType, TypeSection};
 
 /// A byte that can be set.
 const BYTE: FieldType = FieldType {
