@@ -1,25 +1,27 @@
 //! Workloads over the names at the root of the package.
 //!
-//!     root WORKLOAD ITEMS [module]
+//!     root WORKLOAD ITEMS [module | keep]
 //!
-//! makes so many items, in a section or in the bodies of a code section, and with `module` appends
-//! the section to a module. All names are those of `wasm-encoder`, so that whoever has that crate can
-//! measure it too. What is counted is the difference of two runs, so that the start cancels out.
+//! makes so many items, in a section or in the bodies of a code section. With `module` the section is
+//! appended to a module, with `keep` it is never given back, so that what it takes can be seen at
+//! the end. All names are those of `wasm-encoder`, so that whoever has that crate can measure it too.
+//! What is counted is the difference of two runs, so that the start cancels out.
 use dolzhytik as wasm_encoder;
 
 use std::borrow::Cow;
 use std::env;
 use std::hint::black_box;
+use std::mem;
 use wasm_encoder::{
-    BlockType, CodeSection, ConstExpr, CustomSection, DataSection, ElementSection, Elements, Encode,
-    EntityType, ExportKind, ExportSection, Function, FunctionSection, GlobalSection, GlobalType,
-    HeapType, Ieee32, Ieee64, ImportSection, Instruction, InstructionSink, MemArg, MemArgTarget,
-    MemorySection, MemoryType, Module, NameMap, RefType, Section, TableSection, TableType, TagKind,
-    TagSection, TagType, TypeSection, ValType,
+    BlockType, CodeSection, ConstExpr, CustomSection, DataSection, ElementSection, Elements,
+    Encode, EntityType, ExportKind, ExportSection, Function, FunctionSection, GlobalSection,
+    GlobalType, HeapType, Ieee32, Ieee64, ImportSection, Instruction, InstructionSink, MemArg,
+    MemArgTarget, MemorySection, MemoryType, Module, NameMap, NameSection, RefType, Section,
+    TableSection, TableType, TagKind, TagSection, TagType, TypeSection, ValType,
 };
 
 /// The calls of a function body.
-const CALLS_OF_A_BODY: usize = 50;
+const CALLS_OF_A_BODY: usize = 4000;
 
 /// The elements of a segment, and the bytes of data segments of two sizes.
 const ELEMENTS_OF_A_SEGMENT: usize = 16;
@@ -29,17 +31,23 @@ const LONG_DATA: usize = 65536;
 /// The bodies of a section that is cloned.
 const CLONED_BODIES: usize = 1000;
 
-/// What a workload makes: a section or several, and whether they are to be appended to a module.
-struct Output {
-    module: Option<Module>,
+/// Where a section goes.
+enum Output {
+    /// Nowhere.
+    Nothing,
+    /// To the end of a module.
+    Module(Module),
+    /// Where it is never given back.
+    Kept,
 }
 
 impl Output {
-    /// Ends the work on a section.
-    fn section(&mut self, section: &impl Section) {
-        match &mut self.module {
-            Some(module) => _ = module.section(section),
-            None => _ = black_box(section),
+    /// Takes a finished section.
+    fn section(&mut self, section: impl Section) {
+        match self {
+            Output::Nothing => _ = black_box(section),
+            Output::Module(module) => _ = module.section(&section),
+            Output::Kept => mem::forget(section),
         }
     }
 }
@@ -81,7 +89,7 @@ fn bodies(items: usize, output: &mut Output, mut call: impl FnMut(&mut Function,
         }
         code.function(&body);
     }
-    output.section(&code);
+    output.section(code);
 }
 
 /// As `bodies`, with one sink for all calls of a body.
@@ -95,7 +103,7 @@ fn sinks(items: usize, output: &mut Output, mut call: impl FnMut(&mut Instructio
         }
         code.function(&body);
     }
-    output.section(&code);
+    output.section(code);
 }
 
 /// Makes one of 28 named calls.
@@ -231,7 +239,7 @@ fn exports(items: usize, output: &mut Output, numbers: &mut Numbers) {
     for place in 0..items {
         section.export(NAMES[place % 8], KINDS[place % 5], numbers.next());
     }
-    output.section(&section);
+    output.section(section);
 }
 
 fn entity(place: usize, number: u32) -> EntityType {
@@ -285,7 +293,7 @@ fn imports(items: usize, output: &mut Output, numbers: &mut Numbers) {
         let (module, name) = (NAMES[place % 7], NAMES[place % 8]);
         section.import(module, name, entity(place, numbers.next()));
     }
-    output.section(&section);
+    output.section(section);
 }
 
 fn functions(items: usize, output: &mut Output, numbers: &mut Numbers) {
@@ -293,7 +301,7 @@ fn functions(items: usize, output: &mut Output, numbers: &mut Numbers) {
     for _ in 0..items {
         section.function(numbers.next());
     }
-    output.section(&section);
+    output.section(section);
 }
 
 fn name_map(items: usize, output: &mut Output) {
@@ -301,12 +309,12 @@ fn name_map(items: usize, output: &mut Output) {
     for place in 0..items {
         map.append(place as u32, NAMES[place % 8]);
     }
-    let mut names = wasm_encoder::NameSection::new();
-    if output.module.is_some() {
+    let mut names = NameSection::new();
+    if !matches!(output, Output::Nothing) {
         names.functions(&map);
     }
-    output.section(&names);
-    black_box(&map);
+    output.section(names);
+    black_box(map);
 }
 
 /// Segments of so many bytes, so many of them in a section.
@@ -317,7 +325,7 @@ fn data(items: usize, output: &mut Output, size: usize, segments: usize) {
         for _ in 0..segments {
             section.passive(bytes.iter().copied());
         }
-        output.section(&section);
+        output.section(section);
     }
 }
 
@@ -327,7 +335,7 @@ fn data_from_vec(items: usize, output: &mut Output) {
     for _ in 0..items {
         section.passive(bytes.clone());
     }
-    output.section(&section);
+    output.section(section);
 }
 
 const TYPES: [ValType; 4] = [ValType::I32, ValType::I64, ValType::EXTERNREF, ValType::F64];
@@ -339,7 +347,7 @@ fn types(items: usize, output: &mut Output) {
         let results = TYPES[..place % 2].iter().copied();
         section.ty().function(params, results);
     }
-    output.section(&section);
+    output.section(section);
 }
 
 fn elements_of_functions(items: usize, output: &mut Output, numbers: &mut Numbers) {
@@ -351,7 +359,7 @@ fn elements_of_functions(items: usize, output: &mut Output, numbers: &mut Number
         let elements = Elements::Functions(Cow::Borrowed(&indices));
         section.active(None, &offset, elements);
     }
-    output.section(&section);
+    output.section(section);
 }
 
 fn elements_of_expressions(items: usize, output: &mut Output, numbers: &mut Numbers) {
@@ -363,7 +371,7 @@ fn elements_of_expressions(items: usize, output: &mut Output, numbers: &mut Numb
         let elements = Elements::Expressions(RefType::FUNCREF, Cow::Owned(expressions));
         section.active(None, &offset, elements);
     }
-    output.section(&section);
+    output.section(section);
 }
 
 fn globals(items: usize, output: &mut Output, mut first: impl FnMut() -> ConstExpr) {
@@ -371,7 +379,7 @@ fn globals(items: usize, output: &mut Output, mut first: impl FnMut() -> ConstEx
     for _ in 0..items {
         section.global(global(), &first());
     }
-    output.section(&section);
+    output.section(section);
 }
 
 fn globals_with(items: usize, output: &mut Output, numbers: &mut Numbers) {
@@ -400,12 +408,12 @@ fn customs(items: usize, output: &mut Output) {
             name: Cow::Borrowed(NAMES[place % 8]),
             data: Cow::Borrowed(&data),
         };
-        match &mut output.module {
-            Some(module) => _ = module.section(&section),
-            None => section.encode(&mut bytes),
+        match output {
+            Output::Module(module) => _ = module.section(&section),
+            _ => section.encode(&mut bytes),
         }
     }
-    black_box(&bytes);
+    black_box(bytes);
 }
 
 fn declarations(items: usize, output: &mut Output, numbers: &mut Numbers) {
@@ -419,9 +427,9 @@ fn declarations(items: usize, output: &mut Output, numbers: &mut Numbers) {
             _ => _ = tags.tag(tag(numbers.next())),
         }
     }
-    output.section(&tables);
-    output.section(&memories);
-    output.section(&tags);
+    output.section(tables);
+    output.section(memories);
+    output.section(tags);
 }
 
 /// A section of so many bodies of so many bytes.
@@ -438,6 +446,24 @@ fn clones(items: usize) {
     let section = raw_bodies(CLONED_BODIES, 16);
     for _ in 0..items / CLONED_BODIES {
         black_box(section.clone());
+    }
+}
+
+/// Small bodies that are kept together, before a section has them.
+fn small_bodies(items: usize, output: &mut Output) {
+    let mut bodies = Vec::with_capacity(items);
+    for _ in 0..items {
+        let mut body = Function::new([]);
+        body.instructions()
+            .local_get(0)
+            .i32_const(1)
+            .i32_add()
+            .end();
+        bodies.push(body);
+    }
+    match output {
+        Output::Kept => mem::forget(bodies),
+        _ => _ = black_box(bodies),
     }
 }
 
@@ -477,7 +503,7 @@ fn work(name: &str, items: usize, output: &mut Output) -> bool {
         "name-map" => name_map(items, output),
         "data" => data(items, output, SHORT_DATA, items),
         "data-vec" => data_from_vec(items, output),
-        "data-64k" => data(items, output, LONG_DATA, items),
+        "data-64k" => data(items, output, LONG_DATA, 20),
         "types" => types(items, output),
         "elements" => elements_of_functions(items, output, numbers),
         "expressions" => elements_of_expressions(items, output, numbers),
@@ -486,25 +512,37 @@ fn work(name: &str, items: usize, output: &mut Output) -> bool {
         "globals-extended" => globals_extended(items, output, numbers),
         "customs" => customs(items, output),
         "declarations" => declarations(items, output, numbers),
-        "raw-bodies" => output.section(&raw_bodies(items, 40)),
+        "raw-bodies" => output.section(raw_bodies(items, 40)),
         "clones" => clones(items),
+        "bodies" => small_bodies(items, output),
         _ => return false,
     }
     true
 }
 
+/// What the last word says of the output.
+fn output_of(words: &[String]) -> Option<Output> {
+    match words {
+        [] => Some(Output::Nothing),
+        [word] if word == "module" => Some(Output::Module(Module::new())),
+        [word] if word == "keep" => Some(Output::Kept),
+        _ => None,
+    }
+}
+
 fn main() {
     let words: Vec<String> = env::args().skip(1).collect();
-    let (name, items, rest) = match &words[..] {
-        [name, items, rest @ ..] => (name, items.parse().ok(), rest),
-        _ => return eprintln!("usage: root WORKLOAD ITEMS [module]"),
+    let Some((name, rest)) = words.split_first() else {
+        return eprintln!("usage: root WORKLOAD ITEMS [module | keep]");
     };
-    let module = matches!(rest, [word] if word == "module").then(Module::new);
-    let mut output = Output { module };
-    match items {
-        Some(items) if work(name, items, &mut output) => {
-            black_box(output.module.map(Module::finish));
-        }
-        _ => eprintln!("root: no such workload, or no number of items"),
+    let items = rest.first().and_then(|items| items.parse().ok());
+    let (Some(items), Some(mut output)) = (items, rest.get(1..).and_then(output_of)) else {
+        return eprintln!("root: no number of items, or no such output");
+    };
+    if !work(name, items, &mut output) {
+        eprintln!("root: no such workload");
+    }
+    if let Output::Module(module) = output {
+        black_box(module.finish());
     }
 }

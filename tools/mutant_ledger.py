@@ -2,7 +2,7 @@
 
 A function is proved from its own body and proof files, from the contracts of what it calls, and from definitions and lemmas. So the checksum covers exactly
 - the mutant, and the mutated function with its proof files, and those of its cycle;
-- its crate's definitions, lemmas, line of crates.txt, and sources without comments, blank lines and the bodies of other functions;
+- its crate's definitions, lemmas, line of crates.txt, and sources without comments, blank lines, `#[inline]` and the bodies of other functions;
 - the same of each crate below;
 - the kit's logic, and how the tool judges what a check prints.
 Where a mutant changes a constant, a table, a definition or several places, the checksum covers all bodies and proof files of its crate.
@@ -29,6 +29,8 @@ SHARES = 20
 OF_FUNCTION = ("Answers.antt", "Invariants.antt", "Proof.antt")
 # Functions that call one another are proved together, under this name.
 CYCLE = re.compile(r"#\[cycle\((\w+)\)\]")
+# Attributes that decide of speed alone.
+SPEED = re.compile(r" *#\[(?:inline(?:\(\w+\))?|cold)\]")
 COMMENT_OR_TEXT = re.compile(r"""//[^\n]*|/\*.*?\*/|b?r(#*)".*?"\1|b?"(?:[^"\\]|\\.)*"|b?'(?:\\(?:u\{[^}]*\}|x..|.)|[^'\\\n])'""", re.S)
 
 
@@ -43,9 +45,10 @@ def files_below(folder):
 
 
 def bare(source):
-    """Returns the source without comments and blank lines."""
+    """Returns the source without comments, blank lines and attributes that decide of speed alone."""
     code = COMMENT_OR_TEXT.sub(lambda it: "" if it[0].startswith(("//", "/*")) else it[0], source)
-    return "\n".join(filter(None, map(str.rstrip, code.split("\n"))))
+    lines = filter(None, map(str.rstrip, code.split("\n")))
+    return "\n".join(it for it in lines if not SPEED.fullmatch(it))
 
 
 def interface(path, source):

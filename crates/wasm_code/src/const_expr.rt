@@ -72,7 +72,7 @@ impl<A: Allocator> ConstExpr<A> {
     {
         let mut bytes = Vec::new(alloc);
         encode_each(instructions, &mut bytes)?;
-        Ok(ConstExpr::stored(bytes))
+        Ok(ConstExpr { first: None, bytes })
     }
 
     /// The instructions that these bytes encode. It takes no memory.

@@ -1,19 +1,12 @@
 //! The workloads of `bench/` in the build by rustc: the border by which the drivers call them as they call those of the proved build.
-use calls::{data, name_section, reading, types};
+use calls::{code, data, exports, functions, imports, line, name_section, reading, types};
 use dolzhytik::fallible::Global;
 use std::slice;
 
-#[cfg(not(feature = "drop-in"))]
-use calls::{code, exports, functions, imports, line};
-#[cfg(feature = "drop-in")]
-use drop_in::{self as code, self as exports, self as functions, self as imports, self as line};
 
 #[allow(unused_imports, unused_variables, clippy::all)]
-#[cfg_attr(feature = "drop-in", allow(dead_code))]
 #[rustfmt::skip]
 mod calls;
-#[cfg(feature = "drop-in")]
-mod drop_in;
 
 /// Writes the function that a driver calls for a workload: lists and their lengths, numbers, and the room for the answer.
 macro_rules! workload {

@@ -79,7 +79,7 @@ impl<A: Allocator> ConstExpr<A> {
     ) -> R<Self> {
         let mut bytes = Vec::new(alloc);
         encode_each(instructions, &mut bytes)?;
-        Ok(ConstExpr::stored(bytes))
+        Ok(ConstExpr { first: None, bytes })
     }
 
     /// The instructions that these bytes encode. It takes no memory.

@@ -1,5 +1,5 @@
 //! Functions, the code section, and what instructions are written with.
-use super::entries::{Entries, Growing, append, append_once};
+use super::entries::{Entries, FEW, Growing, append, append_once};
 use super::{Encode, Instruction, done, listed};
 use crate::alloc::Global;
 use crate::base::{self, R, ValType, vec_of};
@@ -50,9 +50,6 @@ impl<'a> InstructionSink<'a> {
     }
 }
 
-/// The bytes that a body has room for at first.
-const BODY: usize = 16;
-
 /// The body of a function: runs of locals, and instructions. Its bytes are those of the proved [`fallible::Function`](crate::fallible::Function), from which it can be made.
 ///
 /// ```
@@ -86,7 +83,7 @@ impl Function {
         L: IntoIterator<Item = (u32, ValType)>,
         L::IntoIter: ExactSizeIterator,
     {
-        let mut bytes = Vec::with_capacity(BODY);
+        let mut bytes = Vec::with_capacity(FEW);
         append_once(done(vec_of(locals)), &mut bytes);
         Function { bytes }
     }

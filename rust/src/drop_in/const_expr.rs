@@ -1,5 +1,5 @@
 //! Constant expressions.
-use super::entries::{Bytes, Growing};
+use super::entries::{Bytes, FEW, Growing};
 use super::{Encode, Instruction, done};
 use crate::base::{self, HeapType, Optional, R};
 use crate::code;
@@ -39,7 +39,10 @@ impl From<code::ConstExpr> for ConstExpr {
 impl base::Encode for ConstExpr {
     #[inline]
     fn encode<A: Sink>(&self, sink: &mut A) -> R<()> {
-        (Optional(self.first), Stored(&self.rest), END).encode(sink)
+        match self.first {
+            Some(first) if self.rest.is_empty() => (first, END).encode(sink),
+            first => (Optional(first), Stored(&self.rest), END).encode(sink),
+        }
     }
 }
 
@@ -111,7 +114,7 @@ impl ConstExpr {
 
     /// These instructions.
     pub fn extended<'a>(insns: impl IntoIterator<Item = Instruction<'a>>) -> Self {
-        let mut bytes = Vec::new();
+        let mut bytes = Vec::with_capacity(FEW);
         for instruction in insns {
             instruction.encode(&mut bytes);
         }

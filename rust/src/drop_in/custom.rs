@@ -1,6 +1,6 @@
 //! The custom sections.
-use super::entries::append;
 use super::debug::{self, Before, debugged};
+use super::entries::append;
 use super::{
     BranchHint, CoreDumpValue, DataSymbolDefinition, Encode, Section, SectionId, copied, counted,
     default, done, encoded, section, taken,

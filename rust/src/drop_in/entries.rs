@@ -6,7 +6,7 @@ use crate::vec::{Sealed, Sink};
 use std::ops::{Deref, DerefMut};
 
 /// The bytes that a list of a few has room for, and those of one that outgrows it.
-const FEW: usize = 16;
+pub const FEW: usize = 16;
 const MANY: usize = 128;
 
 /// The most bytes for which a new list is had for less than an old one grows.

@@ -1,11 +1,12 @@
 //! The sections of counted items.
 use super::entries::Entries;
-use super::{ConstExpr, ExportKind, TagType, done, handed, listed};
-use crate::base::{CowSlice, Encode, Lent, RefType, bytes_of};
+use super::{ConstExpr, ExportKind, TagType, done, listed};
+use crate::base::{CowSlice, Encode, Lent, R, RefType, bytes_of};
 use crate::sections;
 use crate::sections::data::{ACTIVE, ACTIVE_IN_MEMORY, PASSIVE};
 use crate::sections::table::BEFORE_INIT;
 use crate::sections::{Export, GlobalType, MemoryType, TableType};
+use crate::vec::Sink;
 use std::borrow::Cow;
 
 /// Writes a section whose entries are encoded by the proved calls.
@@ -144,16 +145,18 @@ pub struct ElementSegment<'a> {
     pub elements: Elements<'a>,
 }
 
-impl<'a> Elements<'a> {
-    /// The elements for a proved call. A list of expressions is copied.
-    fn proved(self) -> sections::Elements<'a> {
-        match self {
-            Elements::Functions(functions) => sections::Elements::Functions(handed(functions)),
-            Elements::Expressions(ty, expressions) => {
-                let expressions: Vec<_> = expressions.iter().map(ConstExpr::proved).collect();
-                sections::Elements::Expressions(ty, CowSlice::Owned(expressions.into()))
-            }
-        }
+/// A segment and its expressions, which are the last of it.
+struct WithExpressions<'a> {
+    /// The same segment of no expressions. It ends in their number, which is one byte.
+    before: sections::ElementSegment<'a>,
+    expressions: &'a [ConstExpr],
+}
+
+impl Encode for WithExpressions<'_> {
+    fn encode<A: Sink>(&self, sink: &mut A) -> R<()> {
+        self.before.encode(sink)?;
+        sink.truncate(sink.len() - 1);
+        self.expressions.encode(sink)
     }
 }
 
@@ -170,8 +173,21 @@ impl ElementSection {
                 sections::ElementMode::Active { table, offset }
             }
         };
-        let elements = segment.elements.proved();
-        self.0.add(&sections::ElementSegment { mode, elements });
+        match &segment.elements {
+            Elements::Functions(functions) => {
+                let functions = CowSlice::Borrowed(&functions[..]);
+                let elements = sections::Elements::Functions(functions);
+                self.0.add(&sections::ElementSegment { mode, elements });
+            }
+            Elements::Expressions(ty, expressions) => {
+                let elements = sections::Elements::Expressions(*ty, CowSlice::Borrowed(&[]));
+                let before = sections::ElementSegment { mode, elements };
+                self.0.add(&WithExpressions {
+                    before,
+                    expressions,
+                });
+            }
+        }
         self
     }
 
