@@ -124,6 +124,7 @@ debugged!(
 
 impl NameMap {
     /// Appends a name. Neither order nor repeats are checked.
+    #[inline]
     pub fn append(&mut self, idx: u32, name: &str) {
         done(self.0.append(idx, name))
     }

@@ -1,13 +1,17 @@
-//! The names of the Rust crate `wasm-encoder`, over the proved calls.
+//! The names of the Rust crate `wasm-encoder`, over proved encoders.
 //!
-//! Each call hands on to the one of its name in [`fallible`](crate::fallible), whose page says what is proved of it. An instruction for which there is no proved call is written by the proved `encode` of
-//! its op and its parts. A body and a module are bytes here, since the crate lends them before their end, and so [`Function::raw`] and [`Module::section`] append by themselves, as do
-//! the calls on values of which nothing is known here: [`encode_vec`], and `encode` of a list and of an option. Nothing of this is proved; it is tested.
+//! A core section is the bytes of its entries and their number (`entries`). Each entry is appended by the proved `encode` that the section of its name in
+//! [`fallible`](crate::fallible) calls too, and the section by the proved `encode_section`. There a section also keeps where each entry ends, which takes eight bytes an entry, and time.
+//! A list of a custom section is the proved one, whose calls are made.
+//!
+//! An instruction is written by a proved named call, or else by the proved `encode` of its opcode and its immediates. A body and a module are bytes here, since the crate lends them
+//! before their end, and so [`Function::raw`] and [`Module::section`] append by themselves, as do the calls on values of which nothing is known here: [`encode_vec`], and `encode` of a
+//! list and of an option. Nothing of this is proved; it is tested.
 //!
 //! Values that the proved calls take are the same types here, but for `kinds` and `imports`, whose enums have the crate's cases and sizes, and `From` both ways.
 //!
-//! What the proved calls answer as a refusal is what it is in the crate: a panic where a count, run or length would pass 4294967295, and [`handle_alloc_error`] where memory is
-//! refused.
+//! What the proved calls return as an error ends as in the crate: a panic where a count, run or length would pass 4294967295, and [`handle_alloc_error`] where memory is
+//! refused. Sinks that refuse nothing (`entries`) leave the proved encoders no path for an error.
 
 #[rustfmt::skip]
 mod calls;

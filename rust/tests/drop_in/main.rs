@@ -18,6 +18,7 @@ extern crate core as vec;
 mod cases;
 mod checks;
 mod every_call;
+mod lengths;
 mod moved;
 mod programs;
 mod refusals;
