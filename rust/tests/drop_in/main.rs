@@ -21,6 +21,7 @@ mod every_call;
 mod lengths;
 mod moved;
 mod programs;
+mod random;
 mod refusals;
 mod rows;
 mod said_lengths;
