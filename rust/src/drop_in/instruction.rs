@@ -1275,6 +1275,8 @@ pub enum Instruction<'a> {
 
 /// The same instruction for the proved calls. Its lists are borrowed.
 impl<'a> From<&'a Instruction<'_>> for insn::Instruction<'a> {
+    // Inline, so that only who uses it compiles it.
+    #[inline]
     fn from(instruction: &'a Instruction<'_>) -> Self {
         match instruction {
             Instruction::Unreachable => insn::Instruction::Unreachable,
@@ -2598,10 +2600,17 @@ fn write_3<T: base::Encode, U: base::Encode, V: base::Encode>(
     append(&(op_of(op), first, (second, third)), sink)
 }
 
-/// Appends the encoding of the proved value.
+/// Appends the encoding of the proved value, where the fields are not the immediates one by one.
 #[inline(never)]
 fn write_proved(instruction: &Instruction<'_>, sink: &mut Vec<u8>) {
-    append(&insn::Instruction::from(instruction), sink)
+    let proved: insn::Instruction = match instruction {
+        Instruction::BrOnCast { relative_depth: a, from_ref_type: b, to_ref_type: c } => insn::Instruction::BrOnCast { relative_depth: *a, from_ref_type: *b, to_ref_type: *c },
+        Instruction::BrOnCastFail { relative_depth: a, from_ref_type: b, to_ref_type: c } => insn::Instruction::BrOnCastFail { relative_depth: *a, from_ref_type: *b, to_ref_type: *c },
+        Instruction::BrOnCastDescEq { relative_depth: a, from_ref_type: b, to_ref_type: c } => insn::Instruction::BrOnCastDescEq { relative_depth: *a, from_ref_type: *b, to_ref_type: *c },
+        Instruction::BrOnCastDescEqFail { relative_depth: a, from_ref_type: b, to_ref_type: c } => insn::Instruction::BrOnCastDescEqFail { relative_depth: *a, from_ref_type: *b, to_ref_type: *c },
+        _ => unreachable!("its fields are its immediates"),
+    };
+    append(&proved, sink)
 }
 
 /// The op, and its parts.
