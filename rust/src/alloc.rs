@@ -2,8 +2,8 @@
 //!
 //! Every list of the package takes its memory from the global allocator of the program, and answers where that has none. Before each such request its allocator
 //! is asked: [`Global`] grants all, and one of your own can hold a builder to a budget, or refuse each request in turn in a test.
-use std::collections::TryReserveError;
-use std::fmt;
+use alloc_crate::collections::TryReserveError;
+use core::fmt;
 
 /// A request for memory was refused.
 #[derive(Clone, Copy, PartialEq, Eq, Debug)]
@@ -15,7 +15,7 @@ impl fmt::Display for AllocError {
     }
 }
 
-impl std::error::Error for AllocError {}
+impl core::error::Error for AllocError {}
 
 impl From<TryReserveError> for AllocError {
     fn from(_: TryReserveError) -> Self {
@@ -23,6 +23,8 @@ impl From<TryReserveError> for AllocError {
     }
 }
 
+/// With the feature `std`.
+#[cfg(feature = "std")]
 impl From<AllocError> for std::io::Error {
     fn from(_: AllocError) -> Self {
         std::io::ErrorKind::OutOfMemory.into()

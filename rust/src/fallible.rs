@@ -29,7 +29,7 @@
 //! [`ExportKind`], [`TagKind`], [`TagType`], [`EntityType`], [`Import`] and [`ImportCompact`] convert both ways.
 //! `Instruction::from(&instruction)` converts an instruction of the root, and borrows its lists.
 //!
-//! A glob import of this module hides the [`Vec`](std::vec::Vec) and [`String`](std::string::String) of `std`.
+//! A glob import of this module hides the [`Vec`](alloc_crate::vec::Vec) and [`String`](alloc_crate::string::String) of `std`.
 //!
 //! # Proved and asked
 //!

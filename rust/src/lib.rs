@@ -4,9 +4,16 @@
 //! These calls ask something of their caller that types don't keep: mostly that an iterator ends, or that one of known length tells it truly.
 //!
 #![doc = include_str!("asks.md")]
+#![no_std]
 #![forbid(unsafe_code)]
 
-#[cfg(not(target_pointer_width = "64"))]
+// `alloc` is a module here.
+extern crate alloc as alloc_crate;
+#[cfg(feature = "std")]
+extern crate std;
+
+// `tools/wasm32` sets `dolzhytik_any_width`, to run tests where pointers have 32 bits.
+#[cfg(not(any(target_pointer_width = "64", dolzhytik_any_width)))]
 compile_error!("the proofs take a pointer to have 64 bits, and this target's have not");
 
 #[cfg(feature = "wasmparser")]

@@ -1,8 +1,8 @@
 //! Text whose requests for memory can be refused.
 use crate::alloc::{AllocError, Allocator, Global};
 use crate::vec::Vec;
-use std::fmt;
-use std::ops::Deref;
+use core::fmt;
+use core::ops::Deref;
 
 /// Text that answers where memory is refused, and never aborts.
 pub struct String<A: Allocator = Global> {

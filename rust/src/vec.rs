@@ -1,9 +1,8 @@
 //! Vectors whose requests for memory can be refused, and what bytes are appended to.
 use crate::alloc::{AllocError, AllocFailed, Allocator, Global};
-use std::fmt;
-use std::io;
-use std::ops::{Deref, DerefMut};
-use std::vec;
+use alloc_crate::vec;
+use core::fmt;
+use core::ops::{Deref, DerefMut};
 
 /// A vector that answers where memory is refused, and never aborts.
 ///
@@ -217,13 +216,15 @@ impl<T, A: Allocator> From<Vec<T, A>> for vec::Vec<T> {
     }
 }
 
-impl<A: Allocator> io::Write for Vec<u8, A> {
-    fn write(&mut self, bytes: &[u8]) -> io::Result<usize> {
+/// With the feature `std`.
+#[cfg(feature = "std")]
+impl<A: Allocator> std::io::Write for Vec<u8, A> {
+    fn write(&mut self, bytes: &[u8]) -> std::io::Result<usize> {
         self.extend_from_slice(bytes)?;
         Ok(bytes.len())
     }
 
-    fn flush(&mut self) -> io::Result<()> {
+    fn flush(&mut self) -> std::io::Result<()> {
         Ok(())
     }
 }
@@ -239,7 +240,7 @@ impl<T, A: Allocator> IntoIterator for Vec<T, A> {
 
 impl<'a, T, A: Allocator> IntoIterator for &'a Vec<T, A> {
     type Item = &'a T;
-    type IntoIter = std::slice::Iter<'a, T>;
+    type IntoIter = core::slice::Iter<'a, T>;
 
     fn into_iter(self) -> Self::IntoIter {
         self.items.iter()
@@ -378,7 +379,7 @@ impl Sink for vec::Vec<u8> {
 
     #[inline]
     fn extend<I: IntoIterator<Item = u8>>(&mut self, bytes: I) -> Result<(), AllocError> {
-        let mut lent = Vec::from(std::mem::take(self));
+        let mut lent = Vec::from(core::mem::take(self));
         let answer = lent.extend(bytes);
         *self = lent.into();
         answer
@@ -398,5 +399,5 @@ mod sealed {
 
     impl<A: super::Allocator> Sealed for super::Vec<u8, A> {}
 
-    impl Sealed for std::vec::Vec<u8> {}
+    impl Sealed for alloc_crate::vec::Vec<u8> {}
 }

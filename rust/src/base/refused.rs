@@ -37,8 +37,8 @@ impl<T> From<AllocFailed<T>> for Refused {
     }
 }
 
-impl ::std::fmt::Display for Refused {
-    fn fmt(&self, f: &mut ::std::fmt::Formatter<'_>) -> ::std::fmt::Result {
+impl ::core::fmt::Display for Refused {
+    fn fmt(&self, f: &mut ::core::fmt::Formatter<'_>) -> ::core::fmt::Result {
         match self {
             Self::Memory => f.write_str("out of memory"),
             Self::TooLong => f.write_str("too long"),
@@ -46,4 +46,4 @@ impl ::std::fmt::Display for Refused {
     }
 }
 
-impl ::std::error::Error for Refused {}
+impl ::core::error::Error for Refused {}

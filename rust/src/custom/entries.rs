@@ -4,7 +4,7 @@
 use crate::vec::{Sink, Vec};
 use crate::custom::custom_section::{CustomSection, begin_custom};
 use crate::alloc::{Allocator, Global};
-use std::marker::PhantomData;
+use core::marker::PhantomData;
 use crate::base::{CowSlice, CowStr, Encode, EncodeOnce, Kind, Pieces, R, Section, SectionId, encoding_size};
 
 /// A kind of custom section: its items, its name, what stands before its entries, and whether these are counted.

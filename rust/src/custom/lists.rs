@@ -4,7 +4,7 @@
 use crate::vec::Sink;
 use crate::custom::subsections::{Content, Subsection};
 use crate::alloc::{Allocator, Global};
-use std::marker::PhantomData;
+use core::marker::PhantomData;
 use crate::base::{Encode, Pieces, R, encoding_size};
 
 /// A kind of members of a list: how they are written.

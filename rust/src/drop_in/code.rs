@@ -5,6 +5,7 @@ use crate::alloc::Global;
 use crate::base::{self, R, ValType, vec_of};
 use crate::code::code_section::RawBody;
 use crate::{code, insn};
+use alloc_crate::vec::Vec;
 
 /// Writes instructions behind the bytes of a list, with a named call for each.
 ///

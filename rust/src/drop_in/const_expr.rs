@@ -8,7 +8,8 @@ use crate::code::first::First;
 use crate::immediates::{Ieee32, Ieee64};
 use crate::insn::InstructionSink;
 use crate::vec::Sink;
-use std::fmt;
+use alloc_crate::vec::Vec;
+use core::fmt;
 
 /// An expression that gives a constant. A few instructions take no memory of their own.
 ///

@@ -8,8 +8,10 @@ use super::{
 use crate::alloc::Global;
 use crate::base::{CowSlice, CowStr};
 use crate::custom;
-use std::borrow::Cow;
-use std::fmt;
+use alloc_crate::borrow::Cow;
+use alloc_crate::string::String;
+use alloc_crate::vec::Vec;
+use core::fmt;
 
 /// A custom section of these data.
 #[derive(Clone, Debug, PartialEq)]

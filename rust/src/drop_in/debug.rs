@@ -1,6 +1,7 @@
 //! `Debug` of the builders: a struct of the builder's own name, with the bytes of its entries and mostly their number.
 use crate::base::Encode;
-use std::fmt;
+use alloc_crate::vec::Vec;
+use core::fmt;
 
 /// A part of an encoding before the entries.
 #[derive(Clone, Copy)]
@@ -56,8 +57,8 @@ impl fmt::Debug for Bytes {
 macro_rules! debugged {
     ($($name:ident after [$($before:ident)*] $($number:ident)?),*) => {
         $(
-            impl std::fmt::Debug for $name {
-                fn fmt(&self, f: &mut std::fmt::Formatter<'_>) -> std::fmt::Result {
+            impl core::fmt::Debug for $name {
+                fn fmt(&self, f: &mut core::fmt::Formatter<'_>) -> core::fmt::Result {
                     use $crate::drop_in::debug::{Before, Bytes, after};
                     let bytes = Bytes(after(&self.0, &[$(Before::$before),*]));
                     f.debug_struct(stringify!($name))

@@ -9,6 +9,7 @@ use crate::immediates::{
 };
 use crate::sections::{DataCountSection, GlobalType, MemoryType, StartSection, TableType};
 use crate::types::{ArrayType, ContType, FieldType, StorageType};
+use alloc_crate::vec::Vec;
 
 /// A value that a module can hold as bytes.
 ///

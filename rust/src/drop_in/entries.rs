@@ -3,7 +3,8 @@ use super::{done, refuse};
 use crate::alloc::AllocError;
 use crate::base::{Encode, EncodeOnce, Refused, encode_section};
 use crate::vec::{Sealed, Sink};
-use std::ops::{Deref, DerefMut};
+use alloc_crate::vec::Vec;
+use core::ops::{Deref, DerefMut};
 
 /// The bytes that a list of a few has room for, and those of one that outgrows it.
 pub const FEW: usize = 16;

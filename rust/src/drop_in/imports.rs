@@ -3,7 +3,8 @@ use super::{ImportSection, TagType, by_proved, handed};
 use crate::base::CowSlice;
 use crate::sections;
 use crate::sections::{GlobalType, MemoryType, TableType};
-use std::borrow::Cow;
+use alloc_crate::borrow::Cow;
+use alloc_crate::vec::Vec;
 
 /// The type of an imported item.
 ///

@@ -6,8 +6,9 @@ use super::entries::append;
 use crate::base::{self, CowSlice, HeapType, Lent, R, RefType, ValType};
 use crate::insn::{self, BlockType, Catch, Handle, Ieee32, Ieee64, Lane, MemArg, Op, Ordering};
 use crate::vec::Sink;
-use std::borrow::Cow;
-use std::slice;
+use alloc_crate::borrow::Cow;
+use alloc_crate::vec::Vec;
+use core::slice;
 
 /// An instruction.
 ///

@@ -1,6 +1,7 @@
 //! The kinds of sections, exports and tags: enums of one byte, with the crate's cases and numbers.
 use super::{Encode, by_proved};
 use crate::{base, sections};
+use alloc_crate::vec::Vec;
 
 /// The id of a section, by the WebAssembly core specification, "Binary Format", "Modules".
 ///

@@ -62,8 +62,8 @@ pub use types::{
 };
 
 use crate::base::{CowSlice, R, Refused};
-use std::alloc::{Layout, handle_alloc_error};
-use std::borrow::Cow;
+use alloc_crate::alloc::{Layout, handle_alloc_error};
+use alloc_crate::borrow::Cow;
 
 /// What a refusal is here. How much memory was asked for isn't known any more.
 #[cold]
@@ -138,7 +138,7 @@ macro_rules! encoded {
         $(
             impl $crate::drop_in::Encode for $name {
                 #[inline]
-                fn encode(&self, sink: &mut Vec<u8>) {
+                fn encode(&self, sink: &mut alloc_crate::vec::Vec<u8>) {
                     $crate::drop_in::entries::append(&self.0, sink)
                 }
             }
@@ -152,7 +152,7 @@ macro_rules! by_proved {
         $(
             impl $crate::drop_in::Encode for $name {
                 #[inline]
-                fn encode(&self, sink: &mut Vec<u8>) {
+                fn encode(&self, sink: &mut alloc_crate::vec::Vec<u8>) {
                     let proved = $crate::$module::$name::from(self.clone());
                     $crate::drop_in::entries::append(&proved, sink)
                 }
@@ -215,7 +215,7 @@ macro_rules! listed {
 
         impl $crate::drop_in::Encode for $name {
             #[inline]
-            fn encode(&self, sink: &mut Vec<u8>) {
+            fn encode(&self, sink: &mut alloc_crate::vec::Vec<u8>) {
                 self.0.encode(sink)
             }
         }
@@ -227,8 +227,8 @@ macro_rules! listed {
             }
         }
 
-        impl std::fmt::Debug for $name {
-            fn fmt(&self, f: &mut std::fmt::Formatter<'_>) -> std::fmt::Result {
+        impl core::fmt::Debug for $name {
+            fn fmt(&self, f: &mut core::fmt::Formatter<'_>) -> core::fmt::Result {
                 f.debug_struct(stringify!($name))
                     .field("bytes", &self.0.bytes.0)
                     .field("num_added", &self.0.count)

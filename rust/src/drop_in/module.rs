@@ -3,6 +3,7 @@ use super::entries::append;
 use super::{Encode, Section, default, done};
 use crate::alloc::Global;
 use crate::base;
+use alloc_crate::vec::Vec;
 
 /// A module.
 ///

@@ -7,7 +7,7 @@ use crate::sections::data::{ACTIVE, ACTIVE_IN_MEMORY, PASSIVE};
 use crate::sections::table::BEFORE_INIT;
 use crate::sections::{Export, GlobalType, MemoryType, TableType};
 use crate::vec::Sink;
-use std::borrow::Cow;
+use alloc_crate::borrow::Cow;
 
 /// Writes a section whose entries are encoded by the proved calls.
 macro_rules! sections {

@@ -7,8 +7,9 @@ use crate::types;
 use crate::types::type_section::REC;
 use crate::types::types::{FUNC, STRUCT};
 use crate::types::{ArrayType, ContType, FieldType, StorageType};
-use std::fmt;
-use std::hash::{Hash, Hasher};
+use alloc_crate::boxed::Box;
+use core::fmt;
+use core::hash::{Hash, Hasher};
 
 /// The type of a function.
 pub struct FuncType(types::FuncType);

@@ -2,7 +2,7 @@
 use crate::base::{AbstractHeapType, HeapType, RefType, ValType};
 use crate::immediates::{Ieee32, Ieee64};
 use crate::types::StorageType;
-use std::cmp::Ordering;
+use core::cmp::Ordering;
 
 impl From<f32> for Ieee32 {
     fn from(value: f32) -> Self {

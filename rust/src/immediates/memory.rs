@@ -2,7 +2,7 @@
 // The arguments of instructions that access memory.
 
 use crate::vec::Sink;
-use std::default::Default;
+use core::default::Default;
 use crate::base::{Encode, R};
 
 /// The number of a lane of a vector.

@@ -10,7 +10,7 @@ use crate::insn::prefixed_numeric::PrefixedNumeric;
 use crate::insn::vector::Vector;
 use crate::insn::vector_immediate::VectorImmediate;
 use crate::alloc::{Allocator, Global};
-use std::slice;
+use core::slice;
 use crate::base::{CowSlice, Encode, HeapType, R, RefType, Refused, ValType};
 use crate::immediates::{BlockType, Catch, Handle, Ieee32, Ieee64, MemArg};
 

@@ -4,7 +4,7 @@
 use crate::vec::Sink;
 use crate::insn::op::Op;
 use crate::insn::vector_immediate::vector_bytes;
-use std::slice;
+use core::slice;
 use crate::base::{Encode, HeapType, R, Refused, ValType, encode_vec};
 use crate::immediates::{BlockType, Ieee32, Ieee64, MemArg};
 

@@ -57,8 +57,8 @@ impl From<Refused> for RecipeFault {
     }
 }
 
-impl ::std::fmt::Display for RecipeCause {
-    fn fmt(&self, f: &mut ::std::fmt::Formatter<'_>) -> ::std::fmt::Result {
+impl ::core::fmt::Display for RecipeCause {
+    fn fmt(&self, f: &mut ::core::fmt::Formatter<'_>) -> ::core::fmt::Result {
         match self {
             Self::UnknownCommand => f.write_str("unknown command"),
             Self::BadNumber => f.write_str("bad number"),
@@ -70,13 +70,13 @@ impl ::std::fmt::Display for RecipeCause {
     }
 }
 
-impl ::std::error::Error for RecipeCause {}
+impl ::core::error::Error for RecipeCause {}
 
-impl ::std::fmt::Display for RecipeFault {
-    fn fmt(&self, f: &mut ::std::fmt::Formatter<'_>) -> ::std::fmt::Result {
+impl ::core::fmt::Display for RecipeFault {
+    fn fmt(&self, f: &mut ::core::fmt::Formatter<'_>) -> ::core::fmt::Result {
         let Self { line, cause } = self;
         write!(f, "line {line}: {cause}")
     }
 }
 
-impl ::std::error::Error for RecipeFault {}
+impl ::core::error::Error for RecipeFault {}

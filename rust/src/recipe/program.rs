@@ -262,16 +262,16 @@ pub fn run<A: Allocator + Copy, I: Read, O: Write, E: Write>(
     }
 }
 
-impl ::std::fmt::Display for Trouble {
-    fn fmt(&self, f: &mut ::std::fmt::Formatter<'_>) -> ::std::fmt::Result {
+impl ::core::fmt::Display for Trouble {
+    fn fmt(&self, f: &mut ::core::fmt::Formatter<'_>) -> ::core::fmt::Result {
         match self {
             Self::Usage => f.write_str("usage: wasmrow [--read]"),
             Self::NotText => f.write_str("input: not text"),
             Self::BadHex => f.write_str("input: bad hex"),
-            Self::Recipe(inner) => ::std::fmt::Display::fmt(inner, f),
+            Self::Recipe(inner) => ::core::fmt::Display::fmt(inner, f),
             Self::Section { number, fault } => write!(f, "section {number}: {fault}"),
         }
     }
 }
 
-impl ::std::error::Error for Trouble {}
+impl ::core::error::Error for Trouble {}

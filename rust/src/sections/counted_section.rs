@@ -3,7 +3,7 @@
 
 use crate::vec::Sink;
 use crate::alloc::{Allocator, Global};
-use std::marker::PhantomData;
+use core::marker::PhantomData;
 use crate::base::{Counted, Encode, EncodeOnce, Kind, Pieces, R, Section};
 
 /// A kind of items that a section counts.

@@ -3,7 +3,7 @@
 
 use crate::vec::{Sink, Vec};
 use crate::alloc::{Allocator, Global};
-use std::slice;
+use core::slice;
 use crate::base::{Encode, Lent, R, ValType};
 
 /// What a field or an element holds: a value, or a packed number.

@@ -53,6 +53,7 @@ has!(Encode: AbstractHeapType, HeapType, RefType, ValType, StorageType, FieldTyp
 has!(Encode: Function, Ieee32, Ieee64, MemArg, MemArgOrdering, Ordering, BlockType, Instruction<'static>);
 has!(Encode: Catch, Handle, ConstExpr, CoreDumpValue, ExportKind, GlobalType, EntityType, MemoryType);
 has!(Encode: TableType, TagType, SymbolTable, NameMap, IndirectNameMap, ProducersField, SectionId);
+has!(core::error::Error: fallible::AllocError, fallible::Refused, reader::ReadFault);
 has!(Section: BranchHints, CodeSection, CustomSection<'static>, RawCustomSection<'static>, DataSection);
 has!(Section: DataCountSection, CoreDumpSection, CoreDumpModulesSection, CoreDumpInstancesSection);
 has!(Section: CoreDumpStackSection, ElementSection, ExportSection, FunctionSection, GlobalSection);

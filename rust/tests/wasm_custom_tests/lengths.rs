@@ -2,7 +2,7 @@
 // Lengths that are too long are answered before any item is asked for.
 
 use crate::checks::check_text;
-use std::cell::Cell;
+use core::cell::Cell;
 use crate::host::Abort;
 use dolzhytik::fallible::{R, Refused};
 use dolzhytik::fallible::{BranchHint, BranchHints, CoreDumpInstancesSection, CoreDumpStackSection, CoreDumpValue};

@@ -2,7 +2,7 @@
 // Lengths that are too long are answered before any item is asked for.
 
 use dolzhytik::fallible::Vec;
-use std::cell::Cell;
+use core::cell::Cell;
 use crate::host::Abort;
 use dolzhytik::fallible::{R, Refused, encode_vec};
 use dolzhytik::fallible::InstructionSink;

@@ -3,7 +3,7 @@
 
 use crate::checks::check_bytes;
 use dolzhytik::fallible::Global;
-use std::cell::Cell;
+use core::cell::Cell;
 use crate::host::Abort;
 use dolzhytik::fallible::{Refused, ValType};
 use dolzhytik::fallible::Function;

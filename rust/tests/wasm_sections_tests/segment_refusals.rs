@@ -5,7 +5,7 @@ use dolzhytik::fallible::Vec;
 use crate::checks::{check_answer, check_bytes, check_number, check_refused, check_that};
 use crate::section_refusals::{OnHeap, SectionCalls, check_calls, check_part};
 use dolzhytik::fallible::Global;
-use std::cell::Cell;
+use core::cell::Cell;
 use crate::host::Abort;
 use crate::test_support::{MOST, Refusing};
 use dolzhytik::fallible::{CowSlice, Encode, R, RefType, Refused};

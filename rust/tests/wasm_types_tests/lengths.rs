@@ -4,7 +4,7 @@
 use crate::checks::check_text;
 use crate::samples::{BYTE, bytes, sub};
 use dolzhytik::fallible::Global;
-use std::cell::Cell;
+use core::cell::Cell;
 use crate::host::Abort;
 use dolzhytik::fallible::{R, Refused, ValType};
 use dolzhytik::fallible::{SubType, TypeSection};

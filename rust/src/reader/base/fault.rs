@@ -76,8 +76,8 @@ impl From<Refused> for ReadFault {
     }
 }
 
-impl ::std::fmt::Display for ReadFault {
-    fn fmt(&self, f: &mut ::std::fmt::Formatter<'_>) -> ::std::fmt::Result {
+impl ::core::fmt::Display for ReadFault {
+    fn fmt(&self, f: &mut ::core::fmt::Formatter<'_>) -> ::core::fmt::Result {
         match self {
             Self::Ended => f.write_str("Ended"),
             Self::NotShortest => f.write_str("NotShortest"),
@@ -91,4 +91,4 @@ impl ::std::fmt::Display for ReadFault {
     }
 }
 
-impl ::std::error::Error for ReadFault {}
+impl ::core::error::Error for ReadFault {}

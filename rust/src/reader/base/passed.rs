@@ -4,7 +4,7 @@
 use crate::reader::base::fault::ReadFault;
 use crate::reader::base::readable::Readable;
 use crate::alloc::Allocator;
-use std::marker::PhantomData;
+use core::marker::PhantomData;
 
 /// A value that stands at the front of bytes, as [`Readable`] has it, where the bytes after it are wanted and the value isn't.
 ///

@@ -1,0 +1,111 @@
+//! What a test program needs on wasm32 without `std`: an allocator, a panic handler, the names of `std` that the tests
+//! use, and the calls that `run.mjs` makes. `tools/wasm32` declares this module in the root of each test program.
+use alloc_crate::alloc::{GlobalAlloc, Layout};
+use core::arch::wasm32::{memory_grow, memory_size, unreachable};
+use core::fmt::Debug;
+use core::panic::PanicInfo;
+use core::ptr;
+use core::sync::atomic::{AtomicUsize, Ordering};
+
+/// The types and traits that a program with `std` has without a `use`. Its macros are in the root.
+pub mod prelude {
+    pub use alloc_crate::borrow::ToOwned;
+    pub use alloc_crate::boxed::Box;
+    pub use alloc_crate::string::{String, ToString};
+    pub use alloc_crate::vec::Vec;
+}
+
+/// The modules and macros of `std` that the tests name.
+pub mod std {
+    pub use alloc_crate::{borrow, boxed, fmt, format, string, vec};
+    pub use core::{assert, assert_eq, cell, cmp, hash, iter, mem, ops, panic, slice};
+}
+
+/// The end of a test: those that return a `Result` fail with its error.
+pub trait Outcome {
+    fn check(self);
+}
+
+impl Outcome for () {
+    fn check(self) {}
+}
+
+impl<E: Debug> Outcome for Result<(), E> {
+    fn check(self) {
+        self.unwrap();
+    }
+}
+
+/// Allocates from new pages of the memory, in order, and never frees.
+struct Heap {
+    /// The address behind the last allocation; 0 before the first.
+    end: AtomicUsize,
+}
+
+#[global_allocator]
+static HEAP: Heap = Heap {
+    end: AtomicUsize::new(0),
+};
+
+const PAGE: usize = 1 << 16;
+
+// SAFETY: `alloc` returns null, or an aligned pointer to bytes behind all earlier allocations, in
+// pages that the linker does not use. There is one thread.
+unsafe impl GlobalAlloc for Heap {
+    unsafe fn alloc(&self, layout: Layout) -> *mut u8 {
+        let pages = memory_size(0);
+        let end = match self.end.load(Ordering::Relaxed) {
+            0 => pages.saturating_mul(PAGE),
+            end => end,
+        };
+        let first = end
+            .checked_next_multiple_of(layout.align())
+            .and_then(|first| Some((first, first.checked_add(layout.size())?)));
+        let Some((first, end)) = first else {
+            return ptr::null_mut();
+        };
+        let more = end.div_ceil(PAGE).saturating_sub(pages);
+        if more > 0 && memory_grow(0, more) == usize::MAX {
+            return ptr::null_mut();
+        }
+        self.end.store(end, Ordering::Relaxed);
+        ptr::with_exposed_provenance_mut(first)
+    }
+
+    unsafe fn dealloc(&self, _first: *mut u8, _layout: Layout) {}
+}
+
+#[link(wasm_import_module = "host")]
+unsafe extern "C" {
+    /// Takes the name of a test, or the message of a panic.
+    fn tell(first: *const u8, len: usize);
+}
+
+fn say(text: &str) {
+    // SAFETY: the host reads the text, and keeps no pointer.
+    unsafe { tell(text.as_ptr(), text.len()) }
+}
+
+#[panic_handler]
+fn stop(panic: &PanicInfo) -> ! {
+    say(&format!("{panic}"));
+    unreachable()
+}
+
+/// The number of tests.
+#[unsafe(no_mangle)]
+extern "C" fn count() -> usize {
+    crate::TESTS.len()
+}
+
+/// Tells the name of a test.
+#[unsafe(no_mangle)]
+extern "C" fn name(test: usize) {
+    say(crate::TESTS[test].0);
+}
+
+/// Runs a test, which traps where it fails.
+#[unsafe(no_mangle)]
+extern "C" fn run(test: usize) {
+    crate::TESTS[test].1();
+}
