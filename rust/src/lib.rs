@@ -12,9 +12,8 @@ extern crate alloc as alloc_crate;
 #[cfg(feature = "std")]
 extern crate std;
 
-// `tools/wasm32` sets `dolzhytik_any_width`, to run tests where pointers have 32 bits.
-#[cfg(not(any(target_pointer_width = "64", dolzhytik_any_width)))]
-compile_error!("the proofs take a pointer to have 64 bits, and this target's have not");
+#[cfg(not(any(target_pointer_width = "32", target_pointer_width = "64")))]
+compile_error!("a pointer must have 32 or 64 bits");
 
 #[cfg(feature = "wasmparser")]
 compile_error!(

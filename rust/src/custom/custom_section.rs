@@ -25,12 +25,11 @@ pub(crate) fn begin_custom<A: Sink>(sink: &mut A, name: &str, size: usize) -> R<
     let Ok(short) = u32::try_from(name.len()) else {
         return Err(Refused::TooLong);
     };
-    begin_frame(
-        sink,
-        name.len()
-            .saturating_add(encoding_size(short))
-            .saturating_add(size),
-    )?;
+    let named = u64::from(short).saturating_add(encoding_size(short) as u64);
+    let Ok(total) = u32::try_from(named.saturating_add(size as u64)) else {
+        return Err(Refused::TooLong);
+    };
+    begin_frame(sink, total as usize)?;
     name.encode(sink).unwrap();
     Ok(())
 }
