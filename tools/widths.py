@@ -1,0 +1,108 @@
+"""Finds arithmetic and casts in Rust, for the table tools/widths.tsv of why each is right where `usize` has 32 bits.
+
+An expression is listed by the file, the function and its text: each that has `+`, `-`, `*`, `<<`, a cast to a primitive
+type, or a call of an integer's method that adds, subtracts, multiplies or shifts. Its type is not known here: the table
+says it. Division and remainder are not listed, since their results are not larger than what is divided.
+"""
+import csv
+import re
+
+TOKEN = re.compile(
+    r'''//[^\n]*|/\*.*?\*/|b?"(?:\\.|[^"\\])*"|b?'(?:\\[^']+|[^'\\])'|'[A-Za-z_]\w*|[^\W\d]\w*|\d\w*(?:\.\d\w*)?'''
+    r'''|[-+*]=|<<=?|->|=>|[=!<>]=|&&|\|\||::|\.\.=?|\s+|.''', re.S)
+METHODS = re.compile(r'(?:saturating|wrapping|checked|overflowing|strict|unchecked)_\w+|sum|product|pow|next_power_of_two|next_multiple_of')
+PRIMITIVE = re.compile(r'[iu](?:8|16|32|64|128|size)|f32|f64|char|_')
+TYPE_NAME = re.compile(r'[A-Z]\w*[a-z]\w*')
+KEYWORDS = {'as', 'break', 'else', 'if', 'in', 'let', 'match', 'mut', 'ref', 'return', 'while'}
+ENDS = KEYWORDS - {'as', 'mut', 'ref'} | {';', '{', '}', ',', '=', '=>', '==', '!=', '<=', '>=', '<', '>', '&&', '||', '..', '..=', '->', ':'}
+ASSIGNING = {'+=', '-=', '*=', '<<='}
+OPENING = {'(': ')', '[': ']'}
+CLOSING = {')': '(', ']': '['}
+
+
+class Expressions:
+    """The listed expressions of a file."""
+
+    def __init__(self, text):
+        self.tokens = [token for token in TOKEN.findall(text) if not token.startswith(('//', '/*'))]
+        self.solid = [at for at, token in enumerate(self.tokens) if not token.isspace()]
+
+    def token(self, at):
+        return self.tokens[self.solid[at]] if 0 <= at < len(self.solid) else ''
+
+    def rows(self):
+        """Each function's name and listed expression, in the order of the file, once each."""
+        rows = {}
+        function = ''
+        for at in range(len(self.solid)):
+            if self.token(at) == 'fn':
+                function = self.token(at + 1)
+            elif self.is_listed(at):
+                rows[function, self.around(at)] = None
+        return list(rows)
+
+    def is_listed(self, at):
+        token = self.token(at)
+        if token in ASSIGNING:
+            return True
+        if token == 'as':
+            return bool(PRIMITIVE.fullmatch(self.token(at + 1)))
+        if token in ('+', '-', '*'):
+            return self.has_left(at) and not (token == '+' and self.is_bound(at))
+        if token == '<<':
+            return self.token(at + 2) not in ('as', '::', '<')
+        return bool(METHODS.fullmatch(token)) and self.token(at - 1) in ('.', '::') and self.token(at + 1) in ('(', '::')
+
+    def has_left(self, at):
+        """Whether an operand is before the operator of this place."""
+        before = self.token(at - 1)
+        return before not in KEYWORDS and bool(re.match(r'''[\w)\]?"']''', before))
+
+    def is_bound(self, at):
+        """Whether the `+` of this place joins bounds: a lifetime or the name of a trait is behind it."""
+        at += 1
+        while self.token(at + 1) == '::':
+            at += 2
+        name = self.token(at)
+        is_trait = bool(TYPE_NAME.fullmatch(name)) and self.token(at + 1) not in ('(', '::', '.')
+        return name.startswith("'") or is_trait
+
+    def around(self, at):
+        """The text of the largest expression that has the operator of this place outside of its brackets."""
+        ends = {';', '{', '}', '=>'} if self.token(at) in ASSIGNING else ENDS
+        first, last = at, at
+        while self.token(first - 1) and self.token(first - 1) not in ends | set(OPENING):
+            first = self.opening(first - 1)
+        while self.token(last + 1) and self.token(last + 1) not in ends | set(CLOSING):
+            last = self.closing(last + 1)
+        text = ' '.join(''.join(self.tokens[self.solid[first]:self.solid[last] + 1]).split())
+        return re.sub(r'(?<=[(\[]) | (?=\.\w)|,? (?=[)\]])', '', text)
+
+    def opening(self, at):
+        """The place of the bracket that opens what the one of this place closes, or this place."""
+        depth = 0
+        while True:
+            depth += (self.token(at) in CLOSING) - (self.token(at) in OPENING)
+            if depth == 0:
+                return at
+            at -= 1
+
+    def closing(self, at):
+        """The place of the bracket that closes what the one of this place opens, or this place."""
+        depth = 0
+        while True:
+            depth += (self.token(at) in OPENING) - (self.token(at) in CLOSING)
+            if depth == 0:
+                return at
+            at += 1
+
+
+def table(path):
+    """The rows of the table: file, function and expression, and for each its type and the reason."""
+    with open(path, encoding='utf-8', newline='') as file:
+        lines = [line for line in file if not line.startswith('#')]
+    rows = list(csv.DictReader(lines, delimiter='\t', quoting=csv.QUOTE_NONE))
+    for row in rows:
+        if row['type'] == 'usize' and not row['why']:
+            raise SystemExit(f'{path}: no reason: {row["expression"]}')
+    return {(row['file'], row['function'], row['expression']): (row['type'], row['why']) for row in rows}
