@@ -283,6 +283,10 @@ pub trait Sink: DerefMut<Target = [u8]> + Sealed {
     fn truncate(&mut self, len: usize);
 }
 
+/// The most bytes of an iterator that are collected on the stack. A loop over an array is unrolled, and one that
+/// grows a vector is not: it copies up to 64 bytes one by one.
+const SHORT: usize = 256;
+
 impl<A: Allocator> Sink for Vec<u8, A> {
     #[inline]
     fn capacity(&self) -> usize {
@@ -320,6 +324,23 @@ impl<A: Allocator> Sink for Vec<u8, A> {
 
     #[inline]
     fn extend<I: IntoIterator<Item = u8>>(&mut self, bytes: I) -> Result<(), AllocError> {
+        let mut bytes = bytes.into_iter();
+        if let (least, Some(most)) = bytes.size_hint()
+            && least == most
+            && most <= SHORT
+        {
+            let mut block = [0; SHORT];
+            let slots = &mut block[..most];
+            let mut given = 0;
+            while given < slots.len()
+                && let Some(byte) = bytes.next()
+            {
+                slots[given] = byte;
+                given += 1;
+            }
+            self.extend_from_slice(&slots[..given])?;
+        }
+        // An iterator may hold more bytes than it said.
         self.extend(bytes)
     }
 
