@@ -1,0 +1,13 @@
+//! The WebAssembly module of the JavaScript package. `border` has what JavaScript calls; the other
+//! modules are safe Rust, and their tests run on any platform.
+#![cfg_attr(target_arch = "wasm32", no_std)]
+#![cfg_attr(not(target_arch = "wasm32"), allow(dead_code))]
+
+mod answers;
+mod block;
+mod failure;
+mod heap;
+mod sections;
+
+#[cfg(target_arch = "wasm32")]
+mod border;
