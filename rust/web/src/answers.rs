@@ -11,19 +11,19 @@ use dolzhytik::reader::{
 };
 
 /// The status of a block that has what was asked for.
-const DONE: u32 = 0;
+pub const DONE: u32 = 0;
 
 /// A block, or why there is none.
 pub type Answer<'a> = Result<Vec<u8>, Failure<'a>>;
 
 /// A failure at the section with this number, or at the header for 0.
-fn at<'a>(module: &[u8], number: usize, cause: Cause<'a>) -> Failure<'a> {
+pub fn at<'a>(module: &[u8], number: usize, cause: Cause<'a>) -> Failure<'a> {
     let start = start_of(module, number);
     let place = Place::Section { number, start };
     Failure { place, cause }
 }
 
-fn no_module<'a>(module: &[u8], number: usize, fault: ReadFault) -> Failure<'a> {
+pub fn no_module<'a>(module: &[u8], number: usize, fault: ReadFault) -> Failure<'a> {
     let cause = match number {
         0 => Cause::header(fault),
         _ => Cause::section(fault),
@@ -31,7 +31,7 @@ fn no_module<'a>(module: &[u8], number: usize, fault: ReadFault) -> Failure<'a> 
     at(module, number, cause)
 }
 
-pub fn outlined(module: &[u8]) -> Result<Vec<Outlined<'_>>, Failure<'_>> {
+fn outlined(module: &[u8]) -> Result<Vec<Outlined<'_>>, Failure<'_>> {
     reader::outline(Global, module).map_err(|(number, fault)| no_module(module, number, fault))
 }
 

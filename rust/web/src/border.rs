@@ -4,6 +4,7 @@
 //! of a block, or 0 where memory is refused. The caller frees both by `dz_free`.
 use crate::answers::{self, Answer};
 use crate::heap::{ALIGNMENT, Heap, Memory};
+use crate::items;
 use core::alloc::{GlobalAlloc, Layout};
 use core::arch::wasm32::{memory_grow, memory_size, unreachable};
 use core::cell::UnsafeCell;
@@ -142,7 +143,9 @@ fn leak(answer: Answer<'_>) -> u32 {
         Err(failure) => failure.block(),
     };
     match block {
-        Ok(block) => ManuallyDrop::new(block.into_std()).as_ptr().expose_provenance() as u32,
+        Ok(block) => ManuallyDrop::new(block.into_std())
+            .as_ptr()
+            .expose_provenance() as u32,
         Err(_) => 0,
     }
 }
@@ -170,4 +173,5 @@ calls! {
     dz_list() => answers::list;
     dz_minimize(drops_offsets) => answers::minimize;
     dz_assemble() => answers::module_of;
+    dz_items(index limit) => items::items;
 }

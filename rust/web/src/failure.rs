@@ -73,7 +73,10 @@ impl fmt::Display for Cause<'_> {
 /// Where a call fails.
 pub enum Place {
     /// At a section with this number, counted from 1, or at the header for 0, and its offset.
-    Section { number: usize, start: usize },
+    Section {
+        number: usize,
+        start: usize,
+    },
     /// At a line, counted from 1, or behind the last line for 0.
     Line(usize),
     Nowhere,

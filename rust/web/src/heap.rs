@@ -177,7 +177,10 @@ impl<M: Memory> Heap<M> {
             }
             block = self.memory.load(block + 8);
         }
-        self.bins[bin + 1..].iter().copied().find(|block| *block != 0)
+        self.bins[bin + 1..]
+            .iter()
+            .copied()
+            .find(|block| *block != 0)
     }
 
     /// Adds pages, and returns a free block of at least this size.

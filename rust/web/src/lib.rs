@@ -7,7 +7,10 @@ mod answers;
 mod block;
 mod failure;
 mod heap;
+mod items;
+mod read;
 mod sections;
+mod texts;
 
 #[cfg(target_arch = "wasm32")]
 mod border;
