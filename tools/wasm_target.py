@@ -49,6 +49,8 @@ def output(*words):
 
 def compiler():
     """The variables of Cargo by which it finds a compiler and a linker of the target."""
+    if not shutil.which('cargo'):
+        raise NotRun('there is no cargo')
     folder = output('rustc', '--print', 'target-libdir', '--target', TARGET).strip()
     if folder and list(pathlib.Path(folder).glob('libcore-*.rlib')):
         return {}
@@ -150,8 +152,6 @@ def sysroot(folder):
 
 def cargo(*words):
     """Runs Cargo for the target, in release."""
-    if not shutil.which('cargo'):
-        raise NotRun('there is no cargo')
     env = compiler()
     flags = {'RUSTFLAGS': '-C linker-flavor=wasm-ld'} if 'RUSTC' in env else {}
     env = {**os.environ, **env, **flags, 'CARGO_TARGET_DIR': str(OUT), 'CARGO_NET_OFFLINE': 'true'}
