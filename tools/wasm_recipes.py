@@ -1,10 +1,9 @@
 """Assembles random recipes by the native program `wasmrow` and by `assemble` of the JavaScript package, for tools/wasm32.
 
-tools/both-builds makes the recipes. The modules, and the lines and causes of errors, must be equal. The native results
-are kept in rust/target/wasm32/recipes while the program and the recipes stay the same.
+tools/both-builds makes the recipes. The modules, and the lines and causes of errors, must be equal. The recipes and the
+native results are kept in rust/target/wasm32/recipes while the program and the generator stay the same.
 """
 import concurrent.futures
-import functools
 import hashlib
 import importlib.machinery
 import importlib.util
@@ -18,25 +17,18 @@ import subprocess
 from wasm_target import OUT, TARGET, TOP, cargo
 
 COUNT = 10000
-FOLDER = OUT / 'recipes'
+GENERATOR = TOP / 'tools/both-builds'
+WASMROW = TOP / 'rust/target/release/wasmrow'
 WEB = TOP / 'rust/web'
+FOLDER = OUT / 'recipes'
 
 
-@functools.cache
-def both_builds():
-    """The tool of this name, as a module."""
-    loader = importlib.machinery.SourceFileLoader('both_builds', str(TOP / 'tools/both-builds'))
+def generator():
+    """tools/both-builds as a module."""
+    loader = importlib.machinery.SourceFileLoader('both_builds', str(GENERATOR))
     module = importlib.util.module_from_spec(importlib.util.spec_from_loader('both_builds', loader))
     loader.exec_module(module)
     return module
-
-
-@functools.cache
-def texts():
-    """The first recipes of the generator that are UTF-8, since the JavaScript function takes a string."""
-    rng = random.Random(1)
-    made = (both_builds().recipe_of(rng) for _ in itertools.count())
-    return [recipe.decode() for recipe in itertools.islice(filter(is_utf8, made), COUNT)]
 
 
 def is_utf8(recipe):
@@ -46,24 +38,35 @@ def is_utf8(recipe):
         return False
 
 
+def assembled():
+    """Random recipes with what `wasmrow` writes: a module in hexadecimal digits, or an error.
+
+    They are UTF-8, since the JavaScript function takes a string.
+    """
+    tool = generator()
+    rng = random.Random(1)
+    made = (tool.recipe_of(rng) for _ in itertools.count())
+    recipes = list(itertools.islice(filter(is_utf8, made), COUNT))
+    with concurrent.futures.ThreadPoolExecutor(os.cpu_count()) as pool:
+        answers = pool.map(lambda recipe: tool.answer_of(WASMROW, [], recipe), recipes)
+        return [(recipe.decode(), (out + err).decode()) for recipe, (out, err, _) in zip(recipes, answers)]
+
+
 def native():
-    """What `wasmrow` writes for each recipe: a module in hexadecimal digits, or an error."""
+    """Builds `wasmrow`, and returns what `assembled` returns, which is kept."""
     words = ['--release', '--bin', 'wasmrow', '--features', 'programs', '--manifest-path', str(TOP / 'rust/Cargo.toml')]
     subprocess.run(['cargo', 'build', *words, '--target-dir', str(TOP / 'rust/target')], check=True)
-    program = TOP / 'rust/target/release/wasmrow'
-    key = hashlib.sha256(program.read_bytes() + '\0'.join(texts()).encode()).hexdigest()
+    key = hashlib.sha256(WASMROW.read_bytes() + GENERATOR.read_bytes()).hexdigest()
     kept = FOLDER / f'{key}.json'
     if not kept.is_file():
+        written = json.dumps(assembled())
         shutil.rmtree(FOLDER, ignore_errors=True)
-        with concurrent.futures.ThreadPoolExecutor(os.cpu_count()) as pool:
-            answers = pool.map(lambda recipe: both_builds().answer_of(program, [], recipe.encode()), texts())
-            written = json.dumps([(out + err).decode() for out, err, _ in answers])
         FOLDER.mkdir(parents=True)
         kept.write_text(written, encoding='utf-8')
     return json.loads(kept.read_text(encoding='utf-8'))
 
 
-def in_node():
+def in_node(recipes):
     """What the JavaScript package returns for each recipe, as `wasmrow` writes it."""
     cargo('build', '--locked', '--manifest-path', str(WEB / 'Cargo.toml'))
     folder = OUT / 'web'
@@ -71,18 +74,18 @@ def in_node():
     shutil.copyfile(OUT / TARGET / 'release/dolzhytik_web.wasm', folder / 'dolzhytik.wasm')
     shutil.copyfile(WEB / 'dolzhytik.js', folder / 'dolzhytik.mjs')
     command = ['node', TOP / 'rust/wasm32/recipes.mjs', folder / 'dolzhytik.mjs']
-    ran = subprocess.run(command, input=json.dumps(texts()), stdout=subprocess.PIPE, encoding='utf-8', check=True)
+    ran = subprocess.run(command, input=json.dumps(recipes), stdout=subprocess.PIPE, encoding='utf-8', check=True)
     return json.loads(ran.stdout)
 
 
-def compared(expected):
+def compared(natively):
     """Compares the results in node with those of `native`, and returns whether they are equal."""
-    answers = list(zip(texts(), in_node(), expected))
-    different = [answer for answer in answers if answer[1] != answer[2]]
-    for recipe, found, natively in different[:5]:
-        print(f'recipes: {recipe!r}: {found!r} in node, and {natively!r} natively')
-    errors = [answer for answer in expected if answer.startswith('line ')]
+    found = in_node([recipe for recipe, _ in natively])
+    different = [(recipe, answer, expected) for (recipe, expected), answer in zip(natively, found) if answer != expected]
+    for recipe, answer, expected in different[:5]:
+        print(f'recipes: {recipe!r}: {answer!r} in node, and {expected!r} natively')
+    errors = [expected for _, expected in natively if expected.startswith('line ')]
     causes = ', '.join(sorted({error.split(': ')[1].strip() for error in errors}))
-    modules = len(answers) - len(errors)
-    print(f'recipes: {len(answers)}, of them {modules} modules, the others: {causes}; {len(different)} differences')
-    return not different and len(answers) == COUNT and modules > 0 and len(errors) > 0
+    modules = len(natively) - len(errors)
+    print(f'recipes: {len(found)}, of them {modules} modules, the others: {causes}; {len(different)} differences')
+    return not different and len(found) == COUNT and modules > 0 and len(errors) > 0
