@@ -18,25 +18,43 @@ class Unknown(Exception):
     """The text has a form of which no copy is made."""
 
 
-def item(lines, head):
-    """Returns the range of lines of an item, such as `fn name`, with its attributes and comments."""
+def first(lines, head):
+    """Returns the number of the one line that begins an item, such as `fn name`."""
     heads = [number for number, line in enumerate(lines) if re.match(rf' *(?:pub )?{head}\b', line)]
     if len(heads) != 1:
         raise Unknown(f'{len(heads)} items begin with `{head}`')
-    first = last = heads[0]
-    indent = re.match(' *', lines[first])[0]
-    while re.match(rf'{indent}(?:#\[|///)', lines[first - 1]):
-        first -= 1
+    return heads[0]
+
+
+def item(lines, head):
+    """Returns the range of lines of an item, with its attributes and comments."""
+    begin = last = first(lines, head)
+    indent = re.match(' *', lines[begin])[0]
+    while re.match(rf'{indent}(?:#\[|///)', lines[begin - 1]):
+        begin -= 1
     while not re.match(rf'{indent}(?:\}}|\S.*[;}}])$', lines[last]):
         last += 1
-    return slice(first, last + 1)
+    return slice(begin, last + 1)
+
+
+def without_name(line, name):
+    """Returns a `use` of one line without a name in its list."""
+    shorter = re.sub(rf'\b{name}, |, {name}\b', '', line, count=1)
+    if shorter == line:
+        raise Unknown(f'there is no {name} in `{line.strip()}`')
+    return shorter
 
 
 def without(text, heads):
-    """Returns the text of a file without the items that begin so."""
+    """Returns the text of a file without the items that begin so, and the names of the form `name of use path`."""
     lines = text.split('\n')
     for head in heads:
-        del lines[item(lines, head)]
+        name, _, use = head.rpartition(' of ')
+        if name:
+            number = first(lines, use)
+            lines[number] = without_name(lines[number], name)
+        else:
+            del lines[item(lines, head)]
     return '\n'.join(lines)
 
 
