@@ -76,13 +76,14 @@ class Copy:
         """Yields the lines of the copy."""
         is_test = False
         for line in lines:
+            line = STD.sub('crate::harness::std::', line)
             if line.strip() == TEST:
                 is_test = True
             elif is_test and FUNCTION.match(line):
                 is_test = False
                 yield self.test(line)
             elif line.strip() != '#[cfg(test)]':
-                yield self.module(STD.sub('crate::harness::std::', line))
+                yield self.module(line)
 
     def test(self, line):
         """Lists a test, and returns the head of a function that the root can call."""
