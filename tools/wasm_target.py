@@ -1,7 +1,8 @@
 """Finds or makes a compiler for wasm32-unknown-unknown: rustup's, where that target is installed, or one of Debian's packages.
 
 Debian's rustc-web is unpacked, not installed, and core and alloc are compiled from its source, which takes a minute once.
-All that is made is in rust/target/wasm32. There is no std.
+Where apt's lists lack the package, or name one that is gone, newer lists are fetched into a folder of their own. All
+that is made is in rust/target/wasm32. There is no std.
 """
 import os
 import pathlib
@@ -13,26 +14,47 @@ TOP = pathlib.Path(__file__).resolve().parent.parent
 OUT = TOP / 'rust/target/wasm32'
 TARGET = 'wasm32-unknown-unknown'
 OLDEST_RUSTC = (1, 88)
+# What apt makes. It gives up soon where there is no network: in each request, and as a whole.
+APT = OUT / 'apt'
+APT_OPTIONS = {
+    'Acquire::Retries': '0',
+    'Acquire::http::Timeout': '10',
+    'Acquire::https::Timeout': '10',
+    'Dir::Cache': f'{APT}/cache',
+    'Dir::Cache::pkgcache': 'pkgcache.bin',
+    'Dir::Cache::srcpkgcache': 'srcpkgcache.bin',
+}
+OWN_LISTS = {'Dir::State': f'{APT}/state', 'Dir::State::status': '/var/lib/dpkg/status'}
+LISTS_SECONDS = 120
+PACKAGES_SECONDS = 600
 
 
 class NotRun(Exception):
     """Why nothing can be run here."""
 
 
-def output(*words):
-    """The output of a command, or nothing where it fails or is not there."""
+def ran(*words, seconds=60, cwd=None):
+    """The output of a command; None where it fails, is not there or takes too long."""
+    env = {**os.environ, 'LC_ALL': 'C'}
     try:
-        return subprocess.run(words, capture_output=True, text=True, check=True).stdout
-    except (OSError, subprocess.CalledProcessError):
-        return ''
+        return subprocess.run(words, capture_output=True, text=True, check=True, timeout=seconds, cwd=cwd, env=env).stdout
+    except (OSError, subprocess.SubprocessError):
+        return None
+
+
+def output(*words):
+    """The output of a command, or no text where it fails."""
+    return ran(*words) or ''
 
 
 def compiler():
     """The variables of Cargo by which it finds a compiler and a linker of the target."""
+    if not shutil.which('cargo'):
+        raise NotRun('there is no cargo')
     folder = output('rustc', '--print', 'target-libdir', '--target', TARGET).strip()
     if folder and list(pathlib.Path(folder).glob('libcore-*.rlib')):
         return {}
-    return {'RUSTC': str(debian()), **linker()}
+    return {**linker(), 'RUSTC': str(debian())}
 
 
 def linker():
@@ -53,27 +75,55 @@ def debian():
     rustc = folder / 'rustc'
     if rustc.exists():
         return rustc
-    shown = output('apt-cache', 'show', '--no-all-versions', 'rustc-web')
-    version = re.search(r'^Version: (\d+)\.(\d+)\.', shown, re.M)
-    if not version or tuple(map(int, version.groups())) < OLDEST_RUSTC:
-        raise NotRun(f'rustup has no target {TARGET}, and apt has no rustc-web {OLDEST_RUSTC[0]}.{OLDEST_RUSTC[1]}')
     shutil.rmtree(folder, ignore_errors=True)
     folder.mkdir(parents=True)
-    fetched = subprocess.run(['apt-get', 'download', '-q', *packages()], cwd=folder, capture_output=True, text=True)
-    if fetched.returncode:
-        raise NotRun("Debian's packages of rustc-web can't be downloaded")
+    are_fetched = fetched(folder)
+    shutil.rmtree(APT, ignore_errors=True)
+    if not are_fetched:
+        oldest = '.'.join(map(str, OLDEST_RUSTC))
+        raise NotRun(f'rustup has no target {TARGET}, and apt gives no rustc-web {oldest} or newer')
     for package in folder.glob('*.deb'):
         subprocess.run(['dpkg', '-x', package, folder / 'root'], check=True)
         package.unlink()
     return sysroot(folder)
 
 
-def packages():
-    """The packages of the compiler, of its libraries and of its source."""
-    wanted = ['rustc-web', 'rust-web-src']
-    for name in wanted:
-        depends = re.findall(r'^ +Depends: (lib(?:std-rust|llvm)\S*)', output('apt-cache', 'depends', name), re.M)
-        wanted += [other for other in depends if other not in wanted]
+def apt(command, *words, options=APT_OPTIONS, **how):
+    """The output of a command of apt with these options; None where it fails."""
+    given = [word for name, value in options.items() for word in ('-o', f'{name}={value}')]
+    return ran(command, '-q', *given, *words, **how)
+
+
+def fetched(folder):
+    """Downloads the packages, by apt's lists or newer ones of its own, and returns whether they are there."""
+    for made in ('state/lists/partial', 'cache/archives/partial'):
+        (APT / made).mkdir(parents=True, exist_ok=True)
+    if downloaded(folder, APT_OPTIONS):
+        return True
+    options = APT_OPTIONS | OWN_LISTS
+    apt('apt-get', 'update', options=options, seconds=LISTS_SECONDS)
+    return downloaded(folder, options)
+
+
+def downloaded(folder, options):
+    """Downloads the packages, and returns whether they are there."""
+    names = packages(options)
+    for left_over in folder.glob('*.deb'):
+        left_over.unlink()
+    return bool(names) and apt('apt-get', 'download', *names, options=options, seconds=PACKAGES_SECONDS, cwd=folder) is not None
+
+
+def packages(options):
+    """The packages of the compiler, of its libraries and of its source; none where apt knows no compiler that is new enough."""
+    wanted, new = [], ['rustc-web', 'rust-web-src']
+    while new:
+        shown = apt('apt-cache', 'show', '--no-all-versions', *new, options=options) or ''
+        version = re.search(r'^Package: rustc-web\n(?:.+\n)*?Version: (\d+)\.(\d+)\.', shown, re.M)
+        if not wanted and (not version or tuple(map(int, version.groups())) < OLDEST_RUSTC):
+            return []
+        wanted += new
+        depends = ' '.join(re.findall(r'^Depends: (.*)$', shown, re.M))
+        new = sorted(set(re.findall(r'\blib(?:std-rust|llvm)[-\w.+]*', depends)) - set(wanted))
     return wanted
 
 
@@ -93,16 +143,16 @@ def sysroot(folder):
         print(f'wasm_target: compiling {name}', flush=True)
         subprocess.run([usr / 'bin/rustc', *options, '--crate-name', name, *words, source / path / 'src/lib.rs'], env=env, check=True)
     rustc = folder / 'rustc'
-    rustc.write_text(f'#!/bin/sh\nLD_LIBRARY_PATH={paths} exec {usr}/bin/rustc --sysroot {folder}/made "$@"\n')
+    paths = paths.replace(str(folder), '$here')
+    command = f'LD_LIBRARY_PATH="{paths}" exec "$here/root/usr/bin/rustc" --sysroot "$here/made" "$@"'
+    rustc.write_text(f'#!/bin/sh\nhere=$(dirname "$(readlink -f "$0")")\n{command}\n')
     rustc.chmod(0o755)
     return rustc
 
 
-def cargo(*words):
-    """Runs Cargo for the target, in release."""
-    if not shutil.which('cargo'):
-        raise NotRun('there is no cargo')
+def cargo(command, *words):
+    """Runs a command of Cargo for the target, in release."""
     env = compiler()
     flags = {'RUSTFLAGS': '-C linker-flavor=wasm-ld'} if 'RUSTC' in env else {}
     env = {**os.environ, **env, **flags, 'CARGO_TARGET_DIR': str(OUT), 'CARGO_NET_OFFLINE': 'true'}
-    subprocess.run(['cargo', *words, '--release', '--target', TARGET], env=env, check=True)
+    subprocess.run(['cargo', command, '--release', '--target', TARGET, *words], env=env, check=True)

@@ -73,12 +73,15 @@ pub mod laws {
     pub use crate::types::laws as types;
 }
 
-/// Recipes of modules: lines of text that each add an item to a section. It needs the feature `programs`.
+/// Recipes of modules: lines of text that each add an item to a section. It needs the feature `recipe`.
 ///
-/// [`assemble`](recipe::assemble) returns the module of a recipe, or the first error in it, and [`run`](recipe::run) is
-/// the program `wasmrow`. The page [Recipes](https://github.com/dolzhytik/dolzhytik/blob/main/docs/RECIPES.md) has the
-/// lines.
-#[cfg(feature = "programs")]
+/// [`assemble`](recipe::assemble) returns the module of a recipe, or the first error in it. The page
+/// [Recipes](https://github.com/dolzhytik/dolzhytik/blob/main/docs/RECIPES.md) has the lines.
+#[cfg_attr(
+    feature = "programs",
+    doc = "With the feature `programs`, [`run`](recipe::run) is the program `wasmrow`."
+)]
+#[cfg(feature = "recipe")]
 pub mod recipe {
     pub use crate::recipe::*;
 }

@@ -50,7 +50,7 @@ written! {
     mod immediates;
     mod insn;
     pub mod reader;
-    #[cfg(feature = "programs")]
+    #[cfg(feature = "recipe")]
     mod recipe;
     mod sections;
     mod types;

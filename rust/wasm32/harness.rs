@@ -1,7 +1,9 @@
 //! What a test program needs on wasm32 without `std`: an allocator, a panic handler, the names of `std` that the tests
-//! use, and the calls that `run.mjs` makes. `tools/wasm32` declares this module in the root of each test program.
+//! use, and the calls that `run.mjs` makes and takes. `tools/wasm32` declares this module in the root of each test
+//! program.
 use alloc_crate::alloc::{GlobalAlloc, Layout};
 use core::arch::wasm32::{memory_grow, memory_size, unreachable};
+use core::ffi::c_void;
 use core::fmt::Debug;
 use core::panic::PanicInfo;
 use core::ptr;
@@ -72,18 +74,49 @@ unsafe impl GlobalAlloc for Heap {
         ptr::with_exposed_provenance_mut(first)
     }
 
+    /// New pages hold zeros.
+    unsafe fn alloc_zeroed(&self, layout: Layout) -> *mut u8 {
+        // SAFETY: the caller keeps to what `alloc` asks.
+        unsafe { self.alloc(layout) }
+    }
+
     unsafe fn dealloc(&self, _first: *mut u8, _layout: Layout) {}
+}
+
+/// A text of zeros, in new pages that nothing is read from: a check of its bytes would take a second.
+pub fn zeros(len: usize) -> prelude::String {
+    // SAFETY: zeros are UTF-8.
+    unsafe { prelude::String::from_utf8_unchecked(vec![0; len]) }
 }
 
 #[link(wasm_import_module = "host")]
 unsafe extern "C" {
     /// Takes the name of a test, or the message of a panic.
     fn tell(first: *const u8, len: usize);
+
+    /// Makes a call by `resume`, and returns whether it trapped after a message that has this text.
+    fn panics(call: *mut c_void, first: *const u8, len: usize) -> bool;
 }
 
 fn say(text: &str) {
     // SAFETY: the host reads the text, and keeps no pointer.
     unsafe { tell(text.as_ptr(), text.len()) }
+}
+
+/// Returns whether a call panics with a message that has this text. The stack isn't unwound: nothing is dropped.
+pub fn panics_with(text: &str, call: impl FnOnce()) -> bool {
+    let mut call = Some(call);
+    let mut once = || call.take().into_iter().for_each(|call| call());
+    let mut once: &mut dyn FnMut() = &mut once;
+    // SAFETY: the host reads the text, makes the call before it returns, and keeps no pointer.
+    unsafe { panics((&raw mut once).cast(), text.as_ptr(), text.len()) }
+}
+
+/// Makes a call for the host, which catches a trap.
+#[unsafe(no_mangle)]
+unsafe extern "C" fn resume(call: *mut c_void) {
+    // SAFETY: the host has the pointer of `panics_with`, which waits.
+    unsafe { (*call.cast::<&mut dyn FnMut()>())() }
 }
 
 #[panic_handler]

@@ -5,11 +5,14 @@
 //! of the sections that the entries add to, in `specs/Recipe.antt`. [`assemble`] gives that module, and [`run`] is the program around it.
 
 mod fault;
+#[cfg(feature = "programs")]
 mod listing;
+#[cfg(feature = "programs")]
 mod program;
 mod recipe;
 mod words;
 
 pub use fault::{RecipeCause, RecipeFault};
+#[cfg(feature = "programs")]
 pub use program::run;
 pub use recipe::assemble;

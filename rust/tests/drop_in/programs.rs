@@ -75,7 +75,6 @@ mod kinds {
     use dolzhytik::ExportKind::*;
     use dolzhytik::TagKind::Exception;
     use dolzhytik::*;
-    use std::collections::HashMap;
 
     const fn byte_of(kind: ExportKind) -> u8 {
         kind as u8
@@ -101,6 +100,12 @@ mod kinds {
         );
         assert_eq!((size_of::<ExportKind>(), size_of::<TagKind>()), (1, 1));
         assert_eq!((Exception as u8, TagKind::Exception as usize), (0, 0));
+    }
+
+    #[test]
+    fn kinds_are_keys_of_a_map() {
+        use std::collections::HashMap;
+
         assert_eq!(HashMap::from([(Func, 2), (Tag, 1)])[&Tag], 1);
     }
 

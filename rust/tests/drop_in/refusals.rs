@@ -2,7 +2,6 @@
 use crate::checks::encoded;
 use dolzhytik::*;
 use std::cell::Cell;
-use std::panic::{AssertUnwindSafe, catch_unwind};
 
 /// Gives as many items as it tells, each the same, and counts them.
 struct Items<'a, T> {
@@ -32,6 +31,8 @@ const TOO_LONG: usize = 1 << 32;
 
 /// Checks that the call panics since the length is too long, and asks for no item. It is given a function that makes such an iterator.
 fn panics<T: Clone, R>(item: T, call: impl FnOnce(&dyn Fn() -> Items<'static, T>) -> R) {
+    use std::panic::{AssertUnwindSafe, catch_unwind};
+
     let asked: &'static Cell<usize> = Box::leak(Box::default());
     let long = || Items {
         left: TOO_LONG,

@@ -1,0 +1,134 @@
+//! What each call of JavaScript returns: a block, or why it fails.
+#![forbid(unsafe_code)]
+
+use crate::block::Block;
+use crate::failure::{Cause, Failure, Place};
+use crate::read::read;
+use crate::sections::{Section, sections, start_of};
+use dolzhytik::fallible::recipe::assemble;
+use dolzhytik::fallible::{Global, Vec};
+use dolzhytik::reader::{
+    self, ModuleFault, Offsets, Outlined, ReadFault, list_module, shorten_module,
+};
+
+/// The status of a block that has what was asked for.
+pub const DONE: u32 = 0;
+
+/// A block, or why there is none.
+pub type Answer<'a> = Result<Vec<u8>, Failure<'a>>;
+
+/// A failure at the section with this number, or at the header for 0.
+pub fn at<'a>(module: &[u8], number: usize, cause: Cause<'a>) -> Failure<'a> {
+    let start = start_of(module, number);
+    let place = Place::Section { number, start };
+    Failure { place, cause }
+}
+
+pub fn no_module<'a>(module: &[u8], number: usize, fault: ReadFault) -> Failure<'a> {
+    let cause = match number {
+        0 => Cause::header(fault),
+        _ => Cause::section(fault),
+    };
+    at(module, number, cause)
+}
+
+/// The outline of a module.
+fn outlined(module: &[u8]) -> Result<Vec<Outlined<'_>>, Failure<'_>> {
+    reader::outline(Global, module).map_err(|(number, fault)| no_module(module, number, fault))
+}
+
+/// Appends a section: its id, offset, size, number of items and name.
+fn append_section(block: &mut Block, section: &Outlined<'_>) -> Result<(), Failure<'static>> {
+    block.word(u32::from(section.id))?;
+    block.size(section.offset)?;
+    block.word(section.size)?;
+    block.optional(section.items)?;
+    block.optional_text(section.name)?;
+    Ok(())
+}
+
+/// The sections of a module, decoded or not.
+pub fn outline(module: &[u8]) -> Answer<'_> {
+    let sections = outlined(module)?;
+    let mut block = Block::new(DONE)?;
+    block.size(sections.len())?;
+    for section in &sections {
+        append_section(&mut block, section)?;
+    }
+    Ok(block.finish()?)
+}
+
+/// The name of a custom section.
+fn name_of(section: Section<'_>) -> Option<&str> {
+    let (name, _) = read(section.payload).ok()?;
+    (section.id == 0).then_some(name)
+}
+
+/// The sections of a module, each of which decodes.
+pub fn list(module: &[u8]) -> Answer<'_> {
+    let listed = list_module(Global, module).map_err(|(number, fault)| match number {
+        0 => at(module, 0, Cause::header(fault)),
+        _ => at(module, number, Cause::items(fault)),
+    })?;
+    let mut block = Block::new(DONE)?;
+    block.size(listed.len())?;
+    for (listed, section) in listed
+        .iter()
+        .zip(sections(module).into_iter().flatten().flatten())
+    {
+        let section = Outlined {
+            id: listed.id,
+            offset: section.end - section.payload.len(),
+            size: listed.size,
+            items: listed.items,
+            name: name_of(section),
+        };
+        append_section(&mut block, &section)?;
+    }
+    Ok(block.finish()?)
+}
+
+/// Why a module has no minimal encoding.
+fn why_not(module: &[u8], fault: ModuleFault) -> Failure<'_> {
+    match fault {
+        ModuleFault::Section { number, fault } => no_module(module, number, fault),
+        ModuleFault::Offsets { number } => match outlined(module) {
+            Ok(sections) => {
+                let name = sections[number - 1].name.unwrap_or_default();
+                at(module, number, Cause::Offsets(name))
+            }
+            Err(failure) => failure,
+        },
+    }
+}
+
+/// The minimal encoding of a module.
+pub fn minimize(module: &[u8], drops_offsets: u32) -> Answer<'_> {
+    let offsets = match drops_offsets {
+        0 => Offsets::Refuse,
+        _ => Offsets::LeaveOut,
+    };
+    let mut block = Block::new(DONE)?;
+    shorten_module(module, offsets, &mut block.bytes).map_err(|fault| why_not(module, fault))?;
+    Ok(block.finish()?)
+}
+
+/// The text of a recipe.
+fn text_of(recipe: &[u8]) -> Result<&str, Failure<'_>> {
+    str::from_utf8(recipe).map_err(|error| {
+        let before = &recipe[..error.valid_up_to()];
+        let line = 1 + before.iter().filter(|byte| **byte == b'\n').count();
+        Failure {
+            place: Place::Line(line),
+            cause: Cause::NotText,
+        }
+    })
+}
+
+/// The module of a recipe.
+pub fn module_of(recipe: &[u8]) -> Answer<'_> {
+    let module = assemble(Global, text_of(recipe)?)?;
+    let mut block = Block::new(DONE)?;
+    block.bytes.extend_from_slice(&module)?;
+    Ok(block.finish()?)
+}

@@ -1,0 +1,16 @@
+//! The WebAssembly module of the JavaScript package. `border` has what JavaScript calls; the other
+//! modules are safe Rust, and their tests run on any platform.
+#![cfg_attr(target_arch = "wasm32", no_std)]
+#![cfg_attr(not(target_arch = "wasm32"), allow(dead_code))]
+
+mod answers;
+mod block;
+mod failure;
+mod heap;
+mod items;
+mod read;
+mod sections;
+mod texts;
+
+#[cfg(target_arch = "wasm32")]
+mod border;

@@ -1,0 +1,10 @@
+//! Shorthands of the proved reader.
+#![forbid(unsafe_code)]
+
+use dolzhytik::fallible::Global;
+use dolzhytik::reader::{ReadFault, Readable};
+
+/// Decodes the value at the front, and returns it with the bytes behind it.
+pub fn read<'a, T: Readable<'a, Global>>(bytes: &'a [u8]) -> Result<(T, &'a [u8]), ReadFault> {
+    T::read(bytes, Global)
+}
