@@ -207,7 +207,8 @@ test('types', () => {
     ['50 01 00 60 00 00', '(type (sub 0 (func)))'],
     ['4e 02 4f 01 00 60 00 00 5e 77 00', '(rec (type (sub final 0 (func))) (type (array i16)))'],
   ]);
-  checkItems(1, '04', [
+  checkItems(1, '05', [
+    ['65 4c 01 5e 7f 00', '(type (shared (describes 1) (array i32)))'],
     ['50 00 5d 03', '(type (sub (cont 3)))'],
     ['65 5f 00', '(type (shared (struct)))'],
     ['4c 01 4d 02 5f 00', '(type (describes 1) (descriptor 2) (struct))'],
@@ -251,11 +252,12 @@ test('functions, tables, memories, globals, exports and tags', () => {
     ['6f 04 03', '(table i64 3 externref)'],
     ['40 00 64 00 00 01 d2 05 0b', '(table 1 (ref 0) (ref.func 5))'],
   ]);
-  checkItems(5, '04', [
+  checkItems(5, '05', [
     ['00 11', '(memory 17)'],
     ['03 01 02', '(memory 1 2 shared)'],
     ['05 01 80 80 80 80 10', '(memory i64 1 4294967296)'],
-    ['08 01 00', '(memory 1 (pagesize 2^0))'],
+    ['08 01 00', '(memory 1 (pagesize 1))'],
+    ['08 01 40', '(memory 1 (pagesize 2^64))'],
   ]);
   checkItems(6, '02', [
     ['7f 01 41 7f 0b', '(global (mut i32) (i32.const -1))'],
