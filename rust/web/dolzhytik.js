@@ -33,59 +33,65 @@ async function compile(url) {
 }
 
 const compiled = await compile(new URL('./dolzhytik.wasm', import.meta.url));
-let wasm = (await WebAssembly.instantiate(compiled)).exports;
+/** The exports of the instance that takes the next call. It is null during a call, and after one that was stopped. */
+let idle = (await WebAssembly.instantiate(compiled)).exports;
 
 function outOfMemory() {
   return new DolzhytikError(OUT_OF_MEMORY, { cause: OUT_OF_MEMORY, offset: null, line: null });
 }
 
-/** Copies bytes into the memory of the module, and returns their address. */
-function passed(bytes) {
+/** Copies bytes into the memory of an instance, and returns their address, or 0 where it has no space for them. */
+function passed(wasm, bytes) {
   const address = bytes.length < NONE ? wasm.dz_alloc(bytes.length) >>> 0 : 0;
-  if (address === 0) {
-    throw outOfMemory();
+  if (address !== 0) {
+    new Uint8Array(wasm.memory.buffer).set(bytes, address);
   }
-  new Uint8Array(wasm.memory.buffer, address, bytes.length).set(bytes);
   return address;
 }
 
-/** Copies the block at an address out of the memory of the module, and frees it there. */
-function taken(address) {
+/** Calls an instance, and returns what `read` makes of its block, or the error. */
+function answer(wasm, read, name, bytes, words) {
+  const address = passed(wasm, bytes);
   if (address === 0) {
-    throw outOfMemory();
+    return outOfMemory();
   }
-  const size = new DataView(wasm.memory.buffer).getUint32(address, true);
-  const block = new Uint8Array(wasm.memory.buffer).slice(address, address + size);
+  const block = wasm[name](address, bytes.length, ...words) >>> 0;
   wasm.dz_free(address);
-  return block;
+  if (block === 0) {
+    return outOfMemory();
+  }
+  const result = new Block(wasm.memory.buffer, block).result(read);
+  wasm.dz_free(block);
+  return result;
 }
 
-/** Calls the module: the bytes of the block that it returns. A module that was stopped is not called again. */
-function blockOf(name, bytes, words) {
-  try {
-    const address = passed(bytes);
-    const block = wasm[name](address, bytes.length, ...words) >>> 0;
-    wasm.dz_free(address);
-    return taken(block);
-  } catch (error) {
-    if (!(error instanceof DolzhytikError)) {
-      wasm = new WebAssembly.Instance(compiled).exports;
-    }
-    throw error;
+/** Calls an instance that is idle, or a new one. */
+function called(read, name, bytes, ...words) {
+  const wasm = idle ?? new WebAssembly.Instance(compiled).exports;
+  idle = null;
+  const result = answer(wasm, read, name, bytes, words);
+  // A call that was stopped, as by an exhausted stack, does not come here.
+  idle = wasm;
+  if (result instanceof DolzhytikError) {
+    throw result;
   }
+  return result;
 }
 
 // Blocks.
 
-/** Reads a block from its third word on. */
+const decoder = new TextDecoder('utf-8', { ignoreBOM: true });
+
+/** A block in the memory of an instance, which is read word by word. */
 class Block {
   #bytes;
   #view;
-  #at = 8;
+  #at = 4;
 
-  constructor(bytes) {
-    this.#bytes = bytes;
-    this.#view = new DataView(bytes.buffer);
+  constructor(buffer, address) {
+    const size = new DataView(buffer).getUint32(address, true);
+    this.#bytes = new Uint8Array(buffer, address, size);
+    this.#view = new DataView(buffer, address, size);
   }
 
   word() {
@@ -98,44 +104,53 @@ class Block {
     return word === NONE ? null : word;
   }
 
-  optionalText() {
+  text() {
     const size = this.optional();
     if (size === null) {
       return null;
     }
     this.#at += size;
-    return new TextDecoder('utf-8', { ignoreBOM: true }).decode(this.#bytes.subarray(this.#at - size, this.#at));
+    return decoder.decode(this.#bytes.subarray(this.#at - size, this.#at));
   }
 
-  list(read) {
-    return Array.from({ length: this.word() }, () => read(this));
+  /** Returns what `read` makes of the block, or the error that the block is. */
+  result(read) {
+    if (this.word() === 0) {
+      return read(this);
+    }
+    const [offset, line, cause, message] = [this.optional(), this.optional(), this.text(), this.text()];
+    return new DolzhytikError(message, { cause, offset, line });
   }
 
+  /** Copies the bytes up to the end. */
   rest() {
-    return this.#bytes.slice(this.#at);
-  }
-
-  get failed() {
-    return this.#view.getUint32(4, true) !== 0;
+    try {
+      return this.#bytes.slice(this.#at);
+    } catch {
+      return outOfMemory();
+    }
   }
 }
 
-function called(name, bytes, ...words) {
-  const block = new Block(blockOf(name, bytes, words));
-  if (block.failed) {
-    const [offset, line, cause, message] = [block.optional(), block.optional(), block.optionalText(), block.optionalText()];
-    throw new DolzhytikError(message, { cause, offset, line });
-  }
-  return block;
+function rest(block) {
+  return block.rest();
 }
 
 function section(block) {
   const [id, offset, size, items] = [block.word(), block.word(), block.word(), block.optional()];
-  return { id, kind: KINDS[id] ?? 'unknown', name: block.optionalText(), offset, size, items };
+  return { id, kind: KINDS[id] ?? 'unknown', name: block.text(), offset, size, items };
+}
+
+function sections(block) {
+  return Array.from({ length: block.word() }, () => section(block));
 }
 
 function item(block) {
-  return { offset: block.word(), size: block.word(), text: block.optionalText() };
+  return { offset: block.word(), size: block.word(), text: block.text() };
+}
+
+function itemsOf(block) {
+  return Array.from({ length: block.word() }, () => item(block));
 }
 
 function checkBytes(module) {
@@ -148,27 +163,33 @@ function checkBytes(module) {
 
 export function outline(module) {
   checkBytes(module);
-  return called('dz_outline', module).list(section);
+  return called(sections, 'dz_outline', module);
 }
 
 export function list(module) {
   checkBytes(module);
-  return called('dz_list', module).list(section);
+  return called(sections, 'dz_list', module);
 }
 
 export function minimize(module, { dropOffsets = false } = {}) {
   checkBytes(module);
-  return called('dz_minimize', module, Number(dropOffsets)).rest();
+  return called(rest, 'dz_minimize', module, dropOffsets ? 1 : 0);
 }
 
 export function assemble(recipe) {
   if (typeof recipe !== 'string') {
     throw new TypeError('the recipe must be a string');
   }
-  return called('dz_assemble', new TextEncoder().encode(recipe)).rest();
+  return called(rest, 'dz_assemble', new TextEncoder().encode(recipe));
 }
 
 export function items(module, index, limit = NONE) {
   checkBytes(module);
-  return called('dz_items', module, index, limit).list(item);
+  if (!Number.isInteger(index) || index < 0) {
+    throw new RangeError('the index must be an integer that is not negative');
+  }
+  if (!(limit >= 0)) {
+    throw new RangeError('the limit must be a number that is not negative');
+  }
+  return called(itemsOf, 'dz_items', module, Math.min(index, NONE), Math.min(limit, NONE));
 }

@@ -3,7 +3,8 @@
 
 use crate::block::Block;
 use crate::failure::{Cause, Failure, Place};
-use crate::sections::start_of;
+use crate::read::read;
+use crate::sections::{Section, sections, start_of};
 use dolzhytik::fallible::recipe::assemble;
 use dolzhytik::fallible::{Global, Vec};
 use dolzhytik::reader::{
@@ -31,6 +32,7 @@ pub fn no_module<'a>(module: &[u8], number: usize, fault: ReadFault) -> Failure<
     at(module, number, cause)
 }
 
+/// The outline of a module.
 fn outlined(module: &[u8]) -> Result<Vec<Outlined<'_>>, Failure<'_>> {
     reader::outline(Global, module).map_err(|(number, fault)| no_module(module, number, fault))
 }
@@ -56,18 +58,32 @@ pub fn outline(module: &[u8]) -> Answer<'_> {
     Ok(block.finish()?)
 }
 
+/// The name of a custom section.
+fn name_of(section: Section<'_>) -> Option<&str> {
+    let (name, _) = read(section.payload).ok()?;
+    (section.id == 0).then_some(name)
+}
+
 /// The sections of a module, each of which decodes.
 pub fn list(module: &[u8]) -> Answer<'_> {
     let listed = list_module(Global, module).map_err(|(number, fault)| match number {
         0 => at(module, 0, Cause::header(fault)),
         _ => at(module, number, Cause::items(fault)),
     })?;
-    let sections = outlined(module)?;
     let mut block = Block::new(DONE)?;
-    block.size(sections.len())?;
-    for (section, listed) in sections.iter().zip(&*listed) {
-        let items = listed.items;
-        append_section(&mut block, &Outlined { items, ..*section })?;
+    block.size(listed.len())?;
+    for (listed, section) in listed
+        .iter()
+        .zip(sections(module).into_iter().flatten().flatten())
+    {
+        let section = Outlined {
+            id: listed.id,
+            offset: section.end - section.payload.len(),
+            size: listed.size,
+            items: listed.items,
+            name: name_of(section),
+        };
+        append_section(&mut block, &section)?;
     }
     Ok(block.finish()?)
 }
@@ -88,9 +104,9 @@ fn why_not(module: &[u8], fault: ModuleFault) -> Failure<'_> {
 
 /// The minimal encoding of a module.
 pub fn minimize(module: &[u8], drops_offsets: u32) -> Answer<'_> {
-    let offsets = match drops_offsets != 0 {
-        true => Offsets::LeaveOut,
-        false => Offsets::Refuse,
+    let offsets = match drops_offsets {
+        0 => Offsets::Refuse,
+        _ => Offsets::LeaveOut,
     };
     let mut block = Block::new(DONE)?;
     shorten_module(module, offsets, &mut block.bytes).map_err(|fault| why_not(module, fault))?;

@@ -200,3 +200,201 @@ impl<M: Memory> Heap<M> {
         Some(self.fence - before)
     }
 }
+
+#[cfg(test)]
+mod tests {
+    use super::*;
+
+    /// Pages that end at an address.
+    struct Words {
+        words: Vec<u32>,
+        most: u32,
+    }
+
+    const PAGE: u32 = 1 << 12;
+
+    impl Memory for Words {
+        fn load(&self, address: u32) -> u32 {
+            assert_eq!(address % 4, 0);
+            self.words[(address / 4) as usize]
+        }
+
+        fn store(&mut self, address: u32, word: u32) {
+            assert_eq!(address % 4, 0);
+            self.words[(address / 4) as usize] = word;
+        }
+
+        fn grow(&mut self, bytes: u32) -> Option<(u32, u32)> {
+            let first = self.words.len() as u32 * 4;
+            let end = first.checked_add(bytes)?.checked_next_multiple_of(PAGE)?;
+            (end <= self.most).then(|| self.words.resize((end / 4) as usize, 0xAAAA_AAAA))?;
+            Some((first, end))
+        }
+    }
+
+    /// A heap in a memory of which the first page is another's, and at most this many bytes are.
+    fn heap(most: u32) -> Heap<Words> {
+        let words = vec![0; PAGE as usize / 4];
+        Heap::new(Words { words, most })
+    }
+
+    /// Bytes that were taken, each word of which has this value.
+    #[derive(Clone, Copy)]
+    struct Taken {
+        address: u32,
+        bytes: u32,
+        word: u32,
+    }
+
+    impl Taken {
+        fn words(&self) -> impl Iterator<Item = u32> + use<> {
+            (self.address..self.address + self.bytes / 4 * 4).step_by(4)
+        }
+
+        fn fill(&self, heap: &mut Heap<Words>) {
+            assert_eq!(self.address % ALIGNMENT, 0);
+            assert!(self.address >= PAGE);
+            self.words()
+                .for_each(|address| heap.memory.store(address, self.word));
+        }
+
+        fn check(&self, heap: &Heap<Words>) {
+            assert!(
+                self.words()
+                    .all(|address| heap.memory.load(address) == self.word)
+            );
+        }
+    }
+
+    /// Numbers that look random.
+    struct Random(u64);
+
+    impl Random {
+        fn below(&mut self, end: u32) -> u32 {
+            self.0 = self.0.wrapping_mul(0x5851_F42D_4C95_7F2D).wrapping_add(1);
+            ((self.0 >> 33) % u64::from(end)) as u32
+        }
+
+        /// Mostly small sizes, and some large ones.
+        fn size(&mut self) -> u32 {
+            let most = 1 << (1 + self.below(14));
+            self.below(most)
+        }
+    }
+
+    /// Takes, resizes and gives back bytes, and checks that no other call changes them.
+    fn work(heap: &mut Heap<Words>, random: &mut Random, turns: u32) {
+        let mut all: Vec<Taken> = Vec::new();
+        for word in 0..turns {
+            let bytes = random.size();
+            let one = random.below(all.len() as u32 + 1) as usize;
+            match all.get(one).copied() {
+                Some(taken) if word % 3 == 0 => {
+                    taken.check(heap);
+                    heap.give(taken.address);
+                    all.swap_remove(one);
+                }
+                Some(taken) if word % 3 == 1 && heap.resize(taken.address, bytes) => {
+                    let kept = bytes.min(taken.bytes);
+                    Taken {
+                        bytes: kept,
+                        ..taken
+                    }
+                    .check(heap);
+                    all[one] = Taken {
+                        bytes,
+                        word,
+                        ..taken
+                    };
+                    all[one].fill(heap);
+                }
+                _ => {
+                    let address = heap.take(bytes).unwrap();
+                    all.push(Taken {
+                        address,
+                        bytes,
+                        word,
+                    });
+                    all[all.len() - 1].fill(heap);
+                }
+            }
+        }
+        for taken in all {
+            taken.check(heap);
+            heap.give(taken.address);
+        }
+    }
+
+    /// The sizes of all free blocks.
+    fn free(heap: &Heap<Words>) -> Vec<u32> {
+        let mut sizes = Vec::new();
+        for first in heap.bins {
+            let mut block = first;
+            while block != 0 {
+                sizes.push(heap.size(block));
+                block = heap.memory.load(block + 8);
+            }
+        }
+        sizes
+    }
+
+    #[test]
+    fn nothing_overlaps_and_all_is_merged() {
+        for seed in 1..20 {
+            let mut heap = heap(u32::MAX);
+            work(&mut heap, &mut Random(seed), 3000);
+            let bytes = heap.memory.words.len() as u32 * 4 - PAGE;
+            assert_eq!(free(&heap), [bytes - ALIGNMENT], "seed {seed}");
+        }
+    }
+
+    #[test]
+    fn the_same_work_takes_no_more_memory() {
+        let mut heap = heap(u32::MAX);
+        work(&mut heap, &mut Random(7), 3000);
+        let words = heap.memory.words.len();
+        for _ in 0..5 {
+            work(&mut heap, &mut Random(7), 3000);
+        }
+        assert_eq!(heap.memory.words.len(), words);
+    }
+
+    #[test]
+    fn a_full_memory_refuses_and_keeps_what_it_has() {
+        let mut heap = heap(4 * PAGE);
+        let mut taken = Vec::new();
+        while let Some(address) = heap.take(100) {
+            taken.push(address);
+        }
+        assert_eq!(taken.len(), (3 * PAGE - ALIGNMENT) as usize / 112);
+        assert_eq!(heap.take(1000), None);
+        assert!(!heap.resize(taken[0], 1000));
+        heap.give(taken[1]);
+        assert!(heap.resize(taken[0], 216));
+        assert_eq!(heap.take(100), None);
+        assert!(heap.resize(taken[0], 104));
+        assert_eq!(heap.take(100), Some(taken[1]));
+    }
+
+    #[test]
+    fn sizes_past_32_bits_are_refused() {
+        let mut heap = heap(u32::MAX);
+        let address = heap.take(0).unwrap();
+        for bytes in [u32::MAX, u32::MAX - 8, u32::MAX - 24, u32::MAX - 40] {
+            assert_eq!(heap.take(bytes), None);
+            assert!(!heap.resize(address, bytes));
+        }
+        assert_eq!(heap.take(1), Some(address + ALIGNMENT));
+    }
+
+    #[test]
+    fn pages_that_do_not_follow_the_last_are_a_run_of_their_own() {
+        let mut heap = heap(u32::MAX);
+        let first = heap.take(2 * PAGE).unwrap();
+        heap.memory.grow(1).unwrap();
+        let second = heap.take(2 * PAGE).unwrap();
+        heap.give(first);
+        heap.give(second);
+        assert_eq!(free(&heap), [3 * PAGE - ALIGNMENT; 2]);
+    }
+}

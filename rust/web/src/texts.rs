@@ -381,14 +381,38 @@ fn name_of(op: Op) -> Option<&'static str> {
     })
 }
 
+/// The bits of a float's fraction.
+const F32_FRACTION: u64 = (1 << 23) - 1;
+const F64_FRACTION: u64 = (1 << 52) - 1;
+
+/// Appends a float, whose fraction has these bits.
+fn float<T: Display + Copy + Into<f64>>(
+    f: &mut Formatter<'_>,
+    value: T,
+    fraction: u64,
+) -> fmt::Result {
+    let double: f64 = value.into();
+    if !double.is_nan() {
+        return value.fmt(f);
+    }
+    let sign = if double.is_sign_negative() { "-" } else { "" };
+    write!(f, "{sign}nan:{fraction:#x}")
+}
+
 impl Show for Arg {
     fn show(&self, f: &mut Formatter<'_>) -> fmt::Result {
         match self {
             Arg::U32(value) => value.fmt(f),
             Arg::S32(value) => value.fmt(f),
             Arg::S64(value) => value.fmt(f),
-            Arg::F32(value) => f32::from_bits(value.bits()).fmt(f),
-            Arg::F64(value) => f64::from_bits(value.bits()).fmt(f),
+            Arg::F32(value) => {
+                let bits = value.bits();
+                float(f, f32::from_bits(bits), u64::from(bits) & F32_FRACTION)
+            }
+            Arg::F64(value) => {
+                let bits = value.bits();
+                float(f, f64::from_bits(bits), bits & F64_FRACTION)
+            }
             Arg::V128(value) => {
                 let [low, high] = [*value as u64, (*value >> 64) as u64];
                 write!(f, "i64x2 {low:#x} {high:#x}")
