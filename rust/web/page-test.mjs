@@ -1,74 +1,79 @@
-// Tests the page in Debian's chromium, without a window.
+// Tests the page in chromium, without a window.
 //
 //     node rust/web/page-test.mjs [FOLDER [MODULE..]]
 //
-// Writes screenshots to FOLDER. The tables of the modules are compared with `outline` in node: those named, or
-// dolzhytik.wasm. The last line is 'N passed, M failed'. Exit status: 0 all passed, 1 a failed test, 77 not run
-// because there is no chromium, or no dolzhytik.wasm.
-import assert from "node:assert/strict";
-import { spawn } from "node:child_process";
-import fs from "node:fs";
-import http from "node:http";
-import os from "node:os";
-import path from "node:path";
-import { fileURLToPath } from "node:url";
+// Writes screenshots to FOLDER. Compares the page with dolzhytik.js in node for each MODULE, or for dolzhytik.wasm.
+//
+// The last line is 'N passed, M failed'. Exit status: 0 all passed, 1 a failed test, 77 not run because there is no
+// chromium, or no dolzhytik.wasm.
+import assert from 'node:assert/strict';
+import { spawn } from 'node:child_process';
+import fs from 'node:fs';
+import http from 'node:http';
+import os from 'node:os';
+import path from 'node:path';
+import { fileURLToPath } from 'node:url';
 
 const HERE = path.dirname(fileURLToPath(import.meta.url));
-const [shots, ...rest] = process.argv.slice(2);
-const named = (rest.length ? rest : [path.join(HERE, "dolzhytik.wasm")]).map((file) => path.resolve(file));
-const room = fs.mkdtempSync(path.join(os.tmpdir(), "dolzhytik-page-"));
+const [shots, ...words] = process.argv.slice(2);
+const modules = (words.length ? words : [path.join(HERE, 'dolzhytik.wasm')]).map((file) => path.resolve(file));
+const room = fs.mkdtempSync(path.join(os.tmpdir(), 'dolzhytik-page-'));
+const MOST_ITEMS = 100_000;
 const sleep = (ms) => new Promise((resolve) => setTimeout(resolve, ms));
 
-// ---- A server of the folder.
+// ---- The server.
 
-const TYPES = { ".html": "text/html", ".css": "text/css", ".js": "text/javascript", ".wasm": "application/wasm" };
+const MEDIA_TYPES = { '.html': 'text/html', '.css': 'text/css', '.js': 'text/javascript', '.wasm': 'application/wasm' };
 
+/** Serves the folder, and at /broken the folder without the WebAssembly module. */
 function respond(request, response) {
-  const file = path.join(HERE, new URL(request.url, "http://localhost").pathname.replace(/\/$/, "/index.html"));
-  if (!file.startsWith(HERE + path.sep) || !fs.existsSync(file)) return response.writeHead(404).end();
-  response.writeHead(200, { "content-type": TYPES[path.extname(file)] ?? "application/octet-stream" });
+  const { pathname } = new URL(request.url, 'http://localhost');
+  const file = path.join(HERE, pathname.replace(/^\/broken\//, '/').replace(/\/$/, '/index.html'));
+  const isMissing = !file.startsWith(HERE + path.sep) || !fs.existsSync(file);
+  if (isMissing || pathname === '/broken/dolzhytik.wasm') return response.writeHead(404).end();
+  response.writeHead(200, { 'content-type': MEDIA_TYPES[path.extname(file)] ?? 'application/octet-stream' });
   response.end(fs.readFileSync(file));
 }
 
 async function serve() {
   const server = http.createServer(respond);
-  await new Promise((resolve) => server.listen(0, "127.0.0.1", resolve));
+  await new Promise((resolve) => server.listen(0, '127.0.0.1', resolve));
   return server;
 }
 
-// ---- The browser: the DevTools protocol over two pipes.
+// ---- The browser, by the DevTools protocol over two pipes.
 
 function findChromium() {
-  const folders = (process.env.PATH ?? "").split(path.delimiter);
-  const files = ["chromium", "chromium-browser"].flatMap((name) => folders.map((folder) => path.join(folder, name)));
+  const folders = (process.env.PATH ?? '').split(path.delimiter);
+  const files = ['chromium', 'chromium-browser'].flatMap((name) => folders.map((folder) => path.join(folder, name)));
   return files.find((file) => fs.existsSync(file));
 }
 
 const FLAGS = [
-  "--headless=new",
-  "--no-sandbox",
-  "--remote-debugging-pipe",
-  "--no-first-run",
-  "--disable-gpu",
-  "--disable-background-networking",
-  "--disable-component-update",
-  "--disable-sync",
-  "--hide-scrollbars",
+  '--headless=new',
+  '--no-sandbox',
+  '--remote-debugging-pipe',
+  '--no-first-run',
+  '--disable-gpu',
+  '--disable-background-networking',
+  '--disable-component-update',
+  '--disable-sync',
+  '--hide-scrollbars',
   // No other host has an address.
-  "--host-resolver-rules=MAP * ~NOTFOUND , EXCLUDE 127.0.0.1",
-  "about:blank",
+  '--host-resolver-rules=MAP * ~NOTFOUND , EXCLUDE 127.0.0.1',
+  'about:blank',
 ];
 
 class Browser {
   #sent = 0;
   #waiting = new Map();
-  #rest = "";
+  #partial = '';
   onEvent = () => {};
 
   constructor(program) {
-    const stdio = ["ignore", "ignore", "ignore", "pipe", "pipe"];
+    const stdio = ['ignore', 'ignore', 'ignore', 'pipe', 'pipe'];
     this.process = spawn(program, [`--user-data-dir=${room}/profile`, ...FLAGS], { stdio });
-    this.process.stdio[4].setEncoding("utf8").on("data", (text) => this.#take(text));
+    this.process.stdio[4].setEncoding('utf8').on('data', (text) => this.#take(text));
   }
 
   send(method, params = {}, sessionId = undefined) {
@@ -77,9 +82,15 @@ class Browser {
     return new Promise((resolve, reject) => this.#waiting.set(id, { method, resolve, reject }));
   }
 
+  async close() {
+    const ended = new Promise((resolve) => this.process.on('exit', resolve));
+    await this.send('Browser.close');
+    await ended;
+  }
+
   #take(text) {
-    const messages = (this.#rest + text).split("\0");
-    this.#rest = messages.pop();
+    const messages = (this.#partial + text).split('\0');
+    this.#partial = messages.pop();
     messages.forEach((message) => this.#settle(JSON.parse(message)));
   }
 
@@ -90,15 +101,12 @@ class Browser {
     if (message.error) reject(new Error(`${method}: ${message.error.message}`));
     else resolve(message.result);
   }
-
-  async close() {
-    const ended = new Promise((resolve) => this.process.on("exit", resolve));
-    await this.send("Browser.close");
-    await ended;
-  }
 }
 
-/** A tab with the page, and what it and its workers requested and complained about. */
+const KEYS = { Tab: 9, Enter: 13, End: 35, Home: 36, ArrowLeft: 37, ArrowUp: 38, ArrowRight: 39, ArrowDown: 40 };
+const CTRL = 2;
+
+/** A tab with the page; the requests of it and its workers, and their errors and messages. */
 class Page {
   requests = [];
   complaints = [];
@@ -108,17 +116,18 @@ class Page {
     browser.onEvent = (event) => this.#hear(event);
   }
 
-  async start(origin) {
+  /** Opens the page at an address, and waits for its first status. */
+  async start(origin, folder = '/', status = 'Ready.') {
     this.origin = origin;
-    const { targetId } = await this.browser.send("Target.createTarget", { url: "about:blank" });
-    const { sessionId } = await this.browser.send("Target.attachToTarget", { targetId, flatten: true });
+    const { targetId } = await this.browser.send('Target.createTarget', { url: 'about:blank' });
+    const { sessionId } = await this.browser.send('Target.attachToTarget', { targetId, flatten: true });
     this.session = sessionId;
     await this.#watch(sessionId);
-    for (const domain of ["Page", "DOM"]) await this.send(`${domain}.enable`);
-    await this.browser.send("Browser.setDownloadBehavior", { behavior: "allow", downloadPath: room });
+    await this.send('Page.enable');
+    await this.browser.send('Browser.setDownloadBehavior', { behavior: 'allow', downloadPath: room });
     await this.resize(1600, 1000);
-    await this.send("Page.navigate", { url: `${origin}/` });
-    await this.until(`document.getElementById("status")?.textContent === "Ready."`);
+    await this.send('Page.navigate', { url: origin + folder });
+    await this.until((text) => document.getElementById('status')?.textContent.startsWith(text), status);
   }
 
   send(method, params) {
@@ -129,77 +138,122 @@ class Page {
   async #watch(session) {
     const send = (method, params) => this.browser.send(method, params, session);
     const autoAttach = { autoAttach: true, waitForDebuggerOnStart: true, flatten: true };
-    await Promise.all([send("Network.enable"), send("Runtime.enable"), send("Target.setAutoAttach", autoAttach)]);
-    await send("Log.enable").catch(() => {});
-    await send("Runtime.runIfWaitingForDebugger");
+    await Promise.all([send('Network.enable'), send('Runtime.enable'), send('Target.setAutoAttach', autoAttach)]);
+    await send('Log.enable').catch(() => {});
+    await send('Runtime.runIfWaitingForDebugger');
   }
 
   #hear({ method, params }) {
-    if (method === "Network.requestWillBeSent") this.requests.push(params.request.url);
-    if (method === "Runtime.exceptionThrown") this.complaints.push(params.exceptionDetails.exception?.description ?? params.exceptionDetails.text);
-    if (method === "Runtime.consoleAPICalled") this.complaints.push(params.args.map(({ value }) => value).join(" "));
-    if (method === "Log.entryAdded") this.complaints.push(params.entry.text);
-    if (method === "Target.attachedToTarget") this.#watch(params.sessionId).catch(() => {});
+    const said = {
+      'Runtime.exceptionThrown': () => params.exceptionDetails.exception?.description ?? params.exceptionDetails.text,
+      'Runtime.consoleAPICalled': () => params.args.map(({ value }) => value).join(' '),
+      'Log.entryAdded': () => params.entry.text,
+    }[method];
+    if (said) this.complaints.push(said());
+    if (method === 'Network.requestWillBeSent') this.requests.push(params.request.url);
+    if (method === 'Target.attachedToTarget') this.#watch(params.sessionId).catch(() => {});
   }
 
-  async evaluate(expression) {
-    const asked = { expression, awaitPromise: true, returnByValue: true };
-    const { result, exceptionDetails } = await this.send("Runtime.evaluate", asked);
+  /** Calls a function in the page. It has the arguments, and nothing else of this file. */
+  async run(call, ...values) {
+    const expression = `(${call})(...${JSON.stringify(values)})`;
+    const asked = { expression, awaitPromise: true, returnByValue: true, userGesture: true };
+    const { result, exceptionDetails } = await this.send('Runtime.evaluate', asked);
     if (exceptionDetails) throw new Error(exceptionDetails.exception?.description ?? exceptionDetails.text);
     return result.value;
   }
 
-  async until(expression, ms = 20_000) {
-    const end = Date.now() + ms;
-    while (!(await this.evaluate(expression))) {
-      if (Date.now() > end) throw new Error(`not in ${ms} ms: ${expression}`);
+  /** Waits until a function in the page returns true. */
+  async until(call, ...values) {
+    const end = Date.now() + 20_000;
+    while (!(await this.run(call, ...values))) {
+      if (Date.now() > end) throw new Error(`not in 20 s: ${call} ${values}`);
       await sleep(10);
     }
   }
 
-  resize(width, height, mobile = false) {
-    return this.send("Emulation.setDeviceMetricsOverride", { width, height, deviceScaleFactor: 1, mobile });
+  text(id) {
+    return this.run((its) => document.getElementById(its).textContent, id);
+  }
+
+  untilText(id, text) {
+    return this.until((its, wanted) => document.getElementById(its).textContent === wanted, id, text);
+  }
+
+  focus(selector) {
+    return this.run((it) => document.querySelector(it).focus(), selector);
+  }
+
+  count(selector) {
+    return this.run((it) => document.querySelectorAll(it).length, selector);
+  }
+
+  resize(width, height) {
+    return this.send('Emulation.setDeviceMetricsOverride', { width, height, deviceScaleFactor: 1, mobile: false });
   }
 
   dark(isDark) {
-    const features = [{ name: "prefers-color-scheme", value: isDark ? "dark" : "light" }];
-    return this.send("Emulation.setEmulatedMedia", { features });
+    const features = [{ name: 'prefers-color-scheme', value: isDark ? 'dark' : 'light' }];
+    return this.send('Emulation.setEmulatedMedia', { features });
   }
 
   async key(key, modifiers = 0) {
-    const codes = { Tab: 9, Enter: 13, End: 35, Home: 36, ArrowLeft: 37, ArrowUp: 38, ArrowRight: 39, ArrowDown: 40, " ": 32 };
-    const event = { key, code: key === " " ? "Space" : key, windowsVirtualKeyCode: codes[key], modifiers };
-    const text = { Enter: "\r", " ": " " }[key];
-    await this.send("Input.dispatchKeyEvent", { ...event, type: text && !modifiers ? "keyDown" : "rawKeyDown", text: modifiers ? undefined : text });
-    await this.send("Input.dispatchKeyEvent", { ...event, type: "keyUp" });
+    const event = { key, code: key, windowsVirtualKeyCode: KEYS[key], modifiers };
+    const isText = key === 'Enter' && modifiers === 0;
+    const down = isText ? { type: 'keyDown', text: '\r' } : { type: 'rawKeyDown' };
+    await this.send('Input.dispatchKeyEvent', { ...event, ...down });
+    await this.send('Input.dispatchKeyEvent', { ...event, type: 'keyUp' });
   }
 
   async click(selector) {
-    const at = `(() => { const e = document.querySelector(${JSON.stringify(selector)}); e.scrollIntoView({ block: "nearest" });
-      const r = e.getBoundingClientRect(); return { x: r.x + r.width / 2, y: r.y + r.height / 2 } })()`;
-    const { x, y } = await this.evaluate(at);
-    for (const type of ["mousePressed", "mouseReleased"]) {
-      await this.send("Input.dispatchMouseEvent", { type, x, y, button: "left", clickCount: 1 });
+    const { x, y } = await this.run((it) => {
+      const element = document.querySelector(it);
+      element.scrollIntoView({ block: 'nearest' });
+      const box = element.getBoundingClientRect();
+      return { x: box.x + box.width / 2, y: box.y + box.height / 2 };
+    }, selector);
+    for (const type of ['mousePressed', 'mouseReleased']) {
+      await this.send('Input.dispatchMouseEvent', { type, x, y, button: 'left', clickCount: 1 });
     }
   }
 
-  /** Sets the file, and waits for its table. */
-  async choose(file, name = path.basename(file)) {
-    await this.evaluate(`document.getElementById("status").textContent = ""`);
-    const { root } = await this.send("DOM.getDocument");
-    const { nodeId } = await this.send("DOM.querySelector", { nodeId: root.nodeId, selector: "#file" });
-    await this.send("DOM.setFileInputFiles", { nodeId, files: [file] });
-    await this.until(`document.getElementById("status").textContent === ${JSON.stringify(`${name} is open.`)}`);
+  /** Sets the file of the input, and waits for the table. */
+  async choose(file) {
+    await this.run(() => (document.getElementById('status').textContent = ''));
+    const { result } = await this.send('Runtime.evaluate', { expression: 'document.getElementById("file")' });
+    await this.send('DOM.setFileInputFiles', { objectId: result.objectId, files: [file] });
+    await this.untilText('status', `${path.basename(file)} is open.`);
   }
 
-  /** Writes a screenshot of the page from its top, or of where it is scrolled to. */
+  /** Clicks on a button, and returns the bytes of the file that it downloads. */
+  async download(selector, name) {
+    const file = path.join(room, name);
+    fs.rmSync(file, { force: true });
+    await this.click(selector);
+    return this.downloaded(name);
+  }
+
+  async downloaded(name) {
+    const file = path.join(room, name);
+    for (let turn = 0; turn < 500 && !fs.existsSync(file); turn += 1) await sleep(10);
+    return new Uint8Array(fs.readFileSync(file));
+  }
+
+  /** Writes a screenshot of the page from its top, or as far as it is scrolled. */
   async shot(name, isTop = true) {
     if (!shots) return;
-    if (isTop) await this.evaluate(`scrollTo(0, 0)`);
+    if (isTop) await this.run(() => scrollTo(0, 0));
     await sleep(150);
-    const { data } = await this.send("Page.captureScreenshot", { format: "png" });
+    const { data } = await this.send('Page.captureScreenshot', { format: 'png' });
     fs.mkdirSync(shots, { recursive: true });
-    fs.writeFileSync(path.join(shots, `${name}.png`), Buffer.from(data, "base64"));
+    fs.writeFileSync(path.join(shots, `${name}.png`), Buffer.from(data, 'base64'));
+  }
+
+  async shotsOfBoth(name) {
+    await this.shot(`${name}-light`);
+    await this.dark(true);
+    await this.shot(`${name}-dark`);
+    await this.dark(false);
   }
 }
 
@@ -209,257 +263,140 @@ const HEADER = [0x00, 0x61, 0x73, 0x6d, 0x01, 0x00, 0x00, 0x00];
 
 function leb(value) {
   const bytes = [];
-  for (let left = value; ; left = Math.floor(left / 128)) {
-    if (left < 128) return [...bytes, left];
+  let left = value;
+  while (left >= 128) {
     bytes.push((left % 128) + 128);
+    left = Math.floor(left / 128);
   }
+  return [...bytes, left];
 }
 
-const text = (string) => [...leb(Buffer.byteLength(string)), ...Buffer.from(string)];
-const section = (id, ...parts) => {
+const name = (text) => [...leb(Buffer.byteLength(text)), ...Buffer.from(text)];
+
+function section(id, ...parts) {
   const payload = Buffer.concat(parts.map((part) => Buffer.from(part)));
   return Buffer.concat([Buffer.from([id, ...leb(payload.length)]), payload]);
-};
-const custom = (name, ...parts) => section(0, text(name), ...parts);
+}
+
+const custom = (text, ...parts) => section(0, name(text), ...parts);
 const moduleOf = (...sections) => new Uint8Array(Buffer.concat([Buffer.from(HEADER), ...sections]));
 
-const TYPES_PADDED = section(1, [0x81, 0x80, 0x00], [0x60, 0x01, 0x7f, 0x01, 0x7f]);
+/** The number of types is padded. */
+const TYPES = section(1, [0x81, 0x80, 0x00], [0x60, 0x01, 0x7f, 0x01, 0x7f]);
 const FUNCTION = section(3, [0x01, 0x00]);
-const EXPORT = section(7, [0x01], text("f"), [0x00, 0x00]);
+const EXPORT = section(7, [0x01], name('f'), [0x00, 0x00]);
 /** The body returns its parameter, whose index is padded. */
-const CODE_PADDED = section(10, [0x01, 0x06, 0x00, 0x20, 0x80, 0x80, 0x00, 0x0b]);
-const PADDED = moduleOf(TYPES_PADDED, FUNCTION, EXPORT, CODE_PADDED, custom("note", [1, 2, 3]));
-const WITH_OFFSETS = moduleOf(TYPES_PADDED, FUNCTION, EXPORT, CODE_PADDED, custom(".debug_info", [0, 0, 0, 0]));
+const CODE = section(10, [0x01, 0x06, 0x00, 0x20, 0x80, 0x80, 0x00, 0x0b]);
+const PADDED = moduleOf(TYPES, FUNCTION, EXPORT, CODE, custom('note', [1, 2, 3]));
+const WITH_OFFSETS = moduleOf(TYPES, FUNCTION, EXPORT, CODE, custom('.debug_info', [0, 0, 0, 0]));
 
-/** A module of 18 MB: very many bodies of different sizes, data, and a custom section. */
+/** A body of `i32.const N`, `drop` a few times, and `local.get 0`. */
+function bodyOf(index) {
+  const constants = Array.from({ length: 1 + (index % 9) }, (_, at) => [0x41, ...leb(64 + index + at), 0x1a]);
+  const code = [0x00, ...constants.flat(), 0x20, 0x00, 0x0b];
+  return Buffer.from([...leb(code.length), ...code]);
+}
+
+/** A module of 18 MB, half of it code with very many bodies. */
 function largeModule() {
   const count = 300_000;
-  const body = (index) => {
-    const numbers = Array.from({ length: 1 + (index % 9) }, (_, at) => [0x41, ...leb(64 + index + at), 0x1a]);
-    const code = [0x00, ...numbers.flat(), 0x20, 0x00, 0x0b];
-    return Buffer.from([...leb(code.length), ...code]);
-  };
-  const bodies = Array.from({ length: count }, (_, index) => body(index));
-  const functions = section(3, leb(count), Buffer.alloc(count));
-  const data = Buffer.alloc(8_000_000, "dolzhytik ");
-  const segment = section(11, [0x01, 0x00, 0x41, 0x00, 0x0b], leb(data.length), data);
-  const memory = section(5, [0x01, 0x00], leb(200));
-  return moduleOf(TYPES_PADDED, functions, memory, EXPORT, section(10, leb(count), Buffer.concat(bodies)), segment, custom("note", data.subarray(0, 1_500_000)));
+  const data = Buffer.alloc(8_000_000, 'dolzhytik ');
+  return moduleOf(
+    TYPES,
+    section(3, leb(count), Buffer.alloc(count)),
+    section(5, [0x01, 0x00], leb(200)),
+    EXPORT,
+    section(10, leb(count), Buffer.concat(Array.from({ length: count }, (_, index) => bodyOf(index)))),
+    section(11, [0x01, 0x00, 0x41, 0x00, 0x0b], leb(data.length), data),
+    custom('note', data.subarray(0, 1_500_000)),
+  );
 }
 
 /** Writes bytes to a file, and returns its path. */
-function fileOf(name, bytes) {
-  const file = path.join(room, name);
+function fileOf(its, bytes) {
+  const file = path.join(room, its);
   fs.writeFileSync(file, bytes);
   return file;
 }
 
-// ---- What the page shows.
+// ---- Expected texts, and those of the page.
 
-const number = (value) => value.toLocaleString("en-US");
+const number = (value) => value.toLocaleString('en-US');
 const hex = (value) => `0x${value.toString(16)}`;
-const READ_ROWS = `[...document.querySelectorAll("#sections tbody tr")].map((row) => [
-  row.cells[0].textContent, row.cells[1].textContent, row.querySelector("bdi").textContent,
-  row.cells[3].textContent, row.cells[4].textContent, row.cells[5].textContent])`;
-const READ_SAVINGS = `[...document.querySelectorAll("#savings tbody tr, #savings tfoot tr")].map((row) =>
-  [...row.cells].map((cell) => cell.querySelector("bdi")?.textContent ?? cell.textContent))`;
-const READ_MARKED = `[...document.querySelectorAll("#bytes b.on")].map((cell) => [Number(cell.dataset.offset), parseInt(cell.textContent, 16)])`;
-const textOf = (id) => `document.getElementById("${id}").textContent`;
-const chosenRow = `document.querySelector("#sections tr[aria-selected=true]")?.rowIndex`;
 
-const expectedRow = ({ id, kind, name, offset, size, items }, index) => [
-  String(index + 1), String(id), name ?? kind, hex(offset), number(size), items === null ? "–" : number(items),
+const rowOf = ({ id, kind, name: its, offset, size, items }, index) => [
+  String(index + 1),
+  String(id),
+  its ?? kind,
+  hex(offset),
+  number(size),
+  items === null ? '–' : number(items),
 ];
 
-/** The rows of the savings: before, after and saved of the header, each section and the module. */
-function expectedSavings(library, before, after) {
-  const sizes = (module) => {
-    let start = 8;
-    return library.outline(module).map(({ name, kind, offset, size }) => {
-      const whole = offset + size - start;
-      start = offset + size;
-      return { name: name ?? kind, whole };
-    });
-  };
-  const kept = sizes(after);
-  const rows = sizes(before).map(({ name, whole }, index) => {
-    const made = kept[0]?.name === name ? kept.shift().whole : null;
-    return [String(index + 1), name, number(whole), made === null ? "left out" : number(made), number(whole - (made ?? 0))];
+/** The name and the size of each section, with its id and size prefix. */
+function wholesOf(sections) {
+  let start = HEADER.length;
+  return sections.map(({ name: its, kind, offset, size }) => {
+    const whole = offset + size - start;
+    start = offset + size;
+    return { label: its ?? kind, whole };
   });
-  const total = ["", "module", number(before.length), number(after.length), number(before.length - after.length)];
-  return [["", "header", "8", "8", "0"], ...rows, total];
 }
 
-const isMinimized = `!document.getElementById("download").disabled`;
-
-async function downloaded(page, selector, name) {
-  const file = path.join(room, name);
-  fs.rmSync(file, { force: true });
-  await page.click(selector);
-  for (let turn = 0; turn < 500 && !fs.existsSync(file); turn += 1) await sleep(10);
-  return new Uint8Array(fs.readFileSync(file));
+/** The rows of the savings: the header, each section, and the module. */
+function savingsOf(library, before, after) {
+  const kept = wholesOf(library.outline(after));
+  const rows = wholesOf(library.outline(before)).map(({ label, whole }, index) => {
+    const made = kept[0]?.label === label ? kept.shift().whole : null;
+    return [String(index + 1), label, number(whole), made === null ? 'left out' : number(made), number(whole - made)];
+  });
+  const total = ['', 'module', number(before.length), number(after.length), number(before.length - after.length)];
+  return [['', 'header', '8', '8', '0'], ...rows, total];
 }
 
-/** The least contrast between a text and what is behind it, over elements that show text. */
-const LEAST_CONTRAST = `(() => {
-  const canvas = document.createElement("canvas").getContext("2d", { willReadFrequently: true });
-  const painted = (colors) => {
-    for (const color of ["white", ...colors]) {
-      canvas.fillStyle = color;
-      canvas.fillRect(0, 0, 1, 1);
-    }
-    return [...canvas.getImageData(0, 0, 1, 1).data].slice(0, 3);
-  };
-  const linear = (value) => (value <= 0.04045 ? value / 12.92 : ((value + 0.055) / 1.055) ** 2.4);
-  const light = (rgb) => rgb.reduce((sum, value, at) => sum + linear(value / 255) * [0.2126, 0.7152, 0.0722][at], 0);
-  const behind = (element) => (element ? [...behind(element.parentElement), getComputedStyle(element).backgroundColor] : []);
-  const shows = (element) => [...element.childNodes].some((node) => node.nodeType === 3 && node.data.trim())
-    && element.checkVisibility() && !element.closest(":disabled, .unseen");
-  const found = [...document.querySelectorAll("body *")].filter(shows).map((element) => {
-    const backs = behind(element);
-    const [front, back] = [[...backs, getComputedStyle(element).color], backs].map((colors) => light(painted(colors)));
-    const ratio = (Math.max(front, back) + 0.05) / (Math.min(front, back) + 0.05);
-    return { ratio, what: element.tagName + "." + element.className + " " + element.textContent.slice(0, 20) };
-  });
-  return found.sort((a, b) => a.ratio - b.ratio)[0];
-})()`;
+const rows = (page) =>
+  page.run(() =>
+    [...document.querySelectorAll('#sections tbody tr')].map(({ cells }) =>
+      [...cells].map((cell) => cell.querySelector('bdi')?.textContent ?? cell.textContent),
+    ),
+  );
 
-// ---- Tests.
+const savings = (page) =>
+  page.run(() =>
+    [...document.querySelectorAll('#savings tbody tr, #savings tfoot tr')].map(({ cells }) =>
+      [...cells].map((cell) => cell.querySelector('bdi')?.textContent ?? cell.textContent),
+    ),
+  );
 
-const opening = {
-  async "the page starts"(page) {
-    assert.equal(await page.evaluate(textOf("status")), "Ready.");
-    await page.shot("empty-light");
-    await page.dark(true);
-    await page.shot("empty-dark");
-    await page.dark(false);
-  },
+/** The offsets and values of the bytes that are shown and match. */
+const bytesShown = (page, selector) =>
+  page.run(
+    (it) =>
+      [...document.querySelectorAll(`#bytes ${it}`)].map((cell) => [
+        Number(cell.dataset.offset),
+        parseInt(cell.textContent, 16),
+      ]),
+    selector,
+  );
 
-  async "the table of each module equals its outline"(page, library) {
-    for (const file of named) {
-      await page.choose(file);
-      const expected = library.outline(fs.readFileSync(file)).map(expectedRow);
-      assert.deepEqual(await page.evaluate(READ_ROWS), expected);
-    }
-  },
+const chosenRow = (page) => page.run(() => document.querySelector('#sections tr[aria-selected=true]')?.rowIndex);
+const isMinimized = () => !document.getElementById('download').disabled;
+const hasItems = () => document.querySelectorAll('#items .item').length > 0;
 
-  async "the bar has the sections to scale"(page, library) {
-    await page.choose(named[0]);
-    const bytes = fs.readFileSync(named[0]);
-    const sections = library.outline(bytes);
-    const segments = await page.evaluate(`[...document.querySelectorAll("#bar [role=option]")].map((segment) =>
-      ({ label: segment.ariaLabel, width: segment.getBoundingClientRect().width }))`);
-    assert.equal(segments.length, sections.length);
-    const wide = sections.map(({ size }, index) => ({ size, ...segments[index] })).filter(({ width }) => width > 40);
-    wide.forEach(({ size, width }) => assert.ok(Math.abs(width / wide[0].width - size / wide[0].size) < 0.02));
-    segments.forEach(({ label, width }, index) => {
-      assert.ok(label.startsWith(`Section ${index + 1}: ${sections[index].kind}`), label);
-      assert.ok(width >= 3.9);
-    });
-  },
+function goTo(page, offset) {
+  return page.run((text) => {
+    document.getElementById('offset').value = text;
+    document.getElementById('go').requestSubmit();
+  }, String(offset));
+}
 
-  async "a module of the header alone"(page, library) {
-    await page.choose(fileOf("header.wasm", moduleOf()));
-    assert.deepEqual(await page.evaluate(READ_ROWS), []);
-    await page.until(isMinimized);
-    assert.deepEqual(await downloaded(page, "#download", "header.min.wasm"), library.minimize(moduleOf()));
-  },
-
-  async "a dropped file opens"(page, library) {
-    const file = fileOf("dropped.wasm", PADDED);
-    const data = { items: [], files: [file], dragOperationsMask: 1 };
-    for (const type of ["dragEnter", "dragOver", "drop"]) {
-      await page.send("Input.dispatchDragEvent", { type, x: 800, y: 500, data });
-    }
-    await page.until(`${textOf("file-name")} === "dropped.wasm"`);
-    assert.deepEqual(await page.evaluate(READ_ROWS), library.outline(PADDED).map(expectedRow));
-    assert.equal(await page.evaluate(`document.documentElement.className`), "");
-  },
-
-  async "names are texts, whatever is in them"(page) {
-    const names = ["<img src=x onerror=alert(1)>", "\u202egnp.exe", "a\nb", "a".repeat(5000)];
-    await page.choose(fileOf("names.wasm", moduleOf(...names.map((name) => custom(name)))));
-    const rows = await page.evaluate(READ_ROWS);
-    assert.deepEqual(rows.map((row) => row[2]), names);
-    assert.equal(await page.evaluate(`document.images.length`), 0);
-    await page.shot("names");
-  },
-
-  async "thousands of sections are shown in pages"(page) {
-    await page.choose(fileOf("many.wasm", moduleOf(...Array.from({ length: 3001 }, (_, index) => custom(`s${index}`)))));
-    assert.equal((await page.evaluate(READ_ROWS)).length, 500);
-    await page.evaluate(`document.querySelector("#sections tbody tr").focus()`);
-    await page.key("End");
-    assert.deepEqual((await page.evaluate(READ_ROWS)).map((row) => row[2]), ["s3000"]);
-    assert.equal(await page.evaluate(textOf("section-pages")), "‹7 of 7›");
-    assert.equal(await page.evaluate(`document.activeElement.cells[2].querySelector("bdi").textContent`), "s3000");
-  },
-};
-
-const damaged = {
-  async "a module that ends in a section"(page, library) {
-    const cut = PADDED.subarray(0, PADDED.length - 16);
-    const error = await thrown(() => library.outline(cut));
-    await page.choose(fileOf("cut.wasm", cut));
-    await page.until(`!document.getElementById("damage").hidden`);
-    assert.equal(await page.evaluate(textOf("damage-message")), error.message);
-    const facts = await page.evaluate(textOf("damage-facts"));
-    assert.equal(facts, `Cause: ${error.cause} · Offset: ${hex(error.offset)} (${number(error.offset)})`);
-    const rows = await page.evaluate(READ_ROWS);
-    const before = library.outline(PADDED).filter(({ offset }) => offset < error.offset);
-    assert.deepEqual(rows.slice(0, -1), before.map(expectedRow));
-    assert.deepEqual(rows.at(-1), ["–", "–", "not decoded", hex(error.offset), number(cut.length - error.offset), "–"]);
-    assert.equal(await page.evaluate(isMinimized), false);
-    await page.shot("damaged-light");
-    await page.dark(true);
-    await page.shot("damaged-dark");
-    await page.dark(false);
-  },
-
-  async "a real module that is cut"(page, library) {
-    const whole = fs.readFileSync(named[0]);
-    const cut = whole.subarray(0, Math.floor(whole.length * 0.9));
-    const error = await thrown(() => library.outline(cut));
-    await page.choose(fileOf("cut-real.wasm", cut));
-    await page.until(`${textOf("damage-message")} === ${JSON.stringify(error.message)}`);
-    assert.ok((await page.evaluate(textOf("damage-facts"))).includes(hex(error.offset)));
-    await page.shot("damaged-real");
-  },
-
-  async "a payload that does not decode"(page, library) {
-    const broken = moduleOf(TYPES_PADDED, section(3, [0x02, 0x00]), EXPORT);
-    const error = await thrown(() => library.list(broken));
-    await page.choose(fileOf("payload.wasm", broken));
-    await page.until(`${textOf("damage-message")} === ${JSON.stringify(error.message)}`);
-    assert.ok((await page.evaluate(textOf("damage-facts"))).includes(`Offset: ${hex(error.offset)} `));
-    assert.deepEqual(await page.evaluate(READ_ROWS), library.outline(broken).map(expectedRow));
-    assert.equal(await page.evaluate(`document.querySelectorAll("#sections .flaw").length`), 1);
-    assert.equal(await page.evaluate(chosenRow), 2);
-    await page.shot("payload");
-  },
-
-  async "a file that is no module"(page, library) {
-    for (const bytes of [Buffer.from("no module"), Buffer.alloc(0)]) {
-      const error = await thrown(() => library.outline(bytes));
-      await page.choose(fileOf(`text-${bytes.length}.wasm`, bytes));
-      assert.equal(await page.evaluate(textOf("damage-message")), error.message);
-      assert.ok((await page.evaluate(textOf("damage-facts"))).endsWith("Offset: 0x0 (0)"));
-    }
-  },
-
-  async "a whole module after it hides the message"(page) {
-    await page.choose(fileOf("whole.wasm", PADDED));
-    assert.equal(await page.evaluate(`document.getElementById("damage").hidden`), true);
-  },
-};
-
-async function thrown(call) {
+function thrown(call) {
   try {
-    await call();
+    call();
   } catch (error) {
     return error;
   }
-  throw new Error("no error");
+  throw new Error('no error');
 }
 
 /** Opens a module, and chooses its code section. */
@@ -469,321 +406,516 @@ async function openCode(page, library, file) {
   const sections = library.outline(bytes);
   const index = sections.findIndex(({ id }) => id === 10);
   await page.click(`#sections tbody tr[data-index="${index}"]`);
-  const items = library.items(bytes, index, 100_000);
-  await page.until(`document.querySelectorAll("#items .item").length > 0`);
-  return { bytes, items, index, section: sections[index] };
+  await page.until(hasItems);
+  const { offset, size } = sections[index - 1];
+  const items = library.items(bytes, index, MOST_ITEMS);
+  return { bytes, items, index, code: sections[index], start: offset + size };
 }
 
-const sections = {
-  async "the bytes of a section"(page, library) {
-    const { bytes, section: code } = await openCode(page, library, named[0]);
-    const shown = await page.evaluate(`[...document.querySelectorAll("#bytes b:not(.none)")].map((cell) => [Number(cell.dataset.offset), parseInt(cell.textContent, 16)])`);
-    assert.ok(shown.length > 100 && shown.length < 3000, `${shown.length} cells`);
-    shown.forEach(([offset, byte]) => assert.equal(byte, bytes[offset]));
-    // The id and the size prefix are before the payload.
-    const head = 1 + leb(code.size).length;
-    assert.equal(await page.evaluate(`document.querySelectorAll("#bytes b.head").length`), head);
-    assert.equal(shown[0][0], code.offset - head);
+// ---- Tests.
+
+const opening = {
+  async 'the page starts'(page) {
+    assert.equal(await page.text('status'), 'Ready.');
+    await page.shotsOfBoth('empty');
   },
 
-  async "an item marks its bytes, and scrolls to them"(page, library) {
-    const { bytes, items } = await openCode(page, library, named[0]);
+  async 'the table of each module is its outline'(page, library) {
+    for (const file of modules) {
+      await page.choose(file);
+      assert.deepEqual(await rows(page), library.outline(fs.readFileSync(file)).map(rowOf));
+    }
+  },
+
+  async 'the bar has the sections to scale'(page, library) {
+    await page.choose(modules[0]);
+    const sections = library.outline(fs.readFileSync(modules[0]));
+    const segments = await page.run(() =>
+      [...document.querySelectorAll('#bar [role=option]')].map((segment) => ({
+        label: segment.ariaLabel,
+        width: segment.getBoundingClientRect().width,
+      })),
+    );
+    assert.equal(segments.length, sections.length);
+    const widths = wholesOf(sections).map(({ whole }, index) => ({ whole, width: segments[index].width }));
+    const [first, ...others] = widths.filter(({ width }) => width > 40);
+    others.forEach(({ whole, width }) => assert.ok(Math.abs(width / first.width - whole / first.whole) < 0.02));
+    segments.forEach(({ label, width }, index) => {
+      assert.ok(label.startsWith(`Section ${index + 1}: ${sections[index].kind}`), label);
+      assert.ok(width >= 3.9);
+    });
+  },
+
+  async 'a module of the header alone'(page, library) {
+    await page.choose(fileOf('header.wasm', moduleOf()));
+    assert.deepEqual(await rows(page), []);
+    await page.until(isMinimized);
+    assert.deepEqual(await page.download('#download', 'header.min.wasm'), library.minimize(moduleOf()));
+  },
+
+  async 'a dropped file opens'(page, library) {
+    const data = { items: [], files: [fileOf('dropped.wasm', PADDED)], dragOperationsMask: 1 };
+    for (const type of ['dragEnter', 'dragOver', 'drop']) {
+      await page.send('Input.dispatchDragEvent', { type, x: 800, y: 500, data });
+    }
+    await page.untilText('file-name', 'dropped.wasm');
+    assert.deepEqual(await rows(page), library.outline(PADDED).map(rowOf));
+    assert.equal(await page.run(() => document.documentElement.className), '');
+  },
+
+  async 'names are texts, with escapes'(page) {
+    const names = ['<img src=x onerror=alert(1)>', '\u202egnp.exe', 'a\nb', 'a'.repeat(5000)];
+    await page.choose(fileOf('names.wasm', moduleOf(...names.map((text) => custom(text)))));
+    const shown = ['<img src=x onerror=alert(1)>', '\\u{202e}gnp.exe', 'a\\u{a}b', 'a'.repeat(5000)];
+    assert.deepEqual((await rows(page)).map((row) => row[2]), shown);
+    assert.equal(await page.count('img'), 0);
+    await page.shot('names');
+  },
+
+  async 'thousands of sections have pages'(page) {
+    const sections = Array.from({ length: 3001 }, (_, index) => custom(`s${index}`));
+    await page.choose(fileOf('many.wasm', moduleOf(...sections)));
+    assert.equal((await rows(page)).length, 500);
+    assert.equal(await page.count('#bar [role=option]'), 60);
+    await page.focus('#sections tbody tr');
+    await page.key('End');
+    assert.deepEqual((await rows(page)).map((row) => row[2]), ['s3000']);
+    assert.equal(await page.text('section-pages'), '‹7 of 7›');
+    assert.equal(await page.run(() => document.activeElement.cells[2].title), 'Section 3001: custom "s3000"');
+    await page.click('#section-pages button');
+    assert.equal((await rows(page))[0][2], 's2500');
+  },
+};
+
+const damaged = {
+  async 'a module that ends in a section'(page, library) {
+    const cut = PADDED.subarray(0, PADDED.length - 16);
+    const error = thrown(() => library.outline(cut));
+    await page.choose(fileOf('cut.wasm', cut));
+    assert.equal(await page.text('damage-message'), error.message);
+    const facts = `Cause: ${error.cause} · Offset: ${hex(error.offset)} (${number(error.offset)})`;
+    assert.equal(await page.text('damage-facts'), facts);
+    const before = library.outline(PADDED).filter(({ offset }) => offset < error.offset);
+    const rest = ['–', '–', 'not decoded', hex(error.offset), number(cut.length - error.offset), '–'];
+    assert.deepEqual(await rows(page), [...before.map(rowOf), rest]);
+    assert.equal(await page.run(isMinimized), false);
+    await page.shotsOfBoth('damaged');
+  },
+
+  async 'a real module that is cut'(page, library) {
+    const whole = fs.readFileSync(modules[0]);
+    const cut = whole.subarray(0, Math.floor(whole.length * 0.9));
+    const error = thrown(() => library.outline(cut));
+    await page.choose(fileOf('cut-real.wasm', cut));
+    assert.equal(await page.text('damage-message'), error.message);
+    assert.ok((await page.text('damage-facts')).includes(`Offset: ${hex(error.offset)} `));
+    await page.shot('damaged-real');
+  },
+
+  async 'a payload that does not decode'(page, library) {
+    const broken = moduleOf(TYPES, section(3, [0x02, 0x00]), EXPORT);
+    const error = thrown(() => library.list(broken));
+    await page.choose(fileOf('payload.wasm', broken));
+    assert.equal(await page.text('damage-message'), error.message);
+    assert.ok((await page.text('damage-facts')).includes(`Offset: ${hex(error.offset)} `));
+    assert.deepEqual(await rows(page), library.outline(broken).map(rowOf));
+    assert.equal(await page.count('#sections .flaw'), 1);
+    assert.equal(await chosenRow(page), 2);
+    await page.shot('damaged-payload');
+  },
+
+  async 'types that do not decode'(page) {
+    await page.choose(fileOf('types.wasm', moduleOf(section(1, [0x01, 0x00]), FUNCTION)));
+    assert.equal(await page.text('damage-message'), 'section 1: no type section');
+    assert.equal(await page.text('damage-facts'), 'Offset: 0x8 (8)');
+    assert.equal(await chosenRow(page), 1);
+  },
+
+  async 'a file that is no module'(page, library) {
+    for (const bytes of [Buffer.from('no module'), Buffer.alloc(0)]) {
+      await page.choose(fileOf(`text-${bytes.length}.wasm`, bytes));
+      assert.equal(await page.text('damage-message'), thrown(() => library.outline(bytes)).message);
+      assert.ok((await page.text('damage-facts')).endsWith('Offset: 0x0 (0)'));
+      assert.equal((await rows(page)).length, 1);
+    }
+  },
+
+  async 'a module without damage hides the message'(page) {
+    await page.choose(fileOf('whole.wasm', PADDED));
+    assert.equal(await page.run(() => document.getElementById('damage').hidden), true);
+  },
+};
+
+const chosen = {
+  async 'the bytes of a section'(page, library) {
+    const { bytes, code, start } = await openCode(page, library, modules[0]);
+    const shown = await bytesShown(page, 'b:not(.none)');
+    assert.ok(shown.length > 100 && shown.length < 3000, `${shown.length} bytes`);
+    shown.forEach(([offset, byte]) => assert.equal(byte, bytes[offset]));
+    // The id and the size prefix are before the payload.
+    assert.equal(shown[0][0], start);
+    assert.equal(await page.count('#bytes b.head'), code.offset - start);
+  },
+
+  async 'an item marks its bytes, and scrolls to them'(page, library) {
+    const { bytes, items } = await openCode(page, library, modules[0]);
     for (const index of [0, Math.floor(items.length / 2), items.length - 1]) {
-      await page.evaluate(`(() => { const list = document.getElementById("items"); list.scrollTop = ${index} * parseFloat(getComputedStyle(list).lineHeight) - 40 })()`);
-      await page.until(`document.getElementById("item-${index}")`);
+      await page.run((its) => (document.getElementById('items').scrollTop = its * 20 - 40), index);
+      await page.until((its) => document.getElementById(`item-${its}`) !== null, index);
       await page.click(`#item-${index}`);
-      const { offset, size, text: itsText } = items[index];
-      const marked = await page.evaluate(READ_MARKED);
+      const { offset, size, text } = items[index];
+      const marked = await bytesShown(page, 'b.on');
       assert.equal(marked[0][0], offset);
       assert.ok(marked.length === size || marked.length > 200);
       marked.forEach(([at, byte]) => assert.ok(at < offset + size && byte === bytes[at]));
-      assert.equal(await page.evaluate(textOf("items-note")), itsText);
-      assert.ok(await page.evaluate(`(() => { const a = document.querySelector("#bytes b.on").getBoundingClientRect(), b = document.getElementById("bytes").getBoundingClientRect(); return a.top >= b.top && a.bottom <= b.bottom })()`));
+      assert.equal(await page.text('items-note'), text);
+      assert.ok(await page.run(isInView));
     }
-    await page.shot("real-light");
-    await page.dark(true);
-    await page.shot("real-dark");
-    await page.dark(false);
+    await page.shotsOfBoth('real');
   },
 
-  async "the items are those of the library"(page, library) {
-    const { items } = await openCode(page, library, named[0]);
-    const shown = await page.evaluate(`[...document.querySelectorAll("#items .item")].map((row) => [...row.children].map((cell) => cell.textContent))`);
-    shown.forEach((cells, index) => {
-      const { offset, size, text: itsText } = items[index];
-      assert.deepEqual(cells, [String(index), hex(offset), itsText, number(size)]);
-    });
-    assert.equal(await page.evaluate(textOf("items-facts")), number(items.length));
+  async 'the items are those of the library'(page, library) {
+    const { items } = await openCode(page, library, modules[0]);
+    const shown = await page.run(() =>
+      [...document.querySelectorAll('#items .item')].map((row) => [...row.children].map((cell) => cell.textContent)),
+    );
+    const expected = items.map(({ offset, size, text }, index) => [String(index), hex(offset), text, number(size)]);
+    assert.deepEqual(shown, expected.slice(0, shown.length));
+    assert.equal(await page.text('items-facts'), number(items.length));
   },
 
-  async "a byte chooses the item that has it"(page, library) {
-    const { items } = await openCode(page, library, named[0]);
+  async 'a byte chooses the item that has it'(page, library) {
+    const { items } = await openCode(page, library, modules[0]);
     const { offset } = items[1];
     await page.click(`#bytes b[data-offset="${offset}"]`);
-    assert.equal(await page.evaluate(`document.querySelector("#items [aria-selected=true]").id`), "item-1");
-    assert.equal((await page.evaluate(READ_MARKED))[0]?.[0], offset + 1);
-    assert.equal(await page.evaluate(`document.querySelector("#bytes b.spot").dataset.offset`), String(offset));
+    assert.equal(await page.run(() => document.querySelector('#items [aria-selected=true]').id), 'item-1');
+    assert.equal((await bytesShown(page, 'b.on'))[0]?.[0], offset + 1);
+    assert.equal((await bytesShown(page, 'b.spot'))[0][0], offset);
   },
 
-  async "an offset is shown, in whatever section it is"(page, library) {
-    const { bytes, section: code, index } = await openCode(page, library, named[0]);
-    await page.click(`#sections tbody tr`);
+  async 'an offset is shown, in whichever section it is'(page, library) {
+    const { bytes, code, index } = await openCode(page, library, modules[0]);
+    await page.click('#sections tbody tr');
     const offset = code.offset + code.size - 1;
-    const go = (text) => page.evaluate(`(() => { document.getElementById("offset").value = "${text}"; document.getElementById("go").requestSubmit() })()`);
-    await go(hex(offset));
-    await page.until(`document.querySelector("#items [aria-selected=true]")`);
-    assert.equal(await page.evaluate(chosenRow), index + 1);
-    assert.equal(await page.evaluate(`document.querySelector("#bytes b.spot").dataset.offset`), String(offset));
-    for (const wrong of [hex(bytes.length), "7", "x", ""]) {
-      await go(wrong);
-      assert.equal(await page.evaluate(`document.getElementById("offset").checkValidity()`), false);
-      await page.evaluate(`document.getElementById("offset").dispatchEvent(new Event("input"))`);
+    await goTo(page, hex(offset));
+    await page.until(() => document.querySelector('#items [aria-selected=true]') !== null);
+    assert.equal(await chosenRow(page), index + 1);
+    assert.deepEqual(await bytesShown(page, 'b.spot'), [[offset, bytes[offset]]]);
+    for (const wrong of [hex(bytes.length), '7', 'x', '']) {
+      await goTo(page, wrong);
+      assert.equal(await page.run(() => document.getElementById('offset').checkValidity()), false);
+      await page.run(() => document.getElementById('offset').dispatchEvent(new Event('input')));
     }
   },
 };
+
+function isInView() {
+  const row = document.querySelector('#bytes b.on').getBoundingClientRect();
+  const view = document.getElementById('bytes').getBoundingClientRect();
+  return row.top >= view.top && row.bottom <= view.bottom;
+}
+
+const showSavings = (page) => page.run(() => document.querySelector('.minimize').scrollIntoView({ block: 'end' }));
 
 const minimizing = {
-  async "what each section saves"(page, library) {
-    for (const [name, bytes] of [["padded", PADDED], ["real", fs.readFileSync(named[0])]]) {
-      await page.choose(fileOf(`${name}.wasm`, bytes));
+  async 'the bytes that each section saves, and the download'(page, library) {
+    await page.click('#drop');
+    for (const file of [fileOf('padded.wasm', PADDED), ...modules]) {
+      const bytes = new Uint8Array(fs.readFileSync(file));
+      await page.choose(file);
       await page.until(isMinimized);
-      const minimal = library.minimize(bytes);
-      assert.deepEqual(await page.evaluate(READ_SAVINGS), expectedSavings(library, bytes, minimal));
-      assert.deepEqual(await downloaded(page, "#download", `${name}.min.wasm`), minimal);
+      const minimal = library.minimize(bytes, { dropOffsets: true });
+      assert.deepEqual(await savings(page), savingsOf(library, bytes, minimal));
+      const its = path.basename(file).replace('.wasm', '.min.wasm');
+      assert.deepEqual(await page.download('#download', its), minimal);
     }
-    await page.evaluate(`document.querySelector(".minimize").scrollIntoView({ block: "end" })`);
-    await page.shot("minimized", false);
+    await page.click('#drop');
+    await showSavings(page);
+    await page.shot('minimized', false);
   },
 
-  async "sections that hold offsets"(page, library) {
-    const error = await thrown(() => library.minimize(WITH_OFFSETS));
-    await page.choose(fileOf("offsets.wasm", WITH_OFFSETS));
-    await page.until(`${textOf("saving")} === ${JSON.stringify(`Not minimized: ${error.message}`)}`);
-    assert.equal(await page.evaluate(isMinimized), false);
-    await page.evaluate(`document.querySelector(".minimize").scrollIntoView({ block: "end" })`);
-    await page.shot("offsets-refused", false);
-    await page.click("#drop");
+  async 'custom sections that hold offsets'(page, library) {
+    const error = thrown(() => library.minimize(WITH_OFFSETS));
+    await page.choose(fileOf('offsets.wasm', WITH_OFFSETS));
+    await page.untilText('saving', `Not minimized: ${error.message}`);
+    assert.equal(await page.run(isMinimized), false);
+    await showSavings(page);
+    await page.shot('offsets-refused', false);
+    await page.click('#drop');
     await page.until(isMinimized);
     const minimal = library.minimize(WITH_OFFSETS, { dropOffsets: true });
-    assert.deepEqual(await page.evaluate(READ_SAVINGS), expectedSavings(library, WITH_OFFSETS, minimal));
-    assert.deepEqual(await downloaded(page, "#download", "offsets.min.wasm"), minimal);
-    await page.shot("offsets-left-out", false);
-    await page.click("#drop");
+    assert.deepEqual(await savings(page), savingsOf(library, WITH_OFFSETS, minimal));
+    assert.deepEqual(await page.download('#download', 'offsets.min.wasm'), minimal);
+    await page.shot('offsets-left-out', false);
+    await page.click('#drop');
   },
 };
 
-const typeRecipe = (recipe) => `(() => { const field = document.getElementById("recipe"); field.value = ${JSON.stringify(recipe)}; })()`;
+const typeRecipe = (page, recipe) => page.run((text) => (document.getElementById('recipe').value = text), recipe);
 
 const recipes = {
-  async "a recipe is built, and downloaded"(page, library) {
-    await page.click("#write");
-    const recipe = await page.evaluate(`document.getElementById("recipe").value`);
-    await page.click("#recipe-panel [type=submit]");
-    await page.until(`${textOf("file-name")} === "recipe.wasm"`);
+  async 'a recipe is built, and downloaded'(page, library) {
+    await page.click('#write');
+    const recipe = await page.run(() => document.getElementById('recipe').value);
+    await page.click('#recipe-panel [type=submit]');
+    await page.untilText('file-name', 'recipe.wasm');
     const module = library.assemble(recipe);
-    assert.deepEqual(await page.evaluate(READ_ROWS), library.outline(module).map(expectedRow));
-    assert.deepEqual(await downloaded(page, "#save", "recipe.wasm"), module);
-    await page.shot("recipe-light");
+    assert.deepEqual(await rows(page), library.outline(module).map(rowOf));
+    assert.deepEqual(await page.download('#save', 'recipe.wasm'), module);
+    await page.shot('recipe');
   },
 
-  async "an error of a recipe shows its line"(page, library) {
-    const recipe = "type 60027f7f017f\nfunc 0\nexport add func\nbody 200020016a0b\n";
-    const error = await thrown(() => library.assemble(recipe));
+  async 'an error of a recipe shows its line'(page, library) {
+    const recipe = 'type 60027f7f017f\nfunc 0\nexport add func\nbody 200020016a0b\n';
+    const error = thrown(() => library.assemble(recipe));
     assert.equal(error.line, 3);
-    await page.evaluate(typeRecipe(recipe));
-    await page.key("Enter");
-    await page.evaluate(`document.getElementById("recipe").focus()`);
-    await page.evaluate(typeRecipe(recipe));
-    await page.key("Enter", 2);
-    await page.until(`${textOf("recipe-error")} === ${JSON.stringify(error.message)}`);
-    const selected = `(() => { const field = document.getElementById("recipe"); return field.value.slice(field.selectionStart, field.selectionEnd) })()`;
-    assert.equal(await page.evaluate(selected), "export add func");
-    assert.equal(await page.evaluate(`document.getElementById("recipe").ariaInvalid`), "true");
-    await page.shot("recipe-error");
-    await page.evaluate(typeRecipe(recipe.replace("func\n", "func 0\n")));
-    await page.key("Enter", 2);
-    await page.until(`${textOf("recipe-error")} === ""`);
-    await page.click("#write");
+    await typeRecipe(page, recipe);
+    await page.focus('#recipe');
+    await page.key('Enter', CTRL);
+    await page.untilText('recipe-error', error.message);
+    const selected = await page.run(() => {
+      const { value, selectionStart, selectionEnd } = document.getElementById('recipe');
+      return value.slice(selectionStart, selectionEnd);
+    });
+    assert.equal(selected, 'export add func');
+    assert.equal(await page.run(() => document.getElementById('recipe').ariaInvalid), 'true');
+    await page.shot('recipe-error');
+    await typeRecipe(page, recipe.replace('func\n', 'func 0\n'));
+    await page.key('Enter', CTRL);
+    await page.untilText('recipe-error', '');
+    await page.click('#write');
   },
 };
 
-/** Presses Tab until the element has the focus. */
+/** Presses Tab until an element that matches has the focus. */
 async function tabTo(page, selector) {
   for (let turn = 0; turn < 30; turn += 1) {
-    await page.key("Tab");
-    if (await page.evaluate(`document.activeElement.matches(${JSON.stringify(selector)})`)) return;
+    await page.key('Tab');
+    if (await page.run((it) => document.activeElement.matches(it), selector)) return;
   }
   throw new Error(`Tab does not reach ${selector}`);
 }
 
-const hasFocusRing = `(() => { const { outlineStyle, outlineWidth } = getComputedStyle(document.activeElement); return outlineStyle === "solid" && outlineWidth === "2px" })()`;
+function hasFocusRing() {
+  const { outlineStyle, outlineWidth } = getComputedStyle(document.activeElement);
+  return outlineStyle === 'solid' && outlineWidth === '2px';
+}
+
+const blur = (page) => page.run(() => document.activeElement.blur());
+const activeItem = (page) => page.run(() => document.activeElement.getAttribute('aria-activedescendant'));
 
 const keyboard = {
-  async "the table and the items by keys"(page, library) {
-    const { items, index, bytes } = await openCode(page, library, named[0]);
-    await page.evaluate(`document.activeElement.blur()`);
-    await tabTo(page, "#sections tr");
-    assert.ok(await page.evaluate(hasFocusRing));
-    await page.key("Home");
-    assert.equal(await page.evaluate(chosenRow), 1);
-    for (let turn = 0; turn < index; turn += 1) await page.key("ArrowDown");
-    assert.equal(await page.evaluate(chosenRow), index + 1);
-    await page.key("Enter");
-    assert.equal(await page.evaluate(`document.activeElement.id`), "items");
-    assert.ok(await page.evaluate(hasFocusRing));
-    await page.until(`document.querySelectorAll("#items .item").length > 0`);
-    await page.key("ArrowDown");
-    await page.key("ArrowDown");
-    assert.equal(await page.evaluate(`document.activeElement.getAttribute("aria-activedescendant")`), "item-1");
-    await page.key("End");
+  async 'the table and the items by keys'(page, library) {
+    const { items, index, bytes } = await openCode(page, library, modules[0]);
+    await blur(page);
+    await tabTo(page, '#sections tr');
+    assert.ok(await page.run(hasFocusRing));
+    await page.key('Home');
+    assert.equal(await chosenRow(page), 1);
+    for (let turn = 0; turn < index; turn += 1) await page.key('ArrowDown');
+    assert.equal(await chosenRow(page), index + 1);
+    await page.key('Enter');
+    assert.equal(await page.run(() => document.activeElement.id), 'items');
+    assert.ok(await page.run(hasFocusRing));
+    await page.until(hasItems);
+    await page.key('ArrowDown');
+    await page.key('ArrowDown');
+    assert.equal(await activeItem(page), 'item-1');
+    await page.key('End');
     const last = items.length - 1;
-    assert.equal(await page.evaluate(`document.activeElement.getAttribute("aria-activedescendant")`), `item-${last}`);
-    assert.deepEqual((await page.evaluate(READ_MARKED))[0], [items[last].offset, bytes[items[last].offset]]);
+    assert.equal(await activeItem(page), `item-${last}`);
+    assert.deepEqual((await bytesShown(page, 'b.on'))[0], [items[last].offset, bytes[items[last].offset]]);
   },
 
-  async "the bar by keys"(page, library) {
-    const count = library.outline(fs.readFileSync(named[0])).length;
-    await page.choose(named[0]);
-    await page.evaluate(`document.activeElement.blur()`);
-    await tabTo(page, "#bar [role=option]");
-    assert.ok(await page.evaluate(hasFocusRing));
-    await page.key("End");
-    assert.equal(await page.evaluate(chosenRow), count);
-    await page.key("ArrowLeft");
-    assert.equal(await page.evaluate(chosenRow), count - 1);
-    assert.equal(await page.evaluate(`document.activeElement.ariaSelected`), "true");
-    await page.shot("keys");
+  async 'the bar by keys'(page, library) {
+    const count = library.outline(fs.readFileSync(modules[0])).length;
+    await page.choose(modules[0]);
+    await blur(page);
+    await tabTo(page, '#bar [role=option]');
+    assert.ok(await page.run(hasFocusRing));
+    await page.key('End');
+    assert.equal(await chosenRow(page), count);
+    await page.key('ArrowLeft');
+    assert.equal(await chosenRow(page), count - 1);
+    assert.equal(await page.run(() => document.activeElement.ariaSelected), 'true');
+    await page.shot('keys');
   },
 
-  async "the file, the recipe and the rest by Tab"(page) {
-    await page.choose(fileOf("tabs.wasm", PADDED));
+  async 'every control by Tab, and the download by Enter'(page, library) {
+    await page.choose(fileOf('tabs.wasm', PADDED));
     await page.until(isMinimized);
-    await page.evaluate(`document.activeElement.blur(); getSelection().removeAllRanges()`);
-    for (const selector of ["#file", "#write", "#bar *", "#sections tr", "#items", "#offset", "#bytes", "#drop", "#download"]) {
-      await tabTo(page, selector);
-    }
-    await page.key("Enter");
-    for (let turn = 0; turn < 300 && !fs.existsSync(path.join(room, "tabs.min.wasm")); turn += 1) await sleep(10);
-    assert.ok(fs.existsSync(path.join(room, "tabs.min.wasm")));
+    await blur(page);
+    const order = ['#file', '#write', '#bar *', '#sections tr', '#items', '#offset', '#bytes', '#drop', '#download'];
+    for (const selector of order) await tabTo(page, selector);
+    await page.key('Enter');
+    assert.deepEqual(await page.downloaded('tabs.min.wasm'), library.minimize(PADDED));
   },
 };
 
+/** The least contrast of a text to the colours behind it. Runs in the page. */
+function leastContrast() {
+  const canvas = document.createElement('canvas').getContext('2d', { willReadFrequently: true });
+  const paint = (color) => {
+    canvas.fillStyle = color;
+    canvas.fillRect(0, 0, 1, 1);
+  };
+  const linear = (value) => (value <= 0.04045 ? value / 12.92 : ((value + 0.055) / 1.055) ** 2.4);
+  const luminance = (colors) => {
+    ['white', ...colors].forEach(paint);
+    const [red, green, blue] = [...canvas.getImageData(0, 0, 1, 1).data].map((value) => linear(value / 255));
+    return 0.2126 * red + 0.7152 * green + 0.0722 * blue;
+  };
+  const behind = (element) =>
+    element ? [...behind(element.parentElement), getComputedStyle(element).backgroundColor] : [];
+  const hasText = ({ childNodes }) => [...childNodes].some(({ nodeType, data }) => nodeType === 3 && data.trim());
+  const isShown = (element) => hasText(element) && element.checkVisibility() && !element.closest(':disabled, .unseen');
+  const contrast = (element) => {
+    const backs = behind(element);
+    const [back, text] = [backs, [...backs, getComputedStyle(element).color]].map(luminance);
+    const ratio = (Math.max(back, text) + 0.05) / (Math.min(back, text) + 0.05);
+    return { ratio, what: `${element.tagName} ${element.className} ${element.textContent.slice(0, 20)}` };
+  };
+  const all = [...document.querySelectorAll('body *')].filter(isShown).map(contrast);
+  return all.sort((a, b) => a.ratio - b.ratio)[0];
+}
+
+/** How much wider than the window the page is, and than their pane the bytes are. Runs in the page. */
+function overflow() {
+  const bytes = document.getElementById('bytes');
+  return [document.scrollingElement.scrollWidth - innerWidth, bytes.scrollWidth - bytes.clientWidth];
+}
+
+/** Keeps the layout shifts that no input causes. Runs in the page. */
+function watchShifts() {
+  window.shifts = [];
+  const textOf = ({ value, sources }) => `${value}: ${sources.map(({ node }) => node?.id || node?.className)}`;
+  const keep = (list) => {
+    const moved = list.getEntries().filter(({ hadRecentInput }) => !hadRecentInput);
+    window.shifts.push(...moved.map(textOf));
+  };
+  new PerformanceObserver(keep).observe({ type: 'layout-shift' });
+}
+
 const looks = {
-  async "contrast in light and dark"(page) {
-    await page.choose(named[0]);
-    await page.until(isMinimized);
-    await page.until(`document.querySelectorAll("#items .item").length > 0`);
-    const backs = [];
-    for (const isDark of [false, true]) {
-      await page.dark(isDark);
-      backs.push(await page.evaluate(`getComputedStyle(document.body).backgroundColor`));
-      const { ratio, what } = await page.evaluate(LEAST_CONTRAST);
-      console.log(`least contrast ${isDark ? "dark" : "light"}: ${ratio.toFixed(2)} (${what})`);
-      assert.ok(ratio >= 4.5);
+  async 'contrast in light and dark'(page) {
+    const files = [modules[0], fileOf('cut.wasm', PADDED.subarray(0, 30))];
+    for (const file of files) {
+      await page.choose(file);
+      const backs = [];
+      for (const isDark of [false, true]) {
+        await page.dark(isDark);
+        backs.push(await page.run(() => getComputedStyle(document.body).backgroundColor));
+        const { ratio, what } = await page.run(leastContrast);
+        console.log(`${isDark ? 'dark' : 'light'}: least contrast ${ratio.toFixed(2)} (${what})`);
+        assert.ok(ratio >= 4.5);
+      }
+      assert.notEqual(backs[0], backs[1]);
     }
-    assert.notEqual(backs[0], backs[1]);
     await page.dark(false);
   },
 
-  async "400 to 1600 pixels"(page, library) {
-    await openCode(page, library, named[0]);
-    await page.click("#item-1");
+  async '400 to 1600 pixels'(page, library) {
+    await openCode(page, library, modules[0]);
+    await page.click('#item-1');
     for (const width of [400, 700, 1000, 1200, 1366, 1600]) {
       await page.resize(width, 900);
-      await page.until(`document.querySelector("#bytes b.on")`);
-      const over = await page.evaluate(`document.scrollingElement.scrollWidth - innerWidth`);
-      assert.ok(over <= 0, `${over} pixels too wide at ${width}`);
-      const bytesOver = await page.evaluate(`(() => { const e = document.getElementById("bytes"); return e.scrollWidth - e.clientWidth })()`);
-      assert.ok(bytesOver <= 0, `bytes ${bytesOver} pixels too wide at ${width}`);
+      await page.until(() => document.querySelector('#bytes b.on') !== null);
+      const over = await page.run(overflow);
+      assert.ok(Math.max(...over) <= 0, `${over} pixels too wide at ${width}`);
       await page.shot(`width-${width}`);
     }
     await page.resize(400, 2400);
-    await page.shot("narrow-whole");
+    await page.shot('narrow');
     await page.resize(1600, 1000);
   },
 
-  async "nothing moves when items and savings come"(page) {
-    await page.evaluate(`(() => { window.shifts = []; new PerformanceObserver((list) => window.shifts.push(...list.getEntries().filter(({ hadRecentInput }) => !hadRecentInput).map(({ value, sources }) =>
-      [value, ...sources.map(({ node }) => node?.id || node?.className)]))).observe({ type: "layout-shift" }) })()`);
-    await page.choose(fileOf("still.wasm", fs.readFileSync(named[0])));
-    await page.until(isMinimized);
-    await page.click("#sections tbody tr:nth-child(3)");
+  async 'nothing moves when items and savings come'(page) {
+    await page.choose(modules[0]);
+    await page.run(watchShifts);
+    await page.choose(fileOf('still.wasm', fs.readFileSync(modules[0])));
+    await page.until(() => document.getElementById('saving').textContent !== 'Minimizing');
+    await page.click('#sections tbody tr:nth-child(3)');
     await sleep(600);
-    assert.deepEqual(await page.evaluate(`window.shifts`), []);
+    assert.deepEqual(await page.run(() => window.shifts), []);
   },
 };
 
 const large = {
-  async "a module of 18 MB"(page, library) {
+  async 'a module of 18 MB'(page, library) {
     const bytes = largeModule();
-    const file = fileOf("large.wasm", bytes);
-    const before = performance.now();
+    const file = fileOf('large.wasm', bytes);
+    const start = performance.now();
     await page.choose(file);
-    const rows = await page.evaluate(`new Promise((done) => requestAnimationFrame(() => setTimeout(() => done(${READ_ROWS}))))`);
-    const ms = performance.now() - before;
-    console.log(`${number(bytes.length)} bytes: table after ${ms.toFixed(0)} ms`);
-    assert.deepEqual(rows, library.outline(bytes).map(expectedRow));
-    assert.ok(ms < 2000, `${ms} ms`);
+    await page.run(() => new Promise((done) => requestAnimationFrame(() => setTimeout(done))));
+    const ms = performance.now() - start;
+    console.log(`${number(bytes.length)} bytes: the table is painted after ${ms.toFixed()} ms`);
+    assert.deepEqual(await rows(page), library.outline(bytes).map(rowOf));
+    assert.ok(ms < 2000);
     await page.until(isMinimized);
-    console.log(`${number(bytes.length)} bytes: savings after ${(performance.now() - before).toFixed(0)} ms`);
+    console.log(`${number(bytes.length)} bytes: minimized after ${(performance.now() - start).toFixed()} ms`);
   },
 
-  async "its bytes and items are few elements"(page, library) {
-    const { section: code, items, bytes } = await openCode(page, library, path.join(room, "large.wasm"));
-    const elements = await page.evaluate(`document.getElementsByTagName("*").length`);
+  async 'its bytes and items are few elements'(page, library) {
+    const { code, bytes } = await openCode(page, library, path.join(room, 'large.wasm'));
+    const elements = await page.count('*');
     assert.ok(elements < 6000, `${elements} elements`);
-    assert.equal(items.length, 100_000);
-    assert.equal(await page.evaluate(textOf("items-facts")), "the first 100,000");
+    assert.equal(await page.text('items-facts'), `the first ${number(MOST_ITEMS)}`);
     const last = code.offset + code.size - 1;
-    await page.evaluate(`(() => { document.getElementById("offset").value = "${last}"; document.getElementById("go").requestSubmit() })()`);
-    assert.equal(await page.evaluate(`document.querySelector("#bytes b.spot").textContent`), bytes[last].toString(16).padStart(2, "0"));
-    await page.shot("large");
-    await page.click("#byte-pages button");
-    const first = await page.evaluate(`Number(document.querySelector("#bytes b:not(.none)").dataset.offset)`);
-    assert.ok(first < last && first > code.offset);
+    await goTo(page, last);
+    assert.deepEqual(await bytesShown(page, 'b.spot'), [[last, bytes[last]]]);
+    await page.shot('large');
+    await page.click('#byte-pages button');
+    const [[first]] = await bytesShown(page, 'b:not(.none)');
+    assert.ok(code.offset < first && first < last - 65_536);
   },
 
-  async "a small module opens while the large one is minimized"(page, library) {
-    await page.choose(path.join(room, "large.wasm"));
-    await page.choose(fileOf("small.wasm", PADDED));
+  async 'a small module opens while a large one is minimized'(page, library) {
+    await page.choose(path.join(room, 'large.wasm'));
+    await page.choose(fileOf('small.wasm', PADDED));
     await page.until(isMinimized);
-    assert.deepEqual(await page.evaluate(READ_SAVINGS), expectedSavings(library, PADDED, library.minimize(PADDED)));
+    assert.deepEqual(await savings(page), savingsOf(library, PADDED, library.minimize(PADDED)));
   },
 };
 
 const quiet = {
-  async "no request to another host, and no complaint"(page) {
-    const hosts = new Set(page.requests.filter((url) => !/^(data|blob):/.test(url)).map((url) => new URL(url).origin));
-    assert.deepEqual([...hosts], [page.origin]);
-    assert.ok(page.requests.includes(`${page.origin}/dolzhytik.wasm`));
+  async 'no request to another host, and no error in the console'(page) {
+    const urls = page.requests.filter((url) => !/^(data|blob):/.test(url));
+    assert.deepEqual([...new Set(urls.map((url) => new URL(url).origin))], [page.origin]);
+    assert.ok(urls.includes(`${page.origin}/dolzhytik.wasm`));
     assert.deepEqual(page.complaints, []);
+  },
+
+  async 'a page whose WebAssembly module does not load'(page) {
+    const broken = new Page(page.browser);
+    await broken.start(page.origin, '/broken/', 'dolzhytik.wasm does not load: ');
+    assert.ok((await broken.text('status')).endsWith('HTTP status 404'));
   },
 };
 
 // ---- The run.
 
-async function run(page, library) {
+async function runTests(page, library) {
+  const groups = [opening, damaged, chosen, minimizing, recipes, keyboard, looks, large, quiet];
   const counts = { passed: 0, failed: 0 };
-  const tests = [opening, damaged, sections, minimizing, recipes, keyboard, looks, large, quiet].flatMap(Object.entries);
-  for (const [name, test] of tests) {
+  for (const [its, test] of groups.flatMap(Object.entries)) {
     try {
       await test(page, library);
       counts.passed += 1;
     } catch (error) {
       counts.failed += 1;
-      console.log(`${name}: ${error.stack}`);
+      console.log(`${its}: ${error.stack}`);
     }
   }
   return counts;
 }
 
 async function main(chromium) {
-  const library = await import("./dolzhytik.js");
+  const library = await import('./dolzhytik.js');
   const server = await serve();
   const browser = new Browser(chromium);
   const page = new Page(browser);
   await page.start(`http://127.0.0.1:${server.address().port}`);
-  const { passed, failed } = await run(page, library);
+  const { passed, failed } = await runTests(page, library);
   await browser.close();
   server.close();
   console.log(`${passed} passed, ${failed} failed`);
@@ -791,9 +923,9 @@ async function main(chromium) {
 }
 
 function whyNot(chromium) {
-  if (!chromium) return "there is no chromium";
-  if (!fs.existsSync(path.join(HERE, "dolzhytik.wasm"))) return "there is no dolzhytik.wasm: tools/web makes it";
-  return null;
+  if (!chromium) return 'there is no chromium';
+  const isBuilt = fs.existsSync(path.join(HERE, 'dolzhytik.wasm'));
+  return isBuilt ? null : 'there is no rust/web/dolzhytik.wasm: tools/web makes it';
 }
 
 const chromium = findChromium();
@@ -802,5 +934,6 @@ if (reason) {
   console.log(`page: not run: ${reason}`);
   process.exitCode = 77;
 } else {
-  process.exitCode = await main(chromium).finally(() => fs.rmSync(room, { recursive: true, force: true }));
+  process.exitCode = await main(chromium);
 }
+fs.rmSync(room, { recursive: true, force: true });
