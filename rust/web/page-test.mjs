@@ -288,7 +288,8 @@ const EXPORT = section(7, [0x01], name('f'), [0x00, 0x00]);
 /** The body returns its parameter, whose index is padded. */
 const CODE = section(10, [0x01, 0x06, 0x00, 0x20, 0x80, 0x80, 0x00, 0x0b]);
 const PADDED = moduleOf(TYPES, FUNCTION, EXPORT, CODE, custom('note', [1, 2, 3]));
-const WITH_OFFSETS = moduleOf(TYPES, FUNCTION, EXPORT, CODE, custom('.debug_info', [0, 0, 0, 0]));
+const OFFSETS = custom('.debug_info', [0, 0, 0, 0]);
+const WITH_OFFSETS = moduleOf(TYPES, FUNCTION, OFFSETS, EXPORT, CODE, OFFSETS, custom('note', [1]));
 
 /** A body of `i32.const N`, `drop` a few times, and `local.get 0`. */
 function bodyOf(index) {
@@ -609,10 +610,11 @@ const chosen = {
   },
 };
 
+/** Whether the first of the bytes that are marked is in view. Runs in the page. */
 function isInView() {
-  const row = document.querySelector('#bytes b.on').getBoundingClientRect();
+  const byte = document.querySelector('#bytes b.on')?.getBoundingClientRect();
   const view = document.getElementById('bytes').getBoundingClientRect();
-  return row.top >= view.top && row.bottom <= view.bottom;
+  return byte !== undefined && byte.top >= view.top && byte.bottom <= view.bottom;
 }
 
 const showSavings = (page) => page.run(() => document.querySelector('.minimize').scrollIntoView({ block: 'end' }));
@@ -781,8 +783,8 @@ function leastContrast() {
 
 /** How much wider than the window the page is, and than their pane the bytes are. Runs in the page. */
 function overflow() {
-  const bytes = document.getElementById('bytes');
-  return [document.scrollingElement.scrollWidth - innerWidth, bytes.scrollWidth - bytes.clientWidth];
+  const right = (selector) => document.querySelector(selector).getBoundingClientRect().right;
+  return [document.scrollingElement.scrollWidth - innerWidth, right('#bytes .ascii') - right('#bytes')];
 }
 
 /** Keeps the layout shifts that no input causes. Runs in the page. */
@@ -795,6 +797,8 @@ function watchShifts() {
   };
   new PerformanceObserver(keep).observe({ type: 'layout-shift' });
 }
+
+const hasAnswer = () => document.getElementById('saving').textContent !== 'Minimizing';
 
 const looks = {
   async 'contrast in light and dark'(page) {
@@ -815,13 +819,16 @@ const looks = {
   },
 
   async '400 to 1600 pixels'(page, library) {
-    await openCode(page, library, modules[0]);
-    await page.click('#item-1');
+    const { items } = await openCode(page, library, modules[0]);
+    await page.focus('#items');
+    await page.key('End');
+    const last = `#item-${items.length - 1}`;
     for (const width of [400, 700, 1000, 1200, 1366, 1600]) {
       await page.resize(width, 900);
-      await page.until(() => document.querySelector('#bytes b.on') !== null);
+      await page.until(isInView);
       const over = await page.run(overflow);
       assert.ok(Math.max(...over) <= 0, `${over} pixels too wide at ${width}`);
+      assert.equal(await page.count(`${last}[aria-selected=true]`), 1);
       await page.shot(`width-${width}`);
     }
     await page.resize(400, 2400);
@@ -833,9 +840,9 @@ const looks = {
     await page.choose(modules[0]);
     await page.run(watchShifts);
     await page.choose(fileOf('still.wasm', fs.readFileSync(modules[0])));
-    await page.until(() => document.getElementById('saving').textContent !== 'Minimizing');
-    await page.click('#sections tbody tr:nth-child(3)');
-    await sleep(600);
+    await page.until(hasAnswer);
+    await page.until(hasItems);
+    await sleep(200);
     assert.deepEqual(await page.run(() => window.shifts), []);
   },
 };
@@ -867,6 +874,28 @@ const large = {
     await page.click('#byte-pages button');
     const [[first]] = await bytesShown(page, 'b:not(.none)');
     assert.ok(code.offset < first && first < last - 65_536);
+  },
+
+  async 'nothing moves while it is minimized'(page) {
+    await page.resize(400, 900);
+    await showSavings(page);
+    await page.run(watchShifts);
+    await page.run(() => document.getElementById('drop').click());
+    await page.until(() => document.getElementById('saving').textContent === 'Minimizing');
+    await page.until(hasAnswer);
+    await sleep(200);
+    assert.deepEqual(await page.run(() => window.shifts), []);
+    await page.run(() => document.getElementById('drop').click());
+    await page.resize(1600, 1000);
+  },
+
+  async 'the items are those of the section chosen last'(page, library) {
+    await page.choose(path.join(room, 'large.wasm'));
+    await page.run(() => [5, 3, 4].forEach((row) => document.querySelectorAll('#sections tr')[row].click()));
+    await page.until(hasItems);
+    const [{ text }] = library.items(fs.readFileSync(path.join(room, 'large.wasm')), 3);
+    assert.equal(await page.run(() => document.querySelector('#items .text').textContent), text);
+    assert.equal(await chosenRow(page), 4);
   },
 
   async 'a small module opens while a large one is minimized'(page, library) {
