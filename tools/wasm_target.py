@@ -98,11 +98,11 @@ def sysroot(folder):
     return rustc
 
 
-def cargo(*words):
-    """Runs Cargo for the target, in release."""
+def cargo(command, *words):
+    """Runs a command of Cargo for the target, in release."""
     if not shutil.which('cargo'):
         raise NotRun('there is no cargo')
     env = compiler()
     flags = {'RUSTFLAGS': '-C linker-flavor=wasm-ld'} if 'RUSTC' in env else {}
     env = {**os.environ, **env, **flags, 'CARGO_TARGET_DIR': str(OUT), 'CARGO_NET_OFFLINE': 'true'}
-    subprocess.run(['cargo', *words, '--release', '--target', TARGET], env=env, check=True)
+    subprocess.run(['cargo', command, '--release', '--target', TARGET, *words], env=env, check=True)

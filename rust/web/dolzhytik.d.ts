@@ -7,13 +7,16 @@ export interface Section {
    * `start`, `element`, `code`, `data`, `data count`, `tag` or `unknown`.
    */
   kind: string;
-  /** The name of a custom section. */
+  /** The name of a custom section; null if it has none, and in other sections. */
   name: string | null;
   /** The offset of the payload from the start of the module, in bytes. */
   offset: number;
   /** The size of the payload, in bytes. */
   size: number;
-  /** The number of items; null where the payload does not decode, and where items are not counted. */
+  /**
+   * The number of items; null if the payload does not decode, and in custom and unknown sections, whose items are not
+   * counted. A recursion group of types is one item, and so is a group of imports.
+   */
   items: number | null;
 }
 
@@ -21,38 +24,64 @@ export interface Section {
 export interface Item {
   /** The offset from the start of the module, in bytes. */
   offset: number;
-  /** The size, in bytes. */
+  /** The size, in bytes. A function body has its size prefix. */
   size: number;
-  /** What the bytes decode to. */
+  /** What the bytes decode to, for the most part in the WebAssembly text format. Later versions may change it. */
   text: string;
 }
 
 export interface MinimizeOptions {
-  /** Leaves out the custom sections that hold offsets. */
+  /**
+   * Leaves out the custom sections that hold offsets: `linking`, `reloc.*`, `.debug_*`, `metadata.code.*`,
+   * `external_debug_info`, `build_id` and `sourceMappingURL`.
+   */
   dropOffsets?: boolean;
 }
 
-/** Why a call fails. The message is what the program `dolzhytik` says, without the name of a file. */
+/**
+ * Why a call fails. If memory is refused, the cause is `out of memory`, and offset and line are null if no section or
+ * line needs it.
+ */
 export class DolzhytikError extends Error {
-  /** The message without the section or the line. */
+  /** What the program `dolzhytik` reports, without the name of the file. */
+  message: string;
+  /** The message without the number of the section or line. */
   cause: string;
-  /** The offset of the section that does not decode, at its id, or 0 for the header; null for recipes. */
+  /** The offset of the section, at its id, or 0 for the header of the module; null for recipes. */
   offset: number | null;
-  /** The line of the recipe, counted from 1; null for modules. */
+  /** The line of the recipe, counted from 1, or 0 behind the last line; null for modules. */
   line: number | null;
 }
 
-/** Returns the sections of a module, whether or not their payloads decode. */
+/**
+ * Returns the sections of a module, whether or not their payloads decode.
+ * @throws {DolzhytikError} if the bytes do not begin with the header, or do not have all bytes of a section.
+ */
 export function outline(module: Uint8Array): Section[];
 
-/** Returns the sections of a module, and throws where the payload of a section does not decode. */
+/**
+ * Returns the sections of a module, each of which decodes. Payloads of type and unknown sections are not decoded, nor
+ * is a custom section behind its name; `items` is null in all of these.
+ * @throws {DolzhytikError} if a payload does not decode, or as {@link outline} does.
+ */
 export function list(module: Uint8Array): Section[];
 
-/** Returns the minimal encoding of a module. */
+/**
+ * Returns the minimal encoding of a module. A section that does not decode is kept, byte for byte.
+ * @throws {DolzhytikError} if offsets in custom sections would no longer fit, or as {@link outline} does.
+ */
 export function minimize(module: Uint8Array, options?: MinimizeOptions): Uint8Array;
 
-/** Returns the module of a recipe. */
+/**
+ * Returns the module of a recipe: lines that each add an item to a section.
+ * @throws {DolzhytikError} if a line is faulty.
+ */
 export function assemble(recipe: string): Uint8Array;
 
-/** Returns the first items of the section at this index of the outline, or none where they cannot be shown. */
+/**
+ * Returns the items of the section at this index of the outline, or the first ones, up to a limit. There are none if
+ * the section does not decode, and in custom sections but `name`, `producers`, `linking` and branch hints.
+ * @throws {DolzhytikError} as {@link outline} does.
+ * @throws {RangeError} if the index is no integer, or either number is negative.
+ */
 export function items(module: Uint8Array, index: number, limit?: number): Item[];

@@ -72,10 +72,8 @@ pub fn list(module: &[u8]) -> Answer<'_> {
     })?;
     let mut block = Block::new(DONE)?;
     block.size(listed.len())?;
-    for (listed, section) in listed
-        .iter()
-        .zip(sections(module).into_iter().flatten().flatten())
-    {
+    let sections = sections(module).into_iter().flatten().flatten();
+    for (listed, section) in listed.iter().zip(sections) {
         let section = Outlined {
             id: listed.id,
             offset: section.end - section.payload.len(),

@@ -14,8 +14,8 @@ use core::{ptr, slice};
 
 const PAGE: u32 = 1 << 16;
 
-/// The memory grows by as many pages at least, if there are as many.
-const MOST_PAGES: u32 = 16;
+/// The memory grows by at least this part of it, if it can.
+const PART: usize = 4;
 
 /// The memory of the module.
 struct Pages;
@@ -36,19 +36,23 @@ impl Memory for Pages {
     }
 
     fn grow(&mut self, bytes: u32) -> Option<(u32, u32)> {
-        let needed = bytes.div_ceil(PAGE);
-        let first = grown(needed.max(MOST_PAGES)).or_else(|| grown(needed))?;
-        let end = memory_size(0) as u32;
-        // The last page would end at an address of 33 bits.
-        Some((first * PAGE, end.checked_mul(PAGE)?))
+        let first = grown(bytes.div_ceil(PAGE) as usize)?;
+        let first = u32::try_from(first).ok()?.checked_mul(PAGE)?;
+        // None where the memory has 4 GiB: the end has no address of 32 bits.
+        let end = u32::try_from(memory_size(0)).ok()?.checked_mul(PAGE)?;
+        Some((first, end))
     }
 }
 
-/// Adds this many pages, and returns how many there were.
-fn grown(pages: u32) -> Option<u32> {
-    match memory_grow(0, pages as usize) {
-        usize::MAX => None,
-        before => Some(before as u32),
+/// Adds at least this many pages, and returns how many there were.
+fn grown(needed: usize) -> Option<usize> {
+    let mut pages = needed.max(memory_size(0) / PART);
+    loop {
+        match memory_grow(0, pages) {
+            usize::MAX if pages == needed => return None,
+            usize::MAX => pages = needed.max(pages / 2),
+            before => return Some(before),
+        }
     }
 }
 

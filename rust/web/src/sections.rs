@@ -2,6 +2,7 @@
 #![forbid(unsafe_code)]
 
 use crate::read::read;
+use core::mem;
 use dolzhytik::reader::ReadFault;
 
 /// What a module begins with.
@@ -16,7 +17,7 @@ pub struct Section<'a> {
     pub end: usize,
 }
 
-/// The sections of a module, up to the end or the first that does not decode as an id and a size.
+/// The sections of a module, up to the end or to the first that has no size or not all of its bytes.
 #[derive(Clone)]
 pub struct Sections<'a> {
     module: &'a [u8],
@@ -36,7 +37,8 @@ impl<'a> Sections<'a> {
     }
 
     fn section(&mut self) -> Result<Section<'a>, ReadFault> {
-        let (id, rest) = read(self.rest)?;
+        let bytes = mem::take(&mut self.rest);
+        let (id, rest) = read(bytes)?;
         let (payload, rest) = read(rest)?;
         self.rest = rest;
         let end = self.offset();
@@ -52,7 +54,8 @@ impl<'a> Iterator for Sections<'a> {
     }
 }
 
-/// The offset of the section with this number, counted from 1, or of the header for 0.
+/// The offset of the section with this number, counted from 1, or of the header for 0. The sections
+/// before it have all of their bytes.
 pub fn start_of(module: &[u8], number: usize) -> usize {
     match sections(module) {
         Some(mut sections) if number > 0 => {

@@ -181,13 +181,15 @@ impl Show for CompositeInnerType {
 
 impl Show for CompositeType {
     fn show(&self, f: &mut Formatter<'_>) -> fmt::Result {
-        if let Some(index) = self.describes {
-            write!(f, "(describes {index}) ")?;
-        }
-        if let Some(index) = self.descriptor {
-            write!(f, "(descriptor {index}) ")?;
-        }
-        around(f, self.shared, "(shared ", |f| self.inner.show(f))
+        around(f, self.shared, "(shared ", |f| {
+            if let Some(index) = self.describes {
+                write!(f, "(describes {index}) ")?;
+            }
+            if let Some(index) = self.descriptor {
+                write!(f, "(descriptor {index}) ")?;
+            }
+            self.inner.show(f)
+        })
     }
 }
 
@@ -257,8 +259,10 @@ impl Show for MemoryType {
         f.write_str("(memory ")?;
         limits(f, self.memory64, self.minimum, self.maximum, self.shared)?;
         if let Some(exponent) = self.page_size_log2 {
-            // WebAssembly has the page sizes 1 and 65536; the bytes may have others.
-            write!(f, " (pagesize 2^{exponent})")?;
+            match 1u64.checked_shl(exponent) {
+                Some(size) => write!(f, " (pagesize {size})")?,
+                None => write!(f, " (pagesize 2^{exponent})")?,
+            }
         }
         f.write_str(")")
     }
