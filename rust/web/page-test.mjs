@@ -610,11 +610,14 @@ const chosen = {
   },
 };
 
-/** Whether the first of the bytes that are marked is in view. Runs in the page. */
+/** Whether the chosen item and the first of its bytes are in view, to a pixel. Runs in the page. */
 function isInView() {
-  const byte = document.querySelector('#bytes b.on')?.getBoundingClientRect();
-  const view = document.getElementById('bytes').getBoundingClientRect();
-  return byte !== undefined && byte.top >= view.top && byte.bottom <= view.bottom;
+  const isIn = (selector, pane) => {
+    const box = document.querySelector(selector)?.getBoundingClientRect();
+    const view = document.querySelector(pane).getBoundingClientRect();
+    return box !== undefined && box.top > view.top - 1 && box.bottom < view.bottom + 1;
+  };
+  return isIn('#bytes b.on', '#bytes') && isIn('#items [aria-selected=true]', '#items');
 }
 
 const showSavings = (page) => page.run(() => document.querySelector('.minimize').scrollIntoView({ block: 'end' }));
@@ -798,22 +801,24 @@ function watchShifts() {
   new PerformanceObserver(keep).observe({ type: 'layout-shift' });
 }
 
+/** Checks the contrast, and returns the background. */
+async function backWithContrast(page, isDark) {
+  await page.dark(isDark);
+  const { ratio, what } = await page.run(leastContrast);
+  console.log(`${isDark ? 'dark' : 'light'}: least contrast ${ratio.toFixed(2)} (${what})`);
+  assert.ok(ratio >= 4.5);
+  return page.run(() => getComputedStyle(document.body).backgroundColor);
+}
+
 const hasAnswer = () => document.getElementById('saving').textContent !== 'Minimizing';
 
 const looks = {
   async 'contrast in light and dark'(page) {
-    const files = [modules[0], fileOf('cut.wasm', PADDED.subarray(0, 30))];
-    for (const file of files) {
+    for (const file of [modules[0], fileOf('cut.wasm', PADDED.subarray(0, 30))]) {
       await page.choose(file);
-      const backs = [];
-      for (const isDark of [false, true]) {
-        await page.dark(isDark);
-        backs.push(await page.run(() => getComputedStyle(document.body).backgroundColor));
-        const { ratio, what } = await page.run(leastContrast);
-        console.log(`${isDark ? 'dark' : 'light'}: least contrast ${ratio.toFixed(2)} (${what})`);
-        assert.ok(ratio >= 4.5);
-      }
-      assert.notEqual(backs[0], backs[1]);
+      const light = await backWithContrast(page, false);
+      const dark = await backWithContrast(page, true);
+      assert.notEqual(light, dark);
     }
     await page.dark(false);
   },
@@ -943,26 +948,28 @@ async function main(chromium) {
   const server = await serve();
   const browser = new Browser(chromium);
   const page = new Page(browser);
-  await page.start(`http://127.0.0.1:${server.address().port}`);
-  const { passed, failed } = await runTests(page, library);
-  await browser.close();
-  server.close();
-  console.log(`${passed} passed, ${failed} failed`);
-  return failed ? 1 : 0;
+  try {
+    await page.start(`http://127.0.0.1:${server.address().port}`);
+    const { passed, failed } = await runTests(page, library);
+    console.log(`${passed} passed, ${failed} failed`);
+    return failed ? 1 : 0;
+  } finally {
+    await browser.close();
+    server.close();
+  }
 }
 
 function whyNot(chromium) {
   if (!chromium) return 'there is no chromium';
   const isBuilt = fs.existsSync(path.join(HERE, 'dolzhytik.wasm'));
-  return isBuilt ? null : 'there is no rust/web/dolzhytik.wasm: tools/web makes it';
+  return isBuilt ? null : 'there is no rust/web/dolzhytik.wasm: tools/web --build makes it';
 }
 
 const chromium = findChromium();
 const reason = whyNot(chromium);
-if (reason) {
-  console.log(`page: not run: ${reason}`);
-  process.exitCode = 77;
-} else {
-  process.exitCode = await main(chromium);
+if (reason) console.log(`page: not run: ${reason}`);
+try {
+  process.exitCode = reason ? 77 : await main(chromium);
+} finally {
+  fs.rmSync(room, { recursive: true, force: true });
 }
-fs.rmSync(room, { recursive: true, force: true });

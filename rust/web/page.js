@@ -257,11 +257,13 @@ class Rows {
 
   /** Scrolls a row into view: by as little as possible where it is near, else to the upper third. */
   reveal(row) {
-    const { top, inView } = this;
-    if (row >= top && row < top + inView) return;
-    const near = row >= top - 2 && row < top + inView + 2;
-    const to = near ? (row < top ? row : row - inView + 1) : row - Math.floor(inView / 3);
-    this.scroller.scrollTop = Math.max(0, to) * this.height;
+    const { height, scroller } = this;
+    const { scrollTop, clientHeight } = scroller;
+    const [first, last] = [row * height, (row + 1) * height - clientHeight];
+    if (last <= scrollTop && scrollTop <= first) return;
+    const isNear = last - 2 * height <= scrollTop && scrollTop <= first + 2 * height;
+    const nearest = scrollTop > first ? first : last;
+    scroller.scrollTop = isNear ? nearest : first - clientHeight / 3;
     this.#drawWhereNeeded();
   }
 
@@ -286,6 +288,7 @@ class ItemList {
       if (row) this.choose(Number(row.dataset.index));
     });
     element.addEventListener('keydown', (event) => this.#key(event));
+    new ResizeObserver(() => this.#keepInView()).observe(element);
   }
 
   show(items, text, isWaiting) {
@@ -331,6 +334,10 @@ class ItemList {
     row.append(make('bdi', { className: 'text', textContent: escaped(item.text) }));
     row.append(make('span', { className: 'bytes-of', textContent: number(item.size) }));
     return row;
+  }
+
+  #keepInView() {
+    if (this.chosen >= 0) this.rows.reveal(this.chosen);
   }
 
   #key(event) {
@@ -398,17 +405,18 @@ class ByteView {
     showPages(this.pages, 'bytes', page, Math.ceil(count / PAGE_ROWS), go);
   }
 
-  /** Makes rows of eight bytes where sixteen are too wide. */
+  /** Makes rows of eight bytes where sixteen are too wide, and keeps what is marked in view. */
   #fit() {
     if (this.element.clientWidth === 0) return;
-    const ch = this.#charWidth();
-    const width = this.element.clientWidth >= 77 * ch ? 16 : 8;
-    if (width === this.#width) return;
-    const top = Math.max(this.#from, (this.#firstRow + this.rows.top) * this.#width);
     const { from, to } = this.marked;
+    const kept = this.spot >= 0 ? this.spot : from < to ? from : null;
+    const top = Math.max(this.#from, (this.#firstRow + this.rows.top) * this.#width);
+    const width = this.element.clientWidth >= 77 * this.#charWidth() ? 16 : 8;
+    const isSame = width === this.#width;
+    if (isSame && kept === null) return;
     this.#width = width;
-    this.#page = -1;
-    this.reveal(this.spot >= 0 ? this.spot : from < to ? from : top);
+    if (!isSame) this.#page = -1;
+    this.reveal(kept ?? top);
   }
 
   #charWidth() {
@@ -684,7 +692,7 @@ function whyNoItems(section, error) {
   if (error) return error.message;
   if (section.items === 0) return 'The section is empty.';
   if (isFlawed(section)) return `The payload does not decode as a ${section.kind} section.`;
-  return 'Items of this section are not listed: its bytes are beside.';
+  return 'The page lists no items of this section.';
 }
 
 function showItems({ section, items, error }) {
