@@ -1,0 +1,975 @@
+// Tests the page in chromium, without a window.
+//
+//     node rust/web/page-test.mjs [FOLDER [MODULE..]]
+//
+// Writes screenshots to FOLDER. Compares the page with dolzhytik.js in node for each MODULE, or for dolzhytik.wasm.
+//
+// The last line is 'N passed, M failed'. Exit status: 0 all passed, 1 a failed test, 77 not run because there is no
+// chromium, or no dolzhytik.wasm.
+import assert from 'node:assert/strict';
+import { spawn } from 'node:child_process';
+import fs from 'node:fs';
+import http from 'node:http';
+import os from 'node:os';
+import path from 'node:path';
+import { fileURLToPath } from 'node:url';
+
+const HERE = path.dirname(fileURLToPath(import.meta.url));
+const [shots, ...words] = process.argv.slice(2);
+const modules = (words.length ? words : [path.join(HERE, 'dolzhytik.wasm')]).map((file) => path.resolve(file));
+const room = fs.mkdtempSync(path.join(os.tmpdir(), 'dolzhytik-page-'));
+const MOST_ITEMS = 100_000;
+const sleep = (ms) => new Promise((resolve) => setTimeout(resolve, ms));
+
+// ---- The server.
+
+const MEDIA_TYPES = { '.html': 'text/html', '.css': 'text/css', '.js': 'text/javascript', '.wasm': 'application/wasm' };
+
+/** Serves the folder, and at /broken the folder without the WebAssembly module. */
+function respond(request, response) {
+  const { pathname } = new URL(request.url, 'http://localhost');
+  const file = path.join(HERE, pathname.replace(/^\/broken\//, '/').replace(/\/$/, '/index.html'));
+  const isMissing = !file.startsWith(HERE + path.sep) || !fs.existsSync(file);
+  if (isMissing || pathname === '/broken/dolzhytik.wasm') return response.writeHead(404).end();
+  response.writeHead(200, { 'content-type': MEDIA_TYPES[path.extname(file)] ?? 'application/octet-stream' });
+  response.end(fs.readFileSync(file));
+}
+
+async function serve() {
+  const server = http.createServer(respond);
+  await new Promise((resolve) => server.listen(0, '127.0.0.1', resolve));
+  return server;
+}
+
+// ---- The browser, by the DevTools protocol over two pipes.
+
+function findChromium() {
+  const folders = (process.env.PATH ?? '').split(path.delimiter);
+  const files = ['chromium', 'chromium-browser'].flatMap((name) => folders.map((folder) => path.join(folder, name)));
+  return files.find((file) => fs.existsSync(file));
+}
+
+const FLAGS = [
+  '--headless=new',
+  '--no-sandbox',
+  '--remote-debugging-pipe',
+  '--no-first-run',
+  '--disable-gpu',
+  '--disable-background-networking',
+  '--disable-component-update',
+  '--disable-sync',
+  '--hide-scrollbars',
+  // No other host has an address.
+  '--host-resolver-rules=MAP * ~NOTFOUND , EXCLUDE 127.0.0.1',
+  'about:blank',
+];
+
+class Browser {
+  #sent = 0;
+  #waiting = new Map();
+  #partial = '';
+  onEvent = () => {};
+
+  constructor(program) {
+    const stdio = ['ignore', 'ignore', 'ignore', 'pipe', 'pipe'];
+    this.process = spawn(program, [`--user-data-dir=${room}/profile`, ...FLAGS], { stdio });
+    this.process.stdio[4].setEncoding('utf8').on('data', (text) => this.#take(text));
+  }
+
+  send(method, params = {}, sessionId = undefined) {
+    const id = (this.#sent += 1);
+    this.process.stdio[3].write(`${JSON.stringify({ id, method, params, sessionId })}\0`);
+    return new Promise((resolve, reject) => this.#waiting.set(id, { method, resolve, reject }));
+  }
+
+  async close() {
+    const ended = new Promise((resolve) => this.process.on('exit', resolve));
+    await this.send('Browser.close');
+    await ended;
+  }
+
+  #take(text) {
+    const messages = (this.#partial + text).split('\0');
+    this.#partial = messages.pop();
+    messages.forEach((message) => this.#settle(JSON.parse(message)));
+  }
+
+  #settle(message) {
+    if (!message.id) return this.onEvent(message);
+    const { method, resolve, reject } = this.#waiting.get(message.id);
+    this.#waiting.delete(message.id);
+    if (message.error) reject(new Error(`${method}: ${message.error.message}`));
+    else resolve(message.result);
+  }
+}
+
+const KEYS = { Tab: 9, Enter: 13, End: 35, Home: 36, ArrowLeft: 37, ArrowUp: 38, ArrowRight: 39, ArrowDown: 40 };
+const CTRL = 2;
+
+/** A tab with the page; the requests of it and its workers, and their errors and messages. */
+class Page {
+  requests = [];
+  complaints = [];
+
+  constructor(browser) {
+    this.browser = browser;
+    browser.onEvent = (event) => this.#hear(event);
+  }
+
+  /** Opens the page at an address, and waits for its first status. */
+  async start(origin, folder = '/', status = 'Ready.') {
+    this.origin = origin;
+    const { targetId } = await this.browser.send('Target.createTarget', { url: 'about:blank' });
+    const { sessionId } = await this.browser.send('Target.attachToTarget', { targetId, flatten: true });
+    this.session = sessionId;
+    await this.#watch(sessionId);
+    await this.send('Page.enable');
+    await this.browser.send('Browser.setDownloadBehavior', { behavior: 'allow', downloadPath: room });
+    await this.resize(1600, 1000);
+    await this.send('Page.navigate', { url: origin + folder });
+    await this.until((text) => document.getElementById('status')?.textContent.startsWith(text), status);
+  }
+
+  send(method, params) {
+    return this.browser.send(method, params, this.session);
+  }
+
+  /** Watches a target, and the workers that it starts. */
+  async #watch(session) {
+    const send = (method, params) => this.browser.send(method, params, session);
+    const autoAttach = { autoAttach: true, waitForDebuggerOnStart: true, flatten: true };
+    await Promise.all([send('Network.enable'), send('Runtime.enable'), send('Target.setAutoAttach', autoAttach)]);
+    await send('Log.enable').catch(() => {});
+    await send('Runtime.runIfWaitingForDebugger');
+  }
+
+  #hear({ method, params }) {
+    const said = {
+      'Runtime.exceptionThrown': () => params.exceptionDetails.exception?.description ?? params.exceptionDetails.text,
+      'Runtime.consoleAPICalled': () => params.args.map(({ value }) => value).join(' '),
+      'Log.entryAdded': () => params.entry.text,
+    }[method];
+    if (said) this.complaints.push(said());
+    if (method === 'Network.requestWillBeSent') this.requests.push(params.request.url);
+    if (method === 'Target.attachedToTarget') this.#watch(params.sessionId).catch(() => {});
+  }
+
+  /** Calls a function in the page. It has the arguments, and nothing else of this file. */
+  async run(call, ...values) {
+    const expression = `(${call})(...${JSON.stringify(values)})`;
+    const asked = { expression, awaitPromise: true, returnByValue: true, userGesture: true };
+    const { result, exceptionDetails } = await this.send('Runtime.evaluate', asked);
+    if (exceptionDetails) throw new Error(exceptionDetails.exception?.description ?? exceptionDetails.text);
+    return result.value;
+  }
+
+  /** Waits until a function in the page returns true. */
+  async until(call, ...values) {
+    const end = Date.now() + 20_000;
+    while (!(await this.run(call, ...values))) {
+      if (Date.now() > end) throw new Error(`not in 20 s: ${call} ${values}`);
+      await sleep(10);
+    }
+  }
+
+  text(id) {
+    return this.run((its) => document.getElementById(its).textContent, id);
+  }
+
+  untilText(id, text) {
+    return this.until((its, wanted) => document.getElementById(its).textContent === wanted, id, text);
+  }
+
+  focus(selector) {
+    return this.run((it) => document.querySelector(it).focus(), selector);
+  }
+
+  count(selector) {
+    return this.run((it) => document.querySelectorAll(it).length, selector);
+  }
+
+  resize(width, height) {
+    return this.send('Emulation.setDeviceMetricsOverride', { width, height, deviceScaleFactor: 1, mobile: false });
+  }
+
+  dark(isDark) {
+    const features = [{ name: 'prefers-color-scheme', value: isDark ? 'dark' : 'light' }];
+    return this.send('Emulation.setEmulatedMedia', { features });
+  }
+
+  async key(key, modifiers = 0) {
+    const event = { key, code: key, windowsVirtualKeyCode: KEYS[key], modifiers };
+    const isText = key === 'Enter' && modifiers === 0;
+    const down = isText ? { type: 'keyDown', text: '\r' } : { type: 'rawKeyDown' };
+    await this.send('Input.dispatchKeyEvent', { ...event, ...down });
+    await this.send('Input.dispatchKeyEvent', { ...event, type: 'keyUp' });
+  }
+
+  async click(selector) {
+    const { x, y } = await this.run((it) => {
+      const element = document.querySelector(it);
+      element.scrollIntoView({ block: 'nearest' });
+      const box = element.getBoundingClientRect();
+      return { x: box.x + box.width / 2, y: box.y + box.height / 2 };
+    }, selector);
+    for (const type of ['mousePressed', 'mouseReleased']) {
+      await this.send('Input.dispatchMouseEvent', { type, x, y, button: 'left', clickCount: 1 });
+    }
+  }
+
+  /** Sets the file of the input, and waits for the table. */
+  async choose(file) {
+    await this.run(() => (document.getElementById('status').textContent = ''));
+    const { result } = await this.send('Runtime.evaluate', { expression: 'document.getElementById("file")' });
+    await this.send('DOM.setFileInputFiles', { objectId: result.objectId, files: [file] });
+    await this.untilText('status', `${path.basename(file)} is open.`);
+  }
+
+  /** Clicks on a button, and returns the bytes of the file that it downloads. */
+  async download(selector, name) {
+    const file = path.join(room, name);
+    fs.rmSync(file, { force: true });
+    await this.click(selector);
+    return this.downloaded(name);
+  }
+
+  async downloaded(name) {
+    const file = path.join(room, name);
+    for (let turn = 0; turn < 500 && !fs.existsSync(file); turn += 1) await sleep(10);
+    return new Uint8Array(fs.readFileSync(file));
+  }
+
+  /** Writes a screenshot of the page from its top, or as far as it is scrolled. */
+  async shot(name, isTop = true) {
+    if (!shots) return;
+    if (isTop) await this.run(() => scrollTo(0, 0));
+    await sleep(150);
+    const { data } = await this.send('Page.captureScreenshot', { format: 'png' });
+    fs.mkdirSync(shots, { recursive: true });
+    fs.writeFileSync(path.join(shots, `${name}.png`), Buffer.from(data, 'base64'));
+  }
+
+  async shotsOfBoth(name) {
+    await this.shot(`${name}-light`);
+    await this.dark(true);
+    await this.shot(`${name}-dark`);
+    await this.dark(false);
+  }
+}
+
+// ---- Modules.
+
+const HEADER = [0x00, 0x61, 0x73, 0x6d, 0x01, 0x00, 0x00, 0x00];
+
+function leb(value) {
+  const bytes = [];
+  let left = value;
+  while (left >= 128) {
+    bytes.push((left % 128) + 128);
+    left = Math.floor(left / 128);
+  }
+  return [...bytes, left];
+}
+
+const name = (text) => [...leb(Buffer.byteLength(text)), ...Buffer.from(text)];
+
+function section(id, ...parts) {
+  const payload = Buffer.concat(parts.map((part) => Buffer.from(part)));
+  return Buffer.concat([Buffer.from([id, ...leb(payload.length)]), payload]);
+}
+
+const custom = (text, ...parts) => section(0, name(text), ...parts);
+const moduleOf = (...sections) => new Uint8Array(Buffer.concat([Buffer.from(HEADER), ...sections]));
+
+/** The number of types is padded. */
+const TYPES = section(1, [0x81, 0x80, 0x00], [0x60, 0x01, 0x7f, 0x01, 0x7f]);
+const FUNCTION = section(3, [0x01, 0x00]);
+const EXPORT = section(7, [0x01], name('f'), [0x00, 0x00]);
+/** The body returns its parameter, whose index is padded. */
+const CODE = section(10, [0x01, 0x06, 0x00, 0x20, 0x80, 0x80, 0x00, 0x0b]);
+const PADDED = moduleOf(TYPES, FUNCTION, EXPORT, CODE, custom('note', [1, 2, 3]));
+const OFFSETS = custom('.debug_info', [0, 0, 0, 0]);
+const WITH_OFFSETS = moduleOf(TYPES, FUNCTION, OFFSETS, EXPORT, CODE, OFFSETS, custom('note', [1]));
+
+/** A body of `i32.const N`, `drop` a few times, and `local.get 0`. */
+function bodyOf(index) {
+  const constants = Array.from({ length: 1 + (index % 9) }, (_, at) => [0x41, ...leb(64 + index + at), 0x1a]);
+  const code = [0x00, ...constants.flat(), 0x20, 0x00, 0x0b];
+  return Buffer.from([...leb(code.length), ...code]);
+}
+
+/** A module of 18 MB, half of it code with very many bodies. */
+function largeModule() {
+  const count = 300_000;
+  const data = Buffer.alloc(8_000_000, 'dolzhytik ');
+  return moduleOf(
+    TYPES,
+    section(3, leb(count), Buffer.alloc(count)),
+    section(5, [0x01, 0x00], leb(200)),
+    EXPORT,
+    section(10, leb(count), Buffer.concat(Array.from({ length: count }, (_, index) => bodyOf(index)))),
+    section(11, [0x01, 0x00, 0x41, 0x00, 0x0b], leb(data.length), data),
+    custom('note', data.subarray(0, 1_500_000)),
+  );
+}
+
+/** Writes bytes to a file, and returns its path. */
+function fileOf(its, bytes) {
+  const file = path.join(room, its);
+  fs.writeFileSync(file, bytes);
+  return file;
+}
+
+// ---- Expected texts, and those of the page.
+
+const number = (value) => value.toLocaleString('en-US');
+const hex = (value) => `0x${value.toString(16)}`;
+
+const rowOf = ({ id, kind, name: its, offset, size, items }, index) => [
+  String(index + 1),
+  String(id),
+  its ?? kind,
+  hex(offset),
+  number(size),
+  items === null ? '–' : number(items),
+];
+
+/** The name and the size of each section, with its id and size prefix. */
+function wholesOf(sections) {
+  let start = HEADER.length;
+  return sections.map(({ name: its, kind, offset, size }) => {
+    const whole = offset + size - start;
+    start = offset + size;
+    return { label: its ?? kind, whole };
+  });
+}
+
+/** The rows of the savings: the header, each section, and the module. */
+function savingsOf(library, before, after) {
+  const kept = wholesOf(library.outline(after));
+  const rows = wholesOf(library.outline(before)).map(({ label, whole }, index) => {
+    const made = kept[0]?.label === label ? kept.shift().whole : null;
+    return [String(index + 1), label, number(whole), made === null ? 'left out' : number(made), number(whole - made)];
+  });
+  const total = ['', 'module', number(before.length), number(after.length), number(before.length - after.length)];
+  return [['', 'header', '8', '8', '0'], ...rows, total];
+}
+
+const rows = (page) =>
+  page.run(() =>
+    [...document.querySelectorAll('#sections tbody tr')].map(({ cells }) =>
+      [...cells].map((cell) => cell.querySelector('bdi')?.textContent ?? cell.textContent),
+    ),
+  );
+
+const savings = (page) =>
+  page.run(() =>
+    [...document.querySelectorAll('#savings tbody tr, #savings tfoot tr')].map(({ cells }) =>
+      [...cells].map((cell) => cell.querySelector('bdi')?.textContent ?? cell.textContent),
+    ),
+  );
+
+/** The offsets and values of the bytes that are shown and match. */
+const bytesShown = (page, selector) =>
+  page.run(
+    (it) =>
+      [...document.querySelectorAll(`#bytes ${it}`)].map((cell) => [
+        Number(cell.dataset.offset),
+        parseInt(cell.textContent, 16),
+      ]),
+    selector,
+  );
+
+const chosenRow = (page) => page.run(() => document.querySelector('#sections tr[aria-selected=true]')?.rowIndex);
+const isMinimized = () => !document.getElementById('download').disabled;
+const hasItems = () => document.querySelectorAll('#items .item').length > 0;
+
+function goTo(page, offset) {
+  return page.run((text) => {
+    document.getElementById('offset').value = text;
+    document.getElementById('go').requestSubmit();
+  }, String(offset));
+}
+
+function thrown(call) {
+  try {
+    call();
+  } catch (error) {
+    return error;
+  }
+  throw new Error('no error');
+}
+
+/** Opens a module, and chooses its code section. */
+async function openCode(page, library, file) {
+  await page.choose(file);
+  const bytes = fs.readFileSync(file);
+  const sections = library.outline(bytes);
+  const index = sections.findIndex(({ id }) => id === 10);
+  await page.click(`#sections tbody tr[data-index="${index}"]`);
+  await page.until(hasItems);
+  const { offset, size } = sections[index - 1];
+  const items = library.items(bytes, index, MOST_ITEMS);
+  return { bytes, items, index, code: sections[index], start: offset + size };
+}
+
+// ---- Tests.
+
+const opening = {
+  async 'the page starts'(page) {
+    assert.equal(await page.text('status'), 'Ready.');
+    await page.shotsOfBoth('empty');
+  },
+
+  async 'the table of each module is its outline'(page, library) {
+    for (const file of modules) {
+      await page.choose(file);
+      assert.deepEqual(await rows(page), library.outline(fs.readFileSync(file)).map(rowOf));
+    }
+  },
+
+  async 'the bar has the sections to scale'(page, library) {
+    await page.choose(modules[0]);
+    const sections = library.outline(fs.readFileSync(modules[0]));
+    const segments = await page.run(() =>
+      [...document.querySelectorAll('#bar [role=option]')].map((segment) => ({
+        label: segment.ariaLabel,
+        width: segment.getBoundingClientRect().width,
+      })),
+    );
+    assert.equal(segments.length, sections.length);
+    const widths = wholesOf(sections).map(({ whole }, index) => ({ whole, width: segments[index].width }));
+    const [first, ...others] = widths.filter(({ width }) => width > 40);
+    others.forEach(({ whole, width }) => assert.ok(Math.abs(width / first.width - whole / first.whole) < 0.02));
+    segments.forEach(({ label, width }, index) => {
+      assert.ok(label.startsWith(`Section ${index + 1}: ${sections[index].kind}`), label);
+      assert.ok(width >= 3.9);
+    });
+  },
+
+  async 'a module of the header alone'(page, library) {
+    await page.choose(fileOf('header.wasm', moduleOf()));
+    assert.deepEqual(await rows(page), []);
+    await page.until(isMinimized);
+    assert.deepEqual(await page.download('#download', 'header.min.wasm'), library.minimize(moduleOf()));
+  },
+
+  async 'a dropped file opens'(page, library) {
+    const data = { items: [], files: [fileOf('dropped.wasm', PADDED)], dragOperationsMask: 1 };
+    for (const type of ['dragEnter', 'dragOver', 'drop']) {
+      await page.send('Input.dispatchDragEvent', { type, x: 800, y: 500, data });
+    }
+    await page.untilText('file-name', 'dropped.wasm');
+    assert.deepEqual(await rows(page), library.outline(PADDED).map(rowOf));
+    assert.equal(await page.run(() => document.documentElement.className), '');
+  },
+
+  async 'names are texts, with escapes'(page) {
+    const names = ['<img src=x onerror=alert(1)>', '\u202egnp.exe', 'a\nb', 'a'.repeat(5000)];
+    await page.choose(fileOf('names.wasm', moduleOf(...names.map((text) => custom(text)))));
+    const shown = ['<img src=x onerror=alert(1)>', '\\u{202e}gnp.exe', 'a\\u{a}b', 'a'.repeat(5000)];
+    assert.deepEqual((await rows(page)).map((row) => row[2]), shown);
+    assert.equal(await page.count('img'), 0);
+    await page.shot('names');
+  },
+
+  async 'thousands of sections have pages'(page) {
+    const sections = Array.from({ length: 3001 }, (_, index) => custom(`s${index}`));
+    await page.choose(fileOf('many.wasm', moduleOf(...sections)));
+    assert.equal((await rows(page)).length, 500);
+    assert.equal(await page.count('#bar [role=option]'), 60);
+    await page.focus('#sections tbody tr');
+    await page.key('End');
+    assert.deepEqual((await rows(page)).map((row) => row[2]), ['s3000']);
+    assert.equal(await page.text('section-pages'), '‹7 of 7›');
+    assert.equal(await page.run(() => document.activeElement.cells[2].title), 'Section 3001: custom "s3000"');
+    await page.click('#section-pages button');
+    assert.equal((await rows(page))[0][2], 's2500');
+  },
+};
+
+const damaged = {
+  async 'a module that ends in a section'(page, library) {
+    const cut = PADDED.subarray(0, PADDED.length - 16);
+    const error = thrown(() => library.outline(cut));
+    await page.choose(fileOf('cut.wasm', cut));
+    assert.equal(await page.text('damage-message'), error.message);
+    const facts = `Cause: ${error.cause} · Offset: ${hex(error.offset)} (${number(error.offset)})`;
+    assert.equal(await page.text('damage-facts'), facts);
+    const before = library.outline(PADDED).filter(({ offset }) => offset < error.offset);
+    const rest = ['–', '–', 'not decoded', hex(error.offset), number(cut.length - error.offset), '–'];
+    assert.deepEqual(await rows(page), [...before.map(rowOf), rest]);
+    assert.equal(await page.run(isMinimized), false);
+    await page.shotsOfBoth('damaged');
+  },
+
+  async 'a real module that is cut'(page, library) {
+    const whole = fs.readFileSync(modules[0]);
+    const cut = whole.subarray(0, Math.floor(whole.length * 0.9));
+    const error = thrown(() => library.outline(cut));
+    await page.choose(fileOf('cut-real.wasm', cut));
+    assert.equal(await page.text('damage-message'), error.message);
+    assert.ok((await page.text('damage-facts')).includes(`Offset: ${hex(error.offset)} `));
+    await page.shot('damaged-real');
+  },
+
+  async 'a payload that does not decode'(page, library) {
+    const broken = moduleOf(TYPES, section(3, [0x02, 0x00]), EXPORT);
+    const error = thrown(() => library.list(broken));
+    await page.choose(fileOf('payload.wasm', broken));
+    assert.equal(await page.text('damage-message'), error.message);
+    assert.ok((await page.text('damage-facts')).includes(`Offset: ${hex(error.offset)} `));
+    assert.deepEqual(await rows(page), library.outline(broken).map(rowOf));
+    assert.equal(await page.count('#sections .flaw'), 1);
+    assert.equal(await chosenRow(page), 2);
+    await page.shot('damaged-payload');
+  },
+
+  async 'types that do not decode'(page) {
+    await page.choose(fileOf('types.wasm', moduleOf(section(1, [0x01, 0x00]), FUNCTION)));
+    assert.equal(await page.text('damage-message'), 'section 1: no type section');
+    assert.equal(await page.text('damage-facts'), 'Offset: 0x8 (8)');
+    assert.equal(await chosenRow(page), 1);
+  },
+
+  async 'a file that is no module'(page, library) {
+    for (const bytes of [Buffer.from('no module'), Buffer.alloc(0)]) {
+      await page.choose(fileOf(`text-${bytes.length}.wasm`, bytes));
+      assert.equal(await page.text('damage-message'), thrown(() => library.outline(bytes)).message);
+      assert.ok((await page.text('damage-facts')).endsWith('Offset: 0x0 (0)'));
+      assert.equal((await rows(page)).length, 1);
+    }
+  },
+
+  async 'a module without damage hides the message'(page) {
+    await page.choose(fileOf('whole.wasm', PADDED));
+    assert.equal(await page.run(() => document.getElementById('damage').hidden), true);
+  },
+};
+
+const chosen = {
+  async 'the bytes of a section'(page, library) {
+    const { bytes, code, start } = await openCode(page, library, modules[0]);
+    const shown = await bytesShown(page, 'b:not(.none)');
+    assert.ok(shown.length > 100 && shown.length < 3000, `${shown.length} bytes`);
+    shown.forEach(([offset, byte]) => assert.equal(byte, bytes[offset]));
+    // The id and the size prefix are before the payload.
+    assert.equal(shown[0][0], start);
+    assert.equal(await page.count('#bytes b.head'), code.offset - start);
+  },
+
+  async 'an item marks its bytes, and scrolls to them'(page, library) {
+    const { bytes, items } = await openCode(page, library, modules[0]);
+    for (const index of [0, Math.floor(items.length / 2), items.length - 1]) {
+      await page.run((its) => (document.getElementById('items').scrollTop = its * 20 - 40), index);
+      await page.until((its) => document.getElementById(`item-${its}`) !== null, index);
+      await page.click(`#item-${index}`);
+      const { offset, size, text } = items[index];
+      const marked = await bytesShown(page, 'b.on');
+      assert.equal(marked[0][0], offset);
+      assert.ok(marked.length === size || marked.length > 200);
+      marked.forEach(([at, byte]) => assert.ok(at < offset + size && byte === bytes[at]));
+      assert.equal(await page.text('items-note'), text);
+      assert.ok(await page.run(isInView));
+    }
+    await page.shotsOfBoth('real');
+  },
+
+  async 'the items are those of the library'(page, library) {
+    const { items } = await openCode(page, library, modules[0]);
+    const shown = await page.run(() =>
+      [...document.querySelectorAll('#items .item')].map((row) => [...row.children].map((cell) => cell.textContent)),
+    );
+    const expected = items.map(({ offset, size, text }, index) => [String(index), hex(offset), text, number(size)]);
+    assert.deepEqual(shown, expected.slice(0, shown.length));
+    assert.equal(await page.text('items-facts'), number(items.length));
+  },
+
+  async 'a byte chooses the item that has it'(page, library) {
+    const { items } = await openCode(page, library, modules[0]);
+    const { offset } = items[1];
+    await page.click(`#bytes b[data-offset="${offset}"]`);
+    assert.equal(await page.run(() => document.querySelector('#items [aria-selected=true]').id), 'item-1');
+    assert.equal((await bytesShown(page, 'b.on'))[0]?.[0], offset + 1);
+    assert.equal((await bytesShown(page, 'b.spot'))[0][0], offset);
+  },
+
+  async 'an offset is shown, in whichever section it is'(page, library) {
+    const { bytes, code, index } = await openCode(page, library, modules[0]);
+    await page.click('#sections tbody tr');
+    const offset = code.offset + code.size - 1;
+    await goTo(page, hex(offset));
+    await page.until(() => document.querySelector('#items [aria-selected=true]') !== null);
+    assert.equal(await chosenRow(page), index + 1);
+    assert.deepEqual(await bytesShown(page, 'b.spot'), [[offset, bytes[offset]]]);
+    for (const wrong of [hex(bytes.length), '7', 'x', '']) {
+      await goTo(page, wrong);
+      assert.equal(await page.run(() => document.getElementById('offset').checkValidity()), false);
+      await page.run(() => document.getElementById('offset').dispatchEvent(new Event('input')));
+    }
+  },
+};
+
+/** Whether the chosen item and the first of its bytes are in view, to a pixel. Runs in the page. */
+function isInView() {
+  const isIn = (selector, pane) => {
+    const box = document.querySelector(selector)?.getBoundingClientRect();
+    const view = document.querySelector(pane).getBoundingClientRect();
+    return box !== undefined && box.top > view.top - 1 && box.bottom < view.bottom + 1;
+  };
+  return isIn('#bytes b.on', '#bytes') && isIn('#items [aria-selected=true]', '#items');
+}
+
+const showSavings = (page) => page.run(() => document.querySelector('.minimize').scrollIntoView({ block: 'end' }));
+
+const minimizing = {
+  async 'the bytes that each section saves, and the download'(page, library) {
+    await page.click('#drop');
+    for (const file of [fileOf('padded.wasm', PADDED), ...modules]) {
+      const bytes = new Uint8Array(fs.readFileSync(file));
+      await page.choose(file);
+      await page.until(isMinimized);
+      const minimal = library.minimize(bytes, { dropOffsets: true });
+      assert.deepEqual(await savings(page), savingsOf(library, bytes, minimal));
+      const its = path.basename(file).replace('.wasm', '.min.wasm');
+      assert.deepEqual(await page.download('#download', its), minimal);
+    }
+    await page.click('#drop');
+    await showSavings(page);
+    await page.shot('minimized', false);
+  },
+
+  async 'custom sections that hold offsets'(page, library) {
+    const error = thrown(() => library.minimize(WITH_OFFSETS));
+    await page.choose(fileOf('offsets.wasm', WITH_OFFSETS));
+    await page.untilText('saving', `Not minimized: ${error.message}`);
+    assert.equal(await page.run(isMinimized), false);
+    await showSavings(page);
+    await page.shot('offsets-refused', false);
+    await page.click('#drop');
+    await page.until(isMinimized);
+    const minimal = library.minimize(WITH_OFFSETS, { dropOffsets: true });
+    assert.deepEqual(await savings(page), savingsOf(library, WITH_OFFSETS, minimal));
+    assert.deepEqual(await page.download('#download', 'offsets.min.wasm'), minimal);
+    await page.shot('offsets-left-out', false);
+    await page.click('#drop');
+  },
+};
+
+const typeRecipe = (page, recipe) => page.run((text) => (document.getElementById('recipe').value = text), recipe);
+
+const recipes = {
+  async 'a recipe is built, and downloaded'(page, library) {
+    await page.click('#write');
+    const recipe = await page.run(() => document.getElementById('recipe').value);
+    await page.click('#recipe-panel [type=submit]');
+    await page.untilText('file-name', 'recipe.wasm');
+    const module = library.assemble(recipe);
+    assert.deepEqual(await rows(page), library.outline(module).map(rowOf));
+    assert.deepEqual(await page.download('#save', 'recipe.wasm'), module);
+    await page.shot('recipe');
+  },
+
+  async 'an error of a recipe shows its line'(page, library) {
+    const recipe = 'type 60027f7f017f\nfunc 0\nexport add func\nbody 200020016a0b\n';
+    const error = thrown(() => library.assemble(recipe));
+    assert.equal(error.line, 3);
+    await typeRecipe(page, recipe);
+    await page.focus('#recipe');
+    await page.key('Enter', CTRL);
+    await page.untilText('recipe-error', error.message);
+    const selected = await page.run(() => {
+      const { value, selectionStart, selectionEnd } = document.getElementById('recipe');
+      return value.slice(selectionStart, selectionEnd);
+    });
+    assert.equal(selected, 'export add func');
+    assert.equal(await page.run(() => document.getElementById('recipe').ariaInvalid), 'true');
+    await page.shot('recipe-error');
+    await typeRecipe(page, recipe.replace('func\n', 'func 0\n'));
+    await page.key('Enter', CTRL);
+    await page.untilText('recipe-error', '');
+    await page.click('#write');
+  },
+};
+
+/** Presses Tab until an element that matches has the focus. */
+async function tabTo(page, selector) {
+  for (let turn = 0; turn < 30; turn += 1) {
+    await page.key('Tab');
+    if (await page.run((it) => document.activeElement.matches(it), selector)) return;
+  }
+  throw new Error(`Tab does not reach ${selector}`);
+}
+
+function hasFocusRing() {
+  const { outlineStyle, outlineWidth } = getComputedStyle(document.activeElement);
+  return outlineStyle === 'solid' && outlineWidth === '2px';
+}
+
+const blur = (page) => page.run(() => document.activeElement.blur());
+const activeItem = (page) => page.run(() => document.activeElement.getAttribute('aria-activedescendant'));
+
+const keyboard = {
+  async 'the table and the items by keys'(page, library) {
+    const { items, index, bytes } = await openCode(page, library, modules[0]);
+    await blur(page);
+    await tabTo(page, '#sections tr');
+    assert.ok(await page.run(hasFocusRing));
+    await page.key('Home');
+    assert.equal(await chosenRow(page), 1);
+    for (let turn = 0; turn < index; turn += 1) await page.key('ArrowDown');
+    assert.equal(await chosenRow(page), index + 1);
+    await page.key('Enter');
+    assert.equal(await page.run(() => document.activeElement.id), 'items');
+    assert.ok(await page.run(hasFocusRing));
+    await page.until(hasItems);
+    await page.key('ArrowDown');
+    await page.key('ArrowDown');
+    assert.equal(await activeItem(page), 'item-1');
+    await page.key('End');
+    const last = items.length - 1;
+    assert.equal(await activeItem(page), `item-${last}`);
+    assert.deepEqual((await bytesShown(page, 'b.on'))[0], [items[last].offset, bytes[items[last].offset]]);
+  },
+
+  async 'the bar by keys'(page, library) {
+    const count = library.outline(fs.readFileSync(modules[0])).length;
+    await page.choose(modules[0]);
+    await blur(page);
+    await tabTo(page, '#bar [role=option]');
+    assert.ok(await page.run(hasFocusRing));
+    await page.key('End');
+    assert.equal(await chosenRow(page), count);
+    await page.key('ArrowLeft');
+    assert.equal(await chosenRow(page), count - 1);
+    assert.equal(await page.run(() => document.activeElement.ariaSelected), 'true');
+    await page.shot('keys');
+  },
+
+  async 'every control by Tab, and the download by Enter'(page, library) {
+    await page.choose(fileOf('tabs.wasm', PADDED));
+    await page.until(isMinimized);
+    await blur(page);
+    const order = ['#file', '#write', '#bar *', '#sections tr', '#items', '#offset', '#bytes', '#drop', '#download'];
+    for (const selector of order) await tabTo(page, selector);
+    await page.key('Enter');
+    assert.deepEqual(await page.downloaded('tabs.min.wasm'), library.minimize(PADDED));
+  },
+};
+
+/** The least contrast of a text to the colours behind it. Runs in the page. */
+function leastContrast() {
+  const canvas = document.createElement('canvas').getContext('2d', { willReadFrequently: true });
+  const paint = (color) => {
+    canvas.fillStyle = color;
+    canvas.fillRect(0, 0, 1, 1);
+  };
+  const linear = (value) => (value <= 0.04045 ? value / 12.92 : ((value + 0.055) / 1.055) ** 2.4);
+  const luminance = (colors) => {
+    ['white', ...colors].forEach(paint);
+    const [red, green, blue] = [...canvas.getImageData(0, 0, 1, 1).data].map((value) => linear(value / 255));
+    return 0.2126 * red + 0.7152 * green + 0.0722 * blue;
+  };
+  const behind = (element) =>
+    element ? [...behind(element.parentElement), getComputedStyle(element).backgroundColor] : [];
+  const hasText = ({ childNodes }) => [...childNodes].some(({ nodeType, data }) => nodeType === 3 && data.trim());
+  const isShown = (element) => hasText(element) && element.checkVisibility() && !element.closest(':disabled, .unseen');
+  const contrast = (element) => {
+    const backs = behind(element);
+    const [back, text] = [backs, [...backs, getComputedStyle(element).color]].map(luminance);
+    const ratio = (Math.max(back, text) + 0.05) / (Math.min(back, text) + 0.05);
+    return { ratio, what: `${element.tagName} ${element.className} ${element.textContent.slice(0, 20)}` };
+  };
+  const all = [...document.querySelectorAll('body *')].filter(isShown).map(contrast);
+  return all.sort((a, b) => a.ratio - b.ratio)[0];
+}
+
+/** How much wider than the window the page is, and than their pane the bytes are. Runs in the page. */
+function overflow() {
+  const right = (selector) => document.querySelector(selector).getBoundingClientRect().right;
+  return [document.scrollingElement.scrollWidth - innerWidth, right('#bytes .ascii') - right('#bytes')];
+}
+
+/** Keeps the layout shifts that no input causes. Runs in the page. */
+function watchShifts() {
+  window.shifts = [];
+  const textOf = ({ value, sources }) => `${value}: ${sources.map(({ node }) => node?.id || node?.className)}`;
+  const keep = (list) => {
+    const moved = list.getEntries().filter(({ hadRecentInput }) => !hadRecentInput);
+    window.shifts.push(...moved.map(textOf));
+  };
+  new PerformanceObserver(keep).observe({ type: 'layout-shift' });
+}
+
+/** Checks the contrast, and returns the background. */
+async function backWithContrast(page, isDark) {
+  await page.dark(isDark);
+  const { ratio, what } = await page.run(leastContrast);
+  console.log(`${isDark ? 'dark' : 'light'}: least contrast ${ratio.toFixed(2)} (${what})`);
+  assert.ok(ratio >= 4.5);
+  return page.run(() => getComputedStyle(document.body).backgroundColor);
+}
+
+const hasAnswer = () => document.getElementById('saving').textContent !== 'Minimizing';
+
+const looks = {
+  async 'contrast in light and dark'(page) {
+    for (const file of [modules[0], fileOf('cut.wasm', PADDED.subarray(0, 30))]) {
+      await page.choose(file);
+      const light = await backWithContrast(page, false);
+      const dark = await backWithContrast(page, true);
+      assert.notEqual(light, dark);
+    }
+    await page.dark(false);
+  },
+
+  async '400 to 1600 pixels'(page, library) {
+    const { items } = await openCode(page, library, modules[0]);
+    await page.focus('#items');
+    await page.key('End');
+    const last = `#item-${items.length - 1}`;
+    for (const width of [400, 700, 1000, 1200, 1366, 1600]) {
+      await page.resize(width, 900);
+      await page.until(isInView);
+      const over = await page.run(overflow);
+      assert.ok(Math.max(...over) <= 0, `${over} pixels too wide at ${width}`);
+      assert.equal(await page.count(`${last}[aria-selected=true]`), 1);
+      await page.shot(`width-${width}`);
+    }
+    await page.resize(400, 2400);
+    await page.shot('narrow');
+    await page.resize(1600, 1000);
+  },
+
+  async 'nothing moves when items and savings come'(page) {
+    await page.choose(modules[0]);
+    await page.run(watchShifts);
+    await page.choose(fileOf('still.wasm', fs.readFileSync(modules[0])));
+    await page.until(hasAnswer);
+    await page.until(hasItems);
+    await sleep(200);
+    assert.deepEqual(await page.run(() => window.shifts), []);
+  },
+};
+
+const large = {
+  async 'a module of 18 MB'(page, library) {
+    const bytes = largeModule();
+    const file = fileOf('large.wasm', bytes);
+    const start = performance.now();
+    await page.choose(file);
+    await page.run(() => new Promise((done) => requestAnimationFrame(() => setTimeout(done))));
+    const ms = performance.now() - start;
+    console.log(`${number(bytes.length)} bytes: the table is painted after ${ms.toFixed()} ms`);
+    assert.deepEqual(await rows(page), library.outline(bytes).map(rowOf));
+    assert.ok(ms < 2000);
+    await page.until(isMinimized);
+    console.log(`${number(bytes.length)} bytes: minimized after ${(performance.now() - start).toFixed()} ms`);
+  },
+
+  async 'its bytes and items are few elements'(page, library) {
+    const { code, bytes } = await openCode(page, library, path.join(room, 'large.wasm'));
+    const elements = await page.count('*');
+    assert.ok(elements < 6000, `${elements} elements`);
+    assert.equal(await page.text('items-facts'), `the first ${number(MOST_ITEMS)}`);
+    const last = code.offset + code.size - 1;
+    await goTo(page, last);
+    assert.deepEqual(await bytesShown(page, 'b.spot'), [[last, bytes[last]]]);
+    await page.shot('large');
+    await page.click('#byte-pages button');
+    const [[first]] = await bytesShown(page, 'b:not(.none)');
+    assert.ok(code.offset < first && first < last - 65_536);
+  },
+
+  async 'nothing moves while it is minimized'(page) {
+    await page.resize(400, 900);
+    await showSavings(page);
+    await page.run(watchShifts);
+    await page.run(() => document.getElementById('drop').click());
+    await page.until(() => document.getElementById('saving').textContent === 'Minimizing');
+    await page.until(hasAnswer);
+    await sleep(200);
+    assert.deepEqual(await page.run(() => window.shifts), []);
+    await page.run(() => document.getElementById('drop').click());
+    await page.resize(1600, 1000);
+  },
+
+  async 'the items are those of the section chosen last'(page, library) {
+    await page.choose(path.join(room, 'large.wasm'));
+    await page.run(() => [5, 3, 4].forEach((row) => document.querySelectorAll('#sections tr')[row].click()));
+    await page.until(hasItems);
+    const [{ text }] = library.items(fs.readFileSync(path.join(room, 'large.wasm')), 3);
+    assert.equal(await page.run(() => document.querySelector('#items .text').textContent), text);
+    assert.equal(await chosenRow(page), 4);
+  },
+
+  async 'a small module opens while a large one is minimized'(page, library) {
+    await page.choose(path.join(room, 'large.wasm'));
+    await page.choose(fileOf('small.wasm', PADDED));
+    await page.until(isMinimized);
+    assert.deepEqual(await savings(page), savingsOf(library, PADDED, library.minimize(PADDED)));
+  },
+};
+
+const quiet = {
+  async 'no request to another host, and no error in the console'(page) {
+    const urls = page.requests.filter((url) => !/^(data|blob):/.test(url));
+    assert.deepEqual([...new Set(urls.map((url) => new URL(url).origin))], [page.origin]);
+    assert.ok(urls.includes(`${page.origin}/dolzhytik.wasm`));
+    assert.deepEqual(page.complaints, []);
+  },
+
+  async 'a page whose WebAssembly module does not load'(page) {
+    const broken = new Page(page.browser);
+    await broken.start(page.origin, '/broken/', 'dolzhytik.wasm does not load: ');
+    assert.ok((await broken.text('status')).endsWith('HTTP status 404'));
+  },
+};
+
+// ---- The run.
+
+async function runTests(page, library) {
+  const groups = [opening, damaged, chosen, minimizing, recipes, keyboard, looks, large, quiet];
+  const counts = { passed: 0, failed: 0 };
+  for (const [its, test] of groups.flatMap(Object.entries)) {
+    try {
+      await test(page, library);
+      counts.passed += 1;
+    } catch (error) {
+      counts.failed += 1;
+      console.log(`${its}: ${error.stack}`);
+    }
+  }
+  return counts;
+}
+
+async function main(chromium) {
+  const library = await import('./dolzhytik.js');
+  const server = await serve();
+  const browser = new Browser(chromium);
+  const page = new Page(browser);
+  try {
+    await page.start(`http://127.0.0.1:${server.address().port}`);
+    const { passed, failed } = await runTests(page, library);
+    console.log(`${passed} passed, ${failed} failed`);
+    return failed ? 1 : 0;
+  } finally {
+    await browser.close();
+    server.close();
+  }
+}
+
+function whyNot(chromium) {
+  if (!chromium) return 'there is no chromium';
+  const isBuilt = fs.existsSync(path.join(HERE, 'dolzhytik.wasm'));
+  return isBuilt ? null : 'there is no rust/web/dolzhytik.wasm: tools/web --build makes it';
+}
+
+const chromium = findChromium();
+const reason = whyNot(chromium);
+if (reason) console.log(`page: not run: ${reason}`);
+try {
+  process.exitCode = reason ? 77 : await main(chromium);
+} finally {
+  fs.rmSync(room, { recursive: true, force: true });
+}
