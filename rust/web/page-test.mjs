@@ -1,6 +1,7 @@
+#!/usr/bin/env node
 // Tests the page in chromium, without a window.
 //
-//     node rust/web/page-test.mjs [FOLDER [MODULE..]]
+//     rust/web/page-test.mjs [FOLDER [MODULE..]]
 //
 // Writes screenshots to FOLDER. Compares the page with dolzhytik.js in node for each MODULE, or for dolzhytik.wasm.
 //
