@@ -43,7 +43,7 @@ export interface MinimizeOptions {
  * line needs it.
  */
 export class DolzhytikError extends Error {
-  /** What the program `dolzhytik` reports, without the name of the file. */
+  /** What the program `dolzhytik` reports, without the name of the file; `dropOffsets` for `--drop-offsets`. */
   message: string;
   /** The message without the number of the section or line. */
   cause: string;

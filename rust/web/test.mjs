@@ -131,11 +131,11 @@ test('a section that does not decode is kept', () => {
 test('custom sections that hold offsets', () => {
   const code = '0a 84 00 01 02 00 0b';
   const module = moduleOf(code, '00 08 072e64656275675f');
-  const cause = 'holds offsets that would no longer lead where they do; --drop-offsets leaves such sections out';
+  const cause = 'holds offsets that would no longer lead where they do; dropOffsets leaves such sections out';
   checkError(() => minimize(module), `section 2, ".debug_", ${cause}`, cause, { offset: 15 });
   checkError(() => minimize(module, { dropOffsets: false }), `section 2, ".debug_", ${cause}`, cause, { offset: 15 });
   assert.deepEqual(minimize(module, { dropOffsets: true }), moduleOf('0a 04 01 02 00 0b'));
-  assert.deepEqual(minimize(module, { dropOffsets: 1 }), moduleOf('0a 04 01 02 00 0b'));
+  assert.deepEqual(minimize(module, { dropOffsets: 'yes' }), moduleOf('0a 04 01 02 00 0b'));
   const minimal = moduleOf('0a 04 01 02 00 0b', '00 08 072e64656275675f');
   assert.deepEqual(minimize(minimal, {}), minimal);
 });
@@ -368,6 +368,9 @@ test('no items', () => {
     '0a 05 01 03 00 16 0b', // an unknown opcode
     '0c 02 01 00', // a byte behind the data count
     '00 09 046e616d65 01 02 01 00', // a name map that ends early
+    '00 0a 046e616d65 00 03 0161 00', // a byte behind the name of the module
+    '00 0a 046e616d65 01 03 00 00 00', // a byte behind a name map
+    '00 09 046e616d65 02 02 00 00', // a byte behind names of locals
     '00 09 076c696e6b696e67 01', // another version of the linking section
     '00 01 09', // no name
   ];
@@ -486,24 +489,6 @@ test('random changes', async () => {
 
 // Memory.
 
-test('nothing leaks', () => {
-  const [wasm] = instances;
-  const bad = ADD.subarray(0, 20);
-  const calls = [
-    () => outline(ADD), () => list(ADD), () => minimize(ADD), () => assemble('func 1\nbody 0b'), () => items(ADD, 3),
-    () => errorOf(() => outline(bad)), () => errorOf(() => assemble('x')),
-  ];
-  calls.forEach((call) => call());
-  const size = wasm.memory.buffer.byteLength;
-  for (const call of calls) {
-    for (let turn = 0; turn < 10_000; turn += 1) {
-      call();
-    }
-    assert.equal(wasm.memory.buffer.byteLength, size);
-  }
-  assert.equal(instances.length, 1);
-});
-
 const OUT_OF_MEMORY = 'out of memory';
 
 test('a module of 4 GiB is refused', () => {
@@ -572,6 +557,25 @@ function outcome(call, Thrown) {
     return { message: error.message, cause: error.cause };
   }
 }
+
+test('nothing leaks', async () => {
+  const { dz, wasm } = await limited(40);
+  const bad = ADD.subarray(0, 20);
+  const calls = [
+    () => dz.outline(ADD), () => dz.list(ADD), () => dz.minimize(ADD), () => dz.assemble('func 1\nbody 0b'),
+    () => dz.items(ADD, 3), () => outcome(() => dz.outline(bad), dz.DolzhytikError),
+    () => outcome(() => dz.assemble('x'), dz.DolzhytikError),
+  ];
+  calls.forEach((call) => call());
+  const size = wasm.memory.buffer.byteLength;
+  for (const call of calls) {
+    for (let turn = 0; turn < 10_000; turn += 1) {
+      call();
+    }
+    assert.equal(wasm.memory.buffer.byteLength, size);
+  }
+  assert.equal(wasm, instances.at(-1), 'no call trapped');
+});
 
 test('addresses of 32 bits', async (t) => {
   const { dz, wasm } = await limited(65536);

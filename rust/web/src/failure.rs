@@ -62,7 +62,7 @@ impl fmt::Display for Cause<'_> {
             Cause::NoSection(fault) | Cause::NoItems(fault) => fault.fmt(f),
             Cause::Offsets(_) => f.write_str(
                 "holds offsets that would no longer lead where they do; \
-                 --drop-offsets leaves such sections out",
+                 dropOffsets leaves such sections out",
             ),
             Cause::NotText => f.write_str("not UTF-8"),
             Cause::Recipe(cause) => cause.fmt(f),
