@@ -147,7 +147,18 @@ def sysroot(folder):
     command = f'LD_LIBRARY_PATH="{paths}" exec "$here/root/usr/bin/rustc" --sysroot "$here/made" "$@"'
     rustc.write_text(f'#!/bin/sh\nhere=$(dirname "$(readlink -f "$0")")\n{command}\n')
     rustc.chmod(0o755)
+    shutil.rmtree(usr / 'src')
+    replace_links(folder)
     return rustc
+
+
+def replace_links(folder):
+    """Puts files in the place of links to them, and removes other links: `rt ci` rejects links in the repository."""
+    for link in [path for path in folder.rglob('*') if path.is_symlink()]:
+        file = link.resolve()
+        link.unlink()
+        if file.is_file():
+            shutil.copy(file, link)
 
 
 def cargo(command, *words):
