@@ -75,6 +75,8 @@ def debian():
     rustc = folder / 'rustc'
     if rustc.exists():
         return rustc
+    # What was compiled over other libraries does not fit these.
+    shutil.rmtree(OUT / TARGET, ignore_errors=True)
     shutil.rmtree(folder, ignore_errors=True)
     folder.mkdir(parents=True)
     are_fetched = fetched(folder)
