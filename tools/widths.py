@@ -72,29 +72,21 @@ class Expressions:
         ends = {';', '{', '}', '=>'} if self.token(at) in ASSIGNING else ENDS
         first, last = at, at
         while self.token(first - 1) and self.token(first - 1) not in ends | set(OPENING):
-            first = self.opening(first - 1)
+            first = self.across(first - 1, -1)
         while self.token(last + 1) and self.token(last + 1) not in ends | set(CLOSING):
-            last = self.closing(last + 1)
+            last = self.across(last + 1, 1)
         text = ' '.join(''.join(self.tokens[self.solid[first]:self.solid[last] + 1]).split())
         return re.sub(r'(?<=[(\[]) | (?=\.\w)|,? (?=[)\]])', '', text)
 
-    def opening(self, at):
-        """The place of the bracket that opens what the one of this place closes, or this place."""
+    def across(self, at, step):
+        """The place of the bracket that the one of this place matches in this direction, or this place."""
+        entered, left = (OPENING, CLOSING) if step > 0 else (CLOSING, OPENING)
         depth = 0
         while True:
-            depth += (self.token(at) in CLOSING) - (self.token(at) in OPENING)
+            depth += (self.token(at) in entered) - (self.token(at) in left)
             if depth == 0:
                 return at
-            at -= 1
-
-    def closing(self, at):
-        """The place of the bracket that closes what the one of this place opens, or this place."""
-        depth = 0
-        while True:
-            depth += (self.token(at) in OPENING) - (self.token(at) in CLOSING)
-            if depth == 0:
-                return at
-            at += 1
+            at += step
 
 
 def table(path):
