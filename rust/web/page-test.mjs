@@ -643,7 +643,9 @@ const minimizing = {
   async 'custom sections that hold offsets'(page, library) {
     const error = thrown(() => library.minimize(WITH_OFFSETS));
     await page.choose(fileOf('offsets.wasm', WITH_OFFSETS));
-    await page.untilText('saving', `Not minimized: ${error.message}`);
+    const [message, option] = error.message.split('; ');
+    assert.equal(option, 'dropOffsets leaves such sections out');
+    await page.untilText('saving', `Not minimized: ${message}`);
     assert.equal(await page.run(isMinimized), false);
     await showSavings(page);
     await page.shot('offsets-refused', false);

@@ -802,6 +802,9 @@ function saySaving(text, isError = false) {
   byId('download').disabled = minimal === null;
 }
 
+/** A message without its option of `minimize`, which is a checkbox here. */
+const withoutOption = (message) => message.replace(/; dropOffsets leaves such sections out$/, '');
+
 async function minimize() {
   const asked = file;
   minimizer.stop();
@@ -816,7 +819,7 @@ async function minimize() {
     showSavings();
     saySaving(savingText(asked.bytes.length, bytes.length));
   } catch (error) {
-    if (asked === file) saySaving(`Not minimized: ${error.message}`, true);
+    if (asked === file) saySaving(`Not minimized: ${withoutOption(error.message)}`, true);
   }
 }
 
