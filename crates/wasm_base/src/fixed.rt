@@ -11,6 +11,7 @@ impl<const N: usize> Encode for [u8; N] {
 
     ghost fits = { λ _. ⊤ };
 
+    #[inline]
     fn encode<A: Allocator>(&self, sink: &mut Vec<u8, A>) -> R<()> {
         sink.extend_from_slice(self)?;
         Ok(())

@@ -90,6 +90,7 @@ impl<T: Encode + Drop, I: Iterator<Item = T> + Drop> EncodeOnce for VecOf<I> {
 
     ghost fits = { λ v. YieldsFitting I.next_gives T.fits v.items };
 
+    #[inline(always)]
     fn encode_once<A: Allocator>(self, sink: &mut Vec<u8, A>) -> R<()> {
         let VecOf { items, count } = self;
         let start = sink.len();
@@ -156,6 +157,7 @@ impl<I: Iterator<Item = u8> + Drop> EncodeOnce for BytesOf<I> {
 
     ghost fits = { λ _. Unit {0} };
 
+    #[inline(always)]
     fn encode_once<A: Allocator>(self, sink: &mut Vec<u8, A>) -> R<()> {
         let BytesOf { mut items, count } = self;
         let start = sink.len();
@@ -179,6 +181,7 @@ impl<S: Encode + Drop, T: EncodeOnce + Drop> EncodeOnce for (S, T) {
 
     ghost fits = { λ p. S.fits p.0 × T.fits p.1 };
 
+    #[inline(always)]
     fn encode_once<A: Allocator>(self, sink: &mut Vec<u8, A>) -> R<()> {
         let (front, back) = self;
         let start = sink.len();
@@ -199,6 +202,7 @@ impl<S: Encode + Drop, T: EncodeOnce + Drop, U: EncodeOnce + Drop> EncodeOnce fo
 
     ghost fits = { λ p. S.fits p.0 × T.fits p.1 × U.fits p.2 };
 
+    #[inline(always)]
     fn encode_once<A: Allocator>(self, sink: &mut Vec<u8, A>) -> R<()> {
         let (front, middle, back) = self;
         let start = sink.len();

@@ -32,6 +32,7 @@ impl<T: Encode> Encode for Optional<T> {
 
     ghost fits = { λ part. IfSome part.0 T.fits };
 
+    #[inline]
     fn encode<A: Allocator>(&self, sink: &mut Vec<u8, A>) -> R<()> {
         match &self.0 {
             Some(part) => part.encode(sink),

@@ -83,6 +83,7 @@ impl<A: Allocator> Pieces<A> {
 
     /// Adds an entry of these bytes.
     #[tactic(auto, using(crate::proofs::Cut::length_cut))]
+    #[inline]
     pub fn add(&mut self, entry: &[u8]) -> R<()>
         ensures { Adds entry.now ⊤ self.old self.new result }
     {
@@ -98,6 +99,7 @@ impl<A: Allocator> Pieces<A> {
 
     /// Adds an entry that is the text of the item, which is written straight into the buffer.
     #[tactic(auto, using(crate::proofs::Cut::length_cut))]
+    #[inline]
     pub fn add_encoded<T: Encode>(&mut self, item: &T) -> R<()>
         ensures { Adds (T.text item.now) (T.fits item.now) self.old self.new result }
     {
@@ -113,6 +115,7 @@ impl<A: Allocator> Pieces<A> {
 
     /// Adds an entry that is a text of the item, which is written straight into the buffer.
     #[tactic(auto, using(crate::proofs::Cut::length_cut))]
+    #[inline]
     pub fn add_once<T: EncodeOnce + Drop>(&mut self, item: T) -> R<()>
         requires { T.lawful item }
         ensures { AddsOnce (T.gives item) (T.fits item) self.old self.new result }

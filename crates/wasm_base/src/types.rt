@@ -97,6 +97,7 @@ impl Encode for AbstractHeapType {
 
     ghost fits = { λ _. ⊤ };
 
+    #[inline]
     fn encode<A: Allocator>(&self, sink: &mut Vec<u8, A>) -> R<()> {
         self.byte().encode(sink)
     }
@@ -108,6 +109,7 @@ impl Encode for HeapType {
 
     ghost fits = { λ _. ⊤ };
 
+    #[inline]
     fn encode<A: Allocator>(&self, sink: &mut Vec<u8, A>) -> R<()> {
         match *self {
             HeapType::Abstract { shared: false, ty } => ty.encode(sink),
@@ -124,6 +126,7 @@ impl Encode for RefType {
 
     ghost fits = { λ _. ⊤ };
 
+    #[inline]
     fn encode<A: Allocator>(&self, sink: &mut Vec<u8, A>) -> R<()> {
         let byte: u8 = match (self.nullable, self.heap_type) {
             (
@@ -153,6 +156,7 @@ impl Encode for ValType {
 
     ghost fits = { λ _. ⊤ };
 
+    #[inline(always)]
     fn encode<A: Allocator>(&self, sink: &mut Vec<u8, A>) -> R<()> {
         let byte: u8 = match *self {
             ValType::I32 => 0x7F,
