@@ -111,6 +111,9 @@ const CTRL = 2;
 class Page {
   requests = [];
   complaints = [];
+  /** How many downloads are complete, and how many of them `downloaded` has read. */
+  downloads = 0;
+  #read = 0;
 
   constructor(browser) {
     this.browser = browser;
@@ -125,7 +128,7 @@ class Page {
     this.session = sessionId;
     await this.#watch(sessionId);
     await this.send('Page.enable');
-    await this.browser.send('Browser.setDownloadBehavior', { behavior: 'allow', downloadPath: room });
+    await this.browser.send('Browser.setDownloadBehavior', { behavior: 'allow', downloadPath: room, eventsEnabled: true });
     await this.resize(1600, 1000);
     await this.send('Page.navigate', { url: origin + folder });
     await this.until((text) => document.getElementById('status')?.textContent.startsWith(text), status);
@@ -151,6 +154,7 @@ class Page {
       'Log.entryAdded': () => params.entry.text,
     }[method];
     if (said) this.complaints.push(said());
+    if (method === 'Browser.downloadProgress' && params.state === 'completed') this.downloads += 1;
     if (method === 'Network.requestWillBeSent') this.requests.push(params.request.url);
     if (method === 'Target.attachedToTarget') this.#watch(params.sessionId).catch(() => {});
   }
@@ -235,9 +239,9 @@ class Page {
   }
 
   async downloaded(name) {
-    const file = path.join(room, name);
-    for (let turn = 0; turn < 500 && !fs.existsSync(file); turn += 1) await sleep(10);
-    return new Uint8Array(fs.readFileSync(file));
+    this.#read += 1;
+    for (let turn = 0; turn < 1000 && this.downloads < this.#read; turn += 1) await sleep(10);
+    return new Uint8Array(fs.readFileSync(path.join(room, name)));
   }
 
   /** Writes a screenshot of the page from its top, or as far as it is scrolled. */
