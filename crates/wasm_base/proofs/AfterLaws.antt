@@ -9,9 +9,9 @@ pub just_unique : {X : Type 0} (x : X) {F : Format X} → UniqueReading F → Un
 just_unique x {F} f = record {
   alone = λ mode s t r q u v h g e. let a = f.alone mode s t r q x x h g e in (refl, a.1, a.2);
   spellings = record {
-    one = λ s t u h g. f.spellings.one s t x h g;
-    wider = λ s u h. f.spellings.wider s x h;
-    shorter = λ s u h. f.spellings.shorter s x h;
+    one = λ w s t u h g. f.spellings.one w s t x h g;
+    wider = λ m n below s u h. f.spellings.wider m n below s x h;
+    shorter = λ w s u h. f.spellings.shorter w s x h;
   };
 }
 

@@ -12,10 +12,10 @@ use Rattle.wasm_base.proofs.TextLaws.{little_endian_spelled, u32_spelled, u64_sp
 use Rattle.wasm_base.proofs.ModuleLaws.{module_whole, module-texts}
 
 pub unique_wide : {X : Type 0} {F : Format X} → UniqueReading F → IsUniqueWide F
-unique_wide {F = F} f = record { alone = f.alone wide; wider = f.spellings.wider }
+unique_wide {F = F} f = record { alone = f.alone wide; wider = f.spellings.wider shortest wide tt }
 
 pub unique_whole_wide : {X : Type 0} {F : Format X} → UniqueWholeReading F → IsUniqueWholeWide F
-unique_whole_wide {F = F} f = record { whole = f.whole wide; wider = f.spellings.wider }
+unique_whole_wide {F = F} f = record { whole = f.whole wide; wider = f.spellings.wider shortest wide tt }
 
 -- ---- numbers
 
@@ -34,9 +34,9 @@ s33_unique =
     record {
       alone = λ mode s t r q x y h g e. let a = f.alone mode s t r q (pos x) (pos y) h g e in (cc (a.0), a.1, a.2);
       spellings = record {
-        one = λ s t x h g. f.spellings.one s t (pos x) h g;
-        wider = λ s x h. f.spellings.wider s (pos x) h;
-        shorter = λ s x h. f.spellings.shorter s (pos x) h;
+        one = λ w s t x h g. f.spellings.one w s t (pos x) h g;
+        wider = λ m n below s x h. f.spellings.wider m n below s (pos x) h;
+        shorter = λ w s x h. f.spellings.shorter w s (pos x) h;
       };
     }
 

@@ -2,10 +2,10 @@
 use Rattle.std.proofs.Common.{◌≡◌, ◌≢◌, ℕ, ◌<◌, List, [], ◌∷◌, ◌++◌, length, Bool, true, false, eqb, Some, None, refl, sym, ap, ap₂, subst, ◌∙◌, append_assoc, append-nil, le_refl, arith, inl, inr}
 use Rattle.std.proofs.lemmas.Bool.{eqb-true}
 use Rattle.std.proofs.lemmas.List.{length-append, append_cancel_left}
-use Rattle.wasm_base.specs.Numbers.{Mode, shortest, wide}
-use Rattle.wasm_base.specs.Formats.{Format, u32, AreBytes, byte, any_bytes, raw_bytes, bytes_sum, little_endian, when, Then, pair, mapped, such, fixed, impossible, tagged, members, vec, frame, ended, optional, one_of, coded, choice, prefixed}
+use Rattle.wasm_base.specs.Numbers.{Mode, shortest, wide, Grammar, Below, least, padded, tight, standard, builders, admitted}
+use Rattle.wasm_base.specs.Formats.{Format, u32, AreBytes, byte, any_bytes, raw_bytes, bytes_sum, little_endian, when, Then, pair, mapped, such, fixed, impossible, tagged, members, vec, frame, ended, optional, one_of, coded, choice, prefixed, by_mode}
 use Rattle.wasm_base.specs.Reading.{IsReadAlone, IsReadWhole, HasOneSpelling, IsPartOf, IsShortenedBy, HasSpellings, UniqueReading, UniqueWholeReading, BeginsWith}
-use Rattle.wasm_base.proofs.NumberLaws.{u32_unique, u32-less}
+use Rattle.wasm_base.proofs.NumberLaws.{u32_unique, u32-less, below_cases}
 
 -- ---- lists
 
@@ -57,11 +57,11 @@ whole_from_alone {F} k = record {
 
 pub Then-spellings : {X Y : Type 0} {F : Format X} {G : X → Format Y} → HasSpellings F → ((x : X) → HasSpellings (G x)) → HasSpellings (Then F G)
 Then-spellings {F} {G} k l = record {
-  one = λ s t p h g. same_joined s t h.front h.back g.front g.back h.joined g.joined (k.one h.front g.front p.0 h.first g.first) ((l p.0).one h.back g.back p.1 h.second g.second);
-  wider = λ s p h. record { front = h.front; back = h.back; joined = h.joined; first = k.wider h.front p.0 h.first; second = (l p.0).wider h.back p.1 h.second };
-  shorter = λ s p h.
-      let a = k.shorter h.front p.0 h.first in
-      let b = (l p.0).shorter h.back p.1 h.second in
+  one = λ w s t p h g. same_joined s t h.front h.back g.front g.back h.joined g.joined (k.one w h.front g.front p.0 h.first g.first) ((l p.0).one w h.back g.back p.1 h.second g.second);
+  wider = λ m n below s p h. record { front = h.front; back = h.back; joined = h.joined; first = k.wider m n below h.front p.0 h.first; second = (l p.0).wider m n below h.back p.1 h.second };
+  shorter = λ w s p h.
+      let a = k.shorter w h.front p.0 h.first in
+      let b = (l p.0).shorter w h.back p.1 h.second in
       (a.0 ++ b.0, record { front = a.0; back = b.0; joined = refl; first = a.1; second = b.1 }, omega (arith, a.2, b.2, length-append a.0 b.0, ap length h.joined, length-append h.front h.back));
 }
 
@@ -94,20 +94,20 @@ pair_whole {F} {G} k l = Then_whole k (λ x. l)
 pub impossible_unique : {X : Type 0} → UniqueReading (impossible {X = X})
 impossible_unique {X} = record {
   alone = λ mode s t r q x y h g e. absurd h;
-  spellings = record { one = λ s t x h g. absurd h; wider = λ s x h. absurd h; shorter = λ s x h. absurd h };
+  spellings = record { one = λ w s t x h g. absurd h; wider = λ m n below s x h. absurd h; shorter = λ w s x h. absurd h };
 }
 
 pub fixed_unique : {X : Type 0} (bytes : List ℕ) (v : X) → UniqueReading (fixed bytes v)
 fixed_unique bytes v = record {
   alone = λ mode s t r q x y h g e. (h.1 ∙ sym g.1, h.0 ∙ sym g.0, append_cancel_left bytes r q (subst (λ z. z ++ r ≡ bytes ++ q) h.0 (subst (λ z. s ++ r ≡ z ++ q) g.0 e)));
-  spellings = record { one = λ s t x h g. h.0 ∙ sym g.0; wider = λ s x h. h; shorter = λ s x h. (s, h, le_refl (length s)) };
+  spellings = record { one = λ w s t x h g. h.0 ∙ sym g.0; wider = λ m n below s x h. h; shorter = λ w s x h. (s, h, le_refl (length s)) };
 }
 
 pub such-spellings : {X : Type 0} (P : X → Type 0) {F : Format X} → HasSpellings F → HasSpellings (such P F)
 such-spellings P {F} k = record {
-  one = λ s t x h g. k.one s t x h.0 g.0;
-  wider = λ s x h. (k.wider s x h.0, h.1);
-  shorter = λ s x h. let a = k.shorter s x h.0 in (a.0, (a.1, h.1), a.2);
+  one = λ w s t x h g. k.one w s t x h.0 g.0;
+  wider = λ m n below s x h. (k.wider m n below s x h.0, h.1);
+  shorter = λ w s x h. let a = k.shorter w s x h.0 in (a.0, (a.1, h.1), a.2);
 }
 
 pub such_unique : {X : Type 0} (P : X → Type 0) {F : Format X} → UniqueReading F → UniqueReading (such P F)
@@ -125,9 +125,9 @@ IsInjective {X} f = (x y : X) → f x ≡ f y → x ≡ y
 
 pub mapped-spellings : {X Y : Type 0} (f : X → Y) {F : Format X} → IsInjective f → HasSpellings F → HasSpellings (mapped f F)
 mapped-spellings f {F} i k = record {
-  one = λ s t y h g. k.one s t h.0 h.2 (subst (λ x. F shortest t x) (i g.0 h.0 (g.1 ∙ sym h.1)) g.2);
-  wider = λ s y h. (h.0, h.1, k.wider s h.0 h.2);
-  shorter = λ s y h. let a = k.shorter s h.0 h.2 in (a.0, (h.0, h.1, a.1), a.2);
+  one = λ w s t y h g. k.one w s t h.0 h.2 (subst (λ x. F (least w) t x) (i g.0 h.0 (g.1 ∙ sym h.1)) g.2);
+  wider = λ m n below s y h. (h.0, h.1, k.wider m n below s h.0 h.2);
+  shorter = λ w s y h. let a = k.shorter w s h.0 h.2 in (a.0, (h.0, h.1, a.1), a.2);
 }
 
 pub mapped_unique : {X Y : Type 0} (f : X → Y) {F : Format X} → IsInjective f → UniqueReading F → UniqueReading (mapped f F)
@@ -155,11 +155,11 @@ pub tagged-spellings : {X Y : Type 0} {F : Format X} {G : X → Format Y} (tag :
 tagged-spellings {F} {G} tag tells k l =
     let both = Then-spellings k l in
     record {
-      one = λ s t y h g.
-          let same : (g.0.0, g.0.1) ≡ (h.0.0, h.0.1) = λ i. ((tag_of F G tag tells shortest t y g ∙ sym (tag_of F G tag tells shortest s y h)) i, (g.1 ∙ sym h.1) i) in
-          both.one s t h.0 h.2 (subst (λ p. Then F G shortest t p) same g.2);
-      wider = λ s y h. (h.0, h.1, both.wider s h.0 h.2);
-      shorter = λ s y h. let a = both.shorter s h.0 h.2 in (a.0, (h.0, h.1, a.1), a.2);
+      one = λ w s t y h g.
+          let same : (g.0.0, g.0.1) ≡ (h.0.0, h.0.1) = λ i. ((tag_of F G tag tells (least w) t y g ∙ sym (tag_of F G tag tells (least w) s y h)) i, (g.1 ∙ sym h.1) i) in
+          both.one w s t h.0 h.2 (subst (λ p. Then F G (least w) t p) same g.2);
+      wider = λ m n below s y h. (h.0, h.1, both.wider m n below s h.0 h.2);
+      shorter = λ w s y h. let a = both.shorter w s h.0 h.2 in (a.0, (h.0, h.1, a.1), a.2);
     }
 
 pub tagged_unique : {X Y : Type 0} {F : Format X} {G : X → Format Y} (tag : Y → X) → TellsTag G tag → UniqueReading F → ((x : X) → UniqueReading (G x)) → UniqueReading (tagged F G)
@@ -202,19 +202,47 @@ either_unique {X} {F} {G} clash none k l = record { alone = alone; spellings = r
     alone mode s t r u x y (inr h) (inl g) e = absurd (clash mode t s u r y x g h (sym e))
     alone mode s t r u x y (inr h) (inr g) e = l.alone mode s t r u x y h g e
 
-    one : HasOneSpelling (one_of F G shortest)
-    one s t x (inl h) (inl g) = k.spellings.one s t x h g
-    one s t x (inl h) (inr g) = absurd (none shortest shortest s t x h g)
-    one s t x (inr h) (inl g) = absurd (none shortest shortest t s x g h)
-    one s t x (inr h) (inr g) = l.spellings.one s t x h g
+    one : (w : Grammar) → HasOneSpelling (one_of F G (least w))
+    one w s t x (inl h) (inl g) = k.spellings.one w s t x h g
+    one w s t x (inl h) (inr g) = absurd (none (least w) (least w) s t x h g)
+    one w s t x (inr h) (inl g) = absurd (none (least w) (least w) t s x g h)
+    one w s t x (inr h) (inr g) = l.spellings.one w s t x h g
 
-    wider : IsPartOf (one_of F G shortest) (one_of F G wide)
-    wider s x (inl h) = inl (k.spellings.wider s x h)
-    wider s x (inr h) = inr (l.spellings.wider s x h)
+    wider : (m n : Mode) → Below m n → IsPartOf (one_of F G m) (one_of F G n)
+    wider m n below s x (inl h) = inl (k.spellings.wider m n below s x h)
+    wider m n below s x (inr h) = inr (l.spellings.wider m n below s x h)
 
-    shorter : IsShortenedBy (one_of F G wide) (one_of F G shortest)
-    shorter s x (inl h) = let a = k.spellings.shorter s x h in (a.0, inl a.1, a.2)
-    shorter s x (inr h) = let a = l.spellings.shorter s x h in (a.0, inr a.1, a.2)
+    shorter : (w : Grammar) → IsShortenedBy (one_of F G (padded w)) (one_of F G (least w))
+    shorter w s x (inl h) = let a = k.spellings.shorter w s x h in (a.0, inl a.1, a.2)
+    shorter w s x (inr h) = let a = l.spellings.shorter w s x h in (a.0, inr a.1, a.2)
+
+-- one of two formats with different first bytes, in one mode
+pub one_of_alone : {X : Type 0} {F G : Format X} → BeginNeverAlike F G → (mode : Mode) → IsReadAlone (F mode) → IsReadAlone (G mode) → IsReadAlone (one_of F G mode)
+one_of_alone clash mode k l s t r u x y (inl h) (inl g) e = k s t r u x y h g e
+one_of_alone clash mode k l s t r u x y (inl h) (inr g) e = absurd (clash mode s t r u x y h g e)
+one_of_alone clash mode k l s t r u x y (inr h) (inl g) e = absurd (clash mode t s u r y x g h (sym e))
+one_of_alone clash mode k l s t r u x y (inr h) (inr g) e = l s t r u x y h g e
+
+-- What builders write is read uniquely, and so is what the standard admits, where its fewest bytes are its own.
+pub by_mode_unique : {X : Type 0} (F G H : Format X) → UniqueReading F → UniqueReading G → IsReadAlone (H standard) → IsPartOf (F wide) (H standard) → IsPartOf (G tight) (H standard) → IsShortenedBy (H standard) (G tight) → UniqueReading (by_mode F G H)
+by_mode_unique {X} F G H f g h admits holds shrinks = record {
+  alone = alone;
+  spellings = record { one = one; wider = below_cases (λ m n. IsPartOf (by_mode F G H m) (by_mode F G H n)) (f.spellings.wider shortest wide tt) holds admits; shorter = shorter };
+}
+  where
+    alone : (mode : Mode) → IsReadAlone (by_mode F G H mode)
+    alone shortest = f.alone shortest
+    alone wide = f.alone wide
+    alone tight = g.alone tight
+    alone standard = h
+
+    one : (w : Grammar) → HasOneSpelling (by_mode F G H (least w))
+    one builders = f.spellings.one builders
+    one admitted = g.spellings.one admitted
+
+    shorter : (w : Grammar) → IsShortenedBy (by_mode F G H (padded w)) (by_mode F G H (least w))
+    shorter builders = f.spellings.shorter builders
+    shorter admitted = shrinks
 
 pub one_of_unique : {X : Type 0} (P Q : ℕ → Type 0) {F G : Format X} → AreApart P Q → BeginsWith P F → BeginsWith Q G → HaveNoneInCommon F G → UniqueReading F → UniqueReading G → UniqueReading (one_of F G)
 one_of_unique P Q {F} {G} apart p q none k l = either_unique (begin_apart P Q apart p q) none k l
@@ -228,7 +256,7 @@ coded_unique code decode back = record {
       let f : code x ∷ r ≡ code y ∷ q = subst (λ z. z ++ r ≡ code y ∷ q) h (subst (λ z. s ++ r ≡ z ++ q) g e) in
       let same : code x ≡ code y = cc f in
       (sym (back x) ∙ ap decode same ∙ back y, h ∙ ap (λ b. b ∷ []) same ∙ sym g, cc f);
-  spellings = record { one = λ s t x h g. h ∙ sym g; wider = λ s x h. h; shorter = λ s x h. (s, h, le_refl (length s)) };
+  spellings = record { one = λ w s t x h g. h ∙ sym g; wider = λ m n below s x h. h; shorter = λ w s x h. (s, h, le_refl (length s)) };
 }
 
 pub byte_unique : UniqueReading byte
@@ -237,7 +265,7 @@ byte_unique = coded_unique (λ b. b) (λ b. b) (λ b. refl)
 pub any_bytes_whole : UniqueWholeReading any_bytes
 any_bytes_whole = record {
   whole = λ mode s x y h g. sym h ∙ g;
-  spellings = record { one = λ s t x h g. h ∙ sym g; wider = λ s x h. h; shorter = λ s x h. (s, h, le_refl (length s)) };
+  spellings = record { one = λ w s t x h g. h ∙ sym g; wider = λ m n below s x h. h; shorter = λ w s x h. (s, h, le_refl (length s)) };
 }
 
 -- two fronts of one length
@@ -254,7 +282,7 @@ raw_bytes_unique n = record {
   alone = λ mode s t r q x y h g e.
       let a = same_fronts s t r q (ap length h.0 ∙ h.1 ∙ sym g.1 ∙ ap length (sym g.0)) e in
       (sym h.0 ∙ a.0 ∙ g.0, a.0, a.1);
-  spellings = record { one = λ s t x h g. h.0 ∙ sym g.0; wider = λ s x h. h; shorter = λ s x h. (s, h, le_refl (length s)) };
+  spellings = record { one = λ w s t x h g. h.0 ∙ sym g.0; wider = λ m n below s x h. h; shorter = λ w s x h. (s, h, le_refl (length s)) };
 }
 
 same_bytes : (s t : List ℕ) → AreBytes s → AreBytes t → length s ≡ length t → bytes_sum s ≡ bytes_sum t → s ≡ t
@@ -268,7 +296,7 @@ little_endian_unique n = record {
   alone = λ mode s t r q x y h g e.
       let a = same_fronts s t r q (h.2 ∙ sym g.2) e in
       (sym h.0 ∙ ap bytes_sum a.0 ∙ g.0, a.0, a.1);
-  spellings = record { one = λ s t x h g. same_bytes s t h.1 g.1 (h.2 ∙ sym g.2) (h.0 ∙ sym g.0); wider = λ s x h. h; shorter = λ s x h. (s, h, le_refl (length s)) };
+  spellings = record { one = λ w s t x h g. same_bytes s t h.1 g.1 (h.2 ∙ sym g.2) (h.0 ∙ sym g.0); wider = λ m n below s x h. h; shorter = λ w s x h. (s, h, le_refl (length s)) };
 }
 
 -- ---- members
@@ -276,19 +304,19 @@ little_endian_unique n = record {
 pub members-spellings : {X : Type 0} {F : Format X} → HasSpellings F → HasSpellings (members F)
 members-spellings {X} {F} k = record { one = one; wider = wider; shorter = shorter }
   where
-    one : HasOneSpelling (members F shortest)
-    one s t [] h g = h ∙ sym g
-    one s t (x ∷ xs) h g = same_joined s t h.0 h.1 g.0 g.1 h.2 g.2 (k.one h.0 g.0 x h.3 g.3) (one h.1 g.1 xs h.4 g.4)
+    one : (w : Grammar) → HasOneSpelling (members F (least w))
+    one w s t [] h g = h ∙ sym g
+    one w s t (x ∷ xs) h g = same_joined s t h.0 h.1 g.0 g.1 h.2 g.2 (k.one w h.0 g.0 x h.3 g.3) (one w h.1 g.1 xs h.4 g.4)
 
-    wider : IsPartOf (members F shortest) (members F wide)
-    wider s [] h = h
-    wider s (x ∷ xs) h = (h.0, h.1, h.2, k.wider h.0 x h.3, wider h.1 xs h.4)
+    wider : (m n : Mode) → Below m n → IsPartOf (members F m) (members F n)
+    wider m n below s [] h = h
+    wider m n below s (x ∷ xs) h = (h.0, h.1, h.2, k.wider m n below h.0 x h.3, wider m n below h.1 xs h.4)
 
-    shorter : IsShortenedBy (members F wide) (members F shortest)
-    shorter s [] h = (s, h, le_refl (length s))
-    shorter s (x ∷ xs) h =
-        let a = k.shorter h.0 x h.3 in
-        let b = shorter h.1 xs h.4 in
+    shorter : (w : Grammar) → IsShortenedBy (members F (padded w)) (members F (least w))
+    shorter w s [] h = (s, h, le_refl (length s))
+    shorter w s (x ∷ xs) h =
+        let a = k.shorter w h.0 x h.3 in
+        let b = shorter w h.1 xs h.4 in
         (a.0 ++ b.0, (a.0, b.0, refl, a.1, b.1), omega (arith, a.2, b.2, length-append a.0 b.0, ap length h.2, length-append h.0 h.1))
 
 as_many : {X : Type 0} (F : Format X) → UniqueReading F → (mode : Mode) (s t r q : List ℕ) (xs ys : List X) → length xs ≡ length ys → members F mode s xs → members F mode t ys → s ++ r ≡ t ++ q → (xs ≡ ys) × (s ≡ t) × (r ≡ q)
@@ -334,19 +362,19 @@ ended_unique {X} stop {F} apart k = record { alone = alone; spellings = record {
         let b = alone mode h.1 g.1 r q xs ys h.4 g.4 a.2 in
         (ap₂ ◌∷◌ a.0 b.0, same_joined s t h.0 h.1 g.0 g.1 h.2 g.2 a.1 b.1, b.2)
 
-    one : HasOneSpelling (ended stop F shortest)
-    one s t [] h g = h ∙ sym g
-    one s t (x ∷ xs) h g = same_joined s t h.0 h.1 g.0 g.1 h.2 g.2 (k.spellings.one h.0 g.0 x h.3 g.3) (one h.1 g.1 xs h.4 g.4)
+    one : (w : Grammar) → HasOneSpelling (ended stop F (least w))
+    one w s t [] h g = h ∙ sym g
+    one w s t (x ∷ xs) h g = same_joined s t h.0 h.1 g.0 g.1 h.2 g.2 (k.spellings.one w h.0 g.0 x h.3 g.3) (one w h.1 g.1 xs h.4 g.4)
 
-    wider : IsPartOf (ended stop F shortest) (ended stop F wide)
-    wider s [] h = h
-    wider s (x ∷ xs) h = (h.0, h.1, h.2, k.spellings.wider h.0 x h.3, wider h.1 xs h.4)
+    wider : (m n : Mode) → Below m n → IsPartOf (ended stop F m) (ended stop F n)
+    wider m n below s [] h = h
+    wider m n below s (x ∷ xs) h = (h.0, h.1, h.2, k.spellings.wider m n below h.0 x h.3, wider m n below h.1 xs h.4)
 
-    shorter : IsShortenedBy (ended stop F wide) (ended stop F shortest)
-    shorter s [] h = (s, h, le_refl (length s))
-    shorter s (x ∷ xs) h =
-        let a = k.spellings.shorter h.0 x h.3 in
-        let b = shorter h.1 xs h.4 in
+    shorter : (w : Grammar) → IsShortenedBy (ended stop F (padded w)) (ended stop F (least w))
+    shorter w s [] h = (s, h, le_refl (length s))
+    shorter w s (x ∷ xs) h =
+        let a = k.spellings.shorter w h.0 x h.3 in
+        let b = shorter w h.1 xs h.4 in
         (a.0 ++ b.0, (a.0, b.0, refl, a.1, b.1), omega (arith, a.2, b.2, length-append a.0 b.0, ap length h.2, length-append h.0 h.1))
 
 -- ---- a count and members, a size and content
@@ -358,9 +386,9 @@ vec_unique {X} {F} k = record {
       let b = as_many F k mode h.back g.back r q xs ys a.0 h.second g.second a.2 in
       (b.0, same_joined s t h.front h.back g.front g.back h.joined g.joined a.1 b.1, b.2);
   spellings = record {
-    one = λ s t xs h g. both.one s t (length xs, xs) h g;
-    wider = λ s xs h. both.wider s (length xs, xs) h;
-    shorter = λ s xs h. both.shorter s (length xs, xs) h;
+    one = λ w s t xs h g. both.one w s t (length xs, xs) h g;
+    wider = λ m n below s xs h. both.wider m n below s (length xs, xs) h;
+    shorter = λ w s xs h. both.shorter w s (length xs, xs) h;
   };
 }
   where
@@ -374,13 +402,13 @@ frame_unique {F} k = record {
       let b = same_fronts h.content g.content r q a.0 a.2 in
       (k.whole mode h.content x y h.spelled (subst (λ z. F mode z y) (sym b.0) g.spelled), same_joined s t h.front h.content g.front g.content h.joined g.joined a.1 b.0, b.1);
   spellings = record {
-    one = λ s t x h g.
-        let same = k.spellings.one h.content g.content x h.spelled g.spelled in
-        same_joined s t h.front h.content g.front g.content h.joined g.joined (u32_unique.spellings.one h.front g.front (length h.content) h.size (subst (λ z. u32 shortest g.front (length z)) (sym same) g.size)) same;
-    wider = λ s x h. record { front = h.front; content = h.content; joined = h.joined; size = u32_unique.spellings.wider h.front (length h.content) h.size; spelled = k.spellings.wider h.content x h.spelled };
-    shorter = λ s x h.
-        let b = k.spellings.shorter h.content x h.spelled in
-        let a = u32-less h.front (length h.content) (length b.0) b.2 h.size in
+    one = λ w s t x h g.
+        let same = k.spellings.one w h.content g.content x h.spelled g.spelled in
+        same_joined s t h.front h.content g.front g.content h.joined g.joined (u32_unique.spellings.one w h.front g.front (length h.content) h.size (subst (λ z. u32 (least w) g.front (length z)) (sym same) g.size)) same;
+    wider = λ m n below s x h. record { front = h.front; content = h.content; joined = h.joined; size = u32_unique.spellings.wider m n below h.front (length h.content) h.size; spelled = k.spellings.wider m n below h.content x h.spelled };
+    shorter = λ w s x h.
+        let b = k.spellings.shorter w h.content x h.spelled in
+        let a = u32-less w h.front (length h.content) (length b.0) b.2 h.size in
         (a.0 ++ b.0, record { front = a.0; content = b.0; joined = refl; size = a.1; spelled = b.1 }, omega (arith, a.2, b.2, length-append a.0 b.0, ap length h.joined, length-append h.front h.content));
   };
 }

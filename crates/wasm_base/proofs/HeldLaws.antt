@@ -4,7 +4,7 @@ use Rattle.std.proofs.lemmas.List.{map-append}
 use Rattle.std.specs.List.{AllByRecursion, AllZip}
 use Rattle.wasm_base.specs.Entries.{Kind, Entry, Given, Raw, entry_text, Means, HoldsItems, SpellsWide, HoldsWide, ItemLaws}
 use Rattle.wasm_base.specs.Laws.{HoldsMore, HoldsMoreWide}
-use Rattle.wasm_base.specs.Numbers.{wide}
+use Rattle.wasm_base.specs.Numbers.{wide, shortest}
 use Rattle.wasm_base.specs.Texts.{FrameFits}
 use Rattle.wasm_base.proofs.EntryLaws.{entry_spelled}
 
@@ -48,7 +48,7 @@ module _ {Record Item : Type 0} (kind : Kind Record Item) (laws : ItemLaws kind)
   entries_wide [] (item ∷ items) means = absurd means
   entries_wide (entry ∷ entries) [] means = absurd means
   entries_wide (entry ∷ entries) (item ∷ items) means =
-      (λ fits. laws.alone.spellings.wider (entry_text kind.text entry) item (entry_spelled kind laws entry item fits means.0), entries_wide entries items means.1)
+      (λ fits. laws.alone.spellings.wider shortest wide tt (entry_text kind.text entry) item (entry_spelled kind laws entry item fits means.0), entries_wide entries items means.1)
 
   one_wide : (pieces : List (List ℕ)) (items : List Item) (piece : List ℕ) (item : Item) → HoldsWide kind.format pieces items → SpellsWide kind.format piece item → HoldsWide kind.format (pieces ++ piece ∷ []) (items ++ item ∷ [])
   one_wide pieces items piece item holds spells = record { spelled = zip_more (SpellsWide kind.format) pieces items piece item holds.spelled spells }
@@ -69,4 +69,4 @@ module _ {Record Item : Type 0} (kind : Kind Record Item) (laws : ItemLaws kind)
 -- of records without expressions, which are plain in both ways alike
 pub plain_more_wide : {Record Item : Type 0} {kind : Kind Record Item} → ItemLaws kind → ((given : Record) → kind.IsPlain given → kind.IsPlainWide given) → ((given : Record) → kind.IsPlainWide given → kind.IsPlain given) → HoldsMoreWide kind
 plain_more_wide {kind = kind} laws wider plain =
-    holds_more_wide kind laws wider (λ given are fits. laws.alone.spellings.wider (kind.text given) (kind.normal_form given) (laws.spelled given (plain given are) fits))
+    holds_more_wide kind laws wider (λ given are fits. laws.alone.spellings.wider shortest wide tt (kind.text given) (kind.normal_form given) (laws.spelled given (plain given are) fits))

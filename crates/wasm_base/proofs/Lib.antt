@@ -10,6 +10,7 @@ pub mod NothingLaws
 pub mod ModuleLaws
 pub mod BaseLaws
 pub mod TypeLaws
+pub mod StandardTypeLaws
 pub mod Payloads
 pub mod SectionLaws
 pub mod Calls

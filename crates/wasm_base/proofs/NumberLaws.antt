@@ -4,9 +4,9 @@ use Rattle.std.proofs.lemmas.Bool.{cases_lt, cases_eq, lt-ltb, le-ltb}
 use Rattle.std.proofs.lemmas.Nat.{pow-add}
 use Rattle.std.proofs.Math.Nat.{pow-suc, pow-le-pow_right}
 use Rattle.std.proofs.lemmas.Int.{ints}
-use Rattle.wasm_base.specs.Numbers.{Mode, shortest, wide, AreGroups, groups_sum, last_byte, byte_limit, IsUnsignedSize, Unsigned, signed_sum, IsShortSigned, Signed}
+use Rattle.wasm_base.specs.Numbers.{Mode, shortest, wide, AreGroups, groups_sum, last_byte, byte_limit, IsUnsignedSize, Unsigned, signed_sum, IsShortSigned, Signed, Grammar, Below, least, padded, tight, standard, builders, admitted}
 use Rattle.wasm_base.specs.Formats.{Format, u32}
-use Rattle.wasm_base.specs.Reading.{UniqueReading}
+use Rattle.wasm_base.specs.Reading.{UniqueReading, HasOneSpelling, IsPartOf, IsShortenedBy}
 
 -- The last byte of a group is told by its bit 7: no groups begin others.
 pub groups_apart : (s t r q : List ℕ) → AreGroups s → AreGroups t → s ++ r ≡ t ++ q → (s ≡ t) × (r ≡ q)
@@ -250,10 +250,32 @@ shortened (b ∷ c ∷ s) h = go (shortened (c ∷ s) h.2)
 
 -- A lesser number has a spelling that is no longer.
 abbrev pub ShortenLess : Format ℕ → Type 0
-ShortenLess F = (s : List ℕ) (n v : ℕ) → v ≤ n → F wide s n → (t : List ℕ) × F shortest t v × (length t ≤ length s)
+ShortenLess F = (w : Grammar) (s : List ℕ) (n v : ℕ) → v ≤ n → F (padded w) s n → (t : List ℕ) × F (least w) t v × (length t ≤ length s)
+
+-- A property of modes, one below the other, that holds of the three pairs.
+pub below_cases : (P : Mode → Mode → Type 0) → P shortest wide → P tight standard → P wide standard → (m n : Mode) → Below m n → P m n
+below_cases P a b c shortest wide h = a
+below_cases P a b c tight standard h = b
+below_cases P a b c wide standard h = c
+below_cases P a b c shortest shortest h = absurd h
+below_cases P a b c shortest tight h = absurd h
+below_cases P a b c shortest standard h = absurd h
+below_cases P a b c wide shortest h = absurd h
+below_cases P a b c wide wide h = absurd h
+below_cases P a b c wide tight h = absurd h
+below_cases P a b c tight shortest h = absurd h
+below_cases P a b c tight wide h = absurd h
+below_cases P a b c tight tight h = absurd h
+below_cases P a b c standard shortest h = absurd h
+below_cases P a b c standard wide h = absurd h
+below_cases P a b c standard tight h = absurd h
+below_cases P a b c standard standard h = absurd h
 
 pub unsigned-less : (bits : ℕ) → 0 < bits → ShortenLess (λ mode. Unsigned mode bits)
-unsigned-less bits some s n v l h =
+unsigned-less bits some builders s n v l h =
+    let t = lesser s v h.groups (omega (arith, h.total)) in
+    (t.0, record { groups = t.1; total = t.2; range = omega (arith, h.range); size = t.3 }, t.4)
+unsigned-less bits some admitted s n v l h =
     let t = lesser s v h.groups (omega (arith, h.total)) in
     (t.0, record { groups = t.1; total = t.2; range = omega (arith, h.range); size = t.3 }, t.4)
 
@@ -263,11 +285,21 @@ unsigned_unique bits some = record {
       let a = groups_apart s t r q h.groups g.groups e in
       (sym h.total ∙ ap groups_sum a.0 ∙ g.total, a.0, a.1);
   spellings = record {
-    one = λ s t x h g. unsigned_one s t h.groups g.groups h.size g.size (h.total ∙ sym g.total);
-    wider = λ s x h. record { groups = h.groups; total = h.total; range = h.range; size = short_is_within bits s some h.groups (omega (arith, h.total, h.range)) h.size };
-    shorter = λ s x h. unsigned-less bits some s x x (le_refl x) h;
+    one = one;
+    wider = below_cases (λ m n. IsPartOf (Unsigned m bits) (Unsigned n bits)) pads pads_tight (λ s x h. record { groups = h.groups; total = h.total; range = h.range; size = h.size });
+    shorter = λ w s x h. unsigned-less bits some w s x x (le_refl x) h;
   };
 }
+  where
+    one : (w : Grammar) → HasOneSpelling (Unsigned (least w) bits)
+    one builders s t x h g = unsigned_one s t h.groups g.groups h.size g.size (h.total ∙ sym g.total)
+    one admitted s t x h g = unsigned_one s t h.groups g.groups h.size g.size (h.total ∙ sym g.total)
+
+    pads : IsPartOf (Unsigned shortest bits) (Unsigned wide bits)
+    pads s x h = record { groups = h.groups; total = h.total; range = h.range; size = short_is_within bits s some h.groups (omega (arith, h.total, h.range)) h.size }
+
+    pads_tight : IsPartOf (Unsigned tight bits) (Unsigned standard bits)
+    pads_tight s x h = record { groups = h.groups; total = h.total; range = h.range; size = short_is_within bits s some h.groups (omega (arith, h.total, h.range)) h.size }
 
 pub signed_unique : (bits : ℕ) → 0 < bits → UniqueReading (λ mode. Signed mode bits)
 signed_unique bits some = record {
@@ -275,13 +307,29 @@ signed_unique bits some = record {
       let a = groups_apart s t r q h.groups g.groups e in
       (sym h.total ∙ ap signed_sum a.0 ∙ g.total, a.0, a.1);
   spellings = record {
-    one = λ s t x h g. signed_one s t h.groups g.groups h.size g.size (h.total ∙ sym g.total);
-    wider = λ s x h. record { groups = h.groups; total = h.total; above = h.above; below = h.below; size = short_signed_is_within bits s some h.groups h.size (rw h.total h.above) (rw h.total h.below) };
-    shorter = λ s x h.
-        let t = shortened s h.groups in
-        (t.0, record { groups = t.1; total = t.2 ∙ h.total; above = h.above; below = h.below; size = t.3 }, t.4);
+    one = one;
+    wider = below_cases (λ m n. IsPartOf (Signed m bits) (Signed n bits)) pads pads_tight (λ s x h. record { groups = h.groups; total = h.total; above = h.above; below = h.below; size = h.size });
+    shorter = shorter;
   };
 }
+  where
+    one : (w : Grammar) → HasOneSpelling (Signed (least w) bits)
+    one builders s t x h g = signed_one s t h.groups g.groups h.size g.size (h.total ∙ sym g.total)
+    one admitted s t x h g = signed_one s t h.groups g.groups h.size g.size (h.total ∙ sym g.total)
+
+    pads : IsPartOf (Signed shortest bits) (Signed wide bits)
+    pads s x h = record { groups = h.groups; total = h.total; above = h.above; below = h.below; size = short_signed_is_within bits s some h.groups h.size (rw h.total h.above) (rw h.total h.below) }
+
+    pads_tight : IsPartOf (Signed tight bits) (Signed standard bits)
+    pads_tight s x h = record { groups = h.groups; total = h.total; above = h.above; below = h.below; size = short_signed_is_within bits s some h.groups h.size (rw h.total h.above) (rw h.total h.below) }
+
+    shorter : (w : Grammar) → IsShortenedBy (Signed (padded w) bits) (Signed (least w) bits)
+    shorter builders s x h =
+        let t = shortened s h.groups in
+        (t.0, record { groups = t.1; total = t.2 ∙ h.total; above = h.above; below = h.below; size = t.3 }, t.4)
+    shorter admitted s x h =
+        let t = shortened s h.groups in
+        (t.0, record { groups = t.1; total = t.2 ∙ h.total; above = h.above; below = h.below; size = t.3 }, t.4)
 
 pub u32_unique : UniqueReading u32
 u32_unique = unsigned_unique 32 (omega arith)
@@ -293,3 +341,5 @@ u32-less = unsigned-less 32 (omega arith)
 pub u32_small : (mode : Mode) (n : ℕ) → n < 128 → u32 mode (n ∷ []) n
 u32_small shortest n h = record { groups = h; total = omega arith; range = omega arith; size = inl refl }
 u32_small wide n h = record { groups = h; total = omega arith; range = omega arith; size = omega arith }
+u32_small tight n h = record { groups = h; total = omega arith; range = omega arith; size = inl refl }
+u32_small standard n h = record { groups = h; total = omega arith; range = omega arith; size = omega arith }

@@ -36,9 +36,9 @@ pub numbered_unique : {X : Type 0} (code : X → ℕ) (decode : ℕ → X) → (
 numbered_unique code decode back = record {
   alone = λ mode s t r q x y h g e. let a = u32_unique.alone mode s t r q (code x) (code y) h g e in (sym (back x) ∙ ap decode a.0 ∙ back y, a.1, a.2);
   spellings = record {
-    one = λ s t x h g. u32_unique.spellings.one s t (code x) h g;
-    wider = λ s x h. u32_unique.spellings.wider s (code x) h;
-    shorter = λ s x h. u32_unique.spellings.shorter s (code x) h;
+    one = λ w s t x h g. u32_unique.spellings.one w s t (code x) h g;
+    wider = λ m n below s x h. u32_unique.spellings.wider m n below s (code x) h;
+    shorter = λ w s x h. u32_unique.spellings.shorter w s (code x) h;
   };
 }
 

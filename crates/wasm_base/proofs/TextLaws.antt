@@ -5,9 +5,9 @@ use Rattle.std.proofs.lemmas.Int.{ints}
 use Rattle.std.proofs.Math.Nat.{pow-suc}
 use Rattle.std.proofs.lemmas.List.Elements.{All-head, All-tail}
 use Rattle.std.specs.List.{All, AllZip, flat_map}
-use Rattle.wasm_base.specs.Numbers.{Mode, shortest, wide, AreGroups, groups_sum, IsUnsignedSize, signed_sum, IsShortSigned, next_group, last_group, groups_text, unsigned_text, signed_text}
+use Rattle.wasm_base.specs.Numbers.{Mode, shortest, wide, AreGroups, groups_sum, IsUnsignedSize, signed_sum, IsShortSigned, next_group, last_group, groups_text, unsigned_text, signed_text, tight, standard, builders, IsOfBuilders}
 use Rattle.wasm_base.specs.Formats.{Format, u32, u64, s32, s64, s33, byte, any_bytes, little_endian, tagged, members, vec, frame, name}
-use Rattle.wasm_base.specs.Reading.{ReadsAlone, ReadsAloneWide, ReadsWhole, UniqueReading, UniqueWholeReading}
+use Rattle.wasm_base.specs.Reading.{ReadsAlone, ReadsAloneWide, ReadsWhole, UniqueReading, UniqueWholeReading, HasSpellings, IsPartOf}
 use Rattle.wasm_base.specs.Texts.{longest, vec_text, VecFits, frame_text, FrameFits, little_endian_text}
 use Rattle.wasm_base.specs.Pieces.{joined, section_text, SectionFits}
 use Rattle.wasm_base.specs.Calls.{ReadsBack}
@@ -18,17 +18,30 @@ use Rattle.wasm_base.proofs.FormatLaws.{any_bytes_whole, frame_unique}
 
 -- ---- a text that is read
 
-pub spelled_in : {X : Type 0} {F : Format X} {text : List ℕ} {x : X} → UniqueReading F → F shortest text x → (mode : Mode) → F mode text x
-spelled_in f spelled shortest = spelled
-spelled_in {text = text} {x = x} f spelled wide = f.spellings.wider text x spelled
+-- in each mode of the builders' grammar
+pub spelled_in : {X : Type 0} {F : Format X} {text : List ℕ} {x : X} → UniqueReading F → F shortest text x → (mode : Mode) → IsOfBuilders mode → F mode text x
+spelled_in f spelled shortest of = spelled
+spelled_in {text = text} {x = x} f spelled wide of = f.spellings.wider shortest wide tt text x spelled
+spelled_in f spelled tight of = absurd of
+spelled_in f spelled standard of = absurd of
+
+spelled_standard : {X : Type 0} {F : Format X} {text : List ℕ} {x : X} → HasSpellings F → F shortest text x → F standard text x
+spelled_standard {text = text} {x = x} k spelled = k.wider wide standard tt text x (k.wider shortest wide tt text x spelled)
+
+-- What any mode admits, the standard's admits.
+in_standard : {X : Type 0} {F : Format X} → HasSpellings F → (mode : Mode) → IsPartOf (F mode) (F standard)
+in_standard k shortest s x h = k.wider wide standard tt s x (k.wider shortest wide tt s x h)
+in_standard k wide s x h = k.wider wide standard tt s x h
+in_standard k tight s x h = k.wider tight standard tt s x h
+in_standard k standard s x h = h
 
 pub reads_alone : {X : Type 0} {F : Format X} {text : List ℕ} {x : X} → UniqueReading F → F shortest text x → ReadsAlone F text x
 reads_alone {F = F} {text = text} {x = x} f spelled = record {
   spelled = spelled;
   alone = λ mode after y rest read.
-      let same = f.alone mode text read.front after rest x y (spelled_in {F = F} f spelled mode) read.spelled read.split in
+      let same = f.alone standard text read.front after rest x y (spelled_standard {F = F} f.spellings spelled) (in_standard {F = F} f.spellings mode read.front y read.spelled) read.split in
       (sym same.0, sym same.2);
-  one = λ other g. f.spellings.one other text x g spelled;
+  one = λ other g. f.spellings.one builders other text x g spelled;
 }
 
 -- what padded numbers spell, with nothing else beside it
@@ -38,15 +51,11 @@ reads_alone_wide {F = F} {text = text} {x = x} f spelled = record {
   alone = λ after y rest read. let same = f.alone wide text read.front after rest x y spelled read.spelled read.split in (sym same.0, sym same.2);
 }
 
-whole_in : {X : Type 0} {F : Format X} {text : List ℕ} {x : X} → UniqueWholeReading F → F shortest text x → (mode : Mode) → F mode text x
-whole_in f spelled shortest = spelled
-whole_in {text = text} {x = x} f spelled wide = f.spellings.wider text x spelled
-
 pub reads_whole : {X : Type 0} {F : Format X} {text : List ℕ} {x : X} → UniqueWholeReading F → F shortest text x → ReadsWhole F text x
 reads_whole {F = F} {text = text} {x = x} f spelled = record {
   spelled = spelled;
-  alone = λ mode y h. f.whole mode text y x h (whole_in {F = F} f spelled mode);
-  one = λ other g. f.spellings.one other text x g spelled;
+  alone = λ mode y h. f.whole standard text y x (in_standard {F = F} f.spellings mode text y h) (spelled_standard {F = F} f.spellings spelled);
+  one = λ other g. f.spellings.one builders other text x g spelled;
 }
 
 -- ---- unsigned numbers
@@ -75,7 +84,10 @@ pub u32_spelled : (n : ℕ) → n < 2 ^ 32 → u32 shortest (unsigned_text n) n
 u32_spelled n h = let t = unsigned_text-spelled n n (le_refl n) in record { groups = t.0; total = t.1; range = h; size = t.2 }
 
 pub u32_in : (mode : Mode) (n : ℕ) → n < 2 ^ 32 → u32 mode (unsigned_text n) n
-u32_in mode n h = spelled_in {F = u32} u32_unique (u32_spelled n h) mode
+u32_in shortest n h = u32_spelled n h
+u32_in wide n h = spelled_in {F = u32} u32_unique (u32_spelled n h) wide tt
+u32_in tight n h = let t = u32_spelled n h in record { groups = t.groups; total = t.total; range = t.range; size = t.size }
+u32_in standard n h = spelled_standard {F = u32} u32_unique.spellings (u32_spelled n h)
 
 pub u64_spelled : (n : ℕ) → n < 2 ^ 64 → u64 shortest (unsigned_text n) n
 u64_spelled n h = let t = unsigned_text-spelled n n (le_refl n) in record { groups = t.0; total = t.1; range = h; size = t.2 }

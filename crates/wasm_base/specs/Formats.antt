@@ -1,7 +1,7 @@
 -- What bytes spell: formats, and how they are put together.
 use Rattle.std.specs.Prelude.{◌≡◌, ◌⊎◌, ℕ, ◌+◌, ◌*◌, ◌<◌, List, [], ◌∷◌, ◌++◌, length, IsUtf8, ℤ, pos, Option, Some, None, Bool, true, false, cond, ◌==◌}
 use Rattle.std.specs.List.{AllByRecursion}
-use Rattle.wasm_base.specs.Numbers.{Mode, Unsigned, Signed}
+use Rattle.wasm_base.specs.Numbers.{Mode, shortest, wide, tight, standard, Unsigned, Signed}
 
 -- which bytes spell which values
 abbrev pub Spelling : Type 0 → Type 1
@@ -181,3 +181,10 @@ any_section = pair byte (frame any_bytes)
 -- module, at that level: the header, and sections up to the last byte
 abbrev pub wasm_module : Format (List (ℕ × List ℕ))
 wasm_module = prefixed header (members any_section)
+
+-- F for what builders write, and of what the standard admits G for the fewest bytes and H for all
+abbrev pub by_mode : {X : Type 0} → Format X → Format X → Format X → Format X
+by_mode F G H shortest = F shortest
+by_mode F G H wide = F wide
+by_mode F G H tight = G tight
+by_mode F G H standard = H standard

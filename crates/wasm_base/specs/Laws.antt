@@ -3,7 +3,7 @@ use Rattle.std.specs.Prelude.{ℕ, ◌^◌, ◌<◌, ℤ, pos, neg_ℤ, ◌≤�
 use Rattle.std.specs.List.{AllByRecursion}
 use Rattle.wasm_base.specs.Entries.{Kind, HoldsItems, HoldsWide}
 use Rattle.wasm_base.specs.Formats.{Format}
-use Rattle.wasm_base.specs.Numbers.{Mode, shortest, wide}
+use Rattle.wasm_base.specs.Numbers.{Mode, shortest, wide, IsOfBuilders}
 use Rattle.wasm_base.specs.Reading.{ReadsNothing}
 use Rattle.wasm_base.specs.Texts.{frame_text, FrameFits}
 
@@ -58,4 +58,4 @@ pub record HoldsMoreWide {Record Item : Type 0} (kind : Kind Record Item) : Type
 
 -- No value stands at the front of the text, whatever follows, and with padded numbers neither.
 pub record NothingStandsWide {X : Type 0} (F : Format X) (text : List ℕ) : Type 0 where
-  pub none : (mode : Mode) (after : List ℕ) → ReadsNothing F mode (text ++ after)
+  pub none : (mode : Mode) → IsOfBuilders mode → (after : List ℕ) → ReadsNothing F mode (text ++ after)

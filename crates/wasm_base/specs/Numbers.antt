@@ -5,6 +5,36 @@ use Rattle.std.specs.Prelude.{◌≡◌, ℕ, zero, suc, Bool, true, false, negs
 pub data Mode : Type 0 where
   shortest : Mode
   wide : Mode
+  tight : Mode
+  standard : Mode
+
+-- Two grammars: what builders write, and all that the standard admits.
+pub data Grammar : Type 0 where
+  builders : Grammar
+  admitted : Grammar
+
+-- numbers in their fewest bytes, in each grammar
+abbrev pub least : Grammar → Mode
+least builders = shortest
+least admitted = tight
+
+-- numbers that may be padded, in each grammar
+abbrev pub padded : Grammar → Mode
+padded builders = wide
+padded admitted = standard
+
+-- What one mode admits, the other admits too.
+abbrev pub Below : Mode → Mode → Type 0
+Below shortest wide = Unit {0}
+Below tight standard = Unit {0}
+Below wide standard = Unit {0}
+Below _ _ = ⊥
+
+-- a mode of the builders' grammar
+abbrev pub IsOfBuilders : Mode → Type 0
+IsOfBuilders shortest = Unit {0}
+IsOfBuilders wide = Unit {0}
+IsOfBuilders _ = ⊥
 
 -- Bit 7 is set in every byte but the last.
 abbrev pub AreGroups : List ℕ → Type 0
@@ -31,6 +61,8 @@ byte_limit bits = (bits + 6) / 7
 abbrev pub IsUnsignedSize : Mode → ℕ → List ℕ → Type 0
 IsUnsignedSize shortest bits s = (length s ≡ 1) ⊎ (0 < last_byte s)
 IsUnsignedSize wide bits s = length s ≤ byte_limit bits
+IsUnsignedSize tight bits s = (length s ≡ 1) ⊎ (0 < last_byte s)
+IsUnsignedSize standard bits s = length s ≤ byte_limit bits
 
 -- unsigned spelling: The bytes s spell the number v of so many bits.
 pub record Unsigned (mode : Mode) (bits : ℕ) (s : List ℕ) (v : ℕ) : Type 0 where
@@ -53,6 +85,8 @@ IsShortSigned _ = Unit {0}
 abbrev pub IsSignedSize : Mode → ℕ → List ℕ → Type 0
 IsSignedSize shortest bits s = IsShortSigned s
 IsSignedSize wide bits s = length s ≤ byte_limit bits
+IsSignedSize tight bits s = IsShortSigned s
+IsSignedSize standard bits s = length s ≤ byte_limit bits
 
 -- signed spelling: The bytes s spell the number v of so many bits, in two's complement.
 pub record Signed (mode : Mode) (bits : ℕ) (s : List ℕ) (v : ℤ) : Type 0 where

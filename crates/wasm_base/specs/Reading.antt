@@ -1,6 +1,6 @@
 -- Unique reading: how many values bytes can spell, and how many spellings a value has.
 use Rattle.std.specs.Prelude.{◌≡◌, ℕ, ◌≤◌, List, ◌∷◌, ◌++◌, length}
-use Rattle.wasm_base.specs.Numbers.{Mode, shortest, wide}
+use Rattle.wasm_base.specs.Numbers.{Mode, Grammar, Below, least, padded, shortest, wide}
 use Rattle.wasm_base.specs.Formats.{Spelling, Format}
 
 -- ---- one text
@@ -61,9 +61,9 @@ IsShortenedBy {X} S T = (s : List ℕ) (x : X) → S s x → (t : List ℕ) × T
 
 -- A value's spellings: at most one shortest, and padded ones beside it.
 pub record HasSpellings {X : Type 0} (F : Format X) : Type 0 where
-  pub one : HasOneSpelling (F shortest)
-  pub wider : IsPartOf (F shortest) (F wide)
-  pub shorter : IsShortenedBy (F wide) (F shortest)
+  pub one : (w : Grammar) → HasOneSpelling (F (least w))
+  pub wider : (m n : Mode) → Below m n → IsPartOf (F m) (F n)
+  pub shorter : (w : Grammar) → IsShortenedBy (F (padded w)) (F (least w))
 
 -- unique reading of a format whose spellings tell their end
 pub record UniqueReading {X : Type 0} (F : Format X) : Type 0 where

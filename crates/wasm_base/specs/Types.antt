@@ -1,7 +1,7 @@
 -- Types: their texts, and which bytes spell them.
 use Rattle.std.specs.Prelude.{◌≢◌, ℕ, ◌^◌, ◌<◌, ◌≤◌, ◌⊎◌, List, [], ◌∷◌, Bool, true, false, pos}
 use Rattle.wasm_base.specs.Numbers.{unsigned_text, signed_text}
-use Rattle.wasm_base.specs.Formats.{Format, u32, byte, s33, fixed, impossible, coded, mapped, such, choice, tagged, one_of}
+use Rattle.wasm_base.specs.Formats.{Format, u32, byte, s33, fixed, impossible, coded, mapped, such, choice, tagged, one_of, by_mode}
 use Rattle.wasm_base.specs.declared.types.AbstractHeapType.{AbstractHeapType}
 use Rattle.wasm_base.specs.declared.types.AbstractHeapType.TheVariants as kinds
 use Rattle.wasm_base.specs.declared.types.HeapType.{HeapType}
@@ -142,3 +142,36 @@ val_type = tagged byte (choice val_tags val_ref)
 -- An index that is spelled as a signed number begins with a byte that is no type's.
 abbrev pub IsIndexByte : ℕ → Type 0
 IsIndexByte b = (b < 0x40) ⊎ (0x80 ≤ b)
+
+-- ---- what the standard admits beside: a byte for each nullable abstract type
+
+-- the nullable reference type to an unshared abstract type
+abbrev pub nullable_abstract : AbstractHeapType → RefType
+nullable_abstract ty = nullable_to (unshared ty)
+
+-- It is not an unshared abstract type, which has a byte of its own.
+abbrev pub HasNoCode : HeapType → Type 0
+HasNoCode (Abstract false ty) = ⊥
+HasNoCode (Abstract true ty) = Unit {0}
+HasNoCode (Concrete index) = Unit {0}
+HasNoCode (Exact index) = Unit {0}
+
+-- in the fewest bytes
+abbrev pub tight_tags : List (ℕ × Format RefType)
+tight_tags = (0x63, mapped nullable_to (such HasNoCode heap_type)) ∷ (0x64, mapped to heap_type) ∷ []
+
+-- all
+abbrev pub admitted_tags : List (ℕ × Format RefType)
+admitted_tags = (0x63, mapped nullable_to heap_type) ∷ (0x64, mapped to heap_type) ∷ []
+
+-- reference type in its fewest bytes
+abbrev pub tight_ref : Format RefType
+tight_ref = one_of (mapped nullable_abstract abstract_type) (tagged byte (choice tight_tags (λ b. impossible)))
+
+-- reference type, as the standard admits it
+abbrev pub admitted_ref : Format RefType
+admitted_ref = one_of (mapped nullable_abstract abstract_type) (tagged byte (choice admitted_tags (λ b. impossible)))
+
+-- reference type in both grammars
+abbrev pub ref_type_in : Format RefType
+ref_type_in = by_mode ref_type tight_ref admitted_ref

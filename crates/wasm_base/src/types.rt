@@ -164,24 +164,6 @@ impl Encode for ValType {
             ValType::F32 => 0x7D,
             ValType::F64 => 0x7C,
             ValType::V128 => 0x7B,
-            ValType::Ref(
-                RefType {
-                    nullable: true,
-                    heap_type: HeapType::Abstract {
-                        shared: false,
-                        ty: AbstractHeapType::Func,
-                    },
-                },
-            ) => 0x70,
-            ValType::Ref(
-                RefType {
-                    nullable: true,
-                    heap_type: HeapType::Abstract {
-                        shared: false,
-                        ty: AbstractHeapType::Extern,
-                    },
-                },
-            ) => 0x6F,
             ValType::Ref(ty) => return ty.encode(sink),
         };
         byte.encode(sink)

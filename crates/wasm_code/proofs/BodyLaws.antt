@@ -72,7 +72,7 @@ grows_by more old new e = record { bytes = e; plain = λ x is held spelled. subs
 
 -- with padded numbers
 pub body_wider : (bytes : List ℕ) (x : Body) → IsPlainBody bytes x → IsWideBody bytes x
-body_wider bytes x plain = record { spelled = body_whole.spellings.wider bytes x plain.spelled }
+body_wider bytes x plain = record { spelled = body_whole.spellings.wider shortest wide tt bytes x plain.spelled }
 
 pub grows_wide : (old more : List ℕ) (x : Body) (is : List Plain) → IsWideBody old x → members (instruction table) wide more is → IsWideBody (old ++ more) (and_then x is)
 grows_wide old more x is h g = record { spelled = grown wide more old x is h.spelled g }
@@ -80,7 +80,7 @@ grows_wide old more x is h g = record { spelled = grown wide more old x is h.spe
 pub grows_by_instruction : {A : Type 0} (i : Instruction A) (old : List ℕ) (x : Body) → IsPlainInstruction i → IsWideBody old x → IsWideBody (old ++ instruction_text i) (and_then x (normal_row i ∷ []))
 grows_by_instruction i old x plain h =
     grows_wide old (instruction_text i) x (normal_row i ∷ []) h
-    (members_one (instruction table) wide (instruction_text i) (normal_row i) (alone.spellings.wider (instruction_text i) (normal_row i) (normal_spelled i plain)))
+    (members_one (instruction table) wide (instruction_text i) (normal_row i) (alone.spellings.wider shortest wide tt (instruction_text i) (normal_row i) (normal_spelled i plain)))
 
 -- ---- locals
 

@@ -213,7 +213,7 @@ spells_wide {bodies = bodies} before = record { raw = before.raw; held = before.
     each_wider [] [] h = tt
     each_wider [] (x ∷ xs) h = absurd h
     each_wider (bytes ∷ raw) [] h = absurd h
-    each_wider (bytes ∷ raw) (x ∷ xs) h = (body_whole.spellings.wider bytes x h.0, each_wider raw xs h.1)
+    each_wider (bytes ∷ raw) (x ∷ xs) h = (body_whole.spellings.wider shortest wide tt bytes x h.0, each_wider raw xs h.1)
 
 -- one more body, of given bytes or of a function
 pub adds_body_wide : {old new : List (List ℕ)} {raw : List ℕ} {bodies : List Body} {x : Body} → SpellsBodiesWide old bodies → new ≡ old ++ frame_text raw ∷ [] → IsWideBody raw x → SpellsBodiesWide new (bodies ++ x ∷ [])

@@ -4,7 +4,7 @@ use Rattle.std.proofs.lemmas.List.Elements.{All-head, All-tail}
 use Rattle.std.specs.Prelude.{⊤}
 use Rattle.std.specs.List.{All, flat_map}
 use Rattle.std.specs.declared.alloc.Global.{Global}
-use Rattle.wasm_base.specs.Numbers.{Mode, shortest}
+use Rattle.wasm_base.specs.Numbers.{Mode, shortest, wide}
 use Rattle.wasm_base.specs.Formats.{Format, such, members, ended}
 use Rattle.wasm_base.specs.Reading.{UniqueReading, UniqueWholeReading, BeginsWith}
 use Rattle.std.specs.declared.vec.Vec.{Vec}
@@ -51,7 +51,7 @@ stored_whole = members_whole (λ b. b ≢ 0x0B) not_end_begins (such_unique IsNo
 
 -- What is plain is so with padded numbers too.
 pub stores_wider : (bytes : List ℕ) (is : List Plain) → StoresInstructions bytes is → StoresWide bytes is
-stores_wider bytes is stored = stored_whole.spellings.wider bytes is stored
+stores_wider bytes is stored = stored_whole.spellings.wider shortest wide tt bytes is stored
 
 -- ---- texts
 

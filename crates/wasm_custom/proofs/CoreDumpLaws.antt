@@ -52,7 +52,7 @@ pub process_back : (content : List ℕ) → NamedFits core_name content → Read
 process_back content fits = record {
   for_each = λ n says.
       reads_alone {F = core_section} core_unique
-      (named_spelled shortest core_name marked_name content n (ascii {bytes = core_name} refl) fits
+      (named_spelled shortest tt core_name marked_name content n (ascii {bytes = core_name} refl) fits
       (subst (λ s. marked_name shortest s n) (sym says.1) (marked_spelled n says.0 (marked_fits n content says.1 fits))));
 }
 

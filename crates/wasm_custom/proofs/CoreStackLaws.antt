@@ -120,7 +120,7 @@ stack_alone front pieces few fits = record {
       subst (λ ps. AllZip (stack_frame shortest) ps said.1) (sym holds.held)
       (entries_spelled frame_items stack_frame_laws holds.entries said.1 (subst (λ ps. length (joined ps) ≤ longest) holds.held short.1) holds.meant) in
       reads_alone {F = stack_section} stack_unique
-      (named_spelled shortest stack_name (pair marked_name (vec stack_frame)) (entries_text front true pieces) said (ascii {bytes = stack_name} refl) fits
+      (named_spelled shortest tt stack_name (pair marked_name (vec stack_frame)) (entries_text front true pieces) said (ascii {bytes = stack_name} refl) fits
       (pair_spelled marked_name (vec stack_frame) front content said.0 said.1 named (listing_spelled shortest true stack_frame pieces said.1 few listed)));
 }
 

@@ -2,7 +2,7 @@
 use Rattle.std.proofs.Common.{◌≡◌, ℕ, ◌+◌, ◌≤◌, List, ◌++◌, length, IsUtf8, refl, sym, subst, arith, length-append}
 use Rattle.wasm_base.specs.Calls.{ReadsBack, ReadsBackBoth}
 use Rattle.wasm_base.specs.Formats.{Format, after, name, any_bytes, pair, custom, just}
-use Rattle.wasm_base.specs.Numbers.{Mode, shortest, wide, unsigned_text}
+use Rattle.wasm_base.specs.Numbers.{Mode, shortest, wide, unsigned_text, IsOfBuilders}
 use Rattle.wasm_base.specs.Reading.{UniqueReading, UniqueWholeReading, ReadsAlone}
 use Rattle.wasm_base.specs.Texts.{longest, frame_text, FrameFits}
 use Rattle.wasm_base.proofs.AfterLaws.{after_whole, after_spelled}
@@ -19,11 +19,11 @@ use Rattle.wasm_reader_base.proofs.ShortTexts.{tagged_appended}
 pub named_unique : {X : Type 0} (n : List ℕ) {F : Format X} → UniqueWholeReading F → UniqueReading (named_section n F)
 named_unique n f = frame_unique (after_whole n name_unique f)
 
-pub named_spelled : {X : Type 0} (mode : Mode) (n : List ℕ) (F : Format X) (content : List ℕ) (x : X) → IsUtf8 n → NamedFits n content → F mode content x → named_section n F mode (named_text n content) x
+pub named_spelled : {X : Type 0} (mode : Mode) → IsOfBuilders mode → (n : List ℕ) (F : Format X) (content : List ℕ) (x : X) → IsUtf8 n → NamedFits n content → F mode content x → named_section n F mode (named_text n content) x
 unfolding named_text
-named_spelled mode n F content x utf8 fits h =
+named_spelled mode of n F content x utf8 fits h =
     frame_in mode (after n name F) (frame_text n ++ content) x fits
-    (after_spelled mode n name F (frame_text n) content x (spelled_in {F = name} name_unique (front_name_spelled n content utf8 fits) mode) h)
+    (after_spelled mode n name F (frame_text n) content x (spelled_in {F = name} name_unique (front_name_spelled n content utf8 fits) mode of) h)
 
 -- the data are no longer than the section
 pub data_fits : (n content : List ℕ) → NamedFits n content → length content ≤ 4294967295

@@ -4,7 +4,7 @@ use Rattle.std.specs.List.{AllZip}
 use Rattle.wasm_base.specs.Calls.{ReadsBack, ReadsBackWide, ReadsBackBoth}
 use Rattle.wasm_base.specs.Entries.{Kind, entry_text, HoldsItems, HoldsWide, ItemLaws}
 use Rattle.wasm_base.specs.Formats.{Format, fixed, vec}
-use Rattle.wasm_base.specs.Numbers.{Mode, shortest, wide}
+use Rattle.wasm_base.specs.Numbers.{Mode, shortest, wide, IsOfBuilders}
 use Rattle.wasm_base.specs.Pieces.{joined}
 use Rattle.wasm_base.specs.Reading.{UniqueReading, UniqueWholeReading, BeginsWith}
 use Rattle.wasm_base.specs.Texts.{longest, frame_text, FrameFits}
@@ -39,14 +39,14 @@ same_fits n front m first counted other pieces ps e f g h fits =
 
 module _ {Record Item : Type 0} (kind : Kind Record Item) (n front : List ℕ) (front_format : Format (Unit {0})) (counted : Bool)
     (laws : ItemLaws kind) (more : FrameLaws kind.format n front front_format counted) where
-  section_spelled : (mode : Mode) (pieces : List (List ℕ)) (items : List Item) → length pieces ≤ longest → NamedFits n (entries_text front counted pieces) → AllZip (kind.format mode) pieces items
+  section_spelled : (mode : Mode) → IsOfBuilders mode → (pieces : List (List ℕ)) (items : List Item) → length pieces ≤ longest → NamedFits n (entries_text front counted pieces) → AllZip (kind.format mode) pieces items
       → named_section n (entries front_format counted kind.format) mode (named_text n (entries_text front counted pieces)) items
-  section_spelled mode pieces items few fits h =
+  section_spelled mode of pieces items few fits h =
       let back = count_text counted (length pieces) ++ joined pieces in
-      let first = spelled_in {F = front_format} more.front_alone more.front_spelled mode in
+      let first = spelled_in {F = front_format} more.front_alone more.front_spelled mode of in
       let listed : entries front_format counted kind.format mode (front ++ back) items =
       ((tt, items), refl, record { front = front; back = back; joined = refl; first = first; second = listing_spelled mode counted kind.format pieces items few h }) in
-      named_spelled mode n (entries front_format counted kind.format) (entries_text front counted pieces) items more.name_utf8 fits listed
+      named_spelled mode of n (entries front_format counted kind.format) (entries_text front counted pieces) items more.name_utf8 fits listed
 
   -- the entries are no longer than the section
   content_fits : (pieces : List (List ℕ)) → NamedFits n (entries_text front counted pieces) → length (joined pieces) ≤ longest
@@ -61,7 +61,7 @@ module _ {Record Item : Type 0} (kind : Kind Record Item) (n front : List ℕ) (
     for_each = λ items holds.
         let held = map (entry_text kind.text) holds.entries in
         reads_alone {F = named_section n (entries front_format counted kind.format)} section_unique
-        (section_spelled shortest pieces items few fits
+        (section_spelled shortest tt pieces items few fits
         (subst (λ ps. AllZip (kind.format shortest) ps items) (sym holds.held)
         (entries_spelled kind laws holds.entries items (subst (λ ps. length (joined ps) ≤ longest) holds.held (content_fits pieces fits)) holds.meant)));
   }
@@ -71,7 +71,7 @@ module _ {Record Item : Type 0} (kind : Kind Record Item) (n front : List ℕ) (
   entries_alone_wide pieces few fits = record {
     for_each = λ items holds.
         reads_alone_wide {F = named_section n (entries front_format counted kind.format)} section_unique
-        (section_spelled wide pieces items few fits (pieces_spelled kind.format pieces items (content_fits pieces fits) holds.spelled));
+        (section_spelled wide tt pieces items few fits (pieces_spelled kind.format pieces items (content_fits pieces fits) holds.spelled));
   }
 
   pub entries_back : (pieces : List (List ℕ)) → length pieces ≤ longest → NamedFits n (entries_text front counted pieces)

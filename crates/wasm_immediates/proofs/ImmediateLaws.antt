@@ -214,8 +214,8 @@ vector_unique =
           let a = f.alone mode s t r q (twos_complement 128 x) (twos_complement 128 y) h.0 g.0 e in
           (same_vector x y h.1 g.1 a.0, a.1, a.2);
       spellings = record {
-        one = λ s t x h g. f.spellings.one s t (twos_complement 128 x) h.0 g.0;
-        wider = λ s x h. h;
-        shorter = λ s x h. let a = f.spellings.shorter s (twos_complement 128 x) h.0 in (a.0, (a.1, h.1), a.2);
+        one = λ w s t x h g. f.spellings.one w s t (twos_complement 128 x) h.0 g.0;
+        wider = λ m n below s x h. h;
+        shorter = λ w s x h. let a = f.spellings.shorter w s (twos_complement 128 x) h.0 in (a.0, (a.1, h.1), a.2);
       };
     }

@@ -1,7 +1,7 @@
 -- Instructions are read uniquely, whatever the table, and plain ones are spelled by their text.
 use Rattle.std.proofs.Common.{◌≡◌, ℕ, ◌+◌, ◌*◌, ◌^◌, ◌<◌, List, [], ◌∷◌, ◌++◌, Bool, true, false, Option, Some, None, refl, sym, ap, subst, arith}
 use Rattle.std.specs.Prelude.{map, ◌↔◌}
-use Rattle.wasm_base.specs.Numbers.{shortest, unsigned_text}
+use Rattle.wasm_base.specs.Numbers.{shortest, unsigned_text, wide, builders}
 use Rattle.wasm_base.specs.Formats.{u32, mapped, when}
 use Rattle.wasm_base.specs.Reading.{ReadsAlone, UniqueReading, IsUniqueWide}
 use Rattle.wasm_base.specs.Types.{val_type, val_text, IsVal}
@@ -150,7 +150,7 @@ same_text table i j h g =
     let a = plain_spelled table i h in
     let b = plain_spelled table j g in (
       (λ e. (f.alone shortest (plain_text i) (plain_text j) [] [] (normal i) (normal j) a b (ap (λ s. s ++ []) e)).0),
-      (λ e. f.spellings.one (plain_text i) (plain_text j) (normal j) (subst (λ x. instruction table shortest (plain_text i) x) e a) b),
+      (λ e. f.spellings.one builders (plain_text i) (plain_text j) (normal j) (subst (λ x. instruction table shortest (plain_text i) x) e a) b),
     )
 
 -- ---- for the laws

@@ -2,7 +2,7 @@
 use Rattle.std.proofs.Common.{◌≡◌, ℕ, ◌≤◌, List, [], ◌++◌, length, refl, sym, ap, subst, ◌∙◌, append-nil}
 use Rattle.wasm_base.specs.Formats.{Format, frame, mapped, wasm_module}
 use Rattle.wasm_base.specs.Modules.{GainsReading, GainsReadingWide}
-use Rattle.wasm_base.specs.Numbers.{shortest, wide}
+use Rattle.wasm_base.specs.Numbers.{shortest, wide, builders}
 use Rattle.wasm_base.specs.Reading.{Reads, ReadsNothing}
 use Rattle.wasm_reader.specs.Kinds.{Contents}
 use Rattle.wasm_reader.specs.Sections.{section, Takes, Shortens}
@@ -42,12 +42,12 @@ padded_stands kind {rest = rest} {x = x} n r = n.none x rest r
 -- What is appended where it is shortened is the shortest text of these items.
 pub shortens_padded : {kind : SectionKind} {padded rest bytes : List ℕ} {x : Contents} {n : ℕ} {old new : List ℕ} → Shortens kind padded n old new → Reads (section kind) wide padded x rest → section kind shortest bytes x → new ≡ old ++ bytes
 shortens_padded {kind = kind} {bytes = bytes} {x = x} {old = old} h r s =
-    h.appended ∙ ap (λ t. old ++ t) ((section_unique kind).spellings.one h.text bytes x (subst (λ z. section kind shortest h.text z) (reads_padded h.takes r) h.spelled) s)
+    h.appended ∙ ap (λ t. old ++ t) ((section_unique kind).spellings.one builders h.text bytes x (subst (λ z. section kind shortest h.text z) (reads_padded h.takes r) h.spelled) s)
 
 -- ---- a section of any kind in shortest form, as `written` says of a buffer
 
 at_front : (kind : SectionKind) {bytes : List ℕ} {x : Contents} → section kind shortest bytes x → Reads (section kind) wide bytes x []
-at_front kind {bytes = bytes} {x = x} s = record { front = bytes; split = sym (append-nil bytes); spelled = (section_unique kind).spellings.wider bytes x s }
+at_front kind {bytes = bytes} {x = x} s = record { front = bytes; split = sym (append-nil bytes); spelled = (section_unique kind).spellings.wider shortest wide tt bytes x s }
 
 -- The reader answers the items that were added.
 pub reads_written : {kind : SectionKind} {bytes : List ℕ} {x y : Contents} {n : ℕ} → Takes kind bytes y n → section kind shortest bytes x → y ≡ x

@@ -296,7 +296,7 @@ named_front m F s t rest n x y h g r =
     let a = h.2 in
     let b = g.2 in
     let same : n ≡ m = (reads_same name_unique r (record { front = a.front; split = a.joined; spelled = a.first })).0 in
-    (b.back, subst (λ z. Reads name wide t z b.back) (sym same) (record { front = b.front; split = b.joined; spelled = name_unique.spellings.wider b.front m b.first }))
+    (b.back, subst (λ z. Reads name wide t z b.back) (sym same) (record { front = b.front; split = b.joined; spelled = name_unique.spellings.wider shortest wide tt b.front m b.first }))
 
 named_kept : {X : Type 0} (f : X → Contents) (m : List ℕ) {F : Format X} (kind : SectionKind) → content kind ≡ mapped f (named_payload m F) → (n : List ℕ) → KeepsName n kind
 named_kept f m {F} kind is n s t rest x h g r =
@@ -334,7 +334,7 @@ custom_kept n s t rest x h g r =
     let b = g.2 in
     let same : n ≡ h.0.0 = (reads_same name_unique r (record { front = a.front; split = a.joined; spelled = a.first })).0 in
     let told : h.0 ≡ g.0 = cc (h.1 ∙ sym g.1) in
-    (b.back, subst (λ z. Reads name wide t z b.back) (sym (same ∙ ap (λ z. z.0) told)) (record { front = b.front; split = b.joined; spelled = name_unique.spellings.wider b.front g.0.0 b.first }))
+    (b.back, subst (λ z. Reads name wide t z b.back) (sym (same ∙ ap (λ z. z.0) told)) (record { front = b.front; split = b.joined; spelled = name_unique.spellings.wider shortest wide tt b.front g.0.0 b.first }))
 
 -- Each of the kinds keeps each name.
 abbrev AllKeepNames : List (List ℕ × SectionKind) → Type 0

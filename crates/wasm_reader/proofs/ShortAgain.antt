@@ -4,7 +4,7 @@ use Rattle.wasm_reader.proofs.KindLaws.{keeps_name}
 use Rattle.std.proofs.Common.{◌≡◌, ◌≢◌, ℕ, ◌+◌, List, [], ◌∷◌, ◌++◌, length, drop, false, Option, Some, None, refl, sym, ap, subst, ◌∙◌, append-nil, arith}
 use Rattle.std.specs.List.{AllByRecursion, flat_map}
 use Rattle.std.proofs.lemmas.List.{append_cancel_left}
-use Rattle.wasm_base.specs.Numbers.{shortest, wide}
+use Rattle.wasm_base.specs.Numbers.{shortest, wide, builders}
 use Rattle.wasm_base.specs.Formats.{any_bytes, frame, header, name, wasm_module}
 use Rattle.wasm_base.specs.Reading.{Reads, ReadsNothing}
 use Rattle.wasm_base.proofs.BaseLaws.{frame_bytes_unique, name_unique}
@@ -74,7 +74,7 @@ module _ (offsets : Offsets) (w v : Rewrite) (i : IsSection w.section) (j : IsSe
   name_after (Some n) e h g =
       let read = read_of (kind_named n) w.section w.text i h in
       let f = h.spelled in
-      let any : frame any_bytes wide h.text f.content = record { front = f.front; content = f.content; joined = f.joined; size = u32_unique.spellings.wider f.front (length f.content) f.size; spelled = refl } in
+      let any : frame any_bytes wide h.text f.content = record { front = f.front; content = f.content; joined = f.joined; size = u32_unique.spellings.wider shortest wide tt f.front (length f.content) f.size; spelled = refl } in
       let same : f.content ≡ v.section.payload = one_payload v.section.framed f.content v.section.payload (subst (λ z. frame any_bytes wide z f.content) (sym h.appended ∙ s.text) any) j.holds in
       let kept = keeps_name n w.section.payload f.content g.1 h.value read.holds f.spelled g.2 in
       one_name v.section.id v.section.payload v.section.name (Some n) j.named (sym s.id ∙ g.0, kept.0, subst (λ z. Reads name wide z n kept.0) same kept.1)
@@ -103,8 +103,8 @@ module _ (offsets : Offsets) (w v : Rewrite) (i : IsSection w.section) (j : IsSe
       let alone = section_unique kind in
       let first : section kind shortest v.section.framed h.0.value = subst (λ z. section kind shortest z h.0.value) (sym h.0.appended ∙ s.text) h.0.spelled in
       let read = read_of kind v.section v.text j k in
-      let same : h.0.value ≡ k.value = (alone.alone wide v.section.framed v.section.framed [] [] h.0.value k.value (alone.spellings.wider v.section.framed h.0.value first) read.whole refl).0 in
-      k.appended ∙ alone.spellings.one k.text v.section.framed k.value k.spelled (subst (λ z. section kind shortest v.section.framed z) same first)
+      let same : h.0.value ≡ k.value = (alone.alone wide v.section.framed v.section.framed [] [] h.0.value k.value (alone.spellings.wider shortest wide tt v.section.framed h.0.value first) read.whole refl).0 in
+      k.appended ∙ alone.spellings.one builders k.text v.section.framed k.value k.spelled (subst (λ z. section kind shortest v.section.framed z) same first)
   shortest_again Kept h n g =
       let kind = section_kind_of w.section in
       let k : Shortens kind v.section.framed (length v.section.framed) [] v.text = subst (λ z. Shortens z v.section.framed (length v.section.framed) [] v.text) (same_kind Kept h n) g in
@@ -133,7 +133,7 @@ text_framed : (offsets : Offsets) (w : Rewrite) (how : How) → IsSection w.sect
 text_framed offsets w Shortest i h n =
     let t = h.0 in
     let f = t.spelled in
-    let any : frame any_bytes wide t.text f.content = record { front = f.front; content = f.content; joined = f.joined; size = u32_unique.spellings.wider f.front (length f.content) f.size; spelled = refl } in
+    let any : frame any_bytes wide t.text f.content = record { front = f.front; content = f.content; joined = f.joined; size = u32_unique.spellings.wider shortest wide tt f.front (length f.content) f.size; spelled = refl } in
     record { payload = f.content; framed = subst (λ z. frame any_bytes wide z f.content) (sym t.appended) any }
 text_framed offsets w Kept i h n = record { payload = w.section.payload; framed = subst (λ z. frame any_bytes wide z w.section.payload) (sym h.0.0) i.holds }
 text_framed offsets w LeftOut i h n = absurd (n refl)

@@ -4,7 +4,7 @@ use Rattle.std.specs.List.{AllByRecursion, flat_map}
 use Rattle.std.proofs.lemmas.Grind.{flat_map-append}
 use Rattle.std.proofs.lemmas.List.{length-append, length-drop, length-map, take_at, take_all, drop_at}
 use Rattle.wasm_base.specs.Going.{FillsNothing}
-use Rattle.wasm_base.specs.Numbers.{wide}
+use Rattle.wasm_base.specs.Numbers.{wide, shortest}
 use Rattle.wasm_base.specs.Formats.{any_bytes, any_section, frame, header, members, wasm_module}
 use Rattle.wasm_base.specs.Reading.{Reads, ReadsNothing}
 use Rattle.wasm_base.proofs.BaseLaws.{frame_bytes_unique}
@@ -176,7 +176,7 @@ module _ (w : Rewrite) (bytes ids : List ℕ) (rest : SpelledWith bytes ids) whe
   one_written offsets Shortest i g =
       let t = g.0 in
       let f = t.spelled in
-      let any : frame any_bytes wide t.text f.content = record { front = f.front; content = f.content; joined = f.joined; size = u32_unique.spellings.wider f.front (length f.content) f.size; spelled = refl } in
+      let any : frame any_bytes wide t.text f.content = record { front = f.front; content = f.content; joined = f.joined; size = u32_unique.spellings.wider shortest wide tt f.front (length f.content) f.size; spelled = refl } in
       one_more w.section.id w.text f.content bytes ids (subst (λ z. frame any_bytes wide z f.content) (sym t.appended) any) rest
   one_written offsets Kept i g = one_more w.section.id w.text w.section.payload bytes ids (subst (λ z. frame any_bytes wide z w.section.payload) (sym g.0.0) i.holds) rest
   one_written offsets LeftOut i g = rest

@@ -3,7 +3,7 @@ use Rattle.wasm_reader.specs.Kinds.{Contents, Bodies, content, kind_in}
 use Rattle.wasm_reader.proofs.KindLaws.{content_whole, kind_is}
 use Rattle.std.proofs.Common.{◌≡◌, ℕ, ◌+◌, List, [], ◌++◌, length, drop, refl, sym, ap, subst, ◌∙◌, arith}
 use Rattle.std.proofs.lemmas.List.{length-append, length-drop, append_cancel_left}
-use Rattle.wasm_base.specs.Numbers.{shortest, wide}
+use Rattle.wasm_base.specs.Numbers.{shortest, wide, builders}
 use Rattle.wasm_base.specs.Formats.{any_bytes, frame, vec}
 use Rattle.wasm_base.specs.Reading.{UniqueReading, Reads}
 use Rattle.wasm_base.specs.Texts.{frame_text, FrameFits}
@@ -43,8 +43,8 @@ shortened kind bytes framed rest start text old new n h l empty s fits e =
     let is : text ≡ given.text = given.appended ∙ ap (λ z. z ++ given.text) empty in
     let spelled = frame_spelled (content kind) text x fits (subst (λ z. content kind shortest z x) (sym is) (given.spelled read.spelled.content read.spelled.spelled)) in
     let alone = section_unique kind in
-    let less = alone.spellings.shorter read.front x read.spelled in
-    let same = alone.spellings.one less.0 (frame_text text) x less.1 spelled in
+    let less = alone.spellings.shorter builders read.front x read.spelled in
+    let same = alone.spellings.one builders less.0 (frame_text text) x less.1 spelled in
     record {
       value = x;
       takes = t;
@@ -68,6 +68,6 @@ one_text = record {
       let s_is : s ≡ p.text = append_cancel_left old s p.text p.appended in
       let t_is : t ≡ q.text = append_cancel_left other t q.text q.appended in (
         λ e. (alone.alone shortest p.text q.text [] [] x y first second (ap (λ z. z ++ []) (sym s_is ∙ e ∙ t_is))).0,
-        λ e. s_is ∙ alone.spellings.one p.text q.text y (subst (λ z. section kind shortest p.text z) e first) second ∙ sym t_is,
+        λ e. s_is ∙ alone.spellings.one builders p.text q.text y (subst (λ z. section kind shortest p.text z) e first) second ∙ sym t_is,
       );
 }

@@ -2,7 +2,7 @@
 use Rattle.std.proofs.Common.{◌≡◌, ◌≢◌, Result, Ok, Err, IsErrAnd, ℕ, zero, suc, ◌+◌, ◌<◌, ◌≤◌, List, [], ◌∷◌, ◌++◌, length, drop, get_or, map, refl, sym, ap, subst, ◌∙◌, arith}
 use Rattle.std.proofs.lemmas.List.{drop_at, length-map}
 use Rattle.std.proofs.lemmas.Int.{ints}
-use Rattle.wasm_base.specs.Numbers.{shortest, wide}
+use Rattle.wasm_base.specs.Numbers.{shortest, wide, builders}
 use Rattle.wasm_base.specs.Formats.{Format, mapped, Then, pair, prefixed, tagged, members, vec, frame, name, any_bytes}
 use Rattle.wasm_base.specs.Reading.{HasSpellings}
 use Rattle.wasm_base.specs.Texts.{FrameFits, longest}
@@ -75,8 +75,8 @@ module _ {X : Type 0} (F : Format X) (x : X) where
   pub minimal_fits : (text : List ℕ) → HasSpellings F → F shortest text x → HasEncoding (frame F) x → FrameFits text
   minimal_fits text k g h =
       let d = h.decoded in
-      let least = k.shorter d.content x d.spelled in
-      omega (arith, least.2, ap length (k.one text least.0 x g least.1), d.size.range)
+      let least = k.shorter builders d.content x d.spelled in
+      omega (arith, least.2, ap length (k.one builders text least.0 x g least.1), d.size.range)
 
   -- what was appended behind the old bytes
   pub behind_fits : (start : ℕ) (old new : List ℕ) → HasSpellings F → start ≡ length old → AppendsShortest F x old new → HasEncoding (frame F) x → FrameFits (drop start new)

@@ -4,13 +4,13 @@ use Rattle.std.specs.Iterator.{Count, Drains, size}
 use Rattle.wasm_base.specs.Calls.{Adds}
 use Rattle.wasm_base.specs.Entries.{ItemLaws}
 use Rattle.wasm_base.specs.Formats.{u32, byte, such, pair, vec, Format, any_bytes, choice, frame, impossible, members}
-use Rattle.wasm_base.specs.Numbers.{Mode, shortest, unsigned_text, wide}
+use Rattle.wasm_base.specs.Numbers.{Mode, shortest, unsigned_text, wide, IsOfBuilders}
 use Rattle.wasm_base.specs.Reading.{UniqueReading, Reads, ReadsNothing}
 use Rattle.wasm_base.specs.Texts.{frame_text, FrameFits}
 use Rattle.wasm_base.specs.declared.refused.Refused.{Refused}
 use Rattle.wasm_base.proofs.BaseLaws.{vec_bytes_unique}
 use Rattle.wasm_base.proofs.FormatLaws.{mapped_unique, pair_unique, such_unique, choice_of, TellsTag, choice_tells}
-use Rattle.wasm_base.proofs.NumberLaws.{u32_unique}
+use Rattle.wasm_base.proofs.NumberLaws.{u32_unique, u32_small}
 use Rattle.wasm_base.proofs.TextLaws.{spelled_in, u32_in}
 use Rattle.wasm_code.specs.Expressions.{expression, expression_text}
 use Rattle.wasm_code.proofs.ExpressionLaws.{expression_unique, expression_spelled}
@@ -56,41 +56,41 @@ last_fit : (front bytes : List ℕ) → FrameFits (front ++ frame_text bytes) �
 last_fit front bytes fits = omega (arith, fits, length-append front (frame_text bytes), length-append (unsigned_text (length bytes)) bytes)
 
 flag_in : (mode : Mode) (n : ℕ) → n < 128 → u32 mode (n ∷ []) n
-flag_in mode n small = spelled_in {F = u32} u32_unique (flag_spelled n small) mode
+flag_in mode n small = u32_small mode n small
 
-bytes_in : (mode : Mode) (bytes : List ℕ) → FrameFits bytes → vec byte mode (frame_text bytes) bytes
-bytes_in mode bytes fits = spelled_in {F = vec byte} vec_bytes_unique (bytes_spelled bytes fits) mode
+bytes_in : (mode : Mode) → IsOfBuilders mode → (bytes : List ℕ) → FrameFits bytes → vec byte mode (frame_text bytes) bytes
+bytes_in mode of bytes fits = spelled_in {F = vec byte} vec_bytes_unique (bytes_spelled bytes fits) mode of
 
-placed : (mode : Mode) (e : Stored) (bytes : List ℕ) → IsStoredIn mode e → FrameFits bytes → pair expression (vec byte) mode (expression_text e.bytes ++ frame_text bytes) (e.instructions, bytes)
-placed mode e bytes plain fits = pair_in mode expression (vec byte) (expression_text e.bytes) (frame_text bytes) e.instructions bytes (expression_spelled mode e.bytes e.instructions plain) (bytes_in mode bytes fits)
+placed : (mode : Mode) → IsOfBuilders mode → (e : Stored) (bytes : List ℕ) → IsStoredIn mode e → FrameFits bytes → pair expression (vec byte) mode (expression_text e.bytes ++ frame_text bytes) (e.instructions, bytes)
+placed mode of e bytes plain fits = pair_in mode expression (vec byte) (expression_text e.bytes) (frame_text bytes) e.instructions bytes (expression_spelled mode e.bytes e.instructions plain) (bytes_in mode of bytes fits)
 
-active_spelled : (mode : Mode) (memory : ℕ) (e : Stored) (bytes : List ℕ) → memory < 2 ^ 32 → IsStoredIn mode e → FrameFits (active_text memory e.bytes bytes) → data_item mode (active_text memory e.bytes bytes) (active memory e.instructions bytes)
-active_spelled mode zero e bytes range plain fits =
+active_spelled : (mode : Mode) → IsOfBuilders mode → (memory : ℕ) (e : Stored) (bytes : List ℕ) → memory < 2 ^ 32 → IsStoredIn mode e → FrameFits (active_text memory e.bytes bytes) → data_item mode (active_text memory e.bytes bytes) (active memory e.instructions bytes)
+active_spelled mode of zero e bytes range plain fits =
     let back = expression_text e.bytes ++ frame_text bytes in
     let inside = last_fit (0x00 ∷ expression_text e.bytes) bytes fits in
-    ((0, active 0 e.instructions bytes), refl, record { front = 0x00 ∷ []; back = back; joined = refl; first = flag_in mode 0 (omega arith); second = ((e.instructions, bytes), refl, placed mode e bytes plain inside) })
-active_spelled mode (suc n) e bytes range plain fits =
+    ((0, active 0 e.instructions bytes), refl, record { front = 0x00 ∷ []; back = back; joined = refl; first = flag_in mode 0 (omega arith); second = ((e.instructions, bytes), refl, placed mode of e bytes plain inside) })
+active_spelled mode of (suc n) e bytes range plain fits =
     let rest = expression_text e.bytes ++ frame_text bytes in
     let whole = length-append (unsigned_text (suc n)) rest in
     let inside = last_fit (expression_text e.bytes) bytes (omega (arith, fits, whole)) in
     let numbered : pair (such (λ m. 0 < m) u32) (pair expression (vec byte)) mode (unsigned_text (suc n) ++ rest) (suc n, (e.instructions, bytes)) =
-    pair_in mode (such (λ m. 0 < m) u32) (pair expression (vec byte)) (unsigned_text (suc n)) rest (suc n) (e.instructions, bytes) (u32_in mode (suc n) range, omega arith) (placed mode e bytes plain inside) in
+    pair_in mode (such (λ m. 0 < m) u32) (pair expression (vec byte)) (unsigned_text (suc n)) rest (suc n) (e.instructions, bytes) (u32_in mode (suc n) range, omega arith) (placed mode of e bytes plain inside) in
     ((2, active (suc n) e.instructions bytes), refl, record { front = 0x02 ∷ []; back = unsigned_text (suc n) ++ rest; joined = refl; first = flag_in mode 2 (omega arith); second = ((suc n, (e.instructions, bytes)), refl, numbered) })
 
-pub data_spelled : (mode : Mode) (g : GivenData) → IsGivenDataIn mode g → FrameFits (data_text g) → data_item mode (data_text g) (data_of g)
-data_spelled mode (given_active memory e bytes) plain fits = active_spelled mode memory e bytes plain.0 plain.1 fits
-data_spelled mode (given_passive bytes) plain fits =
-    ((1, passive bytes), refl, record { front = 0x01 ∷ []; back = frame_text bytes; joined = refl; first = flag_in mode 1 (omega arith); second = (bytes, refl, bytes_in mode bytes (last_fit (0x01 ∷ []) bytes fits)) })
+pub data_spelled : (mode : Mode) → IsOfBuilders mode → (g : GivenData) → IsGivenDataIn mode g → FrameFits (data_text g) → data_item mode (data_text g) (data_of g)
+data_spelled mode of (given_active memory e bytes) plain fits = active_spelled mode of memory e bytes plain.0 plain.1 fits
+data_spelled mode of (given_passive bytes) plain fits =
+    ((1, passive bytes), refl, record { front = 0x01 ∷ []; back = frame_text bytes; joined = refl; first = flag_in mode 1 (omega arith); second = (bytes, refl, bytes_in mode of bytes (last_fit (0x01 ∷ []) bytes fits)) })
 
 pub data_laws : ItemLaws data_items
-data_laws = record { alone = data_unique; spelled = data_spelled shortest }
+data_laws = record { alone = data_unique; spelled = data_spelled shortest tt }
 
 data_wider : (g : GivenData) → IsGivenData g → IsGivenDataWide g
 data_wider (given_active memory offset bytes) plain = (plain.0, stored_wider offset plain.1)
 data_wider (given_passive bytes) plain = plain
 
 pub segments_section : SectionLaws data_items (vec data_item)
-segments_section = counted_laws_wide data_laws data_wider (data_spelled wide)
+segments_section = counted_laws_wide data_laws data_wider (data_spelled wide tt)
 
 -- ---- calls
 

@@ -6,7 +6,7 @@ use Rattle.std.proofs.lemmas.List.Elements.{All-head, All-tail}
 use Rattle.wasm_base.specs.Entries.{ItemLaws}
 use Rattle.wasm_base.specs.Formats.{u32, mapped, pair, fixed, vec, members, numbered, Format, byte, when, is_given, prefixed}
 use Rattle.wasm_base.specs.Laws.{FitsUnsigned}
-use Rattle.wasm_base.specs.Numbers.{Mode, shortest, unsigned_text, wide}
+use Rattle.wasm_base.specs.Numbers.{Mode, shortest, unsigned_text, wide, IsOfBuilders}
 use Rattle.wasm_base.specs.Reading.{UniqueReading, Reads, ReadsNothing}
 use Rattle.wasm_base.specs.Texts.{vec_text, VecFits}
 use Rattle.wasm_base.specs.Types.{ref_type, ref_text, FUNCREF, IsRef}
@@ -166,31 +166,31 @@ all_spelled mode es h = record {
   second = each_spelled mode es h.members;
 }
 
-elements_spelled : (mode : Mode) (told : Bool) (e : ElementList Stored) → AreElementsIn mode e → (told ≡ false → needs_table e ≡ false) → elements_as told (are_expressions e) mode (elements_text stored_text told e) (elements_of e)
-elements_spelled mode told (functions fs) plain short =
+elements_spelled : (mode : Mode) → IsOfBuilders mode → (told : Bool) (e : ElementList Stored) → AreElementsIn mode e → (told ≡ false → needs_table e ≡ false) → elements_as told (are_expressions e) mode (elements_text stored_text told e) (elements_of e)
+elements_spelled mode of told (functions fs) plain short =
     let kind = cond told (0x00 ∷ []) [] in
-    let listed = spelled_in {F = vec u32} vec_u32_unique (vec_spelled u32 (FitsUnsigned 32) unsigned_text u32_spelled fs plain) mode in
+    let listed = spelled_in {F = vec u32} vec_u32_unique (vec_spelled u32 (FitsUnsigned 32) unsigned_text u32_spelled fs plain) mode of in
     (fs, refl, ((tt, fs), refl, record { front = kind; back = vec_text unsigned_text fs; joined = refl; first = (refl, refl); second = listed }))
-elements_spelled mode true (expressions r es) plain short =
+elements_spelled mode of true (expressions r es) plain short =
     let said = map (λ e. e.instructions) es in
-    ((r, said), refl, pair_in mode ref_type (vec expression) (ref_text r) (vec_text stored_text es) r said (spelled_in {F = ref_type} ref_unique (ref-texts.spelled r plain.0) mode) (all_spelled mode es plain.1))
-elements_spelled mode false (expressions r es) plain short =
+    ((r, said), refl, pair_in mode ref_type (vec expression) (ref_text r) (vec_text stored_text es) r said (spelled_in {F = ref_type} ref_unique (ref-texts.spelled r plain.0) mode of) (all_spelled mode es plain.1))
+elements_spelled mode of false (expressions r es) plain short =
     let said = map (λ e. e.instructions) es in
     ((r, said), refl, pair_in mode (fixed [] FUNCREF) (vec expression) [] (vec_text stored_text es) r said (refl, funcref_of r (short refl)) (all_spelled mode es plain.1))
 
-settled_spelled : (mode : Mode) (s : ElementItem Stored) → IsSegmentIn mode s → (tells_kind (flag_of s) ≡ false → needs_table s.elements ≡ false) → element mode (settled_text stored_text s) (said_by s)
-settled_spelled mode s plain short =
+settled_spelled : (mode : Mode) → IsOfBuilders mode → (s : ElementItem Stored) → IsSegmentIn mode s → (tells_kind (flag_of s) ≡ false → needs_table s.elements ≡ false) → element mode (settled_text stored_text s) (said_by s)
+settled_spelled mode of s plain short =
     let f = flag_of s in
     let told = tells_kind f in
     let placed = place_spelled mode s.place f.expressions plain.place in
-    let listed = elements_spelled mode told s.elements plain.elements short in (
+    let listed = elements_spelled mode of told s.elements plain.elements short in (
       (f, said_by s),
       refl,
       record {
         front = flag_code f ∷ [];
         back = place_text stored_text s.place ++ elements_text stored_text told s.elements;
         joined = refl;
-        first = spelled_in {F = u32} u32_unique (flag_spelled (flag_code f) (code_low f.not_active f.second f.expressions)) mode;
+        first = spelled_in {F = u32} u32_unique (flag_spelled (flag_code f) (code_low f.not_active f.second f.expressions)) mode of;
         second = (
           (place_of s.place, elements_of s.elements),
           refl,
@@ -215,12 +215,12 @@ settled_place-plain mode needed (active (Some table) offset) plain = plain
 settled_place-plain mode true (active None offset) plain = (omega arith, plain.1)
 settled_place-plain mode false (active None offset) plain = plain
 
-pub element_spelled : (mode : Mode) (s : ElementItem Stored) → IsSegmentIn mode s → element mode (element_text s) (element_of s)
-element_spelled mode s plain =
-    settled_spelled mode (settled s) (record { place = settled_place-plain mode (needs_table s.elements) s.place plain.place; elements = plain.elements }) (kind_told (needs_table s.elements) s.place)
+pub element_spelled : (mode : Mode) → IsOfBuilders mode → (s : ElementItem Stored) → IsSegmentIn mode s → element mode (element_text s) (element_of s)
+element_spelled mode of s plain =
+    settled_spelled mode of (settled s) (record { place = settled_place-plain mode (needs_table s.elements) s.place plain.place; elements = plain.elements }) (kind_told (needs_table s.elements) s.place)
 
 pub element_laws : ItemLaws element_items
-element_laws = record { alone = element_unique; spelled = λ s plain fits. element_spelled shortest s plain }
+element_laws = record { alone = element_unique; spelled = λ s plain fits. element_spelled shortest tt s plain }
 
 place_wider : (p : Place Stored) → IsPlace p → IsPlaceIn wide p
 place_wider passive plain = plain
@@ -232,7 +232,7 @@ elements_wider (functions fs) plain = plain
 elements_wider (expressions r es) plain = (plain.0, record { count = plain.1.count; members = λ k d l. stored_wider _ (plain.1.members k d l) })
 
 pub elements_section : SectionLaws element_items (vec element)
-elements_section = counted_laws_wide element_laws (λ s plain. record { place = place_wider s.place plain.place; elements = elements_wider s.elements plain.elements }) (λ s plain fits. element_spelled wide s plain)
+elements_section = counted_laws_wide element_laws (λ s plain. record { place = place_wider s.place plain.place; elements = elements_wider s.elements plain.elements }) (λ s plain fits. element_spelled wide tt s plain)
 
 -- ---- the bytes of a segment's expressions
 

@@ -2,7 +2,7 @@
 use Rattle.std.proofs.Common.{◌≡◌, ℕ, Bool, true, false, [], ◌∷◌, refl, ap, ◌<◌, ◌≤◌, ◌/◌, ◌%◌, List, arith, subst, ◌++◌}
 use Rattle.wasm_base.specs.Entries.{ItemLaws}
 use Rattle.wasm_base.specs.Formats.{coded, byte, pair, vec}
-use Rattle.wasm_base.specs.Numbers.{Mode, shortest, wide}
+use Rattle.wasm_base.specs.Numbers.{Mode, shortest, wide, IsOfBuilders}
 use Rattle.wasm_base.specs.Reading.{UniqueReading, Reads, ReadsNothing}
 use Rattle.wasm_base.specs.Types.{val_type, val_text}
 use Rattle.wasm_base.proofs.FormatLaws.{coded_unique, mapped_unique, pair_unique, AllValues}
@@ -55,17 +55,17 @@ global_spelled g plain =
 pub global_item_unique : UniqueReading global_item
 global_item_unique = mapped_unique global_from (λ x y e. ap (λ i. (i.global_type, i.init)) e) (pair_unique global_unique expression_unique)
 
-pub global_item_spelled : (mode : Mode) (g : GivenGlobal) → IsGivenGlobalIn mode g → global_item mode (global_item_text g) (global_item_of g)
-global_item_spelled mode g plain =
-    let typed = spelled_in {F = global_type} global_unique (global_spelled g.global_type plain.global_type) mode in
+pub global_item_spelled : (mode : Mode) → IsOfBuilders mode → (g : GivenGlobal) → IsGivenGlobalIn mode g → global_item mode (global_item_text g) (global_item_of g)
+global_item_spelled mode of g plain =
+    let typed = spelled_in {F = global_type} global_unique (global_spelled g.global_type plain.global_type) mode of in
     let init = expression_spelled mode g.init.bytes g.init.instructions plain.init in
     ((g.global_type, g.init.instructions), refl, pair_in mode global_type expression (global_text g.global_type) (expression_text g.init.bytes) g.global_type g.init.instructions typed init)
 
 pub global_laws : ItemLaws global_items
-global_laws = record { alone = global_item_unique; spelled = λ g plain fits. global_item_spelled shortest g plain }
+global_laws = record { alone = global_item_unique; spelled = λ g plain fits. global_item_spelled shortest tt g plain }
 
 pub globals_section : SectionLaws global_items (vec global_item)
-globals_section = counted_laws_wide global_laws (λ g plain. record { global_type = plain.global_type; init = stored_wider g.init plain.init }) (λ g plain fits. global_item_spelled wide g plain)
+globals_section = counted_laws_wide global_laws (λ g plain. record { global_type = plain.global_type; init = stored_wider g.init plain.init }) (λ g plain fits. global_item_spelled wide tt g plain)
 
 -- ---- how globals are read
 

@@ -39,11 +39,11 @@ abbrev first : GivenGlobal
 first = record { global_type = record { val_type = I32; mutable = false; shared = false }; init = record { bytes = 0x41 ∷ 0x01 ∷ []; instructions = normal_row one ∷ [] } }
 
 first_spelled : global_item shortest (0x7F ∷ 0x00 ∷ 0x41 ∷ 0x01 ∷ 0x0B ∷ []) (global_item_of first)
-first_spelled = global_item_spelled shortest first (record { global_type = tt; init = members_one (such IsNoEnd (instruction table)) shortest (0x41 ∷ 0x01 ∷ []) (normal_row one) one_spelled })
+first_spelled = global_item_spelled shortest tt first (record { global_type = tt; init = members_one (such IsNoEnd (instruction table)) shortest (0x41 ∷ 0x01 ∷ []) (normal_row one) one_spelled })
 
 no_global : (x : GlobalItem) → global_item wide (0x7F ∷ 0x00 ∷ 0x41 ∷ 0x01 ∷ 0x0B ∷ 0x41 ∷ 0x02 ∷ 0x0B ∷ []) x → ⊥
 no_global x h =
-    let known = global_item_unique.spellings.wider (0x7F ∷ 0x00 ∷ 0x41 ∷ 0x01 ∷ 0x0B ∷ []) (global_item_of first) first_spelled in
+    let known = global_item_unique.spellings.wider shortest wide tt (0x7F ∷ 0x00 ∷ 0x41 ∷ 0x01 ∷ 0x0B ∷ []) (global_item_of first) first_spelled in
     let apart = global_item_unique.alone wide (0x7F ∷ 0x00 ∷ 0x41 ∷ 0x01 ∷ 0x0B ∷ []) (0x7F ∷ 0x00 ∷ 0x41 ∷ 0x01 ∷ 0x0B ∷ 0x41 ∷ 0x02 ∷ 0x0B ∷ []) (0x41 ∷ 0x02 ∷ 0x0B ∷ []) [] (global_item_of first) x known h refl in
     absurd (cc apart.2)
 

@@ -3,7 +3,7 @@ use Rattle.std.proofs.Common.{◌≡◌, ℕ, ◌^◌, ◌<◌, List, [], ◌∷
 use Rattle.std.specs.Prelude.{IfSome}
 use Rattle.wasm_base.specs.Entries.{ItemLaws}
 use Rattle.wasm_base.specs.Formats.{u64, impossible, mapped, pair, optional, when, prefixed, is_given, Format, byte, vec}
-use Rattle.wasm_base.specs.Numbers.{Mode, shortest, unsigned_text, wide}
+use Rattle.wasm_base.specs.Numbers.{Mode, shortest, unsigned_text, wide, IsOfBuilders}
 use Rattle.wasm_base.specs.Reading.{UniqueReading, BeginsWith, Reads, ReadsNothing}
 use Rattle.wasm_base.specs.Texts.{optional_text}
 use Rattle.wasm_base.specs.Types.{ref_type, ref_tags, ref_text}
@@ -97,22 +97,22 @@ table_item_unique =
     type_item_begins : BeginsWith IsTypeByte (mapped without_init table_type)
     type_item_begins = begins_mapped IsTypeByte without_init type_begins
 
-pub init_spelled : (mode : Mode) (t : TableType) (init : Option Stored) → IsTable t → IfSome init (IsStoredIn mode) → table_item mode (table_init_text t init) (record { table_type = t; init = init_of init })
-init_spelled mode t None plain stored = inl (t, refl, spelled_in {F = table_type} table_unique (table_spelled t plain) mode)
-init_spelled mode t (Some e) plain stored =
-    let typed = spelled_in {F = table_type} table_unique (table_spelled t plain) mode in
+pub init_spelled : (mode : Mode) → IsOfBuilders mode → (t : TableType) (init : Option Stored) → IsTable t → IfSome init (IsStoredIn mode) → table_item mode (table_init_text t init) (record { table_type = t; init = init_of init })
+init_spelled mode of t None plain stored = inl (t, refl, spelled_in {F = table_type} table_unique (table_spelled t plain) mode of)
+init_spelled mode of t (Some e) plain stored =
+    let typed = spelled_in {F = table_type} table_unique (table_spelled t plain) mode of in
     let parts = pair_in mode table_type expression (table_text t) (expression_text e.bytes) t e.instructions typed (expression_spelled mode e.bytes e.instructions stored) in
     inr ((t, e.instructions), refl, ((tt, (t, e.instructions)), refl, record { front = before_init; back = table_text t ++ expression_text e.bytes; joined = refl; first = (refl, refl); second = parts }))
 
 pub table_laws : ItemLaws table_items
-table_laws = record { alone = table_item_unique; spelled = λ t plain fits. init_spelled shortest t.table_type t.init plain.table_type plain.init }
+table_laws = record { alone = table_item_unique; spelled = λ t plain fits. init_spelled shortest tt t.table_type t.init plain.table_type plain.init }
 
 init_wider : (init : Option Stored) → IfSome init IsStored → IfSome init IsStoredWide
 init_wider None plain = plain
 init_wider (Some e) plain = stored_wider e plain
 
 pub tables_section : SectionLaws table_items (vec table_item)
-tables_section = counted_laws_wide table_laws (λ t plain. record { table_type = plain.table_type; init = init_wider t.init plain.init }) (λ t plain fits. init_spelled wide t.table_type t.init plain.table_type plain.init)
+tables_section = counted_laws_wide table_laws (λ t plain. record { table_type = plain.table_type; init = init_wider t.init plain.init }) (λ t plain fits. init_spelled wide tt t.table_type t.init plain.table_type plain.init)
 
 -- ---- how tables are read
 
