@@ -1,16 +1,16 @@
--- Slices and text, borrowed or owned.
+-- This file defines the contents of slices and strings that are borrowed or owned.
 use Rattle.std.specs.Prelude.{ℕ, List, string_bytes}
 use Rattle.wasm_base.specs.declared.cow.CowSlice.{CowSlice}
 use Rattle.wasm_base.specs.declared.cow.CowSlice.TheVariants as slices
 use Rattle.wasm_base.specs.declared.cow.CowStr.{CowStr}
 use Rattle.wasm_base.specs.declared.cow.CowStr.TheVariants as texts
 
--- the items, borrowed or owned
+-- The items of a slice, borrowed or owned.
 abbrev pub items_of : {T A : Type 0} → CowSlice T A → List T
 items_of (slices.Borrowed items) = items.now
 items_of (slices.Owned items) = items.items
 
--- the bytes of the text, borrowed or owned
+-- The bytes of a string, borrowed or owned.
 abbrev pub text_of : {A : Type 0} → CowStr A → List ℕ
 text_of (texts.Borrowed text) = text.now
 text_of (texts.Owned text) = string_bytes text

@@ -1,4 +1,4 @@
--- Iterators whose length is known before any item is asked for.
+-- This file defines iterators whose length is known before any item is taken.
 use Rattle.std.specs.Prelude.{◌≡◌, ◌≢◌, ℕ, ◌<◌, ◌≤◌, List, ◌++◌, length, vec_capacity, Result, Err, OnOk, OnErr, Option}
 use Rattle.std.specs.Iterator.{Count, Drains, Yields, size}
 use Rattle.std.specs.List.{All}
@@ -7,12 +7,13 @@ use Rattle.wasm_base.specs.Texts.{longest, vec_text, VecFits}
 use Rattle.wasm_base.specs.declared.refused.Refused.{Refused}
 use Rattle.wasm_base.specs.declared.refused.Refused.TheVariants.{TooLong}
 
--- of known length: Each iterator that is made of the elements may be called, and gives as many items as it told.
+-- Each iterator of the elements may be called, and yields as many items as it reported.
 pub record HasKnownLength {U S T : Type 0} (becomes : U → S → Type 0) (can_next : S → Type 0) (gives : S → Option T → S → Type 0) (remaining : S → Count) (elements : U) : Type 0 where
   pub can : (it : S) → becomes elements it → can_next it
   pub told : (it : S) (xs : List T) → becomes elements it → Drains gives it xs → length xs ≡ size (remaining it)
 
--- The buffer gains the vector of the items that the elements give, or keeps what it has.
+-- The call appends the vector of the items that the iterator yields, or returns an error and leaves
+-- the bytes as they were. More than 2^32 - 1 items give `TooLong`.
 pub record AppendsVec {U S T A : Type 0} (becomes : U → S → Type 0) (gives : S → Option T → S → Type 0) (remaining : S → Count) (Fits : T → Type 0) (text : T → List ℕ)
     (elements : U) (old new : Vec ℕ A) (result : Result (Unit {0}) Refused) : Type 0 where
   pub ok : OnOk result ((it : S) × (xs : List T) × becomes elements it × Drains gives it xs × VecFits Fits xs × (new.items ≡ old.items ++ vec_text text xs))

@@ -1,4 +1,5 @@
--- Values that are written once, since an iterator in them gives its items but once, and the calls that write them.
+-- This file defines values that are encoded once, since the iterator in them is consumed, and the
+-- calls that encode them.
 use Rattle.std.specs.Prelude.{◌≡◌, ◌≢◌, ℕ, ◌<◌, ◌≤◌, List, [], ◌∷◌, ◌++◌, length, vec_capacity, Result, Err, OnOk, OnErr, Option}
 use Rattle.std.specs.Iterator.{Count, Drains, Yields, IsFinite}
 use Rattle.std.specs.List.{All}
@@ -7,14 +8,16 @@ use Rattle.wasm_base.specs.Texts.{longest, vec_text, VecFits, frame_text, FrameF
 use Rattle.wasm_base.specs.declared.refused.Refused.{Refused}
 use Rattle.wasm_base.specs.declared.refused.Refused.TheVariants.{TooLong}
 
--- The buffer gains one of the texts that the value may have, or keeps what it has.
+-- The call appends one of the encodings that the value may have, or returns an error and leaves the
+-- bytes as they were.
 pub record AppendsOnce {A : Type 0} (Gives : List ℕ → Type 0) (fits : Type 0) (old new : Vec ℕ A) (result : Result (Unit {0}) Refused) : Type 0 where
   pub ok : OnOk result ((text : List ℕ) × Gives text × (new.items ≡ old.items ++ text))
   pub err : OnErr result (new.items ≡ old.items)
   pub too_long : fits → result ≢ Err TooLong
   pub capacity : vec_capacity old ≤ vec_capacity new
 
--- The builder gains an entry of one of these texts, or keeps what it has. The number of its entries has 32 bits: a full builder returns `TooLong`.
+-- The builder gains one entry with one of these encodings, or the call returns an error and changes
+-- nothing. A full builder, with 2^32 - 1 entries, returns `TooLong`.
 pub record AddsOnce (Gives : List ℕ → Type 0) (fits : Type 0) (old new : List (List ℕ)) (result : Result (Unit {0}) Refused) : Type 0 where
   pub ok : OnOk result ((text : List ℕ) × Gives text × (new ≡ old ++ text ∷ []))
   pub err : OnErr result (new ≡ old)
@@ -22,35 +25,35 @@ pub record AddsOnce (Gives : List ℕ → Type 0) (fits : Type 0) (old new : Lis
   pub too_long : fits → length old < longest → result ≢ Err TooLong
   pub full : length old ≡ longest → result ≡ Err TooLong
 
--- The iterator may be called, ends, and gives as many items as were counted, whose number can be spelled.
+-- The iterator may be called, ends, and yields exactly `count` items, which are at most 2^32 - 1.
 pub record TellsCount {S T : Type 0} (can_next : S → Type 0) (gives : S → Option T → S → Type 0) (remaining : S → Count) (it : S) (count : ℕ) : Type 0 where
   pub can : can_next it
   pub finite : IsFinite (remaining it)
   pub told : (xs : List T) → Drains gives it xs → length xs ≡ count
   pub counted : count ≤ longest
 
--- the vector of the items that the iterator gives
+-- The bytes are the encoding of the vector of the items that the iterator yields.
 pub record GivesVec {S T : Type 0} (gives : S → Option T → S → Type 0) (Fits : T → Type 0) (text : T → List ℕ) (it : S) (s : List ℕ) : Type 0 where
   pub items : List T
   pub drained : Drains gives it items
   pub fits : VecFits Fits items
   pub is : s ≡ vec_text text items
 
--- the vector of the bytes that the iterator gives, which is their frame
+-- The bytes are size-prefixed bytes, those that the iterator yields.
 pub record GivesBytes {S : Type 0} (gives : S → Option ℕ → S → Type 0) (it : S) (s : List ℕ) : Type 0 where
   pub bytes : List ℕ
   pub drained : Drains gives it bytes
   pub fits : FrameFits bytes
   pub is : s ≡ frame_text bytes
 
--- a text, and then one of the others
+-- The bytes are `front` and then one of the possible encodings of a second value.
 pub record GivesPair (front : List ℕ) (fits : Type 0) (Gives : List ℕ → Type 0) (s : List ℕ) : Type 0 where
   pub back : List ℕ
   pub fitted : fits
   pub given : Gives back
   pub is : s ≡ front ++ back
 
--- a text, and then one of each
+-- The bytes are `front` and then one of the possible encodings of each of two values.
 pub record GivesTriple (front : List ℕ) (fits : Type 0) (First Second : List ℕ → Type 0) (s : List ℕ) : Type 0 where
   pub middle : List ℕ
   pub back : List ℕ
@@ -59,6 +62,6 @@ pub record GivesTriple (front : List ℕ) (fits : Type 0) (First Second : List �
   pub second : Second back
   pub is : s ≡ front ++ (middle ++ back)
 
--- Whatever items the iterator yields, they fit.
+-- All items that the iterator ever yields fit.
 abbrev pub YieldsFitting : {S T : Type 0} → (S → Option T → S → Type 0) → (T → Type 0) → S → Type 0
 YieldsFitting {S} {T} gives Fits it = (left : S) (xs : List T) → Yields gives it xs left → All Fits xs

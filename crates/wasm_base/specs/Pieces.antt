@@ -1,47 +1,48 @@
--- The entries of a builder: pieces of bytes that lie one after another.
+-- This file defines the entries of a builder: pieces of bytes that are stored one after another.
 use Rattle.std.specs.Prelude.{◌≡◌, ℕ, ◌+◌, ◌-◌, ◌<◌, ◌≤◌, List, [], ◌∷◌, ◌++◌, length, take, drop}
 use Rattle.wasm_base.specs.Numbers.{unsigned_text}
 use Rattle.std.proofs.Common.{sym, ap, subst}
 use Rattle.wasm_base.specs.Texts.{longest, frame_text, FrameFits, IsFrameOf}
 
--- the pieces, one after another
+-- The pieces, one after another.
 abbrev pub joined : List (List ℕ) → List ℕ
 joined [] = []
 joined (p ∷ ps) = p ++ joined ps
 
--- where each piece ends, if the first begins at `from`
+-- The offset of each piece's end, if the first piece begins at `from`.
 abbrev pub ends_from : ℕ → List (List ℕ) → List ℕ
 ends_from from [] = []
 ends_from from (p ∷ ps) = (from + length p) ∷ ends_from (from + length p) ps
 
--- the bytes cut at the ends, if the first byte is at `from`
+-- The bytes cut at the ends, if the first byte is at offset `from`.
 abbrev pub cut_from : ℕ → List ℕ → List ℕ → List (List ℕ)
 cut_from from [] bytes = []
 cut_from from (e ∷ es) bytes = take (e - from) bytes ∷ cut_from e es (drop (e - from) bytes)
 
--- The bytes are the pieces that the ends cut, and no others.
+-- The ends cut all of the bytes into pieces, and are the ends of these pieces.
 pub record IsCut (bytes ends : List ℕ) : Type 0 where
   pub bytes_joined : bytes ≡ joined (cut_from 0 ends bytes)
   pub ends_placed : ends ≡ ends_from 0 (cut_from 0 ends bytes)
 
--- a counted section without its id: the frame of the number of its entries and of these
+-- The encoding of a counted section without its id: a size prefix, the count of entries and the
+-- entries.
 unfoldable pub section_text : List (List ℕ) → List ℕ
 section_text pieces = frame_text (unsigned_text (length pieces) ++ joined pieces)
 
--- a section whose count and size can be spelled
+-- The count and the size of the section are at most 2^32 - 1.
 pub record SectionFits (pieces : List (List ℕ)) : Type 0 where
   pub count : length pieces ≤ longest
   pub size : FrameFits (unsigned_text (length pieces) ++ joined pieces)
 
--- one whose size has more than 32 bits
+-- The size of the section is more than 2^32 - 1.
 abbrev pub IsOverlong : List (List ℕ) → Type 0
 IsOverlong pieces = longest < length (unsigned_text (length pieces) ++ joined pieces)
 
--- The payload of a counted section is the number of its entries and these.
+-- The payload of a counted section: the count of its entries, and the entries.
 abbrev pub SectionPayload : List (List ℕ) → List ℕ → Type 0
 SectionPayload pieces bytes = bytes ≡ unsigned_text (length pieces) ++ joined pieces
 
--- its text is the frame of that payload
+-- The encoding of a counted section that fits is its size-prefixed payload.
 pub section_framed : (pieces : List (List ℕ)) (bytes : List ℕ) → SectionFits pieces → SectionPayload pieces bytes → IsFrameOf (section_text pieces) bytes
 unfolding section_text
 section_framed pieces bytes fits e = record { is = ap frame_text (sym e); fits = subst FrameFits (sym e) fits.size }

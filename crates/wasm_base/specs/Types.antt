@@ -1,4 +1,5 @@
--- Types: their texts, and which bytes spell them.
+-- This file defines the encodings and the formats of heap types, reference types and value types.
+-- Core specification, Binary Format, Types.
 use Rattle.std.specs.Prelude.{◌≢◌, ℕ, ◌^◌, ◌<◌, ◌≤◌, ◌⊎◌, List, [], ◌∷◌, Bool, true, false, pos}
 use Rattle.wasm_base.specs.Numbers.{unsigned_text, signed_text}
 use Rattle.wasm_base.specs.Formats.{Format, u32, byte, s33, fixed, impossible, coded, mapped, such, choice, tagged, one_of, by_mode}
@@ -10,9 +11,9 @@ use Rattle.wasm_base.specs.declared.types.RefType.{RefType}
 use Rattle.wasm_base.specs.declared.types.ValType.{ValType}
 use Rattle.wasm_base.specs.declared.types.ValType.TheVariants.{I32, I64, F32, F64, V128, Ref}
 
--- ---- texts
+-- ---- encodings
 
--- the byte of an abstract heap type
+-- The byte of an abstract heap type.
 abbrev pub abstract_code : AbstractHeapType → ℕ
 abstract_code kinds.Func = 0x70
 abstract_code kinds.Extern = 0x6F
@@ -29,29 +30,31 @@ abstract_code kinds.None = 0x71
 abstract_code kinds.Cont = 0x68
 abstract_code kinds.NoCont = 0x75
 
--- A shared abstract type has a byte before its own, and an exact one a byte before its index.
+-- The encoding of a heap type. A shared abstract type has the byte 65 before its own, and an exact
+-- type the byte 62 before its index.
 abbrev pub heap_text : HeapType → List ℕ
 heap_text (Abstract false ty) = abstract_code ty ∷ []
 heap_text (Abstract true ty) = 0x65 ∷ abstract_code ty ∷ []
 heap_text (Concrete index) = signed_text (pos index)
 heap_text (Exact index) = 0x62 ∷ unsigned_text index
 
--- a nullable reference: two of them have a byte of their own
+-- The encoding of a nullable reference type. Those to unshared functions and external values have a
+-- byte of their own.
 abbrev pub nullable_text : HeapType → List ℕ
 nullable_text (Abstract false kinds.Func) = 0x70 ∷ []
 nullable_text (Abstract false kinds.Extern) = 0x6F ∷ []
 nullable_text heap = 0x63 ∷ heap_text heap
 
--- a reference type, by whether it is nullable
+-- The encoding of a reference type, by whether it is nullable.
 abbrev pub ref_bytes : (nullable : Bool) → HeapType → List ℕ
 ref_bytes true heap = nullable_text heap
 ref_bytes false heap = 0x64 ∷ heap_text heap
 
--- the text of a reference type
+-- The encoding of a reference type.
 abbrev pub ref_text : RefType → List ℕ
 ref_text r = ref_bytes r.nullable r.heap_type
 
--- the text of a value type
+-- The encoding of a value type.
 abbrev pub val_text : ValType → List ℕ
 val_text I32 = 0x7F ∷ []
 val_text I64 = 0x7E ∷ []
@@ -62,116 +65,119 @@ val_text (Ref r) = ref_text r
 
 -- ---- indices of 32 bits
 
--- An index has 32 bits.
+-- The index of a heap type, if it has one, is below 2^32.
 abbrev pub IsHeap : HeapType → Type 0
 IsHeap (Abstract shared ty) = Unit {0}
 IsHeap (Concrete index) = index < 2 ^ 32
 IsHeap (Exact index) = index < 2 ^ 32
 
--- The index of its heap type, if any, has 32 bits.
+-- The index in a reference type, if it has one, is below 2^32.
 abbrev pub IsRef : RefType → Type 0
 IsRef r = IsHeap r.heap_type
 
--- The index of a reference type, if any, has 32 bits.
+-- The index in a value type, if it has one, is below 2^32.
 abbrev pub IsVal : ValType → Type 0
 IsVal (Ref r) = IsRef r
 IsVal _ = Unit {0}
 
 -- ---- formats
 
--- abstract heap type: one byte
+-- An abstract heap type: one byte.
 abbrev pub abstract_type : Format AbstractHeapType
 abstract_type = coded abstract_code
 
--- the heap type of an abstract type
+-- The unshared heap type of an abstract type.
 abbrev pub unshared : AbstractHeapType → HeapType
 unshared ty = Abstract false ty
 
--- the heap type of a shared abstract type
+-- The shared heap type of an abstract type.
 abbrev pub shared : AbstractHeapType → HeapType
 shared ty = Abstract true ty
 
--- what follows a byte that tells
+-- The formats behind the tag bytes 65 (shared) and 62 (exact) of a heap type.
 abbrev pub heap_tags : List (ℕ × Format HeapType)
 heap_tags = (0x65, mapped shared abstract_type) ∷ (0x62, mapped Exact u32) ∷ []
 
--- The first byte tells which it is: an index begins with none of the others' bytes.
+-- A heap type. Its first byte decides which case it is: no index begins with a byte of another
+-- case.
 abbrev pub heap_type : Format HeapType
 heap_type = one_of (mapped unshared abstract_type) (one_of (tagged byte (choice heap_tags (λ b. impossible))) (mapped Concrete s33))
 
--- the nullable reference type to unshared functions
+-- The type `funcref`: nullable references to unshared functions.
 abbrev pub FUNCREF : RefType
 FUNCREF = record { nullable = true; heap_type = unshared kinds.Func }
 
--- the nullable reference type to unshared external values
+-- The type `externref`: nullable references to unshared external values.
 abbrev pub EXTERNREF : RefType
 EXTERNREF = record { nullable = true; heap_type = unshared kinds.Extern }
 
--- the nullable reference type to a heap type
+-- The nullable reference type to a heap type.
 abbrev pub nullable_to : HeapType → RefType
 nullable_to heap = record { nullable = true; heap_type = heap }
 
--- the reference type to a heap type, not nullable
+-- The reference type to a heap type that is not nullable.
 abbrev pub to : HeapType → RefType
 to heap = record { nullable = false; heap_type = heap }
 
--- It is neither that of FUNCREF nor that of EXTERNREF, which have a byte of their own.
+-- The heap type is not that of `FUNCREF` or `EXTERNREF`, whose nullable references have a byte of
+-- their own.
 abbrev pub HasNoByte : HeapType → Type 0
 HasNoByte heap = (heap ≢ unshared kinds.Func) × (heap ≢ unshared kinds.Extern)
 
--- what follows the first byte of a reference type
+-- The formats behind each first byte of a reference type.
 abbrev pub ref_tags : List (ℕ × Format RefType)
 ref_tags = (0x70, fixed [] FUNCREF) ∷ (0x6F, fixed [] EXTERNREF) ∷ (0x63, mapped nullable_to (such HasNoByte heap_type)) ∷ (0x64, mapped to heap_type) ∷ []
 
--- reference type: the first byte tells what follows
+-- A reference type, by its first byte.
 abbrev pub ref_type : Format RefType
 ref_type = tagged byte (choice ref_tags (λ b. impossible))
 
--- what follows the first byte of a value type
+-- The formats behind each first byte of a number type or vector type.
 abbrev pub val_tags : List (ℕ × Format ValType)
 val_tags = (0x7F, fixed [] I32) ∷ (0x7E, fixed [] I64) ∷ (0x7D, fixed [] F32) ∷ (0x7C, fixed [] F64) ∷ (0x7B, fixed [] V128) ∷ []
 
--- a reference type after its first byte b
+-- A value type that is a reference type with the first byte b.
 abbrev pub val_ref : ℕ → Format ValType
 val_ref b = mapped Ref (choice ref_tags (λ c. impossible) b)
 
--- value type: a byte of a number or vector type, or a reference type
+-- A value type: the byte of a number or vector type, or a reference type.
 abbrev pub val_type : Format ValType
 val_type = tagged byte (choice val_tags val_ref)
 
--- An index that is spelled as a signed number begins with a byte that is no type's.
+-- The byte can begin an index that is encoded as a signed number, and begins no type.
 abbrev pub IsIndexByte : ℕ → Type 0
 IsIndexByte b = (b < 0x40) ⊎ (0x80 ≤ b)
 
--- ---- what the standard admits beside: a byte for each nullable abstract type
+-- ---- the standard's grammar, which also has one byte for each nullable abstract type
 
--- the nullable reference type to an unshared abstract type
+-- The nullable reference type to an unshared abstract type.
 abbrev pub nullable_abstract : AbstractHeapType → RefType
 nullable_abstract ty = nullable_to (unshared ty)
 
--- It is not an unshared abstract type, which has a byte of its own.
+-- The heap type is not an unshared abstract type, whose nullable references have a byte of their
+-- own.
 abbrev pub HasNoCode : HeapType → Type 0
 HasNoCode (Abstract false ty) = ⊥
 HasNoCode (Abstract true ty) = Unit {0}
 HasNoCode (Concrete index) = Unit {0}
 HasNoCode (Exact index) = Unit {0}
 
--- in the fewest bytes
+-- The formats behind 63 and 64 where every reference type has one encoding.
 abbrev pub tight_tags : List (ℕ × Format RefType)
 tight_tags = (0x63, mapped nullable_to (such HasNoCode heap_type)) ∷ (0x64, mapped to heap_type) ∷ []
 
--- all
+-- The formats behind 63 and 64 that the standard admits.
 abbrev pub admitted_tags : List (ℕ × Format RefType)
 admitted_tags = (0x63, mapped nullable_to heap_type) ∷ (0x64, mapped to heap_type) ∷ []
 
--- reference type in its fewest bytes
+-- A reference type in its minimal encoding by the standard.
 abbrev pub tight_ref : Format RefType
 tight_ref = one_of (mapped nullable_abstract abstract_type) (tagged byte (choice tight_tags (λ b. impossible)))
 
--- reference type, as the standard admits it
+-- A reference type in any encoding that the standard admits.
 abbrev pub admitted_ref : Format RefType
 admitted_ref = one_of (mapped nullable_abstract abstract_type) (tagged byte (choice admitted_tags (λ b. impossible)))
 
--- reference type in both grammars
+-- A reference type in each mode of both grammars.
 abbrev pub ref_type_in : Format RefType
 ref_type_in = by_mode ref_type tight_ref admitted_ref

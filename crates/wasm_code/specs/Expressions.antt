@@ -1,4 +1,5 @@
--- Constant expressions.
+-- This file defines constant expressions and the calls that build them. Core specification, Binary
+-- Format, Instructions, Expressions.
 use Rattle.std.specs.Prelude.{◌≡◌, ◌≢◌, ◌↔◌, ℕ, List, [], ◌∷◌, ◌++◌, Result, Err, IfOk, Option, None, Some, OnOk, map, false}
 use Rattle.std.specs.Iterator.{Drains, Yields}
 use Rattle.std.specs.List.{All, flat_map}
@@ -17,56 +18,58 @@ use Rattle.wasm_insn.specs.Plain.{Plain, instruction, normal, same_op}
 use Rattle.wasm_insn.specs.Table.{table}
 use Rattle.wasm_insn.specs.Instructions.{row_of, instruction_text, InstructionFits, IsPlainInstruction}
 
--- ---- format and text
+-- ---- format and encoding
 
--- not `End`
+-- The instruction is not `end`.
 abbrev pub IsNoEnd : Plain → Type 0
 IsNoEnd i = same_op i.op (Byte 0x0B) ≡ false
 
--- expression: instructions, none of them End, and then End
+-- An expression: instructions other than `end`, then `end`. An expression with a nested block does
+-- not decode.
 abbrev pub expression : Format (List Plain)
 expression = ended 0x0B (such IsNoEnd (instruction table))
 
--- the stored bytes, and then End
+-- The encoding of an expression: the stored bytes, then `end`.
 abbrev pub expression_text : List ℕ → List ℕ
 expression_text bytes = bytes ++ 0x0B ∷ []
 
--- ---- plain expressions
+-- ---- well-formed expressions
 
--- The stored bytes spell these instructions, none of them End.
+-- The stored bytes encode these instructions in this mode, and none of them is `end`.
 abbrev pub StoresIn : Mode → List ℕ → List Plain → Type 0
 StoresIn mode bytes is = members (such IsNoEnd (instruction table)) mode bytes is
 
--- plain: They do in shortest form.
+-- The stored bytes minimally encode these instructions, and none of them is `end`.
 abbrev pub StoresInstructions : List ℕ → List Plain → Type 0
 StoresInstructions bytes is = StoresIn shortest bytes is
 
--- plain but for padded numbers
+-- The stored bytes encode these instructions, possibly padded, and none of them is `end`.
 abbrev pub StoresWide : List ℕ → List Plain → Type 0
 StoresWide bytes is = StoresIn wide bytes is
 
--- the normal form of an instruction
+-- The normal form of an instruction.
 abbrev pub normal_row : {A : Type 0} → Instruction A → Plain
 normal_row i = normal (row_of i)
 
--- an instruction that a plain expression can store
+-- A well-formed instruction other than `end`, which a constant expression can store.
 pub record IsPlainInside {A : Type 0} (i : Instruction A) : Type 0 where
   pub plain : IsPlainInstruction i
   pub no_end : IsNoEnd (row_of i)
 
--- The new bytes are the old ones and the text of i. Where i is plain and the old ones spell instructions, the new ones spell these and the
--- normal form of i.
+-- The bytes gain the encoding of i. If i is well-formed and the old bytes minimally encode
+-- instructions, the new bytes encode these and the normal form of i.
 pub record Stores (i : Instruction Global) (old new : List ℕ) : Type 0 where
   pub text : new ≡ old ++ instruction_text i
   pub plain : IsPlainInstruction i → (is : List Plain) → StoresInstructions old is → StoresInstructions new (is ++ normal_row i ∷ [])
 
--- Where the instructions are plain and none of them is End, the bytes spell their normal forms.
+-- If the instructions are well-formed and none is `end`, the bytes minimally encode their normal
+-- forms.
 pub record StoresAll {A : Type 0} (is : List (Instruction A)) (bytes : List ℕ) : Type 0 where
   pub plain : All IsPlainInside is → StoresInstructions bytes (map normal_row is)
 
--- ---- the instruction that an expression begins with, where it is kept as a value
+-- ---- an expression of one instruction, which is kept as a value
 
--- the instruction
+-- The instruction that is kept as a value.
 abbrev pub instruction_of : First → Instruction Global
 instruction_of (firsts.GlobalGet index) = instructions.GlobalGet index
 instruction_of (firsts.RefNull ty) = instructions.RefNull ty
@@ -76,39 +79,41 @@ instruction_of (firsts.I64Const value) = instructions.I64Const value
 instruction_of (firsts.F32Const value) = instructions.F32Const value
 instruction_of (firsts.F64Const value) = instructions.F64Const value
 
--- its text
+-- The encoding of that instruction.
 abbrev pub first_text : First → List ℕ
 first_text first = instruction_text (instruction_of first)
 
--- the index of `RefFunc`
+-- The function index of `ref.func`, and nothing for other instructions.
 abbrev pub index_of : First → Option ℕ
 index_of (firsts.RefFunc index) = Some index
 index_of first = None
 
 -- ---- calls
 
--- The buffer gains the texts of the items that the elements give.
+-- If the call succeeds, the buffer gains the encodings of the items that the iterator yields. If
+-- all items fit, the call never returns `TooLong`.
 pub record AppendsEach {U S T : Type 0} (becomes : U → S → Type 0) (gives : S → Option T → S → Type 0) (Fits : T → Type 0) (text : T → List ℕ)
     (elements : U) (old new : List ℕ) (result : Result (Unit {0}) Refused) : Type 0 where
   pub ok : OnOk result ((it : S) × (xs : List T) × becomes elements it × Drains gives it xs × All Fits xs × (new ≡ old ++ flat_map text xs))
   pub too_long : ((it left : S) (xs : List T) → becomes elements it → Yields gives it xs left → All Fits xs) → result ≢ Err TooLong
 
--- The expression stores the texts of the instructions that the elements give.
+-- The expression stores the encodings of the instructions that the iterator yields. If all of them
+-- fit, the call never returns `TooLong`.
 pub record StoresGiven {U S : Type 0} (becomes : U → S → Type 0) (gives : S → Option (Instruction Global) → S → Type 0) (elements : U) (result : Result (List ℕ) Refused) : Type 0 where
   pub ok : IfOk result (λ bytes. (it : S) × (is : List (Instruction Global)) × becomes elements it × Drains gives it is × All InstructionFits is × (bytes ≡ flat_map instruction_text is) × StoresAll is bytes)
   pub too_long : ((it left : S) (is : List (Instruction Global)) → becomes elements it → Yields gives it is left → All InstructionFits is) → result ≢ Err TooLong
 
--- ---- the index of `RefFunc`
+-- ---- the index of `ref.func`
 
--- `RefFunc` and an index, padded or not
+-- The instruction `ref.func` with its index.
 abbrev pub ref_func : Format ℕ
 ref_func = prefixed (0xD2 ∷ []) u32
 
--- The bytes begin with `RefFunc` of f, in a wide spelling of 32 bits.
+-- The bytes begin with `ref.func f`, possibly padded.
 pub record BeginsWithRefFunc (bytes : List ℕ) (f : ℕ) : Type 0 where
   pub rest : List ℕ
   pub read : Reads ref_func wide bytes f rest
 
--- The answer is an index exactly where the bytes begin with `RefFunc` of it.
+-- `answer` is `Some f` exactly if the bytes begin with `ref.func f`.
 pub record IsRefFunc (bytes : List ℕ) (answer : Option ℕ) : Type 0 where
   pub exactly : (f : ℕ) → (answer ≡ Some f) ↔ BeginsWithRefFunc bytes f

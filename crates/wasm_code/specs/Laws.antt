@@ -1,4 +1,5 @@
--- What is promised of all lists of bytes.
+-- This file defines the laws of bodies, expressions and code sections: offsets, encodings that fit,
+-- and call by call what a code section holds.
 use Rattle.std.specs.Prelude.{◌≡◌, ◌≢◌, ℕ, ◌^◌, ◌<◌, List, [], ◌∷◌, ◌++◌, map}
 use Rattle.std.specs.List.{All, AllZip, flat_map}
 use Rattle.wasm_base.specs.Numbers.{shortest, wide}
@@ -16,91 +17,95 @@ use Rattle.wasm_code.specs.Expressions.{normal_row, IsNoEnd, expression, express
 use Rattle.wasm_code.specs.Bodies.{Body, body, and_then, IsPlainBody, IsWideBody, Grows, Run, expand, IsRun, IsRuns, locals_text}
 use Rattle.wasm_code.specs.Code.{SpellsBodies, SpellsBodiesWide}
 
--- With shortest numbers no value stands at the front of the text, whatever follows.
+-- With minimal LEB128 no value decodes from the front of the bytes, whatever follows them.
 pub record NothingStands {X : Type 0} (F : Format X) (text : List ℕ) : Type 0 where
   pub none : (after : List ℕ) → ReadsNothing F shortest (text ++ after)
 
--- The body y has the runs and instructions of x first, and `next` begins where x ended: `more` spells it and what follows it.
+-- The body y has the runs and instructions of x, then `next` and other instructions, which `more`
+-- minimally encodes.
 pub record GoesOnWith (more : List ℕ) (x y : Body) (next : Plain) : Type 0 where
   pub others : List Plain
   pub same : y ≡ and_then x (next ∷ others)
   pub spelled : members (instruction table) shortest more (next ∷ others)
 
--- Where a raw body that spells x goes on, and as a whole spells y, an instruction begins after as many bytes as it has.
+-- The length of a raw body is the offset of the next instruction: if more bytes follow it and the
+-- whole encodes a body, an instruction begins at that offset.
 pub record HasOffsets : Type 0 where
   pub begins : (front more : List ℕ) (x y : Body) → body shortest front x → body shortest (front ++ more) y → more ≢ [] → (next : Plain) × GoesOnWith more x y next
 
--- Where a plain instruction was added next, it is the one that begins there.
+-- If a well-formed instruction is appended to a raw body, it is the instruction that begins at the
+-- raw body's length.
 pub record FindsAdded {A : Type 0} (i : Instruction A) : Type 0 where
   pub begins : (front rest : List ℕ) (x y : Body) → IsPlainInstruction i → body shortest front x → body shortest (front ++ (instruction_text i ++ rest)) y → GoesOnWith (instruction_text i ++ rest) x y (normal_row i)
 
--- A list of types has at most one list of runs.
+-- Two canonical lists of runs with the same types are the same.
 pub record HaveOneExpansion (xs ys : List Run) : Type 0 where
   pub same : IsRuns xs → IsRuns ys → expand xs ≡ expand ys → xs ≡ ys
 
--- ---- texts
+-- ---- encodings
 
--- a plain instruction in normal form
+-- The instruction is well-formed and in normal form.
 pub record IsNormal (i : Plain) : Type 0 where
   pub plain : IsPlain table i
   pub same : normal i ≡ i
 
--- one that a constant expression can hold
+-- A normal instruction that a constant expression can hold: one other than `end`.
 abbrev pub IsNormalInside : Plain → Type 0
 IsNormalInside i = IsNormal i × IsNoEnd i
 
--- the instructions, one after another
+-- The encodings of the instructions, one after another.
 abbrev pub code_text : List Plain → List ℕ
 code_text is = flat_map plain_text is
 
--- the instructions, and End
+-- The encoding of an expression: its instructions, then `end`.
 abbrev pub plain_expression_text : List Plain → List ℕ
 plain_expression_text is = expression_text (code_text is)
 
--- Each instruction is plain, in normal form, and not End.
+-- Each instruction is well-formed, in normal form, and not `end`.
 abbrev pub PlainExpressionFits : List Plain → Type 0
 PlainExpressionFits = All IsNormalInside
 
--- the vector of the runs, and the instructions
+-- The encoding of a body: the vector of its runs, then its instructions.
 abbrev pub body_text : Body → List ℕ
 body_text x = locals_text x.runs ++ code_text x.code
 
--- a body whose runs can be counted, of plain instructions in normal form
+-- The runs are in range and fit their count, and the instructions are well-formed and in normal
+-- form.
 pub record BodyFits (x : Body) : Type 0 where
   pub runs : VecFits IsRun x.runs
   pub code : All IsNormal x.code
 
--- the text of an entry of a code section: the frame of a body
+-- The encoding of an entry of the code section: a body with its size prefix.
 abbrev pub body_frame_text : Body → List ℕ
 body_frame_text x = frame_text (body_text x)
 
--- a body whose size can be spelled
+-- The body fits, and so does its size.
 pub record BodyFrameFits (x : Body) : Type 0 where
   pub body : BodyFits x
   pub size : FrameFits (body_text x)
 
--- a code section of raw bodies
+-- The encoding of a code section with raw bodies.
 abbrev pub raw_code_text : List (List ℕ) → List ℕ
 raw_code_text raw = frame_text (vec_text frame_text raw)
 
--- Raw bodies whose sizes and count can be spelled, and the size of all.
+-- The sizes and the count of the raw bodies, and the size of the section, are at most 2^32 - 1.
 pub record RawCodeFits (raw : List (List ℕ)) : Type 0 where
   pub members : VecFits FrameFits raw
   pub size : FrameFits (vec_text frame_text raw)
 
--- a code section of bodies
+-- The encoding of a code section with bodies.
 abbrev pub code_section_text : List Body → List ℕ
 code_section_text bodies = frame_text (vec_text body_frame_text bodies)
 
--- Bodies that fit, whose count can be spelled, and the size of all.
+-- The bodies fit, and their count and the size of the section are at most 2^32 - 1.
 pub record CodeSectionFits (bodies : List Body) : Type 0 where
   pub members : VecFits BodyFrameFits bodies
   pub size : FrameFits (vec_text body_frame_text bodies)
 
 -- ---- calls
 
--- A code section without entries holds no bodies, and an entry that is the frame of a raw body adds the body that this spells. The
--- entries that `add_all` adds are added as one by one.
+-- A code section without entries holds no bodies. An entry with a raw body adds the body that it
+-- minimally encodes. `add_all` adds its entries as if one by one.
 pub record HoldsMoreBodies : Type 0 where
   pub none : SpellsBodies [] []
   pub given : (entries : List (List ℕ)) (bodies : List Body) (raw : List ℕ) (x : Body) → SpellsBodies entries bodies → IsPlainBody raw x
@@ -108,23 +113,24 @@ pub record HoldsMoreBodies : Type 0 where
   pub all : (entries : List (List ℕ)) (bodies : List Body) (raw : List (List ℕ)) (xs : List Body) → SpellsBodies entries bodies → AllZip IsPlainBody raw xs
       → SpellsBodies (entries ++ map frame_text raw) (bodies ++ xs)
 
--- Where bytes gain the text of an instruction that is plain, a body gains the instruction.
+-- A body that gains the encoding of a well-formed instruction gains the instruction.
 pub record GrowsByText {A : Type 0} (i : Instruction A) : Type 0 where
   pub grows : (old : List ℕ) → Grows i old (old ++ instruction_text i)
 
--- the row of `BrTable`
+-- The instruction `br_table` as opcode and immediates.
 abbrev pub br_table_row : List ℕ → ℕ → Plain
 br_table_row ls default = record { op = Byte 0x0E; arguments = labels ls ∷ unsigned default ∷ [] }
 
--- Where bytes gain the text of `BrTable`, of labels in range that can be counted and a default one in range, a body gains this instruction.
+-- A body that gains the encoding of `br_table`, with labels in range that fit their count and a
+-- default label in range, gains the instruction.
 pub record GrowsByLabels : Type 0 where
   pub grows : (ls : List ℕ) (default : ℕ) (old : List ℕ) (x : Body) → VecFits (λ n. n < 2 ^ 32) ls → default < 2 ^ 32 → IsPlainBody old x
       → IsPlainBody (old ++ br_table_text ls default) (and_then x (br_table_row ls default ∷ []))
 
--- ---- calls, with padded numbers
+-- ---- calls, for padded LEB128
 
--- A code section spells with padded numbers what it spells in shortest form, and an entry that is the frame of a raw body adds the body that
--- this spells so. The entries that `add_all` adds are added as one by one.
+-- A code section holds, padded, all that it holds in minimal encodings. An entry with a raw body
+-- adds the body that it encodes, possibly padded. `add_all` adds its entries as if one by one.
 pub record HoldsMoreBodiesWide : Type 0 where
   pub none : SpellsBodiesWide [] []
   pub held : (entries : List (List ℕ)) (bodies : List Body) → SpellsBodies entries bodies → SpellsBodiesWide entries bodies
@@ -133,17 +139,19 @@ pub record HoldsMoreBodiesWide : Type 0 where
   pub all : (entries : List (List ℕ)) (bodies : List Body) (raw : List (List ℕ)) (xs : List Body) → SpellsBodiesWide entries bodies → AllZip IsWideBody raw xs
       → SpellsBodiesWide (entries ++ map frame_text raw) (bodies ++ xs)
 
--- A plain body is one with padded numbers too, and gains the instructions that given bytes spell so.
+-- A minimal encoding of a body is a possibly padded one, and gains the instructions that raw bytes
+-- encode, possibly padded.
 pub record GrowsWide : Type 0 where
   pub plain : (bytes : List ℕ) (x : Body) → IsPlainBody bytes x → IsWideBody bytes x
   pub raw : (old more : List ℕ) (x : Body) (is : List Plain) → IsWideBody old x → members (instruction table) wide more is → IsWideBody (old ++ more) (and_then x is)
 
--- Where bytes gain the text of an instruction that is plain, a body with padded numbers gains the instruction.
+-- A possibly padded body that gains the encoding of a well-formed instruction gains the
+-- instruction.
 pub record GrowsByTextWide {A : Type 0} (i : Instruction A) : Type 0 where
   pub grows : (old : List ℕ) (x : Body) → IsPlainInstruction i → IsWideBody old x → IsWideBody (old ++ instruction_text i) (and_then x (normal_row i ∷ []))
 
--- A plain expression is one with padded numbers too. One after another, two lists of stored bytes store the instructions of both, and their text is
--- an expression of these.
+-- A minimal expression is a possibly padded one. Two stored expressions, one after another, store
+-- the instructions of both. With `end` they are an expression.
 pub record StoresMoreWide : Type 0 where
   pub plain : (bytes : List ℕ) (is : List Plain) → StoresInstructions bytes is → StoresWide bytes is
   pub more : (old more : List ℕ) (is others : List Plain) → StoresWide old is → StoresWide more others → StoresWide (old ++ more) (is ++ others)

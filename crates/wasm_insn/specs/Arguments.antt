@@ -1,4 +1,4 @@
--- The arguments of an instruction: one for each part of its shape.
+-- This file defines the immediates of an instruction and their encodings.
 use Rattle.std.specs.Prelude.{ℕ, ℤ, List, [], ◌∷◌, ◌++◌, ⊤}
 use Rattle.wasm_base.specs.Numbers.{unsigned_text, signed_text}
 use Rattle.wasm_base.specs.Texts.{vec_text, VecFits, little_endian_text}
@@ -16,7 +16,7 @@ use Rattle.wasm_immediates.specs.Immediates.{ordering_code, mem_arg_text, block_
 use Rattle.wasm_insn.specs.declared.part.Part.TheVariants as parts
 use Rattle.wasm_insn.specs.declared.part.Part.{Part}
 
--- an immediate of an instruction, or a list of them
+-- An immediate of an instruction, or a list of immediates.
 pub data Argument : Type 0 where
   unsigned : ℕ → Argument
   signed32 : ℤ → Argument
@@ -36,7 +36,7 @@ pub data Argument : Type 0 where
   handles : List Handle → Argument
   flag : ℕ → Argument
 
--- the part that an argument is given for
+-- The type of an immediate.
 abbrev pub part_of : Argument → Part
 part_of (unsigned n) = parts.Unsigned
 part_of (signed32 v) = parts.Signed32
@@ -56,7 +56,7 @@ part_of (types ts) = parts.Types
 part_of (handles hs) = parts.Handles
 part_of (flag n) = parts.Flag
 
--- the text of an argument
+-- The encoding of an immediate.
 abbrev pub argument_text : Argument → List ℕ
 argument_text (unsigned n) = unsigned_text n
 argument_text (signed32 v) = signed_text v
@@ -76,12 +76,12 @@ argument_text (types ts) = vec_text val_text ts
 argument_text (handles hs) = vec_text handle_text hs
 argument_text (flag n) = n ∷ []
 
--- the arguments' texts, one after another
+-- The encodings of the immediates, one after another.
 abbrev pub arguments_text : List Argument → List ℕ
 arguments_text [] = []
 arguments_text (x ∷ xs) = argument_text x ++ arguments_text xs
 
--- The lists among the arguments can be counted.
+-- A list among the immediates has at most 2^32 - 1 members.
 abbrev pub argument_fits : Argument → Type 0
 argument_fits (labels ns) = VecFits (λ n. ⊤) ns
 argument_fits (catches cs) = VecFits (λ c. ⊤) cs
@@ -89,7 +89,7 @@ argument_fits (types ts) = VecFits (λ t. ⊤) ts
 argument_fits (handles hs) = VecFits (λ h. ⊤) hs
 argument_fits _ = ⊤
 
--- The lists among all arguments can be counted.
+-- Each list among the immediates has at most 2^32 - 1 members.
 abbrev pub arguments_fit : List Argument → Type 0
 arguments_fit [] = ⊤
 arguments_fit (x ∷ xs) = argument_fits x × arguments_fit xs

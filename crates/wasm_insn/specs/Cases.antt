@@ -1,4 +1,4 @@
--- A value of each case of an instruction, in the order of the table.
+-- This file defines a value of each case of an instruction, in the order of the opcode table.
 use Rattle.std.specs.Prelude.{◌≡◌, ℕ, ℤ, List, [], ◌∷◌, map}
 use Rattle.std.specs.List.{Contains}
 use Rattle.wasm_base.specs.declared.cow.CowSlice.{CowSlice}
@@ -25,7 +25,7 @@ use Rattle.wasm_insn.specs.Instructions.{row_of}
 use Rattle.wasm_insn.specs.Parts.{parts_of}
 use Rattle.wasm_insn.specs.Plain.{Table}
 
--- fields for the cases
+-- The fields that `all_cases` gives to the cases.
 pub record Given (A : Type 0) : Type 0 where
   pub index : ℕ
   pub second_index : ℕ
@@ -46,7 +46,7 @@ pub record Given (A : Type 0) : Type 0 where
   pub types : CowSlice ValType A
   pub handles : CowSlice Handle A
 
--- each case of the enums once, with these fields
+-- Each case of the enums once, with these fields.
 abbrev pub all_cases : {A : Type 0} → Given A → List (Instruction A)
 all_cases given =
     cases.Unreachable ∷
@@ -679,13 +679,13 @@ all_cases given =
     cases.Atomic atomic.RefI31Shared ∷
     []
 
--- The cases are the rows of the table, one to one and in order: the ops are those of the rows, and the arguments have the parts of
--- their shapes.
+-- The cases are the rows of the table in order: each has the opcode of its row, and the immediates
+-- of its shape.
 pub record AreRows {A : Type 0} (is : List (Instruction A)) (rows : Table) : Type 0 where
   pub ops : map (λ i. (row_of i).op) is ≡ map (λ row. row.0) rows
   pub parts : map (λ i. map part_of (row_of i).arguments) is ≡ map (λ row. parts_of row.1) rows
 
--- The instruction is one of the cases, with its own fields.
+-- The instruction is one of the cases, with some fields.
 pub record IsCase {A : Type 0} (i : Instruction A) : Type 0 where
   pub fields : Given A
   pub stands : Contains (all_cases fields) i

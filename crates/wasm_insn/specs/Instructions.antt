@@ -1,4 +1,5 @@
--- The rows of all instructions, and their texts.
+-- This file defines the opcode and immediates of every instruction, and the encoding of
+-- instructions. Core specification, Binary Format, Instructions.
 use Rattle.std.specs.Prelude.{◌≡◌, ◌↔◌, ℕ, ◌+◌, ◌*◌, List, [], ◌∷◌, Bool, true, false}
 use Rattle.wasm_base.specs.Reading.{ReadsAlone}
 use Rattle.wasm_insn.specs.declared.instruction.Instruction.{Instruction}
@@ -16,16 +17,16 @@ use Rattle.wasm_insn.specs.Vector.{vector_number}
 use Rattle.wasm_insn.specs.VectorImmediate.{vector_immediate_row}
 use Rattle.wasm_insn.specs.Atomic.{atomic_row}
 
--- 1 where the flag is set, and 0 where it is not
+-- 1 if the flag is set, and 0 otherwise.
 abbrev pub bit_of : Bool → ℕ
 bit_of true = 1
 bit_of false = 0
 
--- Bit 0 says that the first type is nullable, bit 1 that the second is.
+-- The flags of a cast: bit 0 says that the first type is nullable, bit 1 that the second is.
 abbrev pub cast_flag_of : RefType → RefType → ℕ
 cast_flag_of from to = bit_of from.nullable + 2 * bit_of to.nullable
 
--- the op and the arguments of a case
+-- The opcode and the immediates of an instruction.
 abbrev pub row_of : {A : Type 0} → Instruction A → Plain
 row_of Unreachable = record { op = Byte 0x00; arguments = [] }
 row_of Nop = record { op = Byte 0x01; arguments = [] }
@@ -156,30 +157,31 @@ row_of (Vector i) = record { op = Prefixed 0xFD (vector_number i); arguments = [
 row_of (VectorImmediate i) = vector_immediate_row i
 row_of (Atomic i) = atomic_row i
 
--- the op and the arguments, in bytes
+-- The encoding of an instruction: its opcode, then its immediates.
 abbrev pub instruction_text : {A : Type 0} → Instruction A → List ℕ
 instruction_text i = plain_text (row_of i)
 
--- an instruction whose lists can be counted
+-- Each list in the instruction has at most 2^32 - 1 members.
 abbrev pub InstructionFits : {A : Type 0} → Instruction A → Type 0
 InstructionFits i = arguments_fit (row_of i).arguments
 
--- Alignments are below 16, and numbers in the range of their types, which every instruction's are that code has made.
+-- The instruction is well-formed: alignments are below 16, lists fit, and numbers are in range.
+-- Lists and numbers of every instruction that code builds are so.
 abbrev pub IsPlainInstruction : {A : Type 0} → Instruction A → Type 0
 IsPlainInstruction i = ArePlain (row_of i).arguments
 
--- The alignments of its memory arguments are below 16.
+-- The alignments of the instruction's memory arguments are below 16.
 abbrev pub HasSmallAlignments : {A : Type 0} → Instruction A → Type 0
 HasSmallAlignments i = HaveSmallAlignments (row_of i).arguments
 
--- Where its alignments are below 16 and its lists can be counted, the instruction is plain.
+-- If its alignments are below 16 and its lists fit, the instruction is well-formed.
 pub record IsPlainWhereAligned {A : Type 0} (i : Instruction A) : Type 0 where
   pub plain : HasSmallAlignments i → InstructionFits i → IsPlainInstruction i
 
--- Where the instruction is plain, its text is read as its normal form alone.
+-- The encoding of a well-formed instruction decodes to its normal form alone.
 pub record ReadsInstruction {A : Type 0} (i : Instruction A) : Type 0 where
   pub alone : IsPlainInstruction i → ReadsAlone (instruction table) (instruction_text i) (normal (row_of i))
 
--- Plain instructions have one text exactly where they have one normal form.
+-- Two well-formed instructions have the same encoding exactly if they have the same normal form.
 pub record HaveOneText {A : Type 0} (i j : Instruction A) : Type 0 where
   pub exactly : IsPlainInstruction i → IsPlainInstruction j → (instruction_text i ≡ instruction_text j) ↔ (normal (row_of i) ≡ normal (row_of j))

@@ -1,11 +1,11 @@
--- The parts of shapes: what follows an opcode.
+-- This file defines which immediates follow an opcode, by the shape of the instruction.
 use Rattle.std.specs.Prelude.{List, [], ◌∷◌}
 use Rattle.wasm_insn.specs.declared.op.Shape.{Shape}
 use Rattle.wasm_insn.specs.declared.op.Shape.TheVariants.{Nothing, U, Uu, M, Ml, L, B, H, O, Ou, Ouu, C32, C64, F32, F64, V, Ls, Bt, Tt, Ts, K, Uh, Uuh}
 use Rattle.wasm_insn.specs.declared.part.Part.{Part}
 use Rattle.wasm_insn.specs.declared.part.Part.TheVariants as parts
 
--- the parts of a shape, in order
+-- The types of the immediates of a shape, in order.
 abbrev pub parts_of : Shape → List Part
 parts_of Nothing = []
 parts_of U = parts.Unsigned ∷ []

@@ -1,4 +1,5 @@
--- Plain instructions: their normal form, and which bytes spell them.
+-- This file defines instructions as opcode and immediates: when they are well-formed, their normal
+-- form and their format.
 use Rattle.std.specs.Prelude.{◌≡◌, ℕ, map, ◌++◌, ◌^◌, ◌<◌, List, [], ◌∷◌, length, Bool, true, false, ◌==◌, ◌&&◌, cond, nat_le, Option, Some, None, ⊤}
 use Rattle.std.specs.List.{AllByRecursion}
 use Rattle.wasm_base.specs.Formats.{Format, u32, s32, s64, byte, raw_bytes, little_endian, fixed, impossible, mapped, such, when, tagged, pair, Then, vec}
@@ -17,28 +18,29 @@ use Rattle.wasm_insn.specs.Arguments.{Argument, unsigned, signed32, signed64, fl
 
 -- ---- normal form
 
--- the argument, a memory argument in normal form
+-- The normal form of an immediate: a memory argument in normal form, and any other as it is.
 abbrev pub normal_argument : Argument → Argument
 normal_argument (memory m) = memory (normal_memory m)
 normal_argument x = x
 
--- an opcode, and arguments
+-- An instruction: an opcode and immediates.
 pub record Plain : Type 0 where
   pub op : Op
   pub arguments : List Argument
 
--- the arguments, each in normal form
+-- The immediates, each in normal form.
 abbrev pub normal_arguments : List Argument → List Argument
 normal_arguments [] = []
 normal_arguments (x ∷ xs) = normal_argument x ∷ normal_arguments xs
 
--- the instruction with its arguments in normal form
+-- The normal form of an instruction: its immediates in normal form.
 abbrev pub normal : Plain → Plain
 normal i = record { op = i.op; arguments = normal_arguments i.arguments }
 
--- ---- plain arguments
+-- ---- well-formed immediates
 
--- Numbers are in the range of their part, alignments below 16, and flags of a cast below 4; lists can be counted, and there are 16 lanes.
+-- The immediate is well-formed: numbers are in the range of their type, alignments below 16 and
+-- flags of a cast below 4. Lists have at most 2^32 - 1 members, and there are 16 lanes.
 abbrev pub IsPlainArgument : Argument → Type 0
 IsPlainArgument (unsigned n) = n < 2 ^ 32
 IsPlainArgument (signed32 v) = FitsSigned32 v
@@ -58,7 +60,7 @@ IsPlainArgument (types ts) = VecFits IsVal ts
 IsPlainArgument (handles hs) = VecFits IsPlainHandle hs
 IsPlainArgument (flag n) = n < 4
 
--- Each argument is plain.
+-- Each immediate is well-formed.
 abbrev pub ArePlain : List Argument → Type 0
 ArePlain = AllByRecursion IsPlainArgument
 
@@ -71,17 +73,17 @@ HasSmallAlignment _ = ⊤
 abbrev pub HaveSmallAlignments : List Argument → Type 0
 HaveSmallAlignments = AllByRecursion HasSmallAlignment
 
--- ---- formats of parts, opcodes and instructions
+-- ---- formats of immediates, opcodes and instructions
 
--- the argument of a float of 32 bits, from its bits
+-- The immediate of a 32-bit float with these bits.
 abbrev pub float32_of : ℕ → Argument
 float32_of bits = float32 (record { bits = bits })
 
--- the argument of a float of 64 bits, from its bits
+-- The immediate of a 64-bit float with these bits.
 abbrev pub float64_of : ℕ → Argument
 float64_of bits = float64 (record { bits = bits })
 
--- the format of the argument that a part stands for
+-- The format of an immediate, by its type.
 abbrev pub part : Part → Format Argument
 part parts.Unsigned = mapped unsigned u32
 part parts.Signed32 = mapped signed32 s32
@@ -101,64 +103,67 @@ part parts.Types = mapped types (vec val_type)
 part parts.Handles = mapped handles (vec handle)
 part parts.Flag = mapped flag (such (λ b. b < 4) byte)
 
--- a member, and the list behind it
+-- The list of a first member and the other members.
 abbrev pub cons : {X : Type 0} → X × List X → List X
 cons p = p.0 ∷ p.1
 
--- one argument for each part
+-- One immediate of each type, in order.
 abbrev pub arguments : List Part → Format (List Argument)
 arguments [] = fixed [] []
 arguments (p ∷ ps) = mapped cons (pair (part p) (arguments ps))
 
--- FB to FE, hexadecimal
+-- Whether the byte is a prefix of opcodes: FB, FC, FD or FE.
 abbrev pub is_prefix : ℕ → Bool
 is_prefix b = nat_le 0xFB b && nat_le b 0xFE
 
--- A prefix has a number after it, and no other byte has.
+-- A prefix has a number below 2^32, and no other byte has one.
 abbrev pub IsOpcode : Op → Type 0
 IsOpcode (Byte b) = is_prefix b ≡ false
 IsOpcode (Prefixed prefix number) = (is_prefix prefix ≡ true) × (number < 2 ^ 32)
 
--- what follows the first byte of an opcode: a number after a prefix, and nothing after any other byte
+-- The bytes after the first byte of an opcode: a number after a prefix, nothing after any other
+-- byte.
 abbrev pub op_after : ℕ → Format Op
 op_after b = when (is_prefix b) (mapped (Prefixed b) u32) (fixed [] (Byte b))
 
--- opcode: a byte, or a prefix and a number
+-- An opcode: a byte, or a prefix and a number. Core specification, Binary Format, Instructions.
 abbrev pub opcode : Format Op
 opcode = tagged byte op_after
 
--- whether two opcodes are the same
+-- Whether two opcodes are the same.
 abbrev pub same_op : Op → Op → Bool
 same_op (Byte a) (Byte b) = a == b
 same_op (Byte a) (Prefixed p n) = false
 same_op (Prefixed p n) (Byte b) = false
 same_op (Prefixed p n) (Prefixed q m) = (p == q) && (n == m)
 
--- the shape of each opcode
+-- An opcode table: opcodes with their shapes.
 abbrev pub Table : Type 0
 Table = List (Op × Shape)
 
--- the shape of an opcode: that of its first row in the table
+-- The shape of an opcode: that of its first row in the table.
 abbrev pub shape_of : Table → Op → Option Shape
 shape_of [] op = None
 shape_of (row ∷ rows) op = cond (same_op row.0 op) (Some row.1) (shape_of rows op)
 
--- the arguments after an opcode of this shape, and none after one that the table does not have
+-- The immediates after an opcode of this shape. Nothing decodes after an opcode that is not in the
+-- table.
 abbrev pub arguments_after : Option Shape → Format (List Argument)
 arguments_after None = impossible
 arguments_after (Some shape) = arguments (parts_of shape)
 
--- the instruction of an opcode and arguments
+-- The instruction of an opcode and immediates.
 abbrev pub plain_of : Op × List Argument → Plain
 plain_of p = record { op = p.0; arguments = p.1 }
 
--- instruction in normal form: the opcode, and an argument for each part of its shape
+-- An instruction in normal form: an opcode, and the immediates that its shape in the table has.
 abbrev pub instruction : Table → Format Plain
 instruction table = mapped plain_of (Then opcode (λ op. arguments_after (shape_of table op)))
 
--- ---- plain instructions
+-- ---- well-formed instructions
 
--- The opcode stands in the table, and there is a plain argument for each part of its shape.
+-- The instruction is well-formed: its opcode is in the table, and it has a well-formed immediate
+-- for each of its shape.
 pub record IsPlain (table : Table) (i : Plain) : Type 0 where
   pub shape : Shape
   pub opcode : IsOpcode i.op
@@ -166,6 +171,6 @@ pub record IsPlain (table : Table) (i : Plain) : Type 0 where
   pub parts : map part_of i.arguments ≡ parts_of shape
   pub arguments : ArePlain i.arguments
 
--- the text of an instruction: its opcode, and then its arguments
+-- The encoding of an instruction: its opcode, then its immediates.
 abbrev pub plain_text : Plain → List ℕ
 plain_text i = op_text i.op ++ arguments_text i.arguments

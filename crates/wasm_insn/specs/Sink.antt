@@ -1,4 +1,4 @@
--- What calls of a sink leave in its buffer.
+-- This file defines what a call on an instruction sink promises.
 use Rattle.std.specs.Prelude.{◌≡◌, ◌≢◌, ℕ, ◌<◌, ◌≤◌, List, [], ◌∷◌, ◌++◌, length, Result, Err, OnOk, OnErr, IsOk, is_ok, Option, if◌then◌else◌}
 use Rattle.std.specs.Iterator.{Count, Drains, Yields, size}
 use Rattle.std.specs.List.{All}
@@ -12,23 +12,26 @@ use Rattle.wasm_insn.specs.Arguments.{labels, unsigned}
 use Rattle.wasm_insn.specs.Plain.{plain_text}
 use Rattle.wasm_insn.specs.Instructions.{instruction_text, InstructionFits}
 
--- the old bytes and the text where the call was accepted, and the old bytes alone where it was refused
+-- The old bytes, followed by the encoding if the call succeeds.
 abbrev pub appended : Result (Unit {0}) Refused → List ℕ → List ℕ → List ℕ
 appended result old text = if is_ok result then old ++ text else old
 
--- The buffer gains the text, or keeps what it has. Where it has room for the text, and this fits, the call is accepted.
+-- The sink gains the encoding, or the call returns an error and leaves the bytes as they were. If
+-- the value fits, the call never returns `TooLong`, and it succeeds within the spare capacity.
 pub record Writes (text : List ℕ) (fits has_room : Type 0) (old new : List ℕ) (result : Result (Unit {0}) Refused) : Type 0 where
   pub bytes : new ≡ appended result old text
   pub fitted : OnOk result fits
   pub too_long : fits → result ≢ Err TooLong
   pub room : fits → has_room → IsOk result
 
--- The buffer gains the text of the instruction, or keeps what it has.
+-- The sink gains the encoding of the instruction, or the call returns an error and leaves the bytes
+-- as they were.
 abbrev pub WritesInstruction : {B : Type 0} → (B → List ℕ) → (B → ℕ → Type 0) → Instruction Global → B → B → Result (Unit {0}) Refused → Type 0
 WritesInstruction written has_room i old new result =
     Writes (instruction_text i) (InstructionFits i) (has_room old (length (instruction_text i))) (written old) (written new) result
 
--- The buffer gains the text `before`, the vector of the items that the elements give, and the text `after`, or keeps what it has.
+-- The sink gains `before`, the vector of the items that the iterator yields, and `after`, or the
+-- call returns an error and leaves the bytes as they were.
 pub record WritesVec {E I T : Type 0} (becomes : E → I → Type 0) (gives : I → Option T → I → Type 0) (remaining : I → Count) (Fits : T → Type 0) (text : T → List ℕ)
     (elements : E) (others_fit : Type 0) (before after old new : List ℕ) (result : Result (Unit {0}) Refused) : Type 0 where
   pub ok : OnOk result ((it : I) × (xs : List T) × becomes elements it × Drains gives it xs × VecFits Fits xs × others_fit × (new ≡ old ++ (before ++ (vec_text text xs ++ after))))
@@ -39,11 +42,12 @@ pub record WritesVec {E I T : Type 0} (becomes : E → I → Type 0) (gives : I 
       → result ≢ Err TooLong
   pub too_many : ((it : I) → becomes elements it → longest < size (remaining it)) → result ≡ Err TooLong
 
--- the text of `BrTable`
+-- The encoding of `br_table` with these labels and this default label.
 abbrev pub br_table_text : List ℕ → ℕ → List ℕ
 br_table_text ls default = plain_text (record { op = Byte 0x0E; arguments = labels ls ∷ unsigned default ∷ [] })
 
--- The buffer gains the text of `BrTable` of the labels that are given, or keeps what it has.
+-- The sink gains the encoding of `br_table` with the labels that the iterator yields, or the call
+-- returns an error and leaves the bytes as they were.
 pub record WritesLabels {E I : Type 0} (becomes : E → I → Type 0) (gives : I → Option ℕ → I → Type 0) (remaining : I → Count)
     (given : E) (default : ℕ) (old new : List ℕ) (result : Result (Unit {0}) Refused) : Type 0 where
   pub ok : OnOk result ((it : I) × (ls : List ℕ) × becomes given it × Drains gives it ls × (length ls ≤ longest) × (new ≡ old ++ br_table_text ls default))

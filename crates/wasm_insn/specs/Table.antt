@@ -1,4 +1,5 @@
--- The opcode table: a row for each instruction, in the order of ops: one-byte ops first, then by prefix and number.
+-- This file defines the opcode table: a row for each instruction, one-byte opcodes first, then by
+-- prefix and number. Core specification, Binary Format, Instructions.
 use Rattle.std.specs.Prelude.{◌≡◌, ℕ, ◌+◌, ◌-◌, ◌*◌, ◌^◌, ◌<◌, zero, suc, Bool, true, false, ◌&&◌, nat_le, List, [], ◌∷◌, ◌++◌, Option, Some, cond, map, IsTrue, length}
 use Rattle.std.specs.List.{AllByRecursion, find, flat_map}
 use Rattle.std.specs.Option.{option_map}
@@ -12,11 +13,11 @@ use Rattle.wasm_insn.specs.Parts.{parts_of}
 use Rattle.wasm_insn.specs.Arguments.{part_of}
 use Rattle.wasm_insn.specs.Plain.{Table, Plain, same_op, is_prefix, shape_of}
 
--- The ops of the numbers `first` to `last` have one shape.
+-- The opcodes with the numbers `first` to `last`, which have the same shape.
 abbrev pub run : ℕ → ℕ → Shape → Run
 run first last shape = record { 0 = first; 1 = last; 2 = shape }
 
--- One-byte ops. The op 1C has two rows, of `TypedSelect` and `TypedSelectMulti`.
+-- One-byte opcodes. 1C has two rows, for `TypedSelect` and `TypedSelectMulti`.
 abbrev pub one_byte : List Run
 one_byte =
     run 0x00 0x01 Nothing ∷
@@ -60,7 +61,7 @@ one_byte =
     run 0xE6 0xE6 Uu ∷
     []
 
--- ops after the prefix FB
+-- Opcodes after the prefix FB.
 abbrev pub after_fb : List Run
 after_fb =
     run 0 1 U ∷
@@ -79,7 +80,7 @@ after_fb =
     run 37 38 K ∷
     []
 
--- ops after the prefix FC
+-- Opcodes after the prefix FC.
 abbrev pub after_fc : List Run
 after_fc =
     run 0 7 Nothing ∷
@@ -94,7 +95,7 @@ after_fc =
     run 19 22 Nothing ∷
     []
 
--- ops after the prefix FD
+-- Opcodes after the prefix FD.
 abbrev pub after_fd : List Run
 after_fd =
     run 0 11 M ∷
@@ -120,7 +121,7 @@ after_fd =
     run 239 275 Nothing ∷
     []
 
--- ops after the prefix FE
+-- Opcodes after the prefix FE.
 abbrev pub after_fe : List Run
 after_fe =
     run 0x00 0x02 M ∷
@@ -133,16 +134,16 @@ after_fe =
     run 0x72 0x72 Nothing ∷
     []
 
--- as many numbers, from the given one up
+-- The first k numbers from n on.
 abbrev pub count_up : ℕ → ℕ → List ℕ
 count_up zero n = []
 count_up (suc k) n = n ∷ count_up k (n + 1)
 
--- the rows of a run: its ops, each with the shape
+-- The rows of a run: its opcodes, each with the shape.
 abbrev pub rows_of : (ℕ → Op) → Run → Table
 rows_of op r = map (λ n. (op n, r.2)) (count_up (r.1 + 1 - r.0) r.0)
 
--- the rows of the runs of one-byte ops, and of those after each prefix
+-- The rows of the one-byte opcodes, then of the opcodes after each prefix.
 abbrev pub table_of : (bytes fb fc fd fe : List Run) → Table
 table_of bytes fb fc fd fe =
     flat_map (rows_of Byte) bytes
@@ -151,45 +152,45 @@ table_of bytes fb fc fd fe =
     ++ (flat_map (rows_of (Prefixed 0xFD)) fd
     ++ (flat_map (rows_of (Prefixed 0xFE)) fe ++ []))))
 
--- The opcode table.
+-- The opcode table of 628 rows.
 unfoldable pub table : Table
 table = table_of one_byte after_fb after_fc after_fd after_fe
 
--- ---- looked up by runs
+-- ---- lookup by runs
 
--- whether the number is one of the run
+-- Whether the run has this number.
 abbrev pub has_number : ℕ → Run → Bool
 has_number n r = nat_le r.0 n && nat_le n r.1
 
--- the shape of the run that has the number
+-- The shape of the run that has the number.
 abbrev pub shape_in : List Run → ℕ → Option Shape
 shape_in runs n = option_map (λ r. r.2) (find (has_number n) runs)
 
--- ---- what holds of the table
+-- ---- properties of the table
 
--- the place of an op in the order
+-- The rank of an opcode in the order of the table.
 abbrev pub rank : Op → ℕ
 rank (Byte b) = b
 rank (Prefixed p n) = p * 2 ^ 32 + n
 
--- a byte that is no prefix, or a prefix with a number of 32 bits
+-- A byte that is not a prefix, or a prefix with a number below 2^32.
 abbrev pub IsTableOp : Op → Type 0
 IsTableOp (Byte b) = (b < 0x100) × (is_prefix b ≡ false)
 IsTableOp (Prefixed p n) = (is_prefix p ≡ true) × (n < 2 ^ 32)
 
--- No row's op comes before that of the row above it.
+-- No row's opcode comes before that of the row above it.
 abbrev pub ascends : Table → Bool
 ascends [] = true
 ascends (row ∷ []) = true
 ascends (row ∷ next ∷ rows) = nat_le (rank row.0) (rank next.0) && ascends (next ∷ rows)
 
--- the ops that a row shares with the row above it
+-- The opcodes that a row shares with the row above it.
 abbrev pub shared_ops : Table → List Op
 shared_ops [] = []
 shared_ops (row ∷ []) = []
 shared_ops (row ∷ next ∷ rows) = cond (same_op row.0 next.0) (row.0 ∷ shared_ops (next ∷ rows)) (shared_ops (next ∷ rows))
 
--- the ops of the rows, one for rows that share it
+-- The opcodes of the rows, without repeating one that neighbours share.
 abbrev pub ops_of : Table → List Op
 ops_of [] = []
 ops_of (row ∷ []) = row.0 ∷ []
@@ -203,11 +204,11 @@ pub record IsOpcodeTable (rows : Table) : Type 0 where
   pub ascending : IsTrue (ascends rows)
   pub shared : shared_ops rows ≡ Byte 0x1C ∷ []
 
--- No op's bytes begin another's.
+-- The opcodes are prefix-free: if two encodings begin the same bytes, they are of the same opcode.
 pub record BeginsNoOther : Type 0 where
   pub for_each : (a b : Op) (x y : List ℕ) → IsTableOp a → IsTableOp b → op_text a ++ x ≡ op_text b ++ y → a ≡ b
 
--- The op stands in the table, and there is one argument for each part of its shape.
+-- The opcode is in the table, and the instruction has an immediate for each of its shape.
 pub record IsRow (rows : Table) (i : Plain) : Type 0 where
   pub op : IsTableOp i.op
   pub shape : Shape

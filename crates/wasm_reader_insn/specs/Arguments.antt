@@ -1,4 +1,4 @@
--- Instructions and their arguments, without where they lie in memory.
+-- This file defines the views of decoded instructions: their values without locations in memory.
 use Rattle.std.specs.Prelude.{map}
 use Rattle.wasm_insn.specs.Arguments.{Argument, unsigned, signed32, signed64, float32, float64, vector, memory, lane, lanes, block, heap, ordering, labels, catches, types, handles, flag}
 use Rattle.wasm_insn.specs.Plain.{Plain as PlainInstruction}
@@ -8,7 +8,7 @@ use Rattle.wasm_code.specs.Bodies.{Body as BodyModel}
 use Rattle.wasm_reader_insn.specs.declared.instruction.Plain.{Plain}
 use Rattle.wasm_reader_insn.specs.declared.body.Body.{Body}
 
--- an argument
+-- The view of an immediate.
 abbrev pub argument_view : {A : Type 0} → Arg A → Argument
 argument_view (args.U32 n) = unsigned n
 argument_view (args.S32 v) = signed32 v
@@ -28,10 +28,10 @@ argument_view (args.Types ts) = types ts.items
 argument_view (args.Handles hs) = handles hs.items
 argument_view (args.Flag n) = flag n
 
--- an instruction
+-- The view of an instruction.
 abbrev pub plain_view : {A : Type 0} → Plain A → PlainInstruction
 plain_view i = record { op = i.op; arguments = map argument_view i.args.items }
 
--- a body
+-- The view of a body.
 abbrev pub body_view : {A : Type 0} → Body A → BodyModel
 body_view b = record { runs = b.runs.items; code = map plain_view b.code.items }

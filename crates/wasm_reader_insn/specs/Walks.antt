@@ -1,13 +1,14 @@
--- Walks over instructions.
+-- This file defines the state of the instruction reader.
 use Rattle.std.specs.Prelude.{ℕ, List, drop}
 use Rattle.wasm_insn.specs.Arguments.{Argument}
 
--- Where a walk is: the bytes that it goes over, the place of the next instruction in them, and the arguments of the last one.
+-- The state of the reader: all bytes, the offset of the next instruction in them, and the
+-- immediates of the last instruction.
 pub record Walking : Type 0 where
   pub bytes : List ℕ
   pub place : ℕ
   pub arguments : List Argument
 
--- the bytes from its place on
+-- The bytes from the reader's offset on.
 abbrev pub ahead : Walking → List ℕ
 ahead w = drop w.place w.bytes

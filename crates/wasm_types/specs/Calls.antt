@@ -1,4 +1,4 @@
--- What calls add whose items an iterator gives.
+-- This file defines calls that add types whose fields, parameters or results an iterator yields.
 use Rattle.std.specs.Prelude.{◌≡◌, ◌≢◌, ℕ, ◌<◌, ◌≤◌, List, [], ◌∷◌, ◌++◌, length, Result, Err, OnOk, OnErr, Option}
 use Rattle.std.specs.Iterator.{Count, Drains, Yields, size}
 use Rattle.std.specs.List.{All}
@@ -6,7 +6,8 @@ use Rattle.wasm_base.specs.Texts.{longest, VecFits}
 use Rattle.wasm_base.specs.declared.refused.Refused.{Refused}
 use Rattle.wasm_base.specs.declared.refused.Refused.TheVariants.{TooLong}
 
--- The section gains an entry of the items that the elements give, or keeps what it has.
+-- The section gains one entry of the items that the iterator yields, or the call returns an error
+-- and changes nothing. More than 2^32 - 1 items give `TooLong`.
 pub record AddsListed {U S T : Type 0} (becomes : U → S → Type 0) (gives : S → Option T → S → Type 0) (remaining : S → Count) (Fits : T → Type 0) (elements : U) (text : List T → List ℕ)
     (old new : List (List ℕ)) (result : Result (Unit {0}) Refused) : Type 0 where
   pub ok : OnOk result ((it : S) × (xs : List T) × becomes elements it × Drains gives it xs × VecFits Fits xs × (new ≡ old ++ text xs ∷ []))
@@ -18,7 +19,8 @@ pub record AddsListed {U S T : Type 0} (becomes : U → S → Type 0) (gives : S
       → result ≢ Err TooLong
   pub too_many : ((it : S) → becomes elements it → longest < size (remaining it)) → result ≡ Err TooLong
 
--- The section gains an entry of the items that both give, or keeps what it has.
+-- The section gains one entry of the items that both iterators yield, or the call returns an error
+-- and changes nothing. More than 2^32 - 1 items of either give `TooLong`.
 pub record AddsTwoListed {U S V W T : Type 0} (becomes : U → S → Type 0) (gives : S → Option T → S → Type 0) (remaining : S → Count) (becomes₂ : V → W → Type 0) (gives₂ : W → Option T → W → Type 0) (remaining₂ : W → Count)
     (first : U) (second : V) (text : List T → List T → List ℕ) (old new : List (List ℕ)) (result : Result (Unit {0}) Refused) : Type 0 where
   pub ok : OnOk result ((it : S) × (other : W) × (xs ys : List T) × becomes first it × becomes₂ second other × Drains gives it xs × Drains gives₂ other ys

@@ -1,4 +1,4 @@
--- Types that were read, without where they lie in memory.
+-- This file defines the views of decoded types: their values without locations in memory.
 use Rattle.std.specs.Prelude.{ℕ, List, ◌∷◌, map, Option}
 use Rattle.wasm_base.specs.Texts.{vec_text, VecFits}
 use Rattle.wasm_types.specs.Given.{composite_in, shape_in, ShapeFits}
@@ -8,33 +8,33 @@ use Rattle.wasm_types.specs.declared.items.SubItem.{SubItem}
 use Rattle.wasm_types.specs.declared.items.TypeEntry.{TypeEntry}
 use Rattle.wasm_types.specs.declared.items.TypeEntry.TheVariants as entries
 
--- a shape, with the type that describes it
+-- The view of a shape, with the type that describes it.
 abbrev pub described_view : {A : Type 0} → Option ℕ × CompositeInnerType A → Option ℕ × Shape
 described_view p = (p.0, shape_in p.1)
 
--- the same, with the type that it describes
+-- The view of a shape, with the type that it describes and the type that describes it.
 abbrev pub describing_view : {A : Type 0} → Option ℕ × (Option ℕ × CompositeInnerType A) → Option ℕ × (Option ℕ × Shape)
 describing_view p = (p.0, described_view p.1)
 
--- a subtype
+-- The view of a subtype.
 abbrev pub sub_view : {A : Type 0} → SubItem A → Sub
 sub_view s = record { is_final = s.is_final; supertypes = s.supertypes.items; composite = composite_in s.composite_type }
 
--- an entry
+-- The view of an entry.
 abbrev pub entry_view : {A : Type 0} → TypeEntry A → TypeItem
 entry_view (entries.Single s) = single (sub_view s)
 entry_view (entries.Group v) = group (map sub_view v.items)
 
--- Every count in the text of the subtype can be spelled.
+-- Every count in the encoding of the subtype is at most 2^32 - 1.
 abbrev pub SubItemFits : {A : Type 0} → SubItem A → Type 0
 SubItemFits s = VecFits (λ i. Unit {0}) s.supertypes.items × ShapeFits (shape_in s.composite_type.inner)
 
--- the text of an entry
+-- The encoding of an entry.
 abbrev pub entry_text : {A : Type 0} → TypeEntry A → List ℕ
 entry_text (entries.Single s) = sub_text (sub_view s)
 entry_text (entries.Group v) = 0x4E ∷ vec_text (λ s. sub_text (sub_view s)) v.items
 
--- Every count in it can be spelled.
+-- Every count in the encoding of the entry is at most 2^32 - 1.
 abbrev pub EntryFits : {A : Type 0} → TypeEntry A → Type 0
 EntryFits (entries.Single s) = SubItemFits s
 EntryFits (entries.Group v) = VecFits SubItemFits v.items
