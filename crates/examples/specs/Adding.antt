@@ -1,4 +1,4 @@
--- The module of a function that adds two numbers.
+-- This file defines the module of a function that adds two numbers.
 use Rattle.std.specs.Prelude.{List, [], ◌∷◌}
 use Rattle.std.specs.declared.alloc.Global.{Global}
 use Rattle.wasm_base.specs.Modules.{SectionReading}
@@ -13,18 +13,18 @@ use Rattle.wasm_sections.specs.Functions.{function_reading}
 use Rattle.wasm_sections.specs.declared.export.ExportKind.TheVariants.{Func}
 use Rattle.wasm_types.specs.RecTypes.{TypeItem, func, type_reading, plain_type}
 
--- a function of two numbers that gives one
+-- The type of a function of two numbers that returns one.
 abbrev pub adding_type : TypeItem
 adding_type = plain_type (func (I32 ∷ I32 ∷ []) (I32 ∷ []))
 
--- the function 0 as `add`
+-- The export of function 0 as `add`.
 abbrev pub add_export : ExportItem
 add_export = record { name = 97 ∷ 100 ∷ 100 ∷ []; kind = Func; index = 0 }
 
--- the sum of the two parameters
+-- The body that returns the sum of its two parameters.
 abbrev pub adding_body : Body
 adding_body = record { runs = []; code = normal_row {A = Global} (LocalGet 0) ∷ normal_row {A = Global} (LocalGet 1) ∷ normal_row {A = Global} (Numeric I32Add) ∷ normal_row {A = Global} End ∷ [] }
 
--- the sections in order
+-- The sections of the module, in order.
 abbrev pub adding_sections : List SectionReading
 adding_sections = type_reading (adding_type ∷ []) ∷ function_reading (0 ∷ []) ∷ export_reading (add_export ∷ []) ∷ code_reading (adding_body ∷ []) ∷ []

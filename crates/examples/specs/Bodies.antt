@@ -1,4 +1,4 @@
--- The bodies of the examples.
+-- This file defines the bodies of the examples.
 use Rattle.std.specs.Prelude.{ℕ, [], ◌∷◌, pos}
 use Rattle.std.specs.declared.alloc.Global.{Global}
 use Rattle.wasm_base.specs.declared.types.ValType.TheVariants.{I32}
@@ -11,19 +11,19 @@ use Rattle.wasm_insn.specs.declared.instruction.Instruction.{Instruction}
 use Rattle.wasm_insn.specs.declared.instruction.Instruction.TheVariants.{Block, LocalGet, Numeric, BrIf, I32Const, Call, Return, End}
 use Rattle.wasm_insn.specs.declared.numeric.Numeric.TheVariants.{I32Eqz, I32Sub, I32Mul}
 
--- an instruction as a reader finds it
+-- The instruction that a reader decodes.
 abbrev pub row : Instruction Global → Plain
 row i = normal_row i
 
--- one local, and `End`
+-- A body with one local, and `end`.
 abbrev pub first_body : Body
 first_body = record { runs = (1, I32) ∷ []; code = row End ∷ [] }
 
--- the local of this index
+-- A body that returns the local of this index.
 abbrev pub local_body : (index : ℕ) → Body
 local_body index = record { runs = []; code = row (LocalGet index) ∷ row End ∷ [] }
 
--- the factorial of the one parameter, of the function of this index
+-- A body that returns the factorial of its one parameter, for the function of this index.
 abbrev pub factorial_body : (itself : ℕ) → Body
 factorial_body itself = record {
   runs = [];
@@ -45,6 +45,6 @@ factorial_body itself = record {
       [];
 }
 
--- two blocks, and a branch out of the inner one or of both
+-- A body with two blocks, and a branch out of the inner one or of both.
 abbrev pub choice_body : Body
 choice_body = record { runs = []; code = row (Block Empty) ∷ row (Block Empty) ∷ row (LocalGet 0) ∷ br_table_row (0 ∷ []) 1 ∷ row End ∷ row End ∷ row End ∷ [] }

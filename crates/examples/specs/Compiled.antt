@@ -1,4 +1,4 @@
--- The module of compiled functions.
+-- This file defines the module of compiled functions.
 use Rattle.std.specs.Prelude.{List, [], ◌∷◌, pos, codes}
 use Rattle.wasm_base.specs.Modules.{SectionReading}
 use Rattle.wasm_base.specs.declared.types.ValType.TheVariants.{I32}
@@ -14,23 +14,23 @@ use Rattle.examples.specs.declared.lowering.Operator.TheVariants.{Add, Subtract,
 use Rattle.examples.specs.declared.lowering.Operation.{Operation}
 use Rattle.examples.specs.declared.lowering.Operation.TheVariants.{Constant, Get, Set, Binary, IsZero, Block, Loop, Branch, BranchIf, Call, Return, End}
 
--- a function of a number that gives one
+-- The type of a function of one number that returns one.
 abbrev pub one_number : TypeItem
 one_number = plain_type (func (I32 ∷ []) (I32 ∷ []))
 
--- the function 1 as `factorial`
+-- The export of function 1 as `factorial`.
 abbrev pub factorial_of : ExportItem
 factorial_of = record { name = codes "factorial"; kind = Func; index = 1 }
 
--- the function 2 as `squares`
+-- The export of function 2 as `squares`.
 abbrev pub squares_of : ExportItem
 squares_of = record { name = codes "squares"; kind = Func; index = 2 }
 
--- the product of the two parameters
+-- The operations of the product of two parameters.
 abbrev pub product_operations : List Operation
 product_operations = Get 0 ∷ Get 1 ∷ Binary Multiply ∷ []
 
--- the product of the numbers from the parameter down to 1
+-- The operations of the product of the numbers from the parameter down to 1.
 abbrev pub factorial_operations : List Operation
 factorial_operations =
     Constant (pos 1) ∷
@@ -55,7 +55,7 @@ factorial_operations =
     Return ∷
     []
 
--- the sum of the squares from the parameter down to 1
+-- The operations of the sum of the squares from the parameter down to 1.
 abbrev pub squares_operations : List Operation
 squares_operations =
     Block ∷
@@ -79,11 +79,11 @@ squares_operations =
     Get 1 ∷
     []
 
--- the bodies in order
+-- The bodies, in order.
 abbrev pub compiled_bodies : List Body
 compiled_bodies = body_of 0 product_operations ∷ body_of 1 factorial_operations ∷ body_of 1 squares_operations ∷ []
 
--- the sections in order
+-- The sections of the module, in order.
 abbrev pub compiled_sections : List SectionReading
 compiled_sections =
     type_reading (adding_type ∷ one_number ∷ [])

@@ -1,4 +1,4 @@
--- The module whose table and memory are filled.
+-- This file defines the module that fills a table and a memory.
 use Rattle.std.specs.Prelude.{ℕ, List, [], ◌∷◌, false, None, pos}
 use Rattle.wasm_base.specs.Modules.{SectionReading, raw_reading}
 use Rattle.wasm_base.specs.Types.{FUNCREF}
@@ -14,35 +14,35 @@ use Rattle.wasm_sections.specs.Tables.{TableItem, table_reading}
 use Rattle.examples.specs.Bodies.{row}
 use Rattle.examples.specs.Whole.{ready, one_page}
 
--- a type of nothing
+-- The payload of a type section with one type, of a function without parameters and results.
 abbrev pub one_type : List ℕ
 one_type = 0x01 ∷ 0x60 ∷ 0x00 ∷ 0x00 ∷ []
 
--- a table of three functions
+-- A table of three functions.
 abbrev pub three_places : TableItem
 three_places = record { table_type = record { element_type = FUNCREF; table64 = false; minimum = 3; maximum = None; shared = false }; init = None }
 
--- the function 0, put at the front of table 0
+-- Function 0 at offset 0 of table 0.
 abbrev pub ready_at_0 : elements.ElementItem (List Plain)
 ready_at_0 = record { place = elements.active None (row (I32Const (pos 0)) ∷ []); elements = elements.functions (0 ∷ []) }
 
--- a reference to the function of this index, put in a table when code says so
+-- A passive segment with a reference to the function of this index.
 abbrev pub later : ℕ → elements.ElementItem (List Plain)
 later index = record { place = elements.passive; elements = elements.expressions FUNCREF ((row (RefFunc index) ∷ []) ∷ []) }
 
--- these bytes, put at the place 8 of memory 0
+-- These bytes at offset 8 of memory 0.
 abbrev pub bytes_at_8 : List ℕ → segments.DataItem
 bytes_at_8 bytes = segments.active 0 (row (I32Const (pos 8)) ∷ []) bytes
 
--- three bytes, put in a memory when code says so
+-- A passive segment of three bytes.
 abbrev pub bytes_later : segments.DataItem
 bytes_later = segments.passive (1 ∷ 2 ∷ 3 ∷ [])
 
--- the sections of what is to be filled, and of the function that fills it
+-- The sections before the segments: types, an import, a table and a memory.
 abbrev pub empty_sections : List SectionReading
 empty_sections = raw_reading 1 one_type ∷ import_reading (ready ∷ []) ∷ table_reading (three_places ∷ []) ∷ memory_reading (one_page ∷ []) ∷ []
 
--- the sections in order
+-- The sections of the module, in order.
 abbrev pub filled_sections : List ℕ → List SectionReading
 filled_sections bytes =
     raw_reading 1 one_type

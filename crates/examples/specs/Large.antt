@@ -1,4 +1,4 @@
--- Numbers of 64 bits.
+-- This file defines the module of 64-bit numbers.
 use Rattle.std.specs.Prelude.{List, [], ◌∷◌, true, false, Some, None, pos, neg_ℤ}
 use Rattle.wasm_base.specs.Modules.{SectionReading}
 use Rattle.wasm_base.specs.declared.types.ValType.TheVariants.{I64}
@@ -8,14 +8,14 @@ use Rattle.wasm_sections.specs.Memories.{memory_reading}
 use Rattle.wasm_sections.specs.declared.memory.MemoryType.{MemoryType}
 use Rattle.examples.specs.Bodies.{row}
 
--- a memory of 1 page, which grows to 8589934592 at most, with addresses of 64 bits
+-- A memory of 1 to 8589934592 pages, with 64-bit addresses.
 abbrev pub large_memory : MemoryType
 large_memory = record { minimum = 1; maximum = Some 8589934592; memory64 = true; shared = false; page_size_log2 = None }
 
--- the number -1099511627776
+-- An immutable global with the value -1099511627776.
 abbrev pub large_constant : GlobalItem
 large_constant = record { global_type = record { val_type = I64; mutable = false; shared = false }; init = row (I64Const (neg_ℤ (pos 1099511627776))) ∷ [] }
 
--- the sections in order
+-- The sections of the module, in order.
 abbrev pub large_sections : List SectionReading
 large_sections = memory_reading (large_memory ∷ []) ∷ global_reading (large_constant ∷ []) ∷ []

@@ -1,4 +1,4 @@
--- Operations of a stack machine, and the instructions that they become.
+-- This file defines the instructions for the operations of a stack machine.
 use Rattle.std.specs.Prelude.{ℕ, List, [], ◌∷◌, ◌++◌, map}
 use Rattle.std.specs.declared.alloc.Global.{Global}
 use Rattle.wasm_base.specs.declared.types.ValType.TheVariants.{I32}
@@ -15,7 +15,7 @@ use Rattle.examples.specs.declared.lowering.Operator.TheVariants.{Add, Subtract,
 use Rattle.examples.specs.declared.lowering.Operation.{Operation}
 use Rattle.examples.specs.declared.lowering.Operation.TheVariants.{Constant, Get, Set, Binary, IsZero, Block, Loop, Branch, BranchIf, Call, Return, End}
 
--- the numeric instruction of an operator
+-- The numeric instruction of an operator.
 unfoldable pub numeric_of : Operator → Numeric
 numeric_of Add = I32Add
 numeric_of Subtract = I32Sub
@@ -23,7 +23,7 @@ numeric_of Multiply = I32Mul
 numeric_of Equal = I32Eq
 numeric_of Less = I32LtS
 
--- the instruction of an operation
+-- The instruction of an operation.
 unfoldable pub instruction_of : Operation → Instruction Global
 instruction_of (Constant value) = instructions.I32Const value
 instruction_of (Get index) = instructions.LocalGet index
@@ -38,14 +38,15 @@ instruction_of (Call index) = instructions.Call index
 instruction_of Return = instructions.Return
 instruction_of End = instructions.End
 
--- the instructions of operations, as a reader finds them
+-- The instructions of the operations, as a reader decodes them.
 abbrev pub rows_of : List Operation → List Plain
 rows_of operations = map (λ operation. row (instruction_of operation)) operations
 
--- the body of operations: locals of 32 bits, the instructions, and `End`
+-- The body of the operations: `i32` locals, the instructions, and `end`.
 abbrev pub body_of : (locals : ℕ) → List Operation → Body
 body_of locals operations = record { runs = (locals, I32) ∷ []; code = rows_of operations ++ row (instruction_of End) ∷ [] }
 
--- Where the old bytes spell a body, the new ones spell it with the instructions of these operations after its own.
+-- If the old bytes minimally encode a body, the new ones encode it with the instructions of these
+-- operations appended.
 pub record GainsOperations (operations : List Operation) (old new : List ℕ) : Type 0 where
   pub plain : (x : Body) → IsPlainBody old x → IsPlainBody new (and_then x (rows_of operations))

@@ -1,11 +1,11 @@
--- Names for debuggers.
+-- This file defines names for debuggers.
 use Rattle.std.specs.Prelude.{ℕ, List, [], ◌∷◌, codes}
 use Rattle.wasm_custom.specs.Names.{Naming, NameItem, Module, Map, Indirect}
 
--- "x" for the local 0
+-- The name "x" of local 0.
 abbrev pub x_at_0 : List Naming
 x_at_0 = (0, codes "x") ∷ []
 
--- "m" for the module, the name of the function 0, and "x" for its local 0
+-- The name "m" of the module, the name of function 0, and the name "x" of its local 0.
 abbrev pub names_of : List ℕ → List NameItem
 names_of name = Module (codes "m") ∷ Map 1 ((0, name) ∷ []) ∷ Indirect 2 ((0, x_at_0) ∷ []) ∷ []

@@ -1,4 +1,4 @@
--- The module for a linker.
+-- This file defines the module for a linker.
 use Rattle.std.specs.Prelude.{List, [], ◌∷◌, Some, None, pos, codes}
 use Rattle.wasm_base.specs.Modules.{SectionReading}
 use Rattle.wasm_base.specs.declared.types.ValType.TheVariants.{I32}
@@ -20,15 +20,15 @@ use Rattle.wasm_types.specs.RecTypes.{TypeItem, func, type_reading, plain_type}
 use Rattle.examples.specs.Bodies.{row}
 use Rattle.examples.specs.Whole.{one_page}
 
--- a function of an address that gives nothing
+-- The type of a function of an address that returns nothing.
 abbrev pub address_type : TypeItem
 address_type = plain_type (func (I32 ∷ []) [])
 
--- the number of 32 bits that stands 8 bytes behind an address
+-- The memory argument of a 32-bit number 8 bytes behind an address.
 abbrev pub number_at : MemArg
 number_at = record { offset = 8; align = 2; target = Memory 0; ordering = None }
 
--- the number becomes one less, where it is not 0
+-- The body that decrements that number, unless it is 0.
 abbrev pub count_down_body : Body
 count_down_body = record {
   runs = [];
@@ -49,27 +49,27 @@ count_down_body = record {
       [];
 }
 
--- the branch at the offset 9 of the raw body of the function 0 is not likely to be taken
+-- The hint that the branch at offset 9 of function 0's raw body is unlikely.
 abbrev pub unlikely_hints : List Hints
 unlikely_hints = (0, record { branch_func_offset = 9; branch_hint_value = 0 } ∷ []) ∷ []
 
--- the function 0 as `count_down`, exported from the linked module
+-- The symbol of function 0 as `count_down`, which the linked module exports.
 abbrev pub count_down_symbol : Symbol
 count_down_symbol = indexed kinds.Function 0x20 0 (Some (codes "count_down"))
 
--- the table of this symbol
+-- The linking subsection with a symbol table of this symbol.
 abbrev pub links : List LinkItem
 links = Symbols (count_down_symbol ∷ []) ∷ []
 
--- processed by version 0.1.0 of this
+-- The producers field "processed-by" with version 0.1.0 of `dolzhytik`.
 abbrev pub producers_fields : List Field
 producers_fields = (codes "processed-by", (codes "dolzhytik", codes "0.1.0") ∷ []) ∷ []
 
--- the sections of types, functions and memories
+-- The sections of types, functions and memories.
 abbrev pub object_types : List SectionReading
 object_types = type_reading (address_type ∷ []) ∷ function_reading (0 ∷ []) ∷ memory_reading (one_page ∷ []) ∷ []
 
--- the sections in order
+-- The sections of the module, in order.
 abbrev pub object_sections : List SectionReading
 object_sections =
     type_reading (address_type ∷ [])

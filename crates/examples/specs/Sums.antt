@@ -1,4 +1,4 @@
--- What the global sections of sums say.
+-- This file defines the globals whose initial value is a sum.
 use Rattle.std.specs.Prelude.{ℕ, [], ◌∷◌, false, List, pos}
 use Rattle.wasm_base.specs.declared.types.ValType.TheVariants.{I32}
 use Rattle.wasm_insn.specs.Plain.{Plain}
@@ -7,10 +7,10 @@ use Rattle.wasm_insn.specs.declared.numeric.Numeric.TheVariants.{I32Add}
 use Rattle.wasm_sections.specs.Globals.{GlobalItem}
 use Rattle.examples.specs.Bodies.{row}
 
--- the global of this index and 5, added
+-- The expression that adds 5 to the global of this index.
 abbrev pub sum_code : (index : ℕ) → List Plain
 sum_code index = row (GlobalGet index) ∷ row (I32Const (pos 5)) ∷ row (Numeric I32Add) ∷ []
 
--- a global that can't be set, of that sum
+-- An immutable global with this sum.
 abbrev pub sum_global : (index : ℕ) → GlobalItem
 sum_global index = record { global_type = record { val_type = I32; mutable = false; shared = false }; init = sum_code index }

@@ -1,4 +1,4 @@
--- The module of eight sections.
+-- This file defines the module of eight sections.
 use Rattle.std.specs.Prelude.{ℕ, List, [], ◌∷◌, ◌++◌, true, false, None, pos}
 use Rattle.wasm_base.specs.Modules.{SectionReading, raw_reading}
 use Rattle.wasm_base.specs.declared.types.ValType.TheVariants.{I32}
@@ -15,51 +15,51 @@ use Rattle.wasm_sections.specs.declared.import.EntityType.TheVariants.{Function}
 use Rattle.wasm_sections.specs.declared.memory.MemoryType.{MemoryType}
 use Rattle.examples.specs.Bodies.{row, factorial_body}
 
--- two types: of nothing, and of a number and a number
+-- The payload of a type section with two types: of nothing to nothing, and of a number to a number.
 abbrev pub two_types : List ℕ
 two_types = 0x02 ∷ 0x60 ∷ 0x00 ∷ 0x00 ∷ 0x60 ∷ 0x01 ∷ 0x7F ∷ 0x01 ∷ 0x7F ∷ []
 
--- a function of the type of this index
+-- The import of a function of this type index.
 abbrev pub import_of_function : (from name : List ℕ) (index : ℕ) → ImportItem
 import_of_function from name index = record { module_name = from; imported = single name (Function index) }
 
--- functions of the type of this index, in one group
+-- The import of functions of this type index, as one group.
 abbrev pub import_of_functions : (from : List ℕ) (names : List (List ℕ)) (index : ℕ) → ImportItem
 import_of_functions from names index = record { module_name = from; imported = alike (Function index) names }
 
--- `ready` of `host`, a function of the first type
+-- The import of `ready` from `host`, a function of the first type.
 abbrev pub ready : ImportItem
 ready = import_of_function (104 ∷ 111 ∷ 115 ∷ 116 ∷ []) (114 ∷ 101 ∷ 97 ∷ 100 ∷ 121 ∷ []) 0
 
--- one page
+-- A memory of at least one page.
 abbrev pub one_page : MemoryType
 one_page = record { minimum = 1; maximum = None; memory64 = false; shared = false; page_size_log2 = None }
 
--- a number that can be set, 5 at first
+-- A mutable `i32` global with the initial value 5.
 abbrev pub five : GlobalItem
 five = record { global_type = record { val_type = I32; mutable = true; shared = false }; init = row (I32Const (pos 5)) ∷ [] }
 
--- the function 1 as `factorial`
+-- The export of function 1 as `factorial`.
 abbrev pub factorial_export : ExportItem
 factorial_export = record { name = 102 ∷ 97 ∷ 99 ∷ 116 ∷ 111 ∷ 114 ∷ 105 ∷ 97 ∷ 108 ∷ []; kind = Func; index = 1 }
 
--- the memory as `memory`
+-- The export of the memory as `memory`.
 abbrev pub memory_export : ExportItem
 memory_export = record { name = 109 ∷ 101 ∷ 109 ∷ 111 ∷ 114 ∷ 121 ∷ []; kind = Memory; index = 0 }
 
--- the start function
+-- The body of the start function.
 abbrev pub start_body : Body
 start_body = record { runs = []; code = row (GlobalGet 0) ∷ row (Call 1) ∷ row (GlobalSet 0) ∷ row (Call 0) ∷ row End ∷ [] }
 
--- the sections that declare what the functions are
+-- The sections that declare types, imports and functions.
 abbrev pub declared_sections : List SectionReading
 declared_sections = raw_reading 1 two_types ∷ import_reading (ready ∷ []) ∷ function_reading (1 ∷ 0 ∷ []) ∷ []
 
--- these, and those of what is stored and seen from outside
+-- These sections, then those of memories, globals and exports.
 abbrev pub stored_sections : List SectionReading
 stored_sections = declared_sections ++ memory_reading (one_page ∷ []) ∷ global_reading (five ∷ []) ∷ export_reading (factorial_export ∷ memory_export ∷ []) ∷ []
 
--- the sections in order
+-- The sections of the module, in order.
 abbrev pub whole_sections : List SectionReading
 whole_sections =
     raw_reading 1 two_types

@@ -1,4 +1,5 @@
--- What the sections say that declare things.
+-- This file defines the items of the sections that declare types, imports, memories, tags and
+-- exports.
 use Rattle.std.specs.Prelude.{ℕ, List, [], ◌∷◌, true, false, None, Some, codes}
 use Rattle.wasm_sections.specs.Exports.{ExportItem}
 use Rattle.wasm_sections.specs.Imports.{ImportItem, single}
@@ -11,34 +12,34 @@ use Rattle.wasm_types.specs.RecTypes.{Sub, TypeItem, single as alone, array, str
 use Rattle.wasm_types.specs.declared.types.FieldType.{FieldType}
 use Rattle.wasm_types.specs.declared.types.StorageType.TheVariants.{I8}
 
--- a byte that can be set
+-- A mutable byte.
 abbrev pub byte_field : FieldType
 byte_field = record { element_type = I8; mutable = true }
 
--- an array of bytes that others may extend
+-- An array of bytes that is not final.
 abbrev pub open_bytes : Sub
 open_bytes = record { is_final = false; supertypes = []; composite = record { shared = false; describes = None; descriptor = None; shape = array byte_field } }
 
--- an array of bytes, a structure of one, and an array of bytes that others may extend
+-- An array of bytes, a structure of one byte, and an array of bytes that is not final.
 abbrev pub byte_types : List TypeItem
 byte_types = plain_type (array byte_field) ∷ plain_type (structure (byte_field ∷ [])) ∷ alone open_bytes ∷ []
 
--- `f` of `m`, a function of the type of this index
+-- The import of `f` from `m`, a function of this type index.
 abbrev pub imported_function : ℕ → ImportItem
 imported_function index = record { module_name = codes "m"; imported = single (codes "f") (Function index) }
 
--- a memory of at least so many pages
+-- A memory with this minimum of pages.
 abbrev pub pages : ℕ → MemoryType
 pages minimum = record { minimum = minimum; maximum = None; memory64 = false; shared = false; page_size_log2 = None }
 
--- a memory of at most two pages, whose addresses have 64 bits
+-- A memory of one to two pages, with 64-bit addresses.
 abbrev pub two_pages : MemoryType
 two_pages = record { minimum = 1; maximum = Some 2; memory64 = true; shared = false; page_size_log2 = None }
 
--- a tag of the type of this index
+-- A tag of this type index.
 abbrev pub thrown : ℕ → TagType
 thrown index = record { kind = Exception; func_type_idx = index }
 
--- the function of this index, by this name
+-- The export of the function of this index by this name.
 abbrev pub exported : List ℕ → ℕ → ExportItem
 exported name index = record { name = name; kind = Func; index = index }

@@ -1,27 +1,27 @@
--- What the core dump says.
+-- This file defines the items of the core dump.
 use Rattle.std.specs.Prelude.{ℕ, List, [], ◌∷◌, pos, codes}
 use Rattle.wasm_base.specs.Modules.{SectionReading}
 use Rattle.wasm_custom.specs.CoreDumps.{Instance, core_reading, modules_reading, instances_reading}
 use Rattle.wasm_custom.specs.CoreStacks.{StackFrame, stack_reading}
 use Rattle.wasm_custom.specs.declared.core_values.CoreDumpValue.TheVariants.{Missing, I32}
 
--- the instance of the module 0, of a memory and two globals
+-- An instance of module 0, with one memory and two globals.
 abbrev pub first_instance : Instance
 first_instance = record { module_index = 0; memories = 0 ∷ []; globals = 0 ∷ 1 ∷ [] }
 
--- the instance of the module of this index, of these memories and a global
+-- An instance of the module of this index, with one memory and these globals.
 abbrev pub other_instance : ℕ → List ℕ → Instance
 other_instance index globals = record { module_index = index; memories = 1 ∷ []; globals = globals }
 
--- a frame of a missing local and a number
+-- A frame with a missing local and a number on its stack.
 abbrev pub first_frame : StackFrame
 first_frame = record { instance = 0; function = 1; offset = 2; locals = Missing ∷ []; stack = I32 (pos 5) ∷ [] }
 
--- a frame at this offset, of a number alone
+-- A frame at this offset, with one local and an empty stack.
 abbrev pub other_frame : ℕ → StackFrame
 other_frame offset = record { instance = 0; function = 0; offset = offset; locals = I32 (pos 5) ∷ []; stack = [] }
 
--- the sections in order, of a process of this name
+-- The sections of the core dump of a process of this name, in order.
 abbrev pub dump_sections : List ℕ → ℕ → List SectionReading
 dump_sections name index =
     core_reading name

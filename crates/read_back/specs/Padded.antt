@@ -1,4 +1,4 @@
--- What sections with padded numbers say.
+-- This file defines the items of sections with padded LEB128.
 use Rattle.std.specs.Prelude.{ℕ, List, [], ◌∷◌, None, Some, pos}
 use Rattle.std.specs.declared.alloc.Global.{Global}
 use Rattle.wasm_base.specs.Formats.{vec}
@@ -13,31 +13,31 @@ use Rattle.wasm_sections.specs.Elements as elements
 use Rattle.wasm_sections.specs.Tables.{TableItem, table_item}
 use Rattle.callers.specs.FirstValues.{functions_type}
 
--- a table of references to the function 0
+-- A table of references to function 0.
 abbrev pub first_everywhere : TableItem
 first_everywhere = record { table_type = functions_type 1; init = Some (normal_row {A = Global} (RefFunc 0) ∷ []) }
 
--- the instruction `I32Const` of 0
+-- The instruction `i32.const 0`.
 abbrev pub zero_offset : List Plain
 zero_offset = normal_row {A = Global} (I32Const (pos 0)) ∷ []
 
--- the function 1, put at the front of table 0
+-- Function 1 at offset 0 of table 0.
 abbrev pub at_front : elements.ElementItem (List Plain)
 at_front = record { place = elements.active None zero_offset; elements = elements.functions (1 ∷ []) }
 
--- these bytes, put at the front of this memory
+-- These bytes at offset 0 of this memory.
 abbrev pub bytes_at_front : ℕ → List ℕ → segments.DataItem
 bytes_at_front memory bytes = segments.active memory zero_offset bytes
 
--- the name `a` of the local 0 of the function 0
+-- The name `a` of local 0 of function 0.
 abbrev pub local_name : List NameItem
 local_name = Indirect 2 ((0, (0, 97 ∷ []) ∷ []) ∷ []) ∷ []
 
--- no locals, the instruction `LocalGet` of 0 twice, and `End`
+-- A body without locals, with `local.get 0` twice and `end`.
 abbrev pub gets_twice : Body
 gets_twice = record { runs = []; code = normal_row {A = Global} (LocalGet 0) ∷ normal_row {A = Global} (LocalGet 0) ∷ normal_row {A = Global} End ∷ [] }
 
--- the sections in order
+-- The sections, in order.
 abbrev pub padded_sections : ℕ → List ℕ → List SectionReading
 padded_sections memory bytes =
     wide_reading_of 4 (vec table_item) (first_everywhere ∷ [])

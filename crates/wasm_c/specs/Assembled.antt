@@ -1,4 +1,4 @@
--- What is answered of a recipe.
+-- This file defines the result of `dz_assemble`.
 use Rattle.std.specs.Prelude.{◌≡◌, ℕ, List, ◌++◌, All, IsUtf8, length, drop, if◌then◌else◌, ◌⊎◌, nat_le}
 use Rattle.wasm_base.specs.Formats.{wasm_module}
 use Rattle.wasm_base.specs.Reading.{ReadsWhole}
@@ -9,7 +9,7 @@ use Rattle.wasm_tool.specs.declared.fault.RecipeCause.{RecipeCause}
 use Rattle.wasm_tool.specs.declared.fault.RecipeCause.TheVariants.{UnknownCommand, BadNumber, BadHex, MissingWord, Memory, TooLong}
 use Rattle.wasm_c.specs.declared.TheConstants.{NO_ANSWER}
 
--- the number of a cause
+-- The number of a cause.
 abbrev pub cause_number : RecipeCause → ℕ
 cause_number UnknownCommand = 1
 cause_number BadNumber = 2
@@ -18,20 +18,21 @@ cause_number MissingWord = 4
 cause_number Memory = 5
 cause_number TooLong = 6
 
--- a list at the front of another, where that has room for it
+-- The old list with the items at its front, if it is long enough, and the old list otherwise.
 abbrev pub written : {T : Type 0} → List T → List T → List T
 written items old = if nat_le (length items) (length old) then items ++ drop (length items) old else old
 
--- The items are counted, and copied where there is room.
+-- The call returns the number of items, and copies them if the buffer is large enough.
 pub record Gives {T : Type 0} (items old new : List T) (n : ℕ) : Type 0 where
   pub count : n ≡ length items
   pub copied : new ≡ written items old
 
--- the module of a recipe
+-- The module of a recipe.
 abbrev pub module_of : List ℕ → List ℕ
 module_of recipe = recipe_module (entries_of (lines_of recipe))
 
--- The recipe is text of which no line has a fault, and this is the module, which is read as the recipe's sections alone.
+-- The recipe is UTF-8 without an error in any line, and the call returns its module, which decodes
+-- to the recipe's sections alone.
 pub record Assembled (recipe old new : List ℕ) (line cause n : ℕ) : Type 0 where
   pub utf8 : IsUtf8 recipe
   pub good : All IsGood (lines_of recipe)
@@ -40,16 +41,16 @@ pub record Assembled (recipe old new : List ℕ) (line cause n : ℕ) : Type 0 w
   pub no_line : line ≡ 0
   pub no_cause : cause ≡ 0
 
--- The recipe is no text, or this line has a fault of this number, or memory was refused there, and no line before it has one.
+-- The recipe is not UTF-8 (7), or the cause explains this line, and no line before it has an error.
 abbrev pub IsWhy : List ℕ → ℕ → ℕ → Type 0
 IsWhy recipe line cause = ((line ≡ 0) × (cause ≡ 7) × (IsUtf8 recipe → ⊥)) ⊎ ((c : RecipeCause) × (cause ≡ cause_number c) × Explains recipe line c)
 
--- There is no module, and nothing was written.
+-- The call returns no module, and writes nothing.
 pub record Refuses (recipe old new : List ℕ) (line cause n : ℕ) : Type 0 where
   pub answer : n ≡ NO_ANSWER
   pub kept : new ≡ old
   pub why : IsWhy recipe line cause
 
--- what is answered of a recipe
+-- The result of a call with a recipe: an error or a module.
 abbrev pub Outcome : List ℕ → List ℕ → List ℕ → ℕ → ℕ → ℕ → Type 0
 Outcome recipe old new line cause n = Refuses recipe old new line cause n ⊎ Assembled recipe old new line cause n

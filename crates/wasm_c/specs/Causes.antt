@@ -1,24 +1,24 @@
--- The texts of causes.
+-- This file defines the texts of causes.
 use Rattle.std.specs.Prelude.{◌≡◌, ℕ, zero, suc, List, [], ◌∷◌, codes, Option, Some, None}
 use Rattle.std.specs.List.{slice_get}
 use Rattle.wasm_c.specs.Assembled.{Gives}
 use Rattle.wasm_c.specs.declared.TheConstants.{NO_ANSWER}
 
--- the texts of what is wrong with the bytes of sections and modules, in the order of their numbers
+-- The texts of errors in the bytes of sections and modules, in the order of their numbers.
 abbrev pub fault_texts : List (List ℕ)
 fault_texts =
     codes "Ended" ∷ codes "NotShortest" ∷ codes "TooLarge" ∷ codes "UnknownTag" ∷ codes "UnknownOpcode" ∷ codes "NotUtf8" ∷ codes "SizeMismatch" ∷ codes "Memory" ∷ codes "NoKind" ∷ codes "Offsets" ∷ []
 
--- the texts of what is wrong with a recipe, in the order of their numbers
+-- The texts of errors in a recipe, in the order of their numbers.
 abbrev pub recipe_texts : List (List ℕ)
 recipe_texts = codes "unknown command" ∷ codes "bad number" ∷ codes "bad hex" ∷ codes "missing word" ∷ codes "out of memory" ∷ codes "too long" ∷ codes "not text" ∷ []
 
--- the text of a number, counted from 1
+-- The text of a number, counted from 1.
 abbrev pub text_numbered : List (List ℕ) → ℕ → Option (List ℕ)
 text_numbered texts zero = None
 text_numbered texts (suc n) = slice_get texts n
 
--- The text is given; where there is none, nothing was written.
+-- The call returns the text, or writes nothing if there is none.
 abbrev pub Tells : Option (List ℕ) → List ℕ → List ℕ → ℕ → Type 0
 Tells None old new n = (n ≡ NO_ANSWER) × (new ≡ old)
 Tells (Some text) old new n = Gives text old new n

@@ -1,4 +1,4 @@
--- What is answered of the sections of a module.
+-- This file defines the result of `dz_list`.
 use Rattle.std.specs.Prelude.{◌≡◌, ◌≢◌, ℕ, List, map, Option, Some, None, ◌⊎◌}
 use Rattle.wasm_reader_base.specs.declared.fault.ReadFault.{ReadFault}
 use Rattle.wasm_reader_base.specs.declared.fault.ReadFault.TheVariants.{Ended, NotShortest, TooLarge, UnknownTag, UnknownOpcode, NotUtf8, SizeMismatch, Memory}
@@ -8,7 +8,7 @@ use Rattle.wasm_c.specs.Assembled.{Gives}
 use Rattle.wasm_c.specs.declared.TheConstants.{NO_ANSWER}
 use Rattle.wasm_c.specs.declared.listing.DzSection.{DzSection}
 
--- the number of a fault
+-- The number of an error.
 abbrev pub fault_number : ReadFault → ℕ
 fault_number Ended = 1
 fault_number NotShortest = 2
@@ -19,16 +19,16 @@ fault_number NotUtf8 = 6
 fault_number SizeMismatch = 7
 fault_number Memory = 8
 
--- the number of items, where it is counted
+-- The number of items, or `NO_ANSWER` if they are not counted.
 abbrev pub count_of : Option ℕ → ℕ
 count_of None = NO_ANSWER
 count_of (Some n) = n
 
--- the section of a line
+-- The section of a line.
 abbrev pub section_of : Listed → DzSection
 section_of l = record { items = count_of l.items; size = l.size; id = l.id }
 
--- The bytes are a module of these sections.
+-- The bytes are a module, and the call returns its sections.
 pub record Lists (module_bytes : List ℕ) (old new : List DzSection) (place cause n : ℕ) : Type 0 where
   pub lines : List Listed
   pub has : HasLines module_bytes lines
@@ -36,7 +36,8 @@ pub record Lists (module_bytes : List ℕ) (old new : List DzSection) (place cau
   pub no_place : place ≡ 0
   pub no_cause : cause ≡ 0
 
--- There is no list, and nothing was written; the bytes are no module from this place on, for a fault of this number, or memory was refused. At the header it is that they end, or are others.
+-- The call returns no list, and writes nothing. The section of this number is the first that does
+-- not decode, or memory was refused. At 0, the header, the error is `Ended` or `UnknownTag`.
 pub record Refuses (module_bytes : List ℕ) (old new : List DzSection) (place cause n : ℕ) : Type 0 where
   pub answer : n ≡ NO_ANSWER
   pub kept : new ≡ old
@@ -45,6 +46,6 @@ pub record Refuses (module_bytes : List ℕ) (old new : List DzSection) (place c
   pub stops : fault ≢ Memory → StopsAt module_bytes place
   pub header : place ≡ 0 → fault ≢ Memory → (fault ≡ Ended) ⊎ (fault ≡ UnknownTag)
 
--- what is answered of the bytes
+-- The result of a call with a module: an error or a list.
 abbrev pub Outcome : List ℕ → List DzSection → List DzSection → ℕ → ℕ → ℕ → Type 0
 Outcome module_bytes old new place cause n = Refuses module_bytes old new place cause n ⊎ Lists module_bytes old new place cause n

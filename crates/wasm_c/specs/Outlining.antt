@@ -1,4 +1,4 @@
--- What is answered of the outline of a module.
+-- This file defines the result of `dz_outline`.
 use Rattle.std.specs.Prelude.{◌≡◌, ◌≢◌, ℕ, ◌+◌, List, [], ◌∷◌, length, drop, map, suc, Option, Some, None, option_map, ◌⊎◌, All, IfSome, if◌then◌else◌, nat_lt}
 use Rattle.wasm_base.specs.Formats.{name, wasm_module}
 use Rattle.wasm_base.specs.Going.{FillsNothing}
@@ -13,30 +13,30 @@ use Rattle.wasm_c.specs.Listing.{count_of, fault_number}
 use Rattle.wasm_c.specs.declared.TheConstants.{NO_ANSWER}
 use Rattle.wasm_c.specs.declared.outlining.DzOutlined.{DzOutlined}
 
--- how many bytes at the front have bit 7, before the first that has not
+-- The number of bytes at the front with bit 7 set.
 abbrev pub continued : List ℕ → ℕ
 continued [] = 0
 continued (b ∷ bs) = if nat_lt b 0x80 then 0 else suc (continued bs)
 
--- the place behind the number that stands at this one
+-- The offset behind the LEB128 number at this offset.
 abbrev pub behind_number : List ℕ → ℕ → ℕ
 behind_number module_bytes place = place + suc (continued (drop place module_bytes))
 
--- the name of a section, where it has one
+-- The name of a section, if it has one.
 abbrev pub name_of : Outlined → Option (List ℕ)
 name_of l = option_map (λ n. n.now) l.name
 
--- the place of a name whose length stands at this place, if there is one
+-- The offset of a name whose length is at this offset, if there is a name.
 abbrev pub name_place : List ℕ → ℕ → Option (List ℕ) → ℕ
 name_place module_bytes place None = NO_ANSWER
 name_place module_bytes place (Some n) = behind_number module_bytes place
 
--- how many bytes a name has, if there is one
+-- The number of bytes of a name, if there is one.
 abbrev pub name_size : Option (List ℕ) → ℕ
 name_size None = NO_ANSWER
 name_size (Some n) = length n
 
--- the section of a line
+-- The section of a line.
 abbrev pub section_of : List ℕ → Outlined → DzOutlined
 section_of module_bytes l = record {
   items = count_of l.items;
@@ -47,11 +47,12 @@ section_of module_bytes l = record {
   id = l.id;
 }
 
--- The name of a line is read where the section's frame begins, and its bytes, which stand at the place that is told, reach up to what follows.
+-- The name of a line decodes at the offset of its payload, and the bytes of the name begin at the
+-- offset that the call reports.
 abbrev pub IsNamed : List ℕ → Outlined → Type 0
 IsNamed module_bytes l = IfSome (name_of l) (λ n. (rest : List ℕ) × Reads name wide (drop l.offset module_bytes) n rest × (behind_number module_bytes l.offset + length n + length rest ≡ length module_bytes))
 
--- The bytes are a module of sections of which these lines tell.
+-- The bytes are a module of sections that the lines describe, and the call returns these.
 pub record Outlines (module_bytes : List ℕ) (old new : List DzOutlined) (place cause n : ℕ) : Type 0 where
   pub lines : List Outlined
   pub has : HasOutline module_bytes lines
@@ -60,7 +61,8 @@ pub record Outlines (module_bytes : List ℕ) (old new : List DzOutlined) (place
   pub no_place : place ≡ 0
   pub no_cause : cause ≡ 0
 
--- There is no outline, and nothing was written; no section of any bytes stands at this place, in no module, for a fault of this number, or memory was refused.
+-- The call returns no outline, and writes nothing. The section of this number is the first that is
+-- malformed, whatever its payload, or memory was refused.
 pub record Refuses (module_bytes : List ℕ) (old new : List DzOutlined) (place cause n : ℕ) : Type 0 where
   pub answer : n ≡ NO_ANSWER
   pub kept : new ≡ old
@@ -69,6 +71,6 @@ pub record Refuses (module_bytes : List ℕ) (old new : List DzOutlined) (place 
   pub ends : fault ≢ Memory → EndsAt module_bytes place
   pub no_module : fault ≢ Memory → FillsNothing wasm_module module_bytes
 
--- what is answered of the bytes
+-- The result of a call with a module: an error or an outline.
 abbrev pub Outcome : List ℕ → List DzOutlined → List DzOutlined → ℕ → ℕ → ℕ → Type 0
 Outcome module_bytes old new place cause n = Refuses module_bytes old new place cause n ⊎ Outlines module_bytes old new place cause n

@@ -1,4 +1,4 @@
--- What is answered of the shortest text of a section.
+-- This file defines the result of `dz_shorten`.
 use Rattle.std.specs.Prelude.{◌≡◌, ◌≢◌, ℕ, List, [], Some, None, ◌⊎◌}
 use Rattle.wasm_base.specs.Numbers.{wide}
 use Rattle.wasm_base.specs.Reading.{ReadsNothing}
@@ -11,7 +11,7 @@ use Rattle.wasm_c.specs.Assembled.{Gives}
 use Rattle.wasm_c.specs.Listing.{fault_number}
 use Rattle.wasm_c.specs.declared.TheConstants.{NO_ANSWER}
 
--- A section of the kind stands at the front, and this is its shortest text.
+-- The bytes begin with a section of the kind, and the call returns its minimal encoding.
 pub record Shortened (number : ℕ) (bytes old new : List ℕ) (taken cause n : ℕ) : Type 0 where
   pub kind : SectionKind
   pub numbered : kind_numbered number ≡ Some kind
@@ -20,19 +20,20 @@ pub record Shortened (number : ℕ) (bytes old new : List ℕ) (taken cause n : 
   pub gives : Gives text old new n
   pub no_cause : cause ≡ 0
 
--- No kind has the number; or no section of the kind stands at the front, for a fault of this number, or memory was refused.
+-- No kind has the number; or the bytes do not begin with a section of the kind, or memory was
+-- refused.
 abbrev pub IsWhy : ℕ → List ℕ → ℕ → Type 0
 IsWhy number bytes cause =
     ((cause ≡ 9) × (kind_numbered number ≡ None))
     ⊎ ((kind : SectionKind) × (fault : ReadFault) × (kind_numbered number ≡ Some kind) × (cause ≡ fault_number fault) × (fault ≢ Memory → ReadsNothing (section kind) wide bytes))
 
--- There is no text, and nothing was written.
+-- The call returns no section, and writes nothing.
 pub record Refuses (number : ℕ) (bytes old new : List ℕ) (taken cause n : ℕ) : Type 0 where
   pub answer : n ≡ NO_ANSWER
   pub kept : new ≡ old
   pub none_taken : taken ≡ 0
   pub why : IsWhy number bytes cause
 
--- what is answered of a section of a kind
+-- The result of a call with a section of a kind: an error or its minimal encoding.
 abbrev pub Outcome : ℕ → List ℕ → List ℕ → List ℕ → ℕ → ℕ → ℕ → Type 0
 Outcome number bytes old new taken cause n = Refuses number bytes old new taken cause n ⊎ Shortened number bytes old new taken cause n

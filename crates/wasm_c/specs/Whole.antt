@@ -1,4 +1,4 @@
--- What is answered of the shortest text of a module.
+-- This file defines the result of `dz_shorten_module`.
 use Rattle.std.specs.Prelude.{◌≡◌, ℕ, List, [], ◌⊎◌, cond, ◌==◌}
 use Rattle.wasm_reader_base.specs.declared.fault.ReadFault.{ReadFault}
 use Rattle.wasm_reader.specs.Shortening.{ShortensModule, Explains}
@@ -9,11 +9,13 @@ use Rattle.wasm_c.specs.Assembled.{Gives}
 use Rattle.wasm_c.specs.Listing.{fault_number}
 use Rattle.wasm_c.specs.declared.TheConstants.{NO_ANSWER}
 
--- what is done with sections that hold offsets: 0 refuses them, any other number leaves them out
+-- The treatment of sections that hold offsets: 0 rejects a module that would lose them, any other
+-- number leaves them out.
 abbrev pub offsets_numbered : ℕ → Offsets
 offsets_numbered n = cond (n == 0) Refuse LeaveOut
 
--- This is the module with its sections in their shortest texts, of which so many are kept as they stand.
+-- The call returns the module with its sections minimized, and the number of those that are kept
+-- unchanged.
 pub record Shortened (module_bytes : List ℕ) (drop_offsets : ℕ) (old new : List ℕ) (kept place cause n : ℕ) : Type 0 where
   pub text : List ℕ
   pub shortens : ShortensModule (offsets_numbered drop_offsets) module_bytes kept [] text
@@ -21,19 +23,20 @@ pub record Shortened (module_bytes : List ℕ) (drop_offsets : ℕ) (old new : L
   pub no_place : place ≡ 0
   pub no_cause : cause ≡ 0
 
--- The section of this number holds offsets, and would lose them; or it is none of any bytes, for a fault of this number, or memory was refused.
+-- The section of this number would lose its offsets; or it is the first that is malformed, whatever
+-- its payload, or memory was refused.
 abbrev pub IsWhy : List ℕ → ℕ → ℕ → ℕ → Type 0
 IsWhy module_bytes drop_offsets place cause =
     ((cause ≡ 10) × Explains (offsets_numbered drop_offsets) module_bytes (faults.Offsets place))
     ⊎ ((fault : ReadFault) × (cause ≡ fault_number fault) × Explains (offsets_numbered drop_offsets) module_bytes (faults.Section place fault))
 
--- There is no text, and nothing was written.
+-- The call returns no module, and writes nothing.
 pub record Refuses (module_bytes : List ℕ) (drop_offsets : ℕ) (old new : List ℕ) (kept place cause n : ℕ) : Type 0 where
   pub answer : n ≡ NO_ANSWER
   pub as_was : new ≡ old
   pub none_kept : kept ≡ 0
   pub why : IsWhy module_bytes drop_offsets place cause
 
--- what is answered of a module
+-- The result of a call with a module: an error or its minimal form.
 abbrev pub Outcome : List ℕ → ℕ → List ℕ → List ℕ → ℕ → ℕ → ℕ → ℕ → Type 0
 Outcome module_bytes drop_offsets old new kept place cause n = Refuses module_bytes drop_offsets old new kept place cause n ⊎ Shortened module_bytes drop_offsets old new kept place cause n

@@ -1,4 +1,4 @@
--- Calls that add an entry of items that iterators give.
+-- This file defines calls that add an entry whose items iterators yield.
 use Rattle.std.specs.Prelude.{◌≡◌, ◌≢◌, ℕ, ◌<◌, ◌≤◌, List, [], ◌∷◌, ◌++◌, length, Result, Err, OnOk, OnErr, Option}
 use Rattle.std.specs.Iterator.{Count, Drains, Yields, size}
 use Rattle.std.specs.List.{All}
@@ -6,8 +6,9 @@ use Rattle.wasm_base.specs.Texts.{longest, VecFits}
 use Rattle.wasm_base.specs.declared.refused.Refused.{Refused}
 use Rattle.wasm_base.specs.declared.refused.Refused.TheVariants.{TooLong}
 
--- The builder gains an entry of the items that the elements give, or keeps what it has. The number of its entries has 32 bits. The call is refused
--- as too long where the elements tell of too many items, and never where all items fit and items and entries can be counted.
+-- The builder gains one entry of the items that the iterator yields, or the call returns an error
+-- and changes nothing. It returns `TooLong` if there are too many items, and never if all items fit
+-- and items and entries are few enough.
 pub record AddsList {U S T : Type 0} (becomes : U → S → Type 0) (gives : S → Option T → S → Type 0) (remaining : S → Count) (elements : U) (Fits : T → Type 0) (text : List T → List ℕ)
     (old new : List (List ℕ)) (result : Result (Unit {0}) Refused) : Type 0 where
   pub ok : OnOk result ((it : S) × (items : List T) × becomes elements it × Drains gives it items × VecFits Fits items × (new ≡ old ++ text items ∷ []))
@@ -16,7 +17,7 @@ pub record AddsList {U S T : Type 0} (becomes : U → S → Type 0) (gives : S �
   pub too_long : ((it : S) → becomes elements it → size (remaining it) ≤ longest) → ((it left : S) (xs : List T) → becomes elements it → Yields gives it xs left → All Fits xs) → length old < longest → result ≢ Err TooLong
   pub too_many : ((it : S) → becomes elements it → longest < size (remaining it)) → result ≡ Err TooLong
 
--- The same of an entry of two lists.
+-- The same for an entry of two lists.
 pub record AddsTwoLists {U S V R T W : Type 0} (becomes : U → S → Type 0) (gives : S → Option T → S → Type 0) (remaining : S → Count) (first : U)
     (turns : V → R → Type 0) (hands : R → Option W → R → Type 0) (left : R → Count) (second : V) (Fits : T → Type 0) (Suits : W → Type 0) (text : List T → List W → List ℕ)
     (old new : List (List ℕ)) (result : Result (Unit {0}) Refused) : Type 0 where

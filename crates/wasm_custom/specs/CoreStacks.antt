@@ -1,4 +1,5 @@
--- Stacks of core dumps: their texts, and what spells them.
+-- This file defines the stacks of a core dump, their encoding and their format. Tool conventions,
+-- Coredump.
 use Rattle.std.specs.Prelude.{◌≡◌, ℕ, ◌^◌, ◌<◌, List, [], ◌∷◌, ◌++◌, IsUtf8, codes}
 use Rattle.wasm_base.specs.Entries.{Kind, HoldsItems}
 use Rattle.wasm_base.specs.Formats.{Format, u32, mapped, pair, prefixed, vec}
@@ -11,7 +12,7 @@ use Rattle.wasm_custom.specs.Customs.{named_section, named_payload, reading_as}
 use Rattle.wasm_custom.specs.declared.core_values.CoreDumpValue.{CoreDumpValue}
 use Rattle.wasm_custom.specs.declared.core_stack.CoreFrame.{CoreFrame}
 
--- a frame: where it is, its locals, and its part of the stack
+-- A stack frame: its code location, its locals, and its part of the stack.
 pub record StackFrame : Type 0 where
   pub instance : ℕ
   pub function : ℕ
@@ -19,11 +20,13 @@ pub record StackFrame : Type 0 where
   pub locals : List CoreDumpValue
   pub stack : List CoreDumpValue
 
--- the text of a frame: the byte 00, where it is, and the vectors of its locals and of its part of the stack
+-- The encoding of a stack frame: the byte 00, its code location, and the vectors of its locals and
+-- of its part of the stack.
 abbrev pub frame_entry : StackFrame → List ℕ
 frame_entry f = (0x00 ∷ (unsigned_text f.instance ++ (unsigned_text f.function ++ unsigned_text f.offset))) ++ (vec_text value_text f.locals ++ vec_text value_text f.stack)
 
--- plain: Its numbers and values are in range, and the lists can be counted.
+-- The stack frame is well-formed: its numbers and values are in range, and its lists have at most
+-- 2^32 - 1 members.
 pub record IsFrame (f : StackFrame) : Type 0 where
   pub instance : f.instance < 2 ^ 32
   pub function : f.function < 2 ^ 32
@@ -31,46 +34,49 @@ pub record IsFrame (f : StackFrame) : Type 0 where
   pub locals : VecFits IsValue f.locals
   pub stack : VecFits IsValue f.stack
 
--- the instance, the function, and how far into it
+-- A code location: the instance, the function, and the offset in the function.
 abbrev pub Place : Type 0
 Place = ℕ × (ℕ × ℕ)
 
--- the frame at this place, of these locals and this part of the stack
+-- The stack frame at this location, with these locals and this part of the stack.
 abbrev pub stack_frame_of : Place × (List CoreDumpValue × List CoreDumpValue) → StackFrame
 stack_frame_of p = record { instance = p.0.0; function = p.0.1.0; offset = p.0.1.1; locals = p.1.0; stack = p.1.1 }
 
--- frame of a stack: the byte 00, where it is, and the vectors of its locals and of its part of the stack
+-- A stack frame: the byte 00, its code location, and the vectors of its locals and of its part of
+-- the stack.
 abbrev pub stack_frame : Format StackFrame
 stack_frame = mapped stack_frame_of (pair (prefixed (0x00 ∷ []) (pair u32 (pair u32 u32))) (pair (vec value) (vec value)))
 
--- the kind of frames of a stack
+-- The kind of stack frames.
 abbrev pub frame_items : Kind StackFrame StackFrame
 frame_items = record { text = frame_entry; IsPlain = IsFrame; IsPlainWide = IsFrame; normal_form = λ frame. frame; format = stack_frame }
 
--- "corestack"
+-- The section name `corestack`.
 abbrev pub stack_name : List ℕ
 stack_name = codes "corestack"
 
--- the stack: the name of its thread, and its frames
+-- The section of a stack: the name of its thread, and its frames.
 abbrev pub stack_section : Format (List ℕ × List StackFrame)
 stack_section = named_section stack_name (pair marked_name (vec stack_frame))
 
--- The front is the byte 00 and this name of a thread, which is UTF-8, and the entries hold these frames.
+-- The front is the byte 00 and this name of the thread, which is UTF-8, and the pieces encode these
+-- frames.
 abbrev pub SaysStack : List ℕ → List (List ℕ) → List ℕ × List StackFrame → Type 0
 SaysStack front frames said = IsUtf8 said.0 × (front ≡ marked_text said.0) × HoldsItems frame_items frames said.1
 
--- ---- how a reader finds it
+-- ---- the section of a stack
 
--- what follows the size of a core dump's section of a stack: its name, behind the byte 00 that of the thread, and a vector of frames
+-- The payload of the section: the section name, the name of the thread behind the byte 00, and a
+-- vector of frames.
 abbrev pub stack_payload : Format (List ℕ × List StackFrame)
 stack_payload = named_payload stack_name (pair marked_name (vec stack_frame))
 
--- a core dump's section of the stack of the thread of this name, with these frames, as a reader finds it
+-- The section that decodes to the stack of the thread of this name, with these frames.
 abbrev pub stack_reading : List ℕ → List StackFrame → SectionReading
 stack_reading n frames = reading_as stack_payload (n, frames)
 
--- ---- what was read
+-- ---- decoded frames
 
--- a frame of a stack, without where it lies in memory
+-- The view of a decoded stack frame.
 abbrev pub stack_frame_view : {A : Type 0} → CoreFrame A → StackFrame
 stack_frame_view f = record { instance = f.instanceidx; function = f.funcidx; offset = f.codeoffset; locals = f.locals.items; stack = f.stack.items }

@@ -1,4 +1,5 @@
--- Names of a module and of its parts.
+-- This file defines the name section, its encoding and its format. Core specification, Appendix,
+-- Custom Sections, Name Section.
 use Rattle.std.specs.Prelude.{◌≡◌, ℕ, ◌^◌, ◌<◌, List, [], ◌∷◌, ◌++◌, Bool, true, false, cond, ◌==◌, IsUtf8, codes, map}
 use Rattle.std.specs.Borrow.{Bor}
 use Rattle.std.specs.declared.vec.Vec.{Vec}
@@ -16,171 +17,175 @@ use Rattle.wasm_custom.specs.declared.names.NameItem.TheVariants as items
 use Rattle.wasm_custom.specs.declared.names.NameKind as read_kind
 use Rattle.wasm_custom.specs.declared.names.NameKind.TheVariants as kinds
 
--- name association: an index, and its name
+-- A name association: an index and its name.
 abbrev pub Naming : Type 0
 Naming = ℕ × List ℕ
 
--- indirect name association: an index, and the names of what is inside
+-- An indirect name association: an index, and the names of what is inside it.
 abbrev pub Inside : Type 0
 Inside = ℕ × List Naming
 
--- the text of a name association: the index, and the name
+-- The encoding of a name association: the index, and the name.
 abbrev pub naming_text : Naming → List ℕ
 naming_text n = unsigned_text n.0 ++ frame_text n.1
 
--- the text of an indirect name association: the index, and the name map of what is inside
+-- The encoding of an indirect name association: the index, and a name map.
 abbrev pub inside_text : Inside → List ℕ
 inside_text i = unsigned_text i.0 ++ vec_text naming_text i.1
 
--- The index is in range, and the name is UTF-8 whose length can be spelled.
+-- The name association is well-formed: its index is below 2^32, and its name is UTF-8 of at most
+-- 2^32 - 1 bytes.
 abbrev pub IsNaming : Naming → Type 0
 IsNaming n = (n.0 < 2 ^ 32) × NameFits n.1
 
--- The indices are in range, the names are UTF-8 whose length can be spelled, and they can be counted.
+-- The indirect name association is well-formed: its index is below 2^32, and its names are
+-- well-formed and at most 2^32 - 1.
 abbrev pub IsInside : Inside → Type 0
 IsInside i = (i.0 < 2 ^ 32) × VecFits IsNaming i.1
 
--- name association: an index, and a name
+-- A name association: an index and a name.
 abbrev pub naming : Format Naming
 naming = pair u32 name
 
--- name map: a vector of name associations
+-- A name map: a vector of name associations.
 abbrev pub name_map : Format (List Naming)
 name_map = vec naming
 
--- indirect name map: a vector of indices with a name map each
+-- An indirect name map: a vector of indices with a name map each.
 abbrev pub indirect_map : Format (List Inside)
 indirect_map = vec (pair u32 name_map)
 
 -- ---- subsections
 
--- what a subsection says: the name of the module, or names by the id of what they name, or the bytes of another id
+-- A subsection: the name of the module, a name map or an indirect name map with its id, or the
+-- bytes of another id.
 pub data NameItem : Type 0 where
   Module : List ℕ → NameItem
   Map : ℕ → List Naming → NameItem
   Indirect : ℕ → List Inside → NameItem
   Other : ℕ → List ℕ → NameItem
 
--- what a subsection holds
+-- The kind of a subsection's content.
 pub data NameKind : Type 0 where
   of_module : NameKind
   of_map : NameKind
   of_indirect : NameKind
   of_other : NameKind
 
--- whether the id is in the list
+-- Whether the id is in the list.
 abbrev pub is_one_of : List ℕ → ℕ → Bool
 is_one_of [] id = false
 is_one_of (i ∷ is) id = cond (id == i) true (is_one_of is id)
 
--- functions, types, tables, memories, globals, elements, data, tags
+-- The ids of name maps: functions, types, tables, memories, globals, elements, data, tags.
 abbrev pub map_ids : List ℕ
 map_ids = 1 ∷ 4 ∷ 5 ∷ 6 ∷ 7 ∷ 8 ∷ 9 ∷ 11 ∷ []
 
--- locals, labels, fields, parameters, tags' parameters
+-- The ids of indirect name maps: locals, labels, fields, parameters, parameters of tags.
 abbrev pub indirect_ids : List ℕ
 indirect_ids = 2 ∷ 3 ∷ 10 ∷ 12 ∷ 13 ∷ []
 
--- what a subsection of the id holds
+-- The kind of the content of a subsection, by its id.
 abbrev pub name_kind_of : ℕ → NameKind
 name_kind_of id = cond (id == 0) of_module (cond (is_one_of map_ids id) of_map (cond (is_one_of indirect_ids id) of_indirect of_other))
 
--- what follows the id of a subsection that holds this
+-- The format of the bytes after the id of a subsection with this kind of content.
 abbrev pub after_id : NameKind → ℕ → Format NameItem
 after_id of_module id = mapped Module (frame name)
 after_id of_map id = mapped (Map id) (frame name_map)
 after_id of_indirect id = mapped (Indirect id) (frame indirect_map)
 after_id of_other id = mapped (Other id) (frame any_bytes)
 
--- subsection: an id, and the frame of what it holds
+-- A subsection: an id, then its size-prefixed content.
 abbrev pub subsection : Format NameItem
 subsection = tagged byte (λ id. after_id (name_kind_of id) id)
 
--- ---- texts
+-- ---- encodings
 
--- the text of a subsection: its id, and the frame of the name of the module, of a name map, of an indirect name map, or of any bytes
+-- The encoding of a subsection: its id, then its size-prefixed content.
 abbrev pub name_text : NameItem → List ℕ
 name_text (Module n) = subsection_text 0 (frame_text n)
 name_text (Map id names) = subsection_text id (vec_text naming_text names)
 name_text (Indirect id names) = subsection_text id (vec_text inside_text names)
 name_text (Other id content) = subsection_text id content
 
--- plain: The id is one of what the subsection holds, for bytes one that stands for no names. Names are UTF-8, indices in range, and name maps fit.
+-- The subsection is well-formed: its id is one of its kind of content, names are UTF-8, indices are
+-- below 2^32, and name maps fit.
 abbrev pub IsName : NameItem → Type 0
 IsName (Module n) = IsUtf8 n
 IsName (Map id names) = (name_kind_of id ≡ of_map) × VecFits IsNaming names
 IsName (Indirect id names) = (name_kind_of id ≡ of_indirect) × VecFits IsInside names
 IsName (Other id content) = name_kind_of id ≡ of_other
 
--- the kind of subsections of a name section
+-- The kind of subsections of a name section.
 abbrev pub name_items : Kind NameItem NameItem
 name_items = record { text = name_text; IsPlain = IsName; IsPlainWide = IsName; normal_form = λ item. item; format = subsection }
 
--- "name"
+-- The section name `name`.
 abbrev pub name_name : List ℕ
 name_name = codes "name"
 
--- ---- what calls leave, and how a reader finds it
+-- ---- the name section
 
--- The entries of a name map are these name associations.
+-- The pieces are the encodings of these name associations.
 abbrev pub AreNamings : List (List ℕ) → List Naming → Type 0
 AreNamings = IsListOf naming_text IsNaming
 
--- The entries of an indirect name map are these indices with their name maps.
+-- The pieces are the encodings of these indices with their name maps.
 abbrev pub AreInsides : List (List ℕ) → List Inside → Type 0
 AreInsides = IsListOf inside_text IsInside
 
--- The entries of a name section hold these subsections.
+-- The pieces encode these subsections.
 abbrev pub HoldsNames : List (List ℕ) → List NameItem → Type 0
 HoldsNames = HoldsItems name_items
 
--- what follows the size of a name section: its name, and its subsections
+-- The payload of a name section: its name, and its subsections.
 abbrev pub name_payload : Format (List NameItem)
 name_payload = named_payload name_name (entries (fixed [] (tt {0})) false subsection)
 
--- the name section of these subsections, as a reader finds it
+-- The name section that decodes to these subsections.
 abbrev pub name_reading : List NameItem → SectionReading
 name_reading subsections = reading_as name_payload subsections
 
--- ---- what was read
+-- ---- decoded subsections
 
--- what a subsection holds, as the code tells it apart
+-- The kind of a subsection's content, as the code has it.
 abbrev pub kind_as : read_kind.NameKind → NameKind
 kind_as kinds.Module = of_module
 kind_as kinds.Map = of_map
 kind_as kinds.Indirect = of_indirect
 kind_as kinds.Other = of_other
 
--- the content of a subsection that holds this
+-- The format of a subsection's content of this kind.
 abbrev pub inside : NameKind → ℕ → Format NameItem
 inside of_module id = mapped Module name
 inside of_map id = mapped (Map id) name_map
 inside of_indirect id = mapped (Indirect id) indirect_map
 inside of_other id = mapped (Other id) any_bytes
 
--- indices and names, without where they lie in memory
+-- The view of a decoded name map.
 abbrev pub names_view : List (ℕ × Bor (List ℕ)) → List Naming
 names_view = map (λ n. (n.0, n.1.now))
 
--- an index, and indices and names, without where they lie in memory
+-- The view of a decoded indirect name association.
 abbrev pub inside_view : {A : Type 0} → ℕ × Vec (ℕ × Bor (List ℕ)) A → Inside
 inside_view i = (i.0, names_view i.1.items)
 
--- a subsection of a name section, without where it lies in memory
+-- The view of a decoded subsection.
 abbrev pub name_item_view : {A : Type 0} → read.NameItem A → NameItem
 name_item_view (items.Module n) = Module n.now
 name_item_view (items.Map id ns) = Map id (names_view ns.items)
 name_item_view (items.Indirect id ms) = Indirect id (map inside_view ms.items)
 name_item_view (items.Other id bytes) = Other id bytes.now
 
--- the id of a subsection
+-- The id of a subsection.
 abbrev pub id_of : NameItem → ℕ
 id_of (Module n) = 0
 id_of (Map id ns) = id
 id_of (Indirect id ms) = id
 id_of (Other id bytes) = id
 
--- the kind of what a subsection holds
+-- The kind of a subsection's content.
 abbrev pub held_by : NameItem → NameKind
 held_by (Module n) = of_module
 held_by (Map id ns) = of_map

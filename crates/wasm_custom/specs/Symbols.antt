@@ -1,4 +1,5 @@
--- Symbols: their texts, and what spells them.
+-- This file defines the symbols of a linking section, their encoding and their format. Tool
+-- conventions, Linking, Linking Metadata Section.
 use Rattle.std.specs.Prelude.{◌≡◌, ℕ, ◌^◌, ◌<◌, List, [], ◌∷◌, ◌++◌, Bool, false, not, cond, Option, IfSome, option_map}
 use Rattle.wasm_base.specs.Formats.{Format, u32, byte, name, impossible, mapped, pair, tagged, choice, optional, is_given}
 use Rattle.wasm_base.specs.Laws.{NameFits}
@@ -12,101 +13,106 @@ use Rattle.wasm_custom.specs.declared.symbols.SymbolKind.TheVariants.{Function, 
 use Rattle.wasm_custom.specs.declared.symbols.Symbol as read
 use Rattle.wasm_custom.specs.declared.symbols.Symbol.TheVariants as items
 
--- the byte of the kind of a symbol with an index
+-- The byte for the kind of a symbol with an index.
 abbrev pub kind_code : SymbolKind → ℕ
 kind_code Function = 0x00
 kind_code Global = 0x02
 kind_code Table = 0x05
 
--- what a symbol says: a kind, flags, an index, and a name where it is given; or of data, flags, a name, and a definition where it is given
+-- A symbol: a kind, flags, an index and an optional name; or for data, flags, a name and an
+-- optional definition.
 pub data Symbol : Type 0 where
   indexed : SymbolKind → ℕ → ℕ → Option (List ℕ) → Symbol
   of_data : ℕ → List ℕ → Option DataSymbolDefinition → Symbol
 
--- whether a symbol with an index has a name of its own: where bit 4 (undefined) of the flags isn't set, or bit 6 (explicit name) is
+-- Whether a symbol with an index has a name: bit 4 (undefined) of its flags is clear, or bit 6
+-- (explicit name) is set.
 abbrev pub has_name : ℕ → Bool
 has_name flags = not (cond (bit 4 flags) (not (bit 6 flags)) false)
 
--- whether a symbol of data has a definition: where bit 4 (undefined) of the flags isn't set
+-- Whether a data symbol has a definition: bit 4 (undefined) of its flags is clear.
 abbrev pub has_definition : ℕ → Bool
 has_definition flags = not (bit 4 flags)
 
--- the text of the definition of data: the index of a data segment, an offset there, and a size
+-- The encoding of a data definition: the index of a data segment, an offset in it, and a size.
 abbrev pub definition_text : DataSymbolDefinition → List ℕ
 definition_text d = unsigned_text d.index ++ (unsigned_text d.offset ++ unsigned_text d.size)
 
--- the text of a symbol with an index: its kind, its flags, the index, and the bytes of its name, which may be none
+-- The encoding of a symbol with an index: its kind, flags and index, and the bytes of its name, if
+-- any.
 abbrev pub indexed_text : SymbolKind → ℕ → ℕ → List ℕ → List ℕ
 indexed_text kind flags index named = kind_code kind ∷ (unsigned_text flags ++ (unsigned_text index ++ named))
 
--- the text of a symbol of data: the byte 01, its flags, its name, and the bytes of its definition, which may be none
+-- The encoding of a data symbol: 01, its flags, its name, and the bytes of its definition, if any.
 abbrev pub of_data_text : ℕ → List ℕ → List ℕ → List ℕ
 of_data_text flags n defined = 0x01 ∷ (unsigned_text flags ++ (frame_text n ++ defined))
 
--- the text of a symbol, with the name or the definition where it is given
+-- The encoding of a symbol, with its name or definition if it has one.
 abbrev pub symbol_text : Symbol → List ℕ
 symbol_text (indexed kind flags index n) = indexed_text kind flags index (optional_text frame_text n)
 symbol_text (of_data flags n d) = of_data_text flags n (optional_text definition_text d)
 
--- Its numbers are in range.
+-- The numbers of the definition are below 2^32.
 pub record IsDefinition (d : DataSymbolDefinition) : Type 0 where
   pub index : d.index < 2 ^ 32
   pub offset : d.offset < 2 ^ 32
   pub size : d.size < 2 ^ 32
 
--- The numbers are in range, and a name that is given is UTF-8 whose length can be spelled.
+-- The numbers are in range, and a name is UTF-8 of at most 2^32 - 1 bytes.
 abbrev pub IsGivenSymbol : Symbol → Type 0
 IsGivenSymbol (indexed kind flags index n) = (flags < 2 ^ 32) × (index < 2 ^ 32) × IfSome n NameFits
 IsGivenSymbol (of_data flags n d) = (flags < 2 ^ 32) × NameFits n × IfSome d IsDefinition
 
--- The name, or of data the definition, is given exactly where the flags tell of it.
+-- The name, or for data the definition, is there exactly if the flags say so.
 abbrev pub IsAsFlagged : Symbol → Type 0
 IsAsFlagged (indexed kind flags index n) = is_given n ≡ has_name flags
 IsAsFlagged (of_data flags n d) = is_given d ≡ has_definition flags
 
--- plain: The symbol is one that can be handed in, and it is as its flags say.
+-- The symbol is well-formed: its numbers and names are valid, and it is as its flags say.
 abbrev pub IsSymbol : Symbol → Type 0
 IsSymbol symbol = IsGivenSymbol symbol × IsAsFlagged symbol
 
--- the definition of data in this segment, at this offset and of this size
+-- The definition in this data segment, at this offset and of this size.
 abbrev pub definition_of : ℕ × (ℕ × ℕ) → DataSymbolDefinition
 definition_of parts = record { index = parts.0; offset = parts.1.0; size = parts.1.1 }
 
--- definition of data: the index of a data segment, an offset there, and a size
+-- A data definition: the index of a data segment, an offset in it, and a size.
 abbrev pub definition : Format DataSymbolDefinition
 definition = mapped definition_of (pair u32 (pair u32 u32))
 
--- the symbol of this kind and these flags, of an index, and of a name where it is given
+-- The symbol of this kind and these flags, an index and an optional name.
 abbrev pub indexed_of : SymbolKind → ℕ → ℕ × Option (List ℕ) → Symbol
 indexed_of kind flags parts = indexed kind flags parts.0 parts.1
 
--- the symbol of data of these flags, of a name, and of a definition where it is given
+-- The data symbol of these flags, a name and an optional definition.
 abbrev pub data_of : ℕ → List ℕ × Option DataSymbolDefinition → Symbol
 data_of flags parts = of_data flags parts.0 parts.1
 
--- what follows the kind of a symbol with an index: flags, the index, and a name where the flags tell of one
+-- The bytes after the kind of a symbol with an index: flags, the index, and a name if the flags say
+-- so.
 abbrev pub indexed_symbol : SymbolKind → Format Symbol
 indexed_symbol kind = tagged u32 (λ flags. mapped (indexed_of kind flags) (pair u32 (optional (has_name flags) name)))
 
--- what follows the kind of a symbol of data: flags, a name, and a definition where the flags tell of one
+-- The bytes after the kind of a data symbol: flags, a name, and a definition if the flags say so.
 abbrev pub data_symbol : Format Symbol
 data_symbol = tagged u32 (λ flags. mapped (data_of flags) (pair name (optional (has_definition flags) definition)))
 
--- what follows the kind of a symbol: 00 is a function, 01 data, 02 a global, 05 a table
+-- The formats of a symbol by the byte of its kind: 00 is a function, 01 data, 02 a global, 05 a
+-- table.
 abbrev pub symbol_tags : List (ℕ × Format Symbol)
 symbol_tags = (0x00, indexed_symbol Function) ∷ (0x01, data_symbol) ∷ (0x02, indexed_symbol Global) ∷ (0x05, indexed_symbol Table) ∷ []
 
--- symbol: a kind, flags, and the parts that these tell of
+-- A symbol: a kind, flags, and the fields that these select.
 abbrev pub symbol : Format Symbol
 symbol = tagged byte (choice symbol_tags (λ b. impossible))
 
--- The entries of a symbol table are these symbols.
+-- The pieces are the encodings of these symbols.
 abbrev pub AreSymbols : List (List ℕ) → List Symbol → Type 0
 AreSymbols = IsListOf symbol_text IsGivenSymbol
 
--- ---- what was read
+-- ---- decoded symbols
 
--- a symbol, without where it lies in memory
+-- The view of a decoded symbol.
 abbrev pub symbol_view : read.Symbol → Symbol
 symbol_view (items.Function flags index n) = indexed Function flags index (option_map (λ n. n.now) n)
 symbol_view (items.Global flags index n) = indexed Global flags index (option_map (λ n. n.now) n)

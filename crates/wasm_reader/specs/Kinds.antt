@@ -1,4 +1,4 @@
--- Kinds of sections: what the frame of each holds, and what a reader's items say.
+-- This file defines the kinds of sections, the content of each kind, and the view of decoded items.
 use Rattle.std.specs.Prelude.{ℕ, List, [], ◌∷◌, length, map, Option, Some, None, cond, ◌==◌, if◌then◌else◌}
 use Rattle.std.specs.List.{slice_get}
 use Rattle.std.specs.Str.{bytes_eq}
@@ -35,7 +35,7 @@ use Rattle.wasm_reader.specs.declared.kinds.Items.TheVariants as items
 use Rattle.wasm_reader.specs.declared.kinds.SectionKind.{SectionKind}
 use Rattle.wasm_reader.specs.declared.kinds.SectionKind.TheVariants as kinds
 
--- what a section holds
+-- The content of a section.
 pub data Contents : Type 0 where
   Bodies : List Body → Contents
   Segments : List DataItem → Contents
@@ -61,7 +61,7 @@ pub data Contents : Type 0 where
   Raw : List ℕ → Contents
   Types : List TypeItem → Contents
 
--- what the frame of a section of the kind holds
+-- The format of the payload of a section of this kind.
 abbrev pub content : SectionKind → Format Contents
 content kinds.Bodies = mapped Bodies (vec (frame body))
 content kinds.Segments = mapped Segments (vec data_item)
@@ -87,7 +87,7 @@ content kinds.Custom = mapped Custom (pair name any_bytes)
 content kinds.Raw = mapped Raw any_bytes
 content kinds.Types = mapped Types (vec type_item)
 
--- the kind of a section that holds this
+-- The kind of section that has this content.
 abbrev pub kind_in : Contents → SectionKind
 kind_in (Bodies xs) = kinds.Bodies
 kind_in (Segments xs) = kinds.Segments
@@ -113,7 +113,7 @@ kind_in (Custom x) = kinds.Custom
 kind_in (Raw x) = kinds.Raw
 kind_in (Types xs) = kinds.Types
 
--- what items say, without where they lie in memory
+-- The view of decoded items.
 abbrev pub contents_of : {A : Type 0} → Items A → Contents
 contents_of (items.Bodies v) = Bodies (map body_view v.items)
 contents_of (items.Segments v) = Segments (map segment_view v.items)
@@ -139,22 +139,22 @@ contents_of (items.Custom n b) = Custom (n.now, b.now)
 contents_of (items.Raw b) = Raw b.now
 contents_of (items.Types v) = Types (map entry_view v.items)
 
--- the kinds, in the order of their numbers
+-- The kinds, in the order of their numbers.
 abbrev pub kinds_in_order : List SectionKind
 kinds_in_order =
     kinds.Bodies ∷ kinds.Segments ∷ kinds.DataCount ∷ kinds.Elements ∷ kinds.Exports ∷ kinds.Functions ∷ kinds.Globals ∷ kinds.Imports ∷ kinds.Memories ∷ kinds.Start ∷ kinds.Tables ∷ kinds.Tags
     ∷ kinds.Names ∷ kinds.Linking ∷ kinds.Producers ∷ kinds.Hints ∷ kinds.Core ∷ kinds.CoreModules ∷ kinds.CoreInstances ∷ kinds.CoreStack ∷ kinds.Custom ∷ kinds.Raw ∷ kinds.Types ∷ []
 
--- the kind of a number, counted from 0
+-- The kind of a number, counted from 0.
 abbrev pub kind_numbered : ℕ → Option SectionKind
 kind_numbered n = slice_get kinds_in_order n
 
--- the kind that stands beside the id, and `Raw` where none does
+-- The kind that the list has for the id, and `Raw` if it has none.
 abbrev pub kind_among : List (ℕ × SectionKind) → ℕ → SectionKind
 kind_among [] id = kinds.Raw
 kind_among (k ∷ ks) id = cond (id == k.0) k.1 (kind_among ks id)
 
--- the kinds of sections beside their ids: a custom section is of the kind `Custom`, whatever its name
+-- The kinds of sections by their ids. A custom section has the kind `Custom`, whatever its name.
 abbrev pub known_kinds : List (ℕ × SectionKind)
 known_kinds =
     (number_of ids.Custom, kinds.Custom) ∷ (number_of ids.Import, kinds.Imports) ∷ (number_of ids.Function, kinds.Functions) ∷ (number_of ids.Table, kinds.Tables) ∷ (number_of ids.Memory, kinds.Memories) ∷ (number_of ids.Global, kinds.Globals)
@@ -167,16 +167,16 @@ known_kinds =
     ∷ (number_of ids.Tag, kinds.Tags)
     ∷ []
 
--- the kind of a section of the id: type sections and those of ids past 13 are of any bytes
+-- The kind of a section of this id. Type sections and ids above 13 are `Raw`.
 abbrev pub kind_of_id : ℕ → SectionKind
 kind_of_id id = kind_among known_kinds id
 
--- the kind that stands beside the name, and `Custom` where none does
+-- The kind that the list has for the name, and `Custom` if it has none.
 abbrev pub kind_among_names : List (List ℕ × SectionKind) → List ℕ → SectionKind
 kind_among_names [] n = kinds.Custom
 kind_among_names (k ∷ ks) n = if bytes_eq n k.0 then k.1 else kind_among_names ks n
 
--- the kinds of custom sections beside their names
+-- The kinds of custom sections by their names.
 abbrev pub known_names : List (List ℕ × SectionKind)
 known_names =
     (name_name, kinds.Names) ∷ (linking_name, kinds.Linking) ∷ (producers_name, kinds.Producers) ∷ (hints_name, kinds.Hints)
@@ -186,11 +186,11 @@ known_names =
     ∷ (stack_name, kinds.CoreStack)
     ∷ []
 
--- the kind of a custom section of the name
+-- The kind of a custom section of this name.
 abbrev pub kind_named : List ℕ → SectionKind
 kind_named n = kind_among_names known_names n
 
--- the number of items, where a list of a module tells it
+-- The number of items, if the list of a module reports it.
 abbrev pub number_in : Contents → Option ℕ
 number_in (Bodies xs) = Some (length xs)
 number_in (Segments xs) = Some (length xs)

@@ -1,4 +1,4 @@
--- Sections of each kind: what spells them, and what a reader and a writer do.
+-- This file defines sections of each kind, and what their reader and their minimizer promise.
 use Rattle.std.specs.Prelude.{◌≡◌, ◌↔◌, ℕ, ◌≤◌, List, ◌++◌, length, drop}
 use Rattle.wasm_base.specs.Numbers.{shortest, wide}
 use Rattle.wasm_base.specs.Formats.{Format, frame}
@@ -6,16 +6,17 @@ use Rattle.wasm_base.specs.Reading.{Reads}
 use Rattle.wasm_reader.specs.Kinds.{Contents, content}
 use Rattle.wasm_reader.specs.declared.kinds.SectionKind.{SectionKind}
 
--- section of the kind: a frame
+-- A section of this kind without its id: its size-prefixed content.
 abbrev pub section : SectionKind → Format Contents
 section kind = frame (content kind)
 
--- A section of the kind stands at the front of the bytes, and takes so many of them.
+-- The first n bytes are a section of this kind, possibly padded, with this content.
 pub record Takes (kind : SectionKind) (bytes : List ℕ) (x : Contents) (n : ℕ) : Type 0 where
   pub within : n ≤ length bytes
   pub reads : Reads (section kind) wide bytes x (drop n bytes)
 
--- A section of the kind stands at the front of the bytes, and takes so many of them. Its shortest text is appended, which has at most as many.
+-- The first n bytes are a section of this kind. The buffer gains its minimal encoding, which has at
+-- most n bytes.
 pub record Shortens (kind : SectionKind) (bytes : List ℕ) (n : ℕ) (old new : List ℕ) : Type 0 where
   pub value : Contents
   pub takes : Takes kind bytes value n
@@ -24,6 +25,6 @@ pub record Shortens (kind : SectionKind) (bytes : List ℕ) (n : ℕ) (old new :
   pub shorter : length text ≤ n
   pub appended : new ≡ old ++ text
 
--- Two sections of a kind that are shortened gain one text exactly where they are read as the same items.
+-- Two sections of a kind have the same minimal encoding exactly if they decode to the same items.
 pub record HaveOneText : Type 0 where
   pub same : (kind : SectionKind) (a b old other s t : List ℕ) (n m : ℕ) (x y : Contents) → Shortens kind a n old (old ++ s) → Shortens kind b m other (other ++ t) → Takes kind a x n → Takes kind b y m → (s ≡ t) ↔ (x ≡ y)

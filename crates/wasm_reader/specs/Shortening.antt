@@ -1,4 +1,5 @@
--- Modules, written as shortly as can be.
+-- This file defines the minimal form of a module, and the custom sections whose offsets it must
+-- preserve.
 use Rattle.std.specs.Prelude.{◌≡◌, ◌≢◌, ◌⊎◌, ◌||◌, ℕ, ◌+◌, ◌≤◌, List, [], ◌∷◌, ◌++◌, length, map, codes, nat_eq, min, Bool, true, false, if◌then◌else◌, Decides, MatchBool, Option, Some, None, is_some}
 use Rattle.std.specs.List.{AllByRecursion, flat_map, starts_with}
 use Rattle.std.specs.Str.{bytes_eq}
@@ -26,103 +27,110 @@ use Rattle.wasm_reader_base.specs.declared.fault.ReadFault.TheVariants.{Memory}
 
 -- ---- custom sections that hold offsets
 
--- whether the name begins with these bytes
+-- Whether the name begins with these bytes.
 abbrev pub begins_with : List ℕ → List ℕ → Bool
 begins_with front n = starts_with nat_eq n front
 
--- whether a custom section of the name holds offsets into code and data: symbols, debugging information, the name of a file with such information and what ties the module to it, or metadata of code
+-- Whether a custom section of this name holds offsets into code and data: symbols, debugging
+-- information, the name of a file that has it, the identity that ties that file to the module, or
+-- code metadata.
 abbrev pub names_code_offsets : List ℕ → Bool
 names_code_offsets n =
     bytes_eq n linking_name || bytes_eq n (codes "external_debug_info") || bytes_eq n (codes "build_id") || begins_with (codes ".debug_") n
     || begins_with (codes "metadata.code.") n
 
--- what the offsets in a custom section of the name lead into: relocations name any section, and a source map counts from the first byte of the module
+-- The sections that the offsets in a custom section of this name point into. Relocations name any
+-- section, and a source map counts from the first byte of the module.
 abbrev pub target_named : List ℕ → Option Target
 target_named n =
     if begins_with (codes "reloc.") n then Some Relocated else
     (if bytes_eq n (codes "sourceMappingURL") then Some Module else
     (if names_code_offsets n then Some CodeAndData else None))
 
--- what the offsets in a section lead into, by its name
+-- The sections that the offsets in a section point into, by its name.
 abbrev pub target_of : Option (List ℕ) → Option Target
 target_of (Some n) = target_named n
 target_of None = None
 
--- whether a section holds offsets, by its name
+-- Whether a section holds offsets, by its name.
 abbrev pub holds_offsets : Option (List ℕ) → Bool
 holds_offsets n = is_some (target_of n)
 
--- Such offsets count from the front of a section of the id.
+-- Such offsets count from the front of a section of this id.
 abbrev pub IsLedInto : Target → ℕ → Type 0
 IsLedInto CodeAndData id = (id ≡ number_of ids.Code) ⊎ (id ≡ number_of ids.Data)
 IsLedInto Relocated id = (id ≡ number_of ids.Code) ⊎ ((id ≡ number_of ids.Data) ⊎ (id ≡ number_of ids.Custom))
 IsLedInto Module id = (id ≡ number_of ids.Code) ⊎ (id ≡ number_of ids.Data)
 
--- Such offsets count from the first byte of the module, and lead into a section of the id.
+-- Such offsets count from the first byte of the module, and point into a section of this id.
 abbrev pub IsPlaced : Target → ℕ → Type 0
 IsPlaced CodeAndData id = ⊥
 IsPlaced Relocated id = ⊥
 IsPlaced Module id = id ≡ number_of ids.Code
 
--- ---- what is written for a section
+-- ---- the output for a section
 
--- A section, and what is written in place of its frame.
+-- A section, and the bytes that replace its size-prefixed payload.
 pub record Rewrite : Type 0 where
   pub section : Section
   pub how : How
   pub text : List ℕ
 
--- The text is the one shortest text of the section, or the frame as it stands, since that is not read as its kind.
+-- The bytes are the minimal encoding of the section; or its bytes unchanged, since they do not
+-- decode by its kind. A section that is left out has none.
 abbrev pub IsTextFor : How → Section → List ℕ → Type 0
 IsTextFor Shortest s text = Shortens (section_kind_of s) s.framed (length s.framed) [] text
 IsTextFor Kept s text = (text ≡ s.framed) × ReadsNothing (section (section_kind_of s)) wide s.framed
 IsTextFor LeftOut s text = ⊥
 
--- The section is written so; or it holds offsets, and is left out, as is done with these.
+-- The section is encoded in this way. It is left out exactly if it holds offsets and such sections
+-- are to be left out.
 abbrev pub IsWritten : Offsets → How → Section → List ℕ → Type 0
 IsWritten offsets Shortest s text = IsTextFor Shortest s text × (offsets ≡ LeaveOut → holds_offsets s.name ≡ false)
 IsWritten offsets Kept s text = IsTextFor Kept s text × (offsets ≡ LeaveOut → holds_offsets s.name ≡ false)
 IsWritten offsets LeftOut s text = (text ≡ []) × (offsets ≡ LeaveOut) × (holds_offsets s.name ≡ true)
 
--- the same of a rewrite
+-- The rewrite of a section is as `IsWritten` says.
 abbrev pub IsRewrite : Offsets → Rewrite → Type 0
 IsRewrite offsets w = IsWritten offsets w.how w.section w.text
 
--- an id and a text, where the section is written
+-- An id and bytes, unless the section is left out.
 abbrev pub written_as : How → ℕ → List ℕ → List ℕ
 written_as LeftOut id text = []
 written_as Shortest id text = id ∷ text
 written_as Kept id text = id ∷ text
 
--- the bytes that are written for a section
+-- The bytes that the output has for a section.
 abbrev pub written : Rewrite → List ℕ
 written w = written_as w.how w.section.id w.text
 
--- one where the section is kept
+-- 1 if the section is kept unchanged, and 0 otherwise.
 abbrev pub keeps : How → ℕ
 keeps Kept = 1
 keeps Shortest = 0
 keeps LeftOut = 0
 
--- how many sections are kept
+-- The number of sections that are kept unchanged.
 abbrev pub count_kept : List Rewrite → ℕ
 count_kept [] = 0
 count_kept (w ∷ ws) = keeps w.how + count_kept ws
 
--- the id of a section that is written
+-- The id of a section in the output, unless it is left out.
 abbrev pub id_written : Rewrite → List ℕ
 id_written w = written_as w.how w.section.id []
 
--- Such offsets find the section where it was: it begins at `from` in the module, and is written at `to`.
+-- The section, which begins at `from` in the input and at `to` in the output, stays where such
+-- offsets expect it: unchanged if they count from its front, and at the same offset if they count
+-- from the module's.
 abbrev pub Stays : Target → ℕ → ℕ → Rewrite → Type 0
 Stays target from to w = (IsLedInto target w.section.id → w.text ≡ w.section.framed) × (IsPlaced target w.section.id → from ≡ to)
 
--- All of these sections stay, one after the other, from these offsets on.
+-- All of these sections stay, one after another, from these offsets on.
 abbrev pub AllStay : Target → ℕ → ℕ → List Rewrite → Type 0
 AllStay target from to [] = Unit {0}
 AllStay target from to (w ∷ ws) = Stays target from to w × AllStay target (from + length (bytes_of w.section)) (to + length (written w)) ws
 
--- The offsets in a section of a module lead where they did: it holds none, or all sections of the module stay.
+-- The offsets of a section remain correct: it holds none, or all sections of the module stay.
 abbrev pub KeepsOffsets : List Rewrite → Rewrite → Type 0
 KeepsOffsets all w = (target : Target) → target_of w.section.name ≡ Some target → AllStay target (length header) (length header) all
 
@@ -132,8 +140,10 @@ HasLostOffsets all w = (target : Target) × (target_of w.section.name ≡ Some t
 
 -- ---- modules
 
--- The header and sections are appended: each section of the module in its shortest text, or, where it is not read as its kind, as it stands, and so many are so. Where a module that would lose
--- offsets is refused, each section keeps its offsets; otherwise those that hold offsets are left out, and these alone. What is appended is a module of sections with the same ids, and no longer.
+-- The buffer gains the header and the output for each section: its minimal encoding, or its bytes
+-- unchanged if they do not decode by its kind; `kept` counts the latter. With `Refuse` every
+-- section keeps its offsets, and with `LeaveOut` exactly the sections that hold offsets are left
+-- out. The output is a module of sections with the same ids, and is no longer than the input.
 pub record ShortensModule (offsets : Offsets) (bytes : List ℕ) (kept : ℕ) (old new : List ℕ) : Type 0 where
   pub rewrites : List Rewrite
   pub has : HasSections bytes (map (λ w. w.section) rewrites)
@@ -148,7 +158,8 @@ pub record ShortensModule (offsets : Offsets) (bytes : List ℕ) (kept : ℕ) (o
   pub read : wasm_module wide text sections
   pub same_ids : map (λ s. s.0) sections ≡ flat_map id_written rewrites
 
--- The section with this number, counted from 1, is the first whose offsets are lost: they do not lead where they did, once each section is written as shortly as can be.
+-- The section of this number, counted from 1, is the first whose offsets are lost if each section
+-- is minimized.
 pub record LosesOffsets (bytes : List ℕ) (number : ℕ) : Type 0 where
   pub before : List Rewrite
   pub holder : Rewrite
@@ -159,89 +170,95 @@ pub record LosesOffsets (bytes : List ℕ) (number : ℕ) : Type 0 where
   pub first : AllByRecursion (KeepsOffsets (before ++ holder ∷ after)) before
   pub lost : HasLostOffsets (before ++ holder ∷ after) holder
 
--- The section of this number is none of any bytes, in no module, or memory was refused; or it loses its offsets.
+-- The meaning of an error: the section of this number is the first that is malformed, whatever its
+-- payload, and the bytes are no module; or it loses its offsets. `Memory` means nothing about the
+-- bytes.
 abbrev pub Explains : Offsets → List ℕ → ModuleFault → Type 0
 Explains offsets bytes (faults.Section number fault) = fault ≢ Memory → EndsAt bytes number × FillsNothing wasm_module bytes
 Explains offsets bytes (faults.Offsets number) = (offsets ≡ Refuse) × LosesOffsets bytes number
 
--- ---- on the way
+-- ---- intermediate steps
 
--- Whether the text differs from the section's frame.
+-- Whether the bytes differ from the section's size-prefixed payload.
 abbrev pub IsChange : Bool → Section → List ℕ → Type 0
 IsChange is_changed s text = MatchBool is_changed (text ≢ s.framed) (text ≡ s.framed)
 
--- The bytes gain what is written for the section.
+-- The buffer gains the output for the section.
 pub record GainsSection (offsets : Offsets) (s : Section) (how : How) (is_changed : Bool) (old new : List ℕ) : Type 0 where
   pub text : List ℕ
   pub written : IsWritten offsets how s text
   pub changed : IsChange is_changed s text
   pub appended : new ≡ old ++ written_as how s.id text
 
--- Whether the section moves away from such offsets, where it is so changed, and begins at the offset at which it is written, or does not.
+-- Whether a section of this id does not stay for such offsets, given whether it changes and whether
+-- its offset stays the same.
 abbrev pub AreMoved : Bool → Target → ℕ → Bool → Bool → Type 0
 AreMoved is_moved target id is_changed is_level =
     (w : Rewrite) (from to : ℕ) → id ≡ w.section.id → IsChange is_changed w.section w.text → Decides is_level (from ≡ to) → MatchBool is_moved (Stays target from to w → ⊥) (Stays target from to w)
 
--- how many bytes sections have, and how many are written for them
+-- The number of bytes of the sections in the input, and in the output.
 abbrev pub size_before : List Rewrite → ℕ
 size_before ws = length (flat_map (λ w. bytes_of w.section) ws)
 
 abbrev pub size_after : List Rewrite → ℕ
 size_after ws = length (flat_map written ws)
 
--- The section's offsets are of this class.
+-- The section holds offsets of this class.
 abbrev pub IsInto : Target → Rewrite → Type 0
 IsInto target w = target_of w.section.name ≡ Some target
 
--- No section is such, or the one of this number is the first.
+-- No section has the property, or the section of this number, counted from 1, is the first that has
+-- it.
 abbrev pub IsFirst : (Rewrite → Type 0) → List Rewrite → Option ℕ → Type 0
 IsFirst P rewrites None = AllByRecursion (λ w. P w → ⊥) rewrites
 IsFirst P rewrites (Some number) = (before after : List Rewrite) × (w : Rewrite) × (rewrites ≡ before ++ w ∷ after) × (length before + 1 ≡ number) × AllByRecursion (λ v. P v → ⊥) before × P w
 
--- What is known of offsets of one class: the first section that holds such, and whether one that they lead into moves.
+-- The result for offsets of one class: the first section that holds such offsets, and whether a
+-- section that they point into does not stay.
 pub record HasFound (target : Target) (rewrites : List Rewrite) (found : Found) : Type 0 where
   pub holder : IsFirst (IsInto target) rewrites found.holder
   pub moved : MatchBool found.is_moved (AllStay target (length header) (length header) rewrites → ⊥) (AllStay target (length header) (length header) rewrites)
 
--- whether a section is left out
+-- Whether a section is left out.
 abbrev pub leaves_out : Offsets → Bool → Bool
 leaves_out Refuse holds = false
 leaves_out LeaveOut holds = holds
 
--- the number that was found, or else this one, where the section is such
+-- The number that was found before, or else this number if the section has the property.
 abbrev pub first_of : Option ℕ → Bool → ℕ → Option ℕ
 first_of (Some found) is_such number = Some found
 first_of None true number = Some number
 first_of None false number = None
 
--- the lesser number
+-- The smaller number.
 abbrev pub earlier : Option ℕ → Option ℕ → Option ℕ
 earlier None b = b
 earlier (Some a) None = Some a
 earlier (Some a) (Some b) = Some (min a b)
 
--- the number of the first section whose offsets of one class are lost
+-- The number of the first section whose offsets of one class are lost.
 abbrev pub lost : Found → Option ℕ
 lost found = if found.is_moved then found.holder else None
 
--- what is known of offsets of a class
+-- The result for offsets of this class.
 abbrev pub found_of : Target → Tally → Found
 found_of CodeAndData tally = tally.code_and_data
 found_of Relocated tally = tally.relocated
 found_of Module tally = tally.in_module
 
--- the number of the section for which a module is refused: the first whose offsets are lost
+-- The number of the section for which a module is rejected: the first whose offsets are lost.
 abbrev pub lost_at : Offsets → Tally → Option ℕ
 lost_at Refuse tally = earlier (lost tally.code_and_data) (earlier (lost tally.relocated) (lost tally.in_module))
 lost_at LeaveOut tally = None
 
--- What is known of sections that were written.
+-- The tally of sections that are encoded: how many they are, how many are kept, and the results for
+-- offsets.
 pub record HasTally (rewrites : List Rewrite) (tally : Tally) : Type 0 where
   pub sections : tally.sections ≡ length rewrites
   pub kept : tally.kept ≡ count_kept rewrites
   pub found : (target : Target) → HasFound target rewrites (found_of target tally)
 
--- Sections stand at the front of the bytes, and rest behind them; what is written for these is appended.
+-- The bytes begin with sections, followed by `rest`, and the output for these sections is appended.
 pub record Rewrites (offsets : Offsets) (bytes rest old new : List ℕ) (tally : Tally) : Type 0 where
   pub rewrites : List Rewrite
   pub joined : bytes ≡ flat_map (λ w. bytes_of w.section) rewrites ++ rest
@@ -250,7 +267,8 @@ pub record Rewrites (offsets : Offsets) (bytes rest old new : List ℕ) (tally :
   pub tallied : HasTally rewrites tally
   pub appended : new ≡ old ++ flat_map written rewrites
 
--- So many sections of any bytes stand at the front, bytes are left, and no such section stands there.
+-- The bytes begin with sections with any payload, one less than this number. Bytes remain, and no
+-- such section decodes from their front.
 pub record StopsAfter (bytes : List ℕ) (number : ℕ) : Type 0 where
   pub sections : List (ℕ × List ℕ)
   pub rest : List ℕ
@@ -259,14 +277,14 @@ pub record StopsAfter (bytes : List ℕ) (number : ℕ) : Type 0 where
   pub more : rest ≢ []
   pub none : ReadsNothing any_section wide rest
 
--- ---- what is said of all modules
+-- ---- laws
 
--- The module is not written for want of memory.
+-- The module is rejected because memory was refused.
 abbrev pub IsMemory : ModuleFault → Type 0
 IsMemory (faults.Section number fault) = fault ≡ Memory
 IsMemory (faults.Offsets number) = ⊥
 
--- A module that was shortened is shortened again, unless memory is refused, and to the same bytes.
+-- A minimized module can be minimized again, unless memory is refused, and gives the same bytes.
 pub record IsIdempotent : Type 0 where
   pub again : (offsets : Offsets) (bytes old other text next : List ℕ) (kept more : ℕ) → ShortensModule offsets bytes kept old (old ++ text) → ShortensModule offsets text more other (other ++ next) → next ≡ text
   pub accepted : (offsets : Offsets) (bytes old text : List ℕ) (kept : ℕ) (fault : ModuleFault) → ShortensModule offsets bytes kept old (old ++ text) → Explains offsets text fault → IsMemory fault

@@ -1,4 +1,4 @@
--- Constant expressions that calls hand in.
+-- This file defines the constant expressions that are arguments of calls.
 use Rattle.std.specs.Prelude.{ℕ, List, map}
 use Rattle.wasm_base.specs.Numbers.{Mode, shortest, wide}
 use Rattle.wasm_code.specs.Expressions.{StoresIn}
@@ -6,23 +6,23 @@ use Rattle.wasm_insn.specs.Plain.{Plain}
 use Rattle.wasm_reader_insn.specs.Arguments.{plain_view}
 use Rattle.wasm_reader_insn.specs.declared.expression.Expression.{Expression}
 
--- an expression that a call handed in: its stored bytes, and beside them the instructions that these are to spell
+-- An expression as an argument: its stored bytes, and the instructions that they should encode.
 pub record Stored : Type 0 where
   pub bytes : List ℕ
   pub instructions : List Plain
 
--- The bytes spell the instructions, none of them End.
+-- The stored bytes encode the instructions in this mode, and none of them is `end`.
 abbrev pub IsStoredIn : Mode → Stored → Type 0
 IsStoredIn mode e = StoresIn mode e.bytes e.instructions
 
--- plain: They do in shortest form.
+-- The stored bytes minimally encode the instructions, and none of them is `end`.
 abbrev pub IsStored : Stored → Type 0
 IsStored e = IsStoredIn shortest e
 
--- plain but for padded numbers
+-- The stored bytes encode the instructions, possibly padded, and none of them is `end`.
 abbrev pub IsStoredWide : Stored → Type 0
 IsStoredWide e = IsStoredIn wide e
 
--- the instructions of an expression that was read
+-- The instructions of a decoded expression.
 abbrev pub instructions_view : {A : Type 0} → Expression A → List Plain
 instructions_view e = map plain_view e.0.items

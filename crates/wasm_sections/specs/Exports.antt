@@ -1,4 +1,5 @@
--- Exports: their text, and what spells them.
+-- This file defines exports, their encoding and their format. Core specification, Binary Format,
+-- Modules, Export Section.
 use Rattle.std.specs.Prelude.{ℕ, ◌^◌, ◌<◌, List, [], ◌∷◌, ◌++◌, IsUtf8}
 use Rattle.wasm_base.specs.Entries.{Kind, HoldsItems}
 use Rattle.wasm_base.specs.Formats.{Format, u32, name, coded, mapped, pair, vec}
@@ -11,7 +12,7 @@ use Rattle.wasm_sections.specs.declared.export.Export.{Export}
 use Rattle.wasm_sections.specs.declared.export.ExportKind.{ExportKind}
 use Rattle.wasm_sections.specs.declared.export.ExportKind.TheVariants.{Func, Table, Memory, Global, Tag}
 
--- the byte for the kind of an export
+-- The byte for the kind of an export.
 abbrev pub kind_code : ExportKind → ℕ
 kind_code Func = 0x00
 kind_code Table = 0x01
@@ -19,45 +20,45 @@ kind_code Memory = 0x02
 kind_code Global = 0x03
 kind_code Tag = 0x04
 
--- the text of an export: the frame of its name, the byte for its kind, and its index
+-- The encoding of an export: its name, the byte of its kind and its index.
 abbrev pub export_text : Export → List ℕ
 export_text e = frame_text e.name.now ++ (kind_code e.kind ∷ [] ++ unsigned_text e.index)
 
--- The length of the name can be spelled.
+-- The length of the name is at most 2^32 - 1.
 abbrev pub ExportFits : Export → Type 0
 ExportFits e = FrameFits e.name.now
 
--- The name is UTF-8, and the index is in range.
+-- The export is well-formed: its name is UTF-8, and its index is below 2^32.
 pub record IsExport (e : Export) : Type 0 where
   pub name : IsUtf8 e.name.now
   pub index : e.index < 2 ^ 32
 
--- what an export says: a name, and the kind and the index of what is exported
+-- An export: its name, the kind of the exported entity and its index.
 pub record ExportItem : Type 0 where
   pub name : List ℕ
   pub kind : ExportKind
   pub index : ℕ
 
--- what the export that a call hands in says
+-- The item that an export encodes.
 abbrev pub item_of : Export → ExportItem
 item_of e = record { name = e.name.now; kind = e.kind; index = e.index }
 
--- an export of this name, this kind and this index
+-- The export of this name, kind and index.
 abbrev pub export_of : List ℕ × (ExportKind × ℕ) → ExportItem
 export_of parts = record { name = parts.0; kind = parts.1.0; index = parts.1.1 }
 
--- export: a name, a kind and an index
+-- An export: a name, a kind and an index.
 abbrev pub export : Format ExportItem
 export = mapped export_of (pair name (pair (coded kind_code) u32))
 
--- the kind of exports
+-- The kind of exports.
 abbrev pub export_items : Kind Export ExportItem
 export_items = record { text = export_text; IsPlain = IsExport; IsPlainWide = IsExport; normal_form = item_of; format = export }
 
--- The entries hold these exports.
+-- The pieces encode these exports.
 abbrev pub HoldsExports : List (List ℕ) → List ExportItem → Type 0
 HoldsExports = HoldsItems export_items
 
--- the export section of these exports, as a reader finds it
+-- The export section that decodes to these exports.
 abbrev pub export_reading : List ExportItem → SectionReading
 export_reading exports = reading_of (number_of ids.Export) (vec export) exports

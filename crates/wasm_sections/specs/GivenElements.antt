@@ -1,4 +1,4 @@
--- What the types of element segments hand in, by the bytes of their expressions.
+-- This file defines element segments as arguments of calls, whose expressions are stored bytes.
 use Rattle.std.specs.Prelude.{◌≡◌, ℕ, List}
 use Rattle.wasm_base.specs.Cow.{items_of}
 use Rattle.wasm_code.specs.Expressions.{expression_text}
@@ -10,25 +10,26 @@ use Rattle.wasm_sections.specs.declared.element.ElementSegment.{ElementSegment}
 use Rattle.wasm_sections.specs.declared.element.Elements.{Elements}
 use Rattle.wasm_sections.specs.declared.element.Elements.TheVariants as lists
 
--- the place that a mode gives, with the stored bytes of its expression
+-- The mode of an argument, with the stored bytes of its expression.
 abbrev pub mode_of : {A : Type 0} → ElementMode A → Place (List ℕ)
 mode_of modes.Passive = passive
 mode_of modes.Declared = declared
 mode_of (modes.Active table offset) = active table offset.now
 
--- the elements, borrowed or owned, with the stored bytes of their expressions
+-- The elements of an argument, borrowed or owned, with the stored bytes of their expressions.
 abbrev pub list_in : {A : Type 0} → Elements A → ElementList (List ℕ)
 list_in (lists.Functions fs) = functions (items_of fs)
 list_in (lists.Expressions r es) = expressions r (items_of es)
 
--- the element segment that a call hands in, with the stored bytes of its expressions
+-- The element segment of an argument, with the stored bytes of its expressions.
 abbrev pub segment_in : {A : Type 0} → ElementSegment A → ElementItem (List ℕ)
 segment_in s = record { place = mode_of s.mode; elements = list_in s.elements }
 
--- the text of the element segment that a call hands in, once it is settled
+-- The encoding of an element segment that is an argument: that of the settled segment.
 abbrev pub given_text : {A : Type 0} → ElementSegment A → List ℕ
 given_text s = settled_text expression_text (settled (segment_in s))
 
--- Where the record has the segment's place and elements, with the same bytes of expressions, both have one text.
+-- If the record has the mode and the elements of the segment, with the same bytes of expressions,
+-- both have one encoding.
 pub record HaveOneText {A : Type 0} (s : ElementSegment A) (given : ElementItem Stored) : Type 0 where
   pub same : segment_in s ≡ stored_by given → given_text s ≡ element_text given

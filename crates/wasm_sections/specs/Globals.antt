@@ -1,4 +1,5 @@
--- Global types and globals: their texts, and what spells them.
+-- This file defines global types and globals, their encodings and their formats. Core
+-- specification, Binary Format, Types, Global Types, and Modules, Global Section.
 use Rattle.std.specs.Prelude.{ℕ, ◌+◌, List, [], ◌∷◌, ◌++◌, Bool}
 use Rattle.wasm_base.specs.Entries.{Kind, HoldsItems}
 use Rattle.wasm_base.specs.Formats.{Format, coded, mapped, pair, vec}
@@ -16,94 +17,95 @@ use Rattle.wasm_sections.specs.declared.global.GlobalType.{GlobalType}
 use Rattle.wasm_sections.specs.declared.global.GlobalFlags.{GlobalFlags as ReadFlags}
 use Rattle.wasm_sections.specs.declared.global.GlobalItem.{GlobalItem as ReadGlobal}
 
--- the flags of a global
+-- The flags of a global type.
 pub record GlobalFlags : Type 0 where
   pub mutable : Bool
   pub shared : Bool
 
--- the byte of the flags
+-- The byte of the flags.
 abbrev pub global_code : GlobalFlags → ℕ
 global_code f = where_set f.mutable 0x01 + where_set f.shared 0x02
 
--- the flags of a global type: whether it is mutable, and whether it is shared
+-- The flags of a global type: mutable, shared.
 abbrev pub global_flags : GlobalType → GlobalFlags
 global_flags g = record { mutable = g.mutable; shared = g.shared }
 
--- the text of a global type: the type of the value, and the byte of the flags
+-- The encoding of a global type: its value type, and the byte of its flags.
 abbrev pub global_text : GlobalType → List ℕ
 global_text g = val_text g.val_type ++ global_code (global_flags g) ∷ []
 
--- The numbers are in range.
+-- The global type is well-formed: an index in its value type is below 2^32.
 abbrev pub IsGlobal : GlobalType → Type 0
 IsGlobal g = IsVal g.val_type
 
--- a global type of this value type and these flags
+-- The global type of this value type and these flags.
 abbrev pub global_of : ValType × GlobalFlags → GlobalType
 global_of parts = record { val_type = parts.0; mutable = parts.1.mutable; shared = parts.1.shared }
 
--- global type: the type of the value, and flags
+-- A global type: a value type, and a byte of flags.
 abbrev pub global_type : Format GlobalType
 global_type = mapped global_of (pair val_type (coded global_code))
 
 -- ---- globals
 
--- what a call hands in: the type of a global, and the expression of its first value
+-- A global as an argument: its type, and the expression of its initial value.
 pub record GivenGlobal : Type 0 where
   pub global_type : GlobalType
   pub init : Stored
 
--- what a section says: the type of a global, and the instructions of its first value
+-- A global: its type, and the instructions of its initial value.
 pub record GlobalItem : Type 0 where
   pub global_type : GlobalType
   pub init : List Plain
 
--- the text of the global that a call hands in: its type, and the expression of its first value
+-- The encoding of a global that is an argument: its type, and the expression of its initial value.
 abbrev pub global_item_text : GivenGlobal → List ℕ
 global_item_text g = global_text g.global_type ++ expression_text g.init.bytes
 
--- The numbers are in range, and the bytes of the expression spell its instructions.
+-- The global type is well-formed, and the bytes of the expression encode its instructions in this
+-- mode.
 pub record IsGivenGlobalIn (mode : Mode) (g : GivenGlobal) : Type 0 where
   pub global_type : IsGlobal g.global_type
   pub init : IsStoredIn mode g.init
 
--- The numbers are in range, and the expression is plain.
+-- The global is well-formed: its numbers are in range, and its expression is minimally encoded.
 abbrev pub IsGivenGlobal : GivenGlobal → Type 0
 IsGivenGlobal g = IsGivenGlobalIn shortest g
 
--- The numbers are in range, and the expression is plain but for padded numbers.
+-- The global is well-formed but for padded LEB128 in its expression.
 abbrev pub IsGivenGlobalWide : GivenGlobal → Type 0
 IsGivenGlobalWide g = IsGivenGlobalIn wide g
 
--- normal form: the same global, with the instructions of the expression
+-- The normal form: the same global, with the instructions of its expression.
 abbrev pub global_item_of : GivenGlobal → GlobalItem
 global_item_of g = record { global_type = g.global_type; init = g.init.instructions }
 
--- a global of this type, with these instructions of its first value
+-- The global of this type and this initial value.
 abbrev pub global_from : GlobalType × List Plain → GlobalItem
 global_from parts = record { global_type = parts.0; init = parts.1 }
 
--- global: a type and an expression
+-- A global: a global type and an expression.
 abbrev pub global_item : Format GlobalItem
 global_item = mapped global_from (pair global_type expression)
 
--- the kind of globals
+-- The kind of globals.
 abbrev pub global_items : Kind GivenGlobal GlobalItem
 global_items = record { text = global_item_text; IsPlain = IsGivenGlobal; IsPlainWide = IsGivenGlobalWide; normal_form = global_item_of; format = global_item }
 
--- ---- what was read
+-- ---- decoded globals
 
--- the flags of a global that were read
+-- The view of decoded flags.
 abbrev pub global_flags_view : ReadFlags → GlobalFlags
 global_flags_view f = record { mutable = f.mutable; shared = f.shared }
 
--- the global that was read
+-- The view of a decoded global.
 abbrev pub global_view : {A : Type 0} → ReadGlobal A → GlobalItem
 global_view g = record { global_type = g.global_type; init = instructions_view g.init }
 
--- The entries hold these globals.
+-- The pieces encode these globals.
 abbrev pub HoldsGlobals : List (List ℕ) → List GlobalItem → Type 0
 HoldsGlobals = HoldsItems global_items
 
--- the global section of these globals, as a reader finds it
+-- The global section that decodes to these globals.
 abbrev pub global_reading : List GlobalItem → SectionReading
 global_reading globals = reading_of (number_of ids.Global) (vec global_item) globals

@@ -1,4 +1,5 @@
--- Memory types: their text, and what spells them.
+-- This file defines memory types, their encoding and their format. Core specification, Binary
+-- Format, Types, Memory Types, and Modules, Memory Section.
 use Rattle.std.specs.Prelude.{ℕ, ◌^◌, ◌<◌, List, ◌∷◌, ◌++◌, Option, Some, None, IfSome}
 use Rattle.wasm_base.specs.Entries.{Kind, HoldsItems}
 use Rattle.wasm_base.specs.Formats.{Format, u32, u64, mapped, tagged, pair, optional, is_given, vec}
@@ -10,45 +11,49 @@ use Rattle.wasm_base.specs.declared.section_id.SectionId.TheVariants as ids
 use Rattle.wasm_sections.specs.Flags.{Flags, flags, flags_code}
 use Rattle.wasm_sections.specs.declared.memory.MemoryType.{MemoryType}
 
--- the flags of a memory type, as its parts are given or set
+-- The flags of a memory type.
 abbrev pub memory_flags : MemoryType → Flags
 memory_flags m = record { has_maximum = is_given m.maximum; shared = m.shared; is_64 = m.memory64; has_page_size = is_given m.page_size_log2 }
 
--- the text of a memory type: flags, the minimum, and the maximum and the exponent of the page size where they are given
+-- The encoding of a memory type: flags, the minimum, and the maximum and the exponent of the page
+-- size if they are given.
 abbrev pub memory_text : MemoryType → List ℕ
 memory_text m = flags_code (memory_flags m) ∷ (unsigned_text m.minimum ++ (optional_text unsigned_text m.maximum ++ optional_text unsigned_text m.page_size_log2))
 
--- The numbers are in range.
+-- The memory type is well-formed: its numbers are in range.
 pub record IsMemory (m : MemoryType) : Type 0 where
   pub minimum : m.minimum < 2 ^ 64
   pub maximum : IfSome m.maximum (λ n. n < 2 ^ 64)
   pub page_size : IfSome m.page_size_log2 (λ n. n < 2 ^ 32)
 
--- a memory type of these flags, of a minimum, a maximum and the exponent of a page size
+-- The memory type of these flags, a minimum, an optional maximum and an optional exponent of the
+-- page size.
 abbrev pub memory_of : Flags → ℕ × (Option ℕ × Option ℕ) → MemoryType
 memory_of f parts = record { minimum = parts.0; maximum = parts.1.0; memory64 = f.is_64; shared = f.shared; page_size_log2 = parts.1.1 }
 
--- what follows these flags: the minimum, and the maximum and the exponent of the page size where the flags tell of them
+-- The bytes after these flags: the minimum, and the maximum and the exponent of the page size if
+-- the flags say so.
 abbrev pub after_memory_flags : Flags → Format MemoryType
 after_memory_flags f = mapped (memory_of f) (pair u64 (pair (optional f.has_maximum u64) (optional f.has_page_size u32)))
 
--- memory type: flags, the minimum, and the maximum and the exponent of the page size where the flags tell of them
+-- A memory type: flags, the minimum, and the maximum and the exponent of the page size if the flags
+-- say so.
 abbrev pub memory_type : Format MemoryType
 memory_type = tagged flags after_memory_flags
 
--- the kind of memory types
+-- The kind of memory types.
 abbrev pub memory_items : Kind MemoryType MemoryType
 memory_items = record { text = memory_text; IsPlain = IsMemory; IsPlainWide = IsMemory; normal_form = λ memory. memory; format = memory_type }
 
--- the exponent of 2 that the page size is: 16 where none is given
+-- The exponent of 2 of the page size: 16 by default.
 abbrev pub page_exponent : Option ℕ → ℕ
 page_exponent None = 16
 page_exponent (Some n) = n
 
--- The entries hold these memory types.
+-- The pieces encode these memory types.
 abbrev pub HoldsMemories : List (List ℕ) → List MemoryType → Type 0
 HoldsMemories = HoldsItems memory_items
 
--- the memory section of these memory types, as a reader finds it
+-- The memory section that decodes to these memory types.
 abbrev pub memory_reading : List MemoryType → SectionReading
 memory_reading memories = reading_of (number_of ids.Memory) (vec memory_type) memories

@@ -1,4 +1,5 @@
--- Table types and tables: their texts, and what spells them.
+-- This file defines table types and tables, their encodings and their formats. Core specification,
+-- Binary Format, Types, Table Types, and Modules, Table Section.
 use Rattle.std.specs.Prelude.{ℕ, ◌^◌, ◌<◌, List, [], ◌∷◌, ◌++◌, Bool, true, false, Option, Some, None, IfSome, option_map}
 use Rattle.wasm_base.specs.Entries.{Kind, HoldsItems}
 use Rattle.wasm_base.specs.Formats.{Format, u64, impossible, mapped, tagged, pair, optional, when, one_of, prefixed, is_given, vec}
@@ -19,129 +20,132 @@ use Rattle.wasm_sections.specs.declared.table.TableType.{TableType}
 use Rattle.wasm_sections.specs.declared.table.Limits.{Limits as ReadLimits}
 use Rattle.wasm_sections.specs.declared.table.TableItem.{TableItem as ReadTable}
 
--- the flags of a table type, which has no page size
+-- The flags of a table type, which has no page size.
 abbrev pub table_flags : TableType → Flags
 table_flags t = record { has_maximum = is_given t.maximum; shared = t.shared; is_64 = t.table64; has_page_size = false }
 
--- the text of a table type: the type of the elements, flags, the minimum, and the maximum where one is given
+-- The encoding of a table type: the type of its elements, flags, the minimum, and the maximum if it
+-- is given.
 abbrev pub table_text : TableType → List ℕ
 table_text t = ref_text t.element_type ++ (flags_code (table_flags t) ∷ (unsigned_text t.minimum ++ optional_text unsigned_text t.maximum))
 
--- The numbers are in range.
+-- The table type is well-formed: its numbers are in range.
 pub record IsTable (t : TableType) : Type 0 where
   pub element_type : IsRef t.element_type
   pub minimum : t.minimum < 2 ^ 64
   pub maximum : IfSome t.maximum (λ n. n < 2 ^ 64)
 
--- the limits of a table: all but its element type
+-- The limits of a table: its type but for the type of its elements.
 pub record Limits : Type 0 where
   pub table64 : Bool
   pub shared : Bool
   pub minimum : ℕ
   pub maximum : Option ℕ
 
--- limits of these flags, of a minimum and a maximum
+-- The limits of these flags, a minimum and an optional maximum.
 abbrev pub limits_of : Flags → ℕ × Option ℕ → Limits
 limits_of f parts = record { table64 = f.is_64; shared = f.shared; minimum = parts.0; maximum = parts.1 }
 
--- what follows these flags, which tell of no page size: the minimum, and the maximum where they tell of it
+-- The bytes after these flags: the minimum, and the maximum if the flags say so. A flag for the
+-- page size encodes nothing.
 abbrev pub after_limits_flags : Flags → Format Limits
 after_limits_flags f = when f.has_page_size impossible (mapped (limits_of f) (pair u64 (optional f.has_maximum u64)))
 
--- limits: flags, the minimum, and the maximum where the flags tell of it
+-- Limits: flags, the minimum, and the maximum if the flags say so.
 abbrev pub limits : Format Limits
 limits = tagged flags after_limits_flags
 
--- a table type of this element type and these limits
+-- The table type of this element type and these limits.
 abbrev pub table_of : RefType × Limits → TableType
 table_of parts = record { element_type = parts.0; table64 = parts.1.table64; minimum = parts.1.minimum; maximum = parts.1.maximum; shared = parts.1.shared }
 
--- table type: the type of the elements, and limits
+-- A table type: the type of its elements, and limits.
 abbrev pub table_type : Format TableType
 table_type = mapped table_of (pair ref_type limits)
 
--- the type of an index
+-- The type of a table index.
 abbrev pub index_type_of : (table64 : Bool) → ValType
 index_type_of true = I64
 index_type_of false = I32
 
 -- ---- tables
 
--- what a call hands in: the type of a table, and the expression of its elements' first value where one is given
+-- A table as an argument: its type, and the expression of its elements' initial value, if any.
 pub record GivenTable : Type 0 where
   pub table_type : TableType
   pub init : Option Stored
 
--- what a section says: the type of a table, and the instructions of its elements' first value where one is given
+-- A table: its type, and the instructions of its elements' initial value, if any.
 pub record TableItem : Type 0 where
   pub table_type : TableType
   pub init : Option (List Plain)
 
--- the bytes before a table with a first value, which no table type begins with
+-- The bytes before a table with an initial value. No table type begins with them.
 abbrev pub before_init : List ℕ
 before_init = 0x40 ∷ 0x00 ∷ []
 
--- the text of a table: its type; or where a first value is given, two bytes, its type and the expression
+-- The encoding of a table: its type; or with an initial value, 40 00, its type and the expression.
 abbrev pub table_init_text : TableType → Option Stored → List ℕ
 table_init_text t None = table_text t
 table_init_text t (Some e) = before_init ++ (table_text t ++ expression_text e.bytes)
 
--- the text of the table that a call hands in
+-- The encoding of a table that is an argument.
 abbrev pub table_item_text : GivenTable → List ℕ
 table_item_text t = table_init_text t.table_type t.init
 
--- The numbers are in range, and the bytes of the expression spell its instructions.
+-- The table type is well-formed, and the bytes of the expression, if any, encode its instructions
+-- in this mode.
 pub record IsGivenTableIn (mode : Mode) (t : GivenTable) : Type 0 where
   pub table_type : IsTable t.table_type
   pub init : IfSome t.init (IsStoredIn mode)
 
--- The numbers are in range, and the expression is plain.
+-- The table is well-formed: its numbers are in range, and its expression is minimally encoded.
 abbrev pub IsGivenTable : GivenTable → Type 0
 IsGivenTable t = IsGivenTableIn shortest t
 
--- The numbers are in range, and the expression is plain but for padded numbers.
+-- The table is well-formed but for padded LEB128 in its expression.
 abbrev pub IsGivenTableWide : GivenTable → Type 0
 IsGivenTableWide t = IsGivenTableIn wide t
 
--- the instructions of a first value, where one is given
+-- The instructions of an optional initial value.
 abbrev pub init_of : Option Stored → Option (List Plain)
 init_of None = None
 init_of (Some e) = Some e.instructions
 
--- normal form: the same table, with the instructions of the expression where one is given
+-- The normal form: the same table, with the instructions of its expression, if any.
 abbrev pub table_item_of : GivenTable → TableItem
 table_item_of t = record { table_type = t.table_type; init = init_of t.init }
 
--- a table of this type, for which no first value is given
+-- The table of this type without an initial value.
 abbrev pub without_init : TableType → TableItem
 without_init t = record { table_type = t; init = None }
 
--- a table of this type, with these instructions of its elements' first value
+-- The table of this type with this initial value.
 abbrev pub with_init : TableType × List Plain → TableItem
 with_init parts = record { table_type = parts.0; init = Some parts.1 }
 
--- table: a type; or two bytes, a type and an expression
+-- A table: its type; or 40 00, its type and an expression.
 abbrev pub table_item : Format TableItem
 table_item = one_of (mapped without_init table_type) (mapped with_init (prefixed before_init (pair table_type expression)))
 
--- the kind of tables
+-- The kind of tables.
 abbrev pub table_items : Kind GivenTable TableItem
 table_items = record { text = table_item_text; IsPlain = IsGivenTable; IsPlainWide = IsGivenTableWide; normal_form = table_item_of; format = table_item }
 
--- ---- what was read
+-- ---- decoded tables
 
--- the limits of a table that were read
+-- The view of decoded limits.
 abbrev pub limits_view : ReadLimits → Limits
 limits_view l = record { table64 = l.table64; shared = l.shared; minimum = l.minimum; maximum = l.maximum }
 
--- the table that was read
+-- The view of a decoded table.
 abbrev pub table_view : {A : Type 0} → ReadTable A → TableItem
 table_view t = record { table_type = t.table_type; init = option_map instructions_view t.init }
 
--- The entries hold these tables.
+-- The pieces encode these tables.
 abbrev pub HoldsTables : List (List ℕ) → List TableItem → Type 0
 HoldsTables = HoldsItems table_items
 
--- the table section of these tables, as a reader finds it
+-- The table section that decodes to these tables.
 abbrev pub table_reading : List TableItem → SectionReading
 table_reading tables = reading_of (number_of ids.Table) (vec table_item) tables

@@ -1,4 +1,5 @@
--- Tag types: their text, and what spells them.
+-- This file defines tag types, their encoding and their format. Core specification, Binary Format,
+-- Modules, Tag Section.
 use Rattle.std.specs.Prelude.{ℕ, ◌^◌, ◌<◌, List, ◌∷◌}
 use Rattle.wasm_base.specs.Entries.{Kind, HoldsItems}
 use Rattle.wasm_base.specs.Formats.{Format, u32, coded, mapped, pair, vec}
@@ -10,34 +11,34 @@ use Rattle.wasm_sections.specs.declared.tag.TagKind.{TagKind}
 use Rattle.wasm_sections.specs.declared.tag.TagKind.TheVariants.{Exception}
 use Rattle.wasm_sections.specs.declared.tag.TagType.{TagType}
 
--- the byte for the kind of a tag
+-- The byte for the kind of a tag.
 abbrev pub tag_code : TagKind → ℕ
 tag_code Exception = 0x00
 
--- the text of a tag type: the byte for the kind, and the index of a function type
+-- The encoding of a tag type: the byte of its kind, and the index of a function type.
 abbrev pub tag_text : TagType → List ℕ
 tag_text t = tag_code t.kind ∷ unsigned_text t.func_type_idx
 
--- The index is in range.
+-- The tag type is well-formed: its index is below 2^32.
 abbrev pub IsTag : TagType → Type 0
 IsTag t = t.func_type_idx < 2 ^ 32
 
--- a tag type of this kind, and of this index of a function type
+-- The tag type of this kind and this index of a function type.
 abbrev pub tag_of : TagKind × ℕ → TagType
 tag_of parts = record { kind = parts.0; func_type_idx = parts.1 }
 
--- tag type: a byte for the kind, and the index of a function type
+-- A tag type: a byte for its kind, and the index of a function type.
 abbrev pub tag_type : Format TagType
 tag_type = mapped tag_of (pair (coded tag_code) u32)
 
--- the kind of tags
+-- The kind of tag types.
 abbrev pub tag_items : Kind TagType TagType
 tag_items = record { text = tag_text; IsPlain = IsTag; IsPlainWide = IsTag; normal_form = λ tag. tag; format = tag_type }
 
--- The entries hold these tag types.
+-- The pieces encode these tag types.
 abbrev pub HoldsTags : List (List ℕ) → List TagType → Type 0
 HoldsTags = HoldsItems tag_items
 
--- the tag section of these tag types, as a reader finds it
+-- The tag section that decodes to these tag types.
 abbrev pub tag_reading : List TagType → SectionReading
 tag_reading tags = reading_of (number_of ids.Tag) (vec tag_type) tags

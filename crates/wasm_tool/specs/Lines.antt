@@ -1,26 +1,27 @@
--- The lines of a text, and the words of a line.
+-- This file defines the lines of a text and the words of a line.
 use Rattle.std.specs.Prelude.{ℕ, ◌==◌, Bool, true, false, if◌then◌else◌, List, [], ◌∷◌, filter, map}
 use Rattle.std.specs.List.{after_first, slice_split}
 use Rattle.std.specs.Str.Lines.{strip_carriage_return}
 
--- the lines of a text: each ends with a line feed or with the text, and loses the carriage return at its end
+-- The lines of a text: each ends at a line feed or at the end of the text, and loses a carriage
+-- return at its end.
 abbrev pub lines_of : List ℕ → List (List ℕ)
 lines_of text = map strip_carriage_return (slice_split (λ b. b == 0x0A) text)
 
--- whether something stands between two spaces
+-- Whether there is a word between two spaces.
 abbrev pub is_word : List ℕ → Bool
 is_word [] = false
 is_word (b ∷ bs) = true
 
--- the words of a line, which are parted by spaces
+-- The words of a line, which spaces separate.
 abbrev pub words_of : List ℕ → List (List ℕ)
 words_of line = filter is_word (slice_split (λ b. b == 0x20) line)
 
--- a text without the spaces before it
+-- The text without the spaces before it.
 abbrev pub without_spaces : List ℕ → List ℕ
 without_spaces [] = []
 without_spaces (b ∷ bs) = if b == 0x20 then without_spaces bs else b ∷ bs
 
--- what follows the first word of a line, without the spaces before it
+-- The text after the first word of a line, without the spaces before it.
 abbrev pub rest_of : List ℕ → List ℕ
 rest_of line = without_spaces (after_first (λ b. b == 0x20) (without_spaces line))

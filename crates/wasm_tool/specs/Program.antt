@@ -1,4 +1,4 @@
--- What the program writes.
+-- This file defines the output of the program.
 use Rattle.std.specs.Prelude.{ℕ, ◌++◌, ◌≡◌, List, [], ◌∷◌}
 use Rattle.hex.specs.Hex.{encode_lower}
 use Rattle.wasm_tool.specs.Lines.{lines_of}
@@ -7,11 +7,11 @@ use Rattle.wasm_tool.specs.declared.fault.RecipeCause.TheVariants.{Memory}
 use Rattle.wasm_tool.specs.declared.program.Trouble.{Trouble}
 use Rattle.wasm_tool.specs.declared.program.Trouble.TheVariants.{Recipe}
 
--- the module of a text's recipe in lower case hexadecimal, and a line feed
+-- The module of a recipe in lower-case hexadecimal, and a line feed.
 abbrev pub hex_line_of : List ℕ → List ℕ
 hex_line_of text = encode_lower (recipe_module (entries_of (lines_of text))) ++ 0x0A ∷ []
 
--- memory was refused, and at no line of a recipe
+-- Memory was refused, but not at a line of a recipe.
 abbrev pub IsLateRefusal : Trouble → Type 0
 IsLateRefusal (Recipe fault) = (fault.line ≡ 0) × (fault.cause ≡ Memory)
 IsLateRefusal _ = ⊥

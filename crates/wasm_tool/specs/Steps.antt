@@ -1,4 +1,5 @@
--- What reading a line leaves, what writing a section does, and what is said of a fault.
+-- This file defines the effect of a line on a recipe, the effect of a section on a module, and the
+-- meaning of errors.
 use Rattle.std.specs.Prelude.{ℕ, [], ◌≡◌, ◌≢◌, ◌++◌, ◌-◌, ◌≤◌, ⊤, List, ◌∷◌, Option, None, Result, Ok, Err, All, IsOkAnd, OnOk, length, Some, option_map}
 use Rattle.std.specs.List.{slice_get, flat_map}
 use Rattle.wasm_base.specs.Numbers.{unsigned_text}
@@ -14,17 +15,17 @@ use Rattle.wasm_tool.specs.Recipe.{Addition, IsGood, NamesFit, RecipeFits, entri
 
 -- ---- lines
 
--- the item of a start section
+-- The item of a start section.
 abbrev pub start_items : Option ℕ → List (List ℕ)
 start_items None = []
 start_items (Some index) = unsigned_text index ∷ []
 
--- what is kept of an item where later ones replace it
+-- The items that remain when later ones replace earlier ones.
 abbrev pub replaced : List (List ℕ) → List (List ℕ) → List (List ℕ)
 replaced old [] = old
 replaced old (item ∷ items) = last_of (item ∷ items)
 
--- The recipe has the old items and those of the entries.
+-- The recipe has the old items, then those of the entries.
 pub record AddsEntries {A : Type 0} (old new : Recipe A) (entries : List Addition) : Type 0 where
   pub types : new.types ≡ old.types ++ added_to 1 entries
   pub functions : new.functions ≡ old.functions ++ added_to 3 entries
@@ -71,11 +72,11 @@ pub record FitsSections {A : Type 0} (recipe : Recipe A) : Type 0 where
   pub segments : SectionFits recipe.segments
   pub names : NamesFit recipe.names
 
--- the sections of the recipe, in order
+-- The sections of the recipe, in order.
 abbrev pub listed : {A : Type 0} → Recipe A → List (ℕ × List ℕ)
 listed recipe = in_order recipe.types recipe.functions recipe.memories recipe.globals recipe.exports (start_items recipe.start) recipe.code recipe.segments recipe.names
 
--- No line of these has a fault, and the sections have their items.
+-- None of the lines has an error, and the sections have their items.
 pub record HoldsLines {A : Type 0} (lines : List (List ℕ)) (recipe : Recipe A) : Type 0 where
   pub good : All IsGood lines
   pub types : recipe.types ≡ added_to 1 (entries_of lines)
@@ -88,13 +89,14 @@ pub record HoldsLines {A : Type 0} (lines : List (List ℕ)) (recipe : Recipe A)
   pub segments : recipe.segments ≡ added_to 11 (entries_of lines)
   pub names : recipe.names ≡ added_to 0 (entries_of lines)
 
--- The bytes are the module of these lines, which the sections hold.
+-- The sections hold these lines, and the bytes are the module of the sections.
 pub record IsModule {A : Type 0} (lines : List (List ℕ)) (recipe : Recipe A) (bytes : List ℕ) : Type 0 where
   pub holds : HoldsLines lines recipe
   pub fits : FitsSections recipe
   pub text : bytes ≡ module_text (listed recipe)
 
--- What a call that reads a line answers and leaves, where the line says `said`.
+-- The result and the effect of a call that decodes a line, given the entries or the error of the
+-- line.
 abbrev pub Follows : {A : Type 0} → Result (List Addition) RecipeCause → Recipe A → Recipe A → Result (Unit {0}) RecipeCause → Type 0
 Follows said old new (Ok done) = IsOkAnd said (AddsEntries old new)
 Follows said old new (Err Memory) = ⊤
@@ -103,27 +105,29 @@ Follows said old new (Err cause) = said ≡ Err cause
 
 -- ---- sections
 
--- The module gains these sections, if they fit.
+-- The module gains these sections if they fit.
 pub record Puts (sections : List (ℕ × List ℕ)) (Fits : Type 0) (old new : List ℕ) (result : Result (Unit {0}) Refused) : Type 0 where
   pub ok : OnOk result (new ≡ old ++ flat_map any_section_text sections)
   pub fitted : OnOk result Fits
   pub too_long : Fits → result ≢ Err refusals.TooLong
 
--- ---- faults
+-- ---- errors
 
--- what a cause says of the line that it names, counted from 1, or of all lines for 0
+-- The meaning of a cause for the line that it names, counted from 1, or for all lines if it names
+-- 0.
 abbrev pub SaysCause : List ℕ → ℕ → RecipeCause → Type 0
 SaysCause text line Memory = ⊤
 SaysCause text line TooLong = All IsGood (lines_through line text) × (¬ (RecipeFits (entries_of (lines_through line text))))
 SaysCause text line cause = (1 ≤ line) × (option_map (λ l. entry_of l) (slice_get (lines_of text) (line - 1)) ≡ Some (Err cause))
 
--- A fault names a line of the text, or 0 after the last one, before which no line has a fault, and what is wrong there.
+-- The error names a line of the text, or 0 after the last one, and the cause. No line before it has
+-- an error.
 pub record Explains (text : List ℕ) (line : ℕ) (cause : RecipeCause) : Type 0 where
   pub within : line ≤ length (lines_of text)
   pub before : All IsGood (lines_before line text)
   pub says : SaysCause text line cause
 
--- a refusal as the cause of a fault
+-- The cause of a refused call.
 abbrev pub cause_of : Refused → RecipeCause
 cause_of refusals.Memory = Memory
 cause_of refusals.TooLong = TooLong
