@@ -1,4 +1,4 @@
--- A value that says nothing, and then one that does, are read uniquely.
+-- This file proves that a format without a value, then one with a value, is unambiguous.
 use Rattle.std.proofs.Common.{ℕ, List, ◌++◌, refl}
 use Rattle.wasm_base.specs.Formats.{Format, just, after}
 use Rattle.wasm_base.specs.Numbers.{Mode}

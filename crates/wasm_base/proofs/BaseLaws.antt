@@ -1,4 +1,4 @@
--- The laws of this crate's formats.
+-- This file proves the laws of this crate's formats.
 use Rattle.std.proofs.Common.{ℕ, List, [], ◌∷◌, ◌++◌, length, pos, refl, arith}
 use Rattle.std.specs.Prelude.{IsUtf8}
 use Rattle.wasm_base.specs.Numbers.{shortest, wide, unsigned_text, signed_text}
@@ -57,7 +57,7 @@ s33-texts = record { spelled = s33_spelled }
 
 pub ruleset numbers = (u32_unique, u64_unique, s32_unique, s64_unique, s33_unique, u32-texts, u64-texts, s32-texts, s64-texts, s33-texts)
 
--- ---- fixed bytes, names, vectors, frames, modules
+-- ---- fixed bytes, names, vectors, size-prefixed bytes, modules
 
 pub fixed_4_unique : UniqueReading (little_endian 4)
 fixed_4_unique = little_endian_unique 4
@@ -125,7 +125,7 @@ custom-texts = record {
 
 pub ruleset frames = (vec-bytes-texts, custom-texts, fixed_4_unique, fixed_8_unique, fixed_16_unique, fixed_4-texts, fixed_8-texts, fixed_16-texts, frame_bytes_unique, name_unique, vec_bytes_unique, vec_u32_unique, vec_names_unique, custom_unique, module_whole, module-texts, frame-texts, name-texts, vec-u32-texts, vec-names-texts)
 
--- ---- padded numbers
+-- ---- padded LEB128
 
 pub wide-u32 : IsUniqueWide u32
 wide-u32 = unique_wide u32_unique

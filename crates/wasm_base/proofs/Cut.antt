@@ -1,10 +1,10 @@
--- Pieces that lie in one buffer, and where each ends.
+-- This file proves where the pieces of one buffer begin and end.
 use Rattle.std.proofs.Common.{◌≡◌, ℕ, ◌+◌, ◌-◌, ◌<◌, ◌≤◌, List, [], ◌∷◌, ◌++◌, length, take, drop, get_or, refl, sym, ap, ◌∙◌, arith, append_assoc, subst, append-nil, length-append, Some, zero, suc}
 use Rattle.std.proofs.Math.Seq.{take-append_seam, drop-append_seam, drop-append-add}
 use Rattle.std.specs.List.{slice_get}
 use Rattle.wasm_base.specs.Pieces.{joined, ends_from, cut_from, IsCut}
 
--- cutting at the ends gives the pieces back
+-- Cutting the joined pieces at their ends gives the pieces.
 pub cut_joined : (from : ℕ) (ps : List (List ℕ)) → cut_from from (ends_from from ps) (joined ps) ≡ ps
 cut_joined from [] = refl
 cut_joined from (p ∷ ps) =
@@ -25,7 +25,7 @@ ends_push from (q ∷ qs) p =
     let n : from + length q + length (joined qs) ≡ from + length (q ++ joined qs) = omega (arith, length-append q (joined qs)) in
     ap (λ es. (from + length q) ∷ es) (ends_push (from + length q) qs p ∙ ap (λ m. ends_from (from + length q) qs ++ (m + length p) ∷ []) n)
 
--- one more entry at the end
+-- A new entry and its end add one piece.
 pub cut_push : (bytes ends : List ℕ) (entry : List ℕ) (end : ℕ) → IsCut bytes ends → end ≡ length bytes + length entry → cut_from 0 (ends ++ end ∷ []) (bytes ++ entry) ≡ cut_from 0 ends bytes ++ entry ∷ []
 cut_push bytes ends entry end h e =
     let ps : List (List ℕ) = cut_from 0 ends bytes in
@@ -43,7 +43,7 @@ IsCut_push bytes ends entry end h e =
       ends_placed = ap (λ x. x ++ end ∷ []) h.ends_placed ∙ ap (λ n. ends_from 0 ps ++ n ∷ []) l ∙ sym (ends_push 0 ps entry) ∙ ap (ends_from 0) (sym (cut_push bytes ends entry end h e));
     }
 
--- where the piece at i begins and ends, and that it lies there
+-- The piece at index i is the bytes from `start` to `end`.
 pub record IsPieceAt (from : ℕ) (ps : List (List ℕ)) (i start end : ℕ) : Type 0 where
   pub after : from ≤ start
   pub forward : start ≤ end
@@ -79,7 +79,7 @@ piece_at from (p ∷ ps) (suc i) h =
           rw e rest.piece;
     }
 
--- where the entry at i lies in the buffer
+-- The entry at index i is in the buffer between its start and its end.
 pub piece_of : (bytes ends : List ℕ) (i : ℕ) → IsCut bytes ends → i < length ends → IsPieceIn bytes ends i (get_or (0 ∷ ends) i 0) (get_or ends i 0)
 piece_of bytes ends i h below =
     let ps : List (List ℕ) = cut_from 0 ends bytes in

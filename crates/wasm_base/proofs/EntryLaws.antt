@@ -1,4 +1,4 @@
--- A section of counted items is read as these alone.
+-- This file proves that a section of counted items decodes to these alone.
 use Rattle.std.proofs.Common.{ℕ, ◌≤◌, List, [], ◌∷◌, length, map, sym, subst, arith, length-append}
 use Rattle.std.specs.List.{AllZip}
 use Rattle.wasm_base.specs.Numbers.{shortest, wide, unsigned_text}
@@ -14,11 +14,11 @@ use Rattle.wasm_base.proofs.TextLaws.{section_alone, section_alone_wide}
 pub counted_unique : {Item : Type 0} {F : Format Item} → UniqueReading F → UniqueReading (counted_format F)
 counted_unique f = frame_unique (whole_from_alone (vec_unique f))
 
--- the entries together are no longer than the section's size tells
+-- The entries together are no longer than the size of the section.
 pub content_fits : (pieces : List (List ℕ)) → SectionFits pieces → length (joined pieces) ≤ longest
 content_fits pieces fits = omega (arith, fits.size, length-append (unsigned_text (length pieces)) (joined pieces))
 
--- Of pieces that fit, each spells its item.
+-- Pieces whose total size fits encode their items.
 pub pieces_spelled : {Item : Type 0} (F : Format Item) (pieces : List (List ℕ)) (items : List Item) → length (joined pieces) ≤ longest → AllZip (SpellsWide F) pieces items → AllZip (F wide) pieces items
 pieces_spelled F [] [] fits holds = tt
 pieces_spelled F [] (item ∷ items) fits holds = absurd holds
@@ -37,7 +37,7 @@ module _ {Record Item : Type 0} (kind : Kind Record Item) (laws : ItemLaws kind)
   entry_spelled (Given given) item fits means = subst (λ x. kind.format shortest (kind.text given) x) (sym means.1) (laws.spelled given means.0 fits)
   entry_spelled (Raw piece) item fits means = means
 
-  -- each entry spells its item
+  -- Each entry encodes its item.
   pub entries_spelled : (entries : List (Entry Record)) (items : List Item) → length (joined (map (entry_text kind.text) entries)) ≤ longest
       → AllZip (Means kind) entries items → AllZip (kind.format shortest) (map (entry_text kind.text) entries) items
   entries_spelled [] [] fits means = tt

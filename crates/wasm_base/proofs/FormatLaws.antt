@@ -1,4 +1,4 @@
--- The combinators keep unique reading.
+-- This file proves that the combinators keep a format unambiguous.
 use Rattle.std.proofs.Common.{◌≡◌, ◌≢◌, ℕ, ◌<◌, List, [], ◌∷◌, ◌++◌, length, Bool, true, false, eqb, Some, None, refl, sym, ap, ap₂, subst, ◌∙◌, append_assoc, append-nil, le_refl, arith, inl, inr}
 use Rattle.std.proofs.lemmas.Bool.{eqb-true}
 use Rattle.std.proofs.lemmas.List.{length-append, append_cancel_left}
@@ -45,7 +45,7 @@ pub begins_one_of : {X : Type 0} (P : ℕ → Type 0) {F G : Format X} → Begin
 begins_one_of P {F} {G} h g mode s x (inl k) = h mode s x k
 begins_one_of P {F} {G} h g mode s x (inr l) = g mode s x l
 
--- ---- reading alone is reading whole
+-- ---- from any front to all of the bytes
 
 pub whole_from_alone : {X : Type 0} {F : Format X} → UniqueReading F → UniqueWholeReading F
 whole_from_alone {F} k = record {
@@ -53,7 +53,7 @@ whole_from_alone {F} k = record {
   spellings = k.spellings;
 }
 
--- ---- one after the other
+-- ---- one after another
 
 pub Then-spellings : {X Y : Type 0} {F : Format X} {G : X → Format Y} → HasSpellings F → ((x : X) → HasSpellings (G x)) → HasSpellings (Then F G)
 Then-spellings {F} {G} k l = record {
@@ -144,7 +144,7 @@ mapped_whole f {F} i k = record {
   spellings = mapped-spellings f i k.spellings;
 }
 
--- The value tells the tag.
+-- The value determines the tag.
 abbrev pub TellsTag : {X Y : Type 0} → (X → Format Y) → (Y → X) → Type 0
 TellsTag {X} {Y} G tag = (mode : Mode) (x : X) (s : List ℕ) (y : Y) → G x mode s y → x ≡ tag y
 
@@ -178,11 +178,11 @@ optional_unique flag {F} k = when_unique flag (mapped_unique Some (λ x y e. cc)
 abbrev pub AreApart : (ℕ → Type 0) → (ℕ → Type 0) → Type 0
 AreApart P Q = (b : ℕ) → P b → Q b → ⊥
 
--- No value is of both formats.
+-- No value has encodings in both formats.
 abbrev pub HaveNoneInCommon : {X : Type 0} → Format X → Format X → Type 0
 HaveNoneInCommon {X} F G = (mode other : Mode) (s t : List ℕ) (x : X) → F mode s x → G other t x → ⊥
 
--- No bytes begin with spellings of both.
+-- No bytes begin with an encoding of each format.
 abbrev pub BeginNeverAlike : {X : Type 0} → Format X → Format X → Type 0
 BeginNeverAlike {X} F G = (mode : Mode) (s t r u : List ℕ) (x y : X) → F mode s x → G mode t y → s ++ r ≡ t ++ u → ⊥
 
@@ -216,14 +216,15 @@ either_unique {X} {F} {G} clash none k l = record { alone = alone; spellings = r
     shorter w s x (inl h) = let a = k.spellings.shorter w s x h in (a.0, inl a.1, a.2)
     shorter w s x (inr h) = let a = l.spellings.shorter w s x h in (a.0, inr a.1, a.2)
 
--- one of two formats with different first bytes, in one mode
+-- One of two formats with different first bytes is unambiguous in this mode.
 pub one_of_alone : {X : Type 0} {F G : Format X} → BeginNeverAlike F G → (mode : Mode) → IsReadAlone (F mode) → IsReadAlone (G mode) → IsReadAlone (one_of F G mode)
 one_of_alone clash mode k l s t r u x y (inl h) (inl g) e = k s t r u x y h g e
 one_of_alone clash mode k l s t r u x y (inl h) (inr g) e = absurd (clash mode s t r u x y h g e)
 one_of_alone clash mode k l s t r u x y (inr h) (inl g) e = absurd (clash mode t s u r y x g h (sym e))
 one_of_alone clash mode k l s t r u x y (inr h) (inr g) e = l s t r u x y h g e
 
--- What builders write is read uniquely, and so is what the standard admits, where its fewest bytes are its own.
+-- A format by mode is unambiguous if F is, and if G is the minimal part of the standard's encodings
+-- H, which include those of F.
 pub by_mode_unique : {X : Type 0} (F G H : Format X) → UniqueReading F → UniqueReading G → IsReadAlone (H standard) → IsPartOf (F wide) (H standard) → IsPartOf (G tight) (H standard) → IsShortenedBy (H standard) (G tight) → UniqueReading (by_mode F G H)
 by_mode_unique {X} F G H f g h admits holds shrinks = record {
   alone = alone;
@@ -249,7 +250,7 @@ one_of_unique P Q {F} {G} apart p q none k l = either_unique (begin_apart P Q ap
 
 -- ---- bytes
 
--- A value is got back from its byte.
+-- If the code determines the value, its one byte is unambiguous.
 pub coded_unique : {X : Type 0} (code : X → ℕ) (decode : ℕ → X) → ((x : X) → decode (code x) ≡ x) → UniqueReading (coded code)
 coded_unique code decode back = record {
   alone = λ mode s t r q x y h g e.
@@ -268,7 +269,7 @@ any_bytes_whole = record {
   spellings = record { one = λ w s t x h g. h ∙ sym g; wider = λ m n below s x h. h; shorter = λ w s x h. (s, h, le_refl (length s)) };
 }
 
--- two fronts of one length
+-- Two fronts of the same bytes that have the same length are equal.
 pub same_fronts : (a b r q : List ℕ) → length a ≡ length b → a ++ r ≡ b ++ q → (a ≡ b) × (r ≡ q)
 same_fronts [] [] r q l e = (refl, e)
 same_fronts [] (y ∷ b) r q l e = absurd (omega arith)
@@ -342,7 +343,7 @@ members_whole {X} {F} P begins k = record { whole = whole; spellings = members-s
         let a = k.alone mode h.0 g.0 h.1 g.1 x y h.3 g.3 (sym h.2 ∙ g.2) in
         ap₂ ◌∷◌ a.0 (whole mode h.1 xs ys h.4 (subst (λ z. members F mode z ys) (sym a.2) g.4))
 
--- ---- members before a byte that ends them
+-- ---- members before a stop byte
 
 pub ended_unique : {X : Type 0} (stop : ℕ) {F : Format X} → BeginsWith (λ b. b ≢ stop) F → UniqueReading F → UniqueReading (ended stop F)
 ended_unique {X} stop {F} apart k = record { alone = alone; spellings = record { one = one; wider = wider; shorter = shorter } }
@@ -377,7 +378,7 @@ ended_unique {X} stop {F} apart k = record { alone = alone; spellings = record {
         let b = shorter w h.1 xs h.4 in
         (a.0 ++ b.0, (a.0, b.0, refl, a.1, b.1), omega (arith, a.2, b.2, length-append a.0 b.0, ap length h.2, length-append h.0 h.1))
 
--- ---- a count and members, a size and content
+-- ---- a count and members, a size and a payload
 
 pub vec_unique : {X : Type 0} {F : Format X} → UniqueReading F → UniqueReading (vec F)
 vec_unique {X} {F} k = record {
@@ -416,17 +417,17 @@ frame_unique {F} k = record {
 pub prefixed_unique : {X : Type 0} (bytes : List ℕ) {F : Format X} → UniqueReading F → UniqueReading (prefixed bytes F)
 prefixed_unique bytes {F} k = tagged_unique (λ x. tt {0}) (λ mode u s y h. refl) (fixed_unique bytes (tt {0})) (λ u. k)
 
--- a value that reaches to the last byte, behind fixed bytes
+-- A format that takes all of the bytes remains unambiguous behind fixed bytes.
 pub prefixed_whole : {X : Type 0} (bytes : List ℕ) {F : Format X} → UniqueWholeReading F → UniqueWholeReading (prefixed bytes F)
 prefixed_whole bytes {F} f = mapped_whole (λ p. p.1) (λ x y e. λ i. (tt, e i)) (pair_whole (fixed_unique bytes (tt {0})) f)
 
--- ---- tags that are numbers
+-- ---- numeric tags
 
 abbrev pub AllAlone : {X : Type 0} → List (ℕ × Format X) → Type 0
 AllAlone [] = Unit {0}
 AllAlone (c ∷ cs) = UniqueReading c.1 × AllAlone cs
 
--- The value of a format tells that format's tag.
+-- The values of the format determine its tag.
 abbrev pub Tells : {X : Type 0} → (X → ℕ) → ℕ → Format X → Type 0
 Tells {X} tag b F = (mode : Mode) (s : List ℕ) (x : X) → F mode s x → b ≡ tag x
 
@@ -461,7 +462,7 @@ choice_tags {X} P (c ∷ cs) other all rest b mode s x h = go (choice_tags P cs 
 pub choice_begins : {X : Type 0} (P : ℕ → Type 0) (cs : List (ℕ × Format X)) (other : ℕ → Format X) → AllTags P cs → ((b : ℕ) (mode : Mode) (s : List ℕ) (x : X) → other b mode s x → P b) → BeginsWith P (tagged byte (choice cs other))
 choice_begins P cs other all rest mode s x k = (k.0.0, k.2.back, k.2.joined ∙ ap (λ z. z ++ k.2.back) k.2.first, choice_tags P cs other all rest k.0.0 mode k.2.back k.0.1 k.2.second)
 
--- What the values of a format have in common.
+-- All values of the format have the property.
 abbrev pub AllValues : {X : Type 0} → (X → Type 0) → Format X → Type 0
 AllValues {X} Q F = (mode : Mode) (s : List ℕ) (x : X) → F mode s x → Q x
 
@@ -490,19 +491,19 @@ values_one_of Q {F} {G} h g mode s x (inr l) = g mode s x l
 pub none_in_common : {X : Type 0} (Q R : X → Type 0) {F G : Format X} → ((x : X) → Q x → R x → ⊥) → AllValues Q F → AllValues R G → HaveNoneInCommon F G
 none_in_common Q R {F} {G} h q r mode other s t x k l = h x (q mode s x k) (r other t x l)
 
--- a tag that the value tells
+-- A choice by a tag that the value determines is unambiguous.
 pub choice_of : {X : Type 0} (head : Format ℕ) (tag : X → ℕ) (cs : List (ℕ × Format X)) → UniqueReading head → AllAlone cs → AllTell tag cs → UniqueReading (tagged head (choice cs (λ b. impossible)))
 choice_of head tag cs heads all tells = tagged_unique tag (choice_tells tag cs (λ b. impossible) tells (λ b mode s x h. absurd h)) heads (choice_unique cs (λ b. impossible) all (λ b. impossible_unique))
 
--- ---- longer texts, and texts that begin so
+-- ---- longer encodings, and encodings with a known front
 
--- What is spelled at the front of bytes that begin with a spelling.
+-- A value that decodes from the front of bytes with a known front is the known one.
 pub at_front : {X : Type 0} {F : Format X} → UniqueReading F → (mode : Mode) (a b rest : List ℕ) (x y : X) → F mode a x → (e : a ++ rest ≡ b) → (s back : List ℕ) → b ≡ s ++ back → F mode s y → (y ≡ x) × (back ≡ rest)
 at_front {F} k mode a b rest x y known e s back split h =
     let r = k.alone mode a s rest back x y known h (e ∙ split) in
     (sym r.0, sym r.2)
 
--- The members of a longer text go on where those of the shorter end.
+-- The members of a longer encoding continue where those of the shorter one end.
 pub members_go_on : {X : Type 0} {F : Format X} (P : ℕ → Type 0) → BeginsWith P F → UniqueReading F → (mode : Mode) (a b : List ℕ) (xs ys : List X) → members F mode a xs → members F mode (a ++ b) ys → (zs : List X) × (ys ≡ xs ++ zs) × members F mode b zs
 members_go_on {F} P begins k mode a b [] ys h g = (ys, refl, subst (λ z. members F mode (z ++ b) ys) h g)
 members_go_on {F} P begins k mode a b (x ∷ xs) [] h g =
@@ -515,14 +516,14 @@ members_go_on {F} P begins k mode a b (x ∷ xs) (y ∷ ys) h g =
     let tail : ys ≡ xs ++ more.0 = more.1 in
     (more.0, cc (head, tail), more.2)
 
--- What fills a frame whose size is the byte n.
+-- The payload of size-prefixed bytes whose size is the byte n encodes the value.
 pub frame_of : {X : Type 0} {F : Format X} (mode : Mode) (n : ℕ) (content rest s back : List ℕ) (x : X) → u32 mode (n ∷ []) n → length content ≡ n → (n ∷ content) ++ rest ≡ s ++ back → frame F mode s x → F mode content x
 frame_of {F} mode n content rest s back x known l e h =
     let a = u32_unique.alone mode (n ∷ []) h.front (content ++ rest) (h.content ++ back) n (length h.content) known h.size (e ∙ regroup s h.front h.content back h.joined) in
     let b = same_fronts content h.content rest back (l ∙ a.0) a.2 in
     subst (λ z. F mode z x) (sym b.0) h.spelled
 
--- The one member of a vector whose count is the byte 1.
+-- A vector whose count is the byte 1 has one member.
 pub vec_of_one : {X : Type 0} {F : Format X} (mode : Mode) (content : List ℕ) (xs : List X) → u32 mode (1 ∷ []) 1 → vec F mode (1 ∷ content) xs → (x : X) × F mode content x
 vec_of_one {X} {F} mode content xs known h =
     let a = u32_unique.alone mode (1 ∷ []) h.front content h.back 1 (length xs) known h.first h.joined in
@@ -533,9 +534,9 @@ vec_of_one {X} {F} mode content xs known h =
     go (x ∷ []) l g = (x, subst (λ z. F mode z x) (sym (g.2 ∙ ap (λ z. g.0 ++ z) g.4 ∙ append-nil g.0)) g.3)
     go (x ∷ y ∷ xs) l g = absurd (omega arith)
 
--- ---- reading on, where the front of the bytes is known
+-- ---- decoding behind a known front
 
--- The front is x, so what is left begins with what follows x.
+-- If the front encodes x, the second value of the pair decodes behind it.
 pub then_at : {X Y : Type 0} {F : Format X} {G : X → Format Y} → UniqueReading F → (mode : Mode) (a : List ℕ) (x : X) → F mode a x → (rest s back : List ℕ) (p : X × Y) → a ++ rest ≡ s ++ back → Then F G mode s p → (t : List ℕ) × (rest ≡ t ++ back) × G x mode t p.1
 then_at {G = G} k mode a x known rest s back p e h =
     let r = k.alone mode a h.front rest (h.back ++ back) x p.0 known h.first (e ∙ regroup s h.front h.back back h.joined) in
@@ -546,7 +547,7 @@ tagged_at {G = G} k mode a x known rest s back y e h =
     let r = then_at k mode a x known rest s back h.0 e h.2 in
     (r.0, r.1, subst (λ z. G x mode r.0 z) h.1 r.2)
 
--- Some member stands where a byte does.
+-- If members encode bytes that begin with a byte, a first member begins with it.
 pub member_at : {X : Type 0} (F : Format X) (mode : Mode) (b : ℕ) (rest s : List ℕ) (xs : List X) → b ∷ rest ≡ s → members F mode s xs → (front back : List ℕ) × (x : X) × (b ∷ rest ≡ front ++ back) × F mode front x
 member_at F mode b rest s [] e h = absurd (cc (e, h))
 member_at F mode b rest s (x ∷ xs) e h = (h.0, h.1, x, e ∙ h.2, h.3)

@@ -1,4 +1,4 @@
--- How groups are read, and how large they are.
+-- This file proves how LEB128 groups decode and how large their sums are.
 use Rattle.std.proofs.Common.{◌≡◌, ℕ, ◌<◌, ◌%◌, ◌*◌, ◌^◌, List, [], ◌∷◌, ◌++◌, length, add-one, ◌+◌, ◌-◌, ◌≤◌, ◌≢◌, Result, Ok, Err, IfErr, refl, sym, ap, subst, ◌∙◌, arith}
 use Rattle.std.proofs.Math.Nat.{pow-suc, pow-le-pow_right}
 use Rattle.wasm_base.specs.Numbers.{wide, AreGroups, last_byte}
@@ -66,7 +66,7 @@ groups_less less limit b bytes rest e l m none = record { none = λ x last h. go
 
 pub ruleset group_steps = (groups_none, groups_ended)
 
--- ---- how large they are
+-- ---- bounds
 
 power_more : (n k : ℕ) → n ^ (k + 1) ≡ n ^ k * n
 power_more n k = subst (λ z. n ^ z ≡ n ^ k * n) (sym (add-one k)) (pow-suc n k)

@@ -1,4 +1,4 @@
--- What a builder holds as calls add to it.
+-- This file proves what a builder holds as calls add to it.
 use Rattle.std.proofs.Common.{ℕ, List, [], ◌∷◌, ◌++◌, map, refl, sym, ap, subst, ◌∙◌, append_assoc, append-nil}
 use Rattle.std.proofs.lemmas.List.{map-append}
 use Rattle.std.specs.List.{AllByRecursion, AllZip}
@@ -14,7 +14,7 @@ zip_more R [] (b ∷ ys) x y h r = absurd h
 zip_more R (a ∷ xs) [] x y h r = absurd h
 zip_more R (a ∷ xs) (b ∷ ys) x y h r = (h.0, zip_more R xs ys x y h.1 r)
 
--- What is kept where one record is added is kept where all of a list are.
+-- A property that each added record keeps is kept by adding all records of a list.
 all_steps : {Record Item : Type 0} (text : Record → List ℕ) (normal_form : Record → Item) (P : Record → Type 0) (Holds : List (List ℕ) → List Item → Type 0)
     → ((pieces : List (List ℕ)) (items : List Item) (given : Record) → Holds pieces items → P given → Holds (pieces ++ text given ∷ []) (items ++ normal_form given ∷ []))
     → (pieces : List (List ℕ)) (items : List Item) (given : List Record) → Holds pieces items → AllByRecursion P given → Holds (pieces ++ map text given) (items ++ map normal_form given)
@@ -39,7 +39,7 @@ module _ {Record Item : Type 0} (kind : Kind Record Item) where
     all = all_steps kind.text kind.normal_form kind.IsPlain (HoldsItems kind) (λ pieces items given holds plain. one_more pieces items (Given given) (kind.normal_form given) holds (plain, refl));
   }
 
--- ---- with padded numbers
+-- ---- with padded LEB128
 
 module _ {Record Item : Type 0} (kind : Kind Record Item) (laws : ItemLaws kind) (wider : (given : Record) → kind.IsPlain given → kind.IsPlainWide given)
     (spelled : (given : Record) → kind.IsPlainWide given → FrameFits (kind.text given) → kind.format wide (kind.text given) (kind.normal_form given)) where
@@ -66,7 +66,7 @@ module _ {Record Item : Type 0} (kind : Kind Record Item) (laws : ItemLaws kind)
     all = all_steps kind.text kind.normal_form kind.IsPlainWide (HoldsWide kind.format) given_wide;
   }
 
--- of records without expressions, which are plain in both ways alike
+-- For records without expressions, being well-formed does not depend on padding.
 pub plain_more_wide : {Record Item : Type 0} {kind : Kind Record Item} → ItemLaws kind → ((given : Record) → kind.IsPlain given → kind.IsPlainWide given) → ((given : Record) → kind.IsPlainWide given → kind.IsPlain given) → HoldsMoreWide kind
 plain_more_wide {kind = kind} laws wider plain =
     holds_more_wide kind laws wider (λ given are fits. laws.alone.spellings.wider shortest wide tt (kind.text given) (kind.normal_form given) (laws.spelled given (plain given are) fits))

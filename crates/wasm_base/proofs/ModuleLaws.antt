@@ -1,4 +1,4 @@
--- A module is read as its sections, at the level of ids and payloads.
+-- This file proves that a module decodes to its sections, as ids and payloads.
 use Rattle.std.proofs.Common.{◌≡◌, ℕ, List, [], ◌∷◌, ◌++◌, refl, sym, ap, subst, ◌∙◌, append_assoc, append-nil}
 use Rattle.std.specs.List.{flat_map}
 use Rattle.wasm_base.specs.Numbers.{Mode, shortest}
@@ -25,7 +25,7 @@ members_push : {X : Type 0} (F : Format X) (mode : Mode) (s t : List ℕ) (xs : 
 members_push F mode s t [] x h g = (t, [], ap (λ z. z ++ t) h ∙ sym (append-nil t), g, refl)
 members_push F mode s t (y ∷ xs) x h g = (h.0, h.1 ++ t, ap (λ z. z ++ t) h.2 ∙ append_assoc h.0 h.1 t, h.3, members_push F mode h.1 t xs x h.4 g)
 
--- one more section
+-- A module that gains a section encodes one more.
 more_spelled : (old : List ℕ) (sections : List (ℕ × List ℕ)) (id : ℕ) (text payload : List ℕ) → wasm_module shortest old sections → IsFrameOf text payload
     → wasm_module shortest (old ++ id ∷ text) (sections ++ (id, payload) ∷ [])
 more_spelled old sections id text payload h framed =
@@ -58,7 +58,7 @@ one_more_section Payload id text old new e framed = record {
       (reads_whole {F = wasm_module} module_whole (more_spelled old sections id text payload read.spelled (framed payload pays)));
 }
 
--- ---- the text of a module
+-- ---- the encoding of a module
 
 any_section-spelled : (section : ℕ × List ℕ) → AnySectionFits section → any_section shortest (any_section_text section) section
 any_section-spelled section fits = record {

@@ -1,4 +1,4 @@
--- Where no section stands.
+-- This file proves when no section decodes from bytes.
 use Rattle.std.proofs.Common.{◌≡◌, ℕ, ◌<◌, List, ◌∷◌, ◌++◌, length, arith}
 use Rattle.wasm_base.specs.Entries.{counted_format}
 use Rattle.wasm_base.specs.Formats.{Format, vec}
@@ -8,7 +8,7 @@ use Rattle.wasm_base.specs.Reading.{Reads, UniqueReading}
 use Rattle.wasm_base.proofs.FormatLaws.{frame_of, vec_of_one}
 use Rattle.wasm_base.proofs.NumberLaws.{u32_small}
 
--- What padded numbers don't spell, shortest ones don't either.
+-- If no value has a padded encoding there, none has a minimal one.
 pub nothing_wide : {X : Type 0} {F : Format X} (text : List ℕ) → UniqueReading F → ((after rest : List ℕ) (x : X) → Reads F wide (text ++ after) x rest → ⊥) → NothingStandsWide F text
 nothing_wide {X} {F} text k none = record { none = λ mode of after. record { none = λ x rest h. none after rest x (in_wide mode of (text ++ after) rest x h) } }
   where
@@ -18,7 +18,8 @@ nothing_wide {X} {F} text k none = record { none = λ mode of after. record { no
     in_wide tight of bytes rest x h = absurd of
     in_wide standard of bytes rest x h = absurd of
 
--- What the one item of a section spells, where size and count are one byte each.
+-- The one item of a section whose size and count are one byte each has the remaining bytes as its
+-- encoding.
 pub one_item : {X : Type 0} {F : Format X} (size : ℕ) (content after rest s : List ℕ) (xs : List X) → size < 128 → length (1 ∷ content) ≡ size → (size ∷ 1 ∷ content) ++ after ≡ s ++ rest
     → counted_format F wide s xs → (x : X) × F wide content x
 one_item {X} {F} size content after rest s xs low all e h =

@@ -1,4 +1,4 @@
--- Numbers are read alone, and have one shortest spelling.
+-- This file proves that LEB128 is unambiguous and that a number has one minimal encoding.
 use Rattle.std.proofs.Common.{◌≡◌, ℕ, ◌+◌, ◌-◌, ◌*◌, ◌/◌, ◌%◌, ◌^◌, ◌<◌, ◌≤◌, ◌⊎◌, List, [], ◌∷◌, ◌++◌, length, Bool, true, false, cond, refl, sym, ap, ap₂, ◌∙◌, le_refl, arith, inl, inr, pos, negsuc, neg_ℤ, ◌-ℤ◌, ◌+ℤ◌, ◌*ℤ◌, nat_lt, ◌≤ℤ◌, ◌<ℤ◌}
 use Rattle.std.proofs.lemmas.Bool.{cases_lt, cases_eq, lt-ltb, le-ltb}
 use Rattle.std.proofs.lemmas.Nat.{pow-add}
@@ -8,7 +8,7 @@ use Rattle.wasm_base.specs.Numbers.{Mode, shortest, wide, AreGroups, groups_sum,
 use Rattle.wasm_base.specs.Formats.{Format, u32}
 use Rattle.wasm_base.specs.Reading.{UniqueReading, HasOneSpelling, IsPartOf, IsShortenedBy}
 
--- The last byte of a group is told by its bit 7: no groups begin others.
+-- Groups are prefix-free, since bit 7 marks the last byte.
 pub groups_apart : (s t r q : List ℕ) → AreGroups s → AreGroups t → s ++ r ≡ t ++ q → (s ≡ t) × (r ≡ q)
 groups_apart [] t r q h g e = absurd h
 groups_apart (b ∷ []) [] r q h g e = absurd g
@@ -76,7 +76,7 @@ pub one_more : (d : ℕ) (t : List ℕ) → d < 128 → AreGroups t → 0 < last
 one_more d [] l h k = absurd h
 one_more d (c ∷ t) l h k = ((omega arith, omega arith, h), omega arith, k)
 
--- The bytes of a spelling can spell any lesser number.
+-- A number up to the sum of groups has minimal groups that are no longer.
 lesser : (s : List ℕ) (v : ℕ) → AreGroups s → v ≤ groups_sum s → (t : List ℕ) × AreGroups t × (groups_sum t ≡ v) × IsUnsignedSize shortest 0 t × (length t ≤ length s)
 lesser [] v h l = absurd h
 lesser (b ∷ []) v h l = (v ∷ [], omega arith, omega arith, inl refl, le_refl 1)
@@ -137,7 +137,7 @@ minus_one_is (b ∷ c ∷ d ∷ s) h k e =
     let tail = minus_one_is (c ∷ d ∷ s) h.2 k (omega (arith, ints, e, signed_step b c (d ∷ s))) in
     absurd (cc tail)
 
--- A second byte would be padding.
+-- A second byte after a sufficient one is padding.
 no_padding : (b d z : ℕ) (t : List ℕ) → b < 128 → AreGroups (d ∷ z ∷ t) → IsShortSigned (d ∷ z ∷ t) → signed_sum (b ∷ []) ≡ signed_sum (d ∷ z ∷ t) → ⊥
 no_padding b d z t l g k e =
     elim (cases_lt b 64) [
@@ -181,7 +181,7 @@ signed_one (b ∷ c ∷ s) (d ∷ z ∷ t) h g k l e =
     ap₂ ◌∷◌ (omega (arith, ints, e, signed_step b c s, signed_step d z t, h.0, h.1, g.0, g.1))
     (signed_one (c ∷ s) (z ∷ t) h.2 g.2 (short_tail b c s k) (short_tail d z t l) (omega (arith, ints, e, signed_step b c s, signed_step d z t)))
 
--- A short spelling of two bytes and more is of a large number.
+-- Minimal groups of two or more bytes encode a number that needs them.
 spread : (b c : ℕ) (s : List ℕ) → AreGroups (b ∷ c ∷ s) → IsShortSigned (b ∷ c ∷ s) → (pos (2 ^ (6 + 7 * length s)) ≤ℤ signed_sum (b ∷ c ∷ s)) ⊎ (signed_sum (b ∷ c ∷ s) <ℤ neg_ℤ (pos (2 ^ (6 + 7 * length s))))
 spread b c [] h k =
     elim (cases_lt c 64) [
@@ -219,7 +219,7 @@ short_signed_is_within bits (b ∷ c ∷ s) some h k l u =
     ] in
     omega (arith, size_from_spread (length s) bits far)
 
--- A short spelling of what s spells.
+-- Minimal groups of the same number as s, which are no longer.
 abbrev Shortened : List ℕ → Type 0
 Shortened s = (t : List ℕ) × AreGroups t × (signed_sum t ≡ signed_sum s) × IsShortSigned t × (length t ≤ length s)
 
@@ -246,13 +246,13 @@ shortened (b ∷ c ∷ s) h = go (shortened (c ∷ s) h.2)
     go (d ∷ [], g, e, k, l) = shortened_pair b d c s h g e
     go (d ∷ z ∷ t, g, e, k, l) = (b ∷ d ∷ z ∷ t, (h.0, h.1, g), omega (arith, ints, signed_step b c s, signed_step b d (z ∷ t), e), k, omega (arith, l))
 
--- ---- the facts that the grammar is built on
+-- ---- facts for the grammar
 
--- A lesser number has a spelling that is no longer.
+-- A number up to n has a minimal encoding no longer than any encoding of n.
 abbrev pub ShortenLess : Format ℕ → Type 0
 ShortenLess F = (w : Grammar) (s : List ℕ) (n v : ℕ) → v ≤ n → F (padded w) s n → (t : List ℕ) × F (least w) t v × (length t ≤ length s)
 
--- A property of modes, one below the other, that holds of the three pairs.
+-- A property of pairs of modes holds of each pair in `Below` if it holds of the three.
 pub below_cases : (P : Mode → Mode → Type 0) → P shortest wide → P tight standard → P wide standard → (m n : Mode) → Below m n → P m n
 below_cases P a b c shortest wide h = a
 below_cases P a b c tight standard h = b
@@ -337,7 +337,7 @@ u32_unique = unsigned_unique 32 (omega arith)
 pub u32-less : ShortenLess u32
 u32-less = unsigned-less 32 (omega arith)
 
--- a number of one byte
+-- A number below 128 has one byte in every mode.
 pub u32_small : (mode : Mode) (n : ℕ) → n < 128 → u32 mode (n ∷ []) n
 u32_small shortest n h = record { groups = h; total = omega arith; range = omega arith; size = inl refl }
 u32_small wide n h = record { groups = h; total = omega arith; range = omega arith; size = omega arith }

@@ -1,4 +1,4 @@
--- The texts of numbers: their equations, and how long they are.
+-- This file proves the equations of LEB128 encodings and the bounds of their lengths.
 use Rattle.std.proofs.Common.{◌≡◌, ℕ, Bool, zero, suc, ◌+◌, ◌*◌, ◌/◌, ◌^◌, ◌<◌, ◌≤◌, [], ◌∷◌, length, refl, sym, ap, ◌∙◌, arith, inl, inr}
 use Rattle.std.proofs.lemmas.Bool.{cases_lt, lt-ltb, le-ltb}
 use Rattle.std.proofs.Math.Nat.{pow-suc}
@@ -14,7 +14,7 @@ module _ (b : Bool) (limit : ℕ) where
   unfolding groups_of
   groups_of-more more n h = rw (le-ltb n limit h, groups_of) refl
 
--- any bound on the groups that is large enough gives one text
+-- Every sufficient bound on the groups gives the same encoding.
 groups_of-enough : (b : Bool) (limit : ℕ) → 0 < limit → (more other n : ℕ) → n ≤ more → n ≤ other → groups_of b limit more n ≡ groups_of b limit other n
 groups_of-enough b limit some zero other n h k = groups_of-last b limit zero n (omega arith) ∙ sym (groups_of-last b limit other n (omega arith))
 groups_of-enough b limit some (suc more) zero n h k = groups_of-last b limit (suc more) n (omega arith) ∙ sym (groups_of-last b limit zero n (omega arith))
@@ -43,7 +43,7 @@ length-groups_text-last b limit n h = ap length (groups_text-last b limit n h)
 pub length-groups_text-more : (b : Bool) (limit n : ℕ) → 0 < limit → limit ≤ n → length (groups_text b limit n) ≡ length (groups_text b limit (n / 128)) + 1
 length-groups_text-more b limit n some h = rw (groups_text-more b limit n some h) (omega arith)
 
--- a spelling has a byte
+-- An encoding has at least one byte.
 pub length-groups_text-positive : (b : Bool) (limit n : ℕ) → 0 < limit → 1 ≤ length (groups_text b limit n)
 length-groups_text-positive b limit n some =
     elim (cases_lt n limit) [
@@ -51,7 +51,7 @@ length-groups_text-positive b limit n some =
       | inr high ↦ omega (arith, length-groups_text-more b limit n some high)
     ]
 
--- and at most one for each seven bits
+-- An encoding has at most one byte for each seven bits.
 pub length-groups_text-le : (b : Bool) (limit k n : ℕ) → 0 < limit → n < limit * 128 ^ k → length (groups_text b limit n) ≤ suc k
 length-groups_text-le b limit zero n some h = omega (arith, length-groups_text-last b limit n (omega arith))
 length-groups_text-le b limit (suc k) n some h =
@@ -63,14 +63,14 @@ length-groups_text-le b limit (suc k) n some h =
           omega (arith, length-groups_text-more b limit n some high, length-groups_text-le b limit k (n / 128) some below)
     ]
 
--- for the tactics: a number of 64 bits has at most ten bytes
+-- For the tactics: a number of 64 bits has at most ten bytes.
 pub most_groups : (b : Bool) (limit n : ℕ) → 64 ≤ limit → n < 2 ^ 64 → length (groups_text b limit n) ≤ 10
 most_groups b limit n high h = length-groups_text-le b limit 9 n (omega arith) (omega arith)
 
--- for the tactics: a number of one byte
+-- For the tactics: the encoding of a number of one byte.
 pub one_group : (b : Bool) (limit n : ℕ) → n < limit → groups_text b limit n ≡ last_group b n ∷ []
 one_group = groups_text-last
 
--- for the tactics: a number of two bytes
+-- For the tactics: the encoding of a number of two bytes.
 pub two_groups : (b : Bool) (limit n : ℕ) → 0 < limit → limit ≤ n → n < limit * 128 → groups_text b limit n ≡ next_group b n ∷ last_group b (n / 128) ∷ []
 two_groups b limit n some high low = groups_text-more b limit n some high ∙ ap (λ t. next_group b n ∷ t) (groups_text-last b limit (n / 128) (omega arith))

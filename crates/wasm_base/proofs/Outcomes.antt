@@ -1,4 +1,4 @@
--- What follows where a call was accepted.
+-- This file proves the consequences of a call that succeeds.
 use Rattle.std.proofs.Common.{Result, Ok, Err}
 use Rattle.std.specs.Prelude.{OnOk}
 

@@ -1,4 +1,4 @@
--- The payload of a section is read as its items alone.
+-- This file proves that the payload of a section decodes to its items alone.
 use Rattle.std.proofs.Common.{List, [], ℕ, refl, sym, subst}
 use Rattle.wasm_base.specs.Numbers.{Mode, shortest, wide}
 use Rattle.wasm_base.specs.Formats.{Format, u32, any_bytes, vec, frame, name, pair}
@@ -10,7 +10,7 @@ use Rattle.wasm_base.proofs.FormatLaws.{any_bytes_whole, pair_whole, vec_unique,
 use Rattle.wasm_base.proofs.NumberLaws.{u32_unique}
 use Rattle.wasm_base.proofs.TextLaws.{reads_whole, frame_in}
 
--- What the frame spells, its content spells.
+-- If size-prefixed bytes encode a value, so does their payload.
 content_spelled : {X : Type 0} {F : Format X} {text payload : List ℕ} {x : X} (mode : Mode) → IsFrameOf text payload → frame F mode text x → F mode payload x
 content_spelled {F = F} {text = text} {payload = payload} {x = x} mode framed h =
     let given = subst (λ s. frame any_bytes mode s payload) (sym framed.is) (frame_in mode any_bytes payload payload framed.fits refl) in
@@ -21,7 +21,7 @@ content_spelled {F = F} {text = text} {payload = payload} {x = x} mode framed h 
 pub payload-reads : {X : Type 0} {F : Format X} → UniqueWholeReading F → ReadsPayloads F
 payload-reads {F = F} whole = record { alone = λ text payload x framed reads. reads_whole {F = F} whole (content_spelled {F = F} shortest framed reads.spelled) }
 
--- With padded numbers this holds of every format.
+-- For padded LEB128 this holds of every format.
 pub payload-reads-wide : {X : Type 0} (F : Format X) → ReadsPayloadsWide F
 payload-reads-wide F = record {
   alone = λ text payload x framed reads. record {
@@ -32,7 +32,7 @@ payload-reads-wide F = record {
   };
 }
 
--- the payload of a section of counted items
+-- The payload of a section of counted items decodes to them alone.
 pub counted-payload : {X : Type 0} {F : Format X} → UniqueReading F → ReadsPayloads (vec F)
 counted-payload f = payload-reads (whole_from_alone (vec_unique f))
 

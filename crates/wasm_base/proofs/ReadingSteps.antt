@@ -1,4 +1,4 @@
--- How a reader's steps make a reading of the whole, or show that there is none.
+-- This file proves that the steps of a reader decode the whole, or show that it does not decode.
 use Rattle.std.proofs.Common.{◌≡◌, ℕ, ◌<◌, ◌≤◌, List, [], ◌∷◌, ◌++◌, length, take, drop, slice_index_or, suc, ◌-◌, refl, sym, ap, subst, ◌∙◌, append_assoc, append-nil, arith}
 use Rattle.std.proofs.lemmas.List.{length-append, take-append-drop, length-take-le, take_all}
 use Rattle.wasm_base.specs.Numbers.{Mode, wide}
@@ -6,13 +6,13 @@ use Rattle.wasm_base.specs.Formats.{Format, u32, byte, Then, mapped, such, membe
 use Rattle.wasm_base.specs.Reading.{UniqueReading, Reads, ReadsNothing}
 use Rattle.wasm_base.proofs.NumberLaws.{u32_unique}
 
--- Two readings of the same bytes are one.
+-- If a format decodes the same bytes twice, the values and the suffixes are equal.
 pub reads_same : {X : Type 0} {F : Format X} {mode : Mode} {bytes : List ℕ} {x y : X} {r q : List ℕ} → UniqueReading F → Reads F mode bytes x r → Reads F mode bytes y q → (x ≡ y) × (r ≡ q)
 reads_same {mode = mode} {x = x} {y = y} {r = r} {q = q} k h g =
     let a = k.alone mode h.front g.front r q x y h.spelled g.spelled (sym h.split ∙ g.split) in
     (a.0, a.2)
 
--- ---- one after the other
+-- ---- one after another
 
 pub then_reads : {X Y : Type 0} {F : Format X} {G : X → Format Y} {mode : Mode} {bytes rest last : List ℕ} {x : X} {y : Y} → Reads F mode bytes x rest → Reads (G x) mode rest y last → Reads (Then F G) mode bytes (x, y) last
 then_reads {last = last} h g = record { front = h.front ++ g.front; split = h.split ∙ ap (λ z. h.front ++ z) g.split ∙ sym (append_assoc h.front g.front last); spelled = record { front = h.front; back = g.front; joined = refl; first = h.spelled; second = g.spelled } }
@@ -76,7 +76,7 @@ vec_nothing {F = F} {mode = mode} {bytes = bytes} {last = last} xs k h g l none 
       none.none next.0 next.1 next.2;
 }
 
--- ---- frames
+-- ---- size-prefixed bytes
 
 pub frame_reads : {X : Type 0} {F : Format X} {mode : Mode} {bytes rest : List ℕ} {n : ℕ} {x : X} → Reads u32 mode bytes n rest → n ≤ length rest → F mode (take n rest) x → Reads (frame F) mode bytes x (drop n rest)
 frame_reads {mode = mode} {rest = rest} {n = n} h l g = record {
@@ -106,7 +106,7 @@ such_none P none = record { none = λ x rest h. none.none x rest (record { front
 
 -- ---- one byte
 
--- as a pattern takes a slice apart
+-- The front and the suffix, as a slice pattern splits the bytes.
 pub front_and_rest : (bytes : List ℕ) → 1 ≤ length bytes → bytes ≡ slice_index_or bytes 0 0 ∷ take (length bytes - 1) (drop 1 bytes)
 front_and_rest [] l = absurd (omega arith)
 front_and_rest (b ∷ rest) l = ap (λ z. b ∷ z) (sym (take_all (suc (length rest) - 1) rest (omega arith)))

@@ -1,4 +1,4 @@
--- What is promised of the sections of a kind, by what their items owe.
+-- This file proves the laws of the sections of a kind from the laws of its items.
 use Rattle.wasm_base.specs.Entries.{Kind, ItemLaws}
 use Rattle.wasm_base.specs.Formats.{Format, frame, vec}
 use Rattle.wasm_base.specs.Laws.{HoldsMore, HoldsMoreWide}
@@ -12,27 +12,27 @@ use Rattle.wasm_base.proofs.HeldLaws.{holds_more as more, holds_more_wide, plain
 use Rattle.wasm_base.proofs.Payloads.{payload-reads}
 use Rattle.std.proofs.Common.{List}
 
--- Of the sections of a kind of items, whose frames hold this payload: it is read uniquely up to its end, what the items owe, and what the sections hold with
--- padded numbers as calls add to them.
+-- The laws of a kind's sections with this payload: it is unambiguous as a whole, its items have
+-- their laws, and possibly padded items are held call by call.
 pub record SectionLaws {Record Item : Type 0} (kind : Kind Record Item) (payload : Format (List Item)) : Type 0 where
   pub whole : UniqueWholeReading payload
   pub items : ItemLaws kind
   pub held_wide : HoldsMoreWide kind
 
 module _ {Record Item : Type 0} {kind : Kind Record Item} (laws : ItemLaws kind) (wider : (given : Record) → kind.IsPlain given → kind.IsPlainWide given) where
-  -- of records without expressions, which are plain in both ways alike
+  -- For records without expressions, being well-formed does not depend on padding.
   pub framed_laws : {payload : Format (List Item)} → UniqueWholeReading payload → ((given : Record) → kind.IsPlainWide given → kind.IsPlain given) → SectionLaws kind payload
   framed_laws whole plain = record { whole = whole; items = laws; held_wide = plain_more_wide laws wider plain }
 
-  -- of counted items
+  -- The laws of sections of counted items.
   pub counted_laws : ((given : Record) → kind.IsPlainWide given → kind.IsPlain given) → SectionLaws kind (vec kind.format)
   counted_laws plain = framed_laws (whole_from_alone (vec_unique laws.alone)) plain
 
-  -- of counted items whose expressions may have padded numbers
+  -- The laws of sections of counted items whose expressions may be padded.
   pub counted_laws_wide : ((given : Record) → kind.IsPlainWide given → FrameFits (kind.text given) → kind.format wide (kind.text given) (kind.normal_form given)) → SectionLaws kind (vec kind.format)
   counted_laws_wide spelled = record { whole = whole_from_alone (vec_unique laws.alone); items = laws; held_wide = holds_more_wide kind laws wider spelled }
 
--- ---- each law of a kind's
+-- ---- each law of a kind
 
 module _ {Record Item : Type 0} {kind : Kind Record Item} where
   pub held : HoldsMore kind

@@ -1,4 +1,4 @@
--- Reference types as the standard admits them are read uniquely.
+-- This file proves that reference types in the standard's grammar are unambiguous.
 use Rattle.std.proofs.Common.{◌≡◌, ◌⊎◌, ℕ, ◌<◌, ◌≤◌, List, [], ◌∷◌, ◌++◌, length, Bool, true, false, cond, eqb, refl, sym, ap, ap₂, subst, ◌∙◌, le_refl, arith, inl, inr}
 use Rattle.std.proofs.lemmas.Bool.{eqb-true}
 use Rattle.wasm_base.specs.Numbers.{Mode, shortest, wide, tight, standard, admitted}
@@ -71,7 +71,7 @@ tight_begins = choice_begins IsLongTag tight_tags (λ b. impossible) ((omega ari
 admitted_begins : BeginsWith IsLongTag (tagged byte (choice admitted_tags (λ b. impossible)))
 admitted_begins = choice_begins IsLongTag admitted_tags (λ b. impossible) ((omega arith, omega arith), ((omega arith, omega arith), tt)) (λ b mode s x h. absurd h)
 
--- 0 where the type has a byte of its own
+-- The form of a heap type: 0 if it has a byte of its own.
 abbrev heap_form : HeapType → ℕ
 heap_form (Abstract false ty) = 0
 heap_form (Abstract true ty) = 1
@@ -99,7 +99,7 @@ tight_unique = one_of_unique IsAbstractByte IsLongTag apart short_begins tight_b
 admitted_alone : IsReadAlone (admitted_ref standard)
 admitted_alone = one_of_alone {F = short_ref} {G = tagged byte (choice admitted_tags (λ b. impossible))} (begin_apart IsAbstractByte IsLongTag apart short_begins admitted_begins) standard (short_unique.alone standard) (admitted_long.alone standard)
 
--- ---- what one admits, the other does too
+-- ---- the encodings of one format that another one has too
 
 null_admitted : (b : ℕ) (t : List ℕ) (x : RefType) (heap : HeapType) → b ≡ 0x63 → nullable_to heap ≡ x → heap_type standard t heap → admitted_ref standard (b ∷ t) x
 null_admitted b t x heap e q h = subst (λ z. admitted_ref standard (z ∷ t) x) (sym e) (subst (λ y. admitted_ref standard (0x63 ∷ t) y) q (inr (tagged_spelled standard 0x63 t (nullable_to heap) (heap, refl, h))))
@@ -157,7 +157,7 @@ tight_admitted s x (inr k) =
       | inr d ↦ second b t d
     ]
 
--- what is shown of a longer spelling
+-- A minimal encoding of the type that is no longer.
 abbrev Shrinks : List ℕ → RefType → Type 0
 Shrinks s x = (w : List ℕ) × tight_ref tight w x × (length w ≤ length s)
 

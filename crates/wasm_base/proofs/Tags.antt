@@ -1,4 +1,4 @@
--- Flags and tags, and bytes that are codes.
+-- This file proves the laws of flags, tags and one-byte codes.
 use Rattle.std.proofs.Common.{◌≡◌, ◌≢◌, inl, inr, ℕ, List, [], ◌∷◌, ◌++◌, Bool, true, false, Option, Some, None, refl, sym, ap, subst, ◌∙◌}
 use Rattle.std.proofs.lemmas.Bool.{ne_eqb}
 use Rattle.wasm_base.specs.Numbers.{wide}
@@ -18,7 +18,7 @@ tagged_none F G bytes none = mapped_nothing (λ p. p.1) (then_nothing_first none
 pub tagged_nothing : {X Y : Type 0} {F : Format X} {G : X → Format Y} {bytes rest : List ℕ} {x : X} → UniqueReading F → Reads F wide bytes x rest → ReadsNothing (G x) wide rest → ReadsNothing (tagged F G) wide bytes
 tagged_nothing k h none = mapped_nothing (λ p. p.1) (then_nothing_second k h none)
 
--- none of these tags
+-- The byte is none of these tags.
 abbrev pub IsOther : {X : Type 0} → List (ℕ × Format X) → ℕ → Type 0
 IsOther [] b = Unit {0}
 IsOther (c ∷ cs) b = (b ≢ c.0) × IsOther cs b
@@ -51,7 +51,7 @@ optional_nothing F flag bytes e none = subst (λ z. ReadsNothing (optional z F) 
 
 pub ruleset optional_steps = (optional_some, optional_none, optional_nothing)
 
--- ---- one of two
+-- ---- one of two formats
 
 pub one_of_nothing : {X : Type 0} {F G : Format X} {bytes : List ℕ} → ReadsNothing F wide bytes → ReadsNothing G wide bytes → ReadsNothing (one_of F G) wide bytes
 one_of_nothing f g = record {

@@ -1,4 +1,4 @@
--- Texts spell their values, and are read alone.
+-- This file proves that encodings encode their values, and decode to them alone.
 use Rattle.std.proofs.Common.{◌≡◌, ℕ, zero, suc, ◌+◌, ◌-◌, ◌/◌, ◌%◌, ◌^◌, ◌<◌, ◌≤◌, ◌⊎◌, List, [], ◌∷◌, ◌++◌, length, Bool, true, false, refl, sym, ap, subst, ◌∙◌, arith, inl, inr, ℤ, pos, negsuc, neg_ℤ, ◌+ℤ◌, ◌*ℤ◌, ◌≤ℤ◌, ◌<ℤ◌, IsUtf8, le_refl}
 use Rattle.std.proofs.lemmas.Bool.{cases_lt}
 use Rattle.std.proofs.lemmas.Int.{ints}
@@ -16,9 +16,9 @@ use Rattle.wasm_base.proofs.NumberLaws.{u32_unique, one_more, last_of_one, singl
 use Rattle.wasm_base.proofs.NumberTexts.{groups_text-last, groups_text-more}
 use Rattle.wasm_base.proofs.FormatLaws.{any_bytes_whole, frame_unique}
 
--- ---- a text that is read
+-- ---- an encoding that decodes
 
--- in each mode of the builders' grammar
+-- A minimal encoding is one in each mode of the builders' grammar.
 pub spelled_in : {X : Type 0} {F : Format X} {text : List ℕ} {x : X} → UniqueReading F → F shortest text x → (mode : Mode) → IsOfBuilders mode → F mode text x
 spelled_in f spelled shortest of = spelled
 spelled_in {text = text} {x = x} f spelled wide of = f.spellings.wider shortest wide tt text x spelled
@@ -28,7 +28,7 @@ spelled_in f spelled standard of = absurd of
 spelled_standard : {X : Type 0} {F : Format X} {text : List ℕ} {x : X} → HasSpellings F → F shortest text x → F standard text x
 spelled_standard {text = text} {x = x} k spelled = k.wider wide standard tt text x (k.wider shortest wide tt text x spelled)
 
--- What any mode admits, the standard's admits.
+-- The standard's padded mode has the encodings of every mode.
 in_standard : {X : Type 0} {F : Format X} → HasSpellings F → (mode : Mode) → IsPartOf (F mode) (F standard)
 in_standard k shortest s x h = k.wider wide standard tt s x (k.wider shortest wide tt s x h)
 in_standard k wide s x h = k.wider wide standard tt s x h
@@ -44,7 +44,7 @@ reads_alone {F = F} {text = text} {x = x} f spelled = record {
   one = λ other g. f.spellings.one builders other text x g spelled;
 }
 
--- what padded numbers spell, with nothing else beside it
+-- A possibly padded encoding of x decodes to x alone.
 pub reads_alone_wide : {X : Type 0} {F : Format X} {text : List ℕ} {x : X} → UniqueReading F → F wide text x → ReadsAloneWide F text x
 reads_alone_wide {F = F} {text = text} {x = x} f spelled = record {
   spelled = spelled;
@@ -60,7 +60,7 @@ reads_whole {F = F} {text = text} {x = x} f spelled = record {
 
 -- ---- unsigned numbers
 
--- what is shown of the text of n
+-- The claim for the encoding of n.
 abbrev IsTextOf : List ℕ → ℕ → Type 0
 IsTextOf s n = AreGroups s × (groups_sum s ≡ n) × IsUnsignedSize shortest 0 s
 
@@ -94,12 +94,12 @@ u64_spelled n h = let t = unsigned_text-spelled n n (le_refl n) in record { grou
 
 -- ---- signed numbers
 
--- the number that a natural number stands for
+-- The number that a natural number denotes, by its sign.
 abbrev signed_value : Bool → ℕ → ℤ
 signed_value false n = pos n
 signed_value true n = negsuc n
 
--- its low seven bits
+-- Its low seven bits.
 abbrev low_bits : Bool → ℕ → ℕ
 low_bits false n = n % 128
 low_bits true n = 127 - n % 128
@@ -127,7 +127,7 @@ far : (b : Bool) (n : ℕ) → 64 ≤ n → (pos 64 ≤ℤ signed_value b n) ⊎
 far false n h = inl (omega (arith, ints, h))
 far true n h = inr (omega (arith, ints, h))
 
--- one more byte before the text of what is above its bits
+-- One more byte before the encoding of the higher bits.
 grown : (b : Bool) (n : ℕ) (t : List ℕ) → 64 ≤ n → IsSignedTextOf t (signed_value b (n / 128)) → IsSignedTextOf ((low_bits b n + 128) ∷ t) (signed_value b n)
 grown b n [] f h = absurd (h.0)
 grown b n (c ∷ []) f h =
@@ -169,9 +169,9 @@ s64_spelled v h = let t = signed_text-spelled_of v in record { groups = t.0; tot
 pub s33_spelled : (n : ℕ) → n < 2 ^ 32 → s33 shortest (signed_text (pos n)) n
 s33_spelled n h = let t = signed_text-spelled_of (pos n) in record { groups = t.0; total = t.1; above = omega (arith, ints); below = omega (arith, ints, h); size = t.2 }
 
--- ---- frames, names and vectors
+-- ---- size-prefixed bytes, names and vectors
 
--- The text is a frame of what its content spells, in shortest form or with padded numbers.
+-- Size-prefixed bytes encode, in each mode, the value that their payload encodes.
 pub frame_in : {X : Type 0} (mode : Mode) (F : Format X) (content : List ℕ) (x : X) → FrameFits content → F mode content x → frame F mode (frame_text content) x
 frame_in mode F content x h g = record {
   front = unsigned_text (length content);
@@ -200,7 +200,7 @@ vec_spelled F Fits text f xs h = record {
   second = members_spelled F Fits text f xs h.members;
 }
 
--- ---- a byte that tells, and numbers of so many bytes
+-- ---- a tag byte, and numbers of fixed width
 
 pub tagged_spelled : {X : Type 0} {G : ℕ → Format X} (mode : Mode) (b : ℕ) (s : List ℕ) (x : X) → G b mode s x → tagged byte G mode (b ∷ s) x
 tagged_spelled mode b s x h = ((b, x), refl, record { front = b ∷ []; back = s; joined = refl; first = refl; second = h })
@@ -225,7 +225,7 @@ as_many_items R [] (x ∷ xs) h = absurd h
 as_many_items R (p ∷ ps) [] h = absurd h
 as_many_items R (p ∷ ps) (x ∷ xs) h = ap suc (as_many_items R ps xs h.1)
 
--- their number and the pieces are the vector of the items
+-- The number of pieces, then the pieces, are the vector of the items.
 pub vec_of_pieces : {X : Type 0} (mode : Mode) (F : Format X) (pieces : List (List ℕ)) (xs : List X) → length pieces ≤ longest → AllZip (F mode) pieces xs → vec F mode (unsigned_text (length pieces) ++ joined pieces) xs
 vec_of_pieces mode F pieces xs few h = record {
   front = unsigned_text (length pieces);
@@ -239,14 +239,15 @@ section_spelled : {X : Type 0} (mode : Mode) (F : Format X) (pieces : List (List
 unfolding section_text
 section_spelled mode F pieces xs h g = frame_in mode (vec F) (unsigned_text (length pieces) ++ joined pieces) xs h.size (vec_of_pieces mode F pieces xs h.count g)
 
--- A counted section is read as the items that its pieces spell, one each: in shortest form, and with padded numbers.
+-- A counted section decodes alone to the items that its pieces encode, one each, minimally or
+-- possibly padded.
 pub section_alone : {X : Type 0} {F : Format X} → UniqueReading (frame (vec F)) → (pieces : List (List ℕ)) (xs : List X) → SectionFits pieces → AllZip (F shortest) pieces xs → ReadsAlone (frame (vec F)) (section_text pieces) xs
 section_alone {F = F} f pieces xs h g = reads_alone {F = frame (vec F)} f (section_spelled shortest F pieces xs h g)
 
 pub section_alone_wide : {X : Type 0} {F : Format X} → UniqueReading (frame (vec F)) → (pieces : List (List ℕ)) (xs : List X) → SectionFits pieces → AllZip (F wide) pieces xs → ReadsAloneWide (frame (vec F)) (section_text pieces) xs
 section_alone_wide {F = F} f pieces xs h g = reads_alone_wide {F = frame (vec F)} f (section_spelled wide F pieces xs h g)
 
--- ---- a section of given bytes
+-- ---- a section of raw bytes
 
 pub raw_section : (bytes : List ℕ) → FrameFits bytes → ReadsBack (frame any_bytes) (λ said. said ≡ bytes) (frame_text bytes)
 raw_section bytes h = record {

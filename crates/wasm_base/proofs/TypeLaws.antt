@@ -1,4 +1,4 @@
--- Types are read uniquely, and their texts spell them.
+-- This file proves that types are unambiguous and that their encodings encode them.
 use Rattle.std.proofs.Common.{◌≡◌, ◌≢◌, ◌⊎◌, ℕ, ◌<◌, ◌≤◌, List, [], ◌∷◌, Bool, true, false, cond, eqb, refl, sym, ap, ◌∙◌, arith, inl, inr, pos}
 use Rattle.std.proofs.lemmas.Int.{ints}
 use Rattle.std.proofs.lemmas.Bool.{cases_lt, ne_eqb}
@@ -41,9 +41,9 @@ abstract_back kinds.NoCont = refl
 pub abstract_unique : UniqueReading abstract_type
 abstract_unique = coded_unique abstract_code abstract_decode abstract_back
 
--- ---- an index begins with no type's byte
+-- ---- no index begins with the byte of a type
 
--- the bytes of types
+-- The bytes of types.
 abbrev pub IsTypeByte : ℕ → Type 0
 IsTypeByte b = (64 ≤ b) × (b < 128)
 
@@ -81,7 +81,7 @@ abstract_bytes kinds.None = (omega arith, omega arith)
 abstract_bytes kinds.Cont = (omega arith, omega arith)
 abstract_bytes kinds.NoCont = (omega arith, omega arith)
 
--- the byte before a heap type that has one
+-- The tag byte before a heap type that has one.
 abbrev heap_tag : HeapType → ℕ
 heap_tag (Abstract b ty) = 0x65
 heap_tag (Concrete n) = 0
@@ -105,7 +105,7 @@ tagged_heap_begins = choice_begins IsHeapTag heap_tags (λ b. impossible) ((omeg
 abbrev told : Format HeapType
 told = one_of (tagged byte (choice heap_tags (λ b. impossible))) (mapped Concrete s33)
 
--- which of four forms it is
+-- The number of the heap type's form, out of four.
 abbrev form : HeapType → ℕ
 form (Abstract false ty) = 0
 form (Abstract true ty) = 1
@@ -218,7 +218,7 @@ val_choice_unique = choice_unique val_tags val_ref
 pub val_unique : UniqueReading val_type
 val_unique = tagged_unique val_tag val_tells byte_unique val_choice_unique
 
--- the first bytes of value types
+-- The first bytes of value types.
 abbrev pub IsValByte : ℕ → Type 0
 IsValByte b = (0x62 < b) × (b < 0x80)
 
@@ -227,11 +227,11 @@ val_bytes b mode s x h =
     choice_tags IsValByte val_tags val_ref ((omega arith, omega arith), ((omega arith, omega arith), ((omega arith, omega arith), ((omega arith, omega arith), ((omega arith, omega arith), tt)))))
     (λ b mode s x h. choice_tags IsValByte ref_tags (λ b. impossible) ((omega arith, omega arith), ((omega arith, omega arith), ((omega arith, omega arith), ((omega arith, omega arith), tt)))) (λ b mode s x h. absurd h) b mode s h.0 h.2) b mode s x h
 
--- none of them is an index's
+-- No first byte of a value type begins an index.
 pub val_begins : (b : ℕ) → AllValues (λ x. IsTypeByte b) (choice val_tags val_ref b)
 val_begins b mode s x h = let p = val_bytes b mode s x h in (omega (arith, p.0), p.1)
 
--- ---- texts
+-- ---- encodings
 
 heap_spelled : (h : HeapType) → IsHeap h → heap_type shortest (heap_text h) h
 heap_spelled (Abstract false ty) p = inl (ty, refl, refl)
@@ -239,7 +239,7 @@ heap_spelled (Abstract true ty) p = inr (inl (tagged_spelled shortest 0x65 (abst
 heap_spelled (Concrete n) p = inr (inr (n, refl, s33_spelled n p))
 heap_spelled (Exact n) p = inr (inl (tagged_spelled shortest 0x62 (unsigned_text n) (Exact n) (n, refl, u32_spelled n p)))
 
--- as a reference type, and as a value type
+-- The bytes encode a reference type, also as a value type.
 abbrev IsRefText : List ℕ → RefType → Type 0
 IsRefText s r = ref_type shortest s r × val_type shortest s (Ref r)
 
@@ -278,7 +278,7 @@ val-texts = record { spelled = val_spelled }
 
 pub ruleset types = (heap_unique, ref_unique, val_unique, heap-texts, ref-texts, val-texts, begins_s33)
 
--- ---- padded numbers
+-- ---- padded LEB128
 
 pub wide-heap : IsUniqueWide heap_type
 wide-heap = unique_wide heap_unique

@@ -1,4 +1,5 @@
--- Bodies are read uniquely, and go on where they ended.
+-- This file proves that bodies are unambiguous, and that a longer body continues where a shorter
+-- one ends.
 use Rattle.std.proofs.Common.{◌≡◌, ◌≢◌, ℕ, List, [], ◌∷◌, ◌++◌, length, false, arith, Ok, Option, refl, sym, ap, subst, ◌∙◌, ◌<◌, append_assoc, append-nil}
 use Rattle.std.specs.Iterator.{Count, Drains, size}
 use Rattle.std.specs.declared.vec.Vec.{Vec}
@@ -24,7 +25,7 @@ use Rattle.wasm_code.specs.Bodies.{Run, run_text, locals_text, IsRun, Body, body
 use Rattle.wasm_code.specs.Laws.{GoesOnWith, HasOffsets, FindsAdded}
 use Rattle.wasm_code.proofs.ExpressionLaws.{members_join, members_one, normal_spelled}
 
--- ---- unique reading
+-- ---- unambiguous
 
 pub runs_unique : UniqueReading (vec (pair u32 val_type))
 runs_unique = vec_unique (pair_unique u32_unique val_unique)
@@ -37,7 +38,7 @@ body_whole =
 pub frame_body_unique : UniqueReading (frame body)
 frame_body_unique = frame_unique body_whole
 
--- The frame of a raw body that spells a body is read as this body alone.
+-- A raw body that encodes a body decodes to it alone, behind its size prefix.
 pub body_reads : (bytes : List ℕ) → FrameFits bytes → ReadsBack (frame body) (IsPlainBody bytes) (frame_text bytes)
 body_reads bytes fits = record { for_each = λ x h. reads_alone {F = frame body} frame_body_unique (frame_spelled body bytes x fits h.spelled) }
 
@@ -70,7 +71,7 @@ grows i old new e = record {
 pub grows_by : (more old new : List ℕ) → new ≡ old ++ more → GrowsBy more old new
 grows_by more old new e = record { bytes = e; plain = λ x is held spelled. subst (λ z. IsPlainBody z (and_then x is)) (sym e) (record { spelled = grown shortest more old x is held.spelled spelled }) }
 
--- with padded numbers
+-- A minimal encoding of a body is a possibly padded one.
 pub body_wider : (bytes : List ℕ) (x : Body) → IsPlainBody bytes x → IsWideBody bytes x
 body_wider bytes x plain = record { spelled = body_whole.spellings.wider shortest wide tt bytes x plain.spelled }
 
@@ -107,7 +108,7 @@ has_locals runs bytes e = record {
 
 -- ---- the next instruction
 
--- The instructions of a longer body go on where those of the shorter end.
+-- The instructions of a longer body continue where those of the shorter one end.
 goes_on : (front more : List ℕ) (x y : Body) → body shortest front x → body shortest (front ++ more) y → (next : List Plain) × (y ≡ and_then x next) × members (instruction table) shortest more next
 goes_on front more x y h g =
     let a = h.2 in
@@ -141,7 +142,7 @@ finds_added i = record {
 
 -- ---- calls
 
--- What is made of the elements, and has a known length, is written as the runs.
+-- The items of an iterator of known length are encoded as the runs.
 pub runs_given : {U S A : Type 0} (becomes : U → S → Type 0) (gives : S → Option Run → S → Type 0) (remaining : S → Count) (Fits : Run → Type 0) (elements : U) (it : S) (old new : Vec ℕ A) → becomes elements it → old.items ≡ []
     → AppendsVec (λ a b. b ≡ a) gives remaining Fits run_text it old new (Ok (tt {0})) → BeginsWithRuns becomes gives remaining elements (Ok new.items)
 runs_given becomes gives remaining Fits elements it old new made e h =

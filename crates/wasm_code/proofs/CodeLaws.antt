@@ -1,4 +1,5 @@
--- A code section is read as its raw bodies alone, and as the bodies that they spell.
+-- This file proves that a code section decodes alone to its raw bodies, and to the bodies that they
+-- encode.
 use Rattle.std.proofs.Common.{ℕ, ◌≤◌, List, [], ◌∷◌, length, map, refl, sym, subst, arith, length-append}
 use Rattle.std.specs.List.{AllZip}
 use Rattle.wasm_base.specs.Numbers.{Mode, shortest, wide, unsigned_text}
@@ -24,7 +25,7 @@ raw_code_unique = frame_unique (whole_from_alone (vec_unique frame_bytes_unique)
 pub code_section_unique : UniqueReading code_section
 code_section_unique = frame_unique (whole_from_alone (vec_unique frame_body_unique))
 
--- Each frame of a content that fits spells what its bytes spell.
+-- If the total size fits, size-prefixed raw bytes encode the values that the raw bytes encode.
 frames_spelled : {X : Type 0} (mode : Mode) (F : Format X) (raw : List (List ℕ)) (xs : List X) → length (joined (map frame_text raw)) ≤ longest → AllZip (F mode) raw xs → AllZip (frame F mode) (map frame_text raw) xs
 frames_spelled mode F [] [] h g = tt
 frames_spelled mode F [] (x ∷ xs) h g = absurd g
@@ -35,7 +36,7 @@ frames_spelled mode F (bytes ∷ raw) (x ∷ xs) h g =
     let framed = length-append (unsigned_text (length bytes)) bytes in
     (frame_in mode F bytes x (omega (arith, h, whole, framed)) g.0, frames_spelled mode F raw xs (omega (arith, h, whole)) g.1)
 
--- Entries that are frames of raw bodies spell what these do.
+-- Entries that are size-prefixed raw bodies encode the values that the raw bodies encode.
 framed : {X : Type 0} (mode : Mode) (F : Format X) (entries raw : List (List ℕ)) (xs : List X) → HoldsBodies entries raw → SectionFits entries → AllZip (F mode) raw xs → AllZip (frame F mode) entries xs
 framed mode F entries raw xs e fits spelled = subst (λ es. AllZip (frame F mode) es xs) (sym e) (frames_spelled mode F raw xs (content_fits (map frame_text raw) (subst SectionFits e fits)) spelled)
 
@@ -60,7 +61,7 @@ code_section-payload = counted-payload frame_body_unique
 
 pub ruleset payloads = (raw_code-payload, code_section-payload)
 
--- ---- padded numbers
+-- ---- padded LEB128
 
 pub wide-expression : IsUniqueWide expression
 wide-expression = unique_wide expression_unique

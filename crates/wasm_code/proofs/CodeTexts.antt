@@ -1,4 +1,4 @@
--- Texts of expressions, bodies and code sections spell them.
+-- This file proves that the encodings of expressions, bodies and code sections encode them.
 use Rattle.std.proofs.Common.{refl, subst}
 use Rattle.wasm_base.specs.Numbers.{shortest}
 use Rattle.wasm_base.specs.Formats.{any_bytes, such, frame, u32, pair, vec}
@@ -17,7 +17,7 @@ use Rattle.wasm_code.proofs.ExpressionLaws.{expression_unique, expression_spelle
 use Rattle.wasm_code.proofs.BodyLaws.{body_whole, frame_body_unique, run_spelled}
 use Rattle.wasm_code.proofs.CodeLaws.{raw_code_unique, code_section_unique}
 
--- A plain instruction in normal form is spelled by its text.
+-- The encoding of a well-formed instruction in normal form encodes it.
 same_spelled : (i : Plain) → IsNormal i → instruction table shortest (plain_text i) i
 same_spelled i h = subst (λ j. instruction table shortest (plain_text i) j) h.same (plain_spelled table i h.plain)
 

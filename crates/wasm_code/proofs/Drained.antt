@@ -1,4 +1,4 @@
--- What a vector that is drained by value gives.
+-- This file proves which items a vector yields when it is drained by value.
 use Rattle.std.proofs.Common.{◌≡◌, List, length, sym, ◌∙◌}
 use Rattle.std.specs.Iterator.{Drains}
 use Rattle.std.specs.Vec.Iter.{into_iter_items, into_iter_len, into_iter_steps}

@@ -1,4 +1,4 @@
--- Expressions are read uniquely, and plain stored bytes spell them.
+-- This file proves that expressions are unambiguous, and that stored bytes encode them.
 use Rattle.std.proofs.Common.{◌≡◌, ◌≢◌, ℕ, ◌+◌, ◌≤◌, List, [], ◌∷◌, ◌++◌, length, vec_len, vec_capacity, true, false, Option, None, Some, IfSome, Result, Ok, OnOk, map, refl, sym, ap, subst, ◌∙◌, append_assoc, append-nil}
 use Rattle.std.proofs.lemmas.List.Elements.{All-head, All-tail}
 use Rattle.std.specs.Prelude.{⊤}
@@ -24,9 +24,9 @@ use Rattle.wasm_insn.specs.Instructions.{row_of, instruction_text, InstructionFi
 use Rattle.wasm_insn.proofs.InstructionLaws.{alone, reads}
 use Rattle.wasm_code.specs.Expressions.{IsNoEnd, expression, expression_text, StoresIn, StoresInstructions, StoresWide, normal_row, IsPlainInside, Stores, StoresAll, AppendsEach, StoresGiven, instruction_of, first_text}
 
--- ---- unique reading
+-- ---- unambiguous
 
--- An op of the byte 0B alone is End.
+-- The byte 0B alone is the opcode of `end`.
 end_is : (mode : Mode) (s : List ℕ) (op : Op) → op_after 0x0B mode s op → op ≡ Byte 0x0B
 end_is mode s op h = h.1
 
@@ -49,18 +49,18 @@ expression_unique = ended_unique 0x0B not_end_begins (such_unique IsNoEnd alone)
 stored_whole : UniqueWholeReading (members (such IsNoEnd (instruction table)))
 stored_whole = members_whole (λ b. b ≢ 0x0B) not_end_begins (such_unique IsNoEnd alone)
 
--- What is plain is so with padded numbers too.
+-- A minimal encoding of instructions is a possibly padded one.
 pub stores_wider : (bytes : List ℕ) (is : List Plain) → StoresInstructions bytes is → StoresWide bytes is
 stores_wider bytes is stored = stored_whole.spellings.wider shortest wide tt bytes is stored
 
--- ---- texts
+-- ---- encodings
 
--- members, and then more of them
+-- Members, then more of them.
 pub members_join : {X : Type 0} (F : Format X) (mode : Mode) (s t : List ℕ) (xs ys : List X) → members F mode s xs → members F mode t ys → members F mode (s ++ t) (xs ++ ys)
 members_join F mode s t [] ys h g = subst (λ z. members F mode (z ++ t) ys) (sym h) g
 members_join F mode s t (x ∷ xs) ys h g = (h.0, h.1 ++ t, ap (λ z. z ++ t) h.2 ∙ append_assoc h.0 h.1 t, h.3, members_join F mode h.1 t xs ys h.4 g)
 
--- one member
+-- One member.
 pub members_one : {X : Type 0} (F : Format X) (mode : Mode) (s : List ℕ) (x : X) → F mode s x → members F mode s (x ∷ [])
 members_one F mode s x h = (s, [], sym (append-nil s), h, refl)
 
@@ -68,7 +68,7 @@ ended_spelled : {X : Type 0} (stop : ℕ) (F : Format X) (mode : Mode) (s : List
 ended_spelled stop F mode s [] h = ap (λ z. z ++ stop ∷ []) h
 ended_spelled stop F mode s (x ∷ xs) h = (h.0, h.1 ++ stop ∷ [], ap (λ z. z ++ stop ∷ []) h.2 ∙ append_assoc h.0 h.1 (stop ∷ []), h.3, ended_spelled stop F mode h.1 xs h.4)
 
--- What the bytes store, the text spells.
+-- The stored bytes and `end` encode the stored instructions as an expression.
 pub expression_spelled : (mode : Mode) (bytes : List ℕ) (is : List Plain) → StoresIn mode bytes is → expression mode (expression_text bytes) is
 expression_spelled mode bytes is h = ended_spelled 0x0B (such IsNoEnd (instruction table)) mode bytes is h
 
@@ -77,7 +77,7 @@ expression_reads bytes = record { for_each = λ is h. reads_alone {F = expressio
 
 -- ---- calls
 
--- A plain instruction's text spells its normal form.
+-- The encoding of a well-formed instruction encodes its normal form.
 pub normal_spelled : {A : Type 0} (i : Instruction A) → IsPlainInstruction i → instruction table shortest (instruction_text i) (normal_row i)
 normal_spelled i h = ((reads i).alone h).spelled
 
@@ -91,7 +91,7 @@ stores i old new other e = record {
       (members_one (such IsNoEnd (instruction table)) shortest (instruction_text i) (normal_row i) inside));
 }
 
--- An expression that begins with others gains the instruction too.
+-- An expression that begins with other instructions gains the instruction too.
 pub stores_more : (i : Instruction Global) (front old new whole : List ℕ) → front ++ old ≡ whole → IsNoEnd (row_of i) → new ≡ old ++ instruction_text i → Stores i whole (front ++ new)
 stores_more i front old new whole is other e =
     stores i whole (front ++ new) other (ap (λ z. front ++ z) e ∙ sym (append_assoc front old (instruction_text i)) ∙ ap (λ z. z ++ instruction_text i) is)
@@ -124,13 +124,13 @@ stores_given becomes gives elements old new e h =
     let text : new ≡ flat_map instruction_text given.1 = given.5 ∙ ap (λ z. z ++ flat_map instruction_text given.1) e in
     record { ok = (given.0, given.1, given.2, given.3, given.4, text, stores_all given.1 new text); too_long = λ fits is. absurd (cc is) }
 
--- ---- what a call appends
+-- ---- the bytes that a call appends
 
 pub fits_always : {X : Type 0} (part : Option X) → IfSome part (λ x. ⊤)
 fits_always None = tt
 fits_always (Some x) = tt
 
--- What one form of a text promises, another form of it does.
+-- A promise about one form of an encoding holds of an equal form.
 pub appends_whole : {A : Type 0} {Fits : Type 0} {text whole : List ℕ} {old new : Vec ℕ A} {result : Result (Unit {0}) Refused} → Fits → text ≡ whole → Appends text Fits old new result → Appends whole ⊤ old new result
 appends_whole {old = old} {new = new} {result = result} fits e h = record {
   ok = subst (λ t. OnOk result (new.items ≡ old.items ++ t)) e h.ok;

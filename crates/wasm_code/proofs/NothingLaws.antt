@@ -1,4 +1,4 @@
--- Where no code section stands.
+-- This file proves that certain bytes are no code section.
 use Rattle.std.proofs.Common.{◌≡◌, ℕ, ◌<◌, List, [], ◌∷◌, ◌++◌, length, Option, Some, None, refl, sym, ap, subst, ◌∙◌, append_assoc, append-nil, arith, inl, inr}
 use Rattle.std.proofs.lemmas.List.{length-append}
 use Rattle.std.specs.declared.alloc.Global.{Global}
@@ -29,13 +29,13 @@ use Rattle.wasm_code.proofs.BodyLaws.{runs_unique}
 regrouped : (s a b r : List ℕ) → s ≡ a ++ b → s ++ r ≡ a ++ (b ++ r)
 regrouped s a b r e = rw e (append_assoc a b r)
 
--- ---- a memory argument that is cut short
+-- ---- a truncated memory argument
 
 no_groups : (s t r : List ℕ) → [] ≡ t ++ (s ++ r) → AreGroups s → ⊥
 no_groups [] t r e g = g
 no_groups (b ∷ s) t r e g = omega (arith, ap length e, length-append t ((b ∷ s) ++ r))
 
--- After flags 10 an ordering and an offset are left, and there is one byte.
+-- After the flags 10 an ordering and an offset follow, but there is only one byte.
 cut_after : (s back : List ℕ) (m : MemArg) → 0x00 ∷ [] ≡ s ++ back → after_flags 0x10 shortest s m → ⊥
 cut_after s back m e h =
     let target = then_at {F = fixed [] (Memory 0)} {G = λ u. pair (mapped Some mem_ordering) u64} (fixed_unique [] (Memory 0)) shortest [] (Memory 0) (refl, refl) (0x00 ∷ []) s back h.0 e h.2 in
@@ -57,7 +57,7 @@ load = I32Load (record { offset = 0; align = 0; target = Memory 0; ordering = No
 load_row : IsRow table (row_of load)
 load_row = instruction_row load
 
--- `I32Load` has a memory argument alone.
+-- The immediate of `i32.load` is a memory argument.
 load_arguments : (s : List ℕ) (xs : List Argument) → arguments_after (shape_of table (Byte 0x28)) shortest s xs → arguments (parts.Memory ∷ []) shortest s xs
 load_arguments s xs h = subst (λ ps. arguments ps shortest s xs) (sym load_row.parts) (subst (λ o. arguments_after o shortest s xs) load_row.row h)
 
@@ -72,7 +72,8 @@ cut_load s back i e h =
 
 -- ---- sections of one body
 
--- What the one body of a section spells, where sizes and count are one byte each.
+-- The one body of a section whose sizes and count are one byte each has the remaining bytes as its
+-- encoding.
 one_body : (size : ℕ) (content after : List ℕ) (n : ℕ) (xs : List Body) (s rest : List ℕ) → size < 128 → n < 128 → length content ≡ n → length (1 ∷ n ∷ content) ≡ size
     → (size ∷ 1 ∷ n ∷ content) ++ after ≡ s ++ rest → code_section shortest s xs → (x : Body) × body shortest content x
 one_body size content after n xs s rest low small is all e h =

@@ -1,4 +1,4 @@
--- The index that the bytes of `RefFunc` tell.
+-- This file proves which index the bytes of `ref.func` encode.
 use Rattle.std.proofs.Common.{◌≡◌, ℕ, ◌<◌, take, drop, slice_index_or, ◌^◌, List, [], ◌∷◌, ◌++◌, length, ◌-◌, ◌≤◌, ◌≢◌, Some, None, IfSome, append-nil, refl, sym, ap, subst, ◌∙◌, arith}
 use Rattle.wasm_base.specs.Numbers.{wide, groups_sum, unsigned_text}
 use Rattle.wasm_base.specs.Reading.{ReadsNothing}
@@ -12,13 +12,13 @@ use Rattle.wasm_code.specs.declared.first.First.{First}
 use Rattle.wasm_code.specs.declared.first.First.TheVariants as firsts
 use Rattle.wasm_code.specs.Expressions.{BeginsWithRefFunc, IsRefFunc, first_text, index_of}
 
--- What follows the op is the index.
+-- The bytes behind the opcode begin with the index.
 after_op : (bytes rest : List ℕ) (f : ℕ) → bytes ≡ 0xD2 ∷ rest → BeginsWithRefFunc bytes f → (t q : List ℕ) × (rest ≡ t ++ q) × u32 wide t f
 after_op bytes rest f e h =
     let r = tagged_at {F = fixed (0xD2 ∷ []) (tt {0})} {G = λ u. u32} (fixed_unique (0xD2 ∷ []) (tt {0})) wide (0xD2 ∷ []) tt (refl, refl) rest h.read.front h.rest f (sym e ∙ h.read.split) h.read.spelled in
     (r.0, h.rest, r.1, r.2)
 
--- It is the sum of the groups there.
+-- The index is the sum of the groups there.
 same_index : (bytes rest after : List ℕ) (n power last f : ℕ) → bytes ≡ 0xD2 ∷ rest → HasGroups 5 rest n power last after → BeginsWithRefFunc bytes f → (f ≡ n) × (f < 2 ^ 32)
 same_index bytes rest after n power last f e g h =
     let a = after_op bytes rest f e h in
@@ -45,7 +45,7 @@ index_begins bytes rest after n power last e g low = record {
   };
 }
 
--- The op and the rest, as a pattern takes the bytes apart.
+-- The opcode and the suffix, as a slice pattern splits the bytes.
 with_op : (bytes : List ℕ) → 1 ≤ length bytes → slice_index_or bytes 0 0 ≡ 0xD2 → bytes ≡ 0xD2 ∷ take (length bytes - 1) (drop 1 bytes)
 with_op bytes l op = front_and_rest bytes l ∙ ap (λ b. b ∷ take (length bytes - 1) (drop 1 bytes)) op
 
@@ -84,7 +84,7 @@ other_op bytes other = no_index bytes (λ f h. let op = op_there bytes f h in ot
 pub no_bytes : (bytes : List ℕ) → bytes ≡ [] → IsRefFunc bytes None
 no_bytes bytes e = no_index bytes (λ f h. let op = op_there bytes f h in absurd (cc (sym e ∙ op.1)))
 
--- The op and the text of an index.
+-- The opcode, then the encoding of an index.
 index_written : (bytes rest : List ℕ) (n : ℕ) → n < 2 ^ 32 → bytes ≡ 0xD2 ∷ (unsigned_text n ++ rest) → IsRefFunc bytes (Some n)
 index_written bytes rest n low e =
     let begins : BeginsWithRefFunc bytes n = record {
@@ -104,7 +104,7 @@ index_written bytes rest n low e =
       );
     }
 
--- The first instruction, kept as a value, and the bytes after it.
+-- The first instruction, which is kept as a value, then the bytes after it.
 pub first_index : (first : First) (rest : List ℕ) → IfSome (index_of first) (λ index. index < 2 ^ 32) → IsRefFunc (first_text first ++ rest) (index_of first)
 first_index (firsts.GlobalGet index) rest low = other_op _ (λ e. let same : 0x23 ≡ 0xD2 = e in omega (arith, same))
 first_index (firsts.RefNull ty) rest low = other_op _ (λ e. let same : 0xD0 ≡ 0xD2 = e in omega (arith, same))

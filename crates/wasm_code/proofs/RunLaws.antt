@@ -1,4 +1,4 @@
--- Runs of locals: a list of types has one.
+-- This file proves that a list of types has one canonical list of runs.
 use Rattle.std.proofs.Common.{◌≡◌, ◌≢◌, ℕ, zero, suc, ◌+◌, ◌-◌, ◌<◌, ◌≤◌, ◌⊎◌, List, [], ◌∷◌, ◌++◌, refl, sym, ap, ap₂, subst, ◌∙◌, arith, inl, inr, Ok, Err, Option, Result, length, replicate, append_assoc, append-nil}
 use Rattle.std.proofs.lemmas.Bool.{cases_lt}
 use Rattle.std.proofs.lemmas.List.{append_cancel_left, replicate_more}
@@ -24,7 +24,7 @@ begins : (n : ℕ) (t : ValType) (rest : List ValType) → 1 ≤ n → replicate
 begins zero t rest h = absurd (omega arith)
 begins (suc k) t rest h = ap (λ z. t ∷ (replicate z t ++ rest)) (omega arith)
 
--- What follows a run does not begin with its type.
+-- The types after a run do not begin with its type.
 clash : (p : Run) (xs : List Run) (d : ℕ) (rest : List ValType) → IsRuns (p ∷ xs) → 1 ≤ d → expand xs ≡ replicate d p.1 ++ rest → ⊥
 clash p [] d rest h l e = let same : [] ≡ p.1 ∷ (replicate (d - 1) p.1 ++ rest) = e ∙ begins d p.1 rest l in absurd (cc same)
 clash p (q ∷ xs) d rest h l e =
@@ -80,7 +80,7 @@ followed (p ∷ q ∷ rest) n t u other h = (h.0, h.1, followed (q ∷ rest) n t
 expand_last : (rest : List Run) (n : ℕ) (t : ValType) → expand (rest ++ (n, t) ∷ []) ≡ expand rest ++ replicate n t
 expand_last rest n t = expand_join rest ((n, t) ∷ []) ∙ ap (λ z. expand rest ++ z) (append-nil (replicate n t))
 
--- the last run has one more
+-- The count of the last run grows by one.
 pub longer_run : (rest : List Run) (n m : ℕ) (t : ValType) (old new : List Run) → old ≡ rest ++ (n, t) ∷ [] → m ≡ n + 1 → new ≡ rest ++ (m, t) ∷ [] → MoreRuns t old new
 longer_run rest n m t old new before more after = record {
   runs = λ h. subst IsRuns (sym after) (counted rest n m t (omega (arith, more)) (subst IsRuns before h));
@@ -92,14 +92,14 @@ longer_run rest n m t old new before more after = record {
 one_more_run : (old new : List Run) (t : ValType) → new ≡ old ++ (1, t) ∷ [] → expand new ≡ expand old ++ t ∷ []
 one_more_run old new t e = ap expand e ∙ expand_join old ((1, t) ∷ [])
 
--- a run of its own, after one of another type
+-- A new run, after one of another type.
 pub next_run : (rest : List Run) (n : ℕ) (t u : ValType) (old new : List Run) → old ≡ rest ++ (n, t) ∷ [] → (t ≡ u → ⊥) → new ≡ (rest ++ (n, t) ∷ []) ++ (1, u) ∷ [] → MoreRuns u old new
 next_run rest n t u old new before other after = record {
   runs = λ h. subst IsRuns (sym after) (followed rest n t u other (subst IsRuns before h));
   expanded = one_more_run old new u (after ∙ ap (λ z. z ++ (1, u) ∷ []) (sym before));
 }
 
--- the first run
+-- The first run.
 pub first_run : (u : ValType) (old new : List Run) → old ≡ [] → new ≡ old ++ (1, u) ∷ [] → MoreRuns u old new
 first_run u old new before after = record {
   runs = λ h. subst IsRuns (sym (after ∙ ap (λ z. z ++ (1, u) ∷ []) before)) (omega arith);
@@ -111,7 +111,7 @@ first_run u old new before after = record {
 pub are_runs_of : (types : List ValType) (runs : List Run) → IsRuns runs → expand runs ≡ types → AreRunsOf types runs
 are_runs_of types runs are e = record { are_runs = are; expanded = e; only = λ others h g. unique others runs h are (g ∙ sym e) }
 
--- Where the last run is full, the runs of one more type of it don't fit.
+-- If the last run is full, no runs of the types and one more of its type fit.
 overfull : (t : ValType) (old : List Run) (types : List ValType) → IsRuns old → expand old ≡ types → ((runs : List Run) → AreRunsOf (types ++ t ∷ []) runs → RunsFit runs) → IsFull t old → ⊥
 overfull t old types are e fits full =
     let new : List Run = full.others ++ (full.count + 1, t) ∷ [] in
@@ -119,14 +119,14 @@ overfull t old types are e fits full =
     let all = fits new (are_runs_of (types ++ t ∷ []) new (more.runs are) (more.expanded ∙ ap (λ z. z ++ t ∷ []) e)) in
     omega (arith, full.full, All-last IsCounted full.others (full.count + 1, t) all.counts)
 
--- so that the call is refused for another reason
+-- A call that adds a local therefore fails for another reason.
 pub not_full : (result : Result (Unit {0}) Refused) (t : ValType) (old : List Run) (types : List ValType) → IsRuns old → expand old ≡ types → ((runs : List Run) → AreRunsOf (types ++ t ∷ []) runs → RunsFit runs)
     → (result ≡ Err TooLong → IsFull t old) → result ≢ Err TooLong
 not_full result t old types are e fits full is = overfull t old types are e fits (full is)
 
 -- ---- calls
 
--- The runs of the types that are given, handed in as runs.
+-- The call that takes the types passes their runs on.
 pub types_given : {U S V W A : Type 0} (becomes : U → S → Type 0) (gives : S → Option ValType → S → Type 0) (vec_becomes : V → W → Type 0) (vec_gives : W → Option Run → W → Type 0) (remaining : W → Count)
     (elements : U) (given : V) (runs : Vec Run A) (result : Result (List ℕ) Refused)
     → ((it : W) (xs : List Run) → vec_becomes given it → Drains vec_gives it xs → xs ≡ runs.items) → ((it : W) → vec_becomes given it → size (remaining it) ≡ length runs.items)

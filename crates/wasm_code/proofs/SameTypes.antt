@@ -1,4 +1,4 @@
--- Value types that `==` finds equal are one.
+-- This file proves that value types that `==` finds equal are equal.
 use Rattle.std.proofs.Common.{◌≡◌, Bool, true, false, ap, refl, rules}
 use denote.Enum.Bare.{same_true}
 use Rattle.wasm_base.specs.contracts.types.AbstractHeapType.{the_type}

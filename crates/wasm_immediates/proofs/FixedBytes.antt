@@ -1,4 +1,4 @@
--- Fixed bytes, as the library writes them.
+-- This file proves that the library writes fixed-width numbers as the definitions encode them.
 use Rattle.std.proofs.Common.{◌≡◌, ℕ, zero, suc, ◌/◌, ◌%◌, ◌^◌, ◌∷◌, refl, ap, ap₂, ◌∙◌, arith}
 use Rattle.std.proofs.Math.Nat.{pow-suc, div-div-eq-div-mul}
 use Rattle.std.specs.Int.{w32, w64, w128, to_le_bytes, byte_at, bytes_low_first}
@@ -29,7 +29,7 @@ eight_bytes n = from_first 8 n
 pub sixteen_bytes : (n : ℕ) → to_le_bytes w128 n ≡ little_endian_text 16 n
 sixteen_bytes n = from_first 16 n
 
--- a vector's bytes
+-- The bytes of a vector.
 pub vector_bytes : (v : ℤ) → to_le_bytes w128 (cast_unsigned w128 v) ≡ vector_text v
 unfolding vector_text
 vector_bytes (pos n) = sixteen_bytes n

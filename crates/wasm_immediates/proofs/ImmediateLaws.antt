@@ -1,4 +1,4 @@
--- Immediates are read uniquely.
+-- This file proves that immediates are unambiguous.
 use Rattle.std.proofs.Common.{◌≡◌, ◌≢◌, ℕ, zero, suc, ◌+◌, ◌*◌, ◌/◌, ◌%◌, ◌^◌, ◌<◌, List, [], ◌∷◌, Bool, true, false, cond, eqb, Option, refl, sym, ap, ◌∙◌, arith, ℤ, pos, negsuc}
 use Rattle.std.proofs.lemmas.Bool.{eqb-true, eqb-false, ltb-true}
 use Rattle.std.specs.Prelude.{nat_lt}
@@ -67,7 +67,7 @@ mem_arg_with_unique align ordered array other =
     mapped_unique (mem_arg_of align) (mem_arg_apart align)
     (pair_unique (target_unique array other) (pair_unique (optional_unique ordered mem_ordering_unique) u64_unique))
 
--- a bit as a number
+-- The number of a bit.
 pub bit_value : (b : Bool) (n : ℕ) → n < 2 → eqb n 1 ≡ b → n ≡ where_set b 1
 bit_value true n low e = eqb-true n 1 e
 bit_value false n low e = none (eqb-false n 1 e)
@@ -75,7 +75,7 @@ bit_value false n low e = none (eqb-false n 1 e)
     none : (n ≡ 1 → ⊥) → n ≡ 0
     none h = omega arith
 
--- what the target adds to the flags
+-- The contribution of the target to the flags.
 abbrev target_flags : MemArgTarget → ℕ
 target_flags t = 2 * where_set (is_array t) 1 + 4 * where_set (has_memory t) 1
 
@@ -93,7 +93,7 @@ ordering_tells : (ordered : Bool) (mode : Mode) (s : List ℕ) (o : Option MemAr
 ordering_tells true mode s o h = ap (λ p. where_set (has_ordering p) 1) h.1
 ordering_tells false mode s o h = ap (λ p. where_set (has_ordering p) 1) (sym h.1)
 
--- the flags of a plain memory argument, as a sum
+-- The flags of a well-formed memory argument, as a sum.
 abbrev flags_of : MemArg → ℕ
 flags_of m = m.align + 16 * (where_set (has_ordering m.ordering) 1 + target_flags m.target)
 

@@ -1,4 +1,4 @@
--- The texts of plain immediates spell their normal form.
+-- This file proves that the encodings of well-formed immediates encode their normal forms.
 use Rattle.std.proofs.Common.{◌≡◌, ℕ, zero, suc, ◌+◌, ◌*◌, ◌%◌, ◌^◌, ◌<◌, List, [], ◌∷◌, ◌++◌, Bool, true, false, eqb, Option, Some, None, refl, sym, ap, ap₂, subst, ◌∙◌, arith, inl, inr, ℤ, pos, negsuc}
 use Rattle.std.proofs.lemmas.Bool.{lt-ltb, ne_eqb}
 use Rattle.std.proofs.lemmas.Nat.{or_shifted, or_comm}
@@ -30,9 +30,9 @@ use Rattle.wasm_immediates.specs.Immediates.{mem_ordering_code, index_of, has_or
 use Rattle.wasm_immediates.specs.PlainImmediates.{IsNormalMemory, ReadsMemoryArgument, ordering_text, ordering_format, vector_format, normal_ordering, normal_order, normal_memory, IsPlainTarget, IsPlainMemory, IsPlainBlock, IsPlainCatch, IsPlainHandle, IsVector, block_type, mem_ordering, bit, target_of, mem_arg_with, after_flags, mem_arg, catch, handle}
 use Rattle.wasm_immediates.proofs.ImmediateLaws.{ordering_unique, mem_arg_unique, block_unique, catch_unique, handle_unique, vector_unique, block_tags, block_result}
 
--- ---- the texts of memory arguments
+-- ---- the encodings of memory arguments
 
--- one where the bit is set
+-- A bit of weight 1 is below 2.
 one_or_none : (b : Bool) → where_set b 1 < 2
 one_or_none true = omega arith
 one_or_none false = omega arith
@@ -122,7 +122,7 @@ memory_spelled m h =
       },
     )
 
--- ---- the texts of the others
+-- ---- the encodings of other immediates
 
 result_spelled : (s : List ℕ) (t : ValType) → val_type shortest s t → tagged byte (choice block_tags block_result) shortest s (blocks.Result t)
 result_spelled s t h =
@@ -144,7 +144,7 @@ block_spelled blocks.Empty h = inl (tagged_spelled shortest 0x40 [] blocks.Empty
 block_spelled (blocks.Result t) h = inl (result_spelled (val_text t) t (val-texts.spelled t h))
 block_spelled (blocks.FunctionType index) h = inr (index, refl, s33_spelled index h)
 
--- two numbers after a byte
+-- Two numbers, one after another.
 numbers_spelled : (a b : ℕ) → a < 2 ^ 32 → b < 2 ^ 32 → pair u32 u32 shortest (unsigned_text a ++ unsigned_text b) (a, b)
 numbers_spelled a b h g = record { front = unsigned_text a; back = unsigned_text b; joined = refl; first = u32_spelled a h; second = u32_spelled b g }
 
@@ -211,6 +211,6 @@ wide-vector = unique_wide vector_unique
 
 pub ruleset wide_immediates = (wide-ordering, wide-mem_arg, wide-block, wide-catch, wide-handle, wide-vector)
 
--- for the tactics: a number of one byte
+-- For the tactics: a number below 128 is one byte.
 pub one_byte : (n : ℕ) → n < 128 → unsigned_text n ≡ n ∷ []
 one_byte n h = one_group false 128 n h

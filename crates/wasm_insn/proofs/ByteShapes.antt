@@ -1,4 +1,4 @@
--- The shapes of one-byte ops, each at its place.
+-- This file proves that the list of one-byte shapes has the shape of each opcode at its index.
 use Rattle.std.proofs.Common.{◌≡◌, ℕ, ◌<◌, map, Option, get_or, refl, sym, ap, ◌∙◌, arith}
 use Rattle.std.proofs.lemmas.List.FromFn.{get_or-map-range_with_len}
 use Rattle.std.specs.List.{range_with_len}

@@ -1,4 +1,5 @@
--- The cases are the rows of the table, and each instruction is one of the cases.
+-- This file proves that the cases are the rows of the table, and that each instruction is one of
+-- the cases.
 use Rattle.std.proofs.Common.{◌≡◌, ℕ, zero, suc, pos, List, [], ◌∷◌, false, cond, Some, None, slice_get, refl, arith}
 use Rattle.std.specs.List.{Contains}
 use Rattle.wasm_base.specs.declared.cow.CowSlice.{CowSlice}
@@ -47,7 +48,7 @@ any_heap = heaps.Concrete 0
 abbrev any_reference : RefType
 any_reference = record { nullable = false; heap_type = any_heap }
 
--- fields for an instruction without any
+-- The fields for an instruction without fields.
 abbrev no_fields : {A : Type 0} → Given A
 no_fields = record {
   index = 0;
@@ -70,7 +71,7 @@ no_fields = record {
   handles = no_items;
 }
 
--- An index becomes the first, and the first the second.
+-- A new index becomes the first, and the first becomes the second.
 abbrev with_argument : {A : Type 0} → Argument → Given A → Given A
 with_argument (unsigned n) given = record given { index = n; second_index = given.index }
 with_argument (signed32 v) given = record given { signed = v }
@@ -90,7 +91,8 @@ abbrev with_arguments : {A : Type 0} → List Argument → Given A
 with_arguments [] = no_fields
 with_arguments (x ∷ xs) = with_argument x (with_arguments xs)
 
--- A row does not say whether a list is borrowed, nor which of two types a bit of a flag is of.
+-- The fields of an instruction. Its row does not determine them: it hides whether a list is
+-- borrowed, and which reference types the flags of a cast come from.
 abbrev fields_of : {A : Type 0} → Instruction A → Given A
 fields_of (cases.BrTable a b) = record no_fields { labels = a; index = b }
 fields_of (cases.TypedSelect a) = record no_fields { value = a }
@@ -105,14 +107,14 @@ fields_of (cases.BrOnCastDescEq a b c) = record no_fields { index = a; from = b;
 fields_of (cases.BrOnCastDescEqFail a b c) = record no_fields { index = a; from = b; to = c }
 fields_of i = with_arguments (row_of i).arguments
 
--- ---- its place
+-- ---- its index in the table
 
--- how many rows stand before the first one of the op
+-- The number of rows before the first one of the opcode.
 abbrev place_in : Table → Op → ℕ
 place_in [] op = 0
 place_in (row ∷ rows) op = cond (same_op row.0 op) 0 (suc (place_in rows op))
 
--- Two rows have the op 1C.
+-- The index of the instruction's row. Two rows have the opcode 1C.
 abbrev place_of : {A : Type 0} → Instruction A → ℕ
 place_of (cases.TypedSelectMulti a) = suc (place_in table (Byte 0x1C))
 place_of i = place_in table (row_of i).op

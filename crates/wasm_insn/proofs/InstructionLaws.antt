@@ -1,4 +1,4 @@
--- The laws of the opcode table, and of instructions over it.
+-- This file proves the laws of the opcode table and of its instructions.
 use Rattle.std.proofs.Common.{◌≡◌, ℕ, ◌^◌, ◌<◌, List, [], ◌∷◌, ◌++◌, Bool, true, false, Some, ◌&&◌, refl, sym, ap, ◌∙◌, append-nil}
 use Rattle.std.specs.List.{AllByRecursion}
 use Rattle.std.proofs.lemmas.Bool.{and_parts}
@@ -71,27 +71,27 @@ one_text i j = record { exactly = λ h g. same_text table (row_of i) (row_of j) 
 abbrev br_table_row : List ℕ → ℕ → Plain
 br_table_row ls default = record { op = Byte 0x0E; arguments = labels ls ∷ unsigned default ∷ [] }
 
--- The text of `BrTable` spells its row, where its labels can be counted.
+-- The encoding of `br_table` encodes its row if its labels are in range and fit.
 pub br_table_spelled : (ls : List ℕ) (default : ℕ) → VecFits (λ n. n < 2 ^ 32) ls → default < 2 ^ 32 → instruction table shortest (br_table_text ls default) (br_table_row ls default)
 br_table_spelled ls default fits range = plain_spelled table (br_table_row ls default) (record { shape = Bt; opcode = refl; row = byte_shape 0x0E; parts = refl; arguments = (fits, (range, tt)) })
 
 pub alone : UniqueReading (instruction table)
 alone = instruction_unique table
 
--- an instruction whose op is one byte, with padded numbers in its arguments or without
+-- An instruction with a one-byte opcode encodes its immediates, minimally or padded.
 pub byte_spelled : (mode : Mode) (b : ℕ) (bytes : List ℕ) (shape : Shape) (xs : List Argument) → is_prefix b ≡ false → shape_of table (Byte b) ≡ Some shape → arguments (parts_of shape) mode bytes xs
     → instruction table mode (b ∷ bytes) (record { op = Byte b; arguments = xs })
 byte_spelled mode b bytes shape xs other row spelled =
     ((Byte b, xs), refl, record { front = b ∷ []; back = bytes; joined = refl; first = tagged_spelled mode b [] (Byte b) (rw other (refl, refl)); second = rw row spelled })
 
--- an argument alone
+-- One immediate.
 pub one_argument : (mode : Mode) (p : Part) (bytes : List ℕ) (x : Argument) → part p mode bytes x → arguments (p ∷ []) mode bytes (x ∷ [])
 one_argument mode p bytes x h = ((x, []), refl, record { front = bytes; back = []; joined = sym (append-nil bytes); first = h; second = (refl, refl) })
 
 pub wide-instruction : IsUniqueWide (instruction table)
 wide-instruction = unique_wide alone
 
--- An instruction begins with the byte of its op.
+-- The encoding of an instruction is not empty.
 pub any_begins : BeginsWith (λ b. Unit {0}) (instruction table)
 any_begins mode s i h =
     let op = h.2.first in

@@ -1,4 +1,5 @@
--- Instructions are read uniquely, whatever the table, and plain ones are spelled by their text.
+-- This file proves that instructions are unambiguous for every table, and that well-formed ones
+-- have their encoding.
 use Rattle.std.proofs.Common.{◌≡◌, ℕ, ◌+◌, ◌*◌, ◌^◌, ◌<◌, List, [], ◌∷◌, ◌++◌, Bool, true, false, Option, Some, None, refl, sym, ap, subst, arith}
 use Rattle.std.specs.Prelude.{map, ◌↔◌}
 use Rattle.wasm_base.specs.Numbers.{shortest, unsigned_text, wide, builders}
@@ -46,7 +47,7 @@ pub opcode_spelled : (op : Op) → IsOpcode op → opcode shortest (op_text op) 
 opcode_spelled (Byte b) h = tagged_spelled shortest b [] (Byte b) (rw h (refl, refl))
 opcode_spelled (Prefixed p n) h = let prefix = h.0 in tagged_spelled shortest p (unsigned_text n) (Prefixed p n) (rw prefix (n, refl, u32_spelled n h.1))
 
--- ---- parts and instructions
+-- ---- immediates and instructions
 
 abbrev float_bits : Argument → ℕ
 float_bits (float32 float) = float.bits
@@ -92,9 +93,9 @@ plain_apart x y e = ap (λ i. (i.op, i.arguments)) e
 pub instruction_unique : (table : Table) → UniqueReading (instruction table)
 instruction_unique table = mapped_unique plain_of plain_apart (Then_unique opcode_unique (λ op. arguments_after_unique (shape_of table op)))
 
--- ---- the texts of arguments
+-- ---- the encodings of immediates
 
--- an argument's text spells its normal form
+-- The encoding of an immediate encodes its normal form.
 pub argument_spelled : (x : Argument) → IsPlainArgument x → part (part_of x) shortest (argument_text x) (normal_argument x)
 argument_spelled (unsigned n) h = (n, refl, u32_spelled n h)
 argument_spelled (signed32 v) h = (v, refl, s32_spelled v h)
@@ -122,9 +123,9 @@ arguments_spelled (x ∷ xs) h = (
   record { front = argument_text x; back = arguments_text xs; joined = refl; first = argument_spelled x h.0; second = arguments_spelled xs h.1 },
 )
 
--- ---- the texts of instructions
+-- ---- the encodings of instructions
 
--- The text of a plain instruction spells its normal form.
+-- The encoding of a well-formed instruction encodes its normal form.
 pub spelled : (table : Table) (i : Plain) (shape : Shape) → IsOpcode i.op → shape_of table i.op ≡ Some shape → map part_of i.arguments ≡ parts_of shape → ArePlain i.arguments
     → instruction table shortest (op_text i.op ++ arguments_text i.arguments) (normal i)
 spelled table i shape is_op row given plain =
@@ -139,11 +140,11 @@ spelled table i shape is_op row given plain =
 pub plain_spelled : (table : Table) (i : Plain) → IsPlain table i → instruction table shortest (plain_text i) (normal i)
 plain_spelled table i h = spelled table i h.shape h.opcode h.row h.parts h.arguments
 
--- The text of a plain instruction is read as its normal form alone.
+-- The encoding of a well-formed instruction decodes to its normal form alone.
 pub plain_unique : (table : Table) (i : Plain) → IsPlain table i → ReadsAlone (instruction table) (plain_text i) (normal i)
 plain_unique table i h = reads_alone {F = instruction table} (instruction_unique table) (plain_spelled table i h)
 
--- Plain instructions have one text exactly where they have one normal form.
+-- Two well-formed instructions have the same encoding exactly if they have the same normal form.
 pub same_text : (table : Table) (i j : Plain) → IsPlain table i → IsPlain table j → (plain_text i ≡ plain_text j) ↔ (normal i ≡ normal j)
 same_text table i j h g =
     let f = instruction_unique table in

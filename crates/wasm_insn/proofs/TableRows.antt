@@ -1,4 +1,4 @@
--- Each case of the enums is a row of the table.
+-- This file proves that each case of the enums is a row of the table.
 use Rattle.std.proofs.Common.{◌≡◌, ℕ, List, [], map, Bool, true, false, not, cond, eqb, ltb, ◌&&◌, ◌^◌, Option, Some, None, refl, ap, ◌∙◌}
 use Rattle.std.proofs.lemmas.Bool.{eqb-true, eqb-false, ltb-true, not-true, and_parts}
 use Rattle.wasm_insn.specs.declared.op.Op.{Op}
@@ -32,7 +32,7 @@ use Rattle.wasm_insn.specs.VectorImmediate.{vector_immediate_row}
 use Rattle.wasm_insn.specs.Atomic.{atomic_row}
 use Rattle.wasm_insn.proofs.TableRuns.{byte_shape, fb_shape, fc_shape, fd_shape, fe_shape, no_prefix_shape}
 
--- ---- a look-up by runs, at any op
+-- ---- a lookup by runs, for any opcode
 
 abbrev by_runs : Op → Option Shape
 by_runs (Byte n) = shape_in one_byte n
@@ -50,7 +50,7 @@ shape_by_runs : (op : Op) → shape_of table op ≡ by_runs op
 shape_by_runs (Byte n) = byte_shape n
 shape_by_runs (Prefixed p n) = prefixed p n (eqb p 0xFB) (eqb p 0xFC) (eqb p 0xFD) (eqb p 0xFE) refl refl refl refl
 
--- ---- what is computed for each case
+-- ---- the computation for each case
 
 abbrev pub is_op : Op → Bool
 is_op (Byte b) = ltb b 0x100 && not (is_prefix b)
@@ -65,7 +65,7 @@ IfRow false shape ps = ⊥
 IfRow true None ps = ⊥
 IfRow true (Some shape) ps = ps ≡ parts_of shape
 
--- The op is one, and the runs give it a shape of the arguments' parts.
+-- The opcode is one of the table, and the runs give it the shape of these immediates.
 abbrev Computes : Plain → Type 0
 Computes i = IfRow (is_op i.op) (by_runs i.op) (map part_of i.arguments)
 

@@ -1,4 +1,4 @@
--- A look-up in the table is one in its runs.
+-- This file proves that a lookup in the table is a lookup in its runs.
 use Rattle.std.proofs.Common.{◌≡◌, ◌≢◌, ℕ, zero, suc, ◌+◌, ◌-◌, ◌<◌, ◌≤◌, ◌⊎◌, List, [], ◌∷◌, ◌++◌, map, Bool, true, false, eqb, leb, Option, Some, None, refl, sym, ap, ◌∙◌, arith, inl, inr, append_assoc}
 use Rattle.std.proofs.lemmas.Bool.{eqb-false, eq-eqb, cases_lt, ne_eqb, leb-true, leb-false, and_parts, and_cases}
 use Rattle.std.proofs.lemmas.Bool.Decides.{nat_tests}
@@ -10,16 +10,16 @@ use Rattle.wasm_insn.specs.declared.table.Run.{Run}
 use Rattle.wasm_insn.specs.Plain.{Table, same_op, shape_of}
 use Rattle.wasm_insn.specs.Table.{one_byte, after_fb, after_fc, after_fd, after_fe, count_up, rows_of, table_of, table, has_number, shape_in}
 
--- the first of two answers that is one
+-- The first of two optional shapes that is there.
 abbrev or_else : Option Shape → Option Shape → Option Shape
 or_else None y = y
 or_else (Some x) y = Some x
 
--- Ops made of numbers are the same where their numbers are.
+-- Opcodes made of numbers are equal exactly if their numbers are.
 abbrev TellsNumber : (ℕ → Op) → Type 0
 TellsNumber op = (a b : ℕ) → same_op (op a) (op b) ≡ eqb a b
 
--- None of the ops made of numbers is this one.
+-- None of the opcodes made of numbers is this one.
 abbrev IsNever : (ℕ → Op) → Op → Type 0
 IsNever op other = (a : ℕ) → same_op (op a) other ≡ false
 
@@ -74,7 +74,7 @@ never_up : (op : ℕ → Op) (s : Shape) (rest : Table) (other : Op) (k m : ℕ)
 never_up op s rest other zero m never = refl
 never_up op s rest other (suc k) m never = rw (never m) (never_up op s rest other k (m + 1) never)
 
--- Rows whose ops are never this one are passed over.
+-- The lookup skips rows whose opcodes are never this one.
 passed : (op : ℕ → Op) (rest : Table) (other : Op) → IsNever op other → (runs : List Run) → shape_of (flat_map (rows_of op) runs ++ rest) other ≡ shape_of rest other
 passed op rest other never [] = refl
 passed op rest other never (r ∷ runs) =
@@ -88,7 +88,7 @@ or_else-None (Some x) = refl
 
 -- ---- the whole table
 
--- the rows after the one-byte ops, and after each prefix
+-- The rows after the one-byte opcodes, and after each prefix.
 abbrev from_fe : (fe : List Run) → Table
 from_fe fe = flat_map (rows_of (Prefixed 0xFE)) fe ++ []
 
@@ -119,7 +119,7 @@ past_fc fc fd fe other c d e = passed (Prefixed 0xFC) (from_fd fd fe) other c fc
 past_fb : (fb fc fd fe : List Run) (other : Op) → IsNever (Prefixed 0xFB) other → IsNever (Prefixed 0xFC) other → IsNever (Prefixed 0xFD) other → IsNever (Prefixed 0xFE) other → shape_of (from_fb fb fc fd fe) other ≡ None
 past_fb fb fc fd fe other b c d e = passed (Prefixed 0xFB) (from_fc fc fd fe) other b fb ∙ past_fc fc fd fe other c d e
 
--- the answer among the runs, where no row after them has the op
+-- The shape by the runs, if no row after them has the opcode.
 only_among : (op : ℕ → Op) (rest : Table) (n : ℕ) → TellsNumber op → (runs : List Run) → shape_of rest (op n) ≡ None → shape_of (flat_map (rows_of op) runs ++ rest) (op n) ≡ shape_in runs n
 only_among op rest n tells runs none = among op rest n tells runs ∙ ap (or_else (shape_in runs n)) none ∙ or_else-None (shape_in runs n)
 

@@ -1,4 +1,5 @@
--- A value that has an encoding: so have its parts, and every count and size of its minimal encoding can be written.
+-- This file proves that if a value has an encoding, its parts have one, and its minimal encoding
+-- has no count or size that is too large.
 use Rattle.std.proofs.Common.{◌≡◌, ◌≢◌, Result, Ok, Err, IsErrAnd, ℕ, zero, suc, ◌+◌, ◌<◌, ◌≤◌, List, [], ◌∷◌, ◌++◌, length, drop, get_or, map, refl, sym, ap, subst, ◌∙◌, arith}
 use Rattle.std.proofs.lemmas.List.{drop_at, length-map}
 use Rattle.std.proofs.lemmas.Int.{ints}
@@ -11,7 +12,7 @@ use Rattle.wasm_base.specs.declared.refused.Refused.{Refused}
 use Rattle.wasm_base.specs.declared.refused.Refused.TheVariants.{TooLong}
 use Rattle.wasm_reader_base.specs.Shortest.{AppendsShortest, HasEncoding}
 
--- as `?` passes an error on
+-- `?` propagates an error that is not `TooLong`.
 pub stays_short : {T U : Type 0} (r : Result T Refused) (q : Result U Refused) (e : Refused) → q ≡ Err e → IsErrAnd r (λ y. y ≡ e) → q ≢ Err TooLong → r ≢ Err TooLong
 stays_short (Ok x) q e is h p = elim h [ ]
 stays_short (Err y) q e is h p = λ k. p (cc (is, h, k))
@@ -25,22 +26,22 @@ module _ {X Y : Type 0} (F : Format X) where
   pub right_encoded : (G : Format Y) (x : X) (y : Y) → HasEncoding (pair F G) (x, y) → HasEncoding G y
   right_encoded G x y h = record { bytes = h.decoded.back; decoded = h.decoded.second }
 
-  -- the value behind a tag that it tells
+  -- The value behind a tag that it determines has an encoding.
   pub tagged_encoded : (G : X → Format Y) (x : X) (y : Y) → ((s : List ℕ) (z : X) → G z wide s y → z ≡ x) → HasEncoding (tagged F G) y → HasEncoding (G x) y
   tagged_encoded G x y told h =
       let d = h.decoded in
       let at_y : G d.0.0 wide d.2.back y = subst (λ z. G d.0.0 wide d.2.back z) d.1 d.2.second in
       record { bytes = d.2.back; decoded = subst (λ z. G z wide d.2.back y) (told d.2.back d.0.0 at_y) at_y }
 
--- the value behind fixed bytes
+-- The value behind fixed bytes has an encoding.
 pub prefixed_encoded : {X : Type 0} (head : List ℕ) (F : Format X) (x : X) → HasEncoding (prefixed head F) x → HasEncoding F x
 prefixed_encoded head F x h = let d = h.decoded in record { bytes = d.2.back; decoded = subst (λ z. F wide d.2.back z) d.1 d.2.second }
 
--- the value whose image it is, by a function that keeps values apart
+-- The argument of an injective function has an encoding.
 pub mapped_encoded : {X Y : Type 0} (f : X → Y) (F : Format X) (x : X) → ((z : X) → f z ≡ f x → z ≡ x) → HasEncoding (mapped f F) (f x) → HasEncoding F x
 mapped_encoded f F x apart h = let d = h.decoded in record { bytes = h.bytes; decoded = subst (λ z. F wide h.bytes z) (apart d.0 d.1) d.2 }
 
--- what holds of all that is decoded
+-- A value that has an encoding has every property of decoded values.
 pub decoded_fits : {X : Type 0} (Q : X → Type 0) (F : Format X) (x : X) → AllValues Q F → HasEncoding F x → Q x
 decoded_fits Q F x all h = all wide h.bytes x h.decoded
 
@@ -61,24 +62,24 @@ module _ {X : Type 0} (F : Format X) (xs : List X) where
   pub counted_fits : HasEncoding (vec F) xs → length xs ≤ longest
   counted_fits h = omega (arith, h.decoded.first.range)
 
--- of a list that is viewed
+-- A list whose views have an encoding as a vector has at most 2^32 - 1 members.
 pub viewed_fits : {T X : Type 0} (F : Format X) (view : T → X) (xs : List T) → HasEncoding (vec F) (map view xs) → length xs ≤ longest
 viewed_fits F view xs h = omega (arith, counted_fits F (map view xs) h, length-map xs view)
 
--- ---- frames
+-- ---- size-prefixed bytes
 
 module _ {X : Type 0} (F : Format X) (x : X) where
   pub content_encoded : HasEncoding (frame F) x → HasEncoding F x
   content_encoded h = record { bytes = h.decoded.content; decoded = h.decoded.spelled }
 
-  -- The minimal encoding is no longer than what some frame holds.
+  -- The size of the minimal encoding fits if some payload encodes the value.
   pub minimal_fits : (text : List ℕ) → HasSpellings F → F shortest text x → HasEncoding (frame F) x → FrameFits text
   minimal_fits text k g h =
       let d = h.decoded in
       let least = k.shorter builders d.content x d.spelled in
       omega (arith, least.2, ap length (k.one builders text least.0 x g least.1), d.size.range)
 
-  -- what was appended behind the old bytes
+  -- The size of the bytes that were appended to the old ones fits.
   pub behind_fits : (start : ℕ) (old new : List ℕ) → HasSpellings F → start ≡ length old → AppendsShortest F x old new → HasEncoding (frame F) x → FrameFits (drop start new)
   behind_fits start old new k e a h =
       let behind : drop start new ≡ a.text = ap (drop start) a.appended ∙ drop_at old a.text start (sym e) in

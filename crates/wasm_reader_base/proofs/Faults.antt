@@ -1,14 +1,14 @@
--- A fault that is passed on.
+-- This file proves that an error remains true when a call propagates it.
 use Rattle.std.proofs.Common.{◌≡◌, ◌≢◌, Result, Ok, Err, IfOk, IfErr, IsErrAnd, ◌∙◌}
 use Rattle.wasm_reader_base.specs.declared.fault.ReadFault.{ReadFault}
 use Rattle.wasm_reader_base.specs.declared.fault.ReadFault.TheVariants.{Memory}
 
--- as `?` does
+-- `?` propagates the error.
 pub fault_stays : {T P : Type 0} (r : Result T ReadFault) (f : ReadFault) → IsErrAnd r (λ y. y ≡ f) → (f ≢ Memory → P) → IfErr r (λ e. e ≢ Memory → P)
 fault_stays (Ok x) f h p = elim h [ ]
 fault_stays (Err e) f h p = λ n. p (λ k. n (h ∙ k))
 
--- What a result says, as another call has it.
+-- A property of the result that another one implies.
 pub if_ok_more : {T E : Type 0} (r : Result T E) {P Q : T → Type 0} → ((x : T) → P x → Q x) → IfOk r P → IfOk r Q
 if_ok_more (Ok x) f p = f x p
 if_ok_more (Err e) f p = p
@@ -17,7 +17,7 @@ pub if_err_more : {T E : Type 0} (r : Result T E) {P Q : E → Type 0} → ((e :
 if_err_more (Ok x) f p = p
 if_err_more (Err e) f p = f e p
 
--- A refusal of memory says nothing.
+-- The error `Memory` implies nothing about the bytes.
 pub memory_stays : {T : Type 0} (P : Type 0) (r : Result T ReadFault) → IsErrAnd r (λ y. y ≡ Memory) → IfErr r (λ e. e ≢ Memory → P)
 memory_stays P (Ok x) h = elim h [ ]
 memory_stays P (Err e) h = λ n. absurd (n h)

@@ -1,4 +1,4 @@
--- Fixed bytes, as the library reads them.
+-- This file proves that the library reads fixed-width numbers as the definitions encode them.
 use Rattle.std.proofs.Common.{◌≡◌, inl, inr, ℕ, zero, suc, ◌-◌, ◌^◌, ◌<◌, ◌≤◌, List, [], ◌∷◌, ◌++◌, length, take, drop, slice_index_or, ℤ, refl, sym, ap, subst, ◌∙◌, arith}
 use Rattle.std.proofs.lemmas.Bool.{cases_lt}
 use Rattle.std.proofs.lemmas.List.{take-append-drop, length-take-le, length-append}
@@ -55,7 +55,7 @@ four_read v bytes front rest h e f l is = chunk_reads 4 v bytes front rest h l e
 pub eight_read : (v : ℕ) (bytes front rest : List ℕ) → AreBytes bytes → front ≡ take 8 bytes → rest ≡ drop 8 bytes → 8 ≤ length bytes → v ≡ from_le_bytes w64 front → Reads (little_endian 8) wide bytes v rest
 eight_read v bytes front rest h e f l is = chunk_reads 8 v bytes front rest h l e f (sym (is ∙ sum_8 front (length_of 8 bytes front l e)))
 
--- a number of 128 bits in two's complement
+-- A number of 128 bits is the two's complement of its signed value.
 signed_128 : (n : ℕ) (v : ℤ) → n < 2 ^ 128 → v ≡ cast_signed w128 n → (twos_complement 128 v ≡ n) × IsVector v
 signed_128 n v l e =
     elim (cases_lt n (2 ^ 127)) [

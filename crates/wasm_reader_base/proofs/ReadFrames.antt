@@ -1,4 +1,4 @@
--- Frames, bytes and names.
+-- This file proves how readers decode size-prefixed bytes and names.
 use Rattle.std.proofs.Common.{◌≡◌, ◌≢◌, ℕ, ◌<◌, ◌≤◌, List, [], ◌∷◌, ◌++◌, length, take, drop, refl, sym, ap, subst, ◌∙◌, append-nil, IsUtf8, arith}
 use Rattle.wasm_base.specs.Going.{FillsNothing}
 use Rattle.wasm_base.specs.Numbers.{wide}
@@ -20,7 +20,7 @@ bytes_short bytes rest n h l = frame_nothing_short h l
 
 pub ruleset frame_steps = (bytes_read, bytes_no_size, bytes_short)
 
--- ---- what the bytes of a frame spell together
+-- ---- a value that the payload as a whole encodes
 
 pub filled_reads : {X : Type 0} (F : Format X) (bytes content rest : List ℕ) (x : X) → Reads (frame any_bytes) wide bytes content rest → F wide content x → Reads (frame F) wide bytes x rest
 filled_reads F bytes content rest x h g =
@@ -40,13 +40,13 @@ filled_nothing F bytes content rest h n = record {
   none = λ x last g. n.none x (subst (λ z. F wide z x) (sym (reads_same frame_bytes_unique h (any_frame F bytes last x g)).0) g.spelled.spelled);
 }
 
--- ---- one value at the front of the bytes of a frame
+-- ---- a value at the front of the payload
 
 pub none_left : {X : Type 0} (xs : List X) → length xs ≡ 0 → xs ≡ []
 none_left [] e = refl
 none_left (x ∷ xs) e = absurd (omega arith)
 
--- All of the bytes spell a value where it stands at the front and nothing is left.
+-- Bytes that encode a value decode to it from their front, without a suffix.
 all_of : {X : Type 0} (F : Format X) (content : List ℕ) (x : X) → F wide content x → Reads F wide content x []
 all_of F content x h = record { front = content; split = sym (append-nil content); spelled = h }
 

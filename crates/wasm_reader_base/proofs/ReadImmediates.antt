@@ -1,4 +1,4 @@
--- How immediates are read.
+-- This file proves how readers decode immediates.
 use Rattle.std.proofs.Common.{◌≡◌, ◌≢◌, ◌⊎◌, inl, inr, ℕ, ◌<◌, ◌≤◌, ◌/◌, ◌%◌, ◌^◌, ◌==◌, List, ◌∷◌, Bool, true, false, Option, Some, None, option_map, refl, sym, ap, subst, arith}
 use Rattle.std.proofs.lemmas.Bool.{lt-ltb, le-ltb}
 use Rattle.wasm_base.specs.Numbers.{wide}
@@ -136,7 +136,7 @@ pub memory_no_offset : (bytes start next last : List ℕ) (flags : ℕ) (t : Mem
 memory_no_offset bytes start next last flags t o h l g k n =
     memory_nothing bytes start flags h l (then_nothing_second (target_unique (bit 5 flags) (bit 6 flags)) g (then_nothing_second (optional_unique (bit 4 flags) mem_ordering_unique) k n))
 
--- Flags below 16 are those of memory 0, without an ordering.
+-- Bit tests of the flags are false where the arithmetic gives 0.
 unset : (place flags : ℕ) → flags / 2 ^ place % 2 ≡ 0 → bit place flags ≡ false
 unset place flags e = ap (λ z. z == 1) e
 

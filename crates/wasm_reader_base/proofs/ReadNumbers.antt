@@ -1,4 +1,4 @@
--- How groups make numbers.
+-- This file proves how readers decode LEB128 groups to numbers.
 use Rattle.std.proofs.Common.{◌≡◌, inl, inr, ℕ, ◌<◌, ◌^◌, List, [], ◌∷◌, length, ◌+◌, ◌-◌, ◌*◌, ◌%◌, ◌≤◌, ◌≢◌, ℤ, pos, neg_ℤ, ◌-ℤ◌, ◌≤ℤ◌, ◌<ℤ◌, nat_lt, cond, refl, sym, ap, ap₂, subst, ◌∙◌, add-one, arith}
 use Rattle.std.proofs.Math.Nat.{mul-add, mul_assoc, mul-le-mul_left, pow-suc, pow-le-pow_right}
 use Rattle.std.proofs.lemmas.Bool.{lt-ltb, le-ltb, cases_lt}
@@ -11,9 +11,10 @@ use Rattle.wasm_base.specs.Groups.{groups, HasGroups, signed_of}
 use Rattle.wasm_base.proofs.GroupLaws.{groups_none, groups_ended, groups_last, groups_more, groups_less}
 use Rattle.wasm_base.proofs.ReadingSteps.{front_and_rest}
 
--- ---- at most five groups, one after another
+-- ---- up to five groups, one after another
 
--- After k of them: what the groups that follow make of the number, and that there is none without them.
+-- The state after k groups: the remaining groups complete the number, and there is no number if
+-- they do not decode.
 pub record HasBegun (k : ℕ) (bytes rest : List ℕ) (sum power : ℕ) : Type 0 where
   pub found : (s p l : ℕ) (last : List ℕ) → HasGroups (5 - k) rest s p l last → HasGroups 5 bytes (sum + power * s) (power * p) l last
   pub none : ReadsNothing (groups (5 - k)) wide rest → ReadsNothing (groups 5) wide bytes
@@ -31,7 +32,7 @@ begun_start bytes = record {
   is = refl;
 }
 
--- the next group adds less than the power of those before
+-- The next group adds less than the power of the groups before it.
 group_below : (b n sum power : ℕ) → n ≡ b % 128 → sum < power → sum + power * n < power * 128
 group_below b n sum power is l =
     let m : n ≤ 127 = omega (arith, is) in
@@ -42,7 +43,7 @@ power_small k power l e =
     let p : 128 ^ k ≤ 128 ^ 4 = pow-le-pow_right (omega arith) {i = k} {j = 4} (omega (arith, l)) in
     omega (arith, e, p)
 
--- the next group is b, of which n are the seven bits
+-- The next group is b, and n is its low seven bits.
 module _ (k b n sum power : ℕ) (bytes rest : List ℕ) where
   pub begun_more : (after : List ℕ) → k < 5 → rest ≡ b ∷ after → 128 ≤ b → b < 256 → n ≡ b % 128 → HasBegun k bytes rest sum power → HasBegun (k + 1) bytes after (sum + power * n) (power * 128)
   begun_more after m e low high bits go = record {
@@ -69,13 +70,13 @@ begun_all k sum power bytes rest e go =
     let none_left : 5 - k ≡ 0 = omega (arith, e) in
     go.none (subst (λ z. ReadsNothing (groups z) wide rest) (sym none_left) (groups_none rest))
 
--- five groups are at most ten
+-- At most five groups are at most ten.
 within_ten : {bytes rest : List ℕ} {sum power last : ℕ} → HasGroups 5 bytes sum power last rest → HasGroups 10 bytes sum power last rest
 within_ten g =
     let h = g.read in
     record { front = g.front; read = record { front = h.front; split = h.split; spelled = (h.spelled.0, h.spelled.1, omega (arith, h.spelled.2)) }; total = g.total; count = g.count; end = g.end }
 
--- ---- numbers without a sign
+-- ---- unsigned numbers
 
 module _ (bits : ℕ) where
   unsigned_reads : (bytes rest : List ℕ) (sum power last : ℕ) → HasGroups (byte_limit bits) bytes sum power last rest → sum < 2 ^ bits → Reads (λ mode. Unsigned mode bits) wide bytes sum rest
@@ -131,7 +132,7 @@ pub ruleset u64_steps = (u64_reads, u64_byte, u64_few, u64_none, u64_large, fron
 
 -- ---- signed numbers
 
--- what the sign does
+-- The effect of the sign.
 not_negative : (sum power last : ℕ) → last < 64 → signed_of sum power last ≡ pos sum
 not_negative sum power last l = rw (lt-ltb last 64 l) refl
 
@@ -155,7 +156,7 @@ module _ (bits : ℕ) where
   signed_none : (bytes : List ℕ) → ReadsNothing (groups (byte_limit bits)) wide bytes → ReadsNothing (λ mode. Signed mode bits) wide bytes
   signed_none bytes none = record { none = λ v rest h. none.none h.front rest (record { front = h.front; split = h.split; spelled = (refl, h.spelled.groups, h.spelled.size) }) }
 
-  -- another value would be out of range
+  -- No other value is in range.
   signed_is : (bytes rest : List ℕ) (sum power last : ℕ) → HasGroups (byte_limit bits) bytes sum power last rest → (v : ℤ) (q : List ℕ) → Reads (λ mode. Signed mode bits) wide bytes v q → v ≡ signed_of sum power last
   signed_is bytes rest sum power last h v q g =
       let same = groups_apart h.read.front g.front rest q h.read.spelled.1 g.spelled.groups (sym h.read.split ∙ g.split) in
@@ -179,7 +180,7 @@ s32_low bytes rest sum power last v g e l = signed_low 32 bytes rest sum power l
 pub s32_high : (bytes rest : List ℕ) (sum power last : ℕ) (v : ℤ) → HasGroups 5 bytes sum power last rest → v ≡ signed_of sum power last → pos (2 ^ 31) ≤ℤ v → ReadsNothing s32 wide bytes
 s32_high bytes rest sum power last v g e l = signed_high 32 bytes rest sum power last g (rw e at l)
 
--- one group is in the range of either type
+-- One group is in the range of 32 bits.
 signed_small : (b : ℕ) → b < 128 → (neg_ℤ (pos (2 ^ 31)) ≤ℤ signed_of b 128 b) × (signed_of b 128 b <ℤ pos (2 ^ 31))
 signed_small b l =
     elim (cases_lt b 64) [
@@ -211,7 +212,7 @@ s64_byte bytes rest b v e l is =
     let small = signed_small b l in
     s64_reads bytes rest b 128 b v (groups_last 10 b b bytes rest e l (omega arith) refl) is (omega (arith, ints, is, small.0)) (omega (arith, ints, is, small.1))
 
--- a few groups are in the range
+-- A few groups are in the range of 64 bits.
 pub s64_few : (bytes rest : List ℕ) (sum power last : ℕ) (v : ℤ) → HasGroups 5 bytes sum power last rest → sum < power → power ≤ 2 ^ 35 → v ≡ signed_of sum power last → Reads s64 wide bytes v rest
 s64_few bytes rest sum power last v g l u is =
     elim (cases_lt last 64) [
@@ -221,7 +222,7 @@ s64_few bytes rest sum power last v g l u is =
 
 pub ruleset s64_steps = (s64_reads, s64_byte, s64_few, s64_none, s64_low, s64_high, front_and_rest)
 
--- ---- indices, spelled as signed numbers
+-- ---- indices that are encoded as signed numbers
 
 pub index_reads : (bytes rest : List ℕ) (sum power last : ℕ) → HasGroups 5 bytes sum power last rest → last < 64 → sum < 2 ^ 32 → Reads s33 wide bytes sum rest
 index_reads bytes rest sum power last g l u =

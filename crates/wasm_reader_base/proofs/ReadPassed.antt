@@ -1,4 +1,4 @@
--- A loop over members that are not kept.
+-- This file proves a loop that skips members.
 use Rattle.std.proofs.Common.{◌≡◌, ℕ, ◌<◌, ◌+◌, List, [], ◌∷◌, ◌++◌, length, refl, sym, subst, arith}
 use Rattle.std.proofs.lemmas.List.{length-append}
 use Rattle.wasm_base.specs.Numbers.{wide}
@@ -6,7 +6,7 @@ use Rattle.wasm_base.specs.Formats.{Format, u32, members, vec}
 use Rattle.wasm_base.specs.Reading.{UniqueReading, Reads, ReadsNothing}
 use Rattle.wasm_base.proofs.ReadingSteps.{members_start, members_step, vec_reads, vec_nothing}
 
--- So many values were passed from `start` on, and `rest` is behind them.
+-- The reader has skipped `count` values from `start` on, and `rest` remains.
 pub record HasPassed {X : Type 0} (F : Format X) (start : List ℕ) (count : ℕ) (rest : List ℕ) : Type 0 where
   pub values : List X
   pub read : Reads (members F) wide start values rest

@@ -1,4 +1,5 @@
--- What was read is plain and in normal form, so its text is its one shortest spelling.
+-- This file proves that decoded values are well-formed and in normal form, so that their encoding
+-- is the minimal one.
 use Rattle.std.proofs.Common.{◌≡◌, ℕ, ◌^◌, ◌<◌, ◌%◌, List, [], ◌∷◌, ◌++◌, length, Bool, true, false, Option, Some, refl, sym, ap, subst, eqb, arith}
 use Rattle.std.specs.Prelude.{nat_lt}
 use Rattle.std.specs.List.{All}
@@ -20,7 +21,7 @@ use Rattle.wasm_reader_base.specs.Shortest.{AppendsShortest}
 use Rattle.wasm_reader_base.proofs.ReadFixed.{sum_below}
 use Rattle.wasm_reader_base.proofs.ShortTexts.{text_appended}
 
--- The text of a value that fits, where all that is read fits.
+-- If all decoded values fit, the encoding of one is minimal.
 pub fitting_appended : {X : Type 0} (F : Format X) (Fits : X → Type 0) (text : X → List ℕ) (x : X) (old new : List ℕ) → HasTexts F Fits text → AllValues Fits F → new ≡ old ++ text x → AppendsShortest F x old new
 fitting_appended F Fits text x old new texts all e = text_appended F x (text x) old new (λ s h. texts.spelled x (all wide s x h)) e
 
@@ -32,7 +33,7 @@ u32_appended n old new e = text_appended u32 n (unsigned_text n) old new (λ s h
 pub little_endian_below : (n : ℕ) (mode : Mode) (s : List ℕ) (v : ℕ) → little_endian n mode s v → v < 256 ^ n
 little_endian_below n mode s v h = subst (λ k. v < 256 ^ k) h.2 (subst (λ z. z < 256 ^ length s) h.0 (sum_below s h.1))
 
--- ---- framed bytes and names
+-- ---- size-prefixed bytes and names
 
 pub bytes_appended : (bytes old new : List ℕ) → FrameFits bytes → new ≡ old ++ frame_text bytes → AppendsShortest (frame any_bytes) bytes old new
 bytes_appended bytes old new fits e = text_appended (frame any_bytes) bytes (frame_text bytes) old new (λ s h. frame_spelled any_bytes bytes bytes fits refl) e
@@ -50,7 +51,7 @@ values_choice {X} Q (c ∷ cs) other h g b mode s x k = go (values_choice Q cs o
     go more true k = h.0 mode s x k
     go more false k = more k
 
--- an index, spelled as a signed number
+-- An index that is encoded as a signed number is below 2^32.
 index_is : (mode : Mode) (s : List ℕ) (n : ℕ) → s33 mode s n → n < 2 ^ 32
 index_is mode s n h = omega (arith, ints, h.below)
 
@@ -114,7 +115,7 @@ memory_is mode s m h = subst IsNormalMemory h.1 (after h.0.0 mode h.2.back h.0.1
         go true k = memory_with (f % 16) (bit 4 f) (bit 5 f) (bit 6 f) (omega arith) mode s m k
         go false k = absurd k
 
--- ---- block types, and clauses that catch and handle
+-- ---- block types, catch clauses and handle clauses
 
 pub block_is : AllValues IsPlainBlock block_type
 block_is = values_one_of IsPlainBlock told (λ mode s x h. subst IsPlainBlock h.1 (index_is mode s h.0 h.2))

@@ -1,4 +1,4 @@
--- A loop over members.
+-- This file proves a loop that decodes members.
 use Rattle.std.proofs.Common.{◌≡◌, ℕ, ◌<◌, List, [], ◌∷◌, ◌++◌, length, map, sym, ap, subst, ◌∙◌, append_assoc}
 use Rattle.std.proofs.lemmas.List.{map-append, length-map}
 use Rattle.wasm_base.specs.Numbers.{wide}
@@ -11,7 +11,7 @@ vec_nothing_count F bytes h = record {
   none = λ xs rest g. h.none (length xs) (g.spelled.back ++ rest) (record { front = g.spelled.front; split = g.split ∙ ap (λ z. z ++ rest) g.spelled.joined ∙ append_assoc g.spelled.front g.spelled.back rest; spelled = g.spelled.first });
 }
 
--- What a loop has read: as many members as it has turned, each seen by view.
+-- The members that the loop has decoded so far, as views, and the remaining bytes.
 pub record HasRead {T X : Type 0} (F : Format X) (view : T → X) (bytes : List ℕ) (items : List T) (rest : List ℕ) : Type 0 where
   pub so_far : Reads (members F) wide bytes (map view items) rest
 

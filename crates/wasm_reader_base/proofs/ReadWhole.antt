@@ -1,4 +1,4 @@
--- Values that all of the bytes spell.
+-- This file proves how readers decode values that take all of the bytes.
 use Rattle.std.proofs.Common.{◌≡◌, ◌≢◌, ℕ, ◌<◌, List, [], ◌∷◌, ◌++◌, length, map, sym, ap, subst, ◌∙◌, append_assoc, append-nil, arith}
 use Rattle.std.proofs.lemmas.List.{map-append, length-append}
 use Rattle.wasm_base.specs.Going.{FillsNothing}
@@ -8,7 +8,7 @@ use Rattle.wasm_base.specs.Reading.{UniqueReading, BeginsWith, Reads, ReadsNothi
 use Rattle.wasm_base.proofs.ReadingSteps.{reads_same}
 use Rattle.wasm_reader_base.proofs.ReadFrames.{none_left}
 
--- ---- a value that all of the bytes spell
+-- ---- a value that takes all of the bytes
 
 all_of : {X : Type 0} (F : Format X) (bytes : List ℕ) (x : X) → F wide bytes x → Reads F wide bytes x []
 all_of F bytes x h = record { front = bytes; split = sym (append-nil bytes); spelled = h }
@@ -26,7 +26,8 @@ pub ruleset whole_steps = (whole_reads, whole_more, whole_nothing)
 
 -- ---- members up to the last byte
 
--- after the items
+-- The state after these items: the remaining members complete the list, and there is no list if
+-- they do not decode.
 abbrev pub HasMembers : {T X : Type 0} → Format X → (T → X) → List ℕ → List T → List ℕ → Type 0
 HasMembers {T} {X} F view bytes items rest = ((ys : List X) → members F wide rest ys → members F wide bytes (map view items ++ ys)) × (FillsNothing (members F) rest → FillsNothing (members F) bytes)
 
@@ -34,7 +35,7 @@ module _ {T X : Type 0} (F : Format X) (view : T → X) (bytes : List ℕ) where
   pub members_start : HasMembers F view bytes [] bytes
   members_start = (λ ys h. h, λ n. n)
 
-  -- One member is read, and then only others that follow it.
+  -- If a member decodes and no members decode behind it, no members decode at all.
   after_member : UniqueReading F → (rest after : List ℕ) (x : X) → Reads F wide rest x after → rest ≢ [] → FillsNothing (members F) after → FillsNothing (members F) rest
   after_member f rest after x h some n = record { none = go }
     where

@@ -1,4 +1,5 @@
--- The one shortest text of what was read is appended, part by part.
+-- This file proves that minimizers append the one minimal encoding of a decoded value, part by
+-- part.
 use Rattle.std.proofs.Common.{Result, Ok, Err, ◌≡◌, ℕ, ◌+◌, ◌<◌, ◌≤◌, List, [], ◌∷◌, ◌++◌, length, take, drop, get_or, map, refl, sym, ap, ap₂, subst, ◌∙◌, append_assoc, append-nil}
 use Rattle.std.specs.List.{All, flat_map}
 use Rattle.std.specs.declared.vec.Vec.{Vec}
@@ -12,7 +13,7 @@ use Rattle.wasm_base.specs.Texts.{frame_text, FrameFits, vec_text, VecFits}
 use Rattle.wasm_base.proofs.TextLaws.{u32_spelled, frame_spelled}
 use Rattle.wasm_reader_base.specs.Shortest.{AppendsShortest, IsFrontOf}
 
--- ---- the old bytes in front
+-- ---- the old bytes at the front
 
 pub front_more : (old more new : List ℕ) → new ≡ old ++ more → IsFrontOf old new
 front_more old more new e = (more, e)
@@ -23,7 +24,7 @@ front_same old new e = ([], e ∙ sym (append-nil old))
 pub front_then : (old middle new : List ℕ) → IsFrontOf old middle → IsFrontOf middle new → IsFrontOf old new
 front_then old middle new a b = (a.0 ++ b.0, b.1 ∙ ap (λ z. z ++ b.0) a.1 ∙ append_assoc old a.0 b.0)
 
--- of a call that leaves the old bytes as they were, or appends to them
+-- A call that appends, or leaves the bytes as they were, keeps the old bytes at the front.
 pub front_encoded : {A : Type 0} (text : List ℕ) (fits : Type 0) (old new : Vec ℕ A) (r : Result (Unit {0}) Refused) → Appends text fits old new r → IsFrontOf old.items new.items
 front_encoded text fits old new (Ok u) a = (text, a.ok)
 front_encoded text fits old new (Err e) a = front_same old.items new.items a.err
@@ -33,21 +34,21 @@ front_appended F x old new a = (a.text, a.appended)
 
 pub ruleset front_steps = (front_more, front_same, front_then, front_encoded, front_appended)
 
--- what a call takes back on an error
+-- Truncation to the old length removes all that a call has appended.
 pub cut_off : (old new : List ℕ) → IsFrontOf old new → take (length old) new ≡ old
 cut_off old new h = ap (take (length old)) h.1 ∙ take_at old h.0 (length old) refl
 
--- ---- texts
+-- ---- encodings
 
--- A text that is the shortest spelling of whatever is read.
+-- An encoding that is minimal for every decoded value.
 pub text_appended : {X : Type 0} (F : Format X) (x : X) (text old new : List ℕ) → ((s : List ℕ) → F wide s x → F shortest text x) → new ≡ old ++ text → AppendsShortest F x old new
 text_appended F x text old new short e = record { text = text; appended = e; spelled = short }
 
--- Nothing is appended for what has no bytes.
+-- Nothing is appended for a value whose encoding is empty.
 pub nothing_appended : {X : Type 0} (F : Format X) (x : X) (old : List ℕ) → ((s : List ℕ) → F wide s x → F shortest [] x) → AppendsShortest F x old old
 nothing_appended F x old short = text_appended F x [] old old short (sym (append-nil old))
 
--- One value, and then another.
+-- One value, then another.
 module _ {X Y : Type 0} {x : X} {y : Y} {old middle new : List ℕ} where
   pub then_appended : (F : Format X) (G : X → Format Y) → AppendsShortest F x old middle → AppendsShortest (G x) y middle new → AppendsShortest (Then F G) (x, y) old new
   then_appended F G a b = record {
@@ -59,7 +60,7 @@ module _ {X Y : Type 0} {x : X} {y : Y} {old middle new : List ℕ} where
   pub pair_appended : (F : Format X) (G : Format Y) → AppendsShortest F x old middle → AppendsShortest G y middle new → AppendsShortest (pair F G) (x, y) old new
   pair_appended F G a b = then_appended F (λ x. G) a b
 
-  -- A tag that the value tells, and the value.
+  -- A tag that the value determines, then the value.
   pub tagged_appended : (F : Format X) (G : X → Format Y) → ((s : List ℕ) (z : X) → G z wide s y → z ≡ x) → AppendsShortest F x old middle → AppendsShortest (G x) y middle new → AppendsShortest (tagged F G) y old new
   tagged_appended F G told a b =
       let both = then_appended F G a b in
@@ -71,11 +72,11 @@ module _ {X Y : Type 0} {x : X} {y : Y} {old middle new : List ℕ} where
             ((x, y), refl, both.spelled s (subst (λ z. Then F G wide s z) is h.2));
       }
 
--- Fixed bytes, and then a value.
+-- Fixed bytes, then a value.
 pub prefixed_appended : {X : Type 0} (head : List ℕ) (F : Format X) (x : X) (old middle new : List ℕ) → middle ≡ old ++ head → AppendsShortest F x middle new → AppendsShortest (prefixed head F) x old new
 prefixed_appended head F x old middle new e a = tagged_appended (fixed head (tt {0})) (λ u. F) (λ s z h. refl) (text_appended (fixed head (tt {0})) tt head old middle (λ s h. (refl, refl)) e) a
 
--- The image of a value, by a function that keeps values apart.
+-- The image of a value by an injective function.
 pub mapped_appended : {X Y : Type 0} (f : X → Y) (F : Format X) (x : X) (old new : List ℕ) → ((z : X) → f z ≡ f x → z ≡ x) → AppendsShortest F x old new → AppendsShortest (mapped f F) (f x) old new
 mapped_appended f F x old new apart a = record { text = a.text; appended = a.appended; spelled = λ s h. (x, refl, a.spelled s (subst (λ z. F wide s z) (apart h.0 h.1) h.2)) }
 
@@ -99,7 +100,7 @@ members_more F xs x old middle new a b = record {
   spelled = λ s h. let parts = members_before F xs x s h in members_last F xs x a.text b.text (a.spelled parts.0 parts.2) (b.spelled parts.1 parts.3);
 }
 
--- In a loop over a list, the first i members have been appended.
+-- A loop over a list has appended the first i members.
 module _ {T X : Type 0} (F : Format X) (view : T → X) (xs : List T) where
   pub next_appended : (i : ℕ) (x : T) (old middle new : List ℕ) → i < length xs → x ≡ get_or xs i x → AppendsShortest (members F) (map view (take i xs)) old middle → AppendsShortest F (view x) middle new → AppendsShortest (members F) (map view (take (i + 1) xs)) old new
   next_appended i x old middle new low is a b =
@@ -116,9 +117,9 @@ module _ {T X : Type 0} (F : Format X) (view : T → X) (xs : List T) where
       let both = then_appended u32 (λ n. members F) count a in
       record { text = both.text; appended = both.appended; spelled = λ s h. both.spelled s h }
 
--- ---- frames
+-- ---- size-prefixed bytes
 
--- A content, and the size that was put before it.
+-- A payload, then the size prefix that is inserted before it.
 pub frame_appended : {X : Type 0} (F : Format X) (x : X) (start : ℕ) (old middle new : List ℕ) → start ≡ length old → AppendsShortest F x old middle → FrameFits (drop start middle) → new ≡ take start middle ++ frame_text (drop start middle) → AppendsShortest (frame F) x old new
 frame_appended F x start old middle new e a fits is =
     let behind : drop start middle ≡ a.text = ap (drop start) a.appended ∙ drop_at old a.text start (sym e) in
@@ -135,7 +136,7 @@ members_short : {T X : Type 0} (F : Format X) (view : T → X) (text : T → Lis
 members_short F view text Fits short [] fits s h = refl
 members_short F view text Fits short (x ∷ xs) fits s h = (text x, flat_map text xs, refl, short x (All-head Fits x xs fits) h.0 h.3, members_short F view text Fits short xs (All-tail Fits x xs fits) h.1 h.4)
 
--- The vector of records is appended, each of which has its text as its shortest spelling.
+-- The vector of records whose encodings are minimal.
 pub records_appended : {T X : Type 0} (F : Format X) (view : T → X) (text : T → List ℕ) (Fits : T → Type 0) (xs : List T) (old new : List ℕ) → ((x : T) → Fits x → (s : List ℕ) → F wide s (view x) → F shortest (text x) (view x)) → VecFits Fits xs → new ≡ old ++ vec_text text xs → AppendsShortest (vec F) (map view xs) old new
 records_appended F view text Fits xs old new short fits e = text_appended (vec F) (map view xs) (vec_text text xs) old new spelled e
   where

@@ -1,4 +1,5 @@
--- What callers of a walk cite: what its steps tell of all of the bytes.
+-- This file proves how the steps of the instruction reader decode all of the bytes: lemmas that a
+-- caller's proof cites.
 use Rattle.std.proofs.Common.{◌≡◌, ◌≢◌, ℕ, List, [], ◌∷◌, ◌++◌, Option, Some, IfSome, ap, subst}
 use Rattle.std.proofs.lemmas.List.{map-id}
 use Rattle.wasm_base.specs.Going.{FillsNothing}
@@ -10,31 +11,31 @@ use Rattle.wasm_insn.specs.Table.{table}
 use Rattle.wasm_insn.proofs.InstructionLaws.{alone, any_begins}
 use Rattle.wasm_reader_base.proofs.ReadWhole.{HasMembers, members_start, members_step, members_fail, members_done}
 
--- These instructions were gone over from `start` on, and `rest` is ahead.
+-- The reader has visited these instructions from `start` on, and `rest` remains.
 abbrev pub HasWalked : List ℕ → List Plain → List ℕ → Type 0
 HasWalked start seen rest = HasMembers (instruction table) (λ i. i) start seen rest
 
 pub begun : (start : List ℕ) → HasWalked start [] start
 begun start = members_start (instruction table) (λ i. i) start
 
--- Where an instruction stands, bytes do.
+-- If an instruction decodes from bytes, they are not empty.
 some_bytes : {bytes rest : List ℕ} {i : Plain} → Reads (instruction table) wide bytes i rest → bytes ≢ []
 some_bytes {rest = rest} {i = i} h e =
     let b = any_begins wide h.front i h.spelled in
     absurd (cc (e, h.split, ap (λ z. z ++ rest) b.2))
 
--- `next` answered an instruction.
+-- `next` returns an instruction.
 pub goes_on : {start rest after : List ℕ} {i : Plain} (seen : List Plain) → HasWalked start seen rest → Reads (instruction table) wide rest i after → HasWalked start (seen ++ i ∷ []) after
 goes_on {start = start} {rest = rest} {after = after} {i = i} seen walked h = members_step (instruction table) (λ i. i) start alone rest after seen i walked (some_bytes h) h
 
--- `next` answered `None`.
+-- `next` returns `None`.
 pub ended : {start rest : List ℕ} (seen : List Plain) → HasWalked start seen rest → rest ≡ [] → members (instruction table) wide start seen
 ended {start = start} {rest = rest} seen walked e = subst (λ xs. members (instruction table) wide start xs) (map-id seen) (members_done (instruction table) (λ i. i) start rest seen walked e)
 
--- `next` gave a cause that isn't `Memory`.
+-- `next` returns an error other than `Memory`.
 pub stopped : {start rest : List ℕ} (seen : List Plain) → HasWalked start seen rest → rest ≢ [] → ReadsNothing (instruction table) wide rest → FillsNothing (members (instruction table)) start
 stopped {start = start} {rest = rest} seen walked some none = members_fail (instruction table) (λ i. i) start rest seen walked some none
 
--- What is known of an answer, where it is an instruction.
+-- A property of the result, if it is an instruction.
 pub of_some : {T : Type 0} (P : T → Type 0) {answer : Option T} {x : T} → answer ≡ Some x → IfSome answer P → P x
 of_some P e h = subst (λ z. IfSome z P) e h

@@ -1,4 +1,4 @@
--- The places of a walk over a body.
+-- This file proves the laws of the offsets at which the reader visits a body.
 use Rattle.std.proofs.Common.{◌≡◌, ℕ, ◌<◌, ◌≤◌, List, [], ◌∷◌, ◌++◌, length, take, drop, refl, sym, ap, ap₂, ◌∙◌, append_assoc, append-nil, arith}
 use Rattle.std.proofs.lemmas.List.{length-append, length-drop, length-take-le, take-append-drop, take_at}
 use Rattle.wasm_base.specs.Numbers.{Mode, wide}
@@ -13,7 +13,7 @@ use Rattle.wasm_code.proofs.BodyLaws.{runs_unique}
 use Rattle.wasm_code.proofs.ExpressionLaws.{members_join, members_one}
 use Rattle.wasm_reader_insn.specs.Laws.{HasGone, HasPlaces}
 
--- What is read at the front are the bytes before the place.
+-- The encoding of the value at the front is the bytes before the offset.
 front_is : {X : Type 0} (F : Format X) (bytes : List ℕ) (place : ℕ) (x : X) → place ≤ length bytes → (h : Reads F wide bytes x (drop place bytes)) → take place bytes ≡ h.front
 front_is F bytes place x l h =
     ap (take place) h.split ∙ take_at h.front (drop place bytes) place (omega (arith, l, ap length h.split, length-append h.front (drop place bytes), length-drop place bytes))
@@ -22,7 +22,7 @@ begun : (bytes : List ℕ) (place : ℕ) (runs : List Run) → Reads (vec (pair 
 begun bytes place runs h l =
     ((runs, []), refl, record { front = h.front; back = []; joined = front_is (vec (pair u32 val_type)) bytes place runs l h ∙ sym (append-nil h.front); first = h.spelled; second = refl })
 
--- The bytes before a later place are those before the place, and those between.
+-- The bytes before a later offset are those before the offset and those between.
 between : (bytes middle : List ℕ) (place after : ℕ) → place ≤ length bytes → after ≤ length bytes → place ≤ after → drop place bytes ≡ middle ++ drop after bytes → take after bytes ≡ take place bytes ++ middle
 between bytes middle place after l m n e =
     let whole : bytes ≡ (take place bytes ++ middle) ++ drop after bytes = sym (take-append-drop place bytes) ∙ ap (λ z. take place bytes ++ z) e ∙ sym (append_assoc (take place bytes) middle (drop after bytes)) in
@@ -45,7 +45,7 @@ goes_on bytes place after x i h g l m =
       },
     )
 
--- As many members at the front of the same bytes are the same.
+-- If equally many members decode from the front of the same bytes, they are equal.
 same_members : {X : Type 0} {F : Format X} → UniqueReading F → (mode : Mode) (s t r q : List ℕ) (xs ys : List X) → members F mode s xs → members F mode t ys → s ++ r ≡ t ++ q → length xs ≡ length ys → (xs ≡ ys) × (s ≡ t)
 same_members unique mode s t r q [] [] h g e l = (refl, h ∙ sym g)
 same_members unique mode s t r q [] (y ∷ ys) h g e l = absurd (omega (arith, l))

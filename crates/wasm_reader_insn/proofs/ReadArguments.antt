@@ -1,4 +1,4 @@
--- How arguments are read, one for each part.
+-- This file proves how readers decode immediates, one for each type of a shape.
 use Rattle.std.proofs.Common.{◌≡◌, ℕ, ℤ, ◌+◌, ◌<◌, ◌≤◌, List, [], ◌∷◌, ◌++◌, length, map, drop, get_or, sym, ap, subst, ◌∙◌, append_assoc, append-nil, add-one, arith}
 use Rattle.std.proofs.Math.Seq.{drop-cons}
 use Rattle.std.proofs.lemmas.List.{map-id, drop_all}
@@ -30,9 +30,9 @@ use Rattle.wasm_reader_insn.specs.declared.arguments.Arg.{Arg}
 use Rattle.wasm_base.proofs.ReadingSteps.{then_reads, then_nothing_first, then_nothing_second, mapped_reads, mapped_nothing, such_reads, such_none, such_nothing}
 use Rattle.wasm_base.proofs.Tags.{fixed_reads}
 
--- ---- a loop over the parts
+-- ---- a loop over the types of immediates
 
--- after k of the parts, whose arguments these are
+-- The state after the first k immediates, which are `xs`.
 abbrev pub HasArguments : List Part → ℕ → List ℕ → List Argument → List ℕ → Type 0
 HasArguments ps k bytes xs rest = GoesOn (arguments ps) bytes (arguments (drop k ps)) rest (λ ys. xs ++ ys)
 
@@ -75,7 +75,7 @@ shape_nothing shape ps bytes e n = subst (λ qs. ReadsNothing (arguments qs) wid
 
 pub ruleset shape_steps = (shape_reads, shape_nothing)
 
--- ---- a shape of one part
+-- ---- a shape of one immediate
 
 module _ (shape : Shape) (p : Part) (e : parts_of shape ≡ p ∷ []) (bytes : List ℕ) where
   pub one_read : {A : Type 0} (rest last : List ℕ) (x : Arg A) (items : List (Arg A)) → Reads (part p) wide bytes (argument_view x) rest → items ≡ x ∷ [] → last ≡ rest → Reads (arguments (parts_of shape)) wide bytes (map argument_view items) last
@@ -85,7 +85,7 @@ module _ (shape : Shape) (p : Part) (e : parts_of shape ≡ p ∷ []) (bytes : L
       let listed : Reads (arguments (p ∷ [])) wide bytes (map argument_view items) rest = subst (λ z. Reads (arguments (p ∷ [])) wide bytes (map argument_view z) rest) (sym i) one in
       subst (λ ps. Reads (arguments ps) wide bytes (map argument_view items) last) (sym e) (subst (λ z. Reads (arguments (p ∷ [])) wide bytes (map argument_view items) z) (sym l) listed)
 
-  -- of which nothing is kept
+  -- An immediate that is skipped.
   pub one_passed : (rest : List ℕ) (x : Argument) → Reads (part p) wide bytes x rest → (xs : List Argument) × Reads (arguments (parts_of shape)) wide bytes xs rest
   one_passed rest x h =
       let none : List Argument = [] in
@@ -94,7 +94,7 @@ module _ (shape : Shape) (p : Part) (e : parts_of shape ≡ p ∷ []) (bytes : L
   pub one_nothing : ReadsNothing (part p) wide bytes → ReadsNothing (arguments (parts_of shape)) wide bytes
   one_nothing n = subst (λ ps. ReadsNothing (arguments ps) wide bytes) (sym e) (mapped_nothing cons (then_nothing_first n))
 
--- ---- a part that is gone over
+-- ---- an immediate that is skipped
 
 module _ {wanted : Part} (p : Part) (e : wanted ≡ p) (bytes : List ℕ) where
   pub part_passed : (rest : List ℕ) (x : Argument) → Reads (part p) wide bytes x rest → (y : Argument) × Reads (part wanted) wide bytes y rest
@@ -103,7 +103,7 @@ module _ {wanted : Part} (p : Part) (e : wanted ≡ p) (bytes : List ℕ) where
   pub part_none : ReadsNothing (part p) wide bytes → ReadsNothing (part wanted) wide bytes
   part_none n = subst (λ q. ReadsNothing (part q) wide bytes) (sym e) n
 
--- ---- each part
+-- ---- each type of immediate
 
 pub unsigned_reads : (bytes rest : List ℕ) (v : ℕ) → Reads u32 wide bytes v rest → Reads (part parts.Unsigned) wide bytes (unsigned v) rest
 unsigned_reads bytes rest v h = mapped_reads unsigned h

@@ -1,4 +1,4 @@
--- How opcodes and instructions are read.
+-- This file proves how readers decode opcodes and instructions.
 use Rattle.std.proofs.Common.{◌≡◌, ◌≢◌, ℕ, ◌<◌, ◌≤◌, List, [], true, false, Some, None, refl, sym, subst, arith}
 use Rattle.std.proofs.lemmas.Bool.{le-leb, lt-leb}
 use Rattle.wasm_base.specs.Numbers.{wide}

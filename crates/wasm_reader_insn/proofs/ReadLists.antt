@@ -1,4 +1,4 @@
--- Lists of instructions up to the last byte and up to End, and bodies.
+-- This file proves how readers decode instructions up to the last byte and up to `end`, and bodies.
 use Rattle.std.proofs.Common.{◌≡◌, ◌≢◌, ℕ, ◌≤◌, ◌-◌, List, [], ◌∷◌, ◌++◌, length, map, take, drop, slice_index_or, Bool, true, false, refl, sym, ap, subst, ◌∙◌, append_assoc, append-nil}
 use Rattle.std.proofs.lemmas.Bool.{ne_eqb}
 use Rattle.wasm_base.proofs.FormatLaws.{byte_unique}
@@ -19,7 +19,7 @@ use Rattle.wasm_base.specs.Going.{GoesOn, FillsNothing}
 use Rattle.wasm_base.proofs.ReadingSteps.{reads_same, such_reads}
 use Rattle.wasm_base.proofs.ReadingSteps.{front_and_rest}
 
--- ---- members up to a byte
+-- ---- members up to a stop byte
 
 abbrev pub HasEnded : {T X : Type 0} → ℕ → Format X → (T → X) → List ℕ → List T → List ℕ → Type 0
 HasEnded stop F view bytes items rest = GoesOn (ended stop F) bytes (ended stop F) rest (λ ys. map view items ++ ys)
@@ -73,7 +73,7 @@ module _ {T X : Type 0} (stop : ℕ) (F : Format X) (view : T → X) (bytes : Li
           let b = begins wide s.0 y s.3 in
           absurd (cc (e, h.split, ap (λ z. z ++ last) s.2, ap (λ z. z ++ s.1 ++ last) b.2))
 
--- ---- End
+-- ---- the instruction `end`
 
 after_byte : (c d : ℕ) (s : List ℕ) (op : Op) → op_after c wide s op → op ≡ Byte d → c ≡ d
 after_byte c d s op h e = go (is_prefix c) h
@@ -82,7 +82,7 @@ after_byte c d s op h e = go (is_prefix c) h
     go true k = absurd (cc (k.1, e))
     go false k = let same : Byte c ≡ Byte d = sym k.1 ∙ e in cc same
 
--- An instruction that begins with another byte than 0B isn't End.
+-- An instruction that begins with another byte than 0B is not `end`.
 pub not_end : (bytes tail rest : List ℕ) (b : ℕ) (i : Plain) → bytes ≡ b ∷ tail → b ≢ 0x0B → Reads (instruction table) wide bytes i rest → Reads (such IsNoEnd (instruction table)) wide bytes i rest
 not_end bytes tail rest b i e other h = such_reads IsNoEnd h (is_other i.op (λ op. other (byte_of op)))
   where
@@ -112,7 +112,7 @@ body_no_code bytes rest runs h n = record {
       n.none g.0.1 (subst (λ z. members (instruction table) wide z g.0.1) (sym same.1) g.2.second);
 }
 
--- as a reader sees the runs
+-- The runs as a reader views them.
 pub body_fills_viewed : (bytes rest : List ℕ) (runs : List (ℕ × ValType)) (code : List Plain) → Reads (vec (pair u32 val_type)) wide bytes (map (λ r. (r.0, r.1)) runs) rest → members (instruction table) wide rest code → body wide bytes (record { runs = runs; code = code })
 body_fills_viewed bytes rest runs code h g = body_fills bytes rest runs code (subst (λ z. Reads (vec (pair u32 val_type)) wide bytes z rest) (map-id runs) h) g
 

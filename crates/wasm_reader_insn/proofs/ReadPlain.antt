@@ -1,4 +1,5 @@
--- What was read is plain and in normal form, so its text is its one shortest spelling.
+-- This file proves that decoded instructions are well-formed and in normal form, so that their
+-- encoding is the minimal one.
 use Rattle.std.proofs.Common.{zero, suc, length, get_or, arith, ◌≡◌, ℕ, ◌^◌, ◌<◌, List, [], ◌∷◌, ◌++◌, map, Bool, true, false, Option, Some, None, refl, sym, ap, ap₂, subst, ◌∙◌, append_assoc}
 use Rattle.std.specs.List.{flat_map}
 use Rattle.wasm_base.specs.Numbers.{shortest, wide}
@@ -23,7 +24,7 @@ use Rattle.wasm_reader_base.proofs.ReadPlain.{little_endian_below, heap_is, val_
 use Rattle.wasm_reader_insn.specs.declared.arguments.Arg.{Arg}
 use Rattle.wasm_reader_insn.specs.Arguments.{argument_view}
 
--- plain, in normal form, and of this part
+-- The immediate is well-formed, in normal form and of this type.
 abbrev IsRead : Part → Argument → Type 0
 IsRead p x = IsPlainArgument x × (normal_argument x ≡ x) × (part_of x ≡ p)
 
@@ -66,7 +67,7 @@ opcode_is mode s op h = subst IsOpcode h.1 (after h.0.0 mode h.2.back h.0.1 h.2.
         go true e k = subst IsOpcode k.1 (e, k.2.range)
         go false e k = subst IsOpcode (sym k.1) e
 
--- What is read is plain, and its own normal form.
+-- A decoded instruction is well-formed and in normal form.
 abbrev IsNormal : Plain → Type 0
 IsNormal i = IsPlain table i × (normal i ≡ i)
 
@@ -86,7 +87,7 @@ arguments_text_of : {A : Type 0} (xs : List (Arg A)) → flat_map (λ a. argumen
 arguments_text_of [] = refl
 arguments_text_of (x ∷ xs) = ap (λ z. argument_text (argument_view x) ++ z) (arguments_text_of xs)
 
--- the op is appended, and then the arguments
+-- The opcode is appended, then the immediates.
 pub instruction_appended : {A : Type 0} (op : Op) (xs : List (Arg A)) (old middle new : List ℕ) → middle ≡ old ++ op_text op → new ≡ middle ++ flat_map (λ a. argument_text (argument_view a)) xs
     → AppendsShortest (instruction table) (plain_of (op, map argument_view xs)) old new
 instruction_appended op xs old middle new e f = record {
@@ -95,7 +96,7 @@ instruction_appended op xs old middle new e f = record {
   spelled = λ s h. instruction_spelled (plain_of (op, map argument_view xs)) s h;
 }
 
--- ---- counts of arguments that have an encoding
+-- ---- counts of immediates that have an encoding
 
 pub any_members : {T : Type 0} (P : T → Type 0) (xs : List T) → VecFits P xs → VecFits (λ x. Unit {0}) xs
 any_members P xs h = record { count = h.count; members = λ k d l. tt }

@@ -1,4 +1,5 @@
--- The one shortest text of expressions and bodies that were read.
+-- This file proves that minimizers append the one minimal encoding of decoded expressions and
+-- bodies.
 use Rattle.std.proofs.Common.{Result, Ok, Err, take, ◌≡◌, ℕ, length, drop, sym, List, [], ◌∷◌, ◌++◌, map, refl, ap, subst, ◌∙◌, append_assoc}
 use Rattle.std.specs.Prelude.{OnOk, OnErr}
 use Rattle.std.proofs.lemmas.List.{map-id}
@@ -27,7 +28,7 @@ such_members : {X : Type 0} (P : X → Type 0) (F : Format X) (stop : ℕ) (xs :
 such_members P F stop [] s t h g = g
 such_members P F stop (x ∷ xs) s t h g = (g.0, g.1, g.2, (g.3, h.3.1), such_members P F stop xs h.1 g.1 h.4 g.4)
 
--- the instructions are appended, and then End
+-- The instructions are appended, then `end`.
 pub expression_appended : (is : List Plain) (old middle new : List ℕ) → AppendsShortest (members (instruction table)) is old middle → new ≡ middle ++ 0x0B ∷ [] → AppendsShortest expression is old new
 expression_appended is old middle new a e = record {
   text = a.text ++ 0x0B ∷ [];
@@ -39,7 +40,7 @@ expression_appended is old middle new a e = record {
 
 -- ---- bodies
 
--- the runs are appended, as a reader sees them, and then the instructions
+-- The runs are appended, as a reader views them, then the instructions.
 pub body_appended : (runs : List Run) (code : List Plain) (old middle new : List ℕ) → AppendsShortest (vec (pair u32 val_type)) (map (λ r. (r.0, r.1)) runs) old middle → AppendsShortest (members (instruction table)) code middle new
     → AppendsShortest body (record { runs = runs; code = code }) old new
 body_appended runs code old middle new a b =
@@ -65,7 +66,7 @@ pub body_fits : (runs : List Run) (code : List Plain) (start : ℕ) (old middle 
     → AppendsShortest (members (instruction table)) code middle new → HasEncoding (frame body) (record { runs = runs; code = code }) → FrameFits (drop start new)
 body_fits runs code start old middle new e a b h = behind_fits body (record { runs = runs; code = code }) start old new body_whole.spellings e (body_appended runs code old middle new a b) h
 
--- ---- the old bytes in front
+-- ---- the old bytes at the front
 
 pub front_framed : (start : ℕ) (old middle new text : List ℕ) (r : Result (Unit {0}) Refused) → start ≡ length old → IsFrontOf old middle → OnOk r (new ≡ take start middle ++ text) → OnErr r (new ≡ middle) → IsFrontOf old new
 front_framed start old middle new text (Ok u) e m ok err = (text, ok ∙ ap (λ z. z ++ text) (ap (λ n. take n middle) e ∙ cut_off old middle m))

@@ -1,4 +1,4 @@
--- How a walk goes on, and what its steps tell of the whole.
+-- This file proves how the reader advances, and how its steps decode the whole.
 use Rattle.std.proofs.Common.{◌≡◌, ◌≢◌, ℕ, ◌+◌, ◌-◌, ◌<◌, ◌≤◌, List, [], ◌∷◌, length, map, take, drop, refl, sym, ap, subst, ◌∙◌, arith}
 use Rattle.std.proofs.lemmas.List.{length-append, length-drop, drop_at, drop-drop, map-id, take_all}
 use Rattle.wasm_base.specs.Numbers.{wide}
@@ -14,17 +14,17 @@ use Rattle.wasm_insn.proofs.InstructionLaws.{any_begins}
 use Rattle.wasm_code.specs.Expressions.{IsNoEnd, expression}
 use Rattle.wasm_reader_insn.proofs.ReadLists.{body_no_runs, not_end, ended_start, ended_fail, ended_short}
 
--- ---- places
+-- ---- offsets
 
--- What is read of the same bytes.
+-- Equal bytes decode equally.
 pub reads_there : {X : Type 0} {F : Format X} {bytes other rest : List ℕ} {x : X} → bytes ≡ other → Reads F wide bytes x rest → Reads F wide other x rest
 reads_there {F = F} {rest = rest} {x = x} e h = subst (λ z. Reads F wide z x rest) e h
 
--- as a range takes bytes
+-- The bytes from the offset on, as a range takes them.
 pub from_place : (bytes : List ℕ) (place : ℕ) → take (length bytes - place) (drop place bytes) ≡ drop place bytes
 from_place bytes place = take_all (length bytes - place) (drop place bytes) (omega (arith, length-drop place bytes))
 
--- What follows a value begins where as many bytes are left as it has.
+-- The suffix of a value begins at the offset that its length gives.
 pub follows : {X : Type 0} (F : Format X) (bytes rest : List ℕ) (place : ℕ) (x : X) → place ≤ length bytes → Reads F wide (drop place bytes) x rest → drop (length bytes - length rest) bytes ≡ rest
 follows F bytes rest place x l h =
     let long : length (drop place bytes) ≡ length h.front + length rest = ap length h.split ∙ length-append h.front rest in
@@ -34,7 +34,7 @@ follows F bytes rest place x l h =
 pub step_reads : (bytes rest : List ℕ) (place : ℕ) (i : Plain) → place ≤ length bytes → Reads (instruction table) wide (drop place bytes) i rest → Reads (instruction table) wide (drop place bytes) i (drop (length bytes - length rest) bytes)
 step_reads bytes rest place i l h = subst (λ z. Reads (instruction table) wide (drop place bytes) i z) (sym (follows (instruction table) bytes rest place i l h)) h
 
--- An instruction has a byte at least.
+-- A step advances the offset, since an instruction has at least one byte.
 pub step_further : (bytes rest : List ℕ) (place : ℕ) (i : Plain) → place ≤ length bytes → Reads (instruction table) wide (drop place bytes) i rest → place < length bytes - length rest
 step_further bytes rest place i l h =
     let b = any_begins wide h.front i h.spelled in
@@ -50,7 +50,7 @@ runs_read bytes rest runs h =
 
 pub ruleset body_steps = (runs_read, body_no_runs)
 
--- ---- End
+-- ---- the instruction `end`
 
 same_plain : Plain → Plain
 same_plain i = i

@@ -1,4 +1,4 @@
--- What calls leave, step by step: lemmas that a caller cites.
+-- This file proves the effect of each call on a type section: lemmas that a caller's proof cites.
 use Rattle.std.proofs.Common.{◌≡◌, ◌≤◌, length, ℕ, List, [], ◌∷◌, ◌++◌, Result, Ok, sym, subst, ◌∙◌, arith}
 use Rattle.std.proofs.lemmas.List.Elements.{All-nil, All-cons}
 use Rattle.std.specs.Array.Iter.{array_into_iter_items, array_steps}
@@ -24,11 +24,11 @@ use Rattle.wasm_types.proofs.TypeLaws.{types_section}
 pub new_types : {entries : List (List ℕ)} → entries ≡ [] → HoldsTypes entries []
 new_types e = new_section e
 
--- the same entries
+-- Equal entries hold the same types.
 pub same_types : {old new : List (List ℕ)} {items : List TypeItem} → HoldsTypes old items → new ≡ old → HoldsTypes new items
 same_types {items = items} before e = subst (λ entries. HoldsTypes entries items) (sym e) before
 
--- parameters, results or fields, each of which is plain
+-- Parameters, results or fields, each of which is well-formed, as a vector that fits.
 pub counted : {X : Type 0} (P : X → Type 0) (xs : List X) → AllByRecursion P xs → length xs ≤ longest → VecFits P xs
 counted P xs are few = record { count = few; members = all P xs are }
   where
@@ -36,16 +36,17 @@ counted P xs are few = record { count = few; members = all P xs are }
     all P [] h = All-nil P
     all P (x ∷ xs) h = All-cons P x xs h.0 (all P xs h.1)
 
--- a type or a group of types: `subtype`, `rec`
+-- The section gains a type or a recursion group: `subtype`, `rec`.
 pub adds_type : {old new : List (List ℕ)} {items : List TypeItem} → HoldsTypes old items → (item : TypeItem) → new ≡ old ++ type_text item ∷ [] → IsType item → HoldsTypes new (items ++ item ∷ [])
 adds_type before item e plain = adds_item before item e plain
 
--- a type of this shape alone: `function`, `func_type`, `array`, `struct_`, `cont`
+-- The section gains a type of this shape alone: `function`, `func_type`, `array`, `struct_`,
+-- `cont`.
 pub adds_shape : {old new : List (List ℕ)} {items : List TypeItem} → HoldsTypes old items → (shape : Shape) → new ≡ old ++ shape_text shape ∷ [] → IsShape shape → HoldsTypes new (items ++ plain_type shape ∷ [])
 adds_shape before shape e plain =
     adds_type before (plain_type shape) e (record { supertypes = record { count = omega arith; members = All-nil _ }; composite = record { describes = tt; descriptor = tt; shape = plain } })
 
--- what a call has added whose items are those of arrays
+-- The section gains an entry whose items are the elements of arrays.
 pub listed_array : {U T : Type 0} {n : ℕ} {becomes : U → IntoIter T n → Type 0} {remaining : IntoIter T n → Count} {Fits : T → Type 0} {elements : U} {text : List T → List ℕ} {old new : List (List ℕ)}
     → AddsListed becomes array_steps remaining Fits elements text old new (Ok (tt {0})) → (items : List T) → ((it : IntoIter T n) → becomes elements it → array_into_iter_items it ≡ items) → new ≡ old ++ text items ∷ []
 listed_array {text = text} {old = old} {new = new} added items are =
@@ -60,12 +61,12 @@ listed_arrays {text = text} {old = old} {new = new} added xs ys are are₂ =
     subst (λ zs. new ≡ old ++ text zs ys ∷ []) (array_items given.0 given.2 given.6 ∙ are given.0 given.4)
     (subst (λ zs. new ≡ old ++ text given.2 zs ∷ []) (array_items given.1 given.3 given.7 ∙ are₂ given.1 given.5) given.10)
 
--- a module and one more section
+-- The module gains a type section.
 pub gains_types : {readings : List SectionReading} {id : ℕ} {old new : List ℕ} {entries : List (List ℕ)} {items : List TypeItem} → ReadsSections readings old → ReadsOneMore (SectionPayload entries) id old new → SectionFits entries
     → ReadsBackBoth (counted_format type_item) (HoldsTypes entries) (HoldsWide type_item entries) (section_text entries) → HoldsTypes entries items → ReadsSections (readings ++ reading_of id (vec type_item) items ∷ []) new
 gains_types before more fits reads holds = gains_items (payloads types_section) before more fits reads holds
 
--- a section that a buffer has gained
+-- A buffer gains a type section.
 pub encodes_types : {A : Type 0} {fits : Type 0} {entries : List (List ℕ)} {old new : Vec ℕ A} {result : Result (Unit {0}) Refused} {items : List TypeItem}
     → Appends (section_text entries) fits old new result → OnOk result (ReadsBackBoth (counted_format type_item) (HoldsTypes entries) (HoldsWide type_item entries) (section_text entries)) → HoldsTypes entries items
     → OnOk result (GainsReading (counted_format type_item) items old.items new.items)

@@ -1,4 +1,4 @@
--- Where no type section stands.
+-- This file proves that certain bytes are no type section.
 use Rattle.std.proofs.Common.{◌≡◌, ℕ, ◌<◌, List, [], ◌∷◌, ◌++◌, length, Bool, true, false, refl, sym, subst, ◌∙◌, append-nil, arith}
 use Rattle.wasm_base.specs.Entries.{counted_format}
 use Rattle.wasm_base.specs.Formats.{Format, u32, byte, tagged, vec, coded, Then}
@@ -16,7 +16,7 @@ use Rattle.wasm_types.specs.declared.types.StorageType.TheVariants.{Val}
 use Rattle.wasm_types.proofs.TypeLaws.{storage_unique, val_storage, types_section}
 use Rattle.wasm_base.proofs.SectionLaws.{unique}
 
--- ---- what follows a front that is known, up to the last byte
+-- ---- the suffix of a known front, up to the last byte
 
 behind_byte : {X : Type 0} {G : ℕ → Format X} (b : ℕ) (rest : List ℕ) (x : X) → tagged byte G wide (b ∷ rest) x → G b wide rest x
 behind_byte {G = G} b rest x h =
@@ -64,7 +64,7 @@ padded_group =
     nothing_wide {F = counted_format type_item} (4 ∷ 1 ∷ 206 ∷ 0 ∷ 0 ∷ []) (unique types_section)
     (λ after rest xs h. let x = one_item {F = type_item} 4 (206 ∷ 0 ∷ 0 ∷ []) after rest h.front xs (omega arith) refl h.split h.spelled in no_group x.0 x.1)
 
--- ---- a final type that is spelled with an empty list of supertypes
+-- ---- a final type that is encoded with an empty list of supertypes
 
 no_indices : vec u32 wide (0 ∷ []) []
 no_indices = record { front = 0 ∷ []; back = []; joined = refl; first = u32_small wide 0 (omega arith); second = refl }

@@ -1,4 +1,4 @@
--- How storage and field types are read.
+-- This file proves how readers decode storage and field types.
 use Rattle.std.proofs.Common.{◌≡◌, ◌≢◌, ℕ, List, ◌++◌, Bool, true, false, refl, sym, ap, subst, ◌∙◌, append_assoc}
 use Rattle.wasm_base.specs.Numbers.{wide}
 use Rattle.wasm_base.specs.Formats.{Format, Then, byte, coded, choice, pair}
@@ -13,7 +13,7 @@ use Rattle.wasm_types.specs.declared.types.StorageType.{StorageType}
 use Rattle.wasm_types.specs.declared.types.StorageType.TheVariants.{I8, I16, Val}
 use Rattle.wasm_types.proofs.TypeLaws.{val_storage}
 
--- ---- one value, and then another
+-- ---- one value, then another
 
 pub first_of_both : {X Y : Type 0} {F : Format X} {G : X → Format Y} {bytes rest : List ℕ} {p : X × Y} → Reads (Then F G) wide bytes p rest → (middle : List ℕ) × Reads F wide bytes p.0 middle × Reads (G p.0) wide middle p.1 rest
 first_of_both {rest = rest} h =
@@ -22,21 +22,21 @@ first_of_both {rest = rest} h =
 
 -- ---- a choice of tags
 
--- what this tag tells
+-- The format that this tag selects.
 pub at_tag : {X : Type 0} (G : ℕ → Format X) (tag : ℕ) {b : ℕ} {bytes rest : List ℕ} {x : X} → b ≡ tag → Reads (G tag) wide bytes x rest → Reads (G b) wide bytes x rest
 at_tag G tag {bytes = bytes} {rest = rest} {x = x} e h = subst (λ c. Reads (G c) wide bytes x rest) (sym e) h
 
 pub not_tag : {X : Type 0} (G : ℕ → Format X) (tag : ℕ) {b : ℕ} {bytes : List ℕ} → b ≡ tag → ReadsNothing (G tag) wide bytes → ReadsNothing (G b) wide bytes
 not_tag G tag {bytes = bytes} e h = subst (λ c. ReadsNothing (G c) wide bytes) (sym e) h
 
--- what another tag tells
+-- The format that any other tag selects.
 pub at_other : {X : Type 0} (cs : List (ℕ × Format X)) (other : ℕ → Format X) {b : ℕ} {bytes rest : List ℕ} {x : X} → IsOther cs b → Reads (other b) wide bytes x rest → Reads (choice cs other b) wide bytes x rest
 at_other cs other {b = b} {bytes = bytes} {rest = rest} {x = x} p h = subst (λ F. Reads F wide bytes x rest) (sym (choice_other cs other b p)) h
 
 pub not_other : {X : Type 0} (cs : List (ℕ × Format X)) (other : ℕ → Format X) {b : ℕ} {bytes : List ℕ} → IsOther cs b → ReadsNothing (other b) wide bytes → ReadsNothing (choice cs other b) wide bytes
 not_other {X} cs other {b = b} {bytes = bytes} p h = subst (λ F. ReadsNothing {X = X} F wide bytes) (sym (choice_other cs other b p)) h
 
--- ---- whether a field can be set
+-- ---- mutability
 
 pub unset_reads : (bytes rest : List ℕ) (b : ℕ) → Reads byte wide bytes b rest → b ≡ 0 → Reads (coded mutable_code) wide bytes false rest
 unset_reads bytes rest b h e = code_reads mutable_code bytes rest b false h e
@@ -73,7 +73,7 @@ i16_reads bytes rest b h e = tagged_reads {G = after_storage} h (at_tag after_st
 pub val_reads : (bytes rest : List ℕ) (ty : ValType) → Reads val_type wide bytes ty rest → Reads storage_type wide bytes (Val ty) rest
 val_reads bytes rest ty h = record { front = h.front; split = h.split; spelled = val_storage wide h.front ty h.spelled }
 
--- Where the first byte is no packed type's, a value type stands there or nothing.
+-- If the first byte is of no packed type, only a value type can decode.
 pub val_nothing : (bytes rest : List ℕ) (b : ℕ) → Reads byte wide bytes b rest → b ≢ 0x78 → b ≢ 0x77 → ReadsNothing val_type wide bytes → ReadsNothing storage_type wide bytes
 val_nothing bytes rest b h p q none = tagged_nothing {G = after_storage} byte_unique h (not_other storage_tags storage_val (p, (q, tt)) (mapped_nothing Val left))
   where

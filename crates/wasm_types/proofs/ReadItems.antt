@@ -1,4 +1,4 @@
--- How subtypes and groups of them are read.
+-- This file proves how readers decode subtypes and recursion groups.
 use Rattle.std.proofs.Common.{◌≡◌, ◌≢◌, ℕ, map, ◌<◌, List, [], ◌∷◌, length, true, false, sym, subst, arith}
 use Rattle.std.proofs.lemmas.List.{map-id}
 use Rattle.wasm_base.specs.Numbers.{wide}
@@ -12,7 +12,7 @@ use Rattle.wasm_types.specs.RecTypes.{Composite, Sub, TypeItem, single, group, a
 use Rattle.wasm_types.proofs.TypeLaws.{composite_unique}
 use Rattle.wasm_types.proofs.ReadFields.{first_of_both, at_tag, not_tag, at_other, not_other}
 
--- ---- supertypes, and a composite type
+-- ---- supertypes, then a composite type
 
 pub supertypes_reads : {bytes middle rest : List ℕ} {xs : List ℕ} {b : ℕ} {x : Composite} → Reads (pair (vec u32) byte) wide bytes (map (λ n. n) xs, b) middle → Reads (after_composite b) wide middle x rest → Reads supertypes_and wide bytes (xs, x) rest
 supertypes_reads {bytes = bytes} {middle = middle} {xs = xs} {b = b} h g =

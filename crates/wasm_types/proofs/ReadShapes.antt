@@ -1,4 +1,4 @@
--- How composite types are read.
+-- This file proves how readers decode composite types.
 use Rattle.std.proofs.Common.{◌≡◌, ◌≢◌, ℕ, map, List, [], ◌∷◌, ◌++◌, Option, Some, None, Bool, true, false, refl, sym, ap, subst, ◌∙◌}
 use Rattle.std.proofs.lemmas.List.{map-id}
 use Rattle.wasm_base.specs.Numbers.{wide}
@@ -48,10 +48,10 @@ shape_unknown bytes b p q r s = no_choice shape_tags b bytes (p, (q, (r, (s, tt)
 
 pub ruleset shape_steps = (func_reads, func_none, array_reads, array_none, structure_reads, structure_none, cont_reads, cont_none, shape_unknown)
 
--- ---- an index that may stand before, and what follows
+-- ---- an optional index, then a value
 
 module _ {X : Type 0} (tag : ℕ) (F : ℕ → Format X) (here : with_index tag F tag ≡ mapped given_index (pair u32 (tagged byte F))) where
-  -- the index and the next byte, and then the value that this tells
+  -- The index and the next byte, then the value that this byte selects.
   pub index_reads : {b n next : ℕ} {x : X} {bytes middle rest : List ℕ} → b ≡ tag → Reads (pair u32 byte) wide bytes (n, next) middle → Reads (F next) wide middle x rest → Reads (with_index tag F b) wide bytes (Some n, x) rest
   index_reads {n = n} {x = x} {bytes = bytes} {rest = rest} e h g =
       let parts = first_of_both h in

@@ -1,4 +1,4 @@
--- What was read is plain, so its text is its one shortest spelling.
+-- This file proves that decoded types are well-formed, so that their encoding is the minimal one.
 use Rattle.std.proofs.Common.{◌≡◌, ◌≢◌, ℕ, ◌^◌, ◌<◌, List, [], ◌∷◌, ◌++◌, length, map, Bool, true, false, Option, Result, Ok, Err, refl, sym, ap, ap₂, subst, eqb, arith}
 use Rattle.std.specs.List.{flat_map}
 use Rattle.std.proofs.lemmas.Int.{ints}
@@ -117,7 +117,7 @@ after_type_is =
 pub type_is : AllValues IsType type_item
 type_is = told_values IsType after_type after_type_is
 
--- ---- texts
+-- ---- encodings
 
 pub before_none : (xs : List ℕ) → length xs ≡ 0 → before_text true xs ≡ []
 before_none [] e = refl
@@ -148,7 +148,7 @@ types_appended Fits xs old new fits e = records_appended type_item entry_view en
 
 -- ---- calls
 
--- a group, by the slice of its subtypes
+-- A recursion group, by the slice of its subtypes.
 pub group_appended : {A B : Type 0} (subs slice : List (SubItem A)) {old new : Vec ℕ B} {result : Result (Unit {0}) Refused} → slice ≡ subs
     → Appends (0x4E ∷ vec_text (λ s. sub_text (sub_view s)) slice) (Unit {0} × VecFits SubItemFits slice) old new result → Appends (0x4E ∷ vec_text (λ s. sub_text (sub_view s)) subs) (VecFits SubItemFits subs) old new result
 group_appended subs slice {old = old} {new = new} {result = result} e a =
@@ -161,7 +161,7 @@ group_appended subs slice {old = old} {new = new} {result = result} e a =
       capacity = a.capacity;
     })
 
--- entries behind their number
+-- The entries behind their count.
 pub each_appended : {A B : Type 0} (xs : List (TypeEntry A)) {old new : Vec ℕ B} {result : Result (Unit {0}) Refused} → Appends (vec_text entry_text xs) (VecFits EntryFits xs) old new result
     → OnOk result (AppendsShortest (vec type_item) (map entry_view xs) old.items new.items)
 each_appended xs {old = old} {new = new} {result = Ok u} a = types_appended EntryFits xs old.items new.items a.fitted a.ok

@@ -1,4 +1,5 @@
--- Types that a module defines are read uniquely, and their texts spell them.
+-- This file proves that the entries of a type section are unambiguous and that their encodings
+-- encode them.
 use Rattle.std.proofs.Common.{◌≡◌, ◌≢◌, ℕ, zero, suc, ◌<◌, List, [], ◌∷◌, ◌++◌, length, Bool, true, false, cond, Option, Some, None, refl, sym, ap, ◌∙◌, arith, pos}
 use Rattle.std.proofs.lemmas.Bool.{ne_eqb}
 use Rattle.wasm_base.specs.Entries.{ItemLaws}
@@ -21,17 +22,17 @@ use Rattle.wasm_types.specs.declared.types.StorageType.{StorageType}
 use Rattle.wasm_types.specs.declared.types.StorageType.TheVariants.{I8, I16, Val}
 use Rattle.wasm_base.proofs.SectionLaws.{SectionLaws, counted_laws}
 
--- ---- one tag before others
+-- ---- one tag before other values
 
--- A format that is told by its first byte is read uniquely.
+-- A format that its first byte determines is unambiguous.
 told_unique : {X : Type 0} (tag : X → ℕ) {G : ℕ → Format X} → TellsTag G tag → ((b : ℕ) → UniqueReading (G b)) → UniqueReading (tagged byte G)
 told_unique tag {G} tells all = tagged_unique tag tells byte_unique all
 
--- What another tag tells stands behind a byte that isn't this one.
+-- A byte other than the tag selects the format without it.
 other_at : {X : Type 0} (tag : ℕ) (F : Format X) (G : ℕ → Format X) (b : ℕ) → b ≢ tag → (mode : Mode) (s : List ℕ) (x : X) → G b mode s x → choice ((tag, F) ∷ []) G b mode s x
 other_at tag F G b differs mode s x h = rw (ne_eqb b tag differs) h
 
--- the same value, as a value of a larger format
+-- The same value, as a value of a larger format.
 lifted : {X Y : Type 0} (P : ℕ → Type 0) (f : X → Y) {G : ℕ → Format X} {H : ℕ → Format Y} → ((b : ℕ) (mode : Mode) (s : List ℕ) (x : X) → G b mode s x → P b) → ((b : ℕ) → P b → (mode : Mode) (s : List ℕ) (x : X) → G b mode s x → H b mode s (f x))
     → (mode : Mode) (s : List ℕ) (x : X) → tagged byte G mode s x → tagged byte H mode s (f x)
 lifted P f tags to mode s x h = (
@@ -97,7 +98,7 @@ shape_after_unique =
     )
     (λ b. impossible_unique)
 
--- ---- indices that may stand before
+-- ---- optional indices
 
 abbrev one_tag : ℕ → Option ℕ → ℕ → ℕ
 one_tag tag (Some index) other = tag
@@ -231,9 +232,9 @@ type_tells = choice_tells type_tag group_tags not_group (λ mode s x h. ap type_
 pub type_unique : UniqueReading type_item
 type_unique = told_unique type_tag type_tells (choice_unique group_tags not_group (mapped_unique group (λ x y e. cc) (vec_unique sub_unique), tt) (λ b. mapped_unique single (λ x y e. cc) (sub_after_unique b)))
 
--- ---- texts
+-- ---- encodings
 
--- the first bytes of value types that aren't those of packed types
+-- The first bytes of value types that are not those of packed types.
 abbrev IsUnpacked : ℕ → Type 0
 IsUnpacked b = (b ≢ 0x78) × (b ≢ 0x77)
 
@@ -268,19 +269,19 @@ shape_spelled (array field) p = tagged_spelled {G = after_shape} shortest 0x5E (
 shape_spelled (structure fields) p = tagged_spelled {G = after_shape} shortest 0x5F (vec_text field_text fields) (structure fields) (fields, refl, vec_spelled field_type IsField field_text field_spelled fields p)
 shape_spelled (cont index) p = tagged_spelled {G = after_shape} shortest 0x5D (signed_text (pos index)) (cont index) (index, refl, s33_spelled index p)
 
--- the bytes that shapes begin with
+-- The first bytes of shapes.
 abbrev IsShapeByte : ℕ → Type 0
 IsShapeByte b = (0x5C < b) × (b < 0x61)
 
--- the bytes that composite types begin with: no other type's
+-- The first bytes of composite types, which begin no other entry.
 abbrev IsCompositeByte : ℕ → Type 0
 IsCompositeByte b = (b ≢ 0x4E) × (b ≢ 0x4F) × (b ≢ 0x50)
 
--- the same where they aren't shared
+-- The same if they are not shared.
 abbrev IsUnsharedByte : ℕ → Type 0
 IsUnsharedByte b = IsCompositeByte b × (b ≢ 0x65)
 
--- the same where they describe no type
+-- The same if they describe no type.
 abbrev IsDescriptorByte : ℕ → Type 0
 IsDescriptorByte b = IsUnsharedByte b × (b ≢ 0x4C)
 
@@ -306,7 +307,7 @@ composite_bytes = choice_tags IsCompositeByte shared_tags not_shared ((omega ari
 sub_bytes : (b : ℕ) (mode : Mode) (s : List ℕ) (x : Sub) → after_sub b mode s x → b ≢ 0x4E
 sub_bytes = choice_tags (λ b. b ≢ 0x4E) sub_tags not_before (omega arith, (omega arith, tt)) (λ b mode s x h. (composite_bytes b mode s h.0 h.2).0)
 
--- a value with an index that may stand before
+-- A value with an optional index before it.
 index_spelled : {X : Type 0} (P : ℕ → Type 0) (tag : ℕ) (F : ℕ → Format X) → ((b : ℕ) (mode : Mode) (s : List ℕ) (x : X) → F b mode s x → P b) → ((b : ℕ) → P b → b ≢ tag)
     → ((s : List ℕ) (p : Option ℕ × X) → mapped given_index (pair u32 (tagged byte F)) shortest s p → with_index tag F tag shortest s p)
     → (index : Option ℕ) (s : List ℕ) (x : X) → IsGivenIndex index → tagged byte F shortest s x → tagged byte (with_index tag F) shortest (index_text tag index ++ s) (index, x)

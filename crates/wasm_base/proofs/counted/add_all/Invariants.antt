@@ -2,7 +2,7 @@ use Rattle.std.proofs.Common.{take}
 use Rattle.wasm_base.specs.Calls.{AddsEach}
 use Rattle.wasm_base.proofs.counted.add_all.Given as goal
 
--- the items before this one have been added, and nothing else
+-- The builder has gained exactly the items before this one.
 abbrev pub invariant-loop-added : goal.invariant-loop-added
 invariant-loop-added g l =
     AddsEach g.B.Counted.item_text g.B.Counted.item_fits (take l.added l.items) (g.B.Counted.pieces l.fn.builder) (g.B.Counted.pieces l.builder)

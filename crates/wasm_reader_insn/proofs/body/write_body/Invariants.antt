@@ -7,7 +7,7 @@ use Rattle.wasm_reader_insn.specs.Walks.{ahead}
 use Rattle.wasm_reader_insn.proofs.Calls.{HasWalked}
 use Rattle.wasm_reader_insn.proofs.body.write_body.Given as goal
 
--- what the walk has gone over, and its text
+-- The visited instructions, and the encoding that is written for them.
 abbrev pub invariant-loop-instructions : goal.invariant-loop-instructions
 invariant-loop-instructions g l =
     (seen : List Plain) × HasWalked (ahead l.initial.instructions) seen (ahead l.instructions) × (l.instructions.place ≤ length l.bytes) × (l.instructions.bytes ≡ l.bytes)
