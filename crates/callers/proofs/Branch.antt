@@ -1,4 +1,4 @@
--- Small numbers have one byte.
+-- This file proves the bytes of a caller that encodes a branch, whose numbers have one byte each.
 use Rattle.std.proofs.Common.{◌≡◌, ℕ, ◌<◌, ◌+◌, List, [], ◌∷◌, ◌++◌, length, false, pos, refl, ap, arith, append_assoc, length-append}
 use Rattle.wasm_base.specs.Numbers.{signed_text}
 use Rattle.wasm_base.proofs.NumberTexts.{groups_text-last}

@@ -1,4 +1,4 @@
--- Small numbers have one byte.
+-- This file proves that small numbers have one byte.
 use Rattle.std.proofs.Common.{◌≡◌, ℕ, ◌<◌, [], ◌∷◌, false}
 use Rattle.wasm_base.specs.Numbers.{unsigned_text}
 use Rattle.wasm_base.proofs.NumberTexts.{one_group}

@@ -1,4 +1,4 @@
--- How those bodies are read.
+-- This file proves how the bodies of `Readings` decode.
 use Rattle.std.proofs.Common.{◌≡◌, ◌++◌, [], ◌∷◌, Some, pos, false, arith, refl}
 use Rattle.std.proofs.lemmas.Int.{ints}
 use Rattle.std.specs.declared.alloc.Global.{Global}

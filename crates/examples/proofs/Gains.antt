@@ -1,4 +1,4 @@
--- Operations whose instructions are added one after another.
+-- This file proves how a body gains the instructions of operations, one after another.
 use Rattle.std.proofs.Common.{◌≡◌, ℕ, ◌+◌, ◌<◌, List, [], ◌∷◌, ◌++◌, length, take, get_or, Result, Ok, Err, sym, ap, subst, ◌∙◌, append_assoc, append-nil}
 use Rattle.std.specs.List.{flat_map}
 use Rattle.std.specs.Prelude.{OnOk}
@@ -12,17 +12,17 @@ use Rattle.examples.specs.Bodies.{row}
 use Rattle.examples.specs.Lowering.{instruction_of, rows_of, GainsOperations}
 use Rattle.examples.specs.declared.lowering.Operation.{Operation}
 
--- none
+-- No operations.
 pub gains_none : {bytes : List ℕ} → GainsOperations [] bytes bytes
 gains_none {bytes = bytes} = record { plain = λ x spelled. subst (λ s. IsPlainBody bytes (record { runs = x.runs; code = s })) (sym (append-nil x.code)) spelled }
 
--- one, which a call adds
+-- One operation, which a call adds.
 pub gains_one : {i : Instruction Global} {old new : List ℕ} {result : Result (Unit {0}) Refused} (operation : Operation) → AddsInstruction i old new result → i ≡ instruction_of operation → IsPlainInstruction i
     → OnOk result (GainsOperations (operation ∷ []) old new)
 gains_one {new = new} {result = Ok u} operation added same plain = record { plain = λ x spelled. subst (λ j. IsPlainBody new (and_then x (row j ∷ []))) same (added.ok.plain plain x spelled) }
 gains_one {result = Err e} operation added same plain = tt
 
--- some, and then others
+-- Some operations, then others.
 pub gains_more : {first second : List Operation} {old between new : List ℕ} → GainsOperations first old between → GainsOperations second between new → GainsOperations (first ++ second) old new
 gains_more {first = first} {second = second} {new = new} g h = record {
   plain = λ x spelled.
@@ -31,13 +31,13 @@ gains_more {first = first} {second = second} {new = new} g h = record {
       (h.plain (and_then x (rows_of first)) (g.plain x spelled));
 }
 
--- those of one more member of a list
+-- The operations of one more member of a list.
 pub gains_member : {X : Type 0} (f : X → List Operation) (xs : List X) (i : ℕ) (x : X) {old between new : List ℕ} → i < length xs → x ≡ get_or xs i x
     → GainsOperations (flat_map f (take i xs)) old between → GainsOperations (f x) between new → GainsOperations (flat_map f (take (i + 1) xs)) old new
 gains_member f xs i x {old = old} {new = new} low is g h =
     subst (λ s. GainsOperations s old new) (flat_map_more f [] (take i xs) x ∙ ap (λ y. flat_map f (take i xs ++ y ∷ [])) is ∙ ap (flat_map f) (sym (take_more xs i x low))) (gains_more g h)
 
--- some, and then others, by a call that may be refused
+-- Some operations, then others, by a fallible call.
 pub gains_last : {first : List Operation} {old between : List ℕ} (second : List Operation) (new : List ℕ) (result : Result (Unit {0}) Refused) → GainsOperations first old between → OnOk result (GainsOperations second between new)
     → OnOk result (GainsOperations (first ++ second) old new)
 gains_last second new (Ok u) g h = gains_more g h

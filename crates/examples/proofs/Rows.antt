@@ -1,4 +1,4 @@
--- The parts of a tree that stand in a slice, as a list.
+-- This file proves the operations of a tree whose children are a slice.
 use Rattle.std.proofs.Common.{◌≡◌, ℕ, List, [], ◌∷◌, ◌++◌, refl, sym, ap, ◌∙◌}
 use Rattle.std.specs.Borrow.{Bor}
 use mathlib.Core.Former.{Count}
@@ -10,12 +10,12 @@ use Rattle.examples.specs.declared.trees.Expr.TheVariants.{Call, Call'}
 use Rattle.examples.specs.declared.trees.Statement.{Statement, Row_of-Statement, end_of-Statement, more_of-Statement, items-the_row-Statement, items_hidden-the_row-Statement-0}
 use Rattle.examples.specs.declared.trees.Statement.TheVariants.{While, While'}
 
--- the arguments of a call
+-- The arguments of a call.
 abbrev arguments_of : Expr → (shape : Count) × Row_of-Expr shape
 arguments_of (Call' index p shape arguments) = (_, arguments)
 arguments_of _ = (_, end_of-Expr)
 
--- the statements of a loop
+-- The statements of a loop.
 abbrev body_of : Statement → (shape : Count) × Row_of-Statement shape
 body_of (While' test p shape body) = (_, body)
 body_of _ = (_, end_of-Statement)
@@ -28,13 +28,13 @@ body_listed : (shape : _) (row : Row_of-Statement shape) → body_operations row
 body_listed _ end_of-Statement = refl
 body_listed _ (more_of-Statement statement others) = ap (λ s. statement_operations statement ++ s) (body_listed _ others)
 
--- a call: the operations of each argument, and then its own
+-- The operations of a call are those of each argument, then its own.
 pub call_listed : (index : ℕ) (arguments : Bor (List Expr)) → flat_map expr_operations arguments.now ++ operations.Call index ∷ [] ≡ expr_operations (Call index arguments)
 call_listed index arguments =
     let row = arguments_of (Call index arguments) in
     ap (λ s. s ++ operations.Call index ∷ []) (sym (arguments_listed row.0 row.1 ∙ ap (flat_map expr_operations) (items_hidden-the_row-Expr-0 arguments.now)))
 
--- a loop: the operations of each statement, between its own
+-- The operations of a loop are its own, with those of each statement between them.
 pub while_listed : (test : Expr) (body : Bor (List Statement)) → while_operations (expr_operations test) (flat_map statement_operations body.now) ≡ statement_operations (While test body)
 while_listed test body =
     let row = body_of (While test body) in

@@ -1,4 +1,5 @@
--- A `&` to a `Refusing` is one to its allocator and one to its gate. Assumes `Logic`.
+-- This file proves that a `&` to a `Refusing` is one to its allocator and one to its gate. It
+-- assumes `Logic`.
 use Rattle.std.proofs.Common.{ℕ, ◌+◌, [], ◌∷◌}
 use seplogic.Ra.Ura.{Ura}
 use base.Logic.{ent, sep, id⊢}
@@ -18,14 +19,14 @@ module _ (B : Al) where
   abbrev pub Whole : RattleType
   Whole = refusing.the_row (param 0 B.row)
 
-  -- where the allocator lies, and where the gate, in a `Refusing` that lies at this place
+  -- The locations of the allocator and of the gate in a `Refusing` at this location.
   abbrev pub inner_at : ℕ × ℕ → ℕ × ℕ
   inner_at at = (at.0, at.1 + up (align (α B)) 0)
 
   abbrev pub gate_at : ℕ × ℕ → ℕ × ℕ
   gate_at at = (at.0, at.1 + up 8 (up (align (α B)) 0 + size (α B)))
 
--- a `&` to a gate
+-- A `&` to a gate.
 abbrev pub gate_seen : Lft → ℕ × ℕ → gate.the_row.Denot → Fml
 gate_seen κ at x = hidden_shr gate.the_row κ x at.0 at.1
 

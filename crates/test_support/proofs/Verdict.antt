@@ -1,4 +1,5 @@
--- A call of `Gate::refuses`: it is handed a `&` to the gate, and a `bool` comes back. Assumes `Logic`.
+-- This file proves a call of `Gate::refuses`: it takes a `&` to the gate, and returns a `bool`. It
+-- assumes `Logic`.
 use Rattle.std.proofs.Common.{◌≡◌, ℕ, List, [], ◌∷◌, refl, ap}
 use seplogic.Ra.Ura.{Ura}
 use mathlib.Core.Bool.{Bool}
@@ -26,7 +27,7 @@ module _ {M : Type 1} {𝓤 : Ura M} (𝓛 : Logic 𝓤) (mem : Memory → SProp
     abbrev pub asked : Verdict.Ghost
     asked = (((κ, tt), (q, tt), tt, (record { ref_ptr = at; now = x }, tt), (vptr at.0 at.1 ∷ [], tt)), tt)
 
-    -- what the call takes: the `&`, and the token that its lifetime lasts
+    -- The call takes the `&` and the token of its lifetime.
     pub asks : ent 𝓤 (sep 𝓤 (sem 𝓛 (gate_seen κ at x)) (sem 𝓛 (flft κ q))) (Verdict.pre asked)
     asks =
         qed 𝓛 (‵ (gate_seen κ at x) ∷ ‵ (flft κ q) ∷ []) ∵ feq_i ! (List Val) (vptr at.0 at.1 ∷ []) _ refl $ fjoin ! $
@@ -35,7 +36,7 @@ module _ {M : Type 1} {𝓤 : Ura M} (𝓛 : Logic 𝓤) (mem : Memory → SProp
     abbrev pub Told : Val → Bool → SProp 𝓤
     Told v refused = guard 𝓤 (v ≡ vbool refused) (sem 𝓛 (flft κ q))
 
-    -- what comes back: a `bool`, and the token
+    -- The call returns a `bool` and the token.
     pub tells : (v : Val) → ent 𝓤 (Verdict.post asked v) (𝓛.H.⇛ (ex 𝓤 (Told v)))
     tells v =
         qed 𝓛 (raw (Verdict.post asked v) ∷ []) ∵ updating ! $

@@ -1,4 +1,4 @@
--- How many bytes the first pieces have together.
+-- This file proves the number of bytes of the first pieces together.
 use Rattle.std.proofs.Common.{◌≡◌, ℕ, zero, suc, ◌≤◌, arith, ◌+◌, List, ◌∷◌, [], ◌++◌, length, get_or, take, ap, ◌∙◌, Some, length-append}
 use Rattle.std.specs.List.{slice_get}
 use Rattle.std.proofs.lemmas.List.{take_more}

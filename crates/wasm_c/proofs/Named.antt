@@ -1,4 +1,4 @@
--- Names of sections stand in the module, behind their lengths.
+-- This file proves that the names of sections are in the module, behind their lengths.
 use Rattle.std.proofs.Common.{◌≡◌, ℕ, ◌<◌, ◌≤◌, ◌+◌, suc, List, [], ◌∷◌, ◌++◌, length, get_or, drop, Option, Some, None, IfSome, if◌then◌else◌, nat_lt, option_map, refl, sym, ap, subst, ◌∙◌, append_assoc, arith}
 use Rattle.std.specs.Prelude.{All}
 use Rattle.std.specs.List.{AllByRecursion, flat_map}
@@ -12,14 +12,14 @@ use Rattle.wasm_reader.specs.Outlines.{Section, IsSection, IsNameOf, IsOutline, 
 use Rattle.wasm_reader.specs.declared.outlines.Outlined.{Outlined}
 use Rattle.wasm_c.specs.Outlining.{continued, behind_number, name_of, IsNamed}
 
--- a byte with bit 7 is not the last
+-- A byte with bit 7 set is not the last of a number.
 pub continued_more : (b : ℕ) (bs : List ℕ) → 0x80 ≤ b → continued (b ∷ bs) ≡ suc (continued bs)
 continued_more b bs h = ap (λ t. if t then 0 else suc (continued bs)) (le-ltb b 0x80 h)
 
 continued_last : (b : ℕ) (bs : List ℕ) → b < 0x80 → continued (b ∷ bs) ≡ 0
 continued_last b bs h = ap (λ t. if t then 0 else suc (continued bs)) (lt-ltb b 0x80 h)
 
--- the same of the byte at a place
+-- The same for the byte at an offset.
 pub number_more : (bytes : List ℕ) (i b : ℕ) → i < length bytes → b ≡ get_or bytes i b → 0x80 ≤ b → behind_number bytes (i + 1) ≡ behind_number bytes i
 number_more bytes i b inside is h = omega (arith, ap continued (drop_more bytes i b inside) ∙ ap (λ z. continued (z ∷ drop (i + 1) bytes)) (sym is) ∙ continued_more b (drop (i + 1) bytes) h)
 
@@ -28,13 +28,13 @@ number_ends bytes i b inside is h = omega (arith, ap continued (drop_more bytes 
 
 pub ruleset number_steps = (number_more, number_ends)
 
--- the bytes of a number are those with bit 7, and one more
+-- The bytes of a number are those with bit 7 set, and one more.
 groups_length : (s rest : List ℕ) → AreGroups s → suc (continued (s ++ rest)) ≡ length s
 groups_length [] rest h = absurd h
 groups_length (b ∷ []) rest h = ap suc (continued_last b rest h)
 groups_length (b ∷ c ∷ bs) rest h = ap suc (continued_more b (c ∷ bs ++ rest) h.0 ∙ groups_length (c ∷ bs) rest h.2)
 
--- A name that is read at the front of a payload is read at its place in the module.
+-- A name that decodes at the front of a payload decodes at the payload's offset in the module.
 named : (bytes front payload after : List ℕ) (offset : ℕ) (n rest : List ℕ) → bytes ≡ front ++ (payload ++ after) → length front ≡ offset → Reads name wide payload n rest
     → (rest : List ℕ) × Reads name wide (drop offset bytes) n rest × (behind_number bytes offset + length n + length rest ≡ length bytes)
 named bytes front payload after offset n rest e o h =
@@ -48,13 +48,13 @@ named bytes front payload after offset n rest e o h =
       omega (arith, number, o, ap length e, length-append front (payload ++ after), ap length (sym here ∙ text), length-append f.front (f.content ++ (rest ++ after)), length-append f.content (rest ++ after), ap length f.spelled),
     )
 
--- the same where there may be none
+-- The same for an optional name.
 given : (bytes front payload after : List ℕ) (offset id : ℕ) (n : Option (List ℕ)) → bytes ≡ front ++ (payload ++ after) → length front ≡ offset → IsNameOf id payload n
     → IfSome n (λ n. (rest : List ℕ) × Reads name wide (drop offset bytes) n rest × (behind_number bytes offset + length n + length rest ≡ length bytes))
 given bytes front payload after offset id None e o i = tt
 given bytes front payload after offset id (Some n) e o i = named bytes front payload after offset n i.1 e o i.2
 
--- the same of a line
+-- The same for a line.
 line_named : (bytes front after : List ℕ) (s : Section) (l : Outlined) → bytes ≡ front ++ (bytes_of s ++ after) → IsSection s → IsOutline (length front) s l → IsNamed bytes l
 line_named bytes front after s l e h o =
     let f = h.holds in
@@ -73,6 +73,6 @@ lines_named front (s ∷ ss) (l ∷ ls) h o = (
 lines_named front [] (l ∷ ls) h o = absurd o
 lines_named front (s ∷ ss) [] h o = absurd o
 
--- The names of an outline stand where it tells.
+-- The names of an outline are at the offsets that it reports.
 pub all_named : (bytes : List ℕ) (lines : List Outlined) → HasOutline bytes lines → All (IsNamed bytes) lines
 all_named bytes lines h = All-from_recursion (IsNamed bytes) lines (subst (λ z. AllByRecursion (IsNamed z) lines) (sym h.has.joined) (lines_named header h.sections lines h.has.each h.told))

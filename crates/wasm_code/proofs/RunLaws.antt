@@ -126,7 +126,7 @@ not_full result t old types are e fits full is = overfull t old types are e fits
 
 -- ---- calls
 
--- The call that takes the types passes their runs on.
+-- A call that takes types and passes their runs on encodes these runs.
 pub types_given : {U S V W A : Type 0} (becomes : U → S → Type 0) (gives : S → Option ValType → S → Type 0) (vec_becomes : V → W → Type 0) (vec_gives : W → Option Run → W → Type 0) (remaining : W → Count)
     (elements : U) (given : V) (runs : Vec Run A) (result : Result (List ℕ) Refused)
     → ((it : W) (xs : List Run) → vec_becomes given it → Drains vec_gives it xs → xs ≡ runs.items) → ((it : W) → vec_becomes given it → size (remaining it) ≡ length runs.items)

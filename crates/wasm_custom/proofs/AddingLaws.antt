@@ -1,4 +1,4 @@
--- What an adding call that takes iterators does, by what the entry was that it added.
+-- This file proves the effect of an adding call that takes iterators from the entry that it added.
 use Rattle.std.proofs.Common.{◌≡◌, ℕ, ◌≤◌, List, [], ◌∷◌, ◌++◌, Result, Ok, Err, Option, ap, ap₂, ◌∙◌, subst, arith}
 use Rattle.std.specs.Iterator.{Count, size}
 use Rattle.wasm_base.specs.Once.{AddsOnce, GivesPair, GivesTriple, GivesVec, YieldsFitting}
@@ -58,7 +58,7 @@ module _ {U S V R T W : Type 0} (becomes : U → S → Type 0) (gives : S → Op
     too_many_then = λ many. absurd (omega (arith, many jt made, tells, low));
   }
 
--- the same of a section that is seen in another way
+-- The same for a section that is viewed in another way.
 pub adds_two_from : {U S V R T W : Type 0} {becomes : U → S → Type 0} {gives : S → Option T → S → Type 0} {remaining : S → Count} {first : U} {turns : V → R → Type 0} {hands : R → Option W → R → Type 0} {left : R → Count} {second : V}
     {Fits : T → Type 0} {Suits : W → Type 0} {text : List T → List W → List ℕ} {old same new : List (List ℕ)} {result : Result (Unit {0}) Refused}
     → old ≡ same → AddsTwoLists becomes gives remaining first turns hands left second Fits Suits text old new result → AddsTwoLists becomes gives remaining first turns hands left second Fits Suits text same new result

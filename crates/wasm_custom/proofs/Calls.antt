@@ -1,4 +1,4 @@
--- What calls leave, step by step: lemmas that a caller cites.
+-- This file proves the effect of each call on custom sections: lemmas that a caller's proof cites.
 use Rattle.std.proofs.Common.{◌≡◌, ℕ, ◌^◌, ◌<◌, ◌≤◌, List, [], ◌∷◌, ◌++◌, length, true, false, IsUtf8, Option, Result, Ok, Err, refl, sym, ap, ap₂, subst, ◌∙◌}
 use Rattle.std.proofs.lemmas.Iterator.{items_from_drains}
 use Rattle.std.proofs.lemmas.Iterator.Adapters.{YieldsList-from_vec}
@@ -71,26 +71,26 @@ new_symbols e = new_list e
 pub new_field : {entries : List (List ℕ)} → entries ≡ [] → AreProducers entries []
 new_field e = new_list e
 
--- one more member, whose text the call has added
+-- The list gains a member, whose encoding the call has added.
 adds_member : {X : Type 0} {text : X → List ℕ} {Is : X → Type 0} {old new : List (List ℕ)} {xs : List X} → IsListOf text Is old xs → (x : X) → new ≡ old ++ text x ∷ [] → length old < longest → Is x → IsListOf text Is new (xs ++ x ∷ [])
 adds_member {text = text} {Is = Is} {xs = xs} before x e room is = subst (λ ps. IsListOf text Is ps (xs ++ x ∷ [])) (sym e) (lists_more x before room refl is)
 
--- a name, which the call has measured
+-- The map gains a name, whose length the call has checked.
 pub adds_name : {old new : List (List ℕ)} {names : List Naming} → AreNamings old names → (naming : Naming) → new ≡ old ++ (unsigned_text naming.0 ++ frame_text naming.1) ∷ [] → length old < longest → FrameFits naming.1
     → naming.0 < 2 ^ 32 → IsUtf8 naming.1 → AreNamings new (names ++ naming ∷ [])
 adds_name before naming e room fits range utf8 = adds_member before naming e room (range, (utf8, fits))
 
--- the names of what is inside, which a map holds
+-- The indirect map gains an index with the names of a map.
 pub adds_inside : {old new entries : List (List ℕ)} {insides : List Inside} {names : List Naming} → AreInsides old insides → (index : ℕ) → AreNamings entries names → new ≡ old ++ (unsigned_text index ++ list_text entries) ∷ [] → length old < longest
     → index < 2 ^ 32 → AreInsides new (insides ++ (index, names) ∷ [])
 adds_inside {old = old} {names = names} before index held e room range =
     adds_member before (index, names) (e ∙ ap (λ s. old ++ (unsigned_text index ++ s) ∷ []) (list_vector held)) room (range, held.fits)
 
--- a symbol
+-- The table gains a symbol.
 pub adds_symbol : {old new : List (List ℕ)} {symbols : List Symbol} → AreSymbols old symbols → (symbol : Symbol) → new ≡ old ++ symbol_text symbol ∷ [] → length old < longest → IsGivenSymbol symbol → AreSymbols new (symbols ++ symbol ∷ [])
 adds_symbol before symbol e room given = adds_member before symbol e room given
 
--- a value of a field, which the call has measured
+-- The field gains a value, whose lengths the call has checked.
 pub adds_value : {old new : List (List ℕ)} {values : List Producer} → AreProducers old values → (value : Producer) → new ≡ old ++ (frame_text value.0 ++ frame_text value.1) ∷ [] → length old < longest → FrameFits value.0 × FrameFits value.1
     → IsUtf8 value.0 → IsUtf8 value.1 → AreProducers new (values ++ value ∷ [])
 adds_value before value e room fits name version = adds_member before value e room ((name, fits.0), (version, fits.1))
@@ -117,27 +117,27 @@ new_instances e = new_section e
 
 -- ---- one more item
 
--- the name of the module
+-- The section gains the name of the module.
 pub adds_module_name : {old new : List (List ℕ)} {items : List NameItem} → HoldsNames old items → (n : List ℕ) → new ≡ old ++ subsection_text 0 (frame_text n) ∷ [] → IsUtf8 n → HoldsNames new (items ++ Module n ∷ [])
 adds_module_name before n e utf8 = adds_item before (Module n) e utf8
 
--- names that a map holds; that the id is one of such a map is `refl`
+-- The section gains the names of a map. That the id is of a name map is `refl`.
 pub adds_names : {old new entries : List (List ℕ)} {items : List NameItem} {names : List Naming} → HoldsNames old items → (id : ℕ) → AreNamings entries names → new ≡ old ++ subsection_text id (list_text entries) ∷ []
     → name_kind_of id ≡ of_map → HoldsNames new (items ++ Map id names ∷ [])
 adds_names {old = old} {names = names} before id held e kind =
     adds_item before (Map id names) (e ∙ ap (λ s. old ++ subsection_text id s ∷ []) (list_vector held)) (kind, held.fits)
 
--- names of what is inside, that an indirect map holds
+-- The section gains the names of an indirect map.
 pub adds_names_inside : {old new entries : List (List ℕ)} {items : List NameItem} {insides : List Inside} → HoldsNames old items → (id : ℕ) → AreInsides entries insides → new ≡ old ++ subsection_text id (list_text entries) ∷ []
     → name_kind_of id ≡ of_indirect → HoldsNames new (items ++ Indirect id insides ∷ [])
 adds_names_inside {old = old} {insides = insides} before id held e kind =
     adds_item before (Indirect id insides) (e ∙ ap (λ s. old ++ subsection_text id s ∷ []) (list_vector held)) (kind, held.fits)
 
--- the bytes of a subsection that no call names
+-- The section gains the bytes of a subsection that no call names.
 pub adds_other_names : {old new : List (List ℕ)} {items : List NameItem} → HoldsNames old items → (id : ℕ) (content : List ℕ) → new ≡ old ++ subsection_text id content ∷ [] → name_kind_of id ≡ of_other → HoldsNames new (items ++ Other id content ∷ [])
 adds_other_names before id content e kind = adds_item before (Other id content) e kind
 
--- names that given bytes spell with padded numbers, and names of what is inside
+-- The section gains name maps that raw bytes encode, possibly padded, and indirect ones.
 pub adds_raw_names : {old new : List (List ℕ)} {items : List NameItem} → HoldsWide subsection old items → (id : ℕ) (content : List ℕ) (names : List Naming) → new ≡ old ++ subsection_text id content ∷ [] → FrameFits content × Unit {0} → name_kind_of id ≡ of_map
     → name_map wide content names → HoldsWide subsection new (items ++ Map id names ∷ [])
 adds_raw_names before id content names e fits kind spelled = adds_raw_wide names_section.held_wide before (Map id names) e (names_wide id content names kind fits.0 spelled)
@@ -153,49 +153,49 @@ all_symbols symbols given flagged = λ k d l. (given k d l, all_of symbols flagg
     all_of [] h = All-nil IsAsFlagged
     all_of (x ∷ xs) h = All-cons IsAsFlagged x xs h.0 (all_of xs h.1)
 
--- symbols that a table holds, each as its flags say
+-- The section gains the symbols of a table, each of which is as its flags say.
 pub adds_symbols : {old new entries : List (List ℕ)} {items : List LinkItem} {symbols : List Symbol} → HoldsLinks old items → AreSymbols entries symbols → new ≡ old ++ subsection_text 8 (list_text entries) ∷ []
     → AllByRecursion IsAsFlagged symbols → HoldsLinks new (items ++ Symbols symbols ∷ [])
 adds_symbols {old = old} {symbols = symbols} before held e flagged =
     adds_item before (Symbols symbols) (e ∙ ap (λ s. old ++ subsection_text 8 s ∷ []) (list_vector held))
     (record { count = held.fits.count; members = all_symbols symbols held.fits.members flagged })
 
--- the architecture of the target
+-- The section gains the architecture of the target.
 pub adds_target : {old new : List (List ℕ)} {items : List LinkItem} → HoldsLinks old items → (n : List ℕ) → new ≡ old ++ subsection_text 9 (frame_text n) ∷ [] → IsUtf8 n → HoldsLinks new (items ++ Target n ∷ [])
 adds_target before n e utf8 = adds_item before (Target n) e utf8
 
--- a field of producers, whose name the call has measured
+-- The section gains a field of producers, whose name's length the call has checked.
 pub adds_field : {old new entries : List (List ℕ)} {items : List Field} {values : List Producer} → HoldsFields old items → (n : List ℕ) → AreProducers entries values → new ≡ old ++ (frame_text n ++ list_text entries) ∷ [] → FrameFits n × Unit {0} → IsUtf8 n
     → HoldsFields new (items ++ (n, values) ∷ [])
 adds_field {old = old} {values = values} before n held e fits utf8 =
     adds_item before (n, values) (e ∙ ap (λ s. old ++ (frame_text n ++ s) ∷ []) (list_vector held)) ((utf8, fits.0), held.fits)
 
--- a module of a core dump, whose name the call has measured
+-- The section gains a module of a core dump, whose name's length the call has checked.
 pub adds_core_module : {old new : List (List ℕ)} {items : List (List ℕ)} → HoldsModules old items → (n : List ℕ) → new ≡ old ++ marked_text n ∷ [] → Unit {0} × FrameFits n → IsUtf8 n → HoldsModules new (items ++ n ∷ [])
 adds_core_module before n e fits utf8 = adds_item before n e (utf8, fits.1)
 
--- ---- what iterators give
+-- ---- items of iterators
 
--- Whatever iterator is made of the elements, it gives these items.
+-- Every iterator that is made of the elements yields these items.
 pub record GivesItems {U S T : Type 0} (becomes : U → S → Type 0) (gives : S → Option T → S → Type 0) (elements : U) (items : List T) : Type 0 where
   pub given : (it : S) (xs : List T) → becomes elements it → Drains gives it xs → xs ≡ items
 
--- what the iterator of an array has: its elements, each of which is given in order
+-- The iterator of an array has exactly its elements, and yields them in order.
 abbrev becomes : {X : Type 0} {n : ℕ} → List X → IntoIter X n → Type 0
 becomes {X = X} {n = n} items it =
     (array_into_iter_items it ≡ items) × (length (array_into_iter_items it) ≡ n) × EveryRun (array_steps {A = X} {n = n}) (λ p. ItemsAre p (array_into_iter_items p.from))
     × EveryRun (array_steps_back {A = X} {n = n}) (λ p. ItemsAreReversed p (array_into_iter_items p.from))
 
--- an array
+-- An array yields its elements.
 pub array_gives : {X : Type 0} {n : ℕ} (items : List X) → GivesItems (becomes {n = n}) array_steps items items
 array_gives items = record { given = λ it xs made drained. array_items it xs drained ∙ made.0 }
 
--- a slice, whose members are copied: why its iterator has these items
+-- A slice whose members are copied yields them.
 pub copied_gives : {U X : Type 0} {becomes : U → Copied (Iter X) → Type 0} {elements : U} (items : List X) → ((it : Copied (Iter X)) → becomes elements it → iter_rest (copied_source it) ≡ items)
     → GivesItems becomes (copied_steps iter_steps) elements items
 copied_gives items are = record { given = λ it xs made drained. copied_items it xs drained ∙ are it made }
 
--- a vector, by value: why its iterator has these items, and as many of them as it tells
+-- A vector by value yields its elements, as many as it reports.
 pub vec_gives : {U X Z : Type 0} {becomes : U → VecIter X Z → Type 0} {elements : U} (items : List X) → ((it : VecIter X Z) → becomes elements it → (into_iter_items it ≡ items) × (into_iter_len it ≡ length items))
     → GivesItems becomes (into_iter_steps {X = X} {Z = Z}) elements items
 vec_gives items are = record { given = λ it xs made drained. sym (map-id xs) ∙ items_from_drains xs (drained.1.0, drained.1.1, λ w. (drained.0, drained.1.2)) (YieldsList-from_vec items (are it made).0 (are it made).1) }
@@ -207,7 +207,8 @@ list_fits {X} P {xs = xs} e fits are = record { count = subst (λ l. length l �
     all_of [] h = All-nil P
     all_of (x ∷ xs) h = All-cons P x xs h.0 (all_of xs h.1)
 
--- the hints of a function, that an iterator gives: of an array, `array_gives hs`
+-- The section gains a function's hints that an iterator yields. For an array the last premise is
+-- `array_gives hs`.
 pub adds_hints_of : {U S : Type 0} {becomes : U → S → Type 0} {gives : S → Option BranchHint → S → Type 0} {remaining : S → Count} {elements : U} {old new : List (List ℕ)} {items : List Hints} → HoldsHints old items → (index : ℕ)
     → AddsList becomes gives remaining elements (λ h. Unit {0}) (λ xs. unsigned_text index ++ vec_text hint_text xs) old new (Ok (tt {0})) → (hs : List BranchHint) → GivesItems becomes gives elements hs → index < 2 ^ 32 → AllByRecursion IsHint hs
     → HoldsHints new (items ++ (index, hs) ∷ [])
@@ -216,12 +217,12 @@ adds_hints_of {old = old} before index added hs are range plain =
     let same = are.given given.0 given.1 given.2 given.3 in
     adds_item before (index, hs) (given.5 ∙ ap (λ xs. old ++ (unsigned_text index ++ vec_text hint_text xs) ∷ []) same) (range, list_fits IsHint same given.4 plain)
 
--- those of an array
+-- The same for the hints of an array.
 pub adds_hints : {n : ℕ} {remaining : IntoIter BranchHint n → Count} {hs : List BranchHint} {old new : List (List ℕ)} {items : List Hints} → HoldsHints old items → (index : ℕ)
     → AddsList becomes array_steps remaining hs (λ h. Unit {0}) (λ xs. unsigned_text index ++ vec_text hint_text xs) old new (Ok (tt {0})) → index < 2 ^ 32 → AllByRecursion IsHint hs → HoldsHints new (items ++ (index, hs) ∷ [])
 adds_hints {hs = hs} before index added range plain = adds_hints_of before index added hs (array_gives hs) range plain
 
--- an instance of a core dump, whose memories and globals iterators give
+-- The section gains an instance of a core dump, whose memories and globals iterators yield.
 pub adds_instance_of : {U S V R : Type 0} {becomes : U → S → Type 0} {gives : S → Option ℕ → S → Type 0} {remaining : S → Count} {first : U} {turns : V → R → Type 0} {hands : R → Option ℕ → R → Type 0} {left : R → Count} {second : V}
     {old new : List (List ℕ)} {items : List Instance} → HoldsInstances old items → (i : Instance)
     → AddsTwoLists becomes gives remaining first turns hands left second (λ x. Unit {0}) (λ x. Unit {0}) (λ xs ys. (0x00 ∷ unsigned_text i.module_index) ++ (vec_text unsigned_text xs ++ vec_text unsigned_text ys)) old new (Ok (tt {0}))
@@ -234,7 +235,7 @@ adds_instance_of {old = old} before i added are others range memories globals =
     (given.10 ∙ ap₂ (λ xs ys. old ++ ((0x00 ∷ unsigned_text i.module_index) ++ (vec_text unsigned_text xs ++ vec_text unsigned_text ys)) ∷ []) same alike)
     (record { module_index = range; memories = list_fits (FitsUnsigned 32) same given.6 memories; globals = list_fits (FitsUnsigned 32) alike given.9 globals })
 
--- those of arrays
+-- The same for memories and globals of arrays.
 pub adds_instance : {n m : ℕ} {remaining : IntoIter ℕ n → Count} {left : IntoIter ℕ m → Count} {old new : List (List ℕ)} {items : List Instance} → HoldsInstances old items → (i : Instance)
     → AddsTwoLists becomes array_steps remaining i.memories becomes array_steps left i.globals (λ x. Unit {0}) (λ x. Unit {0}) (λ xs ys. (0x00 ∷ unsigned_text i.module_index) ++ (vec_text unsigned_text xs ++ vec_text unsigned_text ys)) old new (Ok (tt {0}))
     → i.module_index < 2 ^ 32 → AllByRecursion (FitsUnsigned 32) i.memories → AllByRecursion (FitsUnsigned 32) i.globals → HoldsInstances new (items ++ i ∷ [])
@@ -245,7 +246,8 @@ adds_instance before i added range memories globals = adds_instance_of before i 
 pub new_stack : {n : List ℕ} {stack : List ℕ × List (List ℕ)} → stack ≡ (marked_text n, []) → IsUtf8 n → SaysStack stack.0 stack.1 (n, [])
 new_stack e utf8 = (utf8, ap (λ s. s.0) e, new_section (ap (λ s. s.1) e))
 
--- one more frame, whose numbers are in range, and whose locals and part of the stack iterators give
+-- The stack gains a frame, whose numbers are in range, and whose locals and part of the stack
+-- iterators yield.
 pub adds_frame_of : {U S V R : Type 0} {becomes : U → S → Type 0} {gives : S → Option CoreDumpValue → S → Type 0} {remaining : S → Count} {first : U} {turns : V → R → Type 0} {hands : R → Option CoreDumpValue → R → Type 0} {left : R → Count} {second : V}
     {old new : List ℕ × List (List ℕ)} {thread : List ℕ} {frames : List StackFrame} → SaysStack old.0 old.1 (thread, frames) → (f : StackFrame)
     → AddsTwoLists becomes gives remaining first turns hands left second (λ x. Unit {0}) (λ x. Unit {0})
@@ -263,7 +265,7 @@ adds_frame_of {old = old} before f added thread are others instance function off
           (record { instance = instance; function = function; offset = offset; locals = list_fits IsValue same given.6 locals; stack = list_fits IsValue alike given.9 stack }),
     )
 
--- those of arrays
+-- The same for locals and stacks of arrays.
 pub adds_frame : {n m : ℕ} {remaining : IntoIter CoreDumpValue n → Count} {left : IntoIter CoreDumpValue m → Count} {old new : List ℕ × List (List ℕ)} {thread : List ℕ} {frames : List StackFrame} → SaysStack old.0 old.1 (thread, frames) → (f : StackFrame)
     → AddsTwoLists becomes array_steps remaining f.locals becomes array_steps left f.stack (λ x. Unit {0}) (λ x. Unit {0})
     (λ xs ys. (0x00 ∷ (unsigned_text f.instance ++ (unsigned_text f.function ++ unsigned_text f.offset))) ++ (vec_text value_text xs ++ vec_text value_text ys)) old.1 new.1 (Ok (tt {0}))
@@ -314,24 +316,24 @@ pub gains_instances : {readings : List SectionReading} {id : ℕ} {old new : Lis
     → HoldsInstances entries items → ReadsSections (readings ++ reading_of id instances_payload items ∷ []) new
 gains_instances before more fits reads holds = gains_custom instances_section.whole before _ more fits reads.plain holds
 
--- the process of a core dump, of the name that was handed in
+-- The module gains the process of a core dump, of the name that is the argument.
 pub gains_process : {readings : List SectionReading} {id : ℕ} {old new content : List ℕ} → ReadsSections readings old → ReadsOneMore (NamedPayload core_name content) id old new → NamedFits core_name content
     → ReadsBack (frame core_payload) (SaysProcess content) (named_text core_name content) → (n : List ℕ) → content ≡ marked_text n → IsUtf8 n → ReadsSections (readings ++ reading_of id core_payload n ∷ []) new
 gains_process before more fits reads n e utf8 = gains_custom core_whole before _ more fits reads (utf8, e)
 
--- the stack of a thread
+-- The module gains the stack of a thread.
 pub gains_stack : {readings : List SectionReading} {id : ℕ} {old new n : List ℕ} {stack : List ℕ × List (List ℕ)} {frames : List StackFrame} → ReadsSections readings old
     → ReadsOneMore (NamedPayload stack_name (entries_text stack.0 true stack.1)) id old new → NamedFits stack_name (entries_text stack.0 true stack.1)
     → ReadsBack (frame stack_payload) (SaysStack stack.0 stack.1) (named_text stack_name (entries_text stack.0 true stack.1)) → SaysStack stack.0 stack.1 (n, frames) → ReadsSections (readings ++ reading_of id stack_payload (n, frames) ∷ []) new
 gains_stack before more fits reads says = gains_custom stack_whole before _ more fits reads says
 
--- a section of a name and data
+-- The module gains a custom section of a name and data.
 pub gains_given : {readings : List SectionReading} {id : ℕ} {old new n content : List ℕ} → ReadsSections readings old → ReadsOneMore (NamedPayload n content) id old new → NamedFits n content
     → ReadsBack custom (λ said. IsUtf8 n × (said ≡ (n, content))) (named_text n content) → IsUtf8 n → ReadsSections (readings ++ reading_of id (pair name any_bytes) (n, content) ∷ []) new
 gains_given {n = n} {content = content} before more fits reads utf8 =
     gains_section {F = pair name any_bytes} before more custom-payload (named_text n content) (frame_text n ++ content) refl (named_framed n content (frame_text n ++ content) fits refl) (n, content) (reads.for_each (n, content) (utf8, refl))
 
--- a section of bytes that are given, which are the text of one of a name and data
+-- The module gains raw bytes that are the encoding of a custom section of a name and data.
 pub gains_given_raw : {readings : List SectionReading} {id : ℕ} {bytes old new : List ℕ} → ReadsSections readings old → ReadsOneMore (IsFrameOf bytes) id old new → (n content : List ℕ) → bytes ≡ named_text n content → NamedFits n content → IsUtf8 n
     → ReadsSections (readings ++ reading_of id (pair name any_bytes) (n, content) ∷ []) new
 gains_given_raw {id = id} {old = old} {new = new} before more n content e fits utf8 =
@@ -339,25 +341,25 @@ gains_given_raw {id = id} {old = old} {new = new} before more n content e fits u
     gains_section {F = pair name any_bytes} before (subst (λ b. ReadsOneMore (IsFrameOf b) id old new) e more) custom-payload (named_text n content) (frame_text n ++ content) framed framed (n, content)
     ((custom_back n content fits).for_each (n, content) (utf8, refl))
 
--- a section that a buffer has gained
+-- A buffer gains a custom section.
 pub encodes_custom : {A X : Type 0} (F : Format X) (Says : X → Type 0) {text : List ℕ} {fits : Type 0} {old new : Vec ℕ A} {result : Result (Unit {0}) Refused} {x : X}
     → Appends text fits old new result → OnOk result (ReadsBack F Says text) → Says x → OnOk result (GainsReading F x old.items new.items)
 encodes_custom F Says {text = text} {result = Ok u} {x = x} appends reads says = record { text = text; added = appends.ok; alone = reads.for_each x says }
 encodes_custom F Says {result = Err e} appends reads says = tt
 
--- one of entries
+-- A buffer gains a custom section of entries.
 pub encodes_entries : {A X : Type 0} (F : Format X) (Says SaysWide : X → Type 0) {text : List ℕ} {fits : Type 0} {old new : Vec ℕ A} {result : Result (Unit {0}) Refused} {x : X}
     → Appends text fits old new result → OnOk result (ReadsBackBoth F Says SaysWide text) → Says x → OnOk result (GainsReading F x old.items new.items)
 encodes_entries F Says SaysWide {text = text} {result = Ok u} {x = x} appends reads says = record { text = text; added = appends.ok; alone = reads.plain.for_each x says }
 encodes_entries F Says SaysWide {result = Err e} appends reads says = tt
 
--- ---- what the laws of this crate are proved by
+-- ---- rules by which the laws of this crate are proved
 
--- of each section that calls add items to, all that is promised of it
+-- The laws of each section that calls add items to.
 pub ruleset sections = (names_section, linking_section, producers_section, hints_section, modules_section, instances_section)
 
--- what else is read uniquely: the sections of one text, and what sections hold
+-- The other unambiguous formats: sections without entries, and the entries of sections.
 pub ruleset parts = (core_unique, stack_unique, custom_unique, subsection_unique, link_unique, symbol_unique, field_unique, hints_unique, marked_unique, instance_unique, stack_frame_unique, value_unique, stack_frame_laws)
 
--- the payloads of the other sections
+-- The payloads of the other sections.
 pub ruleset payloads = (payload-reads, core_whole, stack_whole, custom-payload)

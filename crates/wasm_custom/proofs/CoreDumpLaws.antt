@@ -1,4 +1,4 @@
--- Core dumps are read uniquely.
+-- This file proves that core dumps are unambiguous, and how they are decoded and minimized.
 use Rattle.std.proofs.Common.{◌≡◌, ℕ, List, [], ◌∷◌, ◌++◌, length, true, IsUtf8, refl, sym, ap, subst, arith, length-append, map, ap₂}
 use Rattle.wasm_base.specs.Calls.{ReadsBack}
 use Rattle.wasm_base.specs.Entries.{ItemLaws}
@@ -44,7 +44,7 @@ core_whole = after_whole core_name name_unique (whole_from_alone marked_unique)
 pub core_unique : UniqueReading core_section
 core_unique = frame_unique core_whole
 
--- the name fits where the section does
+-- The name fits if the section does.
 marked_fits : (n content : List ℕ) → content ≡ marked_text n → NamedFits core_name content → FrameFits n
 marked_fits n content e fits = omega (arith, data_fits core_name (marked_text n) (subst (λ c. NamedFits core_name c) e fits), length-append (unsigned_text (length n)) n)
 
@@ -64,7 +64,7 @@ module_laws = record { alone = marked_unique; spelled = λ n plain fits. marked_
 pub module_frame : FrameLaws marked_name modules_name [] (fixed [] (tt {0})) true
 module_frame = counted_frame (ascii {bytes = modules_name} refl)
 
--- the laws of the sections of modules
+-- The laws of the sections of modules.
 pub modules_section : SectionLaws module_items modules_payload
 modules_section = entries_laws module_laws module_frame (λ given plain. plain) (λ given plain. plain)
 
@@ -88,11 +88,11 @@ instance_laws = record { alone = instance_unique; spelled = λ i plain fits. ins
 pub instance_frame : FrameLaws instance instances_name [] (fixed [] (tt {0})) true
 instance_frame = counted_frame (ascii {bytes = instances_name} refl)
 
--- the laws of the sections of instances
+-- The laws of the sections of instances.
 pub instances_section : SectionLaws instance_items instances_payload
 instances_section = entries_laws instance_laws instance_frame (λ given plain. plain) (λ given plain. plain)
 
--- ---- how core dumps are read
+-- ---- decoding core dumps
 
 pub process_fills : (bytes rest text : List ℕ) → Reads (just core_name name) wide bytes tt rest → marked_name wide rest text → core_payload wide bytes text
 process_fills bytes rest text h g = named_fills core_name marked_name bytes rest text h g
@@ -114,7 +114,7 @@ instance_none bytes n = mapped_nothing instance_of n
 
 pub ruleset instance_steps = (instance_reads, instance_none)
 
--- ---- the one shortest text of core dumps that were read
+-- ---- the one minimal encoding of decoded core dumps
 
 pub marked_appended : (n old middle new : List ℕ) → middle ≡ old ++ 0x00 ∷ [] → AppendsShortest name n middle new → AppendsShortest marked_name n old new
 marked_appended n old middle new e a = prefixed_appended (0x00 ∷ []) name n old middle new e a

@@ -1,4 +1,5 @@
--- Stacks of core dumps are read uniquely.
+-- This file proves that stacks of core dumps are unambiguous, and how they are decoded and
+-- minimized.
 use Rattle.std.proofs.Common.{ℕ, ◌≤◌, List, [], ◌∷◌, ◌++◌, length, map, true, refl, sym, ap, subst, arith, length-append, ◌≡◌, ◌≢◌, ℤ}
 use Rattle.std.specs.List.{AllZip}
 use Rattle.wasm_base.specs.Calls.{ReadsBack}
@@ -96,7 +97,7 @@ stack_whole = after_whole stack_name name_unique (pair_whole marked_unique (whol
 pub stack_unique : UniqueReading stack_section
 stack_unique = frame_unique stack_whole
 
--- what the data are no longer than
+-- The front and the pieces are no longer than the data.
 within : (front content : List ℕ) (pieces : List (List ℕ)) → length (front ++ (content ++ joined pieces)) ≤ longest → (length front ≤ longest) × (length (joined pieces) ≤ longest)
 within front content pieces fits =
     let whole = length-append front (content ++ joined pieces) in
@@ -124,7 +125,7 @@ stack_alone front pieces few fits = record {
       (pair_spelled marked_name (vec stack_frame) front content said.0 said.1 named (listing_spelled shortest true stack_frame pieces said.1 few listed)));
 }
 
--- ---- how stacks of core dumps are read
+-- ---- decoding stacks of core dumps
 
 -- ---- values
 
@@ -220,7 +221,7 @@ stack_no_frames bytes rest last thread h g n = named_nothing stack_name threaded
 
 pub ruleset stack_steps = (stack_fills, stack_none, stack_no_thread, stack_no_frames)
 
--- ---- the one shortest text of stacks that were read
+-- ---- the one minimal encoding of decoded stacks
 
 value_is : AllValues IsValue value
 value_is =

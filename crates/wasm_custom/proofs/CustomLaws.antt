@@ -1,4 +1,4 @@
--- Custom sections of a name are read uniquely.
+-- This file proves that custom sections of a name are unambiguous.
 use Rattle.std.proofs.Common.{◌≡◌, ℕ, ◌+◌, ◌≤◌, List, ◌++◌, length, IsUtf8, refl, sym, subst, arith, length-append}
 use Rattle.wasm_base.specs.Calls.{ReadsBack, ReadsBackBoth}
 use Rattle.wasm_base.specs.Formats.{Format, after, name, any_bytes, pair, custom, just}
@@ -25,11 +25,11 @@ named_spelled mode of n F content x utf8 fits h =
     frame_in mode (after n name F) (frame_text n ++ content) x fits
     (after_spelled mode n name F (frame_text n) content x (spelled_in {F = name} name_unique (front_name_spelled n content utf8 fits) mode of) h)
 
--- the data are no longer than the section
+-- The data are no longer than the section.
 pub data_fits : (n content : List ℕ) → NamedFits n content → length content ≤ 4294967295
 data_fits n content fits = omega (arith, fits, length-append (frame_text n) content)
 
--- a section of a name and data that are given is read as these alone
+-- The section of a name and data decodes to these alone.
 pub custom_back : (n content : List ℕ) → NamedFits n content → ReadsBack custom (λ said. IsUtf8 n × (said ≡ (n, content))) (named_text n content)
 unfolding named_text
 custom_back n content fits = record {
@@ -39,26 +39,26 @@ custom_back n content fits = record {
       (frame_spelled (pair name any_bytes) (frame_text n ++ content) (n, content) fits (pair_spelled name any_bytes (frame_text n) content n content (front_name_spelled n content h.0 fits) refl)));
 }
 
--- whose size was told of other lists that are these
+-- The section fits if the size that the call has computed fits.
 pub fits_of : (n content told given : List ℕ) (size : ℕ) → told ≡ n → given ≡ content → size ≡ length given → length (frame_text told) + size ≤ longest → NamedFits n content
 fits_of n content told given size e f l h =
     subst (λ z. NamedFits z content) e (subst (λ z. NamedFits told z) f (omega (arith, h, l, length-append (frame_text told) given)))
 
--- a section of bytes that are given is read as what they spell, with padded numbers too
+-- A section of raw bytes decodes to the value that they encode, possibly padded.
 pub raw_back : (bytes : List ℕ) → ReadsBackBoth custom (custom shortest bytes) (custom wide bytes) bytes
 raw_back bytes = record { plain = record { for_each = λ said h. reads_alone {F = custom} custom_unique h }; wide = record { for_each = λ said h. reads_alone_wide {F = custom} custom_unique h } }
 
--- the frame in a subsection fits where the subsection does
+-- The payload of a subsection fits if the subsection does.
 pub content_fits : (id : ℕ) (content : List ℕ) → FrameFits (subsection_text id content) → FrameFits content
 content_fits id content fits = omega (arith, fits, length-append (unsigned_text (length content)) content)
 
--- ---- the one shortest text of custom sections that were read
+-- ---- the one minimal encoding of decoded custom sections
 
--- just a value, by the value
+-- The encoding of a fixed value is that of the value.
 pub just_appended : {X : Type 0} (F : Format X) (x : X) (old new : List ℕ) → AppendsShortest F x old new → AppendsShortest (just x F) tt old new
 just_appended F x old new a = record { text = a.text; appended = a.appended; spelled = λ s h. a.spelled s h }
 
--- what stands behind a name, by that itself
+-- The encoding behind a name is the name, then that of the value.
 pub named_appended : {X : Type 0} (n : List ℕ) {old middle new : List ℕ} (G : Format X) (x : X) → FrameFits n → middle ≡ old ++ frame_text n → AppendsShortest G x middle new → AppendsShortest (named_payload n G) x old new
 named_appended n {old = old} {middle = middle} G x fits e a = tagged_appended (just n name) (λ u. G) (λ s z h. refl) (just_appended name n old middle (name_appended n old middle fits e)) a
 

@@ -1,4 +1,4 @@
--- A custom section of items is read as these alone.
+-- This file proves that a custom section of items decodes to these alone.
 use Rattle.std.proofs.Common.{◌≡◌, ℕ, ◌≤◌, List, ◌++◌, length, map, Bool, IsUtf8, true, false, refl, sym, subst, arith, length-append, [], append-nil}
 use Rattle.std.specs.List.{AllZip}
 use Rattle.wasm_base.specs.Calls.{ReadsBack, ReadsBackWide, ReadsBackBoth}
@@ -48,7 +48,7 @@ module _ {Record Item : Type 0} (kind : Kind Record Item) (n front : List ℕ) (
       ((tt, items), refl, record { front = front; back = back; joined = refl; first = first; second = listing_spelled mode counted kind.format pieces items few h }) in
       named_spelled mode of n (entries front_format counted kind.format) (entries_text front counted pieces) items more.name_utf8 fits listed
 
-  -- the entries are no longer than the section
+  -- The entries are no longer than the section.
   content_fits : (pieces : List (List ℕ)) → NamedFits n (entries_text front counted pieces) → length (joined pieces) ≤ longest
   content_fits pieces fits = omega (arith, data_fits n (entries_text front counted pieces) fits, length-append front (count_text counted (length pieces) ++ joined pieces), length-append (count_text counted (length pieces)) (joined pieces))
 
@@ -78,23 +78,24 @@ module _ {Record Item : Type 0} (kind : Kind Record Item) (n front : List ℕ) (
       → ReadsBackBoth (named_section n (entries front_format counted kind.format)) (HoldsItems kind pieces) (HoldsWide kind.format pieces) (named_text n (entries_text front counted pieces))
   entries_back pieces few fits = record { plain = entries_alone pieces few fits; wide = entries_alone_wide pieces few fits }
 
--- what a section of counted items right behind its name owes
+-- A section of counted items right behind its name has the laws of its front.
 pub counted_frame : {Item : Type 0} {F : Format Item} {n : List ℕ} → IsUtf8 n → FrameLaws F n [] (fixed [] (tt {0})) true
 counted_frame utf8 = record { name_utf8 = utf8; front_alone = fixed_unique [] (tt {0}); front_spelled = (refl, refl); begins = λ e. absurd (cc e) }
 
--- the laws of the sections of a kind, whose records are plain in both ways alike
+-- The laws of the sections of a kind whose records are well-formed alike with and without padding.
 pub entries_laws : {Record Item : Type 0} {kind : Kind Record Item} {n front : List ℕ} {front_format : Format (Unit {0})} {counted : Bool} → ItemLaws kind → FrameLaws kind.format n front front_format counted
     → ((given : Record) → kind.IsPlain given → kind.IsPlainWide given) → ((given : Record) → kind.IsPlainWide given → kind.IsPlain given) → SectionLaws kind (named_payload n (entries front_format counted kind.format))
 entries_laws {n = n} {counted = counted} laws more wider plain = framed_laws laws wider (after_whole n name_unique (entries_whole counted more.front_alone more.begins laws.alone)) plain
 
--- the one shortest text of a section of items right behind its name, by that of the items
+-- The minimal encoding of a section of items right behind its name is the name, then that of the
+-- items.
 pub items_appended : {X : Type 0} (n : List ℕ) {old middle new : List ℕ} (counted : Bool) (F : Format X) (xs : List X) → FrameFits n → middle ≡ old ++ frame_text n → AppendsShortest (listing counted F) xs middle new
     → AppendsShortest (named_payload n (entries (fixed [] (tt {0})) counted F)) xs old new
 items_appended n {middle = middle} counted F xs fits e a =
     let none = text_appended (fixed [] (tt {0})) tt [] middle middle (λ s h. (refl, refl)) (sym (append-nil middle)) in
     named_appended n (entries (fixed [] (tt {0})) counted F) xs fits e (tagged_appended (fixed [] (tt {0})) (λ u. listing counted F) (λ s z h. refl) none a)
 
--- the same of counted items, behind the name that the call was told
+-- The same for counted items, with the name that is an argument of the call.
 pub counted_appended : {X : Type 0} {n told old middle new : List ℕ} → told ≡ n → (F : Format X) (xs : List X) → FrameFits told → middle ≡ old ++ frame_text told → AppendsShortest (vec F) xs middle new → AppendsShortest (counted_payload n F) xs old new
 counted_appended {told = told} {old = old} {new = new} called F xs fits e a = subst (λ z. AppendsShortest (counted_payload z F) xs old new) called (items_appended told true F xs fits e a)
 
@@ -105,6 +106,6 @@ items_encoded n counted F xs h =
 pub counted_encoded : {X : Type 0} (n : List ℕ) (F : Format X) (xs : List X) → HasEncoding (counted_payload n F) xs → HasEncoding (vec F) xs
 counted_encoded n F xs h = items_encoded n true F xs h
 
--- the name that the call was told
+-- The name that is an argument of the call fits.
 pub counted_name_fits : {X : Type 0} (n told : List ℕ) (F : Format X) (xs : List X) → told ≡ n → HasEncoding (counted_payload n F) xs → FrameFits told
 counted_name_fits n told F xs e h = subst FrameFits (sym e) (named_fits n (entries (fixed [] (tt {0})) true F) xs h)

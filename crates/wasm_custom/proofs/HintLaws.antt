@@ -1,4 +1,4 @@
--- Branch hints are read uniquely.
+-- This file proves that branch hints are unambiguous, and how they are decoded and minimized.
 use Rattle.std.proofs.Common.{◌<◌, [], ◌∷◌, true, false, refl, ap, ℕ, ◌≤◌, ◌≡◌, List, subst, arith, ◌++◌}
 use Rattle.wasm_base.specs.Entries.{ItemLaws}
 use Rattle.wasm_base.specs.Formats.{u32, byte, prefixed, such, vec, fixed, Format}
@@ -44,11 +44,11 @@ hint_laws = record { alone = hints_unique; spelled = λ h plain fits. hints_spel
 pub hint_frame : FrameLaws hints hints_name [] (fixed [] (tt {0})) true
 hint_frame = counted_frame (ascii {bytes = hints_name} refl)
 
--- the laws of sections of branch hints
+-- The laws of the sections of branch hints.
 pub hints_section : SectionLaws hint_items hints_payload
 hints_section = entries_laws hint_laws hint_frame (λ given plain. plain) (λ given plain. plain)
 
--- ---- how branch hints are read
+-- ---- decoding branch hints
 
 -- ---- values
 
@@ -82,7 +82,7 @@ hint_nothing bytes rest n h none = mapped_nothing hint_of (then_nothing_second u
 
 pub ruleset hint_steps = (hint_reads, hint_nothing)
 
--- ---- the one shortest text of hints that were read
+-- ---- the one minimal encoding of decoded hints
 
 hint_is : AllValues IsHint hint
 hint_is mode s x h =

@@ -1,4 +1,4 @@
--- Linking sections are read uniquely.
+-- This file proves that linking sections are unambiguous, and how they are decoded and minimized.
 use Rattle.std.proofs.Common.{ℕ, [], ◌∷◌, length, false, refl, ap, arith, length-append, ◌≡◌, ◌≢◌, List, sym, subst, ◌++◌, take, drop, ◌∙◌}
 use Rattle.wasm_base.specs.Entries.{ItemLaws}
 use Rattle.wasm_base.specs.Formats.{u32, byte, name, just, vec, Format, any_bytes, frame, members, impossible, choice}
@@ -58,11 +58,11 @@ link_frame = record {
   begins = λ e. tagged_begins;
 }
 
--- the laws of linking sections
+-- The laws of linking sections.
 pub linking_section : SectionLaws link_items linking_payload
 linking_section = entries_laws link_laws link_frame (λ given plain. plain) (λ given plain. plain)
 
--- ---- how the linking section is read
+-- ---- decoding the linking section
 
 -- ---- subsections
 
@@ -130,7 +130,7 @@ no_links bytes rest last h g n = named_nothing linking_name items bytes rest h (
 
 pub ruleset section_steps = (links_fill, links_none, links_no_version, no_links)
 
--- ---- the one shortest text of linking sections that were read
+-- ---- the one minimal encoding of decoded linking sections
 
 told : (x : LinkItem) (s : List ℕ) (b : ℕ) → after_id b wide s x → b ≡ link_id x
 told x s b h = choice_tells link_id link_tags (λ c. impossible) (λ mode s x h. ap link_id h.1, (λ mode s x h. ap link_id h.1, tt)) (λ b mode s x h. absurd h) wide b s x h

@@ -1,4 +1,4 @@
--- What lists hold that are handed in as a whole.
+-- This file proves the members of lists that are one argument of a call.
 use Rattle.std.proofs.Common.{◌≡◌, ℕ, ◌^◌, ◌<◌, List, [], ◌∷◌, ◌++◌, length, map, Option, Some, None, IsUtf8, refl, sym, ap, ap₂, ◌∙◌, subst, arith, length-append}
 use Rattle.std.specs.Borrow.{Bor}
 use Rattle.std.specs.Prelude.{IfSome}
@@ -36,7 +36,7 @@ module _ {X : Type 0} {text : X → List ℕ} {Is : X → Type 0} where
 pub list_more : {X : Type 0} (text : X → List ℕ) (Is : X → Type 0) → ListMore text Is
 list_more text Is = record { none = lists_none; given = λ pieces xs x h room is. lists_more x h room refl is }
 
--- ---- texts
+-- ---- encodings
 
 joined-map : {X : Type 0} (text : X → List ℕ) (xs : List X) → joined (map text xs) ≡ flat_map text xs
 joined-map text [] = refl
@@ -52,11 +52,11 @@ list_vector {text = text} {xs = xs} h = ap list_text h.held ∙ of_members text 
 pub is_vector : {X : Type 0} (text : X → List ℕ) (Is : X → Type 0) → IsVectorOf text Is
 is_vector text Is = record { is = λ pieces xs h. list_vector h }
 
--- the names of what is inside, by its index
+-- The encoding of an index with its names.
 pub names_inside : (index : ℕ) (pieces : List (List ℕ)) → index < 2 ^ 32 → HoldsList naming_text IsNaming pieces → IsTextOf inside_text IsInside (unsigned_text index ++ list_text pieces)
 names_inside index pieces range h = record { member = (index, h.list); is = ap (λ s. unsigned_text index ++ s) (list_vector h.is); fits = (range, h.is.fits) }
 
--- ---- a name that may be missing
+-- ---- an optional name
 
 pub named_text_of : (name : Option (Bor (List ℕ))) → optional_text (λ n. frame_text n.now) name ≡ optional_text frame_text (given_name name)
 named_text_of None = refl

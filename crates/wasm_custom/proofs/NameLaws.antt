@@ -1,4 +1,4 @@
--- Names are read uniquely.
+-- This file proves that name sections are unambiguous, and how they are decoded and minimized.
 use Rattle.std.proofs.Common.{◌≡◌, ℕ, List, [], length, Bool, true, false, cond, eqb, refl, sym, ap, subst, ◌∙◌, arith, length-append, ◌∷◌, ◌++◌, take, drop}
 use Rattle.std.proofs.lemmas.Bool.{eqb-true}
 use Rattle.wasm_base.specs.Entries.{ItemLaws}
@@ -67,7 +67,7 @@ after_id_unique of_other id = mapped_unique (Other id) (λ x y e. cc) (frame_uni
 pub subsection_unique : UniqueReading subsection
 subsection_unique = tagged_unique id_of tells byte_unique (λ id. after_id_unique (name_kind_of id) id)
 
--- ---- texts
+-- ---- encodings
 
 naming_spelled : (n : Naming) → IsNaming n → naming shortest (naming_text n) n
 naming_spelled n plain = pair_spelled u32 name (unsigned_text n.0) (frame_text n.1) n.0 n.1 (u32_spelled n.0 plain.0) (name_spelled n.1 plain.1.0 plain.1.1)
@@ -81,7 +81,7 @@ inside_spelled i plain = pair_spelled u32 name_map (unsigned_text i.0) (vec_text
 indirect_spelled : (names : List Inside) → VecFits IsInside names → indirect_map shortest (vec_text inside_text names) names
 indirect_spelled names plain = vec_spelled (pair u32 name_map) IsInside inside_text inside_spelled names plain
 
--- what follows the id, of the kind that this has
+-- A subsection whose id has this kind of content.
 of_kind : (mode : Mode) (k : NameKind) (id : ℕ) (content : List ℕ) (x : NameItem) → name_kind_of id ≡ k → after_id k id mode (frame_text content) x → subsection mode (subsection_text id content) x
 of_kind mode k id content x e h = tagged_spelled {G = λ id. after_id (name_kind_of id) id} mode id (frame_text content) x (subst (λ k. after_id k id mode (frame_text content) x) (sym e) h)
 
@@ -100,7 +100,7 @@ name_item_spelled (Other id content) plain fits =
 pub name_laws : ItemLaws name_items
 name_laws = record { alone = subsection_unique; spelled = name_item_spelled }
 
--- with padded numbers: the content of a subsection that is spelled already
+-- For padded LEB128: a subsection with raw content that encodes a name map.
 pub names_wide : (id : ℕ) (content : List ℕ) (names : List Naming) → name_kind_of id ≡ of_map → FrameFits content → name_map wide content names → subsection wide (subsection_text id content) (Map id names)
 names_wide id content names kind fits h = of_kind wide of_map id content (Map id names) kind (names, refl, frame_in wide name_map content names fits h)
 
@@ -115,15 +115,15 @@ name_frame = record {
   begins = λ e. tagged_begins;
 }
 
--- the laws of name sections
+-- The laws of name sections.
 pub names_section : SectionLaws name_items name_payload
 names_section = entries_laws name_laws name_frame (λ given plain. plain) (λ given plain. plain)
 
--- ---- how names are read
+-- ---- decoding names
 
 -- ---- images
 
--- Images of what a frame holds, and of what it spells, are the same.
+-- The image of a size-prefixed value decodes as the size-prefixed image.
 module _ {X Y : Type 0} (f : X → Y) (F : Format X) {bytes rest : List ℕ} {y : Y} where
   image_of_frame : Reads (frame (mapped f F)) wide bytes y rest → Reads (mapped f (frame F)) wide bytes y rest
   image_of_frame h =
@@ -210,7 +210,7 @@ no_names bytes rest h n = no_items name_name false subsection bytes rest h n
 
 pub ruleset name_steps = (names_fill, names_none, no_names)
 
--- ---- the one shortest text of names that were read
+-- ---- the one minimal encoding of decoded names
 
 -- ---- the content of a subsection
 
@@ -240,7 +240,7 @@ id_told (Map i names) s id h = tells wide id s (Map i names) h
 id_told (Indirect i maps) s id h = tells wide id s (Indirect i maps) h
 id_told (Other i bytes) s id h = tells wide id s (Other i bytes) h
 
--- Images of what a frame holds, and of what it spells, are the same.
+-- The image of a size-prefixed value is encoded as the size-prefixed image.
 module _ {X : Type 0} (f : X → NameItem) (F : Format X) {mode : Mode} {s : List ℕ} {x : NameItem} where
   spelled_image : frame (mapped f F) mode s x → mapped f (frame F) mode s x
   spelled_image h = (h.spelled.0, h.spelled.1, record { front = h.front; content = h.content; joined = h.joined; size = h.size; spelled = h.spelled.2 })

@@ -1,4 +1,4 @@
--- Producers are read uniquely.
+-- This file proves that producers sections are unambiguous.
 use Rattle.std.proofs.Common.{[], true, refl}
 use Rattle.wasm_base.specs.Entries.{ItemLaws}
 use Rattle.wasm_base.specs.Formats.{name, vec, fixed}
@@ -31,6 +31,6 @@ producer_laws = record { alone = field_unique; spelled = λ f plain fits. field_
 pub producer_frame : FrameLaws field producers_name [] (fixed [] (tt {0})) true
 producer_frame = counted_frame (ascii {bytes = producers_name} refl)
 
--- the laws of producers sections
+-- The laws of producers sections.
 pub producers_section : SectionLaws field_items producers_payload
 producers_section = entries_laws producer_laws producer_frame (λ given plain. plain) (λ given plain. plain)

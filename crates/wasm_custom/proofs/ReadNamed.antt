@@ -1,4 +1,4 @@
--- How what stands behind the name of a custom section is read.
+-- This file proves how readers decode the bytes behind the name of a custom section.
 use Rattle.std.proofs.Common.{◌≡◌, ◌≢◌, ℕ, List, [], length, Bool, true, refl, sym, subst}
 use Rattle.wasm_base.specs.Going.{FillsNothing}
 use Rattle.wasm_base.specs.Numbers.{wide}
@@ -13,7 +13,7 @@ use Rattle.wasm_custom.specs.Customs.{named_payload}
 use Rattle.wasm_custom.specs.Entries.{listing, entries, counted_payload}
 use Rattle.wasm_reader_base.proofs.ReadWhole.{whole_reads, whole_more, whole_nothing}
 
--- ---- just this value
+-- ---- a fixed value
 
 module _ {X : Type 0} (F : Format X) (x : X) (bytes : List ℕ) where
   pub just_this : (rest : List ℕ) (y : X) → Reads F wide bytes y rest → y ≡ x → Reads (just x F) wide bytes tt rest
@@ -36,7 +36,7 @@ name_other m bytes rest n = just_other name m bytes name_unique rest n
 
 pub ruleset name_steps = (name_there, name_none, name_other)
 
--- ---- what is said behind something that says nothing
+-- ---- a value behind a format without a value
 
 module _ {X : Type 0} (F : Format (Unit {0})) (G : Format X) (bytes : List ℕ) where
   pub behind_fills : (rest : List ℕ) (x : X) → Reads F wide bytes tt rest → G wide rest x → tagged F (λ u. G) wide bytes x
@@ -52,7 +52,7 @@ module _ {X : Type 0} (F : Format (Unit {0})) (G : Format X) (bytes : List ℕ) 
         n.none g.0.1 (subst (λ z. G wide z g.0.1) (sym same.1) g.2.second);
   }
 
--- ---- what is said behind a name
+-- ---- a value behind a name
 
 module _ {X : Type 0} (n : List ℕ) (G : Format X) (bytes : List ℕ) where
   pub named_fills : (rest : List ℕ) (x : X) → Reads (just n name) wide bytes tt rest → G wide rest x → named_payload n G wide bytes x
@@ -74,7 +74,7 @@ module _ {X : Type 0} (n : List ℕ) (counted : Bool) (F : Format X) (bytes : Li
   no_items rest h none =
       named_nothing n (entries (fixed [] (tt {0})) counted F) bytes rest h (behind_nothing (fixed [] (tt {0})) (listing counted F) rest (fixed_unique [] (tt {0})) rest (fixed_reads rest (tt {0})) none)
 
--- ---- counted items right behind a name, which the call was told
+-- ---- counted items right behind a name that is an argument of the call
 
 module _ {X : Type 0} {n told : List ℕ} (called : told ≡ n) (F : Format X) (bytes : List ℕ) where
   pub counted_none : ReadsNothing (just told name) wide bytes → FillsNothing (counted_payload n F) bytes

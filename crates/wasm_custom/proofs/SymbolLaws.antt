@@ -1,4 +1,4 @@
--- Symbols are read uniquely.
+-- This file proves that symbols are unambiguous, and how they are decoded and minimized.
 use Rattle.std.proofs.Common.{◌≡◌, ℕ, ◌^◌, ◌<◌, List, [], ◌++◌, Bool, Option, None, refl, ap, subst, ◌∙◌, ◌≢◌, sym, ◌∷◌, true, false, Some}
 use Rattle.wasm_base.specs.Formats.{Format, u32, byte, name, pair, tagged, mapped, optional, is_given, impossible, choice}
 use Rattle.wasm_base.specs.Laws.{NameFits}
@@ -21,7 +21,7 @@ use Rattle.wasm_reader_base.proofs.Encodings.{left_encoded, right_encoded, tagge
 use Rattle.wasm_reader_base.proofs.ShortTexts.{text_appended, nothing_appended, pair_appended, tagged_appended, mapped_appended}
 use Rattle.wasm_custom.specs.declared.symbols.SymbolKind.TheVariants as kinds
 
--- ---- reading
+-- ---- unambiguous
 
 pub definition_unique : UniqueReading definition
 definition_unique = mapped_unique definition_of (λ x y e. ap (λ d. (d.index, (d.offset, d.size))) e) (pair_unique u32_unique (pair_unique u32_unique u32_unique))
@@ -54,9 +54,9 @@ symbol_unique =
     (indexed_unique Function, (data_unique, (indexed_unique Global, (indexed_unique Table, tt))))
     (λ mode s x h. ap code_of (h.2.second.1 ∙ h.1), (λ mode s x h. ap code_of (h.2.second.1 ∙ h.1), (λ mode s x h. ap code_of (h.2.second.1 ∙ h.1), (λ mode s x h. ap code_of (h.2.second.1 ∙ h.1), tt))))
 
--- ---- texts
+-- ---- encodings
 
--- a part that is given where the flag says so
+-- An optional field that is there exactly if its flag is set.
 as_flagged : {X : Type 0} (F : Format X) (text : X → List ℕ) (flag : Bool) (part : Option X) → is_given part ≡ flag → optional (is_given part) F shortest (optional_text text part) part → optional flag F shortest (optional_text text part) part
 as_flagged F text flag part e h = subst (λ given. optional given F shortest (optional_text text part) part) e h
 
@@ -65,7 +65,7 @@ definition_spelled d plain =
     let last = pair_spelled u32 u32 (unsigned_text d.offset) (unsigned_text d.size) d.offset d.size (u32_spelled d.offset plain.offset) (u32_spelled d.size plain.size) in
     ((d.index, (d.offset, d.size)), refl, pair_spelled u32 (pair u32 u32) (unsigned_text d.index) (unsigned_text d.offset ++ unsigned_text d.size) d.index (d.offset, d.size) (u32_spelled d.index plain.index) last)
 
--- flags, and what they tell of
+-- Flags, then the fields that they select.
 flagged : {X : Type 0} (G : ℕ → Format X) (flags : ℕ) (back : List ℕ) (x : X) → flags < 2 ^ 32 → G flags shortest back x → tagged u32 G shortest (unsigned_text flags ++ back) x
 flagged G flags back x range h = ((flags, x), refl, record { front = unsigned_text flags; back = back; joined = refl; first = u32_spelled flags range; second = h })
 
@@ -85,7 +85,7 @@ symbol_spelled (of_data flags n d) plain =
     (flagged (λ flags. mapped (data_of flags) (pair name (optional (has_definition flags) definition))) flags (frame_text n ++ optional_text definition_text d) (of_data flags n d) plain.0.0
     ((n, d), refl, pair_spelled name (optional (has_definition flags) definition) (frame_text n) (optional_text definition_text d) n d (name_spelled n plain.0.1.0 plain.0.1.1) defined))
 
--- ---- how symbols are read
+-- ---- decoding symbols
 
 -- ---- symbols with an index
 
@@ -174,9 +174,9 @@ symbol_unknown bytes rest b h p q r s = tagged_nothing {G = after_kind} byte_uni
 
 pub ruleset symbol_steps = (table_reads, table_none, symbol_unknown)
 
--- ---- the one shortest text of symbols that were read
+-- ---- the one minimal encoding of decoded symbols
 
--- ---- parts that flags tell
+-- ---- fields that flags select
 
 module _ {X : Type 0} (F : Format X) (old new : List ℕ) where
   some_appended : (flag : Bool) (x : X) → AppendsShortest F x old new → AppendsShortest (optional flag F) (Some x) old new

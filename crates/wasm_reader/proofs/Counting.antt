@@ -1,4 +1,4 @@
--- How items are counted that are not kept.
+-- This file proves how readers count items that they skip.
 use Rattle.std.proofs.Common.{◌≢◌, ℕ, ◌<◌, List, length}
 use Rattle.wasm_base.specs.Going.{FillsNothing}
 use Rattle.wasm_base.specs.Numbers.{wide}

@@ -1,4 +1,5 @@
--- What a kind of sections owes: what is read as it and written of it, and the ids and names that stand for it.
+-- This file proves the laws of the kinds of sections: their decoding, their encoding, and their ids
+-- and names.
 use Rattle.std.proofs.Common.{◌≡◌, ℕ, List, [], ◌++◌, map, length, refl, sym, ap, subst, ◌∙◌, ◌≢◌, ◌∷◌, Bool, true, false, if◌then◌else◌, cond, Option, Some, Result, Ok, Err, IfOk}
 use Rattle.std.proofs.lemmas.List.{map-id}
 use Rattle.wasm_base.specs.Numbers.{shortest, wide}
@@ -57,9 +58,9 @@ use Rattle.wasm_custom.specs.Customs.{named_payload}
 use Rattle.std.proofs.lemmas.Bool.{ne_eqb}
 use Rattle.wasm_types.proofs.TypeLaws.{types_section}
 
--- ---- what is written of each kind
+-- ---- the encoding of each kind
 
--- What appends the shortest text of these items, where they are written as one value of a format.
+-- The buffer gains the minimal encoding of these items, as one value of the format of their kind.
 abbrev pub AppendsItems : Contents → List ℕ → List ℕ → Type 0
 AppendsItems (Bodies x) old new = AppendsShortest (vec (frame body)) x old new
 AppendsItems (Segments x) old new = AppendsShortest (vec data_item) x old new
@@ -129,7 +130,7 @@ raw_appended bytes old new e = mapped_appended Raw any_bytes bytes old new (λ z
 
 pub ruleset contents = (items_appended, exports_appended, functions_appended, memories_appended, tags_appended, custom_appended, raw_appended)
 
--- ---- unique reading
+-- ---- unambiguous
 
 pub content_whole : (kind : SectionKind) → UniqueWholeReading (content kind)
 content_whole kinds.Bodies = mapped_whole Bodies (λ x y e. cc) (whole_from_alone (vec_unique frame_body_unique))
@@ -156,7 +157,7 @@ content_whole kinds.Custom = mapped_whole Custom (λ x y e. cc) (pair_whole name
 content_whole kinds.Raw = mapped_whole Raw (λ x y e. cc) any_bytes_whole
 content_whole kinds.Types = mapped_whole Types (λ x y e. cc) types_section.whole
 
--- What is read as a section of a kind is what sections of that kind hold.
+-- The content that a kind decodes to is of that kind.
 pub kind_is : (kind : SectionKind) (s : List ℕ) (x : Contents) → content kind wide s x → kind_in x ≡ kind
 kind_is kinds.Bodies s x h = sym (ap kind_in h.1)
 kind_is kinds.Segments s x h = sym (ap kind_in h.1)
@@ -182,9 +183,10 @@ kind_is kinds.Custom s x h = sym (ap kind_in h.1)
 kind_is kinds.Raw s x h = sym (ap kind_in h.1)
 kind_is kinds.Types s x h = sym (ap kind_in h.1)
 
--- ---- what is read as each kind
+-- ---- the decoding of each kind
 
--- What F tells of the bytes tells what they hold as a section of the kind: nothing, or the image by f.
+-- If F decodes the whole bytes, a section of the kind decodes to the image by f, and if F decodes
+-- nothing, neither does the kind.
 abbrev pub ReadsAs : {X : Type 0} → (X → Contents) → Format X → SectionKind → Type 0
 ReadsAs {X} f F k = (kind : SectionKind) (bytes : List ℕ) → kind ≡ k → (FillsNothing F bytes → FillsNothing (content kind) bytes) × ((x : X) → F wide bytes x → content kind wide bytes (f x))
 
@@ -287,7 +289,7 @@ for_if : (P : SectionKind → Type 0) (b : Bool) {x y : SectionKind} → P x →
 for_if P true p q = p
 for_if P false p q = q
 
--- The name at the front of what is read as a kind is at the front of its shortest text.
+-- The minimal encoding of a section begins with the same name as any of its encodings.
 abbrev pub KeepsName : List ℕ → SectionKind → Type 0
 KeepsName n kind = (s t rest : List ℕ) (x : Contents) → content kind wide s x → content kind shortest t x → Reads name wide s n rest → (last : List ℕ) × Reads name wide t n last
 
@@ -350,7 +352,8 @@ keeps_name = kept_among known_names (names_kept, (linking_kept, (producers_kept,
 
 -- ---- numbers of items
 
--- Where so many values of F are counted behind their number, a section of the kind has so many items, which are their image by f.
+-- If the bytes are a vector of F, a section of the kind has as many items, which are the image by
+-- f.
 abbrev pub CountsAs : {X : Type 0} → (List X → Contents) → Format X → SectionKind → Type 0
 CountsAs {X} f F k = (kind : SectionKind) (bytes : List ℕ) (r : Result (Option ℕ) ReadFault) → kind ≡ k → IfOk r (λ n. (xs : List X) × vec F wide bytes xs × (n ≡ Some (length xs))) → IfOk r (λ n. (x : Contents) × content kind wide bytes x × (n ≡ number_in x))
 
@@ -390,7 +393,7 @@ tags_counted = count_as Tags tags_read (λ xs. refl)
 
 pub ruleset number_steps = (bodies_counted, segments_counted, elements_counted, exports_counted, functions_counted, globals_counted, imports_counted, memories_counted, tables_counted, tags_counted)
 
--- All kinds but types have as many items in an outline as in a list.
+-- Every kind but types has as many items in an outline as in a list.
 pub counted_alike : (kind : SectionKind) (payload : List ℕ) (x : Contents) → kind ≢ kinds.Types → content kind wide payload x → count_in x ≡ number_in x
 counted_alike kinds.Types payload x other h = absurd (other refl)
 counted_alike kinds.Bodies payload x other h = ap count_in (sym h.1) ∙ ap number_in h.1

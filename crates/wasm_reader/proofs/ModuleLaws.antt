@@ -1,4 +1,4 @@
--- A module has one list of lines, or stops at one place.
+-- This file proves that a module has one list of lines or stops at one section.
 use Rattle.std.proofs.Common.{◌≡◌, ◌≢◌, ℕ, List, [], ◌∷◌, ◌++◌, length, map, zero, suc, refl, sym, ap, subst, ◌∙◌, append_assoc, append-nil}
 use Rattle.std.proofs.lemmas.List.{append_cancel_left}
 use Rattle.wasm_base.specs.Numbers.{wide}
@@ -33,9 +33,9 @@ byte_begins mode s x e = (x, [], e, tt)
 section_begins : BeginsWith (λ b. Unit {0}) sized_section
 section_begins = begins_then (λ b. Unit {0}) byte_begins
 
--- ---- sections one after the other
+-- ---- sections one after another
 
--- no bytes are left, or no value stands there
+-- Either no bytes remain, or nothing decodes from them.
 abbrev pub Stops : {X : Type 0} → Format X → List ℕ → Type 0
 Stops F rest = rest ≢ [] → ReadsNothing F wide rest
 
@@ -59,7 +59,7 @@ one_way F alone begins s t last q (x ∷ xs) (y ∷ ys) h g e n m =
 
 -- ---- modules
 
--- the sections behind the header
+-- The sections behind the header.
 behind : {bytes rest : List ℕ} {sections : List (ℕ × (ℕ × Contents))} → Reads sized_module wide bytes sections rest → (s : List ℕ) × (bytes ≡ header ++ (s ++ rest)) × members sized_section wide s sections
 behind {rest = rest} {sections = sections} h =
     let p = h.spelled in

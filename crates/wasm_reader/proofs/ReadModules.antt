@@ -1,4 +1,4 @@
--- How a list of a module's sections is made.
+-- This file proves how the reader lists a module's sections.
 use Rattle.wasm_reader.specs.Kinds.{kind_of_id, Contents, content}
 use Rattle.std.proofs.Common.{◌≡◌, ◌≢◌, ℕ, ◌<◌, ◌^◌, List, [], ◌∷◌, ◌++◌, length, map, take, drop, refl, sym, ap, subst, ◌∙◌, arith}
 use Rattle.std.proofs.lemmas.List.{map-append, take-append-drop, take_at, length-append, length-map}
@@ -63,7 +63,7 @@ pub ruleset line_steps = (line_nothing)
 
 -- ---- the loop
 
--- what the lines say so far: sections from `start` on, and `rest` behind them
+-- The lines so far are those of the sections from `start` on, and `rest` remains.
 pub record HasListed (start : List ℕ) (lines : List Listed) (rest : List ℕ) : Type 0 where
   pub sections : List (ℕ × (ℕ × Contents))
   pub read : Reads (members sized_section) wide start sections rest

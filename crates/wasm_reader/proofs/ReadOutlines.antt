@@ -1,4 +1,4 @@
--- How an outline of a module is made.
+-- This file proves how the reader outlines a module.
 use Rattle.wasm_reader.specs.Kinds.{number_in, Contents, Types, content}
 use Rattle.wasm_reader.proofs.KindLaws.{content_whole, counted_alike}
 use Rattle.std.proofs.Common.{◌≡◌, ◌≢◌, ℕ, ◌<◌, ◌^◌, ◌+◌, ◌-◌, suc, List, [], ◌∷◌, ◌++◌, length, map, take, Option, Some, None, refl, sym, ap, subst, ◌∙◌, append_assoc, append-nil, arith}
@@ -20,9 +20,9 @@ use Rattle.wasm_reader.specs.declared.kinds.SectionKind.TheVariants as kinds
 use Rattle.wasm_reader.proofs.ModuleLaws.{one_way}
 use Rattle.wasm_sections.proofs.Prefixes.{prefixed_reads}
 
--- ---- a section as it stands
+-- ---- a section with any payload
 
--- The bytes before what follows a reading are those that were read.
+-- The bytes before the suffix are the encoding of the decoded value.
 pub front_taken : {X : Type 0} (F : Format X) (bytes rest : List ℕ) (x : X) → (h : Reads F wide bytes x rest) → take (length bytes - length rest) bytes ≡ h.front
 front_taken F bytes rest x h =
     let n : length h.front ≡ length bytes - length rest = omega (arith, ap length h.split, length-append h.front rest) in
@@ -58,11 +58,11 @@ types_uncounted payload n = λ x h. absurd (n.none h.0 h.2)
 pub types_few : (payload : List ℕ) (types : List TypeItem) → vec type_item wide payload types → length types < 2 ^ 32
 types_few payload types h = h.first.range
 
--- A number that a list of a module tells, of a kind other than types.
+-- The number of items in a list is that in an outline, for kinds other than types.
 pub listed_count : (kind : SectionKind) (payload : List ℕ) (x : Contents) (number : Option ℕ) → kind ≢ kinds.Types → content kind wide payload x → number ≡ number_in x → IsCount kind payload number
 listed_count kind payload x number other h e = same_count kind payload x number h (counted_alike kind payload x other h ∙ sym e)
 
--- Nothing is counted where nothing is read.
+-- There is no number of items if nothing decodes.
 pub not_counted : (kind : SectionKind) (payload : List ℕ) → FillsNothing (content kind) payload → IsCount kind payload None
 not_counted kind payload n = λ x h. absurd (n.none x h)
 
@@ -84,9 +84,9 @@ payload_small s h = let f = h.holds in subst (λ z. length z < 2 ^ 32) f.spelled
 
 pub ruleset line_steps = (payload_within, payload_small)
 
--- ---- sections one after the other
+-- ---- sections one after another
 
--- its id, and what its frame holds
+-- The id and the payload of a section.
 abbrev pub any_of : Section → ℕ × List ℕ
 any_of s = (s.id, s.payload)
 
@@ -106,7 +106,7 @@ sections_spelled (s ∷ ss) h = (bytes_of s, flat_map bytes_of ss, refl, one_sec
 pub sections_read : (bytes rest : List ℕ) (sections : List Section) → AllByRecursion IsSection sections → bytes ≡ flat_map bytes_of sections ++ rest → Reads (members any_section) wide bytes (map any_of sections) rest
 sections_read bytes rest sections h e = record { front = flat_map bytes_of sections; split = e; spelled = sections_spelled sections h }
 
--- No module stands where a section doesn't.
+-- If no section decodes at the end of the sections, the bytes are no module.
 pub no_module : (bytes start rest : List ℕ) (xs : List (ℕ × List ℕ)) → bytes ≡ header ++ start → Reads (members any_section) wide start xs rest → rest ≢ [] → ReadsNothing any_section wide rest → FillsNothing wasm_module bytes
 no_module bytes start rest xs e h more n = record {
   none = λ ys g.
@@ -128,7 +128,7 @@ ends_behind bytes start rest xs e h more n = record { sections = xs; rest = rest
 
 -- ---- the loop
 
--- what the lines tell so far: of sections from `start` on, and `rest` behind them
+-- The lines so far describe the sections from `start` on, and `rest` remains.
 pub record HasOutlined (place : ℕ) (start : List ℕ) (lines : List Outlined) (rest : List ℕ) : Type 0 where
   pub sections : List Section
   pub joined : start ≡ flat_map bytes_of sections ++ rest

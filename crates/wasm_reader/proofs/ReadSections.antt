@@ -1,4 +1,4 @@
--- How the content of a section is read.
+-- This file proves how the reader decodes the content of a section.
 use Rattle.wasm_reader.specs.Kinds.{Contents, content}
 use Rattle.std.proofs.Common.{◌≡◌, ℕ, ◌≤◌, ◌+◌, List, length, drop, sym, ap, subst, ◌∙◌, arith}
 use Rattle.std.proofs.lemmas.List.{length-append, drop_at}
@@ -15,7 +15,7 @@ use Rattle.wasm_reader.specs.declared.kinds.SectionKind.{SectionKind}
 pub shorter : {X : Type 0} {F : Format X} {bytes rest : List ℕ} {x : X} → Reads F wide bytes x rest → length rest ≤ length bytes
 shorter {rest = rest} h = omega (arith, ap length h.split, length-append h.front rest)
 
--- What is read takes the bytes that are not left.
+-- The number of bytes used is the number that do not remain.
 pub taken : {X : Type 0} {F : Format X} (bytes rest : List ℕ) (x : X) (n : ℕ) → Reads F wide bytes x rest → n + length rest ≡ length bytes → Reads F wide bytes x (drop n bytes)
 taken {F = F} bytes rest x n h e = subst (λ z. Reads F wide bytes x z) (sym (ap (drop n) h.split ∙ drop_at h.front rest n (omega (arith, e, ap length h.split, length-append h.front rest)))) h
 

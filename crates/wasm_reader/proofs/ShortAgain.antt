@@ -1,4 +1,4 @@
--- What is as short as can be stays as it is.
+-- This file proves that a minimized module is minimized to itself.
 use Rattle.wasm_reader.specs.Kinds.{kind_named, Contents, content}
 use Rattle.wasm_reader.proofs.KindLaws.{keeps_name}
 use Rattle.std.proofs.Common.{◌≡◌, ◌≢◌, ℕ, ◌+◌, List, [], ◌∷◌, ◌++◌, length, drop, false, Option, Some, None, refl, sym, ap, subst, ◌∙◌, append-nil, arith}
@@ -35,13 +35,13 @@ one_name id payload (Some n) (Some m) h g = ap Some (reads_same name_unique h.2 
 one_name id payload (Some n) None h g = absurd ((g h.0).none n h.1 h.2)
 one_name id payload None (Some m) h g = absurd ((h g.0).none m g.1 g.2)
 
--- ---- frames
+-- ---- size-prefixed bytes
 
--- What a frame holds, where it stands alone.
+-- Size-prefixed bytes have one payload.
 one_payload : (s p q : List ℕ) → frame any_bytes wide s p → frame any_bytes wide s q → p ≡ q
 one_payload s p q h g = (frame_bytes_unique.alone wide s s [] [] p q h g refl).0
 
--- What is read of a section's frame, as a section of the kind.
+-- The payload of a section decodes to x by this kind, and so do its size-prefixed bytes.
 record ReadOf (kind : SectionKind) (s : Section) (x : Contents) : Type 0 where
   holds : content kind wide s.payload x
   whole : section kind wide s.framed x
@@ -59,7 +59,7 @@ read_of kind s text i h =
 
 -- ---- one section
 
--- what was written for w stands as v
+-- The output for w is the section v.
 record Stands (w v : Rewrite) : Type 0 where
   id : w.section.id ≡ v.section.id
   text : w.text ≡ v.section.framed
@@ -87,7 +87,7 @@ module _ (offsets : Offsets) (w v : Rewrite) (i : IsSection w.section) (j : IsSe
   same_payload : w.text ≡ w.section.framed → v.section.payload ≡ w.section.payload
   same_payload e = one_payload w.section.framed v.section.payload w.section.payload (subst (λ z. frame any_bytes wide z v.section.payload) (sym s.text ∙ e) j.holds) i.holds
 
-  -- The name stays.
+  -- The name of the section does not change.
   same_name : (how : How) → IsWritten offsets how w.section w.text → how ≢ LeftOut → v.section.name ≡ w.section.name
   same_name Shortest h n = name_after w.section.name refl h.0 i.named
   same_name Kept h n = one_name w.section.id w.section.payload v.section.name w.section.name (subst (λ z. IsNameOf z w.section.payload v.section.name) (sym s.id) (subst (λ z. IsNameOf v.section.id z v.section.name) (same_payload h.0.0) j.named)) i.named
@@ -124,7 +124,7 @@ module _ (offsets : Offsets) (w v : Rewrite) (i : IsSection w.section) (j : IsSe
 
 -- ---- all sections
 
--- What is written behind an id is a frame.
+-- The bytes behind an id are size-prefixed.
 record IsFrame (text : List ℕ) : Type 0 where
   payload : List ℕ
   framed : frame any_bytes wide text payload
@@ -138,12 +138,12 @@ text_framed offsets w Shortest i h n =
 text_framed offsets w Kept i h n = record { payload = w.section.payload; framed = subst (λ z. frame any_bytes wide z w.section.payload) (sym h.0.0) i.holds }
 text_framed offsets w LeftOut i h n = absurd (n refl)
 
--- What is written for the section is the section as it stands.
+-- The output for the section is the section unchanged.
 abbrev IsAgain : Rewrite → Type 0
 IsAgain v = written v ≡ bytes_of v.section
 
 module _ (offsets : Offsets) where
-  -- The next section that was written is the next that stands there.
+  -- The next section of the output is the next section of the minimized module.
   next : (w : Rewrite) (rest : List ℕ) (how : How) → IsSection w.section → IsWritten offsets how w.section w.text → how ≢ LeftOut → (v : Rewrite) (behind : List ℕ) → IsSection v.section → (w.section.id ∷ w.text) ++ rest ≡ bytes_of v.section ++ behind → Stands w v × (rest ≡ behind)
   next w rest how i h n v behind j e =
       let f = text_framed offsets w how i h n in
@@ -151,7 +151,7 @@ module _ (offsets : Offsets) where
       let same = frame_bytes_unique.alone wide w.text v.section.framed rest behind f.payload v.section.payload f.framed j.holds tails in
       (record { id = cc e; text = same.1 }, same.2)
 
-  -- One section was written, and the others stand behind it.
+  -- The step of the induction: one section of the output, then the output for the others.
   one_again : (w : Rewrite) (rest : List ℕ) (how : How) → IsSection w.section → IsWritten offsets how w.section w.text → how ≢ LeftOut → (vs : List Rewrite) → AllByRecursion (λ v. IsSection v.section) vs → AllByRecursion (IsRewrite offsets) vs
       → (w.section.id ∷ w.text) ++ rest ≡ flat_map (λ v. bytes_of v.section) vs
       → ((us : List Rewrite) → AllByRecursion (λ v. IsSection v.section) us → AllByRecursion (IsRewrite offsets) us → rest ≡ flat_map (λ v. bytes_of v.section) us → AllByRecursion IsAgain us) → AllByRecursion IsAgain vs
@@ -186,7 +186,7 @@ unchanged v Shortest h e = cc e
 unchanged v Kept h e = h.0.0
 unchanged v LeftOut h e = absurd (cc e)
 
--- Where each section is written as it stands, all stay.
+-- If the output for each section is the section unchanged, all sections stay.
 all_stay : (target : Target) (from to : ℕ) (vs : List Rewrite) → from ≡ to → AllByRecursion (IsRewrite Refuse) vs → AllByRecursion IsAgain vs → AllStay target from to vs
 all_stay target from to [] e g h = tt
 all_stay target from to (v ∷ vs) e g h = (
@@ -200,14 +200,14 @@ all_sections : (ws : List Rewrite) → AllByRecursion IsSection (sections_of ws)
 all_sections [] h = tt
 all_sections (w ∷ ws) h = (h.0, all_sections ws h.1)
 
--- Each section of a module that was shortened is written as it stands.
+-- Each section of a minimized module is unchanged if it is minimized again.
 module_again : (offsets : Offsets) (bytes old text : List ℕ) (kept : ℕ) (vs : List Rewrite) → ShortensModule offsets bytes kept old (old ++ text) → HasSections text (sections_of vs) → AllByRecursion (IsRewrite offsets) vs → AllByRecursion IsAgain vs
 module_again offsets bytes old text kept vs first has each =
     let is : text ≡ first.text = append_cancel_left old text first.text first.appended in
     let behind : flat_map written first.rewrites ≡ flat_map bytes_of (sections_of vs) = append_cancel_left header (flat_map written first.rewrites) (flat_map bytes_of (sections_of vs)) (sym first.is ∙ sym is ∙ has.joined) in
     all_again offsets first.rewrites vs (all_sections first.rewrites first.has.each) first.each (all_sections vs has.each) each (behind ∙ sym (bytes_joined vs))
 
--- No offsets are lost of a module that was shortened.
+-- A minimized module loses no offsets if it is minimized again.
 none_lost : (bytes old text : List ℕ) (kept number : ℕ) → ShortensModule Refuse bytes kept old (old ++ text) → LosesOffsets text number → ⊥
 none_lost bytes old text kept number first l =
     let vs = l.before ++ l.holder ∷ l.after in

@@ -1,4 +1,4 @@
--- How members are shortened that are not kept.
+-- This file proves how the minimizer encodes members that it does not keep.
 use Rattle.std.proofs.Common.{◌≡◌, ℕ, ◌+◌, List, [], ◌∷◌, ◌++◌, length, refl, sym, subst, arith}
 use Rattle.std.proofs.lemmas.List.{length-append}
 use Rattle.wasm_base.specs.Numbers.{wide}
@@ -10,7 +10,8 @@ use Rattle.wasm_reader_base.proofs.ReadPassed.{HasPassed}
 use Rattle.wasm_reader_base.proofs.ReadWhole.{whole_reads}
 use Rattle.wasm_reader_base.proofs.ShortTexts.{members_start, members_more, then_appended}
 
--- So many values were passed from `start` on, `rest` is behind them, and their shortest texts are appended.
+-- The reader has skipped `count` values from `start` on, `rest` remains, and their minimal
+-- encodings are appended.
 pub record HasShortened {X : Type 0} (F : Format X) (start : List ℕ) (count : ℕ) (rest old new : List ℕ) : Type 0 where
   pub values : List X
   pub read : Reads (members F) wide start values rest
@@ -27,7 +28,7 @@ module _ {X : Type 0} (F : Format X) where
   pub passed : {start rest old new : List ℕ} {count : ℕ} → HasShortened F start count rest old new → HasPassed F start count rest
   passed h = record { values = h.values; read = h.read; counted = h.counted }
 
-  -- Their number is appended before them.
+  -- Their count is appended before them.
   vec_appended : (xs : List X) (n : ℕ) (old middle new : List ℕ) → length xs ≡ n → AppendsShortest u32 n old middle → AppendsShortest (members F) xs middle new → AppendsShortest (vec F) xs old new
   vec_appended xs n old middle new e a b =
       let both = then_appended u32 (λ n. members F) (subst (λ z. AppendsShortest u32 z old middle) (sym e) a) b in

@@ -1,4 +1,4 @@
--- How a module is written as shortly as can be.
+-- This file proves how the minimizer encodes a module.
 use Rattle.std.proofs.Common.{◌≡◌, ◌≢◌, ℕ, ◌≤◌, ◌<◌, ◌+◌, ◌-◌, ◌^◌, suc, List, [], ◌∷◌, ◌++◌, length, map, take, drop, Bool, false, Decides, Some, None, refl, sym, ap, subst, ◌∙◌, append_assoc, append-nil, arith}
 use Rattle.std.specs.List.{AllByRecursion, flat_map}
 use Rattle.std.proofs.lemmas.Grind.{flat_map-append}
@@ -24,7 +24,7 @@ use Rattle.wasm_reader.proofs.ReadOutlines.{All-append, joined_more, no_module, 
 
 -- ---- a section
 
--- What is shortened takes the whole frame.
+-- A section that is minimized uses all of its size-prefixed bytes.
 pub whole_frame : (kind : SectionKind) (s : Section) (n : ℕ) (old new : List ℕ) → IsSection s → Shortens kind s.framed n old new → (text : List ℕ) × Shortens kind s.framed (length s.framed) [] text × (new ≡ old ++ text)
 whole_frame kind s n old new i h =
     let r = h.takes.reads in
@@ -79,7 +79,7 @@ gains offsets s how is_changed text old new h n d e = record {
   appended = e ∙ append_assoc old (s.id ∷ []) text ∙ ap (λ z. old ++ z) (sym (behind_id how s text h));
 }
 
--- ---- sections one after the other
+-- ---- sections one after another
 
 pub rewrites_start : (offsets : Offsets) (bytes old : List ℕ) → Rewrites offsets bytes bytes old old nothing
 rewrites_start offsets bytes old = record { rewrites = []; joined = refl; sections = tt; each = tt; tallied = nothing_known; appended = sym (append-nil old) }
@@ -100,7 +100,7 @@ rewrites_step offsets bytes rest after old middle new tally next s how is_change
       appended = g.appended ∙ ap (λ z. z ++ written w) r.appended ∙ append_assoc old (flat_map written r.rewrites) (written w) ∙ ap (λ z. old ++ (flat_map written r.rewrites ++ z)) (sym (append-nil (written w))) ∙ ap (λ z. old ++ z) (sym (flat_map-append written r.rewrites (w ∷ [])));
     }
 
--- the sections of rewrites
+-- The sections of the rewrites.
 abbrev pub sections_of : List Rewrite → List Section
 sections_of ws = map (λ w. w.section) ws
 
@@ -134,7 +134,7 @@ rewrites_few offsets bytes rest old now tally r = omega (arith, r.tallied.sectio
 pub rewrites_below : (offsets : Offsets) (bytes rest old now : List ℕ) (tally : Tally) → Rewrites offsets bytes rest old now tally → length bytes < 2 ^ 64 → length rest ≢ 0 → tally.sections + 1 < 2 ^ 64
 rewrites_below offsets bytes rest old now tally r l more = omega (arith, rewrites_few offsets bytes rest old now tally r, l, more)
 
--- What is left, and what is new, are parts of the whole.
+-- The remaining bytes are a part of the whole, and so is the output.
 pub rewrites_rest : (offsets : Offsets) (bytes rest old now : List ℕ) (tally : Tally) → Rewrites offsets bytes rest old now tally → length rest ≤ length bytes
 rewrites_rest offsets bytes rest old now tally r = omega (arith, ap length r.joined, length-append (flat_map (λ w. bytes_of w.section) r.rewrites) rest)
 
@@ -144,7 +144,7 @@ rewrites_longer offsets bytes rest old now tally r = omega (arith, ap length r.a
 pub rewrites_front : (offsets : Offsets) (bytes rest old now : List ℕ) (tally : Tally) → Rewrites offsets bytes rest old now tally → IsFrontOf old now
 rewrites_front offsets bytes rest old now tally r = (flat_map written r.rewrites, r.appended)
 
--- ---- what comes out
+-- ---- the output
 
 written_short : (offsets : Offsets) (w : Rewrite) → IsRewrite offsets w → length (written w) ≤ length (bytes_of w.section)
 written_short offsets w h = go w.how h
@@ -158,7 +158,7 @@ no_longer : (offsets : Offsets) (ws : List Rewrite) → AllByRecursion (IsRewrit
 no_longer offsets [] h = omega arith
 no_longer offsets (w ∷ ws) h = omega (arith, written_short offsets w h.0, no_longer offsets ws h.1, length-append (written w) (flat_map written ws), length-append (bytes_of w.section) (flat_map (λ v. bytes_of v.section) ws))
 
--- sections that spell the bytes, with these ids
+-- Sections with these ids encode the bytes.
 record SpelledWith (bytes ids : List ℕ) : Type 0 where
   sections : List (ℕ × List ℕ)
   spelled : members any_section wide bytes sections
@@ -210,7 +210,7 @@ module _ (offsets : Offsets) (bytes start old middle new : List ℕ) (tally : Ta
         same_ids = out.same;
       }
 
-  -- Nothing is refused.
+  -- With no lost offsets the module is minimized.
   pub keeps_offsets : lost_at offsets tally ≡ None → ShortensModule offsets bytes tally.kept old new
   keeps_offsets n = module_shortened λ l. kept (subst (λ o. lost_at o tally ≡ None) l n)
     where

@@ -1,4 +1,4 @@
--- The one shortest text of sections that were read.
+-- This file proves that the minimizer appends the one minimal encoding of decoded sections.
 use Rattle.wasm_reader.specs.Kinds.{Contents, Bodies, content, kind_in}
 use Rattle.wasm_reader.proofs.KindLaws.{content_whole, kind_is}
 use Rattle.std.proofs.Common.{◌≡◌, ℕ, ◌+◌, List, [], ◌++◌, length, drop, refl, sym, ap, subst, ◌∙◌, arith}
@@ -23,7 +23,7 @@ use Rattle.wasm_reader.proofs.ReadSections.{takes}
 pub section_unique : (kind : SectionKind) → UniqueReading (section kind)
 section_unique kind = frame_unique (content_whole kind)
 
--- What a frame holds spells items of the kind, whose shortest text is appended.
+-- The payload encodes items of the kind, whose minimal encoding is appended.
 abbrev pub IsShortened : SectionKind → List ℕ → List ℕ → List ℕ → Type 0
 IsShortened kind framed old new = (x : Contents) × content kind wide framed x × AppendsShortest (content kind) x old new
 
@@ -33,7 +33,7 @@ bodies_shortened kind framed old new e h = subst (λ k. IsShortened k framed old
 pub items_shortened : (kind : SectionKind) (framed old new : List ℕ) (x : Contents) → content kind wide framed x → AppendsShortest (content (kind_in x)) x old new → IsShortened kind framed old new
 items_shortened kind framed old new x h a = (x, h, subst (λ k. AppendsShortest (content k) x old new) (kind_is kind framed x h) a)
 
--- The content was appended to an empty buffer, and its frame to the sink.
+-- The content is appended to an empty buffer, and then with its size prefix to the sink.
 pub shortened : (kind : SectionKind) (bytes framed rest start text old new : List ℕ) (n : ℕ) → Reads (frame any_bytes) wide bytes framed rest → n + length rest ≡ length bytes → start ≡ [] → IsShortened kind framed start text → FrameFits text → new ≡ old ++ frame_text text → Shortens kind bytes n old new
 shortened kind bytes framed rest start text old new n h l empty s fits e =
     let x = s.0 in
@@ -54,7 +54,7 @@ shortened kind bytes framed rest start text old new n h l empty s fits e =
       appended = e;
     }
 
--- ---- one text
+-- ---- one encoding
 
 read_as : (kind : SectionKind) (bytes old new : List ℕ) (n : ℕ) (x : Contents) → (s : Shortens kind bytes n old new) → Takes kind bytes x n → section kind shortest s.text x
 read_as kind bytes old new n x s t = subst (λ z. section kind shortest s.text z) (reads_same (section_unique kind) s.takes.reads t.reads).0 s.spelled

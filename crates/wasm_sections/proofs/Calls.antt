@@ -1,4 +1,4 @@
--- What calls leave, step by step: lemmas that a caller cites.
+-- This file proves the effect of each call on core sections: lemmas that a caller's proof cites.
 use Rattle.std.proofs.Common.{◌≡◌, ℕ, ◌^◌, ◌<◌, List, [], ◌∷◌, ◌++◌, map, IsUtf8, Bor, None, Some, Ok, refl, sym, subst, ◌∙◌, arith}
 use Rattle.std.proofs.lemmas.List.{length-map}
 use Rattle.std.proofs.lemmas.List.Elements.{All-map}
@@ -85,7 +85,7 @@ new_tags e = new_section e
 
 -- ---- one more item
 
--- a table without a first value, and one with it
+-- The section gains a table, without an initial value or with one.
 pub adds_table : {old new : List (List ℕ)} {items : List TableItem} → HoldsTables old items → (table : TableType) → new ≡ old ++ table_text table ∷ [] → IsTable table
     → HoldsTables new (items ++ record { table_type = table; init = None } ∷ [])
 adds_table before table e plain = adds_item before (record { table_type = table; init = None }) e (record { table_type = plain; init = tt })
@@ -95,13 +95,13 @@ pub adds_table_with_init : {old new : List (List ℕ)} {items : List TableItem} 
 adds_table_with_init before table is bytes e plain stored =
     adds_item before (record { table_type = table; init = Some (record { bytes = bytes; instructions = is }) }) e (record { table_type = plain; init = stored })
 
--- a global, of a first value that an expression stores
+-- The section gains a global, whose initial value an expression stores.
 pub adds_global : {old new : List (List ℕ)} {items : List GlobalItem} → HoldsGlobals old items → (global : GlobalItem) (bytes : List ℕ) → new ≡ old ++ (global_text global.global_type ++ expression_text bytes) ∷ []
     → IsGlobal global.global_type → StoresInstructions bytes global.init → HoldsGlobals new (items ++ global ∷ [])
 adds_global before global bytes e plain stored =
     adds_item before (record { global_type = global.global_type; init = record { bytes = bytes; instructions = global.init } }) e (record { global_type = plain; init = stored })
 
--- an export, whose name the call has measured
+-- The section gains an export, whose name's length the call has checked.
 pub adds_export : {old new : List (List ℕ)} {items : List ExportItem} → HoldsExports old items → (item : ExportItem) → new ≡ old ++ (frame_text item.name ++ (kind_code item.kind ∷ [] ++ unsigned_text item.index)) ∷ []
     → FrameFits item.name → IsUtf8 item.name → item.index < 2 ^ 32 → HoldsExports new (items ++ item ∷ [])
 adds_export before item e fits utf8 range =
@@ -113,12 +113,13 @@ adds_export before item e fits utf8 range =
     ) in
     adds_raw before item e spelled
 
--- a segment of references, whose expressions are stored
+-- The section gains an element segment of references, whose expressions are stored.
 pub adds_element : {old new : List (List ℕ)} {items : List (ElementItem (List Plain))} → HoldsElements old items → (given : ElementItem Stored) → new ≡ old ++ settled_text expression_text (settled (stored_by given)) ∷ []
     → IsSegment given → HoldsElements new (items ++ element_of given ∷ [])
 adds_element {old = old} {new = new} before given e plain = adds_item before given (subst (λ s. new ≡ old ++ s ∷ []) (sym (stored_same given)) e) plain
 
--- a segment of functions, and one of expressions, whose numbers the call has counted
+-- The section gains an element segment of functions, or of expressions, whose count the call has
+-- checked.
 pub adds_functions : {old new : List (List ℕ)} {items : List (ElementItem (List Plain))} → HoldsElements old items → (place : Place Stored) (indices : List ℕ)
     → new ≡ old ++ settled_text expression_text (settled (stored_by (record { place = place; elements = functions indices }))) ∷ [] → ElementsFit {E = List ℕ} (functions indices) → IsPlace place → AllByRecursion (λ f. f < 2 ^ 32) indices
     → HoldsElements new (items ++ element_of (record { place = place; elements = functions indices }) ∷ [])
@@ -131,7 +132,8 @@ pub adds_expressions : {old new : List (List ℕ)} {items : List (ElementItem (L
 adds_expressions before place ty stored e fits placed range are =
     adds_element before (record { place = place; elements = expressions ty stored }) e (record { place = placed; elements = (range, record { count = omega (arith, fits.count, length-map stored (λ e. e.bytes)); members = all_of IsStored stored are }) })
 
--- an active segment of bytes, at a place that an expression stores, and a passive one
+-- The section gains an active data segment, at an offset that an expression stores, or a passive
+-- one.
 pub adds_active : {old new : List (List ℕ)} {items : List DataItem} → HoldsSegments old items → (memory : ℕ) (is : List Plain) (offset bytes : List ℕ) → new ≡ old ++ active_text memory offset bytes ∷ [] → memory < 2 ^ 32
     → StoresInstructions offset is → HoldsSegments new (items ++ active memory is bytes ∷ [])
 adds_active before memory is offset bytes e range stored = adds_item before (given_active memory (record { bytes = offset; instructions = is }) bytes) e (range, stored)
@@ -139,7 +141,7 @@ adds_active before memory is offset bytes e range stored = adds_item before (giv
 pub adds_passive : {old new : List (List ℕ)} {items : List DataItem} → HoldsSegments old items → (bytes : List ℕ) → new ≡ old ++ passive_text bytes ∷ [] → HoldsSegments new (items ++ passive bytes ∷ [])
 adds_passive before bytes e = adds_item before (given_passive bytes) e tt
 
--- the bytes that a call has added: those of an array, and those of a slice, which it copies
+-- The section gains the bytes of an array, or of a slice, which the call copies.
 pub array_added : {U : Type 0} {n : ℕ} {becomes : U → IntoIter ℕ n → Type 0} {remaining : IntoIter ℕ n → Count} {elements : U} {text : List ℕ → List ℕ} {old new : List (List ℕ)}
     → AddsBytes becomes array_steps remaining elements text old new (Ok (tt {0})) → (bytes : List ℕ) → ((it : IntoIter ℕ n) → becomes elements it → array_into_iter_items it ≡ bytes) → new ≡ old ++ text bytes ∷ []
 array_added {text = text} {old = old} {new = new} added bytes are =
@@ -152,7 +154,7 @@ copied_added {text = text} {old = old} {new = new} added bytes are =
     let given = added.ok in
     subst (λ bs. new ≡ old ++ text bs ∷ []) (copied_items given.0 given.1 given.3 ∙ are given.0 given.2) given.5
 
--- a group of imports of one type, whose names the call has measured
+-- The section gains a group of imports of one type, whose names' lengths the call has checked.
 pub adds_alike : {old new : List (List ℕ)} {items : List ImportItem} → HoldsImports old items → (from : List ℕ) (ty : EntityType) (names : List (Bor (List ℕ)))
     → new ≡ old ++ import_text (record { module_name = from; imported = alike ty (map (λ n. n.now) names) }) ∷ [] → ImportFits (record { module_name = from; imported = alike ty (map (λ n. n.now) names) })
     → IsUtf8 from → IsEntity ty → All (λ n. IsUtf8 n.now) names → HoldsImports new (items ++ record { module_name = from; imported = alike ty (map (λ n. n.now) names) } ∷ [])
@@ -163,7 +165,7 @@ adds_alike before from ty names e fits utf8 range are =
     both : (xs : List (List ℕ)) → All IsUtf8 xs → All FrameFits xs → All NameFits xs
     both xs h g = λ k d l. (h k d l, g k d l)
 
--- ---- with padded numbers
+-- ---- with padded LEB128
 
 pub adds_table_with_init_wide : {old new : List (List ℕ)} {items : List TableItem} → HoldsWide table_item old items → (table : TableType) (is : List Plain) (bytes : List ℕ) → new ≡ old ++ (before_init ++ (table_text table ++ expression_text bytes)) ∷ []
     → IsTable table → StoresWide bytes is → HoldsWide table_item new (items ++ record { table_type = table; init = Some is } ∷ [])
@@ -221,13 +223,13 @@ pub gains_tags : {readings : List SectionReading} {id : ℕ} {old new : List ℕ
     → ReadsBackBoth (counted_format tag_type) (HoldsTags entries) (HoldsWide tag_type entries) (section_text entries) → HoldsTags entries items → ReadsSections (readings ++ reading_of id (vec tag_type) items ∷ []) new
 gains_tags before more fits reads holds = gains_items (payloads tags_section) before more fits reads holds
 
--- a section of one number: the start function, the number of data segments
+-- The module gains a section of one number: the start function, the number of data segments.
 pub gains_number : {readings : List SectionReading} {id number : ℕ} {old new : List ℕ} → ReadsSections readings old → ReadsOneMore (λ payload. payload ≡ unsigned_text number) id old new → FrameFits (unsigned_text number)
     → ReadsBack (frame u32) (λ said. said ≡ number) (frame_text (unsigned_text number)) → ReadsSections (readings ++ reading_of id u32 number ∷ []) new
 gains_number {number = number} before more fits reads =
     gains_section {F = u32} before more u32-payload (frame_text (unsigned_text number)) (unsigned_text number) refl (raw_framed (unsigned_text number) (unsigned_text number) fits refl) number (reads.for_each number refl)
 
--- ---- what the functions of laws say
+-- ---- the promises of functions named in `laws`
 
 pub ruleset sections = (functions_section, tables_section, memories_section, globals_section, exports_section, elements_section, segments_section, imports_section, tags_section)
 

@@ -1,4 +1,4 @@
--- Constant expressions of shortest numbers among those that may have padded ones.
+-- This file proves that a minimally encoded constant expression is a possibly padded one.
 use Rattle.wasm_code.proofs.ExpressionLaws.{stores_wider}
 use Rattle.wasm_sections.specs.Constants.{Stored, IsStored, IsStoredWide}
 

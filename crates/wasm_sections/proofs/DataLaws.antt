@@ -1,4 +1,4 @@
--- Data segments are read uniquely.
+-- This file proves that data segments are unambiguous, and how they are decoded and minimized.
 use Rattle.std.proofs.Common.{◌≡◌, ◌≢◌, ℕ, zero, suc, ◌^◌, ◌<◌, List, [], ◌∷◌, ◌++◌, length, Result, Ok, Err, Option, refl, sym, ap, subst, ◌∙◌, append_assoc, arith, length-append, ◌≤◌, ap₂}
 use Rattle.std.specs.Iterator.{Count, Drains, size}
 use Rattle.wasm_base.specs.Calls.{Adds}
@@ -27,7 +27,7 @@ use Rattle.wasm_reader_base.proofs.Encodings.{left_encoded, right_encoded, tagge
 use Rattle.wasm_reader_base.proofs.ReadPlain.{u32_appended}
 use Rattle.wasm_reader_base.proofs.ShortTexts.{text_appended, pair_appended, tagged_appended, mapped_appended}
 
--- ---- reading
+-- ---- unambiguous
 
 abbrev flag_of : DataItem → ℕ
 flag_of (active zero offset bytes) = 0
@@ -49,9 +49,9 @@ data_unique =
     (mapped_unique in_first (λ x y e. ap (λ s. (active_parts s).1) e) rest, (mapped_unique passive (λ x y e. cc) vec_bytes_unique, (mapped_unique in_memory (λ x y e. ap active_parts e) (pair_unique (such_unique (λ n. 0 < n) u32_unique) rest), tt)))
     (λ mode s x h. ap flag_of h.1, (λ mode s x h. ap flag_of h.1, (λ mode s x h. sym (not_first h.0.0 h.0.1.0 h.0.1.1 h.2.first.1) ∙ ap flag_of h.1, tt)))
 
--- ---- texts
+-- ---- encodings
 
--- bytes at the end of a text that fits
+-- The size of bytes at the end of an encoding that fits, fits.
 last_fit : (front bytes : List ℕ) → FrameFits (front ++ frame_text bytes) → FrameFits bytes
 last_fit front bytes fits = omega (arith, fits, length-append front (frame_text bytes), length-append (unsigned_text (length bytes)) bytes)
 
@@ -94,7 +94,7 @@ segments_section = counted_laws_wide data_laws data_wider (data_spelled wide tt)
 
 -- ---- calls
 
--- the same entry, by another name of its text
+-- The same entry, if its encoding has another form.
 pub same_texts : {U S : Type 0} {becomes : U → S → Type 0} {gives : S → Option ℕ → S → Type 0} {remaining : S → Count} {elements : U} {text same : List ℕ → List ℕ} {old new : List (List ℕ)} (result : Result (Unit {0}) Refused)
     → ((bytes : List ℕ) → text bytes ≡ same bytes) → AddsBytes becomes gives remaining elements text old new result → AddsBytes becomes gives remaining elements same old new result
 same_texts {old = old} {new = new} (Ok x) e h = record {
@@ -107,7 +107,7 @@ same_texts {old = old} {new = new} (Ok x) e h = record {
 }
 same_texts (Err x) e h = record { ok = h.ok; err = h.err; counted = h.counted; too_long = h.too_long; too_many = h.too_many; full = h.full }
 
--- what a call adds whose elements give these bytes
+-- The effect of a call whose iterator yields these bytes.
 pub adds_these : {U S : Type 0} {becomes : U → S → Type 0} {gives : S → Option ℕ → S → Type 0} {remaining : S → Count} {elements : U} {text : List ℕ → List ℕ} {old new : List (List ℕ)} (result : Result (Unit {0}) Refused) (bytes : List ℕ)
     → ((it : S) (xs : List ℕ) → becomes elements it → Drains gives it xs → xs ≡ bytes) → ((it : S) → becomes elements it → size (remaining it) ≡ length bytes) → AddsBytes becomes gives remaining elements text old new result
     → Adds (text bytes) (FrameFits bytes) old new result
@@ -125,14 +125,14 @@ adds_these {text = text} {old = old} {new = new} (Ok x) bytes same counts h =
 adds_these (Err e) bytes same counts h =
     record { ok = h.ok; err = h.err; fitted = h.ok; counted = h.counted; too_long = λ fits room. h.too_long (λ it b. omega (arith, counts it b, fits)) room; full = h.full }
 
--- the text of a segment of another memory than 0
+-- The encoding of a segment of another memory than memory 0.
 pub other_memory : (memory : ℕ) (offset bytes : List ℕ) → memory ≢ 0 → (0x02 ∷ (unsigned_text memory ++ expression_text offset)) ++ frame_text bytes ≡ active_text memory offset bytes
 other_memory zero offset bytes h = absurd (h refl)
 other_memory (suc n) offset bytes h = ap (λ s. 0x02 ∷ s) (append_assoc (unsigned_text (suc n)) (expression_text offset) (frame_text bytes))
 
--- ---- how data segments are read
+-- ---- decoding data segments
 
--- ---- bytes behind their number
+-- ---- size-prefixed bytes
 
 are_members : (bytes : List ℕ) → members byte wide bytes bytes
 are_members [] = refl
@@ -210,9 +210,9 @@ other_none bytes rest next n m h e g p none = segment_not 2 h e (mapped_nothing 
 
 pub ruleset segment_steps = (segment_unknown, first_reads, other_zero)
 
--- ---- the one shortest text of a segment that was read
+-- ---- the one minimal encoding of a decoded segment
 
--- bytes behind their number
+-- Size-prefixed bytes.
 pub counted_appended : (bytes old new : List ℕ) → FrameFits bytes → new ≡ old ++ frame_text bytes → AppendsShortest (vec byte) bytes old new
 counted_appended bytes old new fits e = text_appended (vec byte) bytes (frame_text bytes) old new (λ s h. bytes_spelled bytes fits) e
 
@@ -222,7 +222,7 @@ flag_tells =
     (λ mode s x h. ap flag_of h.1, (λ mode s x h. ap flag_of h.1, (λ mode s x h. sym (not_first h.0.0 h.0.1.0 h.0.1.1 h.2.first.1) ∙ ap flag_of h.1, tt)))
     (λ b mode s x h. absurd h)
 
--- the flag is appended, and then what it tells of
+-- The flag is appended, then the fields that it selects.
 flagged : (x : DataItem) (n : ℕ) (old middle new : List ℕ) → flag_of x ≡ n → middle ≡ old ++ unsigned_text n → AppendsShortest (after_flag n) x middle new → AppendsShortest data_item x old new
 flagged x n old middle new e is a = tagged_appended u32 after_flag (λ s z h. flag_tells wide z s x h ∙ e) (u32_appended n old middle is) a
 

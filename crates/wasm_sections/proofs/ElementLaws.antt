@@ -1,4 +1,4 @@
--- Element segments are read uniquely.
+-- This file proves that element segments are unambiguous, and how they are decoded and minimized.
 use Rattle.std.proofs.Common.{◌≡◌, ℕ, ◌+◌, ◌<◌, List, [], ◌∷◌, ◌++◌, length, map, Bool, true, false, cond, Some, None, refl, sym, ap, subst, ◌∙◌, arith, lit<, ◌≢◌, ◌≤◌, ◌/◌, ◌%◌, Option, append-nil}
 use Rattle.std.specs.List.{All, flat_map}
 use Rattle.std.proofs.lemmas.List.{length-map, map-id}
@@ -69,7 +69,7 @@ code_low false true false = lit< tt
 code_low false false true = lit< tt
 code_low false false false = lit< tt
 
--- ---- reading
+-- ---- unambiguous
 
 abbrev table_parts : Place (List Plain) → ℕ × List Plain
 table_parts passive = (0, [])
@@ -131,7 +131,7 @@ element_unique =
     tagged_unique flag_of flag_told element_flag_unique λ f.
     mapped_unique segment_of (λ x y e. ap (λ s. (s.place, s.elements)) e) (pair_unique (place_unique f) (elements_unique (tells_kind f) f.expressions))
 
--- ---- texts
+-- ---- encodings
 
 place_spelled : (mode : Mode) (p : Place Stored) (of_expressions : Bool) → IsPlaceIn mode p → place (record { not_active = is_inactive p; second = is_second p; expressions = of_expressions }) mode (place_text stored_text p) (place_of p)
 place_spelled mode passive of_expressions plain = (refl, refl)
@@ -151,7 +151,7 @@ funcref_of r e = go (is_funcref r) refl e
     go true t e = funcref_is r.nullable r.heap_type t
     go false t e = absurd (cc e)
 
--- expressions, by what they say
+-- The stored expressions encode their instructions, one after another.
 each_spelled : (mode : Mode) (es : List Stored) → All (IsStoredIn mode) es → members expression mode (flat_map stored_text es) (map (λ e. e.instructions) es)
 each_spelled mode [] h = refl
 each_spelled mode (e ∷ es) h =
@@ -236,7 +236,7 @@ elements_section = counted_laws_wide element_laws (λ s plain. record { place = 
 
 -- ---- the bytes of a segment's expressions
 
--- Both have one text.
+-- The stored bytes alone determine the encoding of a segment.
 pub stored_same : (s : ElementItem Stored) → element_text s ≡ settled_text expression_text (settled (stored_by s))
 stored_same s = same s.place s.elements
   where
@@ -256,7 +256,7 @@ stored_same s = same s.place s.elements
 pub given_element : {A : Type 0} (s : ElementSegment A) (given : ElementItem Stored) → HaveOneText s given
 given_element s given = record { same = λ e. ap (λ x. settled_text expression_text (settled x)) e ∙ sym (stored_same given) }
 
--- ---- how element segments are read
+-- ---- decoding element segments
 
 -- ---- flags
 
@@ -283,9 +283,9 @@ flag_unknown bytes rest b h l = record {
 
 pub ruleset flag_steps = (flag_reads)
 
--- ---- places
+-- ---- modes
 
--- by the bits of the flag that tell of the place
+-- The mode by the bits of the flag that select it.
 abbrev place_at : Bool → Bool → Format (Place (List Plain))
 place_at a b = when a (when b (fixed [] declared) (fixed [] passive)) (when b (mapped in_table (pair u32 expression)) (mapped in_no_table expression))
 
@@ -418,7 +418,7 @@ element_no_list bytes start middle f p h g n = tagged_nothing {G = after_flag} e
 
 pub ruleset element_steps = (element_no_list)
 
--- ---- the one shortest text of a segment that was read
+-- ---- the one minimal encoding of a decoded segment
 
 pub element_appended : (x : ElementItem (List Plain)) (old flag middle new : List ℕ) → flag ≡ old ++ unsigned_text (flag_code (flag_of x)) → AppendsShortest (place (flag_of x)) x.place flag middle → AppendsShortest (elements_as (tells_kind (flag_of x)) (are_expressions x.elements)) x.elements middle new → AppendsShortest element x old new
 element_appended x old flag middle new e a b =
@@ -428,7 +428,7 @@ element_appended x old flag middle new e a b =
     tagged_appended (numbered flag_code) (λ g. mapped segment_of (pair (place g) (elements_as (tells_kind g) g.expressions))) (λ s z h. flag_told wide z s x h)
     (text_appended (numbered flag_code) f (unsigned_text (flag_code f)) old flag (λ s h. u32_spelled (flag_code f) h.range) e) rest
 
--- the place of a segment, and what stands beside it
+-- The segment of this mode and these elements.
 abbrev at_place : Place (List Plain) → ElementList (List Plain) → ElementItem (List Plain)
 at_place p l = record { place = p; elements = l }
 
@@ -438,7 +438,7 @@ passive_appended p l old e = subst (λ z. AppendsShortest (place (flag_of (at_pl
 pub declared_appended : (p : Place (List Plain)) (l : ElementList (List Plain)) (old : List ℕ) → p ≡ declared → AppendsShortest (place (flag_of (at_place p l))) p old old
 declared_appended p l old e = subst (λ z. AppendsShortest (place (flag_of (at_place z l))) z old old) (sym e) (nothing_appended (place (flag_of (at_place declared l))) declared old (λ s h. (refl, refl)))
 
--- the flag of an active segment of functions
+-- The flag of an active segment of functions.
 abbrev in_any : Bool → ElementFlag
 in_any second = record { not_active = false; second = second; expressions = false }
 

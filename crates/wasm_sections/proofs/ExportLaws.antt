@@ -1,4 +1,4 @@
--- Exports are read uniquely.
+-- This file proves that exports are unambiguous, and how they are decoded and minimized.
 use Rattle.std.proofs.Common.{◌≡◌, ℕ, zero, suc, [], ◌∷◌, ◌++◌, refl, ap, ◌≢◌, ◌≤◌, List, arith, ◌^◌, ◌<◌, IsUtf8, subst}
 use Rattle.wasm_base.specs.Entries.{ItemLaws}
 use Rattle.wasm_base.specs.Formats.{u32, name, coded, pair, vec, byte}
@@ -55,7 +55,7 @@ export_laws = record { alone = export_unique; spelled = export_spelled }
 pub exports_section : SectionLaws export_items (vec export)
 exports_section = counted_laws export_laws (λ given plain. plain) (λ given plain. plain)
 
--- ---- how exports are read
+-- ---- decoding exports
 
 pub export_kind_reads : (bytes rest : List ℕ) (b : ℕ) (k : ExportKind) → Reads byte wide bytes b rest → b ≡ kind_code k → Reads (coded kind_code) wide bytes k rest
 export_kind_reads = code_reads kind_code
@@ -83,9 +83,9 @@ export_none bytes n = mapped_nothing export_of n
 
 pub ruleset export_steps = (export_reads)
 
--- ---- the one shortest text of exports that were read
+-- ---- the one minimal encoding of decoded exports
 
--- The name is UTF-8, and the index is in range.
+-- The decoded export is well-formed: its name is UTF-8, and its index is below 2^32.
 pub record IsItem (e : ExportItem) : Type 0 where
   pub name : IsUtf8 e.name
   pub index : e.index < 2 ^ 32

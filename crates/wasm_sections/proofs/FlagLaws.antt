@@ -1,4 +1,4 @@
--- The byte of the flags tells each of them.
+-- This file proves that the byte of the flags determines each flag.
 use Rattle.std.proofs.Common.{◌≡◌, ℕ, ◌+◌, ◌*◌, ◌/◌, ◌%◌, ◌^◌, ◌<◌, Bool, true, false, refl, arith}
 use Rattle.wasm_base.specs.Reading.{UniqueReading}
 use Rattle.wasm_base.proofs.FormatLaws.{coded_unique}
@@ -6,7 +6,7 @@ use Rattle.wasm_immediates.specs.Immediates.{where_set}
 use Rattle.wasm_immediates.specs.PlainImmediates.{bit}
 use Rattle.wasm_sections.specs.Flags.{Flags, flags, flags_code}
 
--- a weight, as a multiple of a bit
+-- A weight as a multiple of a bit.
 pub weight_is : (set : Bool) (weight : ℕ) → where_set set weight ≡ weight * where_set set 1
 weight_is true weight = omega arith
 weight_is false weight = omega arith

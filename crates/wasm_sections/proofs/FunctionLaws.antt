@@ -1,4 +1,4 @@
--- Type indices are read uniquely.
+-- This file proves that type indices are unambiguous.
 use Rattle.std.proofs.Common.{◌≡◌, ℕ, false, arith, ◌+◌, ◌/◌, ◌%◌, ◌<◌, ◌≤◌, [], ◌∷◌}
 use Rattle.wasm_base.specs.Entries.{ItemLaws}
 use Rattle.wasm_base.specs.Numbers.{unsigned_text}
@@ -15,6 +15,6 @@ function_laws = record { alone = u32_unique; spelled = λ index plain fits. u32_
 pub functions_section : SectionLaws function_items (vec u32)
 functions_section = counted_laws function_laws (λ given plain. plain) (λ given plain. plain)
 
--- for the tactics: an index of two bytes
+-- For the tactics: an index of two bytes.
 pub two_bytes : (n : ℕ) → 128 ≤ n → n < 16384 → unsigned_text n ≡ (n % 128 + 128) ∷ n / 128 ∷ []
 two_bytes n high low = two_groups false 128 n (omega arith) high (omega arith)

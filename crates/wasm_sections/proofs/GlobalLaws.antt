@@ -1,4 +1,5 @@
--- Global types and globals are read uniquely.
+-- This file proves that global types and globals are unambiguous, and how they are decoded and
+-- minimized.
 use Rattle.std.proofs.Common.{◌≡◌, ℕ, Bool, true, false, [], ◌∷◌, refl, ap, ◌<◌, ◌≤◌, ◌/◌, ◌%◌, List, arith, subst, ◌++◌}
 use Rattle.wasm_base.specs.Entries.{ItemLaws}
 use Rattle.wasm_base.specs.Formats.{coded, byte, pair, vec}
@@ -67,7 +68,7 @@ global_laws = record { alone = global_item_unique; spelled = λ g plain fits. gl
 pub globals_section : SectionLaws global_items (vec global_item)
 globals_section = counted_laws_wide global_laws (λ g plain. record { global_type = plain.global_type; init = stored_wider g.init plain.init }) (λ g plain fits. global_item_spelled wide tt g plain)
 
--- ---- how globals are read
+-- ---- decoding globals
 
 bits_of : (b : ℕ) → b < 4 → b ≡ global_code (record { mutable = b % 2 == 1; shared = b / 2 % 2 == 1 })
 bits_of b l =
@@ -105,12 +106,12 @@ item_none bytes n = mapped_nothing global_from n
 
 pub ruleset item_steps = (item_reads)
 
--- ---- what was read is plain
+-- ---- decoded globals are well-formed
 
 pub global_is : AllValues IsGlobal global_type
 global_is mode s g h = subst IsGlobal h.1 (val_type_is mode h.2.front h.0.0 h.2.first)
 
--- ---- the one shortest text of a global that was read
+-- ---- the one minimal encoding of a decoded global
 
 pub global_appended : (g : GlobalType) (init : List Plain) (old middle new : List ℕ) → middle ≡ old ++ global_text g → AppendsShortest expression init middle new → AppendsShortest global_item (global_from (g, init)) old new
 global_appended g init old middle new e a =

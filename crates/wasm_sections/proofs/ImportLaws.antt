@@ -1,4 +1,4 @@
--- Imports are read uniquely.
+-- This file proves that imports are unambiguous, and how they are decoded and minimized.
 use Rattle.std.proofs.Common.{◌≡◌, ◌≢◌, ℕ, ◌<◌, ◌≤◌, List, [], ◌∷◌, ◌++◌, refl, sym, ap, subst, ◌∙◌, arith, lit<, inl, inr, length-append, suc, ◌-◌, length, take, drop, slice_index_or, IsUtf8}
 use Rattle.std.proofs.lemmas.Str.{IsUtf8-nil}
 use Rattle.wasm_base.specs.Entries.{ItemLaws}
@@ -70,7 +70,7 @@ entity_begins = choice_begins IsEntityByte entity_tags (λ b. impossible) (lit< 
 
 -- ---- groups
 
--- the byte of a group
+-- The byte of a group.
 abbrev group_code : Imported → ℕ
 group_code (single n ty) = 0x00
 group_code (named items) = 0x7F
@@ -124,7 +124,7 @@ after_zero_values mode s x h = subst IsGroup h.1 (group_values mode h.2.back h.0
 pub empty_name : (mode : Mode) → name mode (0x00 ∷ []) []
 empty_name mode = (record { front = 0x00 ∷ []; content = []; joined = refl; size = u32_small mode 0 (omega arith); spelled = refl }, IsUtf8-nil)
 
--- Behind the byte 00 the byte of an entity's kind is not that of a group.
+-- Behind the byte 00, no byte begins both an entity and a group.
 never_alike : BeginNeverAlike named_entity (prefixed (0x00 ∷ []) group)
 never_alike mode s t r u x y h g e =
     let back = g.2.back in
@@ -139,7 +139,7 @@ after_module_unique =
 pub import_unique : UniqueReading import_format
 import_unique = mapped_unique import_of (λ x y e. ap (λ i. (i.module_name, i.imported)) e) (pair_unique name_unique after_module_unique)
 
--- ---- texts
+-- ---- encodings
 
 named_spelled : (i : List ℕ × EntityType) → IsNamed i → pair name entity shortest (named_text i) i
 named_spelled i plain = pair_spelled name entity (frame_text i.0) (entity_text i.1) i.0 i.1 (name_spelled i.0 plain.0.0 plain.0.1) (entity_spelled i.1 plain.1)
@@ -184,7 +184,7 @@ import_laws = record { alone = import_unique; spelled = import_spelled }
 pub imports_section : SectionLaws import_items (vec import_format)
 imports_section = counted_laws import_laws (λ given plain. plain) (λ given plain. plain)
 
--- ---- how imports are read
+-- ---- decoding imports
 
 -- ---- entities
 
@@ -241,18 +241,18 @@ entity_no_exact bytes rest b h e n = entity_not 0x20 h e (mapped_nothing Functio
 
 pub ruleset entity_steps = (entity_unknown, entity_memory, entity_exact)
 
--- ---- where a group stands
+-- ---- the front of a group
 
 abbrev behind_zero : Format Imported
 behind_zero = prefixed (0x00 ∷ []) group
 
--- as a pattern takes two bytes off a slice
+-- The first two bytes and the suffix, as a slice pattern splits the bytes.
 pub group_found : (bytes : List ℕ) → 2 ≤ length bytes → slice_index_or bytes 0 0 ≡ 0 → bytes ≡ 0x00 ∷ slice_index_or bytes 1 0 ∷ take (length bytes - 2) (drop 2 bytes)
 group_found [] l e = absurd (omega (arith, l))
 group_found (b ∷ []) l e = absurd (omega (arith, l))
 group_found (b ∷ c ∷ rest) l e = ap (λ z. z ∷ c ∷ rest) e ∙ ap (λ z. 0x00 ∷ c ∷ z) (sym (take_all (suc (suc (length rest)) - 2) rest (omega arith)))
 
--- What stands before a group.
+-- A group begins with its byte.
 of_group : {bytes last : List ℕ} {x : Imported} → Reads group wide bytes x last → (b : ℕ) × (rest : List ℕ) × (bytes ≡ b ∷ rest) × IsGroupByte b
 of_group {last = last} {x = x} h = let b = group_begins wide h.front x h.spelled in (b.0, b.1 ++ last, h.split ∙ ap (λ z. z ++ last) b.2, b.3)
 
@@ -307,7 +307,7 @@ single_no_type bytes rest next m text h other g n = single_none h other (then_no
 
 -- ---- groups
 
--- Behind an empty name a group's byte is no entity's.
+-- Behind an empty name, the byte of a group begins no entity.
 not_named : {bytes after : List ℕ} {k : ℕ} → bytes ≡ 0x00 ∷ k ∷ after → 0x7E ≤ k → ReadsNothing named_entity wide bytes
 not_named {after = after} {k = k} e l = record {
   none = λ x last h.
@@ -361,7 +361,7 @@ group_unknown bytes rest after m k h e l p q = group_nothing h e l (no_choice gr
 
 pub ruleset import_steps = (alike_reads, alike_no_type, alike_no_names, group_unknown)
 
--- ---- the one shortest text of imports that were read
+-- ---- the one minimal encoding of decoded imports
 
 entity_is : AllValues IsEntity entity
 entity_is =
@@ -370,11 +370,11 @@ entity_is =
       (λ mode s x h. subst IsEntity h.1 (table_is mode s h.0 h.2), (λ mode s x h. subst IsEntity h.1 (memory_is mode s h.0 h.2), (λ mode s x h. subst IsEntity h.1 (global_is mode s h.0 h.2), (λ mode s x h. subst IsEntity h.1 (tag_is mode s h.0 h.2), (λ mode s x h. subst IsEntity h.1 h.2.range, tt))))),
     )
 
--- a name that is UTF-8, and an entity whose numbers are in range
+-- A name that is UTF-8, and an entity whose numbers are in range.
 abbrev IsRead : List ℕ × EntityType → Type 0
 IsRead i = IsUtf8 i.0 × IsEntity i.1
 
--- Names are UTF-8, and numbers in range.
+-- Item names are UTF-8, and numbers are in range.
 abbrev IsSaid : Imported → Type 0
 IsSaid (single n ty) = IsUtf8 n × IsEntity ty
 IsSaid (named items) = All IsRead items
@@ -409,7 +409,7 @@ said_spelled (single n ty) fits is = single_spelled n ty (name_spelled n is.0 fi
 said_spelled (named items) fits is = items_spelled items (record { count = fits.count; members = all_both (λ i. FrameFits i.0) IsRead IsNamed (λ i f r. ((r.0, f), r.1)) items fits.members is })
 said_spelled (alike ty names) fits is = names_spelled ty names is.0 (record { count = fits.count; members = all_both FrameFits IsUtf8 NameFits (λ n f r. (r, f)) names fits.members is.1 })
 
--- The name of the module is UTF-8, and so on.
+-- All names are UTF-8, and numbers are in range.
 abbrev IsWhole : ImportItem → Type 0
 IsWhole i = IsUtf8 i.module_name × IsSaid i.imported
 
@@ -424,7 +424,7 @@ import_short i fits s h =
 pub import_appended : (i : ImportItem) (old new : List ℕ) → ImportFits i → new ≡ old ++ import_text i → AppendsShortest import_format i old new
 import_appended i old new fits e = text_appended import_format i (import_text i) old new (import_short i fits) e
 
--- ---- names and counts of what has an encoding
+-- ---- names and counts of values that have an encoding
 
 name_fitting : AllValues FrameFits name
 name_fitting mode s n h = omega (arith, ap length h.0.spelled, h.0.size.range)

@@ -1,4 +1,4 @@
--- Memory types are read uniquely.
+-- This file proves that memory types are unambiguous.
 use Rattle.std.proofs.Common.{◌≡◌, ℕ, ◌^◌, ◌<◌, [], ◌∷◌, ◌++◌, Option, refl, ap, ◌∙◌, List, subst}
 use Rattle.wasm_base.specs.Entries.{ItemLaws}
 use Rattle.wasm_base.specs.Formats.{u32, u64, optional, is_given, vec, mapped, pair}
@@ -55,7 +55,7 @@ memory_laws = record { alone = memory_unique; spelled = λ m plain fits. memory_
 pub memories_section : SectionLaws memory_items (vec memory_type)
 memories_section = counted_laws memory_laws (λ given plain. plain) (λ given plain. plain)
 
--- ---- what was read is plain
+-- ---- decoded memory types are well-formed
 
 pub memory_is : AllValues IsMemory memory_type
 memory_is mode s m h = subst IsMemory h.1 (after h.0.0 h.2.back h.0.1 h.2.second)

@@ -1,4 +1,4 @@
--- Where no section stands.
+-- This file proves that certain bytes are no section.
 use Rattle.std.proofs.Common.{◌≡◌, ℕ, ◌<◌, List, [], ◌∷◌, ◌++◌, false, pos, refl, sym, subst, ◌∙◌, append-nil, arith, lit<, inl, inr}
 use Rattle.std.proofs.lemmas.Int.{ints}
 use Rattle.std.proofs.lemmas.Str.{IsUtf8-nil}
@@ -27,7 +27,7 @@ use Rattle.wasm_sections.proofs.ImportLaws.{IsEntityByte, entity_begins, empty_n
 use Rattle.wasm_sections.proofs.DataLaws.{segments_section}
 use Rattle.wasm_base.proofs.SectionLaws.{unique}
 
--- ---- a global behind whose first `End` bytes are left
+-- ---- a global with remaining bytes behind its first `end`
 
 abbrev one : Instruction Global
 one = I32Const (pos 1)
@@ -88,7 +88,7 @@ padded_group =
     nothing_wide {F = counted_format import_format} (6 ∷ 1 ∷ 0 ∷ 128 ∷ 0 ∷ 127 ∷ 0 ∷ []) (unique imports_section)
     (λ after rest xs h. let x = one_item {F = import_format} 6 (0 ∷ 128 ∷ 0 ∷ 127 ∷ 0 ∷ []) after rest h.front xs (omega arith) refl h.split h.spelled in no_import x.0 x.1)
 
--- ---- a segment that names memory 0
+-- ---- an explicit memory 0 of a segment
 
 no_segment : (x : DataItem) → data_item wide (2 ∷ 0 ∷ 65 ∷ 0 ∷ 11 ∷ 1 ∷ 9 ∷ []) x → ⊥
 no_segment x h =

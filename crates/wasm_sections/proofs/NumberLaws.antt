@@ -1,4 +1,4 @@
--- A section of one number is read as this alone.
+-- This file proves that a section of one number decodes to it alone.
 use Rattle.std.proofs.Common.{◌≡◌, ℕ, ◌^◌, ◌<◌, sym, subst}
 use Rattle.wasm_base.specs.Calls.{ReadsBack}
 use Rattle.wasm_base.specs.Formats.{u32, frame}

@@ -1,4 +1,4 @@
--- Values behind fixed bytes.
+-- This file proves how readers decode values behind fixed bytes.
 use Rattle.std.proofs.Common.{◌≡◌, ℕ, List, ◌++◌, refl, ap, ◌∙◌}
 use Rattle.wasm_base.specs.Numbers.{wide}
 use Rattle.wasm_base.specs.Formats.{Format, fixed, prefixed}
@@ -16,6 +16,6 @@ module _ {X : Type 0} (head : List ℕ) (F : Format X) {bytes : List ℕ} where
   pub prefixed_nothing : {rest : List ℕ} → bytes ≡ head ++ rest → ReadsNothing F wide rest → ReadsNothing (prefixed head F) wide bytes
   prefixed_nothing e n = tagged_nothing {G = λ u. F} (fixed_unique head tt) (front_of e) n
 
-  -- The bytes do not begin so.
+  -- If the bytes do not begin with the fixed bytes, nothing decodes.
   pub prefixed_other : ((rest : List ℕ) → bytes ≡ head ++ rest → ⊥) → ReadsNothing (prefixed head F) wide bytes
   prefixed_other other = tagged_none (fixed head (tt {0})) (λ u. F) bytes (record { none = λ u rest h. other rest (h.split ∙ ap (λ z. z ++ rest) h.spelled.0) })

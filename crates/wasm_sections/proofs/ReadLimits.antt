@@ -1,4 +1,4 @@
--- How limits, and the types of memories and tables, are read.
+-- This file proves how readers decode limits, memory types and table types.
 use Rattle.std.proofs.Common.{◌≡◌, ℕ, ◌<◌, ◌≤◌, ◌/◌, ◌%◌, List, true, false, Option, option_map, refl, sym, subst, arith, ◌^◌, Bool}
 use Rattle.std.specs.Prelude.{◌==◌, IfSome}
 use Rattle.wasm_base.specs.Numbers.{wide}
@@ -109,7 +109,7 @@ table_none bytes n = mapped_nothing table_of n
 
 pub ruleset table_steps = (table_reads)
 
--- ---- numbers that were read are in range
+-- ---- decoded numbers are in range
 
 pub optional_is : {X : Type 0} (P : X → Type 0) (F : Format X) → AllValues P F → (flag : Bool) → AllValues (λ o. IfSome o P) (optional flag F)
 optional_is P F all true mode s o h = subst (λ o. IfSome o P) h.1 (all mode s h.0 h.2)

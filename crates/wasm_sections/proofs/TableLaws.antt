@@ -1,4 +1,5 @@
--- Table types and tables are read uniquely.
+-- This file proves that table types and tables are unambiguous, and how they are decoded and
+-- minimized.
 use Rattle.std.proofs.Common.{◌≡◌, ℕ, ◌^◌, ◌<◌, List, [], ◌∷◌, ◌++◌, Bool, true, false, Option, Some, None, refl, ap, ◌∙◌, arith, inl, inr, ◌≢◌, sym, subst}
 use Rattle.std.specs.Prelude.{IfSome}
 use Rattle.wasm_base.specs.Entries.{ItemLaws}
@@ -67,7 +68,7 @@ table_spelled t plain =
 
 -- ---- tables
 
--- No table type begins with the byte that stands before a first value.
+-- The first byte of a table type, which is not that before a table with an initial value.
 abbrev pub IsTypeByte : ℕ → Type 0
 IsTypeByte b = 0x40 < b
 
@@ -81,7 +82,7 @@ IsInitByte b = b ≡ 0x40
 pub init_begins : BeginsWith IsInitByte (mapped with_init (prefixed before_init (pair table_type expression)))
 init_begins = begins_mapped IsInitByte with_init (begins_mapped IsInitByte (λ p. p.1) (begins_then IsInitByte (begins_fixed IsInitByte 0x40 (0x00 ∷ []) (tt {0}) refl)))
 
--- the instructions of a first value
+-- The instructions of an initial value.
 abbrev instructions_in : Option (List Plain) → List Plain
 instructions_in None = []
 instructions_in (Some is) = is
@@ -114,12 +115,12 @@ init_wider (Some e) plain = stored_wider e plain
 pub tables_section : SectionLaws table_items (vec table_item)
 tables_section = counted_laws_wide table_laws (λ t plain. record { table_type = plain.table_type; init = init_wider t.init plain.init }) (λ t plain fits. init_spelled wide tt t.table_type t.init plain.table_type plain.init)
 
--- ---- how tables are read
+-- ---- decoding tables
 
 abbrev typed : Format (TableType × List Plain)
 typed = pair table_type expression
 
--- a table without a first value
+-- A table without an initial value.
 pub table_reads : (bytes last : List ℕ) (t : TableType) → Reads table_type wide bytes t last → Reads table_item wide bytes (record { table_type = t; init = None }) last
 table_reads bytes last t h = one_of_left (mapped with_init (prefixed before_init typed)) (mapped_reads without_init h)
 
@@ -131,7 +132,7 @@ table_none bytes n =
 pub table_no_type : (bytes rest : List ℕ) (b : ℕ) → Reads byte wide bytes b rest → b ≢ 0x40 → ReadsNothing table_type wide bytes → ReadsNothing table_item wide bytes
 table_no_type bytes rest b h other n = one_of_nothing (mapped_nothing without_init n) (not_begun IsInitByte (mapped with_init (prefixed before_init typed)) init_begins h other)
 
--- a table with a first value, behind two bytes
+-- A table with an initial value, behind two bytes.
 two_bytes : (bytes rest after : List ℕ) (b c : ℕ) → Reads byte wide bytes b rest → b ≡ 0x40 → Reads byte wide rest c after → c ≡ 0x00 → bytes ≡ before_init ++ after
 two_bytes bytes rest after b c h e g f =
     h.split ∙ ap (λ z. z ++ rest) h.spelled ∙ ap (λ z. b ∷ z) (g.split ∙ ap (λ z. z ++ after) g.spelled) ∙ ap (λ z. z ∷ c ∷ after) e ∙ ap (λ z. 0x40 ∷ z ∷ after) f
@@ -170,9 +171,9 @@ table_no_with bytes rest after b c h e g f n = with_nothing bytes rest b h e (pr
 
 pub ruleset table_steps = (table_other)
 
--- ---- what was read is plain
+-- ---- decoded tables are well-formed
 
--- the numbers of limits are in range
+-- The numbers of the limits are in range.
 pub record AreLimits (l : Limits) : Type 0 where
   pub minimum : l.minimum < 2 ^ 64
   pub maximum : IfSome l.maximum (λ n. n < 2 ^ 64)
@@ -190,9 +191,9 @@ limits_are mode s l h = subst AreLimits h.1 (after h.0.0 h.2.back h.0.1 h.2.seco
 pub table_is : AllValues IsTable table_type
 table_is mode s t h = let l = limits_are mode h.2.back h.0.1 h.2.second in subst IsTable h.1 (record { element_type = ref_is mode h.2.front h.0.0 h.2.first; minimum = l.minimum; maximum = l.maximum })
 
--- ---- the one shortest text of a table that was read
+-- ---- the one minimal encoding of a decoded table
 
--- the instructions of a first value
+-- The instructions of an initial value.
 abbrev first_value : Option (List Plain) → List Plain
 first_value None = []
 first_value (Some is) = is

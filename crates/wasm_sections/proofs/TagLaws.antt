@@ -1,4 +1,4 @@
--- Tag types are read uniquely.
+-- This file proves that tag types are unambiguous.
 use Rattle.std.proofs.Common.{◌≡◌, [], ◌∷◌, refl, ap, ◌≢◌, ℕ, List, subst}
 use Rattle.wasm_base.specs.Entries.{ItemLaws}
 use Rattle.wasm_base.specs.Formats.{u32, coded, vec, byte, pair}
@@ -35,7 +35,7 @@ tag_laws = record { alone = tag_unique; spelled = λ t plain fits. tag_spelled t
 pub tags_section : SectionLaws tag_items (vec tag_type)
 tags_section = counted_laws tag_laws (λ given plain. plain) (λ given plain. plain)
 
--- ---- how tag types are read
+-- ---- decoding tag types
 
 pub tag_kind_reads : (bytes rest : List ℕ) (b : ℕ) → Reads byte wide bytes b rest → b ≡ 0 → Reads (coded tag_code) wide bytes Exception rest
 tag_kind_reads bytes rest b h e = code_reads tag_code bytes rest b Exception h e
@@ -59,7 +59,7 @@ tag_none bytes n = mapped_nothing tag_of n
 
 pub ruleset tag_steps = (tag_reads)
 
--- ---- what was read is plain
+-- ---- decoded tag types are well-formed
 
 pub tag_is : AllValues IsTag tag_type
 tag_is mode s t h = subst IsTag h.1 h.2.second.range

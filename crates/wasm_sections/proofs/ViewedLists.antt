@@ -1,4 +1,4 @@
--- Lists of what members say.
+-- This file proves the encodings of lists from the views of their members.
 use Rattle.std.proofs.Common.{◌≡◌, ℕ, ◌++◌, List, [], ◌∷◌, map, length, ap, sym, subst, ◌∙◌, Result, arith}
 use Rattle.std.proofs.lemmas.List.{length-map}
 use Rattle.std.proofs.lemmas.List.Elements.{All-nil, All-cons, All-head, All-tail, All-map}
@@ -28,7 +28,7 @@ module _ {X Y : Type 0} (text : Y → List ℕ) (Fits : Y → Type 0) (view : X 
   pub fits_viewed : {xs seen : List X} → xs ≡ seen → VecFits Fits (map view seen) → VecFits (λ x. Fits (view x)) xs
   fits_viewed {xs} {seen} e h = subst (λ ys. VecFits (λ x. Fits (view x)) ys) (sym e) record { count = omega (arith, h.count, length-map seen view); members = each_fits seen h.members }
 
--- The same text, which fits where the other one does.
+-- The effect of a call, for an equal encoding that fits exactly if the other does.
 pub appends_same : {A : Type 0} {text same : List ℕ} {Fits Same : Type 0} {old new : Vec ℕ A} {result : Result (Unit {0}) Refused} → Appends text Fits old new result → text ≡ same → (Fits → Same) → (Same → Fits)
     → Appends same Same old new result
 appends_same {Fits = Fits} {Same = Same} {old = old} {new = new} {result = result} h e to from =

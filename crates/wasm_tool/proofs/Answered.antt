@@ -1,7 +1,7 @@
--- What an answer says of an input.
+-- This file proves the consequences of a result for an input.
 use Rattle.std.proofs.Common.{Option, Some, None, IfSome}
 
--- Where something is found of an input, it is not so that nothing can be.
+-- If the property holds of an input and a result, it is false that it holds of none.
 pub not_none : {X Y : Type 0} (K : Type 0) (P : X → Y → Type 0) (input : Option X) (y : Y) → IfSome input (λ x. P x y) → IfSome input (λ x. ((y : Y) → P x y → ⊥) → K)
 not_none K P None y h = tt
 not_none K P (Some x) y h = λ none. absurd (none y h)

@@ -1,4 +1,4 @@
--- What a cut at the first space says of the words of a line.
+-- This file proves how a cut at the first space gives the words of a line.
 use Rattle.std.proofs.Common.{◌≡◌, ℕ, ◌<◌, ◌==◌, false, List, [], ◌∷◌, length, refl, ap, ◌∙◌, sym, arith}
 use Rattle.std.proofs.Common.{◌-◌, ◌≢◌, ◌++◌, get_or, take, cond, Bor, None, Some, Option, unwrap_or, eq-eqb}
 use borrow.Author.Tests.{ne_eqb}
@@ -20,7 +20,7 @@ use Rattle.std.proofs.lemmas.List.Splits.{slice_split_first, slice_split_none}
 use Rattle.std.proofs.lemmas.List.Sums.{fails_before_first}
 use Rattle.wasm_tool.specs.Lines.{is_word, lines_of, rest_of, without_spaces, words_of}
 
--- the words of a line with a space: those before it, where there is one, and those after it
+-- The words of a line with a space are the word before it, if there is one, and the words after it.
 words_of-cut : (line word rest : List ℕ) → position_or_len (λ b. b == 0x20) line < length line
     → word ≡ before_first (λ b. b == 0x20) line → rest ≡ after_first (λ b. b == 0x20) line
     → words_of line ≡ filter is_word (word ∷ slice_split (λ b. b == 0x20) rest)
@@ -36,19 +36,19 @@ filter-word : (word : List ℕ) (parts : List (List ℕ)) → 0 < length word �
 filter-word [] parts h = absurd (omega arith)
 filter-word (b ∷ bs) parts h = refl
 
--- a line that begins with a space has the words after it
+-- The words of a line that begins with a space are those after it.
 pub words_of-empty : (line word rest : List ℕ) → position_or_len (λ b. b == 0x20) line < length line
     → word ≡ before_first (λ b. b == 0x20) line → rest ≡ after_first (λ b. b == 0x20) line → length word ≡ 0 → words_of line ≡ words_of rest
 words_of-empty line word rest h e f none =
     words_of-cut line word rest h e f ∙ filter-empty word (slice_split (λ b. b == 0x20) rest) none
 
--- a line with a word before its first space has it and the words after it
+-- The words of a line with a word before its first space are that word and those after it.
 pub words_of-word : (line word rest : List ℕ) → position_or_len (λ b. b == 0x20) line < length line
     → word ≡ before_first (λ b. b == 0x20) line → rest ≡ after_first (λ b. b == 0x20) line → 0 < length word → words_of line ≡ word ∷ words_of rest
 words_of-word line word rest h e f some =
     words_of-cut line word rest h e f ∙ filter-word word (slice_split (λ b. b == 0x20) rest) some
 
--- a line without a space is one word, or empty
+-- A line without a space is one word, unless it is empty.
 pub words_of-only : (line : List ℕ) → position_or_len (λ b. b == 0x20) line ≡ length line → 0 < length line → words_of line ≡ line ∷ []
 words_of-only line h some =
     ap (filter is_word) (slice_split_none (λ b. b == 0x20) line
@@ -65,7 +65,7 @@ place_none b bs is = ap (λ t. cond (not t) (1 + position_or_len (λ b. b == 0x2
 place_more : (b : ℕ) (bs : List ℕ) → (b == 0x20) ≡ false → position_or_len (λ b. b == 0x20) (b ∷ bs) ≡ 1 + position_or_len (λ b. b == 0x20) bs
 place_more b bs is = ap (λ t. cond (not t) (1 + position_or_len (λ b. b == 0x20) bs) 0) is
 
--- the same of what follows the first word
+-- The same for the remainder of a line after its first word.
 without_spaces-cut_at : (b : ℕ) (bs word rest : List ℕ) (t : Bool) → (b == 0x20) ≡ t → word ≡ before_first (λ b. b == 0x20) (b ∷ bs)
     → rest ≡ after_first (λ b. b == 0x20) (b ∷ bs) → length word ≡ 0 → without_spaces (b ∷ bs) ≡ without_spaces rest
 without_spaces-cut_at b bs word rest true is e f none =
@@ -105,7 +105,7 @@ rest_of-only line h some =
 
 pub ruleset cuts = (words_of-empty, words_of-word, words_of-only, words_of-none, rest_of-empty, rest_of-word, rest_of-only)
 
--- a line that ends with a carriage return loses it
+-- A line that ends with a carriage return loses it.
 strip_carriage_return_some : (line front : List ℕ) → line ≡ front ++ 13 ∷ [] → front ≡ strip_carriage_return line
 strip_carriage_return_some line front e =
     let last : get_or line (length line - 1) 0 ≡ 13 = grind (arith, common_steps) in
@@ -118,24 +118,24 @@ ends_with_it (b ∷ bs) last =
     let e = take_more (b ∷ bs) (length bs) 0 (omega arith) in
     grind (arith, common_steps, e)
 
--- and another line is kept
+-- Every other line is kept.
 strip_carriage_return_none : (line : List ℕ) → ((front : List ℕ) → line ≢ front ++ 13 ∷ []) → line ≡ strip_carriage_return line
 strip_carriage_return_none line none =
     sym (ap (λ b. cond b (take (length line - 1) line) line) (ne_eqb (get_or line (length line - 1) 0) 13
     (λ last. none (take (length line - 1) line) (ends_with_it line last))))
 
--- what a call of `strip_suffix` makes of a line
+-- The effect of a call of `strip_suffix` on a line.
 pub stripped : (line : List ℕ) (r : Option (Bor (List ℕ))) → MatchOption r ((front : List ℕ) → line ≢ front ++ 13 ∷ []) (λ x. line ≡ x.now ++ 13 ∷ [])
     → (whole : Bor (List ℕ)) → whole.now ≡ line → (unwrap_or r whole).now ≡ strip_carriage_return line
 stripped line None h whole e = e ∙ strip_carriage_return_none line h
 stripped line (Some x) h whole e = strip_carriage_return_some line x.now h
 
--- the part of a text between line feeds at this place
+-- The part of a text between line feeds at this index.
 pub record IsPart (text part : List ℕ) (n : ℕ) : Type 0 where
   pub within : n < length (slice_split (λ b. b == 0x0A) text)
   pub is : part ≡ get_or (slice_split (λ b. b == 0x0A) text) n part
 
--- the line that the part of a text at this place makes
+-- The line of the part of a text at this index.
 module _ {text part line : List ℕ} {n : ℕ} (found : IsPart text part n) (stripped : line ≡ strip_carriage_return part) where
   pub within : n < length (lines_of text)
   within = omega (arith, found.within, length-map (slice_split (λ b. b == 0x0A) text) strip_carriage_return)
@@ -156,7 +156,7 @@ pub part_at : (text : List ℕ) {part : List ℕ} {n count : ℕ} → n ≡ coun
     → (count < length (slice_split (λ b. b == 0x0A) text)) × (part ≡ get_or (slice_split (λ b. b == 0x0A) text) count part) → IsPart text part n
 part_at text {part} e found = subst (IsPart text part) (sym e) (record { within = found.0; is = found.1 })
 
--- what cuts of spaces off the front leave
+-- Cuts of leading spaces leave a text with the same remainder.
 without_spaces-cuts : (ns text left : List ℕ) → CutsPrefixes (FindsCharPrefix 32) text ns left → without_spaces text ≡ without_spaces left
 without_spaces-cuts [] text left cuts = ap without_spaces (sym cuts)
 without_spaces-cuts (n ∷ ns) text left cuts =
@@ -168,7 +168,7 @@ kept_at : (b : ℕ) (bs : List ℕ) (t : Bool) → (b == 0x20) ≡ t → ¬ (b �
 kept_at b bs true is other = absurd (other (eqb-true b 32 is))
 kept_at b bs false is other = ap (λ t. cond t (without_spaces bs) (b ∷ bs)) is
 
--- a text that begins with no space is left as it is
+-- A text that does not begin with a space is its own remainder.
 without_spaces-none : (left : List ℕ) (t : Option ℕ) → FindsCharPrefix 32 left t → IfSome t (λ n. n ≡ 0) → without_spaces left ≡ left
 unfolding lib.Utf8.encode
 without_spaces-none [] None found none = refl

@@ -1,7 +1,7 @@
--- The words behind the program's name.
+-- This file proves that the program has one argument.
 use Rattle.std.proofs.Common.{◌≡◌, ◌<◌, ◌≤◌, List, [], ◌∷◌, length, get_or, sym, ap, arith}
 
--- a list of one member
+-- A list of one member.
 pub one_member : {X : Type 0} (xs : List X) (x : X) → 1 ≤ length xs → length xs < 2 → x ≡ get_or xs 0 x → xs ≡ x ∷ []
 one_member [] x some few is = absurd (omega (arith, some))
 one_member (y ∷ []) x some few is = ap (λ z. z ∷ []) (sym is)

@@ -1,4 +1,4 @@
--- What `parse` says of a word that begins with no plus sign.
+-- This file proves the result of `parse` for a word that does not begin with a plus sign.
 use Rattle.std.proofs.Common.{◌≡◌, ◌≢◌, ℕ, ◌<◌, ◌≤◌, ◌^◌, Bool, true, false, ◌&&◌, cond, List, [], ◌∷◌, length, get_or, suc, ℤ, pos, neg_ℤ, ◌-◌, ◌==◌, Option, Some, None, Result, Ok, Err, refl, ap, sym, subst, ◌∙◌, eq-eqb, arith}
 use borrow.Author.Tests.{ne_eqb, eqb-true}
 use mir.Syntax.{w32}
@@ -43,13 +43,13 @@ decimal_of-parse {E} bits word (Err e) parsed plain =
 
 -- ---- a number of 64 bits as one of 32
 
--- ---- a number with a sign
+-- ---- a signed number
 
 none_at_most : (most : ℕ) (b : Bool) (n : ℕ) → (b ≡ true → ¬ (nat_lt n (suc most) ≡ true)) → at_most most (cond b (Some n) None) ≡ None
 none_at_most most true n h = none_unless (nat_lt n (suc most)) n (h refl)
 none_at_most most false n h = refl
 
--- the value of digits that is at most so large, and none of other words
+-- The value of digits up to a bound, and none for other words.
 value_at_most : (most : ℕ) (word : List ℕ) → all_ascii_digits word ≡ true → 0 < length word → digits_value 10 word ≤ most → at_most most (value_of word) ≡ Some (digits_value 10 word)
 value_at_most most word digits some low =
     let word_is = is_word-some word some in

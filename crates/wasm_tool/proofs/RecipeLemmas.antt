@@ -1,4 +1,5 @@
--- The sections after some lines of a recipe, and what a fault of the next line means.
+-- This file proves the sections after some lines of a recipe, and the meaning of an error in the
+-- next line.
 use Rattle.std.proofs.Common.{◌≡◌, ℕ, ◌+◌, ◌-◌, ◌<◌, ◌≤◌, length, List, [], ◌∷◌, ◌++◌, take, filter, map, Option, Some, None, Ok, Err, Result, refl, ap, ◌∙◌, sym, subst, arith, append_assoc, append-nil}
 use Rattle.std.proofs.Common.{◌==◌, false, cond}
 use borrow.Author.Tests.{ne_eqb}
@@ -41,7 +42,7 @@ entries_of-push : (lines : List (List ℕ)) (line : List ℕ) (entries : List Ad
     → entries_of (lines ++ line ∷ []) ≡ entries_of lines ++ entries
 entries_of-push lines line entries says = grind (arith, common_steps, says)
 
--- the items of a section after one more line
+-- The items of a section after one more line.
 added_to-push : (id : ℕ) (lines : List (List ℕ)) (line : List ℕ) (entries : List Addition) → entry_of line ≡ Ok entries
     → added_to id (entries_of (lines ++ line ∷ [])) ≡ added_to id (entries_of lines) ++ added_to id entries
 added_to-push id lines line entries says =
@@ -52,7 +53,7 @@ more_items : (id : ℕ) (lines : List (List ℕ)) (line : List ℕ) (entries : L
 more_items id lines line entries says added held =
     added ∙ ap (λ items. items ++ added_to id entries) held ∙ sym (added_to-push id lines line entries says)
 
--- the last item of two lists
+-- The last item of two lists.
 last_of-after : (xs : List (List ℕ)) (y : List ℕ) (ys : List (List ℕ)) → last_of (y ∷ ys) ≡ last_of (xs ++ y ∷ ys)
 last_of-after [] y ys = refl
 last_of-after (x ∷ []) y ys = refl
@@ -67,7 +68,7 @@ last_of-again [] = refl
 last_of-again (x ∷ []) = refl
 last_of-again (x ∷ y ∷ xs) = last_of-again (y ∷ xs)
 
--- one more line was read
+-- The recipe after one more line.
 holds_more_of : {A : Type 0} (lines : List (List ℕ)) (line : List ℕ) (old new : Recipe A) (entries : List Addition) → HoldsLines lines old
     → entry_of line ≡ Ok entries → AddsEntries old new entries → HoldsLines (lines ++ line ∷ []) new
 holds_more_of lines line old new entries holds says adds =
@@ -95,7 +96,7 @@ pub holds_more : {A : Type 0} (lines : List (List ℕ)) (line : List ℕ) (old n
 holds_more lines line old new holds follows =
     with_value (entry_of line) (AddsEntries old new) (HoldsLines (lines ++ line ∷ []) new) (λ entries says adds. holds_more_of lines line old new entries holds says adds) follows
 
--- a module that fits has room for the items of its last line
+-- If the module with one more line fits, so do the items of that line.
 fits_with : {A : Type 0} (lines : List (List ℕ)) (line : List ℕ) (old : Recipe A) (entries : List Addition) → HoldsLines lines old
     → entry_of line ≡ Ok entries → RecipeFits (entries_of (lines ++ line ∷ [])) → FitsWith old entries
 fits_with lines line old entries holds says fits =
@@ -113,7 +114,7 @@ fits_with lines line old entries holds says fits =
       names = subst NamesFit (same 0 old.names holds.names) fits.names;
     }
 
--- all lines were read, where no part of the text is left
+-- All lines are decoded if no part of the text remains.
 pub all_read : {S A : Type 0} {steps : S → Option (Bor (List ℕ)) → S → Type 0} {s t u : S} {recipe : Recipe A} {number : ℕ} {next : Option (Bor (List ℕ))} (text : List ℕ) (parts : List (Bor (List ℕ)))
     → YieldsList steps (λ part. part.now) s (slice_split (λ b. b == 0x0A) text) → Yields steps s parts t → next ≡ None → steps t next u → number ≡ length parts → HoldsLines (take number (lines_of text)) recipe → HoldsLines (lines_of text) recipe
 all_read {t = t} {u = u} {recipe = recipe} {number = number} {next = next} text parts road so_far none stop count holds =
@@ -128,7 +129,7 @@ lines_before-next text n = ap (λ b. cond b (lines_of text) (take (n + 1 - 1) (l
 lines_through-next : (text : List ℕ) (n : ℕ) → lines_through (n + 1) text ≡ take (n + 1) (lines_of text)
 lines_through-next text n = ap (λ b. cond b (lines_of text) (take (n + 1) (lines_of text))) (not_zero n)
 
--- what is known where the line of index `number` is read, whose lines before have no fault
+-- The line of index `number` is decoded, and no line before it has an error.
 module _ {A : Type 0} (text : List ℕ) (number : ℕ) (line : List ℕ) (old new : Recipe A)
     (holds : HoldsLines (take number (lines_of text)) old) (at : slice_get (lines_of text) number ≡ Some line)
     (next : take (number + 1) (lines_of text) ≡ take number (lines_of text) ++ line ∷ []) (within : number < length (lines_of text)) where
@@ -153,7 +154,7 @@ module _ {A : Type 0} (text : List ℕ) (number : ℕ) (line : List ℕ) (old ne
     λ fits. full (fits_with (take number (lines_of text)) line old entries holds says (subst (λ lines. RecipeFits (entries_of lines)) through fits)),
   )
 
-  -- what a fault of a line says of the recipe
+  -- The meaning of an error in a line for the recipe.
   pub explains : (cause : RecipeCause) → Follows (entry_of line) old new (Err cause) → Explains text (number + 1) cause
   explains Memory follows = explained Memory tt
   explains TooLong follows =
@@ -163,7 +164,7 @@ module _ {A : Type 0} (text : List ℕ) (number : ℕ) (line : List ℕ) (old ne
   explains BadHex follows = explained BadHex (fault_is BadHex follows)
   explains MissingWord follows = explained MissingWord (fault_is MissingWord follows)
 
--- ---- once all lines are read
+-- ---- after all lines
 
 sections_fit : {A : Type 0} (lines : List (List ℕ)) (recipe : Recipe A) → HoldsLines lines recipe → RecipeFits (entries_of lines) → FitsSections recipe
 sections_fit lines recipe holds fits = record {
@@ -199,7 +200,7 @@ explains_at_end text recipe refused holds full = record { within = omega arith; 
     says refusals.Memory full = tt
     says refusals.TooLong full = (holds.good, λ fits. full refl (sections_fit (lines_of text) recipe holds fits))
 
--- a refusal after the last line, made a fault
+-- An error after the last line, as an error of the recipe.
 pub refused_at_end : {X A : Type 0} (text : List ℕ) (recipe : Recipe A) (refused : Refused) (result : Result X RecipeFault) (P : X → Type 0) → HoldsLines (lines_of text) recipe
     → (refused ≡ refusals.TooLong → ¬ (FitsSections recipe))
     → IsErrAnd result (λ fault. (fault.line ≡ 0) × (fault.cause ≡ cause_of refused)) → MatchResult result P (λ fault. Explains text fault.line fault.cause)
@@ -208,7 +209,7 @@ refused_at_end text recipe refused (Err fault) P holds full made =
     let at_zero = explains_at_end text recipe refused holds full in
     rw (made.0, made.1) at_zero
 
--- the module of the sections is that of the entries
+-- The module of the sections is that of the entries.
 pub listed-holds : {A : Type 0} (lines : List (List ℕ)) (recipe : Recipe A) → HoldsLines lines recipe → listed recipe ≡ sections_of (entries_of lines)
 listed-holds lines recipe holds =
     let start : start_of (start_items recipe.start) ≡ start_of (added_to 8 (entries_of lines)) =
@@ -239,21 +240,21 @@ listed-fits recipe fits =
     let numbered = more _ _ (more _ _ (more _ _ before_start (start_of-fits recipe.start fits.start)) (section_of-fits 10 recipe.code fits.code)) (section_of-fits 11 recipe.segments fits.segments) in
     more _ _ numbered (names_of-fits recipe.names fits.names)
 
--- and is read as these sections alone
+-- It decodes to these sections alone.
 pub module_reads : {A : Type 0} (lines : List (List ℕ)) (recipe : Recipe A) (bytes : List ℕ) → HoldsLines lines recipe → FitsSections recipe → bytes ≡ module_text (listed recipe)
     → ReadsWhole wasm_module bytes (sections_of (entries_of lines))
 module_reads lines recipe bytes holds fits is =
     subst (λ sections. ReadsWhole wasm_module bytes sections) (listed-holds lines recipe holds)
     (subst (λ bytes. ReadsWhole wasm_module bytes (listed recipe)) (sym is) (module_text-reads (listed recipe) (listed-fits recipe fits)))
 
--- what follows where a module was answered
+-- The consequences of a result that is a module.
 pub on_module : {X A : Type 0} (text : List ℕ) (recipe : Recipe A) (result : Result X RecipeFault) (items : X → List ℕ) (P : X → Type 0)
     → MatchResult result (λ x. IsModule (lines_of text) recipe (items x)) (λ fault. Explains text fault.line fault.cause)
     → ((x : X) → IsModule (lines_of text) recipe (items x) → P x) → IfOk result P
 on_module text recipe (Ok x) items P made follows = follows x made
 on_module text recipe (Err fault) items P made follows = tt
 
--- the text of some sections behind a header, and of some more behind any text
+-- The encoding of some sections behind a header, then of more of them.
 pub first_sections : (xs : List (ℕ × List ℕ)) (old new : List ℕ) → old ≡ header → new ≡ old ++ flat_map any_section_text xs → new ≡ module_text xs
 unfolding module_text
 first_sections xs old new e f = f ∙ ap (λ t. t ++ flat_map any_section_text xs) e

@@ -1,4 +1,5 @@
--- What a section that fits says of its items, and its text of its pieces.
+-- This file proves the bounds of the items of a section that fits, and the encoding of a section
+-- from its pieces.
 use Rattle.std.proofs.Common.{◌≡◌, ℕ, ◌<◌, ◌≤◌, List, [], ◌∷◌, ◌++◌, length, false, Result, Ok, Err, ◌≢◌, refl, sym, ap, ◌∙◌, lit<, lit≤, arith, length-append, append-nil}
 use Rattle.std.specs.Prelude.{OnOk}
 use Rattle.std.specs.List.{flat_map}
@@ -19,31 +20,31 @@ use Rattle.wasm_custom.specs.Names.{name_name}
 use Rattle.wasm_tool.specs.Recipe.{NamesFit, names_of, section_of, start_of}
 use Rattle.wasm_tool.specs.Steps.{Puts}
 
--- a section with one more item has a number for it
+-- If a section fits with one more item, its count was below 2^32 - 1.
 pub fits_count : (items : List (List ℕ)) (item : List ℕ) → SectionFits (items ++ item ∷ []) → length items < longest
 fits_count items item h = omega (arith, h.count, length-append items (item ∷ []))
 
--- an item of a section that fits is no longer than a size can say
+-- An item of a section that fits is at most 2^32 - 1 bytes long.
 pub fits_item : (items : List (List ℕ)) (item : List ℕ) → SectionFits (items ++ item ∷ []) → length item ≤ longest
 fits_item items item h =
     omega (arith, h.size, length-append (unsigned_text (length (items ++ item ∷ []))) (joined (items ++ item ∷ [])), ap length (joined_push items item), length-append (joined items) item)
 
--- nor are the bytes in an item that is a frame
+-- So are the bytes in an item that is size-prefixed.
 pub fits_frame : (items : List (List ℕ)) (bytes : List ℕ) → SectionFits (items ++ frame_text bytes ∷ []) → FrameFits bytes
 fits_frame items bytes h =
     omega (arith, fits_item items (frame_text bytes) h, length-append (unsigned_text (length bytes)) bytes)
 
--- nor is a name at the front of an item
+-- So is a name at the front of an item.
 pub fits_name : (items : List (List ℕ)) (name rest : List ℕ) → SectionFits (items ++ (frame_text name ++ rest) ∷ []) → FrameFits name
 fits_name items name rest h =
     omega (arith, fits_item items (frame_text name ++ rest) h, length-append (frame_text name) rest, length-append (unsigned_text (length name)) name)
 
--- nor are the bytes of a data segment
+-- So are the bytes of a data segment.
 pub fits_segment : (items : List (List ℕ)) (place bytes : List ℕ) → SectionFits (items ++ active_text 0 place bytes ∷ []) → FrameFits bytes
 fits_segment items place bytes h =
     omega (arith, fits_item items (active_text 0 place bytes) h, length-append (expression_text place) (frame_text bytes), length-append (unsigned_text (length bytes)) bytes)
 
--- nor is the name in a subsection of a name section that fits, and there is a number for it
+-- So is the name in a subsection of a name section that fits, and the count was below 2^32 - 1.
 pub names_count : (items : List (List ℕ)) (item : List ℕ) → NamesFit (items ++ item ∷ []) → length items < longest
 names_count items item h = omega (arith, h.count, length-append items (item ∷ []))
 
@@ -57,7 +58,7 @@ names_frame items content h = omega (arith, names_item items (subsection_text 0 
 pub names_name : (items : List (List ℕ)) (name : List ℕ) → NamesFit (items ++ subsection_text 0 (frame_text name) ∷ []) → FrameFits name
 names_name items name h = omega (arith, names_frame items (frame_text name) h, length-append (unsigned_text (length name)) name)
 
--- the text of a section that has items, and of one that has none
+-- The encoding of a section that has items, and of one that has none.
 pub section_of-some : (id : ℕ) (items : List (List ℕ)) → 0 < length items → flat_map any_section_text (section_of id items) ≡ id ∷ section_text items
 unfolding section_text
 section_of-some id [] h = absurd (omega arith)
@@ -67,7 +68,7 @@ pub section_of-none : (id : ℕ) (items : List (List ℕ)) → length items ≡ 
 section_of-none id [] h = refl
 section_of-none id (item ∷ items) h = absurd (omega arith)
 
--- ---- putting a section into a module
+-- ---- adding a section to a module
 
 fits_none : (items : List (List ℕ)) → length items ≡ 0 → SectionFits items
 fits_none [] h = record { count = omega arith; size = simp (groups_text-last false 0x80 0 (lit< tt)) (lit≤ tt) }

@@ -3,6 +3,6 @@ use Rattle.wasm_code.specs.Bodies.{Body}
 use Rattle.wasm_reader_insn.specs.Laws.{HasGone}
 use Rattle.callers.proofs.walks.place_after.Given as goal
 
--- what the walk has gone over
+-- The instructions that the reader has visited.
 abbrev pub invariant-loop-taken : goal.invariant-loop-taken
 invariant-loop-taken g l = (x : Body) × HasGone l.bytes l.instructions.place x × (length x.code ≡ l._taken) × (l.instructions.place ≤ length l.bytes) × (l.instructions.bytes ≡ l.bytes)

@@ -7,7 +7,7 @@ use Rattle.wasm_code.proofs.Calls.{adds_instruction}
 use Rattle.wasm_insn.specs.Instructions.{HasSmallAlignments, IsPlainWhereAligned}
 use Rattle.examples.proofs.grown.grow_by_each.Goals as goal
 
--- the next member behind those before it
+-- The next member after those before it.
 next_of : {X Y : Type 0} (f : X → Y) (front : List Y) (xs : List X) (i : ℕ) (x : X) → i < length xs → x ≡ get_or xs i x → (front ++ map f (take i xs)) ++ f x ∷ [] ≡ front ++ map f (take (i + 1) xs)
 next_of f front xs i x there e =
     let step : suc i ≡ i + 1 = omega arith in

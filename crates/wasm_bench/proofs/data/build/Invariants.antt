@@ -1,7 +1,7 @@
 use Rattle.std.proofs.Common.{◌≡◌, ◌≤◌, ◌<◌, ◌+◌, ◌*◌, ◌-◌, ◌⊎◌, length}
 use Rattle.wasm_bench.proofs.data.build.Given as goal
 
--- Each segment was whole, or the bytes are at their end.
+-- Each segment so far is full, or no bytes remain.
 abbrev pub invariant-loop-start : goal.invariant-loop-start
 invariant-loop-start l =
     (l.start ≤ length l.bytes)

@@ -4,7 +4,7 @@ use Rattle.wasm_reader_insn.specs.Walks.{ahead}
 use Rattle.wasm_reader_insn.proofs.Calls.{HasWalked}
 use Rattle.wasm_bench.proofs.reading.walked.Given as goal
 
--- what the walk has gone over
+-- The instructions that the reader has visited.
 abbrev pub invariant-loop-walk : goal.invariant-loop-walk
 invariant-loop-walk l =
     (seen : List Plain) × HasWalked (ahead l.initial.walk) seen (ahead l.walk) × (length seen ≡ l.count) × (l.count ≤ l.walk.place) × (l.walk.place ≤ length l.body) × (l.walk.bytes ≡ l.body)

@@ -7,7 +7,7 @@ use Rattle.wasm_reader.specs.Kinds.{Contents, Hints, CoreInstances, content, con
 use Rattle.wasm_reader.proofs.KindLaws.{AppendsItems, items_appended, custom_appended}
 use Rattle.wasm_reader.proofs.kinds.append_content.Goals as goal
 
--- As what the items are is told by a case of a match.
+-- The items are those of a case of a match.
 of_items : (x y : Contents) (old new : List ℕ) → x ≡ y → AppendsItems y old new → AppendsShortest (content (kind_in x)) x old new
 of_items x y old new e a = subst (λ z. AppendsShortest (content (kind_in z)) z old new) (sym e) (items_appended y old new a)
 

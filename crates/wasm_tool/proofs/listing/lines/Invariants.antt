@@ -2,6 +2,6 @@ use Rattle.std.proofs.Common.{◌≡◌, take, string_bytes}
 use Rattle.wasm_tool.specs.Listings.{listing_of}
 use Rattle.wasm_tool.proofs.listing.lines.Given as goal
 
--- the lines of the sections so far
+-- The text is the lines of the sections so far.
 abbrev pub invariant-loop-section : goal.invariant-loop-section
 invariant-loop-section g l = string_bytes l.text ≡ listing_of (take l.section-index l.sections)

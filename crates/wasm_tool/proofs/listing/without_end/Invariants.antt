@@ -2,7 +2,7 @@ use Rattle.std.proofs.Common.{◌≡◌, ℕ, List, ◌++◌, All, length}
 use Rattle.wasm_tool.specs.Listings.{IsBlank}
 use Rattle.wasm_tool.proofs.listing.without_end.Given as goal
 
--- blanks follow what is left
+-- Only blanks are cut from the end of the text.
 abbrev pub invariant-loop-text : goal.invariant-loop-text
 invariant-loop-text l = (blanks : List ℕ) × (l.initial.text ≡ l.text ++ blanks) × All IsBlank blanks
 

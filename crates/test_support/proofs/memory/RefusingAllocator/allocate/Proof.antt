@@ -1,4 +1,5 @@
--- A refused request gets an error, and any other one what the inner allocator answers. Assumes `Logic`.
+-- This file proves `allocate`: a refused request returns an error, and any other one the result of
+-- the inner allocator. It assumes `Logic`.
 use Rattle.std.proofs.Common.{◌≡◌, ℕ, ◌^◌, ◌<◌, true, false, List, [], ◌∷◌, Ok, Err, refl, w64, Bor}
 use seplogic.Ra.Ura.{Ura}
 use mathlib.Core.Bool.{Bool}
@@ -76,7 +77,7 @@ module _ (B : Al) {M : Type 1} {𝓤 : Ura M} (𝓛 : Logic 𝓤) (mem : Memory 
     abbrev Post : Val → SProp 𝓤
     Post = (walk_of 𝓛 (ended B) (stayed B) clauses).post bound
 
-    -- with the block, if there is one, and the tokens of both lifetimes the contract is met
+    -- The contract holds with the block, if there is one, and the tokens of both lifetimes.
     meets : (ok : Bool) (b o : ℕ)
         → ent 𝓤 (sep 𝓤 (sem 𝓛 (got (token B r.now.inner) τ ok b o)) (sep 𝓤 (A.lft κ q) (sep 𝓤 (A.lft ι s) (sem 𝓛 ftrue)))) (Post (answer_val ok b o))
     meets true b o =
@@ -116,18 +117,18 @@ module _ (B : Al) {M : Type 1} {𝓤 : Ura M} (𝓛 : Logic 𝓤) (mem : Memory 
         split ! $ split ! $ move ! (2 ∷ []) $ fsplit ! $ fsplit ! $ move ! (1 ∷ []) $
         use1 𝓛 (‵ (seen B κ p h) ⊛ ‵ (gate_seen κ g r.now.gate)) (parts 𝓛 B κ r.ref_ptr r.now) $ split ! $ keep ! (0 ∷ 1 ∷ 4 ∷ 5 ∷ []) $
         enter ! 𝓣.C 𝓣.Λ (here B) vals _ $ alloc_all ! (λ l. pass_all ! refl ((tt, tt), ((tt, record { fits = n_fits }), ((tt, record { fits = a_fits }), tt))) $
-        -- the gate is asked
+        -- The call asks the gate.
         sets ! (addr ! (through ! refl (fld ! refl (stop !)))) refl (tt, tt) $ move ! (1 ∷ 2 ∷ []) $
         use2 𝓛 (raw ((Verdict 𝓛 mem runs).pre (asked 𝓛 mem runs κ q g r.now.gate))) (asks 𝓛 mem runs κ q g r.now.gate) $
         calls_at ! frame (Verdict 𝓛 mem runs) verdict (asked 𝓛 mem runs κ q g r.now.gate) (and_then ! (get ! refl) (no_more !)) (λ v.
         use1 𝓛 (later (some (λ (refused : Bool). given (v ≡ vbool refused) (‵ (flft κ q))))) (tells 𝓛 mem runs κ q g r.now.gate v) $
         await ! tt $ pick ! (λ refused. learn ! (λ is. lands_as ! is refl (tt, tt) $ first ! $ branches ! (get ! refl)
-        -- refused
+        -- The gate refuses.
         (λ t. sets ! (agg ! (no_more !)) refl (tt, tt) $
         sets ! (agg ! (and_then ! (lit ! tt) (and_then ! (get ! refl) (no_more !)))) refl (Answer-typed false 0 0) $
         returns_within ! End refl (look_at ! 0 refl) $ free_all ! refl $ keep ! (0 ∷ 2 ∷ []) $ nothing ! $
         suffices ! _ (meets B 𝓛 mem runs κ ι q s inside r n a τ false 0 0) $ done !)
-        -- passed on
+        -- The request is passed on.
         (λ t. skips ! $ exec ! 𝓣.C 𝓣.Λ (env (here B).locals l) (after 3 (here B).body) (at_ret (env (here B).locals l) End) $
         sets ! (addr ! (through ! refl (fld ! refl (stop !)))) refl (tt, tt) $ move ! (1 ∷ 0 ∷ []) $
         use2 𝓛 (raw ((Takes B 𝓛 mem runs).pre z)) (Takes-goes B 𝓛 mem runs κ q p h (⊑_trans κ ι B.row.lives inside lives) n a τ fits.0 fits.1 n_fits a_fits) $

@@ -1,4 +1,5 @@
--- The block goes back to the inner allocator, and nothing is counted. Assumes `Logic`.
+-- This file proves `deallocate`: the block returns to the inner allocator, and nothing is counted.
+-- It assumes `Logic`.
 use Rattle.std.proofs.Common.{◌≡◌, ℕ, ◌^◌, ◌<◌, List, [], ◌∷◌, refl, w64, Bor}
 use seplogic.Ra.Ura.{Ura}
 use mir.MapTy.{inst_fn}
@@ -73,7 +74,7 @@ module _ (B : Al) {M : Type 1} {𝓤 : Ura M} (𝓛 : Logic 𝓤) (mem : Memory 
     abbrev Post : Ptr → Val → SProp 𝓤
     Post x = (walk_of 𝓛 (ended B) (stayed B) clauses).post (bound x)
 
-    -- with the tokens of both lifetimes the contract is met
+    -- The contract holds with the tokens of both lifetimes.
     meets : (x : Ptr) → ent 𝓤 (sep 𝓤 (A.lft κ q) (sep 𝓤 (A.lft ι s) (sem 𝓛 ftrue))) (Post x vunit)
     meets x =
         qed 𝓛 (‵ (flft κ q) ∷ (‵ (flft ι s) ⊛ ‵ ftrue) ∷ []) ∵
@@ -99,7 +100,7 @@ module _ (B : Al) {M : Type 1} {𝓤 : Ura M} (𝓛 : Logic 𝓤) (mem : Memory 
     abbrev started : Ptr → (walk_of 𝓛 (ended B) (stayed B) (clauses B 𝓛 mem runs)).Ghost
     started = bound B 𝓛 mem runs κ ι q s inside r n a τ
 
-    -- nothing lies at null
+    -- There is no block at null.
     at_null : Goal null_ptr
     at_null =
         let y = started null_ptr in
@@ -119,7 +120,8 @@ module _ (B : Al) {M : Type 1} {𝓤 : Ura M} (𝓛 : Logic 𝓤) (mem : Memory 
         move ! (1 ∷ []) $ split3 ! $ heard ! (ι ⊑ B.row.lives) (λ lives. heard ! Fits (λ fits.
         fsplit ! $ move ! (2 ∷ []) $ split ! $ split ! $ move ! (2 ∷ []) $ fsplit ! $ fsplit ! $ move ! (1 ∷ []) $
         use1 𝓛 (‵ (seen B κ p h) ⊛ ‵ (gate_seen κ (gate_at B r.ref_ptr) r.now.gate)) (parts 𝓛 B κ r.ref_ptr r.now) $ split ! $
-        -- [what the call takes: the block's room, the right to free it, the inner allocator, the token of κ; the token of ι]
+        -- [the arguments of the call: the bytes of the block, the right to free it, the inner
+        -- allocator, the token of κ; the token of ι]
         keep ! (0 ∷ 4 ∷ 7 ∷ 6 ∷ 5 ∷ []) $ join ! $ move ! (1 ∷ 0 ∷ []) $ join ! $ move ! (1 ∷ 0 ∷ []) $ join ! $
         enter ! 𝓣.C 𝓣.Λ (here B) (vals x) _ $ alloc_all ! (λ l. pass_all ! refl ((tt, tt), ((tt, tt), ((tt, record { fits = n_fits }), ((tt, record { fits = a_fits }), tt)))) $
         sets ! (addr ! (through ! refl (fld ! refl (stop !)))) refl (tt, tt) $
