@@ -49,7 +49,8 @@ each P (x ∷ xs) h = (All-head P x xs h, each P xs (All-tail P x xs h))
 pub new_module : {bytes : List ℕ} → ReadsWhole wasm_module bytes [] → ReadsSections [] bytes
 new_module read = record { sections = []; read = read; payloads = tt }
 
--- A module that gains the encoding of x, with its size prefix, gains a section that decodes to x.
+-- A module that gains the encoding of `x`, with its size prefix, gains a section that decodes to
+-- `x`.
 pub gains_section : {readings : List SectionReading} {Payload : List ℕ → Type 0} {id : ℕ} {old new : List ℕ} {X : Type 0} {F : Format X} → ReadsSections readings old → ReadsOneMore Payload id old new
     → ReadsPayloads F → (text payload : List ℕ) → Payload payload → IsFrameOf text payload → (x : X) → ReadsAlone (frame F) text x → ReadsSections (readings ++ reading_of id F x ∷ []) new
 gains_section {readings = readings} {id = id} {F = F} before more payloads text payload pays framed x alone = record {
@@ -133,8 +134,8 @@ pub adds_items_wide : {Record Item : Type 0} {kind : Kind Record Item} {Fits : R
 adds_items_wide {kind = kind} {old = old} {items = items} {given = given} law before added plain =
     subst (λ entries. HoldsWide kind.format entries (items ++ map kind.normal_form given)) (sym added.is) (law.all old items given before plain)
 
--- A module that gains a possibly padded encoding of x, with its size prefix, gains a section that
--- decodes to x.
+-- A module that gains a possibly padded encoding of `x`, with its size prefix, gains a section that
+-- decodes to `x`.
 pub gains_section_wide : {readings : List SectionReading} {Payload : List ℕ → Type 0} {id : ℕ} {old new : List ℕ} {X : Type 0} {F : Format X} → ReadsSections readings old → ReadsOneMore Payload id old new
     → (text payload : List ℕ) → Payload payload → IsFrameOf text payload → (x : X) → ReadsAloneWide (frame F) text x → ReadsSections (readings ++ wide_reading_of id F x ∷ []) new
 gains_section_wide {readings = readings} {id = id} {F = F} before more text payload pays framed x alone = record {

@@ -43,7 +43,7 @@ IsCut_push bytes ends entry end h e =
       ends_placed = ap (λ x. x ++ end ∷ []) h.ends_placed ∙ ap (λ n. ends_from 0 ps ++ n ∷ []) l ∙ sym (ends_push 0 ps entry) ∙ ap (ends_from 0) (sym (cut_push bytes ends entry end h e));
     }
 
--- The piece at index i is the bytes from `start` to `end`.
+-- The piece at index `i` is the bytes from `start` to `end`.
 pub record IsPieceAt (from : ℕ) (ps : List (List ℕ)) (i start end : ℕ) : Type 0 where
   pub after : from ≤ start
   pub forward : start ≤ end
@@ -79,7 +79,7 @@ piece_at from (p ∷ ps) (suc i) h =
           rw e rest.piece;
     }
 
--- The entry at index i is in the buffer between its start and its end.
+-- The entry at index `i` is in the buffer between its start and its end.
 pub piece_of : (bytes ends : List ℕ) (i : ℕ) → IsCut bytes ends → i < length ends → IsPieceIn bytes ends i (get_or (0 ∷ ends) i 0) (get_or ends i 0)
 piece_of bytes ends i h below =
     let ps : List (List ℕ) = cut_from 0 ends bytes in

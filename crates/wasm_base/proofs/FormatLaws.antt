@@ -223,8 +223,8 @@ one_of_alone clash mode k l s t r u x y (inl h) (inr g) e = absurd (clash mode s
 one_of_alone clash mode k l s t r u x y (inr h) (inl g) e = absurd (clash mode t s u r y x g h (sym e))
 one_of_alone clash mode k l s t r u x y (inr h) (inr g) e = l s t r u x y h g e
 
--- A format by mode is unambiguous if F is, and if G is the minimal part of the standard's encodings
--- H, which include those of F.
+-- A format by mode is unambiguous if `F` is, `G` is the minimal part of the standard's encodings
+-- `H`, and `H` includes `F`.
 pub by_mode_unique : {X : Type 0} (F G H : Format X) → UniqueReading F → UniqueReading G → IsReadAlone (H standard) → IsPartOf (F wide) (H standard) → IsPartOf (G tight) (H standard) → IsShortenedBy (H standard) (G tight) → UniqueReading (by_mode F G H)
 by_mode_unique {X} F G H f g h admits holds shrinks = record {
   alone = alone;
@@ -516,7 +516,7 @@ members_go_on {F} P begins k mode a b (x ∷ xs) (y ∷ ys) h g =
     let tail : ys ≡ xs ++ more.0 = more.1 in
     (more.0, cc (head, tail), more.2)
 
--- The payload of size-prefixed bytes whose size is the byte n encodes the value.
+-- The payload of size-prefixed bytes whose size is the byte `n` encodes the value.
 pub frame_of : {X : Type 0} {F : Format X} (mode : Mode) (n : ℕ) (content rest s back : List ℕ) (x : X) → u32 mode (n ∷ []) n → length content ≡ n → (n ∷ content) ++ rest ≡ s ++ back → frame F mode s x → F mode content x
 frame_of {F} mode n content rest s back x known l e h =
     let a = u32_unique.alone mode (n ∷ []) h.front (content ++ rest) (h.content ++ back) n (length h.content) known h.size (e ∙ regroup s h.front h.content back h.joined) in
@@ -536,7 +536,7 @@ vec_of_one {X} {F} mode content xs known h =
 
 -- ---- decoding behind a known front
 
--- If the front encodes x, the second value of the pair decodes behind it.
+-- If the front encodes `x`, the second value of the pair decodes behind it.
 pub then_at : {X Y : Type 0} {F : Format X} {G : X → Format Y} → UniqueReading F → (mode : Mode) (a : List ℕ) (x : X) → F mode a x → (rest s back : List ℕ) (p : X × Y) → a ++ rest ≡ s ++ back → Then F G mode s p → (t : List ℕ) × (rest ≡ t ++ back) × G x mode t p.1
 then_at {G = G} k mode a x known rest s back p e h =
     let r = k.alone mode a h.front rest (h.back ++ back) x p.0 known h.first (e ∙ regroup s h.front h.back back h.joined) in

@@ -1,4 +1,4 @@
--- This file proves what a builder holds as calls add to it.
+-- This file proves which items a builder holds as calls add to it.
 use Rattle.std.proofs.Common.{ℕ, List, [], ◌∷◌, ◌++◌, map, refl, sym, ap, subst, ◌∙◌, append_assoc, append-nil}
 use Rattle.std.proofs.lemmas.List.{map-append}
 use Rattle.std.specs.List.{AllByRecursion, AllZip}

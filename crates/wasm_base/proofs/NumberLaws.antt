@@ -219,7 +219,7 @@ short_signed_is_within bits (b ∷ c ∷ s) some h k l u =
     ] in
     omega (arith, size_from_spread (length s) bits far)
 
--- Minimal groups of the same number as s, which are no longer.
+-- Minimal groups of the same number as `s`, which are no longer.
 abbrev Shortened : List ℕ → Type 0
 Shortened s = (t : List ℕ) × AreGroups t × (signed_sum t ≡ signed_sum s) × IsShortSigned t × (length t ≤ length s)
 
@@ -248,7 +248,7 @@ shortened (b ∷ c ∷ s) h = go (shortened (c ∷ s) h.2)
 
 -- ---- facts for the grammar
 
--- A number up to n has a minimal encoding no longer than any encoding of n.
+-- A number up to `n` has a minimal encoding no longer than any encoding of `n`.
 abbrev pub ShortenLess : Format ℕ → Type 0
 ShortenLess F = (w : Grammar) (s : List ℕ) (n v : ℕ) → v ≤ n → F (padded w) s n → (t : List ℕ) × F (least w) t v × (length t ≤ length s)
 

@@ -12,8 +12,8 @@ use Rattle.wasm_base.proofs.HeldLaws.{holds_more as more, holds_more_wide, plain
 use Rattle.wasm_base.proofs.Payloads.{payload-reads}
 use Rattle.std.proofs.Common.{List}
 
--- The laws of a kind's sections with this payload: it is unambiguous as a whole, its items have
--- their laws, and possibly padded items are held call by call.
+-- The laws of a kind's sections: the payload is unambiguous as a whole, and items have their laws.
+-- Possibly padded items are held as `HoldsMoreWide` states.
 pub record SectionLaws {Record Item : Type 0} (kind : Kind Record Item) (payload : Format (List Item)) : Type 0 where
   pub whole : UniqueWholeReading payload
   pub items : ItemLaws kind

@@ -44,7 +44,7 @@ reads_alone {F = F} {text = text} {x = x} f spelled = record {
   one = λ other g. f.spellings.one builders other text x g spelled;
 }
 
--- A possibly padded encoding of x decodes to x alone.
+-- A possibly padded encoding of `x` decodes to `x` alone.
 pub reads_alone_wide : {X : Type 0} {F : Format X} {text : List ℕ} {x : X} → UniqueReading F → F wide text x → ReadsAloneWide F text x
 reads_alone_wide {F = F} {text = text} {x = x} f spelled = record {
   spelled = spelled;
@@ -60,7 +60,7 @@ reads_whole {F = F} {text = text} {x = x} f spelled = record {
 
 -- ---- unsigned numbers
 
--- The claim for the encoding of n.
+-- The claim for the encoding of `n`.
 abbrev IsTextOf : List ℕ → ℕ → Type 0
 IsTextOf s n = AreGroups s × (groups_sum s ≡ n) × IsUnsignedSize shortest 0 s
 

@@ -1,4 +1,4 @@
--- This file defines what a call promises that appends to a buffer or adds to a builder.
+-- This file defines the promises of calls that append to a buffer or add to a builder.
 use Rattle.std.specs.Prelude.{◌≡◌, ◌≢◌, ℕ, ◌+◌, ◌<◌, ◌≤◌, List, [], ◌∷◌, ◌++◌, All, length, map, take, slice_get, vec_len, vec_capacity, Result, Err, OnOk, OnErr, IfErr, IfSome, IsOk}
 use Rattle.std.specs.declared.vec.Vec.{Vec}
 use Rattle.wasm_base.specs.Formats.{Format, wasm_module}
@@ -57,7 +57,7 @@ pub record ReadsBackBoth {Items : Type 0} (F : Format Items) (Says SaysWide : It
   pub wide : ReadsBackWide F SaysWide text
 
 -- Composition of modules: if the old bytes decode to some sections alone, the new bytes decode to
--- these and one more, of this id and of any payload with the property.
+-- these and one more. That section has this id, and any payload with the property.
 pub record ReadsOneMore (Payload : List ℕ → Type 0) (id : ℕ) (old new : List ℕ) : Type 0 where
   pub for_each : (sections : List (ℕ × List ℕ)) (payload : List ℕ) → ReadsWhole wasm_module old sections → Payload payload
       → ReadsWhole wasm_module new (sections ++ (id, payload) ∷ [])

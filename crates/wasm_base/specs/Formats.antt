@@ -39,7 +39,7 @@ s33 mode s n = Signed mode 33 s (pos n)
 abbrev pub byte : Format ℕ
 byte mode s b = s ≡ b ∷ []
 
--- A sequence of n bytes.
+-- A sequence of `n` bytes.
 abbrev pub raw_bytes : ℕ → Format (List ℕ)
 raw_bytes n mode s x = (s ≡ x) × (length x ≡ n)
 
@@ -56,7 +56,7 @@ abbrev pub bytes_sum : List ℕ → ℕ
 bytes_sum [] = 0
 bytes_sum (b ∷ bs) = b + 256 * bytes_sum bs
 
--- A number in n little-endian bytes. Core specification, Binary Format, Values, Floating-Point.
+-- A number in `n` little-endian bytes. Core specification, Binary Format, Values, Floating-Point.
 abbrev pub little_endian : ℕ → Format ℕ
 little_endian n mode s v = (bytes_sum s ≡ v) × AreBytes s × (length s ≡ n)
 
@@ -70,19 +70,19 @@ fixed bytes v mode s x = (s ≡ bytes) × (x ≡ v)
 abbrev pub impossible : {X : Type 0} → Format X
 impossible mode s x = ⊥
 
--- The values of F with the property.
+-- The values of `F` with the property.
 abbrev pub such : {X : Type 0} → (X → Type 0) → Format X → Format X
 such P F mode s x = F mode s x × P x
 
--- F if the test holds, and G otherwise.
+-- `F` if the test holds, and `G` otherwise.
 abbrev pub when : {X : Type 0} → Bool → Format X → Format X → Format X
 when test F G = cond test F G
 
--- The images by f of the values of F.
+-- The images by `f` of the values of `F`.
 abbrev pub mapped : {X Y : Type 0} → (X → Y) → Format X → Format Y
 mapped {X} f F mode s y = (x : X) × (f x ≡ y) × F mode s x
 
--- A value of F, then a value of G, whose format may depend on the first value.
+-- A value of `F`, then a value of `G`, whose format may depend on the first value.
 pub record Then {X Y : Type 0} (F : Format X) (G : X → Format Y) (mode : Mode) (s : List ℕ) (p : X × Y) : Type 0 where
   pub front : List ℕ
   pub back : List ℕ
@@ -90,7 +90,7 @@ pub record Then {X Y : Type 0} (F : Format X) (G : X → Format Y) (mode : Mode)
   pub first : F mode front p.0
   pub second : G p.0 mode back p.1
 
--- A value of F, then a value of G.
+-- A value of `F`, then a value of `G`.
 abbrev pub pair : {X Y : Type 0} → Format X → Format Y → Format (X × Y)
 pair F G = Then F (λ x. G)
 
@@ -98,16 +98,16 @@ pair F G = Then F (λ x. G)
 abbrev pub tagged : {X Y : Type 0} → Format X → (X → Format Y) → Format Y
 tagged F G = mapped (λ p. p.1) (Then F G)
 
--- The format that the list has for the tag b, or `other b` if the list has none.
+-- The format that the list has for the tag `b`, or `other b` if the list has none.
 abbrev pub choice : {X : Type 0} → List (ℕ × Format X) → (ℕ → Format X) → ℕ → Format X
 choice [] other b = other b
 choice (c ∷ cs) other b = when (b == c.0) c.1 (choice cs other b)
 
--- These bytes, then a value of F.
+-- These bytes, then a value of `F`.
 abbrev pub prefixed : {X : Type 0} → List ℕ → Format X → Format X
 prefixed bytes F = tagged (fixed bytes (tt {0})) (λ u. F)
 
--- Values of F one after another, without a count.
+-- Values of `F` one after another, without a count.
 abbrev pub members : {X : Type 0} → Format X → Format (List X)
 members F mode s [] = s ≡ []
 members F mode s (x ∷ xs) = (front back : List ℕ) × (s ≡ front ++ back) × F mode front x × members F mode back xs
@@ -125,16 +125,16 @@ pub record Framed {X : Type 0} (F : Format X) (mode : Mode) (s : List ℕ) (x : 
   pub size : u32 mode front (length content)
   pub spelled : F mode content x
 
--- Size-prefixed values of F, as a format.
+-- Size-prefixed values of `F`, as a format.
 abbrev pub frame : {X : Type 0} → Format X → Format X
 frame F = Framed F
 
--- Values of F one after another, then the byte `stop`.
+-- Values of `F` one after another, then the byte `stop`.
 abbrev pub ended : {X : Type 0} → ℕ → Format X → Format (List X)
 ended stop F mode s [] = s ≡ stop ∷ []
 ended stop F mode s (x ∷ xs) = (front back : List ℕ) × (s ≡ front ++ back) × F mode front x × ended stop F mode back xs
 
--- A value of F if the flag is set, and no bytes otherwise.
+-- A value of `F` if the flag is set, and no bytes otherwise.
 abbrev pub optional : {X : Type 0} → Bool → Format X → Format (Option X)
 optional flag F = when flag (mapped Some F) (fixed [] None)
 
@@ -143,7 +143,7 @@ abbrev pub is_given : {X : Type 0} → Option X → Bool
 is_given None = false
 is_given (Some x) = true
 
--- The encodings of F and those of G.
+-- The encodings of `F` and those of `G`.
 abbrev pub one_of : {X : Type 0} → Format X → Format X → Format X
 one_of F G mode s x = F mode s x ⊎ G mode s x
 
@@ -155,11 +155,11 @@ coded code mode s x = s ≡ code x ∷ []
 abbrev pub numbered : {X : Type 0} → (X → ℕ) → Format X
 numbered code mode s x = u32 mode s (code x)
 
--- The encodings of x, as a format without a value.
+-- The encodings of `x`, as a format without a value.
 abbrev pub just : {X : Type 0} → X → Format X → Format (Unit {0})
 just x F mode s u = F mode s x
 
--- An encoding of x, then a value of G.
+-- An encoding of `x`, then a value of `G`.
 abbrev pub after : {X Y : Type 0} → X → Format X → Format Y → Format Y
 after x F G = tagged (just x F) (λ u. G)
 
@@ -188,8 +188,8 @@ any_section = pair byte (frame any_bytes)
 abbrev pub wasm_module : Format (List (ℕ × List ℕ))
 wasm_module = prefixed header (members any_section)
 
--- F in the two modes of the builders' grammar; in the standard's grammar, G for minimal encodings
--- and H for padded ones.
+-- `F` in the two modes of the builders' grammar; in the standard's grammar, `G` for minimal
+-- encodings and `H` for padded ones.
 abbrev pub by_mode : {X : Type 0} → Format X → Format X → Format X → Format X
 by_mode F G H shortest = F shortest
 by_mode F G H wide = F wide

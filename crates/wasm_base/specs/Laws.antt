@@ -12,7 +12,7 @@ use Rattle.wasm_base.specs.Texts.{frame_text, FrameFits}
 abbrev pub FitsUnsigned : ℕ → ℕ → Type 0
 FitsUnsigned bits n = n < 2 ^ bits
 
--- A number of at most n bytes.
+-- A number of at most `n` bytes.
 abbrev pub FitsBytes : ℕ → ℕ → Type 0
 FitsBytes n v = v < 256 ^ n
 
@@ -48,9 +48,9 @@ pub record HoldsMore {Record Item : Type 0} (kind : Kind Record Item) : Type 0 w
   pub raw : (pieces : List (List ℕ)) (items : List Item) (piece : List ℕ) (item : Item) → HoldsItems kind pieces items → kind.format shortest piece item → HoldsItems kind (pieces ++ piece ∷ []) (items ++ item ∷ [])
   pub all : (pieces : List (List ℕ)) (items : List Item) (given : List Record) → HoldsItems kind pieces items → AllByRecursion kind.IsPlain given → HoldsItems kind (pieces ++ map kind.text given) (items ++ map kind.normal_form given)
 
--- The same for padded LEB128: a section holds all that it holds in minimal encodings. A record that
--- is well-formed but for padded LEB128 in its expressions adds its normal form, and raw bytes add
--- the item that they encode, possibly padded.
+-- The same for padded LEB128. A section holds all that it holds in minimal encodings. A record that
+-- is well-formed but for padding in its expressions adds its normal form. Raw bytes add the item
+-- that they encode, possibly padded.
 pub record HoldsMoreWide {Record Item : Type 0} (kind : Kind Record Item) : Type 0 where
   pub none : HoldsWide kind.format [] []
   pub held : (pieces : List (List ℕ)) (items : List Item) → HoldsItems kind pieces items → HoldsWide kind.format pieces items

@@ -8,11 +8,12 @@ use Rattle.wasm_base.specs.Texts.{IsFrameOf}
 abbrev pub SectionReading : Type 1
 SectionReading = ℕ × (List ℕ → Type 0)
 
--- The section of this id whose payload decodes to x alone, and is its one minimal encoding.
+-- The section of this id whose payload decodes to `x` alone, and is its one minimal encoding.
 abbrev pub reading_of : {X : Type 0} → ℕ → Format X → X → SectionReading
 reading_of id F x = (id, λ payload. ReadsWhole F payload x)
 
--- The section of this id whose payload is a possibly padded encoding of x, and decodes to x alone.
+-- The section of this id whose payload is a possibly padded encoding of `x`, and decodes to `x`
+-- alone.
 abbrev pub wide_reading_of : {X : Type 0} → ℕ → Format X → X → SectionReading
 wide_reading_of id F x = (id, λ payload. ReadsWholeWide F payload x)
 
@@ -34,19 +35,19 @@ pub record ReadsSections (readings : List SectionReading) (bytes : List ℕ) : T
   pub read : ReadsWhole wasm_module bytes sections
   pub payloads : AreRead readings sections
 
--- The bytes gain an encoding that decodes to x alone.
+-- The bytes gain an encoding that decodes to `x` alone.
 pub record GainsReading {X : Type 0} (F : Format X) (x : X) (old new : List ℕ) : Type 0 where
   pub text : List ℕ
   pub added : new ≡ old ++ text
   pub alone : ReadsAlone F text x
 
--- The bytes gain a possibly padded encoding that decodes to x alone.
+-- The bytes gain a possibly padded encoding that decodes to `x` alone.
 pub record GainsReadingWide {X : Type 0} (F : Format X) (x : X) (old new : List ℕ) : Type 0 where
   pub text : List ℕ
   pub added : new ≡ old ++ text
   pub alone : ReadsAloneWide F text x
 
--- If size-prefixed bytes decode to x alone, their payload decodes to x alone.
+-- If size-prefixed bytes decode to `x` alone, their payload decodes to `x` alone.
 pub record ReadsPayloads {X : Type 0} (F : Format X) : Type 0 where
   pub alone : (text payload : List ℕ) (x : X) → IsFrameOf text payload → ReadsAlone (frame F) text x → ReadsWhole F payload x
 

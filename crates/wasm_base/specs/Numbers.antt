@@ -68,7 +68,7 @@ IsUnsignedSize wide bits s = length s ≤ byte_limit bits
 IsUnsignedSize tight bits s = (length s ≡ 1) ⊎ (0 < last_byte s)
 IsUnsignedSize standard bits s = length s ≤ byte_limit bits
 
--- Unsigned LEB128: the bytes s encode the number v of at most this many bits.
+-- Unsigned LEB128: the bytes `s` encode the number `v` of at most this many bits.
 pub record Unsigned (mode : Mode) (bits : ℕ) (s : List ℕ) (v : ℕ) : Type 0 where
   pub groups : AreGroups s
   pub total : groups_sum s ≡ v
@@ -94,7 +94,7 @@ IsSignedSize wide bits s = length s ≤ byte_limit bits
 IsSignedSize tight bits s = IsShortSigned s
 IsSignedSize standard bits s = length s ≤ byte_limit bits
 
--- Signed LEB128: the bytes s encode the number v of this many bits, in two's complement.
+-- Signed LEB128: the bytes `s` encode the number `v` of this many bits, in two's complement.
 pub record Signed (mode : Mode) (bits : ℕ) (s : List ℕ) (v : ℤ) : Type 0 where
   pub groups : AreGroups s
   pub total : signed_sum s ≡ v
@@ -104,7 +104,7 @@ pub record Signed (mode : Mode) (bits : ℕ) (s : List ℕ) (v : ℤ) : Type 0 w
 
 -- ---- the bytes that are encoded
 
--- Groups encode a natural number n, which means itself, or -n - 1 if `negative`.
+-- Groups encode a natural number `n`, which means itself, or `-n - 1` if `negative`.
 
 -- A group that is not the last: the low seven bits, with bit 7 set.
 abbrev pub next_group : Bool → ℕ → ℕ
@@ -116,7 +116,7 @@ abbrev pub last_group : Bool → ℕ → ℕ
 last_group false n = n
 last_group true n = 0x7F - n
 
--- The groups of n, at most `more` of them after the first. A number below `limit` is the last
+-- The groups of `n`, at most `more` of them after the first. A number below `limit` is the last
 -- group.
 unfoldable pub groups_of : Bool → ℕ → ℕ → ℕ → List ℕ
 groups_of negative limit zero n = last_group negative n ∷ []
@@ -126,7 +126,7 @@ groups_of negative limit (suc more) n =
       | false ↦ next_group negative n ∷ groups_of negative limit more (n / 128)
     ]
 
--- The groups of n. The second n only bounds the number of groups.
+-- The groups of `n`. The second `n` only bounds the number of groups.
 unfoldable pub groups_text : Bool → ℕ → ℕ → List ℕ
 groups_text negative limit n = groups_of negative limit n n
 

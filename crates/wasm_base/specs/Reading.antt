@@ -54,11 +54,11 @@ IsReadWhole {X} S = (s : List ℕ) (x y : X) → S s x → S s y → x ≡ y
 abbrev pub HasOneSpelling : {X : Type 0} → Spelling X → Type 0
 HasOneSpelling {X} S = (s t : List ℕ) (x : X) → S s x → S t x → s ≡ t
 
--- Every encoding by S is an encoding of the same value by T.
+-- Every encoding by `S` is an encoding of the same value by `T`.
 abbrev pub IsPartOf : {X : Type 0} → Spelling X → Spelling X → Type 0
 IsPartOf {X} S T = (s : List ℕ) (x : X) → S s x → T s x
 
--- Every value that S encodes has an encoding by T that is no longer.
+-- Every value that `S` encodes has an encoding by `T` that is no longer.
 abbrev pub IsShortenedBy : {X : Type 0} → Spelling X → Spelling X → Type 0
 IsShortenedBy {X} S T = (s : List ℕ) (x : X) → S s x → (t : List ℕ) × T t x × (length t ≤ length s)
 
@@ -69,8 +69,7 @@ pub record HasSpellings {X : Type 0} (F : Format X) : Type 0 where
   pub wider : (m n : Mode) → Below m n → IsPartOf (F m) (F n)
   pub shorter : (w : Grammar) → IsShortenedBy (F (padded w)) (F (least w))
 
--- A format is unambiguous in every mode, and its encodings mark their end: the rest of the bytes
--- does not matter.
+-- A format is unambiguous in every mode, and each encoding determines its own end.
 pub record UniqueReading {X : Type 0} (F : Format X) : Type 0 where
   pub alone : (mode : Mode) → IsReadAlone (F mode)
   pub spellings : HasSpellings F

@@ -32,7 +32,7 @@ frame_text bytes = unsigned_text (length bytes) ++ bytes
 abbrev pub FrameFits : List ℕ → Type 0
 FrameFits bytes = length bytes ≤ longest
 
--- A number in n little-endian bytes.
+-- A number in `n` little-endian bytes.
 abbrev pub little_endian_text : ℕ → ℕ → List ℕ
 little_endian_text zero v = []
 little_endian_text (suc n) v = v % 256 ∷ little_endian_text n (v / 256)

@@ -136,7 +136,7 @@ ref_type = tagged byte (choice ref_tags (λ b. impossible))
 abbrev pub val_tags : List (ℕ × Format ValType)
 val_tags = (0x7F, fixed [] I32) ∷ (0x7E, fixed [] I64) ∷ (0x7D, fixed [] F32) ∷ (0x7C, fixed [] F64) ∷ (0x7B, fixed [] V128) ∷ []
 
--- A value type that is a reference type with the first byte b.
+-- A value type that is a reference type with the first byte `b`.
 abbrev pub val_ref : ℕ → Format ValType
 val_ref b = mapped Ref (choice ref_tags (λ c. impossible) b)
 

@@ -47,7 +47,7 @@ section_of module_bytes l = record {
   id = l.id;
 }
 
--- The name of a line decodes at the offset of its payload, and the bytes of the name begin at the
+-- The name of a line decodes at the offset of its payload. The bytes of the name begin at the
 -- offset that the call reports.
 abbrev pub IsNamed : List ℕ → Outlined → Type 0
 IsNamed module_bytes l = IfSome (name_of l) (λ n. (rest : List ℕ) × Reads name wide (drop l.offset module_bytes) n rest × (behind_number module_bytes l.offset + length n + length rest ≡ length module_bytes))

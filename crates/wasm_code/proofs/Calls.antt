@@ -185,7 +185,7 @@ wider_constant bytes is plain = stores_wider bytes is plain
 pub raw_constant : {n : ℕ} {elements stored : List ℕ} → (it : IntoIter ℕ n) × (xs : List ℕ) × becomes {n = n} elements it × Drains array_steps it xs × (stored ≡ xs) → (is : List Plain) → StoresWide elements is → StoresWide stored is
 raw_constant given is spelled = subst (λ bytes. StoresWide bytes is) (sym (given.4 ∙ array_items given.0 given.1 given.3 ∙ given.2.0)) spelled
 
--- The instruction `i32.const` with a padded number.
+-- The instruction `i32.const` with a possibly padded number.
 pub padded_i32_const : (bytes : List ℕ) (v : ℤ) → s32 wide bytes v → StoresWide (0x41 ∷ bytes) (normal_row {A = Global} (I32Const v) ∷ [])
 padded_i32_const bytes v padded =
     members_one (such IsNoEnd (instruction_format table)) wide (0x41 ∷ bytes) (normal_row {A = Global} (I32Const v))

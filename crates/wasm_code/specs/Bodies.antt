@@ -101,8 +101,8 @@ pub record IsWideBody (bytes : List ℕ) (x : Body) : Type 0 where
 abbrev pub and_then : Body → List Plain → Body
 and_then x more = record { runs = x.runs; code = x.code ++ more }
 
--- The bytes gain the encoding of i. If i is well-formed and the old bytes minimally encode a body,
--- the new bytes encode it with the normal form of i appended.
+-- The bytes gain the encoding of `i`. If `i` is well-formed and the old bytes minimally encode a
+-- body, the new bytes encode it with the normal form of `i` appended.
 pub record Grows {A : Type 0} (i : Instruction A) (old new : List ℕ) : Type 0 where
   pub text : new ≡ old ++ instruction_text i
   pub plain : IsPlainInstruction i → (x : Body) → IsPlainBody old x → IsPlainBody new (and_then x (normal_row i ∷ []))

@@ -56,8 +56,8 @@ pub record IsPlainInside {A : Type 0} (i : Instruction A) : Type 0 where
   pub plain : IsPlainInstruction i
   pub no_end : IsNoEnd (row_of i)
 
--- The bytes gain the encoding of i. If i is well-formed and the old bytes minimally encode
--- instructions, the new bytes encode these and the normal form of i.
+-- The bytes gain the encoding of `i`. If `i` is well-formed and the old bytes minimally encode
+-- instructions, the new bytes encode these and the normal form of `i`.
 pub record Stores (i : Instruction Global) (old new : List ℕ) : Type 0 where
   pub text : new ≡ old ++ instruction_text i
   pub plain : IsPlainInstruction i → (is : List Plain) → StoresInstructions old is → StoresInstructions new (is ++ normal_row i ∷ [])

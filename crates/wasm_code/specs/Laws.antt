@@ -1,5 +1,5 @@
 -- This file defines the laws of bodies, expressions and code sections: offsets, encodings that fit,
--- and call by call what a code section holds.
+-- and the bodies of a code section call by call.
 use Rattle.std.specs.Prelude.{◌≡◌, ◌≢◌, ℕ, ◌^◌, ◌<◌, List, [], ◌∷◌, ◌++◌, map}
 use Rattle.std.specs.List.{All, AllZip, flat_map}
 use Rattle.wasm_base.specs.Numbers.{shortest, wide}
@@ -21,14 +21,14 @@ use Rattle.wasm_code.specs.Code.{SpellsBodies, SpellsBodiesWide}
 pub record NothingStands {X : Type 0} (F : Format X) (text : List ℕ) : Type 0 where
   pub none : (after : List ℕ) → ReadsNothing F shortest (text ++ after)
 
--- The body y has the runs and instructions of x, then `next` and other instructions, which `more`
--- minimally encodes.
+-- The body `y` has the runs and instructions of `x`, then `next` and other instructions, which
+-- `more` minimally encodes.
 pub record GoesOnWith (more : List ℕ) (x y : Body) (next : Plain) : Type 0 where
   pub others : List Plain
   pub same : y ≡ and_then x (next ∷ others)
   pub spelled : members (instruction table) shortest more (next ∷ others)
 
--- The length of a raw body is the offset of the next instruction: if more bytes follow it and the
+-- The length of a raw body is the offset of the next instruction. If more bytes follow and the
 -- whole encodes a body, an instruction begins at that offset.
 pub record HasOffsets : Type 0 where
   pub begins : (front more : List ℕ) (x y : Body) → body shortest front x → body shortest (front ++ more) y → more ≢ [] → (next : Plain) × GoesOnWith more x y next

@@ -11,11 +11,11 @@ use Rattle.wasm_base.specs.SectionId.{number_of}
 use Rattle.wasm_base.specs.declared.section_id.SectionId.TheVariants as ids
 use Rattle.wasm_custom.specs.declared.custom_section.CustomSection.{CustomSection}
 
--- The payload of a custom section of this name, whose data encode a value of F.
+-- The payload of a custom section of this name, whose data encode a value of `F`.
 abbrev pub named_payload : {X : Type 0} → List ℕ → Format X → Format X
 named_payload n F = after n name F
 
--- The custom section of this name, without its id, whose data encode a value of F.
+-- The custom section of this name, without its id, whose data encode a value of `F`.
 abbrev pub named_section : {X : Type 0} → List ℕ → Format X → Format X
 named_section n F = frame (named_payload n F)
 
@@ -44,7 +44,7 @@ same_section s t = bytes_eq (text_of s.name) (text_of t.name) && bytes_eq (items
 abbrev pub subsection_text : ℕ → List ℕ → List ℕ
 subsection_text id content = id ∷ frame_text content
 
--- The custom section whose payload decodes to x.
+-- The custom section whose payload decodes to `x`.
 abbrev pub reading_as : {X : Type 0} → Format X → X → SectionReading
 reading_as F x = reading_of (number_of ids.Custom) F x
 

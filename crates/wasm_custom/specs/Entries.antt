@@ -26,8 +26,8 @@ entries front counted F = tagged front (λ u. listing counted F)
 abbrev pub counted_payload : {Item : Type 0} → List ℕ → Format Item → Format (List Item)
 counted_payload n F = named_payload n (entries (fixed [] (tt {0})) true F)
 
--- The laws of a kind of custom section, beside those of its items: its name is UTF-8, and its front
--- is encoded in an unambiguous format. If items are not counted, none of them is empty.
+-- The laws of a kind of custom section, in addition to those of its items. Its name is UTF-8, and
+-- its front is encoded in an unambiguous format. If items are not counted, none of them is empty.
 pub record FrameLaws {Item : Type 0} (F : Format Item) (name front : List ℕ) (front_format : Format (Unit {0})) (counted : Bool) : Type 0 where
   pub name_utf8 : IsUtf8 name
   pub front_alone : UniqueReading front_format

@@ -25,7 +25,7 @@ use Rattle.wasm_insn.specs.Instructions.{row_of}
 use Rattle.wasm_insn.specs.Parts.{parts_of}
 use Rattle.wasm_insn.specs.Plain.{Table}
 
--- The fields that `all_cases` gives to the cases.
+-- The fields of the cases in `all_cases`.
 pub record Given (A : Type 0) : Type 0 where
   pub index : ℕ
   pub second_index : ℕ

@@ -1,4 +1,4 @@
--- This file defines what a call on an instruction sink promises.
+-- This file defines the promises of calls on an instruction sink.
 use Rattle.std.specs.Prelude.{◌≡◌, ◌≢◌, ℕ, ◌<◌, ◌≤◌, List, [], ◌∷◌, ◌++◌, length, Result, Err, OnOk, OnErr, IsOk, is_ok, Option, if◌then◌else◌}
 use Rattle.std.specs.Iterator.{Count, Drains, Yields, size}
 use Rattle.std.specs.List.{All}
@@ -30,8 +30,8 @@ abbrev pub WritesInstruction : {B : Type 0} → (B → List ℕ) → (B → ℕ 
 WritesInstruction written has_room i old new result =
     Writes (instruction_text i) (InstructionFits i) (has_room old (length (instruction_text i))) (written old) (written new) result
 
--- The sink gains `before`, the vector of the items that the iterator yields, and `after`, or the
--- call returns an error and leaves the bytes as they were.
+-- The sink gains `before`, the vector of the items that the iterator yields, and `after`; or the
+-- call returns an error and changes nothing. More than 2^32 - 1 items give `TooLong`.
 pub record WritesVec {E I T : Type 0} (becomes : E → I → Type 0) (gives : I → Option T → I → Type 0) (remaining : I → Count) (Fits : T → Type 0) (text : T → List ℕ)
     (elements : E) (others_fit : Type 0) (before after old new : List ℕ) (result : Result (Unit {0}) Refused) : Type 0 where
   pub ok : OnOk result ((it : I) × (xs : List T) × becomes elements it × Drains gives it xs × VecFits Fits xs × others_fit × (new ≡ old ++ (before ++ (vec_text text xs ++ after))))
@@ -46,8 +46,8 @@ pub record WritesVec {E I T : Type 0} (becomes : E → I → Type 0) (gives : I 
 abbrev pub br_table_text : List ℕ → ℕ → List ℕ
 br_table_text ls default = plain_text (record { op = Byte 0x0E; arguments = labels ls ∷ unsigned default ∷ [] })
 
--- The sink gains the encoding of `br_table` with the labels that the iterator yields, or the call
--- returns an error and leaves the bytes as they were.
+-- The sink gains `br_table` with the labels that the iterator yields, or the call returns an error
+-- and changes nothing. More than 2^32 - 1 labels give `TooLong`.
 pub record WritesLabels {E I : Type 0} (becomes : E → I → Type 0) (gives : I → Option ℕ → I → Type 0) (remaining : I → Count)
     (given : E) (default : ℕ) (old new : List ℕ) (result : Result (Unit {0}) Refused) : Type 0 where
   pub ok : OnOk result ((it : I) × (ls : List ℕ) × becomes given it × Drains gives it ls × (length ls ≤ longest) × (new ≡ old ++ br_table_text ls default))

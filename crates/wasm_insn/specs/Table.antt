@@ -134,7 +134,7 @@ after_fe =
     run 0x72 0x72 Nothing ∷
     []
 
--- The first k numbers from n on.
+-- The first `k` numbers from `n` on.
 abbrev pub count_up : ℕ → ℕ → List ℕ
 count_up zero n = []
 count_up (suc k) n = n ∷ count_up k (n + 1)

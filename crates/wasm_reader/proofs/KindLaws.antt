@@ -185,7 +185,7 @@ kind_is kinds.Types s x h = sym (ap kind_in h.1)
 
 -- ---- the decoding of each kind
 
--- If F decodes the whole bytes, a section of the kind decodes to the image by f, and if F decodes
+-- If `F` decodes the whole bytes, a section of the kind decodes to the image by `f`. If `F` decodes
 -- nothing, neither does the kind.
 abbrev pub ReadsAs : {X : Type 0} → (X → Contents) → Format X → SectionKind → Type 0
 ReadsAs {X} f F k = (kind : SectionKind) (bytes : List ℕ) → kind ≡ k → (FillsNothing F bytes → FillsNothing (content kind) bytes) × ((x : X) → F wide bytes x → content kind wide bytes (f x))
@@ -352,8 +352,8 @@ keeps_name = kept_among known_names (names_kept, (linking_kept, (producers_kept,
 
 -- ---- numbers of items
 
--- If the bytes are a vector of F, a section of the kind has as many items, which are the image by
--- f.
+-- If the bytes are a vector of `F`, a section of the kind has as many items, which are the image by
+-- `f`.
 abbrev pub CountsAs : {X : Type 0} → (List X → Contents) → Format X → SectionKind → Type 0
 CountsAs {X} f F k = (kind : SectionKind) (bytes : List ℕ) (r : Result (Option ℕ) ReadFault) → kind ≡ k → IfOk r (λ n. (xs : List X) × vec F wide bytes xs × (n ≡ Some (length xs))) → IfOk r (λ n. (x : Contents) × content kind wide bytes x × (n ≡ number_in x))
 

@@ -41,7 +41,7 @@ one_name id payload None (Some m) h g = absurd ((h g.0).none m g.1 g.2)
 one_payload : (s p q : List ℕ) → frame any_bytes wide s p → frame any_bytes wide s q → p ≡ q
 one_payload s p q h g = (frame_bytes_unique.alone wide s s [] [] p q h g refl).0
 
--- The payload of a section decodes to x by this kind, and so do its size-prefixed bytes.
+-- The payload of a section decodes to `x` by this kind, and so do its size-prefixed bytes.
 record ReadOf (kind : SectionKind) (s : Section) (x : Contents) : Type 0 where
   holds : content kind wide s.payload x
   whole : section kind wide s.framed x
@@ -59,7 +59,7 @@ read_of kind s text i h =
 
 -- ---- one section
 
--- The output for w is the section v.
+-- The output for `w` is the section `v`.
 record Stands (w v : Rewrite) : Type 0 where
   id : w.section.id ≡ v.section.id
   text : w.text ≡ v.section.framed

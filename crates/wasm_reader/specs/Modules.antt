@@ -46,8 +46,8 @@ pub record StopsBehind (bytes : List ℕ) (number : ℕ) : Type 0 where
   pub more : rest ≢ []
   pub none : ReadsNothing sized_section wide rest
 
--- The bytes do not begin with the header (0), or the section of this number, counted from 1, is the
--- first that does not decode.
+-- Number 0: the bytes do not begin with the header. Other numbers, counted from 1: the section of
+-- this number is the first that does not decode.
 abbrev pub StopsAt : List ℕ → ℕ → Type 0
 StopsAt bytes zero = ReadsNothing (fixed header (tt {0})) wide bytes
 StopsAt bytes (suc number) = StopsBehind bytes number

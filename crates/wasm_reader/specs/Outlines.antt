@@ -105,8 +105,8 @@ pub record EndsBehind (bytes : List ℕ) (number : ℕ) : Type 0 where
   pub more : rest ≢ []
   pub none : ReadsNothing any_section wide rest
 
--- The bytes do not begin with the header (0), or the section of this number, counted from 1, is the
--- first that is no section, whatever its payload.
+-- Number 0: the bytes do not begin with the header. Other numbers, counted from 1: the section of
+-- this number is the first that is malformed, whatever its payload.
 abbrev pub EndsAt : List ℕ → ℕ → Type 0
 EndsAt bytes zero = ReadsNothing (fixed header (tt {0})) wide bytes
 EndsAt bytes (suc number) = EndsBehind bytes number

@@ -1,4 +1,4 @@
--- This file defines sections of each kind, and what their reader and their minimizer promise.
+-- This file defines sections of each kind, and the promises of their reader and their minimizer.
 use Rattle.std.specs.Prelude.{◌≡◌, ◌↔◌, ℕ, ◌≤◌, List, ◌++◌, length, drop}
 use Rattle.wasm_base.specs.Numbers.{shortest, wide}
 use Rattle.wasm_base.specs.Formats.{Format, frame}
@@ -10,13 +10,13 @@ use Rattle.wasm_reader.specs.declared.kinds.SectionKind.{SectionKind}
 abbrev pub section : SectionKind → Format Contents
 section kind = frame (content kind)
 
--- The first n bytes are a section of this kind, possibly padded, with this content.
+-- The first `n` bytes are a section of this kind, possibly padded, with this content.
 pub record Takes (kind : SectionKind) (bytes : List ℕ) (x : Contents) (n : ℕ) : Type 0 where
   pub within : n ≤ length bytes
   pub reads : Reads (section kind) wide bytes x (drop n bytes)
 
--- The first n bytes are a section of this kind. The buffer gains its minimal encoding, which has at
--- most n bytes.
+-- The first `n` bytes are a section of this kind. The buffer gains its minimal encoding, which has
+-- at most `n` bytes.
 pub record Shortens (kind : SectionKind) (bytes : List ℕ) (n : ℕ) (old new : List ℕ) : Type 0 where
   pub value : Contents
   pub takes : Takes kind bytes value n

@@ -31,9 +31,9 @@ use Rattle.wasm_reader_base.specs.declared.fault.ReadFault.TheVariants.{Memory}
 abbrev pub begins_with : List ℕ → List ℕ → Bool
 begins_with front n = starts_with nat_eq n front
 
--- Whether a custom section of this name holds offsets into code and data: symbols, debugging
--- information, the name of a file that has it, the identity that ties that file to the module, or
--- code metadata.
+-- Whether a custom section of this name holds offsets into code and data. These are symbols,
+-- debugging information, a reference to a file with it, the identity that ties such a file to the
+-- module, and code metadata.
 abbrev pub names_code_offsets : List ℕ → Bool
 names_code_offsets n =
     bytes_eq n linking_name || bytes_eq n (codes "external_debug_info") || bytes_eq n (codes "build_id") || begins_with (codes ".debug_") n
@@ -120,8 +120,8 @@ abbrev pub id_written : Rewrite → List ℕ
 id_written w = written_as w.how w.section.id []
 
 -- The section, which begins at `from` in the input and at `to` in the output, stays where such
--- offsets expect it: unchanged if they count from its front, and at the same offset if they count
--- from the module's.
+-- offsets expect it. It is unchanged if they count from its front, and keeps its offset if they
+-- count from the front of the module.
 abbrev pub Stays : Target → ℕ → ℕ → Rewrite → Type 0
 Stays target from to w = (IsLedInto target w.section.id → w.text ≡ w.section.framed) × (IsPlaced target w.section.id → from ≡ to)
 
@@ -141,9 +141,9 @@ HasLostOffsets all w = (target : Target) × (target_of w.section.name ≡ Some t
 -- ---- modules
 
 -- The buffer gains the header and the output for each section: its minimal encoding, or its bytes
--- unchanged if they do not decode by its kind; `kept` counts the latter. With `Refuse` every
--- section keeps its offsets, and with `LeaveOut` exactly the sections that hold offsets are left
--- out. The output is a module of sections with the same ids, and is no longer than the input.
+-- unchanged if they do not decode by its kind. `kept` counts the unchanged ones. With `Refuse`
+-- every section keeps its offsets, and with `LeaveOut` exactly the sections that hold offsets are
+-- left out. The output is a module of sections with the same ids, and is no longer than the input.
 pub record ShortensModule (offsets : Offsets) (bytes : List ℕ) (kept : ℕ) (old new : List ℕ) : Type 0 where
   pub rewrites : List Rewrite
   pub has : HasSections bytes (map (λ w. w.section) rewrites)
@@ -170,7 +170,7 @@ pub record LosesOffsets (bytes : List ℕ) (number : ℕ) : Type 0 where
   pub first : AllByRecursion (KeepsOffsets (before ++ holder ∷ after)) before
   pub lost : HasLostOffsets (before ++ holder ∷ after) holder
 
--- The meaning of an error: the section of this number is the first that is malformed, whatever its
+-- The meaning of an error. The section of this number is the first that is malformed, whatever its
 -- payload, and the bytes are no module; or it loses its offsets. `Memory` means nothing about the
 -- bytes.
 abbrev pub Explains : Offsets → List ℕ → ModuleFault → Type 0
@@ -284,7 +284,7 @@ abbrev pub IsMemory : ModuleFault → Type 0
 IsMemory (faults.Section number fault) = fault ≡ Memory
 IsMemory (faults.Offsets number) = ⊥
 
--- A minimized module can be minimized again, unless memory is refused, and gives the same bytes.
+-- A minimized module can be minimized again, unless memory is refused, and becomes the same bytes.
 pub record IsIdempotent : Type 0 where
   pub again : (offsets : Offsets) (bytes old other text next : List ℕ) (kept more : ℕ) → ShortensModule offsets bytes kept old (old ++ text) → ShortensModule offsets text more other (other ++ next) → next ≡ text
   pub accepted : (offsets : Offsets) (bytes old text : List ℕ) (kept : ℕ) (fault : ModuleFault) → ShortensModule offsets bytes kept old (old ++ text) → Explains offsets text fault → IsMemory fault

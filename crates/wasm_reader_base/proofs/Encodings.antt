@@ -1,5 +1,5 @@
--- This file proves that if a value has an encoding, its parts have one, and its minimal encoding
--- has no count or size that is too large.
+-- This file proves that the parts of a value that has an encoding have encodings, and that all
+-- counts and sizes of its minimal encoding fit.
 use Rattle.std.proofs.Common.{◌≡◌, ◌≢◌, Result, Ok, Err, IsErrAnd, ℕ, zero, suc, ◌+◌, ◌<◌, ◌≤◌, List, [], ◌∷◌, ◌++◌, length, drop, get_or, map, refl, sym, ap, subst, ◌∙◌, arith}
 use Rattle.std.proofs.lemmas.List.{drop_at, length-map}
 use Rattle.std.proofs.lemmas.Int.{ints}

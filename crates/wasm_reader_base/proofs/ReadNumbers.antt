@@ -13,7 +13,7 @@ use Rattle.wasm_base.proofs.ReadingSteps.{front_and_rest}
 
 -- ---- up to five groups, one after another
 
--- The state after k groups: the remaining groups complete the number, and there is no number if
+-- The state after `k` groups: the remaining groups complete the number, and there is no number if
 -- they do not decode.
 pub record HasBegun (k : ℕ) (bytes rest : List ℕ) (sum power : ℕ) : Type 0 where
   pub found : (s p l : ℕ) (last : List ℕ) → HasGroups (5 - k) rest s p l last → HasGroups 5 bytes (sum + power * s) (power * p) l last
@@ -43,7 +43,7 @@ power_small k power l e =
     let p : 128 ^ k ≤ 128 ^ 4 = pow-le-pow_right (omega arith) {i = k} {j = 4} (omega (arith, l)) in
     omega (arith, e, p)
 
--- The next group is b, and n is its low seven bits.
+-- The next group is `b`, and `n` is its low seven bits.
 module _ (k b n sum power : ℕ) (bytes rest : List ℕ) where
   pub begun_more : (after : List ℕ) → k < 5 → rest ≡ b ∷ after → 128 ≤ b → b < 256 → n ≡ b % 128 → HasBegun k bytes rest sum power → HasBegun (k + 1) bytes after (sum + power * n) (power * 128)
   begun_more after m e low high bits go = record {

@@ -100,7 +100,7 @@ members_more F xs x old middle new a b = record {
   spelled = λ s h. let parts = members_before F xs x s h in members_last F xs x a.text b.text (a.spelled parts.0 parts.2) (b.spelled parts.1 parts.3);
 }
 
--- A loop over a list has appended the first i members.
+-- A loop over a list has appended the first `i` members.
 module _ {T X : Type 0} (F : Format X) (view : T → X) (xs : List T) where
   pub next_appended : (i : ℕ) (x : T) (old middle new : List ℕ) → i < length xs → x ≡ get_or xs i x → AppendsShortest (members F) (map view (take i xs)) old middle → AppendsShortest F (view x) middle new → AppendsShortest (members F) (map view (take (i + 1) xs)) old new
   next_appended i x old middle new low is a b =

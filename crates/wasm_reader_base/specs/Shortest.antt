@@ -3,7 +3,7 @@ use Rattle.std.specs.Prelude.{◌≡◌, ℕ, List, ◌++◌}
 use Rattle.wasm_base.specs.Numbers.{shortest, wide}
 use Rattle.wasm_base.specs.Formats.{Format}
 
--- The call appends bytes, which are the minimal encoding of x if any bytes decode to x.
+-- The call appends bytes, which are the minimal encoding of `x` if any bytes decode to `x`.
 pub record AppendsShortest {X : Type 0} (F : Format X) (x : X) (old new : List ℕ) : Type 0 where
   pub text : List ℕ
   pub appended : new ≡ old ++ text

@@ -32,7 +32,7 @@ use Rattle.wasm_base.proofs.Tags.{fixed_reads}
 
 -- ---- a loop over the types of immediates
 
--- The state after the first k immediates, which are `xs`.
+-- The state after the first `k` immediates, which are `xs`.
 abbrev pub HasArguments : List Part → ℕ → List ℕ → List Argument → List ℕ → Type 0
 HasArguments ps k bytes xs rest = GoesOn (arguments ps) bytes (arguments (drop k ps)) rest (λ ys. xs ++ ys)
 

@@ -8,7 +8,7 @@ use Rattle.wasm_insn.specs.Plain.{Plain, instruction}
 use Rattle.wasm_insn.specs.Table.{table}
 use Rattle.wasm_code.specs.Bodies.{Body, Run, body, and_then}
 
--- The reader has visited x: the bytes before this offset encode these runs and instructions,
+-- The reader has visited `x`: the bytes before this offset encode these runs and instructions,
 -- possibly padded.
 abbrev pub HasGone : List ℕ → ℕ → Body → Type 0
 HasGone bytes place x = body wide (take place bytes) x

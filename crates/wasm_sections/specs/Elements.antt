@@ -43,7 +43,7 @@ settled_table needed (Some table) = Some table
 settled_table true None = Some 0
 settled_table false None = None
 
--- ---- segments, for any representation E of expressions
+-- ---- segments, for any representation of expressions
 
 -- The mode of a segment: passive, declared, or active with an optional table and an offset
 -- expression.
@@ -237,8 +237,9 @@ place f = when f.not_active (when f.second (fixed [] declared) (fixed [] passive
 abbrev pub list_of : RefType × List (List Plain) → ElementList (List Plain)
 list_of parts = expressions parts.0 parts.1
 
--- Elements: expressions after their reference type, which is `funcref` if it is not encoded, or
--- function indices after the byte 00 of their kind, if it is encoded.
+-- Elements: expressions or function indices. Before expressions comes their reference type if it is
+-- encoded, and `funcref` is implied otherwise. Before indices comes the byte 00 of their kind if it
+-- is encoded.
 abbrev pub elements_as : (told of_expressions : Bool) → Format (ElementList (List Plain))
 elements_as told of_expressions =
     when of_expressions (mapped list_of (pair (when told ref_type (fixed [] FUNCREF)) (vec expression)))

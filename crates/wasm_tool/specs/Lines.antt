@@ -3,7 +3,7 @@ use Rattle.std.specs.Prelude.{ℕ, ◌==◌, Bool, true, false, if◌then◌else
 use Rattle.std.specs.List.{after_first, slice_split}
 use Rattle.std.specs.Str.Lines.{strip_carriage_return}
 
--- The lines of a text: each ends at a line feed or at the end of the text, and loses a carriage
+-- The lines of a text. Each ends at a line feed or at the end of the text, and loses a carriage
 -- return at its end.
 abbrev pub lines_of : List ℕ → List (List ℕ)
 lines_of text = map strip_carriage_return (slice_split (λ b. b == 0x0A) text)

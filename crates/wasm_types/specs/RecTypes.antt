@@ -80,7 +80,7 @@ shape_text (array field) = 0x5E ∷ field_text field
 shape_text (structure fields) = struct_text fields
 shape_text (cont index) = cont_text index
 
--- The encoding of an optional index: the byte b and the index, or no bytes.
+-- The encoding of an optional index: the byte `b` and the index, or no bytes.
 abbrev pub index_text : ℕ → Option ℕ → List ℕ
 index_text b None = []
 index_text b (Some index) = b ∷ unsigned_text index
@@ -154,7 +154,7 @@ IsType (group subs) = VecFits IsSub subs
 abbrev pub storage_tags : List (ℕ × Format StorageType)
 storage_tags = (0x78, fixed [] I8) ∷ (0x77, fixed [] I16) ∷ []
 
--- A storage type with the first byte b that is a value type.
+-- A storage type with the first byte `b` that is a value type.
 abbrev pub storage_val : ℕ → Format StorageType
 storage_val b = mapped Val (choice val_tags val_ref b)
 
@@ -178,7 +178,7 @@ func_of parts = func parts.0 parts.1
 abbrev pub shape_tags : List (ℕ × Format Shape)
 shape_tags = (0x60, mapped func_of (pair (vec val_type) (vec val_type))) ∷ (0x5E, mapped array field_type) ∷ (0x5F, mapped structure (vec field_type)) ∷ (0x5D, mapped cont s33) ∷ []
 
--- A shape after its first byte b.
+-- A shape after its first byte `b`.
 abbrev pub after_shape : ℕ → Format Shape
 after_shape b = choice shape_tags (λ c. impossible) b
 
@@ -190,17 +190,17 @@ given_index parts = (Some parts.0, parts.1)
 abbrev pub no_index : {X : Type 0} → X → Option ℕ × X
 no_index x = (None, x)
 
--- A value after its first byte b: if b is the tag, an index and then the value, and the value alone
--- otherwise.
+-- A value after its first byte `b`: if `b` is the tag, an index and then the value, and the value
+-- alone otherwise.
 abbrev pub with_index : {X : Type 0} → ℕ → (ℕ → Format X) → ℕ → Format (Option ℕ × X)
 with_index tag F b = choice ((tag, mapped given_index (pair u32 (tagged byte F))) ∷ []) (λ c. mapped no_index (F c)) b
 
--- An optional index of the type that describes it, then a shape, after the first byte b.
+-- An optional index of the type that describes it, then a shape, after the first byte `b`.
 abbrev pub after_descriptor : ℕ → Format (Option ℕ × Shape)
 after_descriptor b = with_index 0x4D after_shape b
 
--- An optional index of the type that it describes, then the suffix of `after_descriptor`, after the
--- first byte b.
+-- An optional index of the type that it describes, then the remaining composite type, after the
+-- first byte `b`.
 abbrev pub after_describes : ℕ → Format (Option ℕ × (Option ℕ × Shape))
 after_describes b = with_index 0x4C after_descriptor b
 
@@ -208,7 +208,7 @@ after_describes b = with_index 0x4C after_descriptor b
 abbrev pub composite_of : Bool → Option ℕ × (Option ℕ × Shape) → Composite
 composite_of is_shared parts = record { shared = is_shared; describes = parts.0; descriptor = parts.1.0; shape = parts.1.1 }
 
--- A composite type after its first byte b.
+-- A composite type after its first byte `b`.
 abbrev pub after_composite : ℕ → Format Composite
 after_composite b = choice ((0x65, mapped (composite_of true) (tagged byte after_describes)) ∷ []) (λ c. mapped (composite_of false) (after_describes c)) b
 
@@ -237,7 +237,7 @@ supertypes_and = pair (vec u32) composite_type
 abbrev pub sub_tags : List (ℕ × Format Sub)
 sub_tags = (0x50, mapped (sub_of false) supertypes_and) ∷ (0x4F, mapped (sub_of true) (such HasSupertypes supertypes_and)) ∷ []
 
--- A subtype after its first byte b.
+-- A subtype after its first byte `b`.
 abbrev pub after_sub : ℕ → Format Sub
 after_sub b = choice sub_tags (λ c. mapped alone_of (after_composite c)) b
 
@@ -246,7 +246,7 @@ after_sub b = choice sub_tags (λ c. mapped alone_of (after_composite c)) b
 abbrev pub sub_type : Format Sub
 sub_type = tagged byte after_sub
 
--- An entry after its first byte b.
+-- An entry after its first byte `b`.
 abbrev pub after_type : ℕ → Format TypeItem
 after_type b = choice ((0x4E, mapped group (vec sub_type)) ∷ []) (λ c. mapped single (after_sub c)) b
 

@@ -2,7 +2,7 @@ use Rattle.std.proofs.Common.{◌≡◌, length, map, take, drop}
 use Rattle.wasm_c.specs.Outlining.{section_of}
 use Rattle.wasm_c.proofs.outlining.put.Given as goal
 
--- The first i sections are written, and the remaining ones are unchanged.
+-- The first `i` sections are written, and the remaining ones are unchanged.
 abbrev pub invariant-loop-i : goal.invariant-loop-i
 invariant-loop-i l = record {
   places : length l.out ≡ length l.initial.out;
