@@ -24,7 +24,7 @@ use Rattle.examples.specs.Whole.{one_page}
 abbrev pub address_type : TypeItem
 address_type = plain_type (func (I32 ∷ []) [])
 
--- The memory argument of a 32-bit number 8 bytes behind an address.
+-- The memory argument of a 32-bit number 8 bytes after an address.
 abbrev pub number_at : MemArg
 number_at = record { offset = 8; align = 2; target = Memory 0; ordering = None }
 

@@ -121,14 +121,13 @@ pub adds_raw_wide : {Record Item : Type 0} {kind : Kind Record Item} {old new : 
     → HoldsMoreWide kind → HoldsWide kind.format old items → (item : Item) → new ≡ old ++ piece ∷ [] → kind.format wide piece item → HoldsWide kind.format new (items ++ item ∷ [])
 adds_raw_wide {kind = kind} {old = old} {items = items} {piece = piece} law before item e spelled = subst (λ entries. HoldsWide kind.format entries (items ++ item ∷ [])) (sym e) (law.raw old items piece item before spelled)
 
--- A section that gains a record that is well-formed but for padded LEB128 in its expressions gains
--- its normal form.
+-- A section gains the normal form of a well-formed record, whose expressions may be padded.
 pub adds_item_wide : {Record Item : Type 0} {kind : Kind Record Item} {old new : List (List ℕ)} {items : List Item}
     → HoldsMoreWide kind → HoldsWide kind.format old items → (given : Record) → new ≡ old ++ kind.text given ∷ [] → kind.IsPlainWide given → HoldsWide kind.format new (items ++ kind.normal_form given ∷ [])
 adds_item_wide {kind = kind} {old = old} {items = items} law before given e plain =
     subst (λ entries. HoldsWide kind.format entries (items ++ kind.normal_form given ∷ [])) (sym e) (law.given old items given before plain)
 
--- A section that gains such records of a list gains their normal forms.
+-- A section gains the normal forms of such records of a list.
 pub adds_items_wide : {Record Item : Type 0} {kind : Kind Record Item} {Fits : Record → Type 0} {old new : List (List ℕ)} {items : List Item} {given : List Record}
     → HoldsMoreWide kind → HoldsWide kind.format old items → AddsEach kind.text Fits given old new → AllByRecursion kind.IsPlainWide given → HoldsWide kind.format new (items ++ map kind.normal_form given)
 adds_items_wide {kind = kind} {old = old} {items = items} {given = given} law before added plain =

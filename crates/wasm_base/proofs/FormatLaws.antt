@@ -417,7 +417,7 @@ frame_unique {F} k = record {
 pub prefixed_unique : {X : Type 0} (bytes : List ℕ) {F : Format X} → UniqueReading F → UniqueReading (prefixed bytes F)
 prefixed_unique bytes {F} k = tagged_unique (λ x. tt {0}) (λ mode u s y h. refl) (fixed_unique bytes (tt {0})) (λ u. k)
 
--- A format that takes all of the bytes remains unambiguous behind fixed bytes.
+-- A format that takes all of the bytes remains unambiguous after fixed bytes.
 pub prefixed_whole : {X : Type 0} (bytes : List ℕ) {F : Format X} → UniqueWholeReading F → UniqueWholeReading (prefixed bytes F)
 prefixed_whole bytes {F} f = mapped_whole (λ p. p.1) (λ x y e. λ i. (tt, e i)) (pair_whole (fixed_unique bytes (tt {0})) f)
 
@@ -534,9 +534,9 @@ vec_of_one {X} {F} mode content xs known h =
     go (x ∷ []) l g = (x, subst (λ z. F mode z x) (sym (g.2 ∙ ap (λ z. g.0 ++ z) g.4 ∙ append-nil g.0)) g.3)
     go (x ∷ y ∷ xs) l g = absurd (omega arith)
 
--- ---- decoding behind a known front
+-- ---- decoding after a known front
 
--- If the front encodes `x`, the second value of the pair decodes behind it.
+-- If the front encodes `x`, the second value of the pair decodes after it.
 pub then_at : {X Y : Type 0} {F : Format X} {G : X → Format Y} → UniqueReading F → (mode : Mode) (a : List ℕ) (x : X) → F mode a x → (rest s back : List ℕ) (p : X × Y) → a ++ rest ≡ s ++ back → Then F G mode s p → (t : List ℕ) × (rest ≡ t ++ back) × G x mode t p.1
 then_at {G = G} k mode a x known rest s back p e h =
     let r = k.alone mode a h.front rest (h.back ++ back) x p.0 known h.first (e ∙ regroup s h.front h.back back h.joined) in

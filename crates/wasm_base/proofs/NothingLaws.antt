@@ -1,4 +1,4 @@
--- This file proves when no section decodes from bytes.
+-- This file proves that certain bytes decode to no section.
 use Rattle.std.proofs.Common.{◌≡◌, ℕ, ◌<◌, List, ◌∷◌, ◌++◌, length, arith}
 use Rattle.wasm_base.specs.Entries.{counted_format}
 use Rattle.wasm_base.specs.Formats.{Format, vec}

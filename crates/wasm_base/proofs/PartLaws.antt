@@ -54,10 +54,10 @@ each_spelled (b ∷ bytes) = (b ∷ [], bytes, refl, refl, each_spelled bytes)
 pub bytes_spelled : (bytes : List ℕ) → FrameFits bytes → vec byte shortest (frame_text bytes) bytes
 bytes_spelled bytes fits = record { front = unsigned_text (length bytes); back = bytes; joined = refl; first = u32_spelled (length bytes) (omega (arith, fits)); second = each_spelled bytes }
 
--- Fixed bytes, then an encoding of `x`, encode `x` behind these bytes.
+-- Fixed bytes, then an encoding of `x`, encode `x` after these bytes.
 pub prefixed_spelled : {X : Type 0} (bytes : List ℕ) (F : Format X) (back : List ℕ) (x : X) → F shortest back x → prefixed bytes F shortest (bytes ++ back) x
 prefixed_spelled bytes F back x h = ((tt, x), refl, record { front = bytes; back = back; joined = refl; first = (refl, refl); second = h })
 
--- A value behind a tag of one byte has a nonempty encoding.
+-- A value after a tag of one byte has a nonempty encoding.
 pub tagged_begins : {X : Type 0} {G : ℕ → Format X} → BeginsWith (λ b. Unit {0}) (tagged byte G)
 tagged_begins mode s x h = (h.0.0, h.2.back, h.2.joined ∙ ap (λ z. z ++ h.2.back) h.2.first, tt)

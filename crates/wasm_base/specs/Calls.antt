@@ -33,25 +33,25 @@ pub record AddsEach {T : Type 0} (text : T → List ℕ) (Fits : T → Type 0) (
   pub fitted : All Fits items
   pub counted : 0 < length items → length new ≤ longest
 
--- The builder gains all items, or as many as the error reports, whose next item failed. A full
--- builder returns `TooLong`, and an item that fits returns it only there.
+-- The builder gains all items; or it gains as many as the error reports, and the next item fails.
+-- The error is `TooLong` if the builder is full, and only then if the item fits.
 pub record AddsAll {T : Type 0} (text : T → List ℕ) (Fits : T → Type 0) (items : List T) (old new : List (List ℕ)) (result : Result (Unit {0}) (ℕ × Refused)) : Type 0 where
   pub ok : OnOk result (AddsEach text Fits items old new)
   pub err : IfErr result (λ stopped. (stopped.0 < length items) × AddsEach text Fits (take stopped.0 items) old new)
   pub too_long : IfErr result (λ stopped. stopped.1 ≡ TooLong → IfSome (slice_get items stopped.0) (λ item. Fits item → longest ≤ length new))
   pub full : IfErr result (λ stopped. length new ≡ longest → stopped.1 ≡ TooLong)
 
--- The headline of a section: its encoding is the minimal one of any items that `Says` allows, and
--- decodes to these items alone.
+-- The headline of a section: `text` is the one minimal encoding of any items that satisfy `Says`,
+-- and decodes to them alone.
 pub record ReadsBack {Items : Type 0} (F : Format Items) (Says : Items → Type 0) (text : List ℕ) : Type 0 where
   pub for_each : (items : Items) → Says items → ReadsAlone F text items
 
--- The headline for padded LEB128: the bytes are an encoding of any items that `Says` allows, and
--- decode to these items alone.
+-- The headline for padded LEB128: `text` is a possibly padded encoding of any items that satisfy
+-- `Says`, and decodes to them alone.
 pub record ReadsBackWide {Items : Type 0} (F : Format Items) (Says : Items → Type 0) (text : List ℕ) : Type 0 where
   pub for_each : (items : Items) → Says items → ReadsAloneWide F text items
 
--- Both headlines: for minimal encodings and for padded ones.
+-- Both headlines, for minimal encodings and for padded ones.
 pub record ReadsBackBoth {Items : Type 0} (F : Format Items) (Says SaysWide : Items → Type 0) (text : List ℕ) : Type 0 where
   pub plain : ReadsBack F Says text
   pub wide : ReadsBackWide F SaysWide text

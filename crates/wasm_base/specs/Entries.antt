@@ -7,8 +7,8 @@ use Rattle.wasm_base.specs.Formats.{Format, frame, vec}
 use Rattle.wasm_base.specs.Reading.{UniqueReading}
 use Rattle.wasm_base.specs.Texts.{FrameFits}
 
--- A kind of items: the encoding of a record, its well-formedness without and with padded LEB128 in
--- its expressions, the item that it encodes, and the format of items.
+-- A kind of items. It has the encoding of a record, its well-formedness without and with padding in
+-- expressions, the item that it encodes, and the format of items.
 pub record Kind (Record Item : Type 0) : Type 1 where
   pub text : Record → List ℕ
   pub IsPlain : Record → Type 0

@@ -49,7 +49,7 @@ pub record HoldsMore {Record Item : Type 0} (kind : Kind Record Item) : Type 0 w
   pub all : (pieces : List (List ℕ)) (items : List Item) (given : List Record) → HoldsItems kind pieces items → AllByRecursion kind.IsPlain given → HoldsItems kind (pieces ++ map kind.text given) (items ++ map kind.normal_form given)
 
 -- The same for padded LEB128. A section holds all that it holds in minimal encodings. A record that
--- is well-formed but for padding in its expressions adds its normal form. Raw bytes add the item
+-- is well-formed, with possibly padded expressions, adds its normal form. Raw bytes add the item
 -- that they encode, possibly padded.
 pub record HoldsMoreWide {Record Item : Type 0} (kind : Kind Record Item) : Type 0 where
   pub none : HoldsWide kind.format [] []

@@ -69,12 +69,14 @@ pub record HasSpellings {X : Type 0} (F : Format X) : Type 0 where
   pub wider : (m n : Mode) → Below m n → IsPartOf (F m) (F n)
   pub shorter : (w : Grammar) → IsShortenedBy (F (padded w)) (F (least w))
 
--- A format is unambiguous in every mode, and each encoding determines its own end.
+-- A format whose encodings determine their own end is unambiguous in every mode, with encodings as
+-- `HasSpellings` states.
 pub record UniqueReading {X : Type 0} (F : Format X) : Type 0 where
   pub alone : (mode : Mode) → IsReadAlone (F mode)
   pub spellings : HasSpellings F
 
--- A format that takes all of the bytes is unambiguous in every mode.
+-- A format that takes all of the bytes is unambiguous in every mode, with encodings as
+-- `HasSpellings` states.
 pub record UniqueWholeReading {X : Type 0} (F : Format X) : Type 0 where
   pub whole : (mode : Mode) → IsReadWhole (F mode)
   pub spellings : HasSpellings F

@@ -53,7 +53,7 @@ module_text sections = header ++ flat_map any_section_text sections
 abbrev pub ModuleFits : List (ℕ × List ℕ) → Type 0
 ModuleFits sections = All AnySectionFits sections
 
--- `text` is exactly these bytes behind their size prefix, and their size fits.
+-- `text` is exactly these bytes after their size prefix, and their size fits.
 pub record IsFrameOf (text bytes : List ℕ) : Type 0 where
   pub is : text ≡ frame_text bytes
   pub fits : FrameFits bytes

@@ -94,7 +94,7 @@ unshared ty = Abstract false ty
 abbrev pub shared : AbstractHeapType → HeapType
 shared ty = Abstract true ty
 
--- The formats behind the tag bytes 65 (shared) and 62 (exact) of a heap type.
+-- The formats after the tag bytes 65 (shared) and 62 (exact) of a heap type.
 abbrev pub heap_tags : List (ℕ × Format HeapType)
 heap_tags = (0x65, mapped shared abstract_type) ∷ (0x62, mapped Exact u32) ∷ []
 
@@ -124,7 +124,7 @@ to heap = record { nullable = false; heap_type = heap }
 abbrev pub HasNoByte : HeapType → Type 0
 HasNoByte heap = (heap ≢ unshared kinds.Func) × (heap ≢ unshared kinds.Extern)
 
--- The formats behind each first byte of a reference type.
+-- The formats after each first byte of a reference type.
 abbrev pub ref_tags : List (ℕ × Format RefType)
 ref_tags = (0x70, fixed [] FUNCREF) ∷ (0x6F, fixed [] EXTERNREF) ∷ (0x63, mapped nullable_to (such HasNoByte heap_type)) ∷ (0x64, mapped to heap_type) ∷ []
 
@@ -132,7 +132,7 @@ ref_tags = (0x70, fixed [] FUNCREF) ∷ (0x6F, fixed [] EXTERNREF) ∷ (0x63, ma
 abbrev pub ref_type : Format RefType
 ref_type = tagged byte (choice ref_tags (λ b. impossible))
 
--- The formats behind each first byte of a number type or vector type.
+-- The formats after each first byte of a number type or vector type.
 abbrev pub val_tags : List (ℕ × Format ValType)
 val_tags = (0x7F, fixed [] I32) ∷ (0x7E, fixed [] I64) ∷ (0x7D, fixed [] F32) ∷ (0x7C, fixed [] F64) ∷ (0x7B, fixed [] V128) ∷ []
 
@@ -162,11 +162,11 @@ HasNoCode (Abstract true ty) = Unit {0}
 HasNoCode (Concrete index) = Unit {0}
 HasNoCode (Exact index) = Unit {0}
 
--- The formats behind 63 and 64 where every reference type has one encoding.
+-- The formats after 63 and 64 where every reference type has one encoding.
 abbrev pub tight_tags : List (ℕ × Format RefType)
 tight_tags = (0x63, mapped nullable_to (such HasNoCode heap_type)) ∷ (0x64, mapped to heap_type) ∷ []
 
--- The formats behind 63 and 64 that the standard admits.
+-- The formats after 63 and 64 that the standard admits.
 abbrev pub admitted_tags : List (ℕ × Format RefType)
 admitted_tags = (0x63, mapped nullable_to heap_type) ∷ (0x64, mapped to heap_type) ∷ []
 

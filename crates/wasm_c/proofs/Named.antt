@@ -1,4 +1,4 @@
--- This file proves that the names of sections are in the module, behind their lengths.
+-- This file proves that the names of sections are in the module, after their lengths.
 use Rattle.std.proofs.Common.{◌≡◌, ℕ, ◌<◌, ◌≤◌, ◌+◌, suc, List, [], ◌∷◌, ◌++◌, length, get_or, drop, Option, Some, None, IfSome, if◌then◌else◌, nat_lt, option_map, refl, sym, ap, subst, ◌∙◌, append_assoc, arith}
 use Rattle.std.specs.Prelude.{All}
 use Rattle.std.specs.List.{AllByRecursion, flat_map}

@@ -18,7 +18,7 @@ abbrev pub continued : List ℕ → ℕ
 continued [] = 0
 continued (b ∷ bs) = if nat_lt b 0x80 then 0 else suc (continued bs)
 
--- The offset behind the LEB128 number at this offset.
+-- The offset after the LEB128 number at this offset.
 abbrev pub behind_number : List ℕ → ℕ → ℕ
 behind_number module_bytes place = place + suc (continued (drop place module_bytes))
 

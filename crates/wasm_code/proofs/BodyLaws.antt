@@ -38,7 +38,7 @@ body_whole =
 pub frame_body_unique : UniqueReading (frame body)
 frame_body_unique = frame_unique body_whole
 
--- A raw body that encodes a body decodes to it alone, behind its size prefix.
+-- A raw body that encodes a body decodes to it alone, after its size prefix.
 pub body_reads : (bytes : List ℕ) → FrameFits bytes → ReadsBack (frame body) (IsPlainBody bytes) (frame_text bytes)
 body_reads bytes fits = record { for_each = λ x h. reads_alone {F = frame body} frame_body_unique (frame_spelled body bytes x fits h.spelled) }
 

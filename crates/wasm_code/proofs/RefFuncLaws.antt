@@ -12,7 +12,7 @@ use Rattle.wasm_code.specs.declared.first.First.{First}
 use Rattle.wasm_code.specs.declared.first.First.TheVariants as firsts
 use Rattle.wasm_code.specs.Expressions.{BeginsWithRefFunc, IsRefFunc, first_text, index_of}
 
--- The bytes behind the opcode begin with the index.
+-- The bytes after the opcode begin with the index.
 after_op : (bytes rest : List ℕ) (f : ℕ) → bytes ≡ 0xD2 ∷ rest → BeginsWithRefFunc bytes f → (t q : List ℕ) × (rest ≡ t ++ q) × u32 wide t f
 after_op bytes rest f e h =
     let r = tagged_at {F = fixed (0xD2 ∷ []) (tt {0})} {G = λ u. u32} (fixed_unique (0xD2 ∷ []) (tt {0})) wide (0xD2 ∷ []) tt (refl, refl) rest h.read.front h.rest f (sym e ∙ h.read.split) h.read.spelled in

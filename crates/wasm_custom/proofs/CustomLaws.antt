@@ -58,7 +58,7 @@ content_fits id content fits = omega (arith, fits, length-append (unsigned_text 
 pub just_appended : {X : Type 0} (F : Format X) (x : X) (old new : List ℕ) → AppendsShortest F x old new → AppendsShortest (just x F) tt old new
 just_appended F x old new a = record { text = a.text; appended = a.appended; spelled = λ s h. a.spelled s h }
 
--- The encoding behind a name is the name, then that of the value.
+-- The encoding after a name is the name, then that of the value.
 pub named_appended : {X : Type 0} (n : List ℕ) {old middle new : List ℕ} (G : Format X) (x : X) → FrameFits n → middle ≡ old ++ frame_text n → AppendsShortest G x middle new → AppendsShortest (named_payload n G) x old new
 named_appended n {old = old} {middle = middle} G x fits e a = tagged_appended (just n name) (λ u. G) (λ s z h. refl) (just_appended name n old middle (name_appended n old middle fits e)) a
 

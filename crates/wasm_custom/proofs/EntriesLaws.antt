@@ -78,16 +78,17 @@ module _ {Record Item : Type 0} (kind : Kind Record Item) (n front : List ℕ) (
       → ReadsBackBoth (named_section n (entries front_format counted kind.format)) (HoldsItems kind pieces) (HoldsWide kind.format pieces) (named_text n (entries_text front counted pieces))
   entries_back pieces few fits = record { plain = entries_alone pieces few fits; wide = entries_alone_wide pieces few fits }
 
--- A section of counted items right behind its name has the laws of its front.
+-- A section of counted items right after its name has the laws of its front.
 pub counted_frame : {Item : Type 0} {F : Format Item} {n : List ℕ} → IsUtf8 n → FrameLaws F n [] (fixed [] (tt {0})) true
 counted_frame utf8 = record { name_utf8 = utf8; front_alone = fixed_unique [] (tt {0}); front_spelled = (refl, refl); begins = λ e. absurd (cc e) }
 
--- The laws of the sections of a kind whose records are well-formed alike with and without padding.
+-- The laws of the sections of a kind whose records are well-formed with padding exactly if they are
+-- without.
 pub entries_laws : {Record Item : Type 0} {kind : Kind Record Item} {n front : List ℕ} {front_format : Format (Unit {0})} {counted : Bool} → ItemLaws kind → FrameLaws kind.format n front front_format counted
     → ((given : Record) → kind.IsPlain given → kind.IsPlainWide given) → ((given : Record) → kind.IsPlainWide given → kind.IsPlain given) → SectionLaws kind (named_payload n (entries front_format counted kind.format))
 entries_laws {n = n} {counted = counted} laws more wider plain = framed_laws laws wider (after_whole n name_unique (entries_whole counted more.front_alone more.begins laws.alone)) plain
 
--- The minimal encoding of a section of items right behind its name is the name, then that of the
+-- The minimal encoding of a section of items right after its name is the name, then that of the
 -- items.
 pub items_appended : {X : Type 0} (n : List ℕ) {old middle new : List ℕ} (counted : Bool) (F : Format X) (xs : List X) → FrameFits n → middle ≡ old ++ frame_text n → AppendsShortest (listing counted F) xs middle new
     → AppendsShortest (named_payload n (entries (fixed [] (tt {0})) counted F)) xs old new

@@ -1,4 +1,4 @@
--- This file proves that certain bytes are no custom section.
+-- This file proves that certain bytes are not a custom section.
 use Rattle.std.proofs.Common.{◌≡◌, ℕ, ◌<◌, List, [], ◌∷◌, ◌++◌, length, IsUtf8, refl, sym, subst, ◌∙◌, append-nil, arith}
 use Rattle.wasm_base.specs.Formats.{Format, u32, byte, name, pair, mapped, tagged, choice, impossible, optional, frame, vec, members, just, fixed, such, prefixed, Then}
 use Rattle.wasm_base.specs.Laws.{NothingStandsWide}
@@ -32,7 +32,7 @@ behind_first {G = G} k a x known rest p h =
     let found = then_at k wide a x known rest (a ++ rest) [] p (sym (append-nil (a ++ rest))) h in
     subst (λ s. G x wide s p.1) (sym (found.1 ∙ append-nil found.0)) found.2
 
--- A value behind a name whose length is one byte.
+-- A value after a name whose length is one byte.
 behind_name : {X : Type 0} {F : Format X} (size : ℕ) (n content : List ℕ) (x : X) → size < 128 → length n ≡ size → IsUtf8 n → named_payload n F wide (size ∷ (n ++ content)) x → F wide content x
 behind_name {F = F} size n content x low l utf8 h =
     behind_tag {F = just n name} {G = λ u. F} (just_unique n name_unique) (size ∷ n) (tt {0})

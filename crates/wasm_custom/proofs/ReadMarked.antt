@@ -1,4 +1,4 @@
--- This file proves how readers decode values behind a fixed byte.
+-- This file proves how readers decode values after a fixed byte.
 use Rattle.std.proofs.Common.{◌≡◌, ◌≢◌, ℕ, List, [], ◌∷◌, refl, ap, ◌∙◌}
 use Rattle.wasm_base.specs.Numbers.{wide}
 use Rattle.wasm_base.specs.Formats.{Format, byte, fixed, prefixed}

@@ -1,4 +1,4 @@
--- This file proves how readers decode the bytes behind the name of a custom section.
+-- This file proves how readers decode the bytes after the name of a custom section.
 use Rattle.std.proofs.Common.{◌≡◌, ◌≢◌, ℕ, List, [], length, Bool, true, refl, sym, subst}
 use Rattle.wasm_base.specs.Going.{FillsNothing}
 use Rattle.wasm_base.specs.Numbers.{wide}
@@ -36,7 +36,7 @@ name_other m bytes rest n = just_other name m bytes name_unique rest n
 
 pub ruleset name_steps = (name_there, name_none, name_other)
 
--- ---- a value behind a format without a value
+-- ---- a value after a format without a value
 
 module _ {X : Type 0} (F : Format (Unit {0})) (G : Format X) (bytes : List ℕ) where
   pub behind_fills : (rest : List ℕ) (x : X) → Reads F wide bytes tt rest → G wide rest x → tagged F (λ u. G) wide bytes x
@@ -52,7 +52,7 @@ module _ {X : Type 0} (F : Format (Unit {0})) (G : Format X) (bytes : List ℕ) 
         n.none g.0.1 (subst (λ z. G wide z g.0.1) (sym same.1) g.2.second);
   }
 
--- ---- a value behind a name
+-- ---- a value after a name
 
 module _ {X : Type 0} (n : List ℕ) (G : Format X) (bytes : List ℕ) where
   pub named_fills : (rest : List ℕ) (x : X) → Reads (just n name) wide bytes tt rest → G wide rest x → named_payload n G wide bytes x
@@ -64,7 +64,7 @@ module _ {X : Type 0} (n : List ℕ) (G : Format X) (bytes : List ℕ) where
   pub named_nothing : (rest : List ℕ) → Reads (just n name) wide bytes tt rest → FillsNothing G rest → FillsNothing (named_payload n G) bytes
   named_nothing rest h none = behind_nothing (just n name) G bytes (just_unique n name_unique) rest h none
 
--- ---- items right behind a name
+-- ---- items right after a name
 
 module _ {X : Type 0} (n : List ℕ) (counted : Bool) (F : Format X) (bytes : List ℕ) where
   pub items_fill : (rest : List ℕ) (xs : List X) → Reads (just n name) wide bytes tt rest → listing counted F wide rest xs → named_payload n (entries (fixed [] (tt {0})) counted F) wide bytes xs
@@ -74,7 +74,7 @@ module _ {X : Type 0} (n : List ℕ) (counted : Bool) (F : Format X) (bytes : Li
   no_items rest h none =
       named_nothing n (entries (fixed [] (tt {0})) counted F) bytes rest h (behind_nothing (fixed [] (tt {0})) (listing counted F) rest (fixed_unique [] (tt {0})) rest (fixed_reads rest (tt {0})) none)
 
--- ---- counted items right behind a name that is an argument of the call
+-- ---- counted items right after a name that is an argument of the call
 
 module _ {X : Type 0} {n told : List ℕ} (called : told ≡ n) (F : Format X) (bytes : List ℕ) where
   pub counted_none : ReadsNothing (just told name) wide bytes → FillsNothing (counted_payload n F) bytes

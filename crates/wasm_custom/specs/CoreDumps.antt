@@ -96,7 +96,7 @@ HoldsInstances = HoldsItems instance_items
 abbrev pub core_payload : Format (List ℕ)
 core_payload = named_payload core_name marked_name
 
--- The payload of the section of modules: the section name, and a vector of names, each behind the
+-- The payload of the section of modules: the section name, and a vector of names, each after the
 -- byte 00.
 abbrev pub modules_payload : Format (List (List ℕ))
 modules_payload = counted_payload modules_name marked_name

@@ -66,7 +66,7 @@ SaysStack front frames said = IsUtf8 said.0 × (front ≡ marked_text said.0) ×
 
 -- ---- the section of a stack
 
--- The payload of the section: the section name, the name of the thread behind the byte 00, and a
+-- The payload of the section: the section name, the name of the thread after the byte 00, and a
 -- vector of frames.
 abbrev pub stack_payload : Format (List ℕ × List StackFrame)
 stack_payload = named_payload stack_name (pair marked_name (vec stack_frame))

@@ -18,7 +18,7 @@ entries_text front counted pieces = front ++ (count_text counted (length pieces)
 abbrev pub listing : {Item : Type 0} → Bool → Format Item → Format (List Item)
 listing counted F = when counted (vec F) (members F)
 
--- The data of a section of items, behind a front that carries no value.
+-- The data of a section of items, after a front that carries no value.
 abbrev pub entries : {Item : Type 0} → Format (Unit {0}) → Bool → Format Item → Format (List Item)
 entries front counted F = tagged front (λ u. listing counted F)
 

@@ -107,7 +107,7 @@ abbrev pub bit : ℕ → ℕ → Bool
 bit place flags = flags / 2 ^ place % 2 == 1
 
 -- The target of a memory argument, by bits 5 and 6 of its flags. Memory 0 has no index, and both
--- bits together encode nothing.
+-- bits together do not decode.
 abbrev pub target_of : (array other_memory : Bool) → Format MemArgTarget
 target_of false false = fixed [] (Memory 0)
 target_of true false = mapped Array u32
@@ -123,12 +123,13 @@ abbrev pub mem_arg_with : ℕ → (ordered array other_memory : Bool) → Format
 mem_arg_with align ordered array other_memory = mapped (mem_arg_of align) (pair (target_of array other_memory) (pair (optional ordered mem_ordering) u64))
 
 -- The bytes after flags below 128: bits 0 to 3 are the alignment, and bits 4, 5 and 6 say which
--- immediates are encoded. Higher flags encode nothing.
+-- immediates are encoded. Higher flags do not decode.
 abbrev pub after_flags : ℕ → Format MemArg
 after_flags flags = when (nat_lt flags 0x80) (mem_arg_with (flags % 16) (bit 4 flags) (bit 5 flags) (bit 6 flags)) impossible
 
 -- A memory argument: flags, an index and an ordering if the flags say so, and the offset. Core
--- specification, Binary Format, Instructions, Memory Instructions, but for bits 4 and 5.
+-- specification, Binary Format, Instructions, Memory Instructions; bits 4 and 5 are this
+-- repository's own.
 abbrev pub mem_arg : Format MemArg
 mem_arg = tagged u32 after_flags
 

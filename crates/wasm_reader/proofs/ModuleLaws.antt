@@ -59,7 +59,7 @@ one_way F alone begins s t last q (x ∷ xs) (y ∷ ys) h g e n m =
 
 -- ---- modules
 
--- The sections behind the header.
+-- The sections after the header.
 behind : {bytes rest : List ℕ} {sections : List (ℕ × (ℕ × Contents))} → Reads sized_module wide bytes sections rest → (s : List ℕ) × (bytes ≡ header ++ (s ++ rest)) × members sized_section wide s sections
 behind {rest = rest} {sections = sections} h =
     let p = h.spelled in

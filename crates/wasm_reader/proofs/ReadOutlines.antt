@@ -106,7 +106,7 @@ sections_spelled (s ∷ ss) h = (bytes_of s, flat_map bytes_of ss, refl, one_sec
 pub sections_read : (bytes rest : List ℕ) (sections : List Section) → AllByRecursion IsSection sections → bytes ≡ flat_map bytes_of sections ++ rest → Reads (members any_section) wide bytes (map any_of sections) rest
 sections_read bytes rest sections h e = record { front = flat_map bytes_of sections; split = e; spelled = sections_spelled sections h }
 
--- If no section decodes at the end of the sections, the bytes are no module.
+-- If no section decodes at the end of the sections, the bytes are not a module.
 pub no_module : (bytes start rest : List ℕ) (xs : List (ℕ × List ℕ)) → bytes ≡ header ++ start → Reads (members any_section) wide start xs rest → rest ≢ [] → ReadsNothing any_section wide rest → FillsNothing wasm_module bytes
 no_module bytes start rest xs e h more n = record {
   none = λ ys g.

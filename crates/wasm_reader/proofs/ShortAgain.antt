@@ -124,7 +124,7 @@ module _ (offsets : Offsets) (w v : Rewrite) (i : IsSection w.section) (j : IsSe
 
 -- ---- all sections
 
--- The bytes behind an id are size-prefixed.
+-- The bytes after an id are size-prefixed.
 record IsFrame (text : List ℕ) : Type 0 where
   payload : List ℕ
   framed : frame any_bytes wide text payload

@@ -37,7 +37,7 @@ abbrev pub IsNameOf : ℕ → List ℕ → Option (List ℕ) → Type 0
 IsNameOf id payload (Some n) = (id ≡ number_of ids.Custom) × (rest : List ℕ) × Reads name wide payload n rest
 IsNameOf id payload None = id ≡ number_of ids.Custom → ReadsNothing name wide payload
 
--- The bytes behind the id are this payload with its size prefix, and the payload has this name.
+-- The bytes after the id are this payload with its size prefix, and the payload has this name.
 pub record IsSection (s : Section) : Type 0 where
   pub holds : frame any_bytes wide s.framed s.payload
   pub named : IsNameOf s.id s.payload s.name

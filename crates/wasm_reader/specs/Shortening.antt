@@ -170,9 +170,9 @@ pub record LosesOffsets (bytes : List ℕ) (number : ℕ) : Type 0 where
   pub first : AllByRecursion (KeepsOffsets (before ++ holder ∷ after)) before
   pub lost : HasLostOffsets (before ++ holder ∷ after) holder
 
--- The meaning of an error. The section of this number is the first that is malformed, whatever its
--- payload, and the bytes are no module; or it loses its offsets. `Memory` means nothing about the
--- bytes.
+-- The meaning of an error. Either the section of this number is the first that is malformed,
+-- whatever its payload, and the bytes are not a module. Or the section of this number loses its
+-- offsets. `Memory` means nothing about the bytes.
 abbrev pub Explains : Offsets → List ℕ → ModuleFault → Type 0
 Explains offsets bytes (faults.Section number fault) = fault ≢ Memory → EndsAt bytes number × FillsNothing wasm_module bytes
 Explains offsets bytes (faults.Offsets number) = (offsets ≡ Refuse) × LosesOffsets bytes number

@@ -1,5 +1,5 @@
--- This file proves that the parts of a value that has an encoding have encodings, and that all
--- counts and sizes of its minimal encoding fit.
+-- This file proves that the parts of a value that has an encoding have encodings. All counts and
+-- sizes of its minimal encoding fit.
 use Rattle.std.proofs.Common.{◌≡◌, ◌≢◌, Result, Ok, Err, IsErrAnd, ℕ, zero, suc, ◌+◌, ◌<◌, ◌≤◌, List, [], ◌∷◌, ◌++◌, length, drop, get_or, map, refl, sym, ap, subst, ◌∙◌, arith}
 use Rattle.std.proofs.lemmas.List.{drop_at, length-map}
 use Rattle.std.proofs.lemmas.Int.{ints}
@@ -26,14 +26,14 @@ module _ {X Y : Type 0} (F : Format X) where
   pub right_encoded : (G : Format Y) (x : X) (y : Y) → HasEncoding (pair F G) (x, y) → HasEncoding G y
   right_encoded G x y h = record { bytes = h.decoded.back; decoded = h.decoded.second }
 
-  -- The value behind a tag that it determines has an encoding.
+  -- The value after a tag that it determines has an encoding.
   pub tagged_encoded : (G : X → Format Y) (x : X) (y : Y) → ((s : List ℕ) (z : X) → G z wide s y → z ≡ x) → HasEncoding (tagged F G) y → HasEncoding (G x) y
   tagged_encoded G x y told h =
       let d = h.decoded in
       let at_y : G d.0.0 wide d.2.back y = subst (λ z. G d.0.0 wide d.2.back z) d.1 d.2.second in
       record { bytes = d.2.back; decoded = subst (λ z. G z wide d.2.back y) (told d.2.back d.0.0 at_y) at_y }
 
--- The value behind fixed bytes has an encoding.
+-- The value after fixed bytes has an encoding.
 pub prefixed_encoded : {X : Type 0} (head : List ℕ) (F : Format X) (x : X) → HasEncoding (prefixed head F) x → HasEncoding F x
 prefixed_encoded head F x h = let d = h.decoded in record { bytes = d.2.back; decoded = subst (λ z. F wide d.2.back z) d.1 d.2.second }
 

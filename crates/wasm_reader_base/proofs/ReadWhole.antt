@@ -35,7 +35,7 @@ module _ {T X : Type 0} (F : Format X) (view : T → X) (bytes : List ℕ) where
   pub members_start : HasMembers F view bytes [] bytes
   members_start = (λ ys h. h, λ n. n)
 
-  -- If a member decodes and no members decode behind it, no members decode at all.
+  -- If a member decodes and no members decode after it, no list of members takes all of the bytes.
   after_member : UniqueReading F → (rest after : List ℕ) (x : X) → Reads F wide rest x after → rest ≢ [] → FillsNothing (members F) after → FillsNothing (members F) rest
   after_member f rest after x h some n = record { none = go }
     where

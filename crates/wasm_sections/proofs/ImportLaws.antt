@@ -124,7 +124,7 @@ after_zero_values mode s x h = subst IsGroup h.1 (group_values mode h.2.back h.0
 pub empty_name : (mode : Mode) → name mode (0x00 ∷ []) []
 empty_name mode = (record { front = 0x00 ∷ []; content = []; joined = refl; size = u32_small mode 0 (omega arith); spelled = refl }, IsUtf8-nil)
 
--- Behind the byte 00, no byte begins both an entity and a group.
+-- After the byte 00, no byte begins both an entity and a group.
 never_alike : BeginNeverAlike named_entity (prefixed (0x00 ∷ []) group)
 never_alike mode s t r u x y h g e =
     let back = g.2.back in
@@ -307,7 +307,7 @@ single_no_type bytes rest next m text h other g n = single_none h other (then_no
 
 -- ---- groups
 
--- Behind an empty name, the byte of a group begins no entity.
+-- After an empty name, the byte of a group begins no entity.
 not_named : {bytes after : List ℕ} {k : ℕ} → bytes ≡ 0x00 ∷ k ∷ after → 0x7E ≤ k → ReadsNothing named_entity wide bytes
 not_named {after = after} {k = k} e l = record {
   none = λ x last h.

@@ -1,4 +1,4 @@
--- This file proves that certain bytes are no section.
+-- This file proves that certain bytes are not a section.
 use Rattle.std.proofs.Common.{◌≡◌, ℕ, ◌<◌, List, [], ◌∷◌, ◌++◌, false, pos, refl, sym, subst, ◌∙◌, append-nil, arith, lit<, inl, inr}
 use Rattle.std.proofs.lemmas.Int.{ints}
 use Rattle.std.proofs.lemmas.Str.{IsUtf8-nil}
@@ -27,7 +27,7 @@ use Rattle.wasm_sections.proofs.ImportLaws.{IsEntityByte, entity_begins, empty_n
 use Rattle.wasm_sections.proofs.DataLaws.{segments_section}
 use Rattle.wasm_base.proofs.SectionLaws.{unique}
 
--- ---- a global with remaining bytes behind its first `end`
+-- ---- a global with remaining bytes after its first `end`
 
 abbrev one : Instruction Global
 one = I32Const (pos 1)

@@ -1,4 +1,4 @@
--- This file proves how readers decode values behind fixed bytes.
+-- This file proves how readers decode values after fixed bytes.
 use Rattle.std.proofs.Common.{◌≡◌, ℕ, List, ◌++◌, refl, ap, ◌∙◌}
 use Rattle.wasm_base.specs.Numbers.{wide}
 use Rattle.wasm_base.specs.Formats.{Format, fixed, prefixed}

@@ -132,7 +132,7 @@ table_none bytes n =
 pub table_no_type : (bytes rest : List ℕ) (b : ℕ) → Reads byte wide bytes b rest → b ≢ 0x40 → ReadsNothing table_type wide bytes → ReadsNothing table_item wide bytes
 table_no_type bytes rest b h other n = one_of_nothing (mapped_nothing without_init n) (not_begun IsInitByte (mapped with_init (prefixed before_init typed)) init_begins h other)
 
--- A table with an initial value, behind two bytes.
+-- A table with an initial value, after two bytes.
 two_bytes : (bytes rest after : List ℕ) (b c : ℕ) → Reads byte wide bytes b rest → b ≡ 0x40 → Reads byte wide rest c after → c ≡ 0x00 → bytes ≡ before_init ++ after
 two_bytes bytes rest after b c h e g f =
     h.split ∙ ap (λ z. z ++ rest) h.spelled ∙ ap (λ z. b ∷ z) (g.split ∙ ap (λ z. z ++ after) g.spelled) ∙ ap (λ z. z ∷ c ∷ after) e ∙ ap (λ z. 0x40 ∷ z ∷ after) f

@@ -180,7 +180,7 @@ IsPlace p = IsPlaceIn shortest p
 abbrev pub IsSegment : ElementItem Stored → Type 0
 IsSegment s = IsSegmentIn shortest s
 
--- The segment is well-formed but for padded LEB128 in its expressions.
+-- The segment is well-formed, and its expressions may be padded.
 abbrev pub IsSegmentWide : ElementItem Stored → Type 0
 IsSegmentWide s = IsSegmentIn wide s
 

@@ -72,7 +72,7 @@ pub record IsGivenGlobalIn (mode : Mode) (g : GivenGlobal) : Type 0 where
 abbrev pub IsGivenGlobal : GivenGlobal → Type 0
 IsGivenGlobal g = IsGivenGlobalIn shortest g
 
--- The global is well-formed but for padded LEB128 in its expression.
+-- The global is well-formed, and its expression may be padded.
 abbrev pub IsGivenGlobalWide : GivenGlobal → Type 0
 IsGivenGlobalWide g = IsGivenGlobalIn wide g
 

@@ -35,7 +35,7 @@ pub record IsTable (t : TableType) : Type 0 where
   pub minimum : t.minimum < 2 ^ 64
   pub maximum : IfSome t.maximum (λ n. n < 2 ^ 64)
 
--- The limits of a table: its type but for the type of its elements.
+-- The limits of a table: its type without the type of its elements.
 pub record Limits : Type 0 where
   pub table64 : Bool
   pub shared : Bool
@@ -47,7 +47,7 @@ abbrev pub limits_of : Flags → ℕ × Option ℕ → Limits
 limits_of f parts = record { table64 = f.is_64; shared = f.shared; minimum = parts.0; maximum = parts.1 }
 
 -- The bytes after these flags: the minimum, and the maximum if the flags say so. A flag for the
--- page size encodes nothing.
+-- page size does not decode.
 abbrev pub after_limits_flags : Flags → Format Limits
 after_limits_flags f = when f.has_page_size impossible (mapped (limits_of f) (pair u64 (optional f.has_maximum u64)))
 
@@ -103,7 +103,7 @@ pub record IsGivenTableIn (mode : Mode) (t : GivenTable) : Type 0 where
 abbrev pub IsGivenTable : GivenTable → Type 0
 IsGivenTable t = IsGivenTableIn shortest t
 
--- The table is well-formed but for padded LEB128 in its expression.
+-- The table is well-formed, and its expression may be padded.
 abbrev pub IsGivenTableWide : GivenTable → Type 0
 IsGivenTableWide t = IsGivenTableIn wide t
 

@@ -254,7 +254,7 @@ pub on_module : {X A : Type 0} (text : List ℕ) (recipe : Recipe A) (result : R
 on_module text recipe (Ok x) items P made follows = follows x made
 on_module text recipe (Err fault) items P made follows = tt
 
--- The encoding of some sections behind a header, then of more of them.
+-- The encoding of some sections after a header, then of more of them.
 pub first_sections : (xs : List (ℕ × List ℕ)) (old new : List ℕ) → old ≡ header → new ≡ old ++ flat_map any_section_text xs → new ≡ module_text xs
 unfolding module_text
 first_sections xs old new e f = f ∙ ap (λ t. t ++ flat_map any_section_text xs) e

@@ -1,4 +1,4 @@
--- This file proves that certain bytes are no type section.
+-- This file proves that certain bytes are not a type section.
 use Rattle.std.proofs.Common.{◌≡◌, ℕ, ◌<◌, List, [], ◌∷◌, ◌++◌, length, Bool, true, false, refl, sym, subst, ◌∙◌, append-nil, arith}
 use Rattle.wasm_base.specs.Entries.{counted_format}
 use Rattle.wasm_base.specs.Formats.{Format, u32, byte, tagged, vec, coded, Then}

@@ -161,7 +161,7 @@ group_appended subs slice {old = old} {new = new} {result = result} e a =
       capacity = a.capacity;
     })
 
--- The entries behind their count.
+-- The entries after their count.
 pub each_appended : {A B : Type 0} (xs : List (TypeEntry A)) {old new : Vec ℕ B} {result : Result (Unit {0}) Refused} → Appends (vec_text entry_text xs) (VecFits EntryFits xs) old new result
     → OnOk result (AppendsShortest (vec type_item) (map entry_view xs) old.items new.items)
 each_appended xs {old = old} {new = new} {result = Ok u} a = types_appended EntryFits xs old.items new.items a.fitted a.ok

@@ -174,7 +174,7 @@ field_type = mapped field_of (pair storage_type (coded mutable_code))
 abbrev pub func_of : List ValType × List ValType → Shape
 func_of parts = func parts.0 parts.1
 
--- The formats behind each first byte of a shape.
+-- The formats after each first byte of a shape.
 abbrev pub shape_tags : List (ℕ × Format Shape)
 shape_tags = (0x60, mapped func_of (pair (vec val_type) (vec val_type))) ∷ (0x5E, mapped array field_type) ∷ (0x5F, mapped structure (vec field_type)) ∷ (0x5D, mapped cont s33) ∷ []
 
@@ -233,7 +233,7 @@ alone_of composite = record { is_final = true; supertypes = []; composite = comp
 abbrev pub supertypes_and : Format (List ℕ × Composite)
 supertypes_and = pair (vec u32) composite_type
 
--- The formats behind 50 and 4F. Any other first byte of a subtype begins its composite type.
+-- The formats after 50 and 4F. Any other first byte of a subtype begins its composite type.
 abbrev pub sub_tags : List (ℕ × Format Sub)
 sub_tags = (0x50, mapped (sub_of false) supertypes_and) ∷ (0x4F, mapped (sub_of true) (such HasSupertypes supertypes_and)) ∷ []
 
