@@ -13,12 +13,12 @@ pub All-last : {T : Type 0} (P : T → Type 0) (xs : List T) (x : T) → All P (
 All-last P [] x h = All-head P x [] h
 All-last P (y ∷ xs) x h = All-last P xs x (All-tail P y (xs ++ x ∷ []) h)
 
--- Some items, then more of them.
+-- An iterator that yields some items and then more of them yields both lists.
 pub Yields-append : {S T : Type 0} (gives : S → Option T → S → Type 0) (s : S) (xs : List T) (t : S) (ys : List T) (u : S) → Yields gives s xs t → Yields gives t ys u → Yields gives s (xs ++ ys) u
 Yields-append gives s [] t ys u y z = subst (λ v. Yields gives v ys u) (sym y) z
 Yields-append gives s (x ∷ xs) t ys u y z = (y.0, y.1, Yields-append gives y.0 xs t ys u y.2 z)
 
--- Some items, then all remaining ones.
+-- An iterator that yields some items and then all remaining ones drains to both lists.
 pub Drains-append : {S T : Type 0} (gives : S → Option T → S → Type 0) (s : S) (xs : List T) (t : S) (ys : List T) → Yields gives s xs t → Drains gives t ys → Drains gives s (xs ++ ys)
 Drains-append gives s xs t ys y z = (z.0, (z.1.0, Yields-append gives s xs t ys z.1.0 y z.1.1, z.1.2))
 

@@ -43,7 +43,7 @@ pub record HoldsItems {Record Item : Type 0} (kind : Kind Record Item) (pieces :
 abbrev pub SpellsWide : {Item : Type 0} → Format Item → List ℕ → Item → Type 0
 SpellsWide F piece item = FrameFits piece → F wide piece item
 
--- There is one piece for each item, a possibly padded encoding of it.
+-- There is one piece for each item, a possibly padded encoding of it as `SpellsWide` states.
 pub record HoldsWide {Item : Type 0} (F : Format Item) (pieces : List (List ℕ)) (items : List Item) : Type 0 where
   pub spelled : AllZip (SpellsWide F) pieces items
 

@@ -13,7 +13,8 @@ use Rattle.wasm_base.specs.declared.types.ValType.TheVariants.{I32, I64, F32, F6
 
 -- ---- encodings
 
--- The byte of an abstract heap type.
+-- The byte of an abstract heap type. The bytes of `Cont` and `NoCont` are not in the core
+-- specification.
 abbrev pub abstract_code : AbstractHeapType → ℕ
 abstract_code kinds.Func = 0x70
 abstract_code kinds.Extern = 0x6F
@@ -31,7 +32,7 @@ abstract_code kinds.Cont = 0x68
 abstract_code kinds.NoCont = 0x75
 
 -- The encoding of a heap type. A shared abstract type has the byte 65 before its own, and an exact
--- type the byte 62 before its index.
+-- type the byte 62 before its index. Neither is in the core specification.
 abbrev pub heap_text : HeapType → List ℕ
 heap_text (Abstract false ty) = abstract_code ty ∷ []
 heap_text (Abstract true ty) = 0x65 ∷ abstract_code ty ∷ []

@@ -41,7 +41,8 @@ pub record Assembled (recipe old new : List ℕ) (line cause n : ℕ) : Type 0 w
   pub no_line : line ≡ 0
   pub no_cause : cause ≡ 0
 
--- The recipe is not UTF-8 (7), or the cause explains this line, and no line before it has an error.
+-- The recipe is not UTF-8 (cause 7 at line 0), or the cause explains this line as `Explains`
+-- states.
 abbrev pub IsWhy : List ℕ → ℕ → ℕ → Type 0
 IsWhy recipe line cause = ((line ≡ 0) × (cause ≡ 7) × (IsUtf8 recipe → ⊥)) ⊎ ((c : RecipeCause) × (cause ≡ cause_number c) × Explains recipe line c)
 

@@ -55,12 +55,11 @@ stores_wider bytes is stored = stored_whole.spellings.wider shortest wide tt byt
 
 -- ---- encodings
 
--- Members, then more of them.
+-- The encodings of two lists of members, one after another, encode both lists.
 pub members_join : {X : Type 0} (F : Format X) (mode : Mode) (s t : List ℕ) (xs ys : List X) → members F mode s xs → members F mode t ys → members F mode (s ++ t) (xs ++ ys)
 members_join F mode s t [] ys h g = subst (λ z. members F mode (z ++ t) ys) (sym h) g
 members_join F mode s t (x ∷ xs) ys h g = (h.0, h.1 ++ t, ap (λ z. z ++ t) h.2 ∙ append_assoc h.0 h.1 t, h.3, members_join F mode h.1 t xs ys h.4 g)
 
--- One member.
 pub members_one : {X : Type 0} (F : Format X) (mode : Mode) (s : List ℕ) (x : X) → F mode s x → members F mode s (x ∷ [])
 members_one F mode s x h = (s, [], sym (append-nil s), h, refl)
 

@@ -64,7 +64,6 @@ module_laws = record { alone = marked_unique; spelled = λ n plain fits. marked_
 pub module_frame : FrameLaws marked_name modules_name [] (fixed [] (tt {0})) true
 module_frame = counted_frame (ascii {bytes = modules_name} refl)
 
--- The laws of the sections of modules.
 pub modules_section : SectionLaws module_items modules_payload
 modules_section = entries_laws module_laws module_frame (λ given plain. plain) (λ given plain. plain)
 
@@ -88,7 +87,6 @@ instance_laws = record { alone = instance_unique; spelled = λ i plain fits. ins
 pub instance_frame : FrameLaws instance instances_name [] (fixed [] (tt {0})) true
 instance_frame = counted_frame (ascii {bytes = instances_name} refl)
 
--- The laws of the sections of instances.
 pub instances_section : SectionLaws instance_items instances_payload
 instances_section = entries_laws instance_laws instance_frame (λ given plain. plain) (λ given plain. plain)
 

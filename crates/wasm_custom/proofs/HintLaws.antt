@@ -44,7 +44,6 @@ hint_laws = record { alone = hints_unique; spelled = λ h plain fits. hints_spel
 pub hint_frame : FrameLaws hints hints_name [] (fixed [] (tt {0})) true
 hint_frame = counted_frame (ascii {bytes = hints_name} refl)
 
--- The laws of the sections of branch hints.
 pub hints_section : SectionLaws hint_items hints_payload
 hints_section = entries_laws hint_laws hint_frame (λ given plain. plain) (λ given plain. plain)
 

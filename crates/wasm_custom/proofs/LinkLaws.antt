@@ -58,7 +58,6 @@ link_frame = record {
   begins = λ e. tagged_begins;
 }
 
--- The laws of linking sections.
 pub linking_section : SectionLaws link_items linking_payload
 linking_section = entries_laws link_laws link_frame (λ given plain. plain) (λ given plain. plain)
 

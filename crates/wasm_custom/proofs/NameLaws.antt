@@ -115,7 +115,6 @@ name_frame = record {
   begins = λ e. tagged_begins;
 }
 
--- The laws of name sections.
 pub names_section : SectionLaws name_items name_payload
 names_section = entries_laws name_laws name_frame (λ given plain. plain) (λ given plain. plain)
 

@@ -31,6 +31,5 @@ producer_laws = record { alone = field_unique; spelled = λ f plain fits. field_
 pub producer_frame : FrameLaws field producers_name [] (fixed [] (tt {0})) true
 producer_frame = counted_frame (ascii {bytes = producers_name} refl)
 
--- The laws of producers sections.
 pub producers_section : SectionLaws field_items producers_payload
 producers_section = entries_laws producer_laws producer_frame (λ given plain. plain) (λ given plain. plain)

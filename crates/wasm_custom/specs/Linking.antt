@@ -11,7 +11,8 @@ use Rattle.wasm_custom.specs.Entries.{entries}
 use Rattle.wasm_custom.specs.declared.linking.LinkItem as read
 use Rattle.wasm_custom.specs.declared.linking.LinkItem.TheVariants as items
 
--- A subsection: a symbol table, or the architecture of the target.
+-- A subsection: a symbol table, or the architecture of the target, which is not in the tool
+-- conventions.
 pub data LinkItem : Type 0 where
   Symbols : List Symbol → LinkItem
   Target : List ℕ → LinkItem

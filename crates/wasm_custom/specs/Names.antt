@@ -77,11 +77,13 @@ abbrev pub is_one_of : List ℕ → ℕ → Bool
 is_one_of [] id = false
 is_one_of (i ∷ is) id = cond (id == i) true (is_one_of is id)
 
--- The ids of name maps: functions, types, tables, memories, globals, elements, data, tags.
+-- The ids of name maps: functions, types, tables, memories, globals, elements, data, tags. The core
+-- specification has 1, 4 and 11.
 abbrev pub map_ids : List ℕ
 map_ids = 1 ∷ 4 ∷ 5 ∷ 6 ∷ 7 ∷ 8 ∷ 9 ∷ 11 ∷ []
 
--- The ids of indirect name maps: locals, labels, fields, parameters, parameters of tags.
+-- The ids of indirect name maps: locals, labels, fields, parameters, parameters of tags. The core
+-- specification has 2 and 10.
 abbrev pub indirect_ids : List ℕ
 indirect_ids = 2 ∷ 3 ∷ 10 ∷ 12 ∷ 13 ∷ []
 

@@ -21,7 +21,7 @@ use Rattle.wasm_immediates.specs.declared.control.Handle.TheVariants.{OnLabel, O
 
 -- ---- memory arguments
 
--- The byte of an ordering.
+-- The byte of an ordering, which is not in the core specification.
 abbrev pub ordering_code : Ordering → ℕ
 ordering_code SeqCst = 0x00
 ordering_code AcqRel = 0x01
@@ -87,7 +87,8 @@ catch_text (OneRef tag label) = 0x01 ∷ (unsigned_text tag ++ unsigned_text lab
 catch_text (All label) = 0x02 ∷ unsigned_text label
 catch_text (AllRef label) = 0x03 ∷ unsigned_text label
 
--- The encoding of a handle clause: a byte for its kind, its tag, and its label if it has one.
+-- The encoding of a handle clause: a byte for its kind, its tag, and its label if it has one. It is
+-- not in the core specification.
 abbrev pub handle_text : Handle → List ℕ
 handle_text (OnLabel tag label) = 0x00 ∷ (unsigned_text tag ++ unsigned_text label)
 handle_text (OnSwitch tag) = 0x01 ∷ unsigned_text tag

@@ -84,7 +84,6 @@ pub byte_spelled : (mode : Mode) (b : ℕ) (bytes : List ℕ) (shape : Shape) (x
 byte_spelled mode b bytes shape xs other row spelled =
     ((Byte b, xs), refl, record { front = b ∷ []; back = bytes; joined = refl; first = tagged_spelled mode b [] (Byte b) (rw other (refl, refl)); second = rw row spelled })
 
--- One immediate.
 pub one_argument : (mode : Mode) (p : Part) (bytes : List ℕ) (x : Argument) → part p mode bytes x → arguments (p ∷ []) mode bytes (x ∷ [])
 one_argument mode p bytes x h = ((x, []), refl, record { front = bytes; back = []; joined = sym (append-nil bytes); first = h; second = (refl, refl) })
 

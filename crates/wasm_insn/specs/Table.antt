@@ -1,5 +1,6 @@
 -- This file defines the opcode table: a row for each instruction, one-byte opcodes first, then by
--- prefix and number. Core specification, Binary Format, Instructions.
+-- prefix and number. Core specification, Binary Format, Instructions; docs/FORMAT.md lists the rows
+-- that are not in it.
 use Rattle.std.specs.Prelude.{◌≡◌, ℕ, ◌+◌, ◌-◌, ◌*◌, ◌^◌, ◌<◌, zero, suc, Bool, true, false, ◌&&◌, nat_le, List, [], ◌∷◌, ◌++◌, Option, Some, cond, map, IsTrue, length}
 use Rattle.std.specs.List.{AllByRecursion, find, flat_map}
 use Rattle.std.specs.Option.{option_map}

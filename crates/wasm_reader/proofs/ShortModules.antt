@@ -100,7 +100,6 @@ rewrites_step offsets bytes rest after old middle new tally next s how is_change
       appended = g.appended ∙ ap (λ z. z ++ written w) r.appended ∙ append_assoc old (flat_map written r.rewrites) (written w) ∙ ap (λ z. old ++ (flat_map written r.rewrites ++ z)) (sym (append-nil (written w))) ∙ ap (λ z. old ++ z) (sym (flat_map-append written r.rewrites (w ∷ [])));
     }
 
--- The sections of the rewrites.
 abbrev pub sections_of : List Rewrite → List Section
 sections_of ws = map (λ w. w.section) ws
 

@@ -132,7 +132,7 @@ pub ruleset u64_steps = (u64_reads, u64_byte, u64_few, u64_none, u64_large, fron
 
 -- ---- signed numbers
 
--- The effect of the sign.
+-- The signed number of groups whose sign bit is clear, and of groups whose sign bit is set.
 not_negative : (sum power last : ℕ) → last < 64 → signed_of sum power last ≡ pos sum
 not_negative sum power last l = rw (lt-ltb last 64 l) refl
 
@@ -156,7 +156,7 @@ module _ (bits : ℕ) where
   signed_none : (bytes : List ℕ) → ReadsNothing (groups (byte_limit bits)) wide bytes → ReadsNothing (λ mode. Signed mode bits) wide bytes
   signed_none bytes none = record { none = λ v rest h. none.none h.front rest (record { front = h.front; split = h.split; spelled = (refl, h.spelled.groups, h.spelled.size) }) }
 
-  -- No other value is in range.
+  -- No other value decodes from the groups.
   signed_is : (bytes rest : List ℕ) (sum power last : ℕ) → HasGroups (byte_limit bits) bytes sum power last rest → (v : ℤ) (q : List ℕ) → Reads (λ mode. Signed mode bits) wide bytes v q → v ≡ signed_of sum power last
   signed_is bytes rest sum power last h v q g =
       let same = groups_apart h.read.front g.front rest q h.read.spelled.1 g.spelled.groups (sym h.read.split ∙ g.split) in

@@ -17,7 +17,7 @@ use Rattle.wasm_sections.specs.declared.global.GlobalType.{GlobalType}
 use Rattle.wasm_sections.specs.declared.global.GlobalFlags.{GlobalFlags as ReadFlags}
 use Rattle.wasm_sections.specs.declared.global.GlobalItem.{GlobalItem as ReadGlobal}
 
--- The flags of a global type.
+-- The flags of a global type. The second is not in the core specification.
 pub record GlobalFlags : Type 0 where
   pub mutable : Bool
   pub shared : Bool

@@ -23,7 +23,8 @@ use Rattle.wasm_sections.specs.declared.import.Imports.TheVariants as groups
 
 -- ---- imported entities
 
--- The encoding of an entity: a byte for its kind, and its type.
+-- The encoding of an entity: a byte for its kind, and its type. `FunctionExact` is not in the core
+-- specification.
 abbrev pub entity_text : EntityType → List ℕ
 entity_text (Function index) = 0x00 ∷ unsigned_text index
 entity_text (Table ty) = 0x01 ∷ table_text ty
@@ -55,7 +56,7 @@ entity = tagged byte (choice entity_tags (λ b. impossible))
 -- ---- imports
 
 -- The imports from a module: one entity, a group of names with an entity each, or a group of names
--- of one entity.
+-- of one entity. Groups are not in the core specification.
 pub data Imported : Type 0 where
   single : List ℕ → EntityType → Imported
   named : List (List ℕ × EntityType) → Imported

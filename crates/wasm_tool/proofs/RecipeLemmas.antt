@@ -53,7 +53,7 @@ more_items : (id : ℕ) (lines : List (List ℕ)) (line : List ℕ) (entries : L
 more_items id lines line entries says added held =
     added ∙ ap (λ items. items ++ added_to id entries) held ∙ sym (added_to-push id lines line entries says)
 
--- The last item of two lists.
+-- The last item of two lists is that of the second one, unless it is empty.
 last_of-after : (xs : List (List ℕ)) (y : List ℕ) (ys : List (List ℕ)) → last_of (y ∷ ys) ≡ last_of (xs ++ y ∷ ys)
 last_of-after [] y ys = refl
 last_of-after (x ∷ []) y ys = refl
@@ -68,7 +68,7 @@ last_of-again [] = refl
 last_of-again (x ∷ []) = refl
 last_of-again (x ∷ y ∷ xs) = last_of-again (y ∷ xs)
 
--- The recipe after one more line.
+-- A recipe that decodes one more line holds that line too.
 holds_more_of : {A : Type 0} (lines : List (List ℕ)) (line : List ℕ) (old new : Recipe A) (entries : List Addition) → HoldsLines lines old
     → entry_of line ≡ Ok entries → AddsEntries old new entries → HoldsLines (lines ++ line ∷ []) new
 holds_more_of lines line old new entries holds says adds =

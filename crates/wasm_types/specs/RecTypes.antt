@@ -18,7 +18,7 @@ use Rattle.wasm_types.specs.declared.types.StorageType.TheVariants.{I8, I16, Val
 -- ---- types
 
 -- The shape of a composite type: a function with parameters and results, an array, a structure, or
--- a continuation of a function type.
+-- a continuation of a function type. Continuations are not in the core specification.
 pub data Shape : Type 0 where
   func : List ValType → List ValType → Shape
   array : FieldType → Shape
@@ -26,7 +26,7 @@ pub data Shape : Type 0 where
   cont : ℕ → Shape
 
 -- A composite type: whether it is shared, the type that it describes and the type that describes
--- it, if any, and its shape.
+-- it, if any, and its shape. The core specification has only the shape.
 pub record Composite : Type 0 where
   pub shared : Bool
   pub describes : Option ℕ
