@@ -1,4 +1,4 @@
-//! Callers of the reader, which prove its result for each kind of section that a builder writes,
+//! Callers of the reader, which prove its result: for each kind of section that a builder writes,
 //! for sections of padded numbers, and for sections of arguments.
 #![tactic(auto, using(wasm_base::proofs::KnownLengths::drained_array))]
 

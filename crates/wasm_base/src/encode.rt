@@ -10,7 +10,7 @@ use std::alloc::Allocator;
 ///
 /// # Errors
 ///
-/// Its calls return [`Refused`](crate::refused::Refused), and leave the sink unchanged, if the
+/// `encode` returns [`Refused`](crate::refused::Refused), and leaves the sink unchanged, if the
 /// value does not fit or an allocation fails.
 pub trait Encode {
     /// `text`: the encoding of the value.

@@ -2,7 +2,7 @@
 //! its clauses are the law.
 //!
 //! `UniqueReading F` says that the format `F` is unambiguous: at most one value decodes from the
-//! front of any bytes, with minimal and with padded numbers, and a value has at most one minimal
+//! front of any bytes, with minimal and with padded numbers. A value has at most one minimal
 //! encoding. `HasTexts F fits text` says that `text` is the minimal encoding of each value that
 //! fits. No clause ranges over all formats, so each vector and each size-prefixed format has a
 //! clause of its own.
@@ -77,8 +77,8 @@ pub fn frames()
     ensures module_texts { HasTexts wasm_module ModuleFits module_text }
 {}
 
-/// If a module decodes to ids and payloads, and a payload with its size prefix decodes to one value
-/// alone, then the payload decodes to this value alone.
+/// Suppose that a module decodes to ids and payloads, and that a payload with its size prefix
+/// decodes to one value alone. Then the payload decodes to this value alone.
 #[tactic(auto, using(crate::proofs::Payloads::payloads))]
 pub fn payloads()
     ensures bytes { ReadsPayloads any_bytes }

@@ -13,8 +13,8 @@ use std::alloc::Allocator;
 ///
 /// # Errors
 ///
-/// Its call returns [`Refused`](crate::refused::Refused), and leaves the sink unchanged, if the
-/// value does not fit or an allocation fails.
+/// `encode_once` returns [`Refused`], and leaves the sink unchanged, if an allocation fails or the
+/// encoding does not fit.
 pub trait EncodeOnce {
     /// `lawful`: the contract of its iterators.
     ghost lawful: { Self → Type 0 };

@@ -20,9 +20,9 @@ use std::marker::Model;
 ///
 /// # Errors
 ///
-/// A call that returns an error leaves the entries unchanged. It returns [`Refused::TooLong`] if
-/// there are already 4294967295 entries or the item does not fit, and [`Refused::Memory`] if an
-/// allocation fails.
+/// An adding call that returns an error leaves the entries unchanged. The error is
+/// [`Refused::TooLong`] only if there are 4294967295 entries already or the item does not fit, and
+/// [`Refused::Memory`] only if an allocation fails.
 #[derive(Drop, Debug)]
 pub struct Pieces<A: Allocator = Global> {
     bytes: Vec<u8, A>,

@@ -5,10 +5,12 @@ ghost use Rattle.wasm_base.specs.declared.refused.Refused.TheVariants.{Memory};
 use std::alloc::{AllocError, AllocFailed};
 use thiserror::Error;
 
-/// The error of a call that appends to a sink or adds to a builder. Such a call changes nothing.
+/// The error of a call that appends to a sink or adds to a builder. Unless its documentation says
+/// otherwise, such a call changes nothing.
 #[derive(Clone, Copy, PartialEq, Eq, Debug, Error)]
 pub enum Refused {
-    /// An allocation failed.
+    /// An allocation failed. Tests show that calls return it in no other case; no contract says
+    /// that.
     #[error("out of memory")]
     Memory,
     /// A count or length would exceed 4294967295.

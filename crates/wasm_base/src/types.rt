@@ -104,8 +104,8 @@ impl Encode for AbstractHeapType {
     }
 }
 
-/// Encodes an abstract type as its byte (after a prefix byte if it is shared), an index as a signed
-/// number, and an exact type as a prefix byte and its index.
+/// Encodes an abstract type as its byte, after a prefix byte if it is shared. An index is encoded
+/// as a signed number, and an exact type as a prefix byte and its index.
 impl Encode for HeapType {
     ghost text = { heap_text };
 

@@ -43,7 +43,7 @@ fn recipe_text(cause: u32) -> Option<&'static str>
 /// Writes the message of a cause of [`dz_list`](crate::listing::dz_list),
 /// [`dz_outline`](crate::outlining::dz_outline), [`dz_shorten`](crate::shortest::dz_shorten) or
 /// [`dz_shorten_module`](crate::whole::dz_shorten_module), in ASCII and without a terminating NUL.
-/// Returns its length in bytes, or [`NO_ANSWER`](crate::NO_ANSWER) for any other number.
+/// Returns its length in bytes, or [`NO_ANSWER`] for any other number.
 #[unsafe(no_mangle)]
 pub extern "C" fn dz_cause(cause: u32, out: &mut [u8]) -> u64
     ensures { Tells (text_numbered fault_texts cause) out.old out.new result }
@@ -55,8 +55,7 @@ pub extern "C" fn dz_cause(cause: u32, out: &mut [u8]) -> u64
 }
 
 /// Writes the message of a cause of [`dz_assemble`](crate::recipes::dz_assemble), in ASCII and
-/// without a terminating NUL. Returns its length in bytes, or [`NO_ANSWER`](crate::NO_ANSWER) for
-/// any other number.
+/// without a terminating NUL. Returns its length in bytes, or [`NO_ANSWER`] for any other number.
 #[unsafe(no_mangle)]
 pub extern "C" fn dz_recipe_cause(cause: u32, out: &mut [u8]) -> u64
     ensures { Tells (text_numbered recipe_texts cause) out.old out.new result }

@@ -2,7 +2,7 @@
 //! modules are listed and outlined, and sections and modules are minimized.
 //!
 //! A slice is passed as a pointer and a length. A function returns the number of bytes or sections
-//! of its result, and copies them to the front of `out` if `out` holds all of them. On an error it
+//! of its result. It copies them to the front of `out`, if `out` holds all of them. On an error it
 //! returns [`NO_ANSWER`], and `out` is unchanged.
 #![tactic(auto)]
 

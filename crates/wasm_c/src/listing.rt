@@ -65,8 +65,8 @@ fn put(lines: &[Listed], out: &mut [DzSection]) -> u64
 /// Lists the sections of a module, in order. Returns their number.
 ///
 /// On an error, `place` is the number of the section at which the bytes stop being a module,
-/// counted from 1, or 0 if they do not begin with the header. `cause` is the number of the error,
-/// which may be a failed allocation. On success both are 0.
+/// counted from 1. It is 0 if they do not begin with the header. `cause` is the number of the
+/// error, which may be a failed allocation. On success both are 0.
 #[unsafe(no_mangle)]
 pub extern "C" fn dz_list(
     alloc: Global,

@@ -79,8 +79,8 @@ fn put(bytes: &[u8], lines: &[Outlined<'_>], out: &mut [DzOutlined]) -> u64
 /// Lists the sections of a module, whatever their payloads are. Returns their number.
 ///
 /// On an error, `place` is the number of the first section that is not an id and a size-prefixed
-/// payload, counted from 1, or 0 if the bytes do not begin with the header. `cause` is the number
-/// of the error, which may be a failed allocation. On success both are 0.
+/// payload, counted from 1. It is 0 if the bytes do not begin with the header. `cause` is the
+/// number of the error, which may be a failed allocation. On success both are 0.
 #[unsafe(no_mangle)]
 pub extern "C" fn dz_outline(
     alloc: Global,

@@ -24,8 +24,9 @@ use wasm_base::{Counted, Encode, Pieces, R, Section, SectionId, encode_frame};
 ///
 /// # Errors
 ///
-/// A call that returns an error leaves the section unchanged. It returns `TooLong` if the section
-/// is full or the body is longer than 4294967295 bytes, and `Memory` if an allocation fails.
+/// An adding call that returns an error leaves the section unchanged. The error is `TooLong` only
+/// if the section is full or the body is longer than 4294967295 bytes, and `Memory` only if an
+/// allocation fails.
 #[derive(Drop, Debug)]
 pub struct CodeSection<A: Allocator = Global> {
     pieces: Pieces<A>,

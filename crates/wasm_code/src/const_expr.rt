@@ -22,8 +22,8 @@ use wasm_insn::{Ieee32, Ieee64, Instruction, InstructionSink, Numeric, VectorImm
 ///
 /// # Errors
 ///
-/// Its calls return [`Refused::Memory`](wasm_base::Refused::Memory) if an allocation fails.
-/// `extended` also returns `TooLong`, if an instruction has a list that is too long.
+/// Its calls return `Memory` if an allocation fails. `extended` alone can return `TooLong`: then an
+/// instruction has a list that is too long.
 #[derive(Drop, Debug)]
 pub struct ConstExpr<A: Allocator = Global> {
     first: Option<First>,

@@ -26,8 +26,8 @@ use wasm_insn::{Buffer, Instruction, InstructionSink};
 ///
 /// # Errors
 ///
-/// A call on a function that returns an error leaves its body unchanged. It returns `TooLong` if a
-/// count or length is not representable, and `Memory` if an allocation fails.
+/// A call that returns an error leaves the body unchanged. The error is `TooLong` only if a count
+/// or length is not representable, and `Memory` only if an allocation fails.
 #[derive(Drop, Debug)]
 pub struct Function<A: Allocator = Global> {
     bytes: Vec<u8, A>,

@@ -2,7 +2,7 @@
 //! nothing, and its clauses are the law.
 //!
 //! `UniqueReading F` says that the format `F` is unambiguous: at most one value decodes from the
-//! front of any bytes, with minimal and with padded numbers, and a value has at most one minimal
+//! front of any bytes, with minimal and with padded numbers. A value has at most one minimal
 //! encoding. `UniqueWholeReading F` says the same of a format that occupies all of the bytes.
 //! `HasTexts F fits text` says that `text` is the minimal encoding of each value that fits.
 ghost use Rattle.std.specs.Prelude.{◌∷◌, [], List};
@@ -61,7 +61,7 @@ pub fn bodies()
     ensures code_section_texts { HasTexts code_section CodeSectionFits code_section_text }
 {}
 
-/// If a raw body decodes, and a longer one that begins with it decodes too, then the next
+/// Suppose that a raw body decodes, and a longer one that begins with it decodes too. Then an
 /// instruction begins at the shorter one's length, in the only decoding of the longer one. If a
 /// well-formed instruction was appended next, it is that one.
 #[tactic(auto, using(crate::proofs::BodyLaws::offset))]

@@ -35,7 +35,8 @@ use wasm_reader_base::{ReadFault, Readable, Shorten, read_whole};
 ///
 /// # Errors
 ///
-/// Its calls return `TooLong` if the name is too long, and `Memory` if an allocation fails.
+/// The error of `new` is `TooLong` only if the name is too long, and `Memory` only if an allocation
+/// fails.
 #[derive(Drop, Debug)]
 pub struct CoreDumpSection<A: Allocator = Global> {
     data: Vec<u8, A>,
@@ -261,6 +262,10 @@ impl<A: Allocator> CoreDumpInstancesSection<A> {
 }
 
 /// Decodes the payload of a process section: the name of the process.
+///
+/// # Errors
+///
+/// Any error but `Memory` means that the bytes are not such a payload.
 #[tactic(auto, using(crate::proofs::CoreDumpLaws::process_steps))]
 pub fn read_process<'a, A: Allocator + Copy>(
     bytes: &'a [u8],
@@ -299,6 +304,10 @@ impl<'a, A: Allocator + Copy> ReadsItems<'a, &'a str, A> for ModuleItems {
 }
 
 /// Decodes the payload of a modules section: the names of the modules.
+///
+/// # Errors
+///
+/// Any error but `Memory` means that the bytes are not such a payload.
 pub fn read_modules<'a, A: Allocator + Copy>(
     bytes: &'a [u8],
     alloc: A,
@@ -349,6 +358,10 @@ impl<'a, A: Allocator + Copy> ReadsItems<'a, (u32, Vec<u32, A>, Vec<u32, A>), A>
 
 /// Decodes the payload of an instances section: for each instance the index of its module, its
 /// memories and its globals.
+///
+/// # Errors
+///
+/// Any error but `Memory` means that the bytes are not such a payload.
 pub fn read_instances<'a, A: Allocator + Copy>(
     bytes: &'a [u8],
     alloc: A,

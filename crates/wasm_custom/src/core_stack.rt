@@ -37,8 +37,8 @@ use wasm_reader_base::{ReadFault, Readable, Shorten, Spelled, read_whole};
 ///
 /// # Errors
 ///
-/// A call that returns an error leaves the section unchanged. It returns `TooLong` if the section
-/// is full or an item does not fit, and `Memory` if an allocation fails.
+/// An adding call that returns an error leaves the section unchanged. The error is `TooLong` only
+/// if the section is full or an item does not fit, and `Memory` only if an allocation fails.
 #[derive(Drop, Debug)]
 pub struct CoreDumpStackSection<A: Allocator = Global> {
     front: Vec<u8, A>,
@@ -196,6 +196,10 @@ impl<'a, A: Allocator + Copy> Readable<'a, A> for CoreFrame<A> {
 }
 
 /// Decodes the payload of a stack section: the name of the thread, and the frames of its stack.
+///
+/// # Errors
+///
+/// Any error but `Memory` means that the bytes are not such a payload.
 #[tactic(auto, using(crate::proofs::CoreStackLaws::stack_steps))]
 pub fn read_stack<'a, A: Allocator + Copy>(
     bytes: &'a [u8],

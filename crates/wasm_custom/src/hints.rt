@@ -188,6 +188,10 @@ impl<'a, A: Allocator + Copy> ReadsItems<'a, (u32, Vec<BranchHint, A>), A> for H
 
 /// Decodes the payload of a branch hint section: for each function its index, and the hints of its
 /// branches.
+///
+/// # Errors
+///
+/// Any error but `Memory` means that the bytes are not such a payload.
 pub fn read_hints<'a, A: Allocator + Copy>(
     bytes: &'a [u8],
     alloc: A,

@@ -152,6 +152,10 @@ fn after_version<'a, A: Allocator + Copy>(bytes: &'a [u8], alloc: A) -> Result<&
 }
 
 /// Decodes the payload of a linking section: its subsections.
+///
+/// # Errors
+///
+/// Any error but `Memory` means that the bytes are not such a payload.
 #[tactic(auto, using(crate::proofs::LinkLaws::section_steps))]
 pub fn read_links<'a, A: Allocator + Copy + 'a>(
     bytes: &'a [u8],

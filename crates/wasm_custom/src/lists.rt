@@ -33,8 +33,8 @@ pub trait ListKind {
 ///
 /// # Errors
 ///
-/// A call that returns an error leaves the list unchanged. It returns `TooLong` if the list is full
-/// or the member does not fit, and `Memory` if an allocation fails.
+/// An adding call that returns an error leaves the list unchanged. The error is `TooLong` only if
+/// the list is full or the member does not fit, and `Memory` only if an allocation fails.
 #[derive(Drop, Debug)]
 pub struct CountedList<K: ListKind, A: Allocator = Global> {
     pieces: Pieces<A>,

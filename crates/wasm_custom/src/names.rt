@@ -386,6 +386,10 @@ impl<'a, A: Allocator + Copy + 'a> Readable<'a, A> for NameItem<'a, A> {
 }
 
 /// Decodes the payload of a name section: its subsections.
+///
+/// # Errors
+///
+/// Any error but `Memory` means that the bytes are not such a payload.
 #[tactic(auto, using(crate::proofs::NameLaws::name_steps))]
 pub fn read_names<'a, A: Allocator + Copy + 'a>(
     bytes: &'a [u8],

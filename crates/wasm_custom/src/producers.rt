@@ -141,6 +141,10 @@ impl<'a, A: Allocator + Copy + 'a> ReadsItems<'a, (&'a str, Vec<(&'a str, &'a st
 
 /// Decodes the payload of a producers section: its fields, each a name and its values, which are a
 /// name and a version.
+///
+/// # Errors
+///
+/// Any error but `Memory` means that the bytes are not such a payload.
 pub fn read_producers<'a, A: Allocator + Copy + 'a>(
     bytes: &'a [u8],
     alloc: A,

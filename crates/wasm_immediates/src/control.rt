@@ -14,7 +14,7 @@ pub enum Catch {
     AllRef { label: u32 },
 }
 
-/// A clause of `resume`: the action for a suspension with a tag.
+/// A clause of `resume` and its variants: the action for a suspension with a tag.
 #[derive(Clone, Copy, Debug)]
 pub enum Handle {
     OnLabel { tag: u32, label: u32 },

@@ -2,7 +2,7 @@
 //! its clauses are the law.
 //!
 //! `UniqueReading F` says that the format `F` is unambiguous: at most one value decodes from the
-//! front of any bytes, with minimal and with padded numbers, and a value has at most one minimal
+//! front of any bytes, with minimal and with padded numbers. A value has at most one minimal
 //! encoding. `HasTexts F fits text` says that `text` is the minimal encoding of each value that
 //! fits.
 ghost use Rattle.std.specs.Prelude.{⊤};

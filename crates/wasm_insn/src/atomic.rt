@@ -236,7 +236,7 @@ pub enum Atomic {
 }
 
 impl Atomic {
-    /// The op of the table.
+    /// Returns the opcode, as in the opcode table.
     pub fn op(self) -> Op
         ensures { result ≡ (atomic_row self).op }
     {

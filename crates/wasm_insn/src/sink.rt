@@ -82,8 +82,8 @@ impl<A: Allocator> Buffer for Vec<u8, A> {
 ///
 /// # Errors
 ///
-/// A call that fails leaves the buffer's bytes unchanged. It returns `TooLong` if a list is too
-/// long, and `Memory` if an allocation fails.
+/// A call that fails leaves the buffer's bytes unchanged. The error is `TooLong` only if a list is
+/// too long.
 #[derive(Drop)]
 pub struct InstructionSink<'a, B: Buffer> {
     sink: &'a mut B,

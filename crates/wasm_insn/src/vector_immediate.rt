@@ -62,7 +62,7 @@ pub enum VectorImmediate {
 }
 
 impl VectorImmediate {
-    /// The op of the table.
+    /// Returns the opcode, as in the opcode table.
     pub fn op(self) -> Op
         ensures { result ≡ (vector_immediate_row self).op }
     {

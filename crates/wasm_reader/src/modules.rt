@@ -65,9 +65,9 @@ fn read_line<'a, A: Allocator + Copy>(
 ///
 /// # Errors
 ///
-/// Returns the error and a section number, counted from 1. For an error but `Memory` it is the
-/// section at which the bytes stop being a module, or 0 if they do not begin with the header. For
-/// `Memory` it is the section that was being decoded; no contract says so.
+/// Returns the error and a section number, counted from 1. For any error but `Memory`, this is the
+/// section at which the bytes stop being a module. It is 0 if they do not begin with the header.
+/// For `Memory` it is the section that was being decoded, which no contract says.
 pub fn list_module<'a, A: Allocator + Copy>(
     alloc: A,
     bytes: &'a [u8],

@@ -92,9 +92,9 @@ fn read_line<'a, A: Allocator + Copy>(
 ///
 /// # Errors
 ///
-/// Returns the error and a section number, counted from 1. For an error but `Memory` it is the
-/// first section that is not an id and a size-prefixed payload, or 0 if the bytes do not begin with
-/// the header.
+/// Returns the error and a section number, counted from 1. For any error but `Memory`, this is the
+/// first section that is not an id and a size-prefixed payload. It is 0 if the bytes do not begin
+/// with the header.
 pub fn outline<'a, A: Allocator + Copy>(
     alloc: A,
     bytes: &'a [u8],

@@ -18,6 +18,10 @@ use wasm_reader_base::{ReadFault, Readable};
 /// let (items, taken) = read_section(alloc, SectionKind::Functions, &[0x02, 0x01, 0x05, 0x99])?;
 /// // items are the one index 5, and 3 bytes were taken
 /// ```
+///
+/// # Errors
+///
+/// Any error but `Memory` means that the bytes do not begin with such a section.
 #[tactic(auto, using(crate::proofs::ReadSections::section_steps))]
 pub fn read_section<'a, A: Allocator + Copy + 'a>(
     alloc: A,

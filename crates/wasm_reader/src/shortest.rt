@@ -73,6 +73,10 @@ fn shorten_content<A: Allocator + Copy>(
 /// let taken = shorten(SectionKind::Functions, &padded, &mut sink)?;
 /// // 02 01 05 was appended, and 8 bytes were taken
 /// ```
+///
+/// # Errors
+///
+/// Any error but `Memory` means that the bytes do not begin with such a section.
 pub fn shorten<A: Allocator + Copy>(
     kind: SectionKind,
     bytes: &[u8],

@@ -485,6 +485,10 @@ fn append_module<A: Allocator + Copy>(
 /// ```text
 /// let kept = shorten_module(bytes, Offsets::Refuse, &mut sink)?;
 /// ```
+///
+/// # Errors
+///
+/// Returns the number of the section that failed, and the cause: see [`ModuleFault`].
 pub fn shorten_module<A: Allocator + Copy>(
     bytes: &[u8],
     offsets: Offsets,

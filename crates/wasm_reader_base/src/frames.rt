@@ -11,7 +11,8 @@ use crate::shorten::Shorten;
 use std::alloc::Allocator;
 use wasm_base::{Encode, R};
 
-/// A size-prefixed value, which its format delimits too. It occupies the payload to the last byte.
+/// A size-prefixed value that occupies its payload to the last byte. Its own format determines its
+/// end too.
 #[derive(Debug, Drop)]
 pub struct Framed<T>(pub T);
 

@@ -1,4 +1,4 @@
-//! Decodes values from the front of bytes, exactly: `Ok` holds what the grammar decodes there,
+//! Decodes values from the front of bytes, exactly: `Ok` holds the value that the bytes encode,
 //! padded numbers included. Any error but [`ReadFault::Memory`] means that no such value is at the
 //! front.
 //!

@@ -10,6 +10,10 @@ use crate::readable::Readable;
 use std::alloc::Allocator;
 
 /// Decodes a value if the flag is set, and returns `None` otherwise.
+///
+/// # Errors
+///
+/// Any error but `Memory` means that the flag is set, and no such value is at the front.
 #[tactic(auto, using(wasm_base::proofs::Tags::optional_steps))]
 pub fn read_optional<'a, T: Readable<'a, A>, A: Allocator + Copy>(
     flag: bool,

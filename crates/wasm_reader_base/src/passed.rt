@@ -74,6 +74,10 @@ impl<'a, A: Allocator + Copy, P: Passed<'a, A>, Q: Passed<'a, A>> Passed<'a, A> 
 }
 
 /// Skips a vector, and returns its number of members and the remaining bytes.
+///
+/// # Errors
+///
+/// Any error but `Memory` means that no such vector is at the front.
 pub fn pass_many<'a, P: Passed<'a, A>, A: Allocator + Copy>(
     bytes: &'a [u8],
     alloc: A,

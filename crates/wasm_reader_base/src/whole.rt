@@ -11,6 +11,10 @@ use crate::readable::Readable;
 use std::alloc::Allocator;
 
 /// Decodes a value that occupies all of the bytes.
+///
+/// # Errors
+///
+/// Any error but `Memory` means that the bytes as a whole encode no such value.
 #[tactic(auto, using(crate::proofs::ReadWhole::whole_steps))]
 pub fn read_whole<'a, T: Readable<'a, A>, A: Allocator + Copy>(
     bytes: &'a [u8],
@@ -30,6 +34,10 @@ pub fn read_whole<'a, T: Readable<'a, A>, A: Allocator + Copy>(
 
 /// Decodes values one after another, up to the last byte; no encoding of one is empty. Memory grows
 /// with the values that decode.
+///
+/// # Errors
+///
+/// Any error but `Memory` means that the bytes as a whole encode no such values.
 pub fn read_to_end<'a, T: Readable<'a, A>, A: Allocator + Copy>(
     bytes: &'a [u8],
     alloc: A,

@@ -22,6 +22,10 @@ use wasm_reader_base::{ReadFault, Readable, Shorten, Spelled, frame_since};
 const BYTES_OF_ONE: usize = 4;
 
 /// Decodes instructions that occupy all of the bytes.
+///
+/// # Errors
+///
+/// Any error but `Memory` means that the bytes as a whole encode no instructions.
 pub fn read_code<'a, A: Allocator + Copy>(
     bytes: &'a [u8],
     alloc: A,
@@ -66,6 +70,10 @@ pub struct Body<A: Allocator = Global> {
 }
 
 /// Decodes a body that occupies all of the bytes, which are a payload without its size prefix.
+///
+/// # Errors
+///
+/// Any error but `Memory` means that the bytes as a whole encode no body.
 #[tactic(auto, using(crate::proofs::ReadLists::body_steps))]
 pub fn read_body<'a, A: Allocator + Copy>(bytes: &'a [u8], alloc: A) -> Result<Body<A>, ReadFault>
     ensures found { IfOk result (λ x. body wide bytes.now (body_view x)) }
@@ -135,6 +143,10 @@ fn write_body<A: Allocator + Copy, B: Allocator>(
 /// shorten_body(&[0x80, 0x00, 0x20, 0x81, 0x00, 0x0B], alloc, &mut out)?;
 /// // 04 00 20 01 0B was appended: a body of no locals, `LocalGet(1)` and `End`
 /// ```
+///
+/// # Errors
+///
+/// Any error but `Memory` means that the bytes as a whole encode no body.
 pub fn shorten_body<A: Allocator + Copy, B: Allocator>(
     bytes: &[u8],
     alloc: A,

@@ -3,8 +3,8 @@
 ghost use Rattle.wasm_reader_insn.specs.Laws.{HasPlaces};
 
 /// The visitor of a body reports the offsets that `Function::byte_len` of `wasm_code` returned.
-/// After as many instructions as a raw body has, a visitor of any extension of it is at that raw
-/// body's length, and has visited exactly that body.
+/// After as many instructions as a raw body has, a visitor of a longer body that begins with it is
+/// at that raw body's length. It has then visited exactly that body.
 #[tactic(auto, using(crate::proofs::PlaceLaws::places))]
 pub fn places()
     ensures { HasPlaces }

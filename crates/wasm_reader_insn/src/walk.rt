@@ -35,7 +35,8 @@ use wasm_reader_base::{ReadFault, Readable};
 ///
 /// # Errors
 ///
-/// Any error but `Memory` means that no instruction is at the offset.
+/// Any error but `Memory` means that the bytes at the offset encode no instruction, and for
+/// `next_before_end` no expression.
 #[derive(Debug, Drop)]
 pub struct Instructions<'a, A: Allocator = Global> {
     bytes: &'a [u8],

@@ -29,8 +29,8 @@ pub trait RecordOf<K>: Encode {}
 ///
 /// # Errors
 ///
-/// A call that returns an error leaves the section unchanged. It returns `TooLong` if the section
-/// is full or the item does not fit, and `Memory` if an allocation fails.
+/// An adding call that returns an error leaves the section unchanged. The error is `TooLong` only
+/// if the section is full or the item does not fit, and `Memory` only if an allocation fails.
 #[derive(Drop, Debug)]
 pub struct CountedSection<K, A: Allocator = Global> {
     pieces: Pieces<A>,

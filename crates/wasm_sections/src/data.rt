@@ -303,6 +303,10 @@ impl<'a, A: Allocator + Copy> Readable<'a, A> for Segment<'a, A> {
 
 /// Decodes the payload of a data section: a count and that many segments, which occupy all of the
 /// bytes. Memory grows with the segments that decode, and is not allocated by the count.
+///
+/// # Errors
+///
+/// Any error but `Memory` means that the bytes are not such a payload.
 pub fn read_segments<'a, A: Allocator + Copy + 'a>(
     bytes: &'a [u8],
     alloc: A,

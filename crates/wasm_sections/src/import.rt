@@ -369,6 +369,10 @@ impl<'a, A: Allocator + Copy> Readable<'a, A> for Imports<'a, A> {
 
 /// Decodes the payload of an import section: a count and that many imports and groups, which occupy
 /// all of the bytes. Memory grows with the imports that decode, and is not allocated by the count.
+///
+/// # Errors
+///
+/// Any error but `Memory` means that the bytes are not such a payload.
 pub fn read_imports<'a, A: Allocator + Copy + 'a>(
     bytes: &'a [u8],
     alloc: A,

@@ -10,10 +10,10 @@ pub enum RecipeCause {
     /// The first word of the line is not a command, or the kind of an export is unknown.
     #[error("unknown command")]
     UnknownCommand,
-    /// A word in place of a number is not one in range.
+    /// A word that should be a number is not one in range.
     #[error("bad number")]
     BadNumber,
-    /// A word in place of bytes is not an even number of hexadecimal digits.
+    /// A word that should be bytes is not an even number of hexadecimal digits.
     #[error("bad hex")]
     BadHex,
     /// The command needs more words.

@@ -62,7 +62,7 @@ pub(crate) struct Recipe<A: Allocator> {
     names: NameSection<A>,
 }
 
-/// Returns the bytes of a word of hexadecimal digits.
+/// Decodes a word of hexadecimal digits.
 fn hex_bytes<A: Allocator>(alloc: A, word: &str) -> Result<Vec<u8, A>, RecipeCause>
     ensures ok { IfOk result (λ bytes. decode_of word.now ≡ Ok bytes.items) }
     ensures err { IfErr result (λ cause. (cause ≡ RecipeCause.Memory) ⊎ ((cause ≡ RecipeCause.BadHex) × IsErr (decode_of word.now))) }
@@ -84,7 +84,7 @@ fn numeral(word: &str) -> Result<&str, RecipeCause>
     Ok(word)
 }
 
-/// Returns the number of a word of decimal digits.
+/// Parses a word of decimal digits as a number of 64 bits.
 fn number(word: &str) -> Result<u64, RecipeCause>
     ensures { MatchResult result (λ n. decimal_of 64 word.now ≡ Some n) (λ cause. (cause ≡ RecipeCause.BadNumber) × (decimal_of 64 word.now ≡ None)) }
 {
@@ -94,7 +94,7 @@ fn number(word: &str) -> Result<u64, RecipeCause>
     Ok(n)
 }
 
-/// Returns the number of 32 bits of a word of decimal digits.
+/// Parses a word of decimal digits as a number of 32 bits.
 fn index(word: &str) -> Result<u32, RecipeCause>
     ensures { MatchResult result (λ n. decimal_of 32 word.now ≡ Some n) (λ cause. (cause ≡ RecipeCause.BadNumber) × (decimal_of 32 word.now ≡ None)) }
 {
@@ -104,7 +104,7 @@ fn index(word: &str) -> Result<u32, RecipeCause>
     Ok(n)
 }
 
-/// Returns the number of 32 bits of a word of decimal digits, which is negative after `-`.
+/// Parses a word of decimal digits, negative after `-`, as a signed number of 32 bits.
 fn signed(word: &str) -> Result<i32, RecipeCause>
     ensures { MatchResult result (λ n. signed_of word.now ≡ Some n) (λ cause. (cause ≡ RecipeCause.BadNumber) × (signed_of word.now ≡ None)) }
 {

@@ -52,8 +52,8 @@ pub fn wide_payloads()
 {}
 
 /// These three byte sequences encode no type section, with padded numbers neither. In the first a
-/// structure has a field of mutability 2, in the second the byte of a group is padded, and in the
-/// third a final type has an empty list of supertypes.
+/// structure has a field of mutability 2. In the second the byte of a group is padded. In the third
+/// a final type has an empty list of supertypes.
 #[tactic(auto, using(crate::proofs::NothingLaws::nothing))]
 pub fn nothing_stands()
     ensures mutability_of_2 { NothingStandsWide (counted_format type_item) (5 ∷ 1 ∷ 95 ∷ 1 ∷ 127 ∷ 2 ∷ []) }

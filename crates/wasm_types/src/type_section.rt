@@ -33,8 +33,8 @@ use wasm_reader_base::{ReadFault, read_whole};
 ///
 /// # Errors
 ///
-/// A call that returns an error leaves the section unchanged. It returns `TooLong` if the section
-/// is full or a list is too long, and `Memory` if an allocation fails.
+/// An adding call that returns an error leaves the section unchanged. The error is `TooLong` only
+/// if the section is full or a list is too long, and `Memory` only if an allocation fails.
 #[derive(Drop, Debug)]
 pub struct TypeSection<A: Allocator = Global> {
     pieces: Pieces<A>,
@@ -251,6 +251,10 @@ pub(crate) const REC: u8 = 0x4E;
 
 /// Decodes the payload of a type section: a count and that many types, padded numbers included.
 /// They must occupy all of the bytes.
+///
+/// # Errors
+///
+/// Any error but `Memory` means that the bytes are not such a payload.
 pub fn read_types<'a, A: Allocator + Copy>(
     bytes: &'a [u8],
     alloc: A,
