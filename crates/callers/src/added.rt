@@ -1,4 +1,4 @@
-//! Calls that add an entry to a custom section: the entry is known.
+//! Calls that add an entry to a custom section: the contract states the entry's bytes.
 ghost use Rattle.std.specs.Prelude.{◌≡◌, [], ◌∷◌, ◌++◌, OnOk};
 ghost use Rattle.wasm_custom.specs.Customs.{subsection_text};
 ghost use Rattle.wasm_custom.specs.Lists.{list_text};
@@ -9,7 +9,7 @@ use std::alloc::Allocator;
 use wasm_base::R;
 use wasm_custom::{NameMap, NameSection, SymbolTable};
 
-/// Names of types, in the subsection 4.
+/// Adds names of types, in the subsection 4.
 pub fn name_types<A: Allocator, B: Allocator>(
     section: &mut NameSection<A>,
     names: &NameMap<B>,
@@ -19,7 +19,7 @@ pub fn name_types<A: Allocator, B: Allocator>(
     section.types(names)
 }
 
-/// Names of tables, in the subsection 5.
+/// Adds names of tables, in the subsection 5.
 pub fn name_tables<A: Allocator, B: Allocator>(
     section: &mut NameSection<A>,
     names: &NameMap<B>,
@@ -29,7 +29,7 @@ pub fn name_tables<A: Allocator, B: Allocator>(
     section.tables(names)
 }
 
-/// Names of memories, in the subsection 6.
+/// Adds names of memories, in the subsection 6.
 pub fn name_memories<A: Allocator, B: Allocator>(
     section: &mut NameSection<A>,
     names: &NameMap<B>,
@@ -39,7 +39,7 @@ pub fn name_memories<A: Allocator, B: Allocator>(
     section.memories(names)
 }
 
-/// Names of globals, in the subsection 7.
+/// Adds names of globals, in the subsection 7.
 pub fn name_globals<A: Allocator, B: Allocator>(
     section: &mut NameSection<A>,
     names: &NameMap<B>,
@@ -49,7 +49,7 @@ pub fn name_globals<A: Allocator, B: Allocator>(
     section.globals(names)
 }
 
-/// Names of element segments, in the subsection 8.
+/// Adds names of element segments, in the subsection 8.
 pub fn name_elements<A: Allocator, B: Allocator>(
     section: &mut NameSection<A>,
     names: &NameMap<B>,
@@ -59,7 +59,7 @@ pub fn name_elements<A: Allocator, B: Allocator>(
     section.elements(names)
 }
 
-/// Names of tags, in the subsection 11.
+/// Adds names of tags, in the subsection 11.
 pub fn name_tags<A: Allocator, B: Allocator>(
     section: &mut NameSection<A>,
     names: &NameMap<B>,
@@ -69,14 +69,15 @@ pub fn name_tags<A: Allocator, B: Allocator>(
     section.tag(names)
 }
 
-/// A global that another module defines: its flags say that it is not defined here, and it has no name.
+/// Adds a global that another module defines: its flags say that it is not defined here, and it has
+/// no name.
 pub fn import_global<A: Allocator>(table: &mut SymbolTable<A>, index: u32) -> R<()>
     ensures { OnOk result (table.new ≡ table.old ++ indexed_text kinds.Global 0x10 index [] ∷ []) }
 {
     table.global(0x10, index, None)
 }
 
-/// A table that another module defines.
+/// Adds a table that another module defines.
 pub fn import_table<A: Allocator>(table: &mut SymbolTable<A>, index: u32) -> R<()>
     ensures { OnOk result (table.new ≡ table.old ++ indexed_text kinds.Table 0x10 index [] ∷ []) }
 {

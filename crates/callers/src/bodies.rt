@@ -1,4 +1,4 @@
-//! A caller of a function's sinks: the body is known to the byte, and so is the length between.
+//! A caller of a function's sinks: the contract states each byte of the body, and the offset in it.
 ghost use Rattle.std.specs.Prelude.{◌≡◌, ◌+◌, [], ◌∷◌, ◌++◌, length, IfOk};
 
 use std::alloc::Allocator;
@@ -6,7 +6,8 @@ use wasm_base::R;
 use wasm_code::Function;
 use wasm_insn::BlockType;
 
-/// A constant, and then an empty block that is entered where it is not 0. The result is the place of the branch.
+/// Adds a constant, and then an empty block that is entered if it is not 0. Returns the offset of
+/// the branch.
 #[tactic(auto, using(crate::proofs::Branch::one_byte))]
 pub fn branch_on_one<A: Allocator>(function: &mut Function<A>) -> R<usize>
     ensures body { IfOk result (λ at. function.new ≡ function.old ++ 0x41 ∷ 0x01 ∷ 0x04 ∷ 0x40 ∷ 0x0B ∷ 0x0B ∷ []) }

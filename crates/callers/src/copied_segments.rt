@@ -1,4 +1,4 @@
-//! Copies of what core sections are made of.
+//! Copies of entries of core sections.
 ghost use Rattle.std.specs.Prelude.{◌≡◌, IfOk};
 ghost use Rattle.wasm_sections.specs.GivenElements.{list_in, segment_in};
 ghost use Rattle.wasm_sections.specs.Imports.{imports_item};
@@ -9,7 +9,7 @@ use wasm_sections::{
     DataSegmentMode, ElementMode, ElementSegment, Elements, FunctionSection, Imports,
 };
 
-/// A function section of the same entries.
+/// Returns a function section of the same entries.
 pub fn copied_functions<A: Allocator + Copy>(
     functions: &FunctionSection<A>,
 ) -> R<FunctionSection<A>>
@@ -18,14 +18,14 @@ pub fn copied_functions<A: Allocator + Copy>(
     functions.clone()
 }
 
-/// An import or a group of imports that says the same.
+/// Returns the same import or group of imports.
 pub fn copied_imports<'a, A: Allocator + Copy>(imports: &Imports<'a, A>) -> R<Imports<'a, A>>
     ensures { IfOk result (λ copy. imports_item copy ≡ imports_item imports.now) }
 {
     imports.clone()
 }
 
-/// The same mode.
+/// Returns the same mode of a data segment.
 pub fn copied_data_mode<'a, A: Allocator>(
     mode: &DataSegmentMode<'a, A>,
 ) -> R<DataSegmentMode<'a, A>>
@@ -34,21 +34,21 @@ pub fn copied_data_mode<'a, A: Allocator>(
     mode.clone()
 }
 
-/// The same mode of an element segment.
+/// Returns the same mode of an element segment.
 pub fn copied_element_mode<'a, A: Allocator>(place: &ElementMode<'a, A>) -> R<ElementMode<'a, A>>
     ensures { IfOk result (λ copy. copy ≡ place.now) }
 {
     place.clone()
 }
 
-/// References to the same functions, or by the same expressions.
+/// Returns references to the same functions, or by the same expressions.
 pub fn copied_elements<'a, A: Allocator + Copy>(elements: &Elements<'a, A>) -> R<Elements<'a, A>>
     ensures { IfOk result (λ copy. list_in copy ≡ list_in elements.now) }
 {
     elements.clone()
 }
 
-/// A segment of the same mode and references.
+/// Returns a segment of the same mode and references.
 pub fn copied_element_segment<'a, A: Allocator + Copy>(
     segment: &ElementSegment<'a, A>,
 ) -> R<ElementSegment<'a, A>>

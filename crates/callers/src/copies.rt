@@ -1,4 +1,4 @@
-//! Copies of builders and values: each is equal to the first one, or says the same.
+//! Copies of builders and values: each has the same content as the original.
 ghost use Rattle.std.specs.Prelude.{◌≡◌, IfOk};
 ghost use Rattle.wasm_base.specs.Cow.{items_of, text_of};
 ghost use Rattle.wasm_insn.specs.Instructions.{row_of};
@@ -11,28 +11,28 @@ use wasm_custom::{CoreDumpSection, CoreDumpStackSection, CustomSection, NameMap,
 use wasm_insn::Instruction;
 use wasm_types::{CompositeInnerType, CompositeType, FuncType, StructType, SubType, TypeSection};
 
-/// A module of the same sections.
+/// Returns a module of the same sections.
 pub fn copied_module<A: Allocator + Clone>(module: &Module<A>) -> R<Module<A>>
     ensures { IfOk result (λ copy. copy ≡ module.now) }
 {
     module.clone()
 }
 
-/// A code section of the same bodies.
+/// Returns a code section of the same bodies.
 pub fn copied_code<A: Allocator + Copy>(code: &CodeSection<A>) -> R<CodeSection<A>>
     ensures { IfOk result (λ copy. copy ≡ code.now) }
 {
     code.clone()
 }
 
-/// A function of the same raw body.
+/// Returns a function of the same raw body.
 pub fn copied_function<A: Allocator + Copy>(function: &Function<A>) -> R<Function<A>>
     ensures { IfOk result (λ copy. copy ≡ function.now) }
 {
     function.clone()
 }
 
-/// An instruction of the same opcode and immediates.
+/// Returns an instruction of the same opcode and immediates.
 pub fn copied_instruction<'a, A: Allocator + Copy>(
     instruction: &Instruction<'a, A>,
 ) -> R<Instruction<'a, A>>
@@ -41,14 +41,14 @@ pub fn copied_instruction<'a, A: Allocator + Copy>(
     instruction.clone()
 }
 
-/// A type section of the same entries.
+/// Returns a type section of the same entries.
 pub fn copied_types<A: Allocator + Copy>(types: &TypeSection<A>) -> R<TypeSection<A>>
     ensures { IfOk result (λ copy. copy ≡ types.now) }
 {
     types.clone()
 }
 
-/// Two function types of the same parameters and results.
+/// Returns two function types of the same parameters and results.
 pub fn copied_function_types<A: Allocator + Copy>(
     first: &FuncType<A>,
     second: &FuncType<A>,
@@ -59,35 +59,35 @@ pub fn copied_function_types<A: Allocator + Copy>(
     Ok((copy, second.clone()?))
 }
 
-/// A structure of the same fields.
+/// Returns a structure of the same fields.
 pub fn copied_structure<A: Allocator + Copy>(structure: &StructType<A>) -> R<StructType<A>>
     ensures { IfOk result (λ copy. copy.fields.items ≡ structure.now.fields.items) }
 {
     structure.clone()
 }
 
-/// The same function, array, structure or continuation.
+/// Returns the same function, array, structure or continuation.
 pub fn copied_shape<A: Allocator + Copy>(shape: &CompositeInnerType<A>) -> R<CompositeInnerType<A>>
     ensures { IfOk result (λ copy. shape_in copy ≡ shape_in shape.now) }
 {
     shape.clone()
 }
 
-/// A composite type that says the same.
+/// Returns the same composite type.
 pub fn copied_composite<A: Allocator + Copy>(composite: &CompositeType<A>) -> R<CompositeType<A>>
     ensures { IfOk result (λ copy. composite_in copy ≡ composite_in composite.now) }
 {
     composite.clone()
 }
 
-/// A subtype that says the same.
+/// Returns the same subtype.
 pub fn copied_subtype<A: Allocator + Copy>(subtype: &SubType<A>) -> R<SubType<A>>
     ensures { IfOk result (λ copy. sub_in copy ≡ sub_in subtype.now) }
 {
     subtype.clone()
 }
 
-/// A custom section of the same name and data.
+/// Returns a custom section of the same name and data.
 pub fn copied_custom<'a, A: Allocator + Copy>(
     custom: &CustomSection<'a, A>,
 ) -> R<CustomSection<'a, A>>
@@ -96,21 +96,21 @@ pub fn copied_custom<'a, A: Allocator + Copy>(
     custom.clone()
 }
 
-/// A name section of the same subsections.
+/// Returns a name section of the same subsections.
 pub fn copied_names<A: Allocator + Copy>(names: &NameSection<A>) -> R<NameSection<A>>
     ensures { IfOk result (λ copy. copy ≡ names.now) }
 {
     names.clone()
 }
 
-/// A map of the same indices and names.
+/// Returns a map of the same indices and names.
 pub fn copied_map<A: Allocator + Copy>(map: &NameMap<A>) -> R<NameMap<A>>
     ensures { IfOk result (λ copy. copy ≡ map.now) }
 {
     map.clone()
 }
 
-/// The same two processes.
+/// Returns the same two processes.
 pub fn copied_processes<A: Allocator + Copy>(
     one: &CoreDumpSection<A>,
     other: &CoreDumpSection<A>,
@@ -121,7 +121,7 @@ pub fn copied_processes<A: Allocator + Copy>(
     Ok((copy, other.clone()?))
 }
 
-/// A stack of the same thread and frames.
+/// Returns a stack of the same thread and frames.
 pub fn copied_stack<A: Allocator + Copy>(
     stack: &CoreDumpStackSection<A>,
 ) -> R<CoreDumpStackSection<A>>

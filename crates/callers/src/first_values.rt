@@ -1,4 +1,5 @@
-//! Callers that add items whose first values are expressions, and prove what a reader finds.
+//! Callers that add items with initializer expressions, and prove to which items the sections
+//! decode.
 ghost use Rattle.std.specs.Prelude.{[], ◌∷◌, OnOk};
 ghost use Rattle.wasm_base.specs.Entries.{counted_format};
 ghost use Rattle.wasm_base.specs.Modules.{GainsReading};
@@ -11,7 +12,8 @@ use wasm_base::{Encode, HeapType, R, RefType, ValType};
 use wasm_code::ConstExpr;
 use wasm_sections::{GlobalSection, GlobalType, TableSection, TableType};
 
-/// A global section of one global, which can't be set and has the value of the global at the index.
+/// Appends a global section of one immutable global, which has the value of the global at the
+/// index.
 pub fn encode_copied<A: Allocator + Copy>(sink: &mut Vec<u8, A>, index: u32) -> R<()>
     ensures { OnOk result (GainsReading (counted_format global_item) (copied index ∷ []) sink.old.items sink.new.items) }
 {
@@ -26,7 +28,7 @@ pub fn encode_copied<A: Allocator + Copy>(sink: &mut Vec<u8, A>, index: u32) -> 
     section.encode(sink)
 }
 
-/// A table section of two tables of functions, all null at first.
+/// Appends a table section of two tables of functions, all initially null.
 pub fn encode_null_tables<A: Allocator + Copy>(sink: &mut Vec<u8, A>, minimum: u64) -> R<()>
     ensures { OnOk result (GainsReading (counted_format table_item) (null_table minimum ∷ nulled_table minimum ∷ []) sink.old.items sink.new.items) }
 {

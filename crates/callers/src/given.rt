@@ -1,4 +1,4 @@
-//! Values that are made of parts, and data that are given out as custom sections.
+//! Values that are made from their fields, and data as custom sections.
 ghost use Rattle.std.specs.Prelude.{◌≡◌, [], IfOk, true};
 ghost use Rattle.wasm_base.specs.Cow.{items_of, text_of};
 ghost use Rattle.wasm_code.specs.Expressions.{Stores};
@@ -16,28 +16,28 @@ use wasm_immediates::{Ieee32, Ieee64};
 use wasm_insn::{Instruction, VectorImmediate};
 use wasm_types::FuncType;
 
-/// A constant of 32 bits.
+/// Returns a constant of 32 bits.
 pub fn single_constant<A: Allocator>(alloc: A, float: Ieee32) -> R<ConstExpr<A>>
     ensures { IfOk result (Stores (Instruction.F32Const float) []) }
 {
     ConstExpr::f32_const(alloc, float)
 }
 
-/// A constant of 64 bits.
+/// Returns a constant of 64 bits.
 pub fn double_constant<A: Allocator>(alloc: A, float: Ieee64) -> R<ConstExpr<A>>
     ensures { IfOk result (Stores (Instruction.F64Const float) []) }
 {
     ConstExpr::f64_const(alloc, float)
 }
 
-/// A constant of 128 bits.
+/// Returns a constant of 128 bits.
 pub fn vector_constant<A: Allocator>(alloc: A, vector: i128) -> R<ConstExpr<A>>
     ensures { IfOk result (Stores (Instruction.VectorImmediate (VectorImmediate.V128Const vector)) []) }
 {
     ConstExpr::v128_const(alloc, vector)
 }
 
-/// The type of a function with these parameters and results.
+/// Returns the type of a function with these parameters and results.
 pub fn function_type<A: Allocator>(params: Vec<ValType, A>, results: Vec<ValType, A>) -> FuncType<A>
     ensures params { result.params.items ≡ params.items }
     ensures results { result.results.items ≡ results.items }
@@ -45,7 +45,7 @@ pub fn function_type<A: Allocator>(params: Vec<ValType, A>, results: Vec<ValType
     FuncType::of(params, results)
 }
 
-/// The modules of a process as a custom section.
+/// Returns the modules of a process as a custom section.
 pub fn custom_modules<'a, A: Allocator, B: Allocator>(
     modules: &'a CoreDumpModulesSection<A>,
     alloc: B,
@@ -55,7 +55,7 @@ pub fn custom_modules<'a, A: Allocator, B: Allocator>(
     modules.as_custom(alloc)
 }
 
-/// The instances of a process as a custom section.
+/// Returns the instances of a process as a custom section.
 pub fn custom_instances<'a, A: Allocator, B: Allocator>(
     instances: &'a CoreDumpInstancesSection<A>,
     alloc: B,
@@ -65,7 +65,7 @@ pub fn custom_instances<'a, A: Allocator, B: Allocator>(
     instances.as_custom(alloc)
 }
 
-/// The stack of a thread as a custom section.
+/// Returns the stack of a thread as a custom section.
 pub fn custom_stack<'a, A: Allocator, B: Allocator>(
     stack: &'a CoreDumpStackSection<A>,
     alloc: B,

@@ -1,11 +1,11 @@
-//! Callers of the sink: what they append is known to the byte.
+//! Callers of the sink: the contracts state each byte that they append.
 ghost use Rattle.std.specs.Prelude.{◌≡◌, [], ◌∷◌, ◌++◌, IfOk, OnOk, OnErr};
 
 use std::alloc::Allocator;
 use wasm_base::R;
 use wasm_insn::{BlockType, Buffer, InstructionSink};
 
-/// The sum of two locals, in any buffer.
+/// Appends the sum of two locals, to any buffer.
 #[tactic(auto, using(crate::proofs::OneByte::one_byte))]
 pub fn sum<B: Buffer>(sink: &mut InstructionSink<'_, B>) -> R<()>
     ensures same_reference { sink.new.sink.ghost_name ≡ sink.old.sink.ghost_name }
@@ -16,7 +16,7 @@ pub fn sum<B: Buffer>(sink: &mut InstructionSink<'_, B>) -> R<()>
     sink.i32_add()
 }
 
-/// The body of a function of two numbers.
+/// Appends the body of a function of two numbers.
 #[tactic(auto, using(crate::proofs::OneByte::one_byte))]
 pub fn append_sum<A: Allocator>(bytes: &mut Vec<u8, A>) -> R<()>
     ensures { OnOk result (bytes.new.items ≡ bytes.old.items ++ 0x20 ∷ 0 ∷ 0x20 ∷ 1 ∷ 0x6A ∷ 0x0B ∷ []) }
@@ -26,7 +26,7 @@ pub fn append_sum<A: Allocator>(bytes: &mut Vec<u8, A>) -> R<()>
     sink.end()
 }
 
-/// A block, in bytes of their own.
+/// Returns a block, in bytes of their own.
 #[tactic(auto, using(crate::proofs::OneByte::one_byte))]
 pub fn block<A: Allocator>(alloc: A) -> R<Vec<u8, A>>
     ensures { IfOk result (λ bytes. bytes.items ≡ 0x02 ∷ 0x40 ∷ 0x01 ∷ 0x0B ∷ []) }
@@ -39,7 +39,7 @@ pub fn block<A: Allocator>(alloc: A) -> R<Vec<u8, A>>
     Ok(bytes)
 }
 
-/// A call that is refused leaves the bytes as they were.
+/// Appends `End`. On an error, the bytes are unchanged.
 #[tactic(auto, using(crate::proofs::OneByte::one_byte))]
 pub fn append_end<A: Allocator>(bytes: &mut Vec<u8, A>) -> R<()>
     ensures ok { OnOk result (bytes.new.items ≡ bytes.old.items ++ 0x0B ∷ []) }
@@ -48,7 +48,8 @@ pub fn append_end<A: Allocator>(bytes: &mut Vec<u8, A>) -> R<()>
     InstructionSink::new(bytes).end()
 }
 
-/// The call through a table takes the index of the type and then that of the table.
+/// Appends a call through a table. The encoding has the index of the type, and then that of the
+/// table.
 #[tactic(auto, using(crate::proofs::OneByte::one_byte))]
 pub fn append_call<A: Allocator>(bytes: &mut Vec<u8, A>) -> R<()>
     ensures { OnOk result (bytes.new.items ≡ bytes.old.items ++ 0x11 ∷ 1 ∷ 2 ∷ []) }

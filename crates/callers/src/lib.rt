@@ -1,4 +1,5 @@
-//! Worked callers beside those of `examples`: of single calls, whose bytes are known one by one, and of public functions that no other proved crate calls.
+//! Worked callers of single calls, whose contracts state each byte, and of public functions that no
+//! other proved crate calls. Those of whole modules are in `examples`.
 #![tactic(auto, using(wasm_base::proofs::KnownLengths::drained_array))]
 
 pub mod added;

@@ -1,4 +1,4 @@
-//! Readers of instructions: where a walk begins, what is before it, and a body as a whole.
+//! Readers of instructions: where a visitor begins, the bytes before it, and a body as a whole.
 ghost use Rattle.std.specs.Prelude.{◌≡◌, ◌≢◌, [], IfOk, IfErr};
 ghost use Rattle.wasm_base.specs.Going.{FillsNothing};
 ghost use Rattle.wasm_base.specs.Numbers.{wide};
@@ -11,21 +11,21 @@ use std::alloc::Allocator;
 use wasm_reader_base::ReadFault;
 use wasm_reader_insn::{Body, Instructions, read_body};
 
-/// The walk that begins at the first byte.
+/// Returns a visitor that begins at the first byte.
 pub fn walk_over<'a, A: Allocator + Copy>(bytes: &'a [u8], alloc: A) -> Instructions<'a, A>
     ensures { result ≡ record { bytes = bytes.now; place = 0; arguments = [] } }
 {
     Instructions::new(bytes, alloc)
 }
 
-/// The bytes that a walk has not gone over.
+/// Returns the bytes that a visitor has not visited.
 pub fn bytes_ahead<'a, A: Allocator + Copy>(walk: &Instructions<'a, A>) -> &'a [u8]
     ensures { result.now ≡ ahead walk.now }
 {
     walk.rest()
 }
 
-/// A body of these bytes, which are without its size.
+/// Decodes a body from these bytes, which are without its size prefix.
 pub fn body_of<A: Allocator + Copy>(bytes: &[u8], alloc: A) -> Result<Body<A>, ReadFault>
     ensures found { IfOk result (λ x. body wide bytes.now (body_view x)) }
     ensures none { IfErr result (λ e. e ≢ Memory → FillsNothing body bytes.now) }

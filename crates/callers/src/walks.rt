@@ -1,4 +1,4 @@
-//! Callers of the reader, which prove what they answer.
+//! Callers of the instruction visitor, which prove their results.
 ghost use Rattle.std.specs.Prelude.{◌≡◌, ◌≢◌, ◌++◌, ℕ, List, IfOk, IfErr, length};
 ghost use Rattle.wasm_base.specs.Going.{FillsNothing};
 ghost use Rattle.wasm_base.specs.Numbers.{wide};
@@ -9,7 +9,8 @@ use std::alloc::Allocator;
 use wasm_reader_base::ReadFault;
 use wasm_reader_insn::{Instructions, laws};
 
-/// How many instructions a body has. The bytes are those of the body without its size.
+/// Returns the number of instructions in a body. The bytes are those of the body without its size
+/// prefix.
 pub fn count_instructions<A: Allocator + Copy>(bytes: &[u8], alloc: A) -> Result<usize, ReadFault>
     ensures found { IfOk result (λ n. (x : Body) × body wide bytes.now x × (length x.code ≡ n)) }
     ensures none { IfErr result (λ e. e ≢ Memory → FillsNothing body bytes.now) }
@@ -22,8 +23,9 @@ pub fn count_instructions<A: Allocator + Copy>(bytes: &[u8], alloc: A) -> Result
     Ok(count)
 }
 
-/// The place after the first `count` instructions of a body: what `Function::byte_len` told when they had been added. The bytes are those of the body
-/// without its size.
+/// Returns the offset after the first `count` instructions of a body: the result of
+/// `Function::byte_len` when these had been added. The bytes are those of the body without its size
+/// prefix.
 pub fn place_after<A: Allocator + Copy>(
     bytes: &[u8],
     count: usize,

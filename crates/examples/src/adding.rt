@@ -14,7 +14,7 @@ use wasm_code::{CodeSection, Function};
 use wasm_sections::{ExportKind, ExportSection, FunctionSection};
 use wasm_types::TypeSection;
 
-/// A module that exports a function of two numbers as `add`, which gives their sum.
+/// Returns a module that exports, as `add`, the sum of two numbers.
 pub fn adding_module<A: Allocator + Copy>(alloc: A) -> R<Vec<u8, A>>
     ensures { IfOk result (λ bytes. ReadsSections adding_sections bytes.items) }
 {
@@ -26,7 +26,7 @@ pub fn adding_module<A: Allocator + Copy>(alloc: A) -> R<Vec<u8, A>>
     Ok(module.finish())
 }
 
-/// The type of the function.
+/// Returns the type of the function.
 fn types<A: Allocator + Copy>(alloc: A) -> R<TypeSection<A>>
     ensures { IfOk result (λ section. HoldsTypes section (adding_type ∷ [])) }
 {
@@ -46,7 +46,7 @@ fn functions<A: Allocator + Copy>(alloc: A) -> R<FunctionSection<A>>
     Ok(section)
 }
 
-/// The function 0, as `add`.
+/// Exports the function 0 as `add`.
 fn exports<A: Allocator + Copy>(alloc: A) -> R<ExportSection<A>>
     ensures { IfOk result (λ section. HoldsExports section (add_export ∷ [])) }
 {
@@ -55,7 +55,7 @@ fn exports<A: Allocator + Copy>(alloc: A) -> R<ExportSection<A>>
     Ok(section)
 }
 
-/// The body of the function.
+/// Returns the body of the function.
 fn code<A: Allocator + Copy>(alloc: A) -> R<CodeSection<A>>
     ensures { IfOk result (λ section. SpellsBodies section (adding_body ∷ [])) }
 {
@@ -64,7 +64,7 @@ fn code<A: Allocator + Copy>(alloc: A) -> R<CodeSection<A>>
     Ok(section)
 }
 
-/// The sum of the two parameters.
+/// Returns the sum of the two parameters.
 fn sum<A: Allocator>(alloc: A) -> R<Function<A>>
     ensures { IfOk result (λ function. IsPlainBody function adding_body) }
 {

@@ -20,7 +20,7 @@ use wasm_sections::{
     ElementSection, Elements, EntityType, Export, ExportSection, ImportSection, Imports,
 };
 
-/// A code section of one function, which gives the local of this index.
+/// Appends a code section of one function, which returns the local of this index.
 pub fn encode_local<A: Allocator + Copy>(sink: &mut Vec<u8, A>, index: u32) -> R<()>
     ensures { OnOk result (GainsReading code_section (local_body index ∷ []) sink.old.items sink.new.items) }
 {
@@ -30,7 +30,7 @@ pub fn encode_local<A: Allocator + Copy>(sink: &mut Vec<u8, A>, index: u32) -> R
     code.encode(sink)
 }
 
-/// An import section of one function.
+/// Appends an import section of one function.
 pub fn encode_import<A: Allocator + Copy>(
     sink: &mut Vec<u8, A>,
     from: &str,
@@ -44,7 +44,8 @@ pub fn encode_import<A: Allocator + Copy>(
     section.encode(sink)
 }
 
-/// An export section of the exports of a list. The first call shows that they are plain.
+/// Appends an export section of the exports of a list. The first call proves that they are
+/// well-formed.
 pub fn encode_exports<A: Allocator + Copy>(sink: &mut Vec<u8, A>, exports: &[Export<'_>]) -> R<()>
     ensures { OnOk result (GainsReading (counted_format export) (map item_of exports.now) sink.old.items sink.new.items) }
 {
@@ -56,7 +57,8 @@ pub fn encode_exports<A: Allocator + Copy>(sink: &mut Vec<u8, A>, exports: &[Exp
     }
 }
 
-/// An import section of functions of one type, in one group. The first call shows that their names are UTF-8.
+/// Appends an import section of functions of one type, in one group. The first call proves that
+/// their names are UTF-8.
 pub fn encode_group<A: Allocator + Copy>(
     sink: &mut Vec<u8, A>,
     from: &str,
@@ -75,7 +77,7 @@ pub fn encode_group<A: Allocator + Copy>(
     section.encode(sink)
 }
 
-/// An element section of one reference, which code puts in a table.
+/// Appends an element section of one reference, which code copies to a table.
 pub fn encode_reference(sink: &mut Vec<u8>, index: u32) -> R<()>
     ensures { OnOk result (GainsReading (counted_format element) (later index ∷ []) sink.old.items sink.new.items) }
 {

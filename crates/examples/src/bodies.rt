@@ -7,7 +7,7 @@ use std::alloc::Allocator;
 use wasm_base::{R, ValType};
 use wasm_code::Function;
 
-/// A function of one local, which does nothing.
+/// Returns a function of one local, which does nothing.
 pub(crate) fn first_function<A: Allocator>(alloc: A) -> R<Function<A>>
     ensures { IfOk result (λ function. IsPlainBody function first_body) }
 {
@@ -17,7 +17,7 @@ pub(crate) fn first_function<A: Allocator>(alloc: A) -> R<Function<A>>
     Ok(function)
 }
 
-/// A function that gives the local of this index.
+/// Returns a function that returns the local of this index.
 pub(crate) fn local_function<A: Allocator>(alloc: A, index: u32) -> R<Function<A>>
     ensures { IfOk result (λ function. IsPlainBody function (local_body index)) }
 {

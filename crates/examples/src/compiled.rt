@@ -18,14 +18,15 @@ use wasm_code::{CodeSection, Function};
 use wasm_sections::{ExportKind, ExportSection, FunctionSection};
 use wasm_types::TypeSection;
 
-/// The product of its two parameters.
+/// Computes the product of its two parameters.
 const PRODUCT: [Operation; 3] = [
     Operation::Get(0),
     Operation::Get(1),
     Operation::Binary(Operator::Multiply),
 ];
 
-/// The factorial of its parameter, by products: the local 1 is multiplied by each number from the parameter down to 1.
+/// Computes the factorial of its parameter, by products: the local 1 is multiplied by each number
+/// from the parameter down to 1.
 const FACTORIAL: [Statement<'static>; 3] = [
     Statement::Set(1, Expr::Constant(1)),
     Statement::While(
@@ -41,7 +42,8 @@ const FACTORIAL: [Statement<'static>; 3] = [
     Statement::Return(Expr::Local(1)),
 ];
 
-/// The sum of the squares from 1 to its parameter, by products: the square of each number is added to the local 1.
+/// Computes the sum of the squares from 1 to its parameter, by products: the square of each number
+/// is added to the local 1.
 const SQUARES: [Operation; 19] = [
     Operation::Block,
     Operation::Loop,
@@ -64,8 +66,8 @@ const SQUARES: [Operation; 19] = [
     Operation::Get(1),
 ];
 
-/// A module that exports a factorial, compiled from a tree, and a sum of squares, compiled from operations. Both have a loop, and
-/// call a third function.
+/// Returns a module that exports a factorial, compiled from a tree, and a sum of squares, compiled
+/// from operations. Both have a loop, and call a third function.
 pub fn compiled_module<A: Allocator + Copy>(alloc: A) -> R<Vec<u8, A>>
     ensures { IfOk result (λ bytes. ReadsSections compiled_sections bytes.items) }
 {
@@ -77,7 +79,7 @@ pub fn compiled_module<A: Allocator + Copy>(alloc: A) -> R<Vec<u8, A>>
     Ok(module.finish())
 }
 
-/// The types of the functions: of two numbers, and of one.
+/// Returns the types of the functions: of two numbers, and of one.
 fn types<A: Allocator + Copy>(alloc: A) -> R<TypeSection<A>>
     ensures { IfOk result (λ section. HoldsTypes section (adding_type ∷ one_number ∷ [])) }
 {
@@ -89,7 +91,7 @@ fn types<A: Allocator + Copy>(alloc: A) -> R<TypeSection<A>>
     Ok(section)
 }
 
-/// The product is of the type 0, and the others of the type 1.
+/// The product is of the type 0, and the others are of the type 1.
 fn functions<A: Allocator + Copy>(alloc: A) -> R<FunctionSection<A>>
     ensures { IfOk result (λ section. HoldsFunctions section (0 ∷ 1 ∷ 1 ∷ [])) }
 {
@@ -100,7 +102,7 @@ fn functions<A: Allocator + Copy>(alloc: A) -> R<FunctionSection<A>>
     Ok(section)
 }
 
-/// The functions 1 and 2.
+/// Exports the functions 1 and 2.
 fn exports<A: Allocator + Copy>(alloc: A) -> R<ExportSection<A>>
     ensures { IfOk result (λ section. HoldsExports section (factorial_of ∷ squares_of ∷ [])) }
 {
@@ -110,7 +112,7 @@ fn exports<A: Allocator + Copy>(alloc: A) -> R<ExportSection<A>>
     Ok(section)
 }
 
-/// The bodies of the three functions.
+/// Returns the bodies of the three functions.
 fn code<A: Allocator + Copy>(alloc: A) -> R<CodeSection<A>>
     ensures { IfOk result (λ section. SpellsBodies section compiled_bodies) }
 {
@@ -121,7 +123,7 @@ fn code<A: Allocator + Copy>(alloc: A) -> R<CodeSection<A>>
     Ok(section)
 }
 
-/// The factorial.
+/// Returns the compiled factorial.
 fn compiled_factorial<A: Allocator>(alloc: A) -> R<Function<A>>
     ensures { IfOk result (λ function. IsPlainBody function (body_of 1 factorial_operations)) }
 {

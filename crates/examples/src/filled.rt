@@ -14,7 +14,7 @@ use wasm_sections::{
     DataCountSection, DataSection, ElementSection, Elements, TableSection, TableType,
 };
 
-/// A module that puts a function that it imports in a table, and bytes in a memory.
+/// Returns a module that copies an imported function to a table, and bytes to a memory.
 pub fn filled_module<A: Allocator + Copy>(alloc: A, bytes: &[u8]) -> R<Vec<u8, A>>
     ensures { IfOk result (λ made. ReadsSections (filled_sections bytes.now) made.items) }
 {
@@ -26,7 +26,7 @@ pub fn filled_module<A: Allocator + Copy>(alloc: A, bytes: &[u8]) -> R<Vec<u8, A
     Ok(module.finish())
 }
 
-/// Adds the function that is imported, the table and the memory.
+/// Adds the imported function, the table and the memory.
 fn add_empty<A: Allocator + Copy>(built: &mut Module<A>, alloc: A) -> R<()>
     ensures { ReadsSections [] built.old → OnOk result (ReadsSections empty_sections built.new) }
 {
@@ -40,7 +40,7 @@ fn add_empty<A: Allocator + Copy>(built: &mut Module<A>, alloc: A) -> R<()>
     Ok(())
 }
 
-/// A table of three functions.
+/// Returns a table of three functions.
 fn tables<A: Allocator + Copy>(alloc: A) -> R<TableSection<A>>
     ensures { IfOk result (λ section. HoldsTables section (three_places ∷ [])) }
 {
@@ -55,7 +55,7 @@ fn tables<A: Allocator + Copy>(alloc: A) -> R<TableSection<A>>
     Ok(section)
 }
 
-/// The function 0, at the front of the table.
+/// Returns a segment of the function 0, at the front of the table.
 fn elements<A: Allocator + Copy>(alloc: A) -> R<ElementSection<A>>
     ensures { IfOk result (λ section. HoldsElements section (ready_at_0 ∷ [])) }
 {
@@ -66,7 +66,7 @@ fn elements<A: Allocator + Copy>(alloc: A) -> R<ElementSection<A>>
     Ok(section)
 }
 
-/// The bytes at the place 8, and others for a later call.
+/// Returns a segment of the bytes at the offset 8, and another for a later call.
 #[tactic(auto, using(wasm_base::proofs::KnownLengths::drained_array, wasm_base::proofs::KnownLengths::drained_copied))]
 fn segments<A: Allocator + Copy>(alloc: A, bytes: &[u8]) -> R<DataSection<A>>
     ensures { IfOk result (λ section. HoldsSegments section (bytes_at_8 bytes.now ∷ bytes_later ∷ [])) }

@@ -9,7 +9,7 @@ use wasm_base::{Module, R, ValType};
 use wasm_code::{CodeSection, Function};
 use wasm_insn::Instruction;
 
-/// A module of a code section of one function, which has one local and does nothing.
+/// Returns a module of a code section of one function, which has one local and does nothing.
 pub fn first_module<A: Allocator + Copy>(alloc: A) -> R<Vec<u8, A>>
     ensures { IfOk result (λ bytes. ReadsSections (code_reading (first_body ∷ []) ∷ []) bytes.items) }
 {

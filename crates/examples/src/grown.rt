@@ -1,4 +1,5 @@
-// Bodies and sections of what is handed in, whatever it is. The first calls of each function show that it is plain.
+// Bodies and sections of arguments of any value. The first calls of each function prove that these
+// are well-formed.
 ghost use Rattle.std.specs.Prelude.{All, [], ◌∷◌, map, OnOk};
 ghost use Rattle.wasm_base.specs.Entries.{counted_format};
 ghost use Rattle.wasm_base.specs.Modules.{GainsReading};
@@ -17,7 +18,8 @@ use wasm_insn::laws::{plain_instruction, plain_instructions};
 use wasm_sections::laws::{plain_entity, plain_memory};
 use wasm_sections::{Import, ImportSection, MemorySection, MemoryType};
 
-/// The function gains an instruction that is handed in: its alignments alone have to be below 16.
+/// Adds an instruction that the caller passes. The only requirement is that its alignments are
+/// below 16.
 pub fn grow<A: Allocator>(function: &mut Function<A>, instruction: &Instruction<'_>) -> R<()>
     ensures { OnOk result (HasSmallAlignments instruction.now → (x : Body) → IsPlainBody function.old x → IsPlainBody function.new (and_then x (normal_row instruction.now ∷ []))) }
 {
@@ -25,7 +27,8 @@ pub fn grow<A: Allocator>(function: &mut Function<A>, instruction: &Instruction<
     function.instruction(instruction)
 }
 
-/// The function gains the instructions of a list, in order. Where one is refused, it keeps those before it.
+/// Adds the instructions of a list, in order. On an error, the function keeps those before the
+/// failing one.
 pub fn grow_by_each<A: Allocator>(
     function: &mut Function<A>,
     instructions: &[Instruction<'_>],
@@ -39,7 +42,7 @@ pub fn grow_by_each<A: Allocator>(
     Ok(())
 }
 
-/// An import section of one import that is handed in.
+/// Appends an import section of one import that the caller passes.
 pub fn encode_given_import<A: Allocator + Copy>(sink: &mut Vec<u8, A>, import: &Import<'_>) -> R<()>
     ensures { OnOk result (GainsReading (counted_format import_format) (import_item import.now ∷ []) sink.old.items sink.new.items) }
 {
@@ -51,7 +54,7 @@ pub fn encode_given_import<A: Allocator + Copy>(sink: &mut Vec<u8, A>, import: &
     section.encode(sink)
 }
 
-/// A memory section of the memories of a list.
+/// Appends a memory section of the memories of a list.
 pub fn encode_memories<A: Allocator + Copy>(sink: &mut Vec<u8, A>, memories: &[MemoryType]) -> R<()>
     ensures { OnOk result (GainsReading (counted_format memory_type) memories.now sink.old.items sink.new.items) }
 {
@@ -63,7 +66,7 @@ pub fn encode_memories<A: Allocator + Copy>(sink: &mut Vec<u8, A>, memories: &[M
     }
 }
 
-/// Each memory of a list is plain.
+/// Proves that each memory of a list is well-formed.
 fn plain_memories(memories: &[MemoryType])
     ensures { All IsMemory memories.now }
 {

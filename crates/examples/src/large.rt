@@ -1,4 +1,4 @@
-// Numbers of 64 bits.
+// A module with numbers of 64 bits.
 ghost use Rattle.std.specs.Prelude.{[], ◌∷◌, IfOk};
 ghost use Rattle.wasm_base.specs.Modules.{ReadsSections};
 ghost use Rattle.wasm_sections.specs.Globals.{HoldsGlobals};
@@ -10,7 +10,8 @@ use wasm_base::{Module, R, ValType};
 use wasm_code::ConstExpr;
 use wasm_sections::{GlobalSection, GlobalType, MemorySection, MemoryType};
 
-/// A module of a memory whose addresses have 64 bits, and of a constant that needs more than 32.
+/// Returns a module of a memory whose addresses have 64 bits, and of a constant that needs more
+/// than 32.
 pub fn large_module<A: Allocator + Copy>(alloc: A) -> R<Vec<u8, A>>
     ensures { IfOk result (λ bytes. ReadsSections large_sections bytes.items) }
 {
@@ -20,7 +21,7 @@ pub fn large_module<A: Allocator + Copy>(alloc: A) -> R<Vec<u8, A>>
     Ok(module.finish())
 }
 
-/// A memory of 1 page, which grows to 8589934592 at most.
+/// Returns a memory of 1 page, which grows to 8589934592 at most.
 fn memories<A: Allocator + Copy>(alloc: A) -> R<MemorySection<A>>
     ensures { IfOk result (λ section. HoldsMemories section (large_memory ∷ [])) }
 {
@@ -35,7 +36,7 @@ fn memories<A: Allocator + Copy>(alloc: A) -> R<MemorySection<A>>
     Ok(section)
 }
 
-/// The number -1099511627776.
+/// Returns a global of the number -1099511627776.
 fn globals<A: Allocator + Copy>(alloc: A) -> R<GlobalSection<A>>
     ensures { IfOk result (λ section. HoldsGlobals section (large_constant ∷ [])) }
 {

@@ -1,4 +1,4 @@
-//! Callers that prove what their modules are read as. `docs/CALLING.md` walks through them.
+//! Callers that prove to which items their modules decode. `docs/CALLING.md` walks through them.
 #![tactic(auto, using(wasm_base::proofs::KnownLengths::drained_array))]
 
 mod adding;

@@ -10,15 +10,15 @@ use wasm_code::Function;
 use wasm_immediates::BlockType;
 use wasm_insn::{Instruction, Numeric};
 
-/// What is done with two numbers of 32 bits.
+/// A binary operator on numbers of 32 bits.
 #[derive(Clone, Copy, Debug)]
 pub enum Operator {
     Add,
     Subtract,
     Multiply,
-    /// 1 where both are the same, and else 0.
+    /// 1 if both are equal, and 0 otherwise.
     Equal,
-    /// 1 where the first is less, both with a sign, and else 0.
+    /// 1 if the first is less, both signed, and 0 otherwise.
     Less,
 }
 
@@ -29,21 +29,21 @@ pub enum Operation {
     Get(u32),
     Set(u32),
     Binary(Operator),
-    /// 1 where the number is 0, and else 0.
+    /// 1 if the number is 0, and 0 otherwise.
     IsZero,
     Block,
     Loop,
-    /// To the end of a block or the start of a loop, 0 for the innermost.
+    /// Branches to the end of a block or the start of a loop, 0 for the innermost.
     Branch(u32),
-    /// The same where the number is not 0.
+    /// Branches likewise if the number is not 0.
     BranchIf(u32),
     Call(u32),
     Return,
-    /// The end of a block or a loop.
+    /// Ends a block or a loop.
     End,
 }
 
-/// The numeric instruction of an operator.
+/// Returns the numeric instruction of an operator.
 #[tactic(auto, unfolding(crate::specs::Lowering::numeric_of))]
 fn numeric(operator: Operator) -> Numeric
     ensures { result ≡ numeric_of operator }
@@ -57,7 +57,7 @@ fn numeric(operator: Operator) -> Numeric
     }
 }
 
-/// The instruction of an operation.
+/// Returns the instruction of an operation.
 #[tactic(auto, unfolding(crate::specs::Lowering::instruction_of))]
 pub fn lower(operation: Operation) -> Instruction<'static>
     ensures same { result ≡ instruction_of operation }
@@ -96,7 +96,7 @@ fn emit_all<A: Allocator>(function: &mut Function<A>, operations: &[Operation]) 
     Ok(())
 }
 
-/// A function with so many locals of 32 bits behind its parameters, which does these operations.
+/// Returns a function of these operations, with `locals` locals of 32 bits after its parameters.
 pub fn compile<A: Allocator>(alloc: A, locals: u32, operations: &[Operation]) -> R<Function<A>>
     ensures { IfOk result (λ function. IsPlainBody function (body_of locals operations.now)) }
 {

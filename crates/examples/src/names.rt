@@ -12,7 +12,7 @@ use wasm_base::{Module, R};
 use wasm_code::CodeSection;
 use wasm_custom::{IndirectNameMap, NameMap, NameSection};
 
-/// A module of one function, which does nothing, and of its names.
+/// Returns a module of one function, which does nothing, and of its names.
 pub fn named_module<A: Allocator + Copy>(alloc: A, name: &str) -> R<Vec<u8, A>>
     ensures { IfOk result (λ bytes. ReadsSections (code_reading (first_body ∷ []) ∷ name_reading (names_of name.now) ∷ []) bytes.items) }
 {
@@ -22,7 +22,7 @@ pub fn named_module<A: Allocator + Copy>(alloc: A, name: &str) -> R<Vec<u8, A>>
     Ok(module.finish())
 }
 
-/// A function of one local.
+/// Returns a function of one local.
 fn code<A: Allocator + Copy>(alloc: A) -> R<CodeSection<A>>
     ensures { IfOk result (λ section. SpellsBodies section (first_body ∷ [])) }
 {
@@ -31,7 +31,7 @@ fn code<A: Allocator + Copy>(alloc: A) -> R<CodeSection<A>>
     Ok(section)
 }
 
-/// The name of the function 0.
+/// Returns the name of the function 0.
 fn functions<A: Allocator + Copy>(alloc: A, name: &str) -> R<NameMap<A>>
     ensures { IfOk result (λ names. AreNamings names ((0, name.now) ∷ [])) }
 {
@@ -40,7 +40,7 @@ fn functions<A: Allocator + Copy>(alloc: A, name: &str) -> R<NameMap<A>>
     Ok(names)
 }
 
-/// The name of the local of the function 0.
+/// Returns the name of the local of the function 0.
 fn locals<A: Allocator + Copy>(alloc: A) -> R<IndirectNameMap<A>>
     ensures { IfOk result (λ names. AreInsides names ((0, x_at_0) ∷ [])) }
 {
@@ -51,7 +51,7 @@ fn locals<A: Allocator + Copy>(alloc: A) -> R<IndirectNameMap<A>>
     Ok(names)
 }
 
-/// The names of the module, of its function, and of the local of this.
+/// Returns the names of the module, of its function, and of the function's local.
 fn names<A: Allocator + Copy>(alloc: A, name: &str) -> R<NameSection<A>>
     ensures { IfOk result (λ section. HoldsNames section (names_of name.now)) }
 {

@@ -1,4 +1,4 @@
-// A module for a linker: hints, symbols and producers beside the code.
+// A module for a linker: code, hints, symbols and producers.
 ghost use Rattle.std.specs.Prelude.{[], ◌∷◌, IfOk, OnOk};
 ghost use Rattle.wasm_base.specs.Modules.{ReadsSections};
 ghost use Rattle.wasm_code.specs.Bodies.{IsPlainBody};
@@ -22,7 +22,7 @@ use wasm_immediates::{BlockType, MemArg, MemArgTarget};
 use wasm_sections::FunctionSection;
 use wasm_types::TypeSection;
 
-/// The number of 32 bits that stands 8 bytes behind an address.
+/// The number of 32 bits that is 8 bytes after an address.
 const NUMBER: MemArg = MemArg {
     offset: 8,
     align: 2,
@@ -30,7 +30,8 @@ const NUMBER: MemArg = MemArg {
     ordering: None,
 };
 
-/// A module for a linker: a function that counts down a number in memory, a hint of its branch, its symbol, and what has produced it.
+/// Returns a module for a linker: a function that counts down a number in memory, a hint of its
+/// branch, its symbol, and its producer.
 pub fn object_module<A: Allocator + Copy>(alloc: A) -> R<Vec<u8, A>>
     ensures { IfOk result (λ bytes. ReadsSections object_sections bytes.items) }
 {
@@ -53,7 +54,7 @@ fn add_types<A: Allocator + Copy>(module: &mut Module<A>, alloc: A) -> R<()>
     Ok(())
 }
 
-/// The type of the function.
+/// Returns the type of the function.
 fn types<A: Allocator + Copy>(alloc: A) -> R<TypeSection<A>>
     ensures { IfOk result (λ section. HoldsTypes section (address_type ∷ [])) }
 {
@@ -71,8 +72,9 @@ fn functions<A: Allocator + Copy>(alloc: A) -> R<FunctionSection<A>>
     Ok(section)
 }
 
-/// The branch of the function 0, at the offset 9 of its raw body, is not likely to be taken. Before it are the count of locals (1 byte), `block` (2), `local.get` (2), `i32.load` (3) and
-/// `i32.eqz` (1).
+/// The branch of the function 0, at the offset 9 of its raw body, is not likely to be taken. Before
+/// it are the count of locals (1 byte), `block` (2), `local.get` (2), `i32.load` (3) and `i32.eqz`
+/// (1).
 fn hints<A: Allocator + Copy>(alloc: A) -> R<BranchHints<A>>
     ensures { IfOk result (λ section. HoldsHints section unlikely_hints) }
 {
@@ -85,7 +87,7 @@ fn hints<A: Allocator + Copy>(alloc: A) -> R<BranchHints<A>>
     Ok(section)
 }
 
-/// The body of the function.
+/// Returns the body of the function.
 fn code<A: Allocator + Copy>(alloc: A) -> R<CodeSection<A>>
     ensures { IfOk result (λ section. SpellsBodies section (count_down_body ∷ [])) }
 {
@@ -94,7 +96,7 @@ fn code<A: Allocator + Copy>(alloc: A) -> R<CodeSection<A>>
     Ok(section)
 }
 
-/// The number becomes one less, where it is not 0.
+/// Decrements the number if it is not 0.
 fn count_down<A: Allocator>(alloc: A) -> R<Function<A>>
     ensures { IfOk result (λ function. IsPlainBody function count_down_body) }
 {
@@ -116,7 +118,7 @@ fn count_down<A: Allocator>(alloc: A) -> R<Function<A>>
     Ok(function)
 }
 
-/// The symbol of the function 0, which is exported from the linked module.
+/// Returns the symbol of the function 0, which is exported from the linked module.
 fn symbols<A: Allocator + Copy>(alloc: A) -> R<SymbolTable<A>>
     ensures { IfOk result (λ table. AreSymbols table (count_down_symbol ∷ [])) }
 {
@@ -125,7 +127,7 @@ fn symbols<A: Allocator + Copy>(alloc: A) -> R<SymbolTable<A>>
     Ok(table)
 }
 
-/// What a linker needs to know.
+/// Returns the linking section: the symbols.
 fn linking<A: Allocator + Copy>(alloc: A) -> R<LinkingSection<A>>
     ensures { IfOk result (λ section. HoldsLinks section links) }
 {
@@ -134,7 +136,7 @@ fn linking<A: Allocator + Copy>(alloc: A) -> R<LinkingSection<A>>
     Ok(section)
 }
 
-/// What has produced the module.
+/// Returns the producers of the module.
 fn producers<A: Allocator + Copy>(alloc: A) -> R<ProducersSection<A>>
     ensures { IfOk result (λ section. HoldsFields section producers_fields) }
 {

@@ -1,4 +1,4 @@
-// Sections of entries that are spelled already, with padded numbers.
+// Sections of entries that are already encoded, with padded numbers.
 ghost use Rattle.std.specs.Prelude.{[], ◌∷◌, IfOk, OnOk, pos, neg_ℤ};
 ghost use Rattle.wasm_base.specs.Entries.{counted_format};
 ghost use Rattle.wasm_base.specs.Formats.{frame};
@@ -16,7 +16,8 @@ use wasm_code::{CodeSection, ConstExpr};
 use wasm_custom::NameSection;
 use wasm_sections::{GlobalSection, GlobalType};
 
-/// A code section of a body whose number of runs is padded, and of a function, which gives the local of this index.
+/// Appends a code section of a body whose number of runs is padded, and of a function, which
+/// returns the local of this index.
 pub fn encode_padded_body<A: Allocator + Copy>(sink: &mut Vec<u8, A>, index: u32) -> R<()>
     ensures { OnOk result (GainsReadingWide code_section (bare_body ∷ local_body index ∷ []) sink.old.items sink.new.items) }
 {
@@ -27,7 +28,8 @@ pub fn encode_padded_body<A: Allocator + Copy>(sink: &mut Vec<u8, A>, index: u32
     code.encode(sink)
 }
 
-/// A global section of an expression that stores a padded number, and of a global that has one.
+/// Appends a global section of an expression with a padded number, and of an encoded global with
+/// one.
 pub fn encode_padded_globals<A: Allocator + Copy>(sink: &mut Vec<u8, A>) -> R<()>
     ensures { OnOk result (GainsReadingWide (counted_format global_item) (number (neg_ℤ (pos 1)) ∷ number (pos 0) ∷ []) sink.old.items sink.new.items) }
 {
@@ -44,7 +46,7 @@ pub fn encode_padded_globals<A: Allocator + Copy>(sink: &mut Vec<u8, A>) -> R<()
     section.encode(sink)
 }
 
-/// A name section of the name `a` of the function 0, whose index is padded.
+/// Appends a name section of the name `a` of the function 0, whose index is padded.
 pub fn encode_padded_names<A: Allocator + Copy>(sink: &mut Vec<u8, A>) -> R<()>
     ensures { OnOk result (GainsReadingWide (frame name_payload) (Map 1 ((0, 97 ∷ []) ∷ []) ∷ []) sink.old.items sink.new.items) }
 {
@@ -53,7 +55,8 @@ pub fn encode_padded_names<A: Allocator + Copy>(sink: &mut Vec<u8, A>) -> R<()>
     names.encode(sink)
 }
 
-/// A module of a code section of a body whose number of runs is padded, and of a function of one local.
+/// Returns a module of a code section of a body whose number of runs is padded, and of a function
+/// of one local.
 pub fn padded_module<A: Allocator + Copy>(alloc: A) -> R<Vec<u8, A>>
     ensures { IfOk result (λ bytes. ReadsSections (wide_code_reading (bare_body ∷ first_body ∷ []) ∷ []) bytes.items) }
 {

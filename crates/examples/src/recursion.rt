@@ -1,4 +1,4 @@
-// Functions by named calls of a sink.
+// Functions built with the instruction sink.
 ghost use Rattle.std.specs.Prelude.{IfOk};
 ghost use Rattle.wasm_code.specs.Bodies.{IsPlainBody};
 ghost use Rattle.examples.specs.Bodies.{factorial_body, choice_body};
@@ -8,8 +8,8 @@ use wasm_base::R;
 use wasm_code::Function;
 use wasm_insn::BlockType;
 
-/// The factorial of its one parameter: 1 where this is 0, and else this times the factorial of the number below. `itself` is the
-/// index that the function has in its module.
+/// Returns the factorial of its one parameter: 1 for 0, and otherwise the parameter times the
+/// factorial of the number below. `itself` is the index of the function in its module.
 pub fn factorial<A: Allocator>(alloc: A, itself: u32) -> R<Function<A>>
     ensures { IfOk result (λ function. IsPlainBody function (factorial_body itself)) }
 {
@@ -32,7 +32,8 @@ pub fn factorial<A: Allocator>(alloc: A, itself: u32) -> R<Function<A>>
     Ok(function)
 }
 
-/// A branch out of the inner block where the one parameter is 0, and else out of both.
+/// Returns a function that branches out of the inner block if its one parameter is 0, and otherwise
+/// out of both.
 pub fn choice<A: Allocator>(alloc: A) -> R<Function<A>>
     ensures { IfOk result (λ function. IsPlainBody function choice_body) }
 {

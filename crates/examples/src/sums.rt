@@ -1,4 +1,4 @@
-// Global sections of a first value that is a sum.
+// Global sections whose initializer is a sum.
 ghost use Rattle.std.specs.Prelude.{[], ◌∷◌, IfOk, OnOk, pos};
 ghost use Rattle.wasm_base.specs.Entries.{counted_format};
 ghost use Rattle.wasm_base.specs.Modules.{GainsReading, GainsReadingWide};
@@ -18,7 +18,7 @@ const CONSTANT: GlobalType = GlobalType {
     shared: false,
 };
 
-/// The global of this index and 5, added.
+/// Returns the sum of the global of this index and 5.
 fn sum_of<A: Allocator + Copy>(alloc: A, index: u32) -> R<ConstExpr<A>>
     ensures { IfOk result (λ init. StoresInstructions init (sum_code index)) }
 {
@@ -27,7 +27,8 @@ fn sum_of<A: Allocator + Copy>(alloc: A, index: u32) -> R<ConstExpr<A>>
     Ok(sum)
 }
 
-/// A global section of one global, whose first value is the global of this index and 5, added.
+/// Appends a global section of one global, whose initializer is the sum of the global of this index
+/// and 5.
 pub fn encode_sum<A: Allocator + Copy>(sink: &mut Vec<u8, A>, index: u32) -> R<()>
     ensures { OnOk result (GainsReading (counted_format global_item) (sum_global index ∷ []) sink.old.items sink.new.items) }
 {
@@ -37,7 +38,8 @@ pub fn encode_sum<A: Allocator + Copy>(sink: &mut Vec<u8, A>, index: u32) -> R<(
     section.encode(sink)
 }
 
-/// A global section of that global, and of one that is spelled already, whose number is padded.
+/// Appends a global section of that global, and of one that is already encoded, whose number is
+/// padded.
 pub fn encode_sum_and_padded<A: Allocator + Copy>(sink: &mut Vec<u8, A>, index: u32) -> R<()>
     ensures { OnOk result (GainsReadingWide (counted_format global_item) (sum_global index ∷ number (pos 0) ∷ []) sink.old.items sink.new.items) }
 {

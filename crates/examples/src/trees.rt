@@ -23,9 +23,9 @@ pub enum Expr<'a> {
 /// A statement.
 #[derive(Clone, Copy)]
 pub enum Statement<'a> {
-    /// The local of this index gets the value.
+    /// Sets the local of this index to the value.
     Set(u32, Expr<'a>),
-    /// The statements again and again, as long as the value is not 0.
+    /// Repeats the statements as long as the value is not 0.
     While(Expr<'a>, &'a [Statement<'a>]),
     Return(Expr<'a>),
 }
@@ -100,8 +100,8 @@ fn emit_statements<A: Allocator>(function: &mut Function<A>, statements: &[State
     Ok(())
 }
 
-/// A function with so many locals of 32 bits behind its parameters, which does these statements. The last of them that is done
-/// returns the function's value.
+/// Returns a function of these statements, with `locals` locals of 32 bits after its parameters.
+/// The last executed statement returns the function's value.
 pub fn compile_tree<A: Allocator>(
     alloc: A,
     locals: u32,

@@ -20,7 +20,8 @@ use wasm_sections::{
     ImportSection, MemorySection, MemoryType, StartSection,
 };
 
-/// A module that imports a function, has a global and a memory, and replaces the global by its factorial when it starts.
+/// Returns a module that imports a function, has a global and a memory, and replaces the global by
+/// its factorial when it starts.
 pub fn whole_module<A: Allocator + Copy>(alloc: A) -> R<Vec<u8, A>>
     ensures { IfOk result (λ bytes. ReadsSections whole_sections bytes.items) }
 {
@@ -32,7 +33,7 @@ pub fn whole_module<A: Allocator + Copy>(alloc: A) -> R<Vec<u8, A>>
     Ok(module.finish())
 }
 
-/// Adds the types, the function that is imported, and the types of the others.
+/// Adds the types, the imported function, and the types of the others.
 fn add_declared<A: Allocator + Copy>(built: &mut Module<A>, alloc: A) -> R<()>
     ensures { ReadsSections [] built.old → OnOk result (ReadsSections declared_sections built.new) }
 {
@@ -45,7 +46,7 @@ fn add_declared<A: Allocator + Copy>(built: &mut Module<A>, alloc: A) -> R<()>
     Ok(())
 }
 
-/// Adds the memory, the global, and what is seen from outside.
+/// Adds the memory, the global, and the exports.
 fn add_stored<A: Allocator + Copy>(built: &mut Module<A>, alloc: A) -> R<()>
     ensures { ReadsSections declared_sections built.old → OnOk result (ReadsSections stored_sections built.new) }
 {
@@ -55,7 +56,7 @@ fn add_stored<A: Allocator + Copy>(built: &mut Module<A>, alloc: A) -> R<()>
     Ok(())
 }
 
-/// The function 0, which the host has.
+/// Imports the function 0 from the host.
 pub(crate) fn imports<A: Allocator + Copy>(alloc: A) -> R<ImportSection<A>>
     ensures { IfOk result (λ section. HoldsImports section (ready ∷ [])) }
 {
@@ -64,7 +65,7 @@ pub(crate) fn imports<A: Allocator + Copy>(alloc: A) -> R<ImportSection<A>>
     Ok(section)
 }
 
-/// The types of the functions 1 and 2.
+/// Returns the types of the functions 1 and 2.
 fn functions<A: Allocator + Copy>(alloc: A) -> R<FunctionSection<A>>
     ensures { IfOk result (λ section. HoldsFunctions section (1 ∷ 0 ∷ [])) }
 {
@@ -74,7 +75,7 @@ fn functions<A: Allocator + Copy>(alloc: A) -> R<FunctionSection<A>>
     Ok(section)
 }
 
-/// A memory of one page.
+/// Returns a memory of one page.
 pub(crate) fn memories<A: Allocator + Copy>(alloc: A) -> R<MemorySection<A>>
     ensures { IfOk result (λ section. HoldsMemories section (one_page ∷ [])) }
 {
@@ -89,7 +90,7 @@ pub(crate) fn memories<A: Allocator + Copy>(alloc: A) -> R<MemorySection<A>>
     Ok(section)
 }
 
-/// A number that can be set, 5 at first.
+/// Returns a mutable number, initially 5.
 fn globals<A: Allocator + Copy>(alloc: A) -> R<GlobalSection<A>>
     ensures { IfOk result (λ section. HoldsGlobals section (five ∷ [])) }
 {
@@ -103,7 +104,7 @@ fn globals<A: Allocator + Copy>(alloc: A) -> R<GlobalSection<A>>
     Ok(section)
 }
 
-/// The factorial and the memory.
+/// Exports the factorial and the memory.
 fn exports<A: Allocator + Copy>(alloc: A) -> R<ExportSection<A>>
     ensures { IfOk result (λ section. HoldsExports section (factorial_export ∷ memory_export ∷ [])) }
 {
@@ -113,7 +114,7 @@ fn exports<A: Allocator + Copy>(alloc: A) -> R<ExportSection<A>>
     Ok(section)
 }
 
-/// The bodies of the functions 1 and 2.
+/// Returns the bodies of the functions 1 and 2.
 fn code<A: Allocator + Copy>(alloc: A) -> R<CodeSection<A>>
     ensures { IfOk result (λ section. SpellsBodies section (factorial_body 1 ∷ start_body ∷ [])) }
 {
@@ -123,7 +124,7 @@ fn code<A: Allocator + Copy>(alloc: A) -> R<CodeSection<A>>
     Ok(section)
 }
 
-/// The start function: the global becomes its factorial, and the host is told.
+/// Returns the start function: it replaces the global by its factorial, and calls the host.
 fn start<A: Allocator>(alloc: A) -> R<Function<A>>
     ensures { IfOk result (λ function. IsPlainBody function start_body) }
 {

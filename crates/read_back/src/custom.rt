@@ -1,4 +1,4 @@
-//! Custom sections: names, what a linker needs, producers, hints, and any name and data.
+//! Custom sections, written and read back: names, linking, producers, hints, and any name and data.
 ghost use Rattle.std.specs.Prelude.{◌≡◌, ◌≢◌, ◌++◌, [], ◌∷◌, true, false, Err, IfOk, IfErr, OnOk, OnErr, map};
 ghost use Rattle.wasm_base.specs.Formats.{frame, custom as custom_format};
 ghost use Rattle.wasm_base.specs.Modules.{GainsReading};
@@ -23,7 +23,7 @@ use wasm_custom::{
 use wasm_reader::{Items, SectionKind};
 use wasm_reader_base::ReadFault;
 
-/// Writes a name section: the name of the module, and bytes of an id that no call names.
+/// Appends a name section: the name of the module, and bytes of an id that no call has.
 fn write_more_names<A: Allocator + Copy>(sink: &mut Vec<u8, A>, name: &str, more: &[u8]) -> R<()>
     ensures { OnOk result (GainsReading (frame name_payload) (name_and_more name.now more.now) sink.old.items sink.new.items) }
 {
@@ -33,7 +33,7 @@ fn write_more_names<A: Allocator + Copy>(sink: &mut Vec<u8, A>, name: &str, more
     section.encode(sink)
 }
 
-/// Reads that name section, and shortens it.
+/// Decodes that name section, and appends its minimal encoding.
 pub fn read_more_names<'a, A: Allocator + Copy + 'a>(
     text: &'a mut Vec<u8, A>,
     name: &str,
@@ -50,8 +50,8 @@ pub fn read_more_names<'a, A: Allocator + Copy + 'a>(
     Ok(items)
 }
 
-/// Appends a title and the names after it, or the title alone where memory does not suffice for the
-/// names. Returns whether the names are there.
+/// Appends a title and the names after it, or the title alone if an allocation for the names fails.
+/// Returns whether the names are there.
 pub fn titled_names<A: Allocator>(
     title: &[u8],
     names: &[NameItem<'_, A>],
@@ -68,8 +68,8 @@ pub fn titled_names<A: Allocator>(
     }
 }
 
-/// Appends the minimal encoding of the names that the bytes encode, with their section's name. Returns
-/// whether they do. No count or size is too long.
+/// Appends the minimal encoding of the names that the bytes encode, with their section's name.
+/// Returns whether they do. No count or size is too long.
 pub fn rewritten_names<A: Allocator + Copy>(bytes: &[u8], sink: &mut Vec<u8, A>) -> R<bool>
     ensures too_long { result ≢ Err TooLong }
     ensures err { OnErr result (sink.new.items ≡ sink.old.items) }
@@ -83,7 +83,7 @@ pub fn rewritten_names<A: Allocator + Copy>(bytes: &[u8], sink: &mut Vec<u8, A>)
     }
 }
 
-/// A symbol table of one symbol of data.
+/// Returns a symbol table of one data symbol.
 fn symbols<A: Allocator + Copy>(alloc: A, name: &str) -> R<SymbolTable<A>>
     ensures { IfOk result (λ table. AreSymbols table (data_symbol name.now ∷ [])) }
 {
@@ -97,7 +97,7 @@ fn symbols<A: Allocator + Copy>(alloc: A, name: &str) -> R<SymbolTable<A>>
     Ok(table)
 }
 
-/// Writes a linking section: a symbol, and the architecture of the target.
+/// Appends a linking section: a symbol, and the architecture of the target.
 fn write_linking<A: Allocator + Copy>(sink: &mut Vec<u8, A>, name: &str) -> R<()>
     ensures { OnOk result (GainsReading (frame linking_payload) (links name.now) sink.old.items sink.new.items) }
 {
@@ -108,7 +108,7 @@ fn write_linking<A: Allocator + Copy>(sink: &mut Vec<u8, A>, name: &str) -> R<()
     section.encode(sink)
 }
 
-/// Reads that linking section, and shortens it.
+/// Decodes that linking section, and appends its minimal encoding.
 pub fn read_linking<'a, A: Allocator + Copy + 'a>(
     text: &'a mut Vec<u8, A>,
     name: &str,
@@ -124,7 +124,7 @@ pub fn read_linking<'a, A: Allocator + Copy + 'a>(
     Ok(items)
 }
 
-/// Writes a producers section of one field.
+/// Appends a producers section of one field.
 fn write_producers<A: Allocator + Copy>(sink: &mut Vec<u8, A>, version: &str) -> R<()>
     ensures { OnOk result (GainsReading (frame producers_payload) (language version.now) sink.old.items sink.new.items) }
 {
@@ -136,7 +136,7 @@ fn write_producers<A: Allocator + Copy>(sink: &mut Vec<u8, A>, version: &str) ->
     section.encode(sink)
 }
 
-/// Reads that producers section, and shortens it.
+/// Decodes that producers section, and appends its minimal encoding.
 pub fn read_producers<'a, A: Allocator + Copy + 'a>(
     text: &'a mut Vec<u8, A>,
     version: &str,
@@ -152,7 +152,7 @@ pub fn read_producers<'a, A: Allocator + Copy + 'a>(
     Ok(items)
 }
 
-/// Writes a section of branch hints: of an array, and of a slice.
+/// Appends a section of branch hints: of an array, and of a slice.
 #[tactic(auto, using(wasm_base::proofs::KnownLengths::drained_array, wasm_base::proofs::KnownLengths::drained_copied))]
 fn write_hints<A: Allocator + Copy>(sink: &mut Vec<u8, A>, index: u32) -> R<()>
     ensures { OnOk result (GainsReading (frame hints_payload) (likely_hints index) sink.old.items sink.new.items) }
@@ -168,7 +168,7 @@ fn write_hints<A: Allocator + Copy>(sink: &mut Vec<u8, A>, index: u32) -> R<()>
     section.encode(sink)
 }
 
-/// Reads that section of branch hints, and shortens it.
+/// Decodes that section of branch hints, and appends its minimal encoding.
 pub fn read_hints<'a, A: Allocator + Copy + 'a>(
     text: &'a mut Vec<u8, A>,
     index: u32,
@@ -184,7 +184,7 @@ pub fn read_hints<'a, A: Allocator + Copy + 'a>(
     Ok(items)
 }
 
-/// Writes a custom section of a name and data.
+/// Appends a custom section of a name and data.
 fn write_custom<A: Allocator>(sink: &mut Vec<u8, A>, name: &str, bytes: &[u8]) -> R<()>
     ensures { OnOk result (GainsReading custom_format (name.now, bytes.now) sink.old.items sink.new.items) }
 {
@@ -195,7 +195,7 @@ fn write_custom<A: Allocator>(sink: &mut Vec<u8, A>, name: &str, bytes: &[u8]) -
     section.encode(sink)
 }
 
-/// Reads that custom section, and shortens it.
+/// Decodes that custom section, and appends its minimal encoding.
 pub fn read_custom<'a, A: Allocator + Copy + 'a>(
     text: &'a mut Vec<u8, A>,
     name: &str,

@@ -1,4 +1,5 @@
-//! Sections that declare things: types, imports, tables, memories, tags and exports.
+//! Sections of declarations, written and read back: types, imports, tables, memories, tags and
+//! exports.
 ghost use Rattle.std.specs.Prelude.{◌≡◌, ◌≢◌, [], ◌∷◌, IfOk, IfErr, OnOk};
 ghost use Rattle.wasm_base.specs.Entries.{counted_format};
 ghost use Rattle.wasm_base.specs.Modules.{GainsReading};
@@ -27,7 +28,7 @@ use wasm_types::{
     ArrayType, CompositeInnerType, CompositeType, FieldType, StorageType, SubType, TypeSection,
 };
 
-/// A byte that can be set.
+/// A mutable byte.
 const BYTE: FieldType = FieldType {
     element_type: StorageType::I8,
     mutable: true,
@@ -45,7 +46,7 @@ const OPEN_BYTES: SubType = SubType {
     },
 };
 
-/// Writes a type section: an array, a structure, and an array that others may extend.
+/// Appends a type section: an array, a structure, and an array that others may extend.
 fn write_types<A: Allocator + Copy>(sink: &mut Vec<u8, A>) -> R<()>
     ensures { OnOk result (GainsReading (counted_format type_item) byte_types sink.old.items sink.new.items) }
 {
@@ -56,7 +57,7 @@ fn write_types<A: Allocator + Copy>(sink: &mut Vec<u8, A>) -> R<()>
     section.encode(sink)
 }
 
-/// Reads that type section, and shortens it.
+/// Decodes that type section, and appends its minimal encoding.
 pub fn read_types<'a, A: Allocator + Copy + 'a>(
     text: &'a mut Vec<u8, A>,
     sink: &mut Vec<u8, A>,
@@ -71,7 +72,7 @@ pub fn read_types<'a, A: Allocator + Copy + 'a>(
     Ok(items)
 }
 
-/// Writes an import section of one function.
+/// Appends an import section of one function.
 fn write_imports<A: Allocator + Copy>(sink: &mut Vec<u8, A>, index: u32) -> R<()>
     ensures { OnOk result (GainsReading (counted_format import_format) (imported_function index ∷ []) sink.old.items sink.new.items) }
 {
@@ -80,7 +81,7 @@ fn write_imports<A: Allocator + Copy>(sink: &mut Vec<u8, A>, index: u32) -> R<()
     section.encode(sink)
 }
 
-/// Reads that import section, and shortens it.
+/// Decodes that import section, and appends its minimal encoding.
 pub fn read_imports<'a, A: Allocator + Copy + 'a>(
     text: &'a mut Vec<u8, A>,
     index: u32,
@@ -96,7 +97,8 @@ pub fn read_imports<'a, A: Allocator + Copy + 'a>(
     Ok(items)
 }
 
-/// Reads a table section of two tables, one with a first value, and shortens it.
+/// Decodes a table section of two tables, one with an initializer, and appends its minimal
+/// encoding.
 pub fn read_tables<'a, A: Allocator + Copy + 'a>(
     text: &'a mut Vec<u8, A>,
     minimum: u64,
@@ -112,7 +114,7 @@ pub fn read_tables<'a, A: Allocator + Copy + 'a>(
     Ok(items)
 }
 
-/// Writes a memory section of two memories.
+/// Appends a memory section of two memories.
 fn write_memories<A: Allocator + Copy>(sink: &mut Vec<u8, A>, minimum: u64) -> R<()>
     ensures { OnOk result (GainsReading (counted_format memory_type) (pages minimum ∷ two_pages ∷ []) sink.old.items sink.new.items) }
 {
@@ -134,7 +136,7 @@ fn write_memories<A: Allocator + Copy>(sink: &mut Vec<u8, A>, minimum: u64) -> R
     section.encode(sink)
 }
 
-/// Reads that memory section, and shortens it.
+/// Decodes that memory section, and appends its minimal encoding.
 pub fn read_memories<'a, A: Allocator + Copy + 'a>(
     text: &'a mut Vec<u8, A>,
     minimum: u64,
@@ -150,7 +152,7 @@ pub fn read_memories<'a, A: Allocator + Copy + 'a>(
     Ok(items)
 }
 
-/// A tag section of two tags: of the type 0, and of the type of this index.
+/// Returns a tag section of two tags: of the type 0, and of the type of this index.
 pub(crate) fn tags<A: Allocator + Copy>(alloc: A, index: u32) -> R<TagSection<A>>
     ensures { IfOk result (λ section. HoldsTags section (thrown 0 ∷ thrown index ∷ [])) }
 {
@@ -166,7 +168,7 @@ pub(crate) fn tags<A: Allocator + Copy>(alloc: A, index: u32) -> R<TagSection<A>
     Ok(section)
 }
 
-/// Writes that tag section.
+/// Appends that tag section.
 fn write_tags<A: Allocator + Copy>(sink: &mut Vec<u8, A>, index: u32) -> R<()>
     ensures { OnOk result (GainsReading (counted_format tag_type) (thrown 0 ∷ thrown index ∷ []) sink.old.items sink.new.items) }
 {
@@ -174,7 +176,7 @@ fn write_tags<A: Allocator + Copy>(sink: &mut Vec<u8, A>, index: u32) -> R<()>
     section.encode(sink)
 }
 
-/// Reads that tag section, and shortens it.
+/// Decodes that tag section, and appends its minimal encoding.
 pub fn read_tags<'a, A: Allocator + Copy + 'a>(
     text: &'a mut Vec<u8, A>,
     index: u32,
@@ -190,7 +192,7 @@ pub fn read_tags<'a, A: Allocator + Copy + 'a>(
     Ok(items)
 }
 
-/// Writes an export section of one function.
+/// Appends an export section of one function.
 fn write_exports<A: Allocator + Copy>(sink: &mut Vec<u8, A>, name: &str, index: u32) -> R<()>
     ensures { OnOk result (GainsReading (counted_format export) (exported name.now index ∷ []) sink.old.items sink.new.items) }
 {
@@ -199,7 +201,7 @@ fn write_exports<A: Allocator + Copy>(sink: &mut Vec<u8, A>, name: &str, index: 
     section.encode(sink)
 }
 
-/// Reads that export section, and shortens it.
+/// Decodes that export section, and appends its minimal encoding.
 pub fn read_exports<'a, A: Allocator + Copy + 'a>(
     text: &'a mut Vec<u8, A>,
     name: &str,

@@ -1,4 +1,5 @@
-//! Core dumps: the process, its modules, its instances, and the stack of a thread.
+//! Core dumps, written and read back: the process, its modules, its instances, and the stack of a
+//! thread.
 ghost use Rattle.std.specs.Prelude.{◌≡◌, ◌≢◌, [], ◌∷◌, IfOk, IfErr, OnOk, codes};
 ghost use Rattle.wasm_base.specs.Formats.{frame};
 ghost use Rattle.wasm_base.specs.Modules.{GainsReading, ReadsSections};
@@ -18,7 +19,7 @@ use wasm_custom::{
 use wasm_reader::{Items, SectionKind};
 use wasm_reader_base::ReadFault;
 
-/// Writes the section of a process.
+/// Appends the section of a process.
 fn write_process<A: Allocator + Copy>(sink: &mut Vec<u8, A>, name: &str) -> R<()>
     ensures { OnOk result (GainsReading (frame core_payload) name.now sink.old.items sink.new.items) }
 {
@@ -26,7 +27,7 @@ fn write_process<A: Allocator + Copy>(sink: &mut Vec<u8, A>, name: &str) -> R<()
     section.encode(sink)
 }
 
-/// Reads the section of that process, and shortens it.
+/// Decodes the section of that process, and appends its minimal encoding.
 pub fn read_process<'a, A: Allocator + Copy + 'a>(
     text: &'a mut Vec<u8, A>,
     name: &str,
@@ -42,7 +43,7 @@ pub fn read_process<'a, A: Allocator + Copy + 'a>(
     Ok(items)
 }
 
-/// Two modules: `main`, and one of this name.
+/// Returns two modules: `main`, and one of this name.
 fn modules<A: Allocator + Copy>(alloc: A, name: &str) -> R<CoreDumpModulesSection<A>>
     ensures { IfOk result (λ section. HoldsModules section (codes "main" ∷ name.now ∷ [])) }
 {
@@ -52,7 +53,7 @@ fn modules<A: Allocator + Copy>(alloc: A, name: &str) -> R<CoreDumpModulesSectio
     Ok(section)
 }
 
-/// Writes the section of these modules.
+/// Appends the section of these modules.
 fn write_modules<A: Allocator + Copy>(sink: &mut Vec<u8, A>, name: &str) -> R<()>
     ensures { OnOk result (GainsReading (frame modules_payload) (codes "main" ∷ name.now ∷ []) sink.old.items sink.new.items) }
 {
@@ -60,7 +61,7 @@ fn write_modules<A: Allocator + Copy>(sink: &mut Vec<u8, A>, name: &str) -> R<()
     section.encode(sink)
 }
 
-/// Reads the section of those modules, and shortens it.
+/// Decodes the section of those modules, and appends its minimal encoding.
 pub fn read_modules<'a, A: Allocator + Copy + 'a>(
     text: &'a mut Vec<u8, A>,
     name: &str,
@@ -76,7 +77,7 @@ pub fn read_modules<'a, A: Allocator + Copy + 'a>(
     Ok(items)
 }
 
-/// Two instances: of arrays, and of a vector and a slice.
+/// Returns two instances: of arrays, and of a vector and a slice.
 #[tactic(auto, using(wasm_base::proofs::KnownLengths::drained_array, wasm_base::proofs::KnownLengths::drained_vec, wasm_base::proofs::KnownLengths::drained_copied))]
 fn instances<A: Allocator + Copy>(alloc: A, index: u32) -> R<CoreDumpInstancesSection<A>>
     ensures { IfOk result (λ section. HoldsInstances section (first_instance ∷ other_instance index (7 ∷ []) ∷ [])) }
@@ -89,7 +90,7 @@ fn instances<A: Allocator + Copy>(alloc: A, index: u32) -> R<CoreDumpInstancesSe
     Ok(section)
 }
 
-/// Writes the section of these instances.
+/// Appends the section of these instances.
 fn write_instances<A: Allocator + Copy>(sink: &mut Vec<u8, A>, index: u32) -> R<()>
     ensures { OnOk result (GainsReading (frame instances_payload) (first_instance ∷ other_instance index (7 ∷ []) ∷ []) sink.old.items sink.new.items) }
 {
@@ -97,7 +98,7 @@ fn write_instances<A: Allocator + Copy>(sink: &mut Vec<u8, A>, index: u32) -> R<
     section.encode(sink)
 }
 
-/// Reads the section of those instances, and shortens it.
+/// Decodes the section of those instances, and appends its minimal encoding.
 pub fn read_instances<'a, A: Allocator + Copy + 'a>(
     text: &'a mut Vec<u8, A>,
     index: u32,
@@ -113,7 +114,7 @@ pub fn read_instances<'a, A: Allocator + Copy + 'a>(
     Ok(items)
 }
 
-/// The stack of a thread: two frames, of arrays, and of a slice.
+/// Returns the stack of a thread: two frames, of arrays, and of a slice.
 #[tactic(auto, using(wasm_base::proofs::KnownLengths::drained_array, wasm_base::proofs::KnownLengths::drained_copied))]
 fn stack<A: Allocator + Copy>(alloc: A, name: &str, offset: u32) -> R<CoreDumpStackSection<A>>
     ensures { IfOk result (λ section. SaysStack section.0 section.1 (name.now, first_frame ∷ other_frame offset ∷ [])) }
@@ -125,7 +126,7 @@ fn stack<A: Allocator + Copy>(alloc: A, name: &str, offset: u32) -> R<CoreDumpSt
     Ok(section)
 }
 
-/// Writes the section of this stack.
+/// Appends the section of this stack.
 fn write_stack<A: Allocator + Copy>(sink: &mut Vec<u8, A>, name: &str, offset: u32) -> R<()>
     ensures { OnOk result (GainsReading (frame stack_payload) (name.now, first_frame ∷ other_frame offset ∷ []) sink.old.items sink.new.items) }
 {
@@ -133,7 +134,7 @@ fn write_stack<A: Allocator + Copy>(sink: &mut Vec<u8, A>, name: &str, offset: u
     section.encode(sink)
 }
 
-/// Reads the section of that stack, and shortens it.
+/// Decodes the section of that stack, and appends its minimal encoding.
 pub fn read_stack<'a, A: Allocator + Copy + 'a>(
     text: &'a mut Vec<u8, A>,
     name: &str,
@@ -150,7 +151,7 @@ pub fn read_stack<'a, A: Allocator + Copy + 'a>(
     Ok(items)
 }
 
-/// A core dump: a module of these four sections.
+/// Returns a core dump: a module of these four sections.
 pub fn core_dump<A: Allocator + Copy>(alloc: A, name: &str, index: u32) -> R<Vec<u8, A>>
     ensures { IfOk result (λ bytes. ReadsSections (dump_sections name.now index) bytes.items) }
 {

@@ -1,4 +1,5 @@
-//! What is handed in: a raw body, whatever it spells, a custom section, made and spelled already, and functions and exports of a list.
+//! Sections of arguments: a raw body of any bytes, a custom section, built and already encoded, and
+//! functions and exports of a list.
 ghost use Rattle.std.specs.Prelude.{List, IfOk, OnOk, [], ◌∷◌, map};
 ghost use Rattle.std.specs.List.{AllZip};
 ghost use Rattle.wasm_base.specs.Entries.{counted_format};
@@ -16,7 +17,7 @@ use wasm_custom::{CustomSection, RawCustomSection};
 use wasm_sections::laws::plain_exports;
 use wasm_sections::{Export, ExportSection};
 
-/// A code section of a raw body.
+/// Returns a code section of a raw body.
 fn code<A: Allocator + Copy>(alloc: A, body: &[u8]) -> R<CodeSection<A>>
     ensures { IfOk result (λ section. HoldsBodies section (body.now ∷ [])) }
 {
@@ -25,7 +26,7 @@ fn code<A: Allocator + Copy>(alloc: A, body: &[u8]) -> R<CodeSection<A>>
     Ok(section)
 }
 
-/// A module of tags, a raw body, a custom section, and the bytes of that section again.
+/// Returns a module of tags, a raw body, a custom section, and the bytes of that section again.
 pub fn handed_module<A: Allocator + Copy>(
     alloc: A,
     index: u32,
@@ -49,7 +50,8 @@ pub fn handed_module<A: Allocator + Copy>(
     Ok(built.finish())
 }
 
-/// A code section of functions: it says in order what their bodies spell, and what these spell with padded numbers.
+/// Returns a code section of functions: it holds, in order, the bodies that they encode, minimal
+/// and padded.
 pub fn code_of<A: Allocator + Copy>(alloc: A, functions: &[Function<A>]) -> R<CodeSection<A>>
     ensures plain { IfOk result (λ section. (bodies : List Body) → AllZip IsPlainBody functions.now bodies → SpellsBodies section bodies) }
     ensures padded { IfOk result (λ section. (bodies : List Body) → AllZip IsWideBody functions.now bodies → SpellsBodiesWide section bodies) }
@@ -61,7 +63,8 @@ pub fn code_of<A: Allocator + Copy>(alloc: A, functions: &[Function<A>]) -> R<Co
     }
 }
 
-/// An export section of the exports of a list, as a reader of padded numbers finds it.
+/// Appends an export section of the exports of a list, which decodes to them with padded numbers
+/// too.
 pub fn encode_listed_exports<A: Allocator + Copy>(
     sink: &mut Vec<u8, A>,
     exports: &[Export<'_>],

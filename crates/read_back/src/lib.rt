@@ -1,4 +1,5 @@
-//! Callers of the reader, which prove what it answers of each kind of section that a builder writes; sections of padded numbers, and of what is handed in.
+//! Callers of the reader, which prove its result: for each kind of section that a builder writes,
+//! for sections of padded numbers, and for sections of arguments.
 #![tactic(auto, using(wasm_base::proofs::KnownLengths::drained_array))]
 
 ghost use Rattle.std.specs.Prelude.{◌≡◌, ◌≢◌, ◌⊎◌, ◌≤◌, ◌++◌, [], ◌∷◌, ℕ, List, length, IfOk, IfErr, OnOk, OnErr};
@@ -31,7 +32,7 @@ use wasm_reader::{
 use wasm_reader_base::{ReadFault, Shorten};
 use wasm_sections::FunctionSection;
 
-/// Reads the section of this kind that a buffer holds, and shortens it.
+/// Decodes the section of this kind in a buffer, and appends its minimal encoding to the sink.
 pub(crate) fn read_and_shorten<'a, A: Allocator + Copy + 'a>(
     kind: SectionKind,
     text: &'a Vec<u8, A>,
@@ -47,7 +48,7 @@ pub(crate) fn read_and_shorten<'a, A: Allocator + Copy + 'a>(
     Ok(items)
 }
 
-/// A function section of one function.
+/// Appends a function section of one function.
 pub fn write_function<A: Allocator + Copy>(sink: &mut Vec<u8, A>, index: u32) -> R<()>
     ensures { OnOk result (GainsReading (counted_format u32_format) (index ∷ []) sink.old.items sink.new.items) }
 {
@@ -56,7 +57,8 @@ pub fn write_function<A: Allocator + Copy>(sink: &mut Vec<u8, A>, index: u32) ->
     section.encode(sink)
 }
 
-/// Reads a function section that was written: the answer is the index that was added, and no cause but `Memory` is given.
+/// Writes a function section and decodes it: `Ok` holds the index that was added, and the only
+/// error is `Memory`.
 pub fn written_function<'a, A: Allocator + Copy + 'a>(
     text: &'a mut Vec<u8, A>,
     index: u32,
@@ -74,7 +76,7 @@ pub fn written_function<'a, A: Allocator + Copy + 'a>(
     Ok(items)
 }
 
-/// Shortens a function section that was written: what is appended is that section again.
+/// Writes a function section and minimizes it: the output is that section again.
 pub fn shortened_function<A: Allocator + Copy>(
     text: &mut Vec<u8, A>,
     index: u32,
@@ -93,8 +95,8 @@ pub fn shortened_function<A: Allocator + Copy>(
     Ok(taken)
 }
 
-/// Reads a section that is a function section which was written, some of its numbers padded, and shortens it: the items are those that were added, and what is appended is
-/// the section as it was written.
+/// Decodes and minimizes a padded encoding of a function section. The items are those that were
+/// added, and the output is the section as it was written.
 pub fn padded_function<'a, A: Allocator + Copy + 'a>(
     text: &mut Vec<u8, A>,
     index: u32,
@@ -116,7 +118,7 @@ pub fn padded_function<'a, A: Allocator + Copy + 'a>(
     Ok(items)
 }
 
-/// Appends two values that were read, or neither.
+/// Appends two decoded values, or neither.
 pub fn both_or_neither<T: Shorten, U: Shorten, A: Allocator>(
     first: &T,
     second: &U,
@@ -133,7 +135,7 @@ pub fn both_or_neither<T: Shorten, U: Shorten, A: Allocator>(
     appended
 }
 
-/// A name section: the names of the module and of its first function.
+/// Appends a name section: the names of the module and of its first function.
 pub fn write_names<A: Allocator + Copy>(sink: &mut Vec<u8, A>, name: &str, function: &str) -> R<()>
     ensures { OnOk result (GainsReading (frame name_payload) (Module name.now ∷ Map 1 ((0, function.now) ∷ []) ∷ []) sink.old.items sink.new.items) }
 {
@@ -145,7 +147,8 @@ pub fn write_names<A: Allocator + Copy>(sink: &mut Vec<u8, A>, name: &str, funct
     section.encode(sink)
 }
 
-/// Reads a name section that was written: the answer is the names that were added, and no cause but `Memory` is given.
+/// Writes a name section and decodes it: `Ok` holds the names that were added, and the only error
+/// is `Memory`.
 pub fn written_names<'a, A: Allocator + Copy + 'a>(
     text: &'a mut Vec<u8, A>,
     name: &str,
@@ -164,7 +167,8 @@ pub fn written_names<'a, A: Allocator + Copy + 'a>(
     Ok(items)
 }
 
-/// Shortens a module into an empty buffer, which then holds the shortened module, no longer than the first. After an error the buffer is empty.
+/// Minimizes a module into an empty buffer, which then holds the minimized module, no longer than
+/// the input. After an error the buffer is empty.
 #[tactic(auto, using(wasm_reader::proofs::Calls::module_comes, wasm_reader::proofs::Calls::module_no_longer))]
 pub fn smaller_module<A: Allocator + Copy>(
     bytes: &[u8],
@@ -179,7 +183,8 @@ pub fn smaller_module<A: Allocator + Copy>(
     shorten_module(bytes, Offsets::Refuse, sink)
 }
 
-/// Shortens a module, and then what came of it: both are the same, and the second call is refused for want of memory alone.
+/// Minimizes a module, and then the output: both outputs are equal, and the second call fails only
+/// if an allocation fails.
 #[tactic(auto, using(wasm_reader::proofs::Calls::module_stays, wasm_reader::proofs::Calls::module_accepted))]
 pub fn shortened_twice<A: Allocator + Copy>(
     bytes: &[u8],

@@ -1,4 +1,4 @@
-//! Sections of which some numbers are padded: expressions and entries that are spelled already.
+//! Sections with some padded numbers: expressions and entries that are already encoded.
 ghost use Rattle.std.specs.Prelude.{◌≡◌, ◌≢◌, [], ◌∷◌, IfOk, IfErr, OnOk};
 ghost use Rattle.wasm_base.specs.Entries.{HoldsWide, counted_format};
 ghost use Rattle.wasm_base.specs.Modules.{ReadsSections, GainsReadingWide};
@@ -24,7 +24,7 @@ use wasm_reader::{Items, SectionKind};
 use wasm_reader_base::ReadFault;
 use wasm_sections::{DataSection, ElementSection, Elements, TableSection, TableType};
 
-/// The offset 0, whose number has two bytes.
+/// Returns the offset 0, whose number has two bytes.
 fn padded_offset<A: Allocator>(alloc: A) -> R<ConstExpr<A>>
     ensures { IfOk result (λ offset. StoresWide offset zero_offset) }
 {
@@ -32,7 +32,7 @@ fn padded_offset<A: Allocator>(alloc: A) -> R<ConstExpr<A>>
     Ok(offset)
 }
 
-/// A table of references to the function 0, whose index has two bytes.
+/// Returns a table of references to the function 0, whose index has two bytes.
 fn tables<A: Allocator + Copy>(alloc: A) -> R<TableSection<A>>
     ensures { IfOk result (λ section. HoldsWide table_item section (first_everywhere ∷ [])) }
 {
@@ -49,7 +49,7 @@ fn tables<A: Allocator + Copy>(alloc: A) -> R<TableSection<A>>
     Ok(section)
 }
 
-/// The function 1, at the front of the table.
+/// Returns a segment of the function 1, at the front of the table.
 fn elements<A: Allocator + Copy>(alloc: A) -> R<ElementSection<A>>
     ensures { IfOk result (λ section. HoldsWide element section (at_front ∷ [])) }
 {
@@ -59,7 +59,7 @@ fn elements<A: Allocator + Copy>(alloc: A) -> R<ElementSection<A>>
     Ok(section)
 }
 
-/// These bytes, at the front of a memory.
+/// Returns a segment of these bytes, at the front of a memory.
 #[tactic(auto, using(wasm_base::proofs::KnownLengths::drained_copied))]
 fn segments<A: Allocator + Copy>(alloc: A, memory: u32, bytes: &[u8]) -> R<DataSection<A>>
     ensures { IfOk result (λ section. HoldsWide data_item section (bytes_at_front memory bytes.now ∷ [])) }
@@ -70,7 +70,7 @@ fn segments<A: Allocator + Copy>(alloc: A, memory: u32, bytes: &[u8]) -> R<DataS
     Ok(section)
 }
 
-/// The name of a local, whose index has two bytes.
+/// Returns the name of a local, whose index has two bytes.
 fn names<A: Allocator + Copy>(alloc: A) -> R<NameSection<A>>
     ensures { IfOk result (λ section. HoldsWide subsection section local_name) }
 {
@@ -79,7 +79,7 @@ fn names<A: Allocator + Copy>(alloc: A) -> R<NameSection<A>>
     Ok(section)
 }
 
-/// A module of these sections.
+/// Returns a module of these sections.
 pub fn padded_entries<A: Allocator + Copy>(alloc: A, memory: u32, bytes: &[u8]) -> R<Vec<u8, A>>
     ensures { IfOk result (λ made. ReadsSections (padded_sections memory bytes.now) made.items) }
 {
@@ -91,7 +91,7 @@ pub fn padded_entries<A: Allocator + Copy>(alloc: A, memory: u32, bytes: &[u8]) 
     Ok(built.finish())
 }
 
-/// Writes a data section of these bytes.
+/// Appends a data section of these bytes.
 fn write_padded_segment<A: Allocator + Copy>(
     sink: &mut Vec<u8, A>,
     memory: u32,
@@ -103,7 +103,7 @@ fn write_padded_segment<A: Allocator + Copy>(
     section.encode(sink)
 }
 
-/// Reads that data section, and shortens it.
+/// Decodes that data section, and appends its minimal encoding.
 pub fn read_padded_segment<'a, A: Allocator + Copy>(
     text: &'a mut Vec<u8, A>,
     memory: u32,
@@ -119,7 +119,7 @@ pub fn read_padded_segment<'a, A: Allocator + Copy>(
     Ok(items)
 }
 
-/// Writes a code section of a body of which an index has two bytes, and of a function.
+/// Appends a code section of a body in which an index has two bytes, and of a function.
 pub fn write_padded_bodies<A: Allocator + Copy>(sink: &mut Vec<u8, A>) -> R<()>
     ensures { OnOk result (GainsReadingWide code_section (gets_twice ∷ empty_body ∷ []) sink.old.items sink.new.items) }
 {

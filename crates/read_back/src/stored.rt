@@ -1,4 +1,5 @@
-//! Sections that store things: globals, elements, data and code, and sections of one number.
+//! Sections of stored items, written and read back: globals, elements, data and code, and sections
+//! of one number.
 ghost use Rattle.std.specs.Prelude.{◌≡◌, ◌≢◌, [], ◌∷◌, IfOk, IfErr, OnOk};
 ghost use Rattle.wasm_base.specs.Entries.{counted_format};
 ghost use Rattle.wasm_base.specs.Formats.{u32 as u32_format, frame};
@@ -26,7 +27,8 @@ use wasm_sections::{
     StartSection,
 };
 
-/// Reads a global section of one global, which has the value of another, and shortens it.
+/// Decodes a global section of one global, which has the value of another, and appends its minimal
+/// encoding.
 pub fn read_globals<'a, A: Allocator + Copy + 'a>(
     text: &'a mut Vec<u8, A>,
     index: u32,
@@ -42,7 +44,7 @@ pub fn read_globals<'a, A: Allocator + Copy + 'a>(
     Ok(items)
 }
 
-/// Writes an element section: a function at a place of a table, and two for a later call.
+/// Appends an element section: a function at an offset of a table, and two for a later call.
 fn write_elements<A: Allocator + Copy>(sink: &mut Vec<u8, A>, index: u32) -> R<()>
     ensures { OnOk result (GainsReading (counted_format element) (function_at_8 index ∷ later_functions ∷ []) sink.old.items sink.new.items) }
 {
@@ -63,7 +65,7 @@ fn write_elements<A: Allocator + Copy>(sink: &mut Vec<u8, A>, index: u32) -> R<(
     section.encode(sink)
 }
 
-/// Reads that element section, and shortens it.
+/// Decodes that element section, and appends its minimal encoding.
 pub fn read_elements<'a, A: Allocator + Copy + 'a>(
     text: &'a mut Vec<u8, A>,
     index: u32,
@@ -79,7 +81,7 @@ pub fn read_elements<'a, A: Allocator + Copy + 'a>(
     Ok(items)
 }
 
-/// Writes a data section: bytes at a place of a memory, and a segment that is spelled already.
+/// Appends a data section: bytes at an offset of a memory, and a segment that is already encoded.
 fn write_segments<A: Allocator + Copy>(sink: &mut Vec<u8, A>) -> R<()>
     ensures { OnOk result (GainsReading (counted_format data_item) (bytes_at_8 ∷ byte_later ∷ []) sink.old.items sink.new.items) }
 {
@@ -91,7 +93,7 @@ fn write_segments<A: Allocator + Copy>(sink: &mut Vec<u8, A>) -> R<()>
     section.encode(sink)
 }
 
-/// Reads that data section, and shortens it.
+/// Decodes that data section, and appends its minimal encoding.
 pub fn read_segments<'a, A: Allocator + Copy + 'a>(
     text: &'a mut Vec<u8, A>,
     sink: &mut Vec<u8, A>,
@@ -106,7 +108,7 @@ pub fn read_segments<'a, A: Allocator + Copy + 'a>(
     Ok(items)
 }
 
-/// A function of two locals, told one by one, which gives that of the index.
+/// Returns a function of two locals, added one by one, which returns the local of the index.
 pub(crate) fn of_locals<A: Allocator + Copy>(alloc: A, index: u32) -> R<Function<A>>
     ensures { IfOk result (λ function. IsPlainBody function (of_two_locals index)) }
 {
@@ -117,7 +119,7 @@ pub(crate) fn of_locals<A: Allocator + Copy>(alloc: A, index: u32) -> R<Function
     Ok(function)
 }
 
-/// A function of nothing.
+/// Returns a function that does nothing.
 pub(crate) fn of_nothing<A: Allocator>(alloc: A) -> R<Function<A>>
     ensures { IfOk result (λ function. IsPlainBody function empty_body) }
 {
@@ -127,7 +129,7 @@ pub(crate) fn of_nothing<A: Allocator>(alloc: A) -> R<Function<A>>
     Ok(function)
 }
 
-/// Writes a code section of these two functions.
+/// Appends a code section of these two functions.
 fn write_bodies<A: Allocator + Copy>(sink: &mut Vec<u8, A>, index: u32) -> R<()>
     ensures { OnOk result (GainsReading code_section (of_two_locals index ∷ empty_body ∷ []) sink.old.items sink.new.items) }
 {
@@ -138,7 +140,7 @@ fn write_bodies<A: Allocator + Copy>(sink: &mut Vec<u8, A>, index: u32) -> R<()>
     section.encode(sink)
 }
 
-/// Reads that code section, and shortens it.
+/// Decodes that code section, and appends its minimal encoding.
 pub fn read_bodies<'a, A: Allocator + Copy + 'a>(
     text: &'a mut Vec<u8, A>,
     index: u32,
@@ -154,7 +156,7 @@ pub fn read_bodies<'a, A: Allocator + Copy + 'a>(
     Ok(items)
 }
 
-/// Writes a start section.
+/// Appends a start section.
 fn write_start<A: Allocator>(sink: &mut Vec<u8, A>, index: u32) -> R<()>
     ensures { OnOk result (GainsReading (frame u32_format) index sink.old.items sink.new.items) }
 {
@@ -164,7 +166,7 @@ fn write_start<A: Allocator>(sink: &mut Vec<u8, A>, index: u32) -> R<()>
     .encode(sink)
 }
 
-/// Reads that start section, and shortens it.
+/// Decodes that start section, and appends its minimal encoding.
 pub fn read_start<'a, A: Allocator + Copy + 'a>(
     text: &'a mut Vec<u8, A>,
     index: u32,
@@ -180,14 +182,14 @@ pub fn read_start<'a, A: Allocator + Copy + 'a>(
     Ok(items)
 }
 
-/// Writes a data count section.
+/// Appends a data count section.
 fn write_data_count<A: Allocator>(sink: &mut Vec<u8, A>, count: u32) -> R<()>
     ensures { OnOk result (GainsReading (frame u32_format) count sink.old.items sink.new.items) }
 {
     DataCountSection { count }.encode(sink)
 }
 
-/// Reads that data count section, and shortens it.
+/// Decodes that data count section, and appends its minimal encoding.
 pub fn read_data_count<'a, A: Allocator + Copy + 'a>(
     text: &'a mut Vec<u8, A>,
     count: u32,

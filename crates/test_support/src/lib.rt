@@ -1,4 +1,5 @@
-//! What the tests of other crates share: an allocator that refuses requests, and readers and writers that fail.
+//! Tools that the tests of other crates share: an allocator that fails requests, and readers and
+//! writers that fail.
 #![tactic(auto)]
 
 mod memory;

@@ -1,10 +1,10 @@
-//! An allocator that refuses the requests that a test names.
+//! An allocator that fails the requests that a test selects.
 ghost use Rattle.std.specs.Prelude.{◌≡◌, ◌≤◌, ◌↔◌, IsTrue};
 
 use std::alloc::{AllocError, Allocator};
 use std::cell::Cell;
 
-/// It counts the requests, and refuses those numbered from `first` to `last`.
+/// Counts the requests, and fails those numbered from `first` to `last`.
 #[derive(Drop)]
 struct Gate {
     requests: Cell<u64>,
@@ -13,7 +13,7 @@ struct Gate {
 }
 
 impl Gate {
-    /// It refuses nothing, since no request has the number 0.
+    /// Returns a gate that fails nothing, since no request has the number 0.
     fn open() -> Gate {
         Gate {
             requests: Cell::new(0),
@@ -22,14 +22,14 @@ impl Gate {
         }
     }
 
-    /// From now on it refuses these requests, counted from 1.
+    /// Fails these requests from now on, counted from 1.
     fn restart(&self, first: u64, last: u64) {
         self.requests.set(0);
         self.first.set(first);
         self.last.set(last);
     }
 
-    /// Counts a request, and says whether it is refused.
+    /// Counts a request, and returns `true` if it is to fail.
     fn refuses(&self) -> bool {
         let number = self.requests.get().saturating_add(1);
         self.requests.set(number);
@@ -43,16 +43,17 @@ fn is_between(number: u64, first: u64, last: u64) -> bool
     first <= number && number <= last
 }
 
-/// An allocator over another one, which refuses the requests that a test names and counts them all.
+/// An allocator over another one, which fails the requests that a test selects and counts them all.
 /// A request is a call of `allocate`, and so is a growth of a `Vec`.
-/// A test lends it: a `&Refusing<B>` is an allocator too, and is `Copy`.
+/// A test borrows it: a `&Refusing<B>` is an allocator too, and is `Copy`.
 pub struct Refusing<B: Allocator> {
     inner: B,
     gate: Gate,
 }
 
 impl<B: Allocator> Refusing<B> {
-    /// It passes each request on to `inner`, until it is told what to refuse.
+    /// Returns an allocator that passes each request on to `inner`, until a test selects requests
+    /// to fail.
     pub fn new(inner: B) -> Refusing<B>
         ensures { result.inner ≡ inner }
     {
@@ -62,24 +63,23 @@ impl<B: Allocator> Refusing<B> {
         }
     }
 
-    /// Of the requests from now on, just the one numbered `nth` is refused, counted from 1.
-    /// At 0 none is refused.
+    /// Fails only the request numbered `nth` from now on, counted from 1. At 0 none fails.
     pub fn refuse(&self, nth: u64) {
         self.gate.restart(nth, nth);
     }
 
-    /// Every request from now on is refused.
+    /// Fails every request from now on.
     pub fn refuse_all(&self) {
         self.gate.restart(1, u64::MAX);
     }
 
-    /// No request that is to be refused has come yet, and one is still to be refused.
+    /// Returns `true` if a request is still to fail, and none has failed yet.
     pub fn is_waiting(&self) -> bool {
         self.gate.requests.get() < self.gate.first.get()
     }
 
-    /// How many requests there were since `new`, `refuse` or `refuse_all`, those that were refused
-    /// included. It stops at `u64::MAX`.
+    /// Returns the number of requests since `new`, `refuse` or `refuse_all`, including failed ones.
+    /// It stops at `u64::MAX`.
     pub fn requests(&self) -> u64 {
         self.gate.requests.get()
     }

@@ -1,4 +1,4 @@
-//! Readers and writers that fail at a call that a test names.
+//! Readers and writers that fail at a call that a test selects.
 ghost use Rattle.std.specs.Prelude.{◌≡◌, ◌+◌, ◌-◌, ◌<◌, ◌↔◌, Some, None, IsOk, IsErr, IsOkAnd, IfOk, [], min, length, slice_set};
 ghost use Rattle.std.specs.Io.KnownBytes.{Keeps, ReadConsumes, WriteAppends};
 ghost use Rattle.std.specs.Io.{ReadsAtMost, WritesAtMost};
@@ -13,7 +13,7 @@ struct Countdown {
 }
 
 impl Countdown {
-    /// Fails where this call is the one that is to fail.
+    /// Fails if this call is the one that is to fail.
     fn step(&mut self) -> Result<()>
         ensures fails { IsErr result ↔ (self.old.left ≡ 1) }
         ensures counts { self.new.left ≡ self.old.left - 1 }
@@ -27,8 +27,8 @@ impl Countdown {
     }
 }
 
-/// A reader of a text, which gives it in pieces. One of its reads fails, if a test wants that.
-/// A read that fails takes nothing, and the reads after it go on.
+/// A reader of bytes, which returns them in chunks. One of its reads fails, if a test wants that.
+/// A failed read consumes nothing, and the reads after it continue.
 #[derive(Drop)]
 pub struct FailingReader<'a> {
     text: &'a [u8],
@@ -38,8 +38,8 @@ pub struct FailingReader<'a> {
 }
 
 impl<'a> FailingReader<'a> {
-    /// A read gives at most `chunk` bytes of the text. The one numbered `failing` fails, counted
-    /// from 1, and at 0 none does.
+    /// Returns a reader whose reads return at most `chunk` bytes. The read numbered `failing`
+    /// fails, counted from 1; at 0 none does.
     pub fn new(text: &'a [u8], chunk: usize, failing: u64) -> FailingReader<'a>
         requires { 0 < chunk }
         ensures text { result.text.now ≡ text.now }
@@ -75,21 +75,21 @@ impl Read for FailingReader<'_> {
     }
 }
 
-/// A reader that never ends, gives one space at each read, and counts its reads.
+/// A reader that never ends: it returns one space at each read, and counts its reads.
 #[derive(Drop)]
 pub struct EndlessReader {
     reads: u64,
 }
 
 impl EndlessReader {
-    /// No read was made yet.
+    /// Returns a reader that has made no read yet.
     pub fn new() -> EndlessReader
         ensures { result.reads ≡ 0 }
     {
         EndlessReader { reads: 0 }
     }
 
-    /// How many reads there were. It stops at `u64::MAX`.
+    /// Returns the number of reads. It stops at `u64::MAX`.
     pub fn reads(&self) -> u64
         ensures { result ≡ self.now.reads }
     {
@@ -116,8 +116,8 @@ impl Read for EndlessReader {
     }
 }
 
-/// A writer that keeps what it is given. One of its writes fails, if a test wants that.
-/// A write that fails takes nothing, and the writes after it go on.
+/// A writer that keeps the bytes that are written. One of its writes fails, if a test wants that.
+/// A failed write keeps nothing, and the writes after it continue.
 #[derive(Drop)]
 pub struct FailingWriter<A: Allocator> {
     written: Vec<u8, A>,
@@ -125,8 +125,9 @@ pub struct FailingWriter<A: Allocator> {
 }
 
 impl<A: Allocator> FailingWriter<A> {
-    /// It keeps what it is given in memory of `alloc`. A write also fails where there is none, and
-    /// then takes nothing. The one numbered `failing` fails, counted from 1, and at 0 none does.
+    /// Returns a writer that keeps its bytes in memory of `alloc`. A write also fails if an
+    /// allocation does, and then keeps nothing. The write numbered `failing` fails, counted from 1;
+    /// at 0 none does.
     pub fn new(alloc: A, failing: u64) -> FailingWriter<A>
         ensures bytes { result.written.items ≡ [] }
         ensures failing { result.countdown.left ≡ failing }
@@ -137,7 +138,7 @@ impl<A: Allocator> FailingWriter<A> {
         }
     }
 
-    /// What was written so far.
+    /// Returns the bytes that were written so far.
     pub fn bytes(&self) -> &[u8]
         ensures { result.now ≡ self.now.written.items }
     {

@@ -1,10 +1,10 @@
-//! What no clause says: what a cell does, and that each call can succeed.
+//! Tests of facts that no clause states: the behaviour of a cell, and that each call can succeed.
 use crate::{EndlessReader, FailingReader, FailingWriter, Refusing};
 use std::alloc::Allocator;
 use std::io::{Read, Write};
 use std::test::Fail;
 
-/// Makes one request, and says whether it was granted.
+/// Makes one request, and returns `true` if it was granted.
 fn is_granted<B: Allocator>(heap: &Refusing<B>) -> bool {
     let mut bytes = Vec::new(heap);
     bytes.push(0).is_ok()

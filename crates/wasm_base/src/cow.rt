@@ -1,4 +1,4 @@
-// Slices and text that are borrowed or owned.
+// Slices and strings that are borrowed or owned.
 ghost use Rattle.std.specs.Prelude.{◌≡◌, ◌≢◌, IfOk};
 ghost use Rattle.wasm_base.specs.Cow.{items_of, text_of};
 ghost use Rattle.wasm_base.specs.Texts.{vec_text, VecFits, frame_text, FrameFits};
@@ -7,7 +7,7 @@ use crate::encode::Encode;
 use crate::refused::{R, Refused};
 use std::alloc::{Allocator, Global};
 
-/// Items that are borrowed or owned.
+/// A slice of items that is borrowed, or owned as a `Vec`.
 #[derive(Drop, Debug)]
 pub enum CowSlice<'a, T, A: Allocator = Global> {
     Borrowed(&'a [T]),
@@ -15,7 +15,7 @@ pub enum CowSlice<'a, T, A: Allocator = Global> {
 }
 
 impl<'a, T, A: Allocator> CowSlice<'a, T, A> {
-    /// The items.
+    /// Returns the items.
     pub fn as_slice(&self) -> &[T]
         ensures { result.now ≡ items_of self.now }
     {
@@ -27,7 +27,7 @@ impl<'a, T, A: Allocator> CowSlice<'a, T, A> {
 }
 
 impl<'a, T: Copy, A: Allocator + Copy> CowSlice<'a, T, A> {
-    /// The same items: owned ones in memory of their own.
+    /// Returns the same items, and copies owned ones into memory of their own.
     pub fn clone(&self) -> R<Self>
         ensures same { IfOk result (λ cow. items_of cow ≡ items_of self.now) }
         ensures memory { result ≢ Err Refused.TooLong }
@@ -42,7 +42,7 @@ impl<'a, T: Copy, A: Allocator + Copy> CowSlice<'a, T, A> {
     }
 }
 
-/// The vector of the items.
+/// Encodes the items as a vector.
 impl<T: Encode, A: Allocator> Encode for CowSlice<'_, T, A> {
     ghost text = { λ cow. vec_text T.text (items_of cow) };
 
@@ -53,7 +53,7 @@ impl<T: Encode, A: Allocator> Encode for CowSlice<'_, T, A> {
     }
 }
 
-/// Text that is borrowed or owned.
+/// A string that is borrowed, or owned as a `String`.
 #[derive(Drop, Debug)]
 pub enum CowStr<'a, A: Allocator = Global> {
     Borrowed(&'a str),
@@ -61,7 +61,7 @@ pub enum CowStr<'a, A: Allocator = Global> {
 }
 
 impl<'a, A: Allocator> CowStr<'a, A> {
-    /// The text.
+    /// Returns the string.
     pub fn as_str(&self) -> &str
         ensures { result.now ≡ text_of self.now }
     {
@@ -73,7 +73,7 @@ impl<'a, A: Allocator> CowStr<'a, A> {
 }
 
 impl<'a, A: Allocator + Copy> CowStr<'a, A> {
-    /// The same text: one that is owned in memory of its own.
+    /// Returns the same string, and copies an owned one into memory of its own.
     pub fn clone(&self) -> R<Self>
         ensures same { IfOk result (λ cow. text_of cow ≡ text_of self.now) }
         ensures memory { result ≢ Err Refused.TooLong }
@@ -88,7 +88,7 @@ impl<'a, A: Allocator + Copy> CowStr<'a, A> {
     }
 }
 
-/// The name.
+/// Encodes the string as a name.
 impl<A: Allocator> Encode for CowStr<'_, A> {
     ghost text = { λ cow. frame_text (text_of cow) };
 

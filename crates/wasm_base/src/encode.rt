@@ -1,4 +1,4 @@
-// Values with a layout.
+// The trait `Encode`: values with an encoding in the binary format.
 ghost use Rattle.std.specs.Prelude.{◌≡◌, ℕ, List, Err, OnOk, ⊤};
 ghost use Rattle.wasm_base.specs.Calls.{Appends};
 ghost use Rattle.wasm_base.specs.declared.refused.Refused.TheVariants.{TooLong};
@@ -6,21 +6,27 @@ ghost use Rattle.wasm_base.specs.declared.refused.Refused.TheVariants.{TooLong};
 use crate::refused::R;
 use std::alloc::Allocator;
 
-/// A value that a module can hold as bytes.
+/// A value that has an encoding in the WebAssembly binary format.
+///
+/// # Errors
+///
+/// `encode` returns [`Refused`](crate::refused::Refused), and leaves the sink unchanged, if the
+/// value does not fit or an allocation fails.
 pub trait Encode {
-    /// text: the bytes that the layout gives for the value.
+    /// `text`: the encoding of the value.
     ghost text: { Self → List ℕ };
 
-    /// fits: every count, run and length of that text can be spelled.
+    /// `fits`: every count and length in that encoding is representable.
     ghost fits: { Self → Type 0 };
 
-    /// What is promised to readers of the text. A section must promise its headline here.
+    /// `reading`: the promise about decoding the encoding. A section must promise its headline
+    /// here.
     ghost reading: { Self → Type 0 } = { λ _. ⊤ };
 
-    /// overlong: `encode` returns `TooLong` for such a value, whatever memory there is.
+    /// `overlong`: `encode` returns `TooLong` for such a value, however much memory there is.
     ghost overlong: { Self → Type 0 } = { λ _. ⊥ };
 
-    /// Appends the text. A refused call leaves the bytes of the sink as they were.
+    /// Appends the encoding of the value. On an error, the bytes of the sink are unchanged.
     fn encode<A: Allocator>(&self, sink: &mut Vec<u8, A>) -> R<()>
         ensures appends { Appends (text self.now) (fits self.now) sink.old sink.new result }
         ensures read { OnOk result (reading self.now) }

@@ -1,11 +1,11 @@
-// Fixed bytes.
+// Encoding of byte arrays of a fixed length.
 ghost use Rattle.std.specs.Prelude.{⊤};
 
 use crate::encode::Encode;
 use crate::refused::R;
 use std::alloc::Allocator;
 
-/// The bytes as they are, with no count.
+/// Encodes the bytes as they are, without a count.
 impl<const N: usize> Encode for [u8; N] {
     ghost text = { λ bytes. bytes };
 

@@ -1,4 +1,4 @@
-// Frames: a size, and exactly that many bytes.
+// Size-prefixed bytes: a size, and exactly that many bytes.
 ghost use Rattle.std.specs.Prelude.{◌≡◌, ◌≢◌, ◌+◌, ◌<◌, ◌≤◌, ◌++◌, length, vec_len, vec_capacity, OnOk, OnErr, IsOk};
 ghost use Rattle.wasm_base.specs.Calls.{Appends};
 ghost use Rattle.wasm_base.specs.Numbers.{unsigned_text};
@@ -9,7 +9,7 @@ use crate::leb128::encoding_size;
 use crate::refused::{R, Refused};
 use std::alloc::Allocator;
 
-/// Appends the size of a frame, and makes room for the bytes that are to follow.
+/// Appends a size prefix, and reserves spare capacity for the payload that the caller appends next.
 pub fn begin_frame<A: Allocator>(sink: &mut Vec<u8, A>, size: usize) -> R<()>
     ensures ok { OnOk result (sink.new.items ≡ sink.old.items ++ unsigned_text size) }
     ensures made_room { OnOk result (vec_len sink.new + size ≤ vec_capacity sink.new) }
@@ -34,7 +34,7 @@ pub fn begin_frame<A: Allocator>(sink: &mut Vec<u8, A>, size: usize) -> R<()>
 /// A size below this has one byte.
 const SHORT: usize = 0x80;
 
-/// Appends the frame of the bytes.
+/// Appends the bytes with their size prefix.
 #[tactic(auto, using(crate::proofs::NumberTexts::one_group))]
 #[inline(always)]
 pub fn encode_frame<A: Allocator>(sink: &mut Vec<u8, A>, bytes: &[u8]) -> R<()>
@@ -51,7 +51,7 @@ pub fn encode_frame<A: Allocator>(sink: &mut Vec<u8, A>, bytes: &[u8]) -> R<()>
     Ok(())
 }
 
-/// Appends the frame of the bytes, whose size may have several bytes.
+/// Appends the bytes with their size prefix, which may have several bytes.
 #[inline(never)]
 fn encode_long_frame<A: Allocator>(sink: &mut Vec<u8, A>, bytes: &[u8]) -> R<()>
     ensures appends { Appends (frame_text bytes.now) (FrameFits bytes.now) sink.old sink.new result }
@@ -62,7 +62,8 @@ fn encode_long_frame<A: Allocator>(sink: &mut Vec<u8, A>, bytes: &[u8]) -> R<()>
     Ok(())
 }
 
-/// Appends the frame of the spelled count and the bytes: a section, where these are that many members of a vector. This is not looked at.
+/// Appends a size prefix, then `count`, then the bytes. This is a counted section if the bytes are
+/// the encodings of `count` entries; the call does not check that.
 pub fn encode_section<A: Allocator>(sink: &mut Vec<u8, A>, count: u32, bytes: &[u8]) -> R<()>
     ensures appends { Appends (frame_text (unsigned_text count ++ bytes.now)) (FrameFits (unsigned_text count ++ bytes.now)) sink.old sink.new result }
     ensures too_many { longest < length (unsigned_text count ++ bytes.now) → result ≡ Err Refused.TooLong }
@@ -73,7 +74,7 @@ pub fn encode_section<A: Allocator>(sink: &mut Vec<u8, A>, count: u32, bytes: &[
     Ok(())
 }
 
-/// A name: the frame of its UTF-8 bytes.
+/// Encodes a name: the size prefix and the UTF-8 bytes.
 impl Encode for &str {
     ghost text = { λ name. frame_text name.now };
 

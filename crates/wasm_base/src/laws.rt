@@ -1,8 +1,11 @@
-//! What is promised of all lists of bytes, and not of a call: each function does nothing, and its clauses are the promise.
+//! Laws about the formats of this crate, for all byte sequences: each function does nothing, and
+//! its clauses are the law.
 //!
-//! `UniqueReading F` says that bytes begin with a spelling in the format `F` of at most one value, whatever follows, both with
-//! shortest and with padded numbers, and that a value has at most one shortest spelling. `HasTexts F fits text` says that the text of each
-//! value that fits is this spelling. No clause ranges over all formats, so vectors and frames are stated for those named here.
+//! `UniqueReading F` says that the format `F` is unambiguous: at most one value decodes from the
+//! front of any bytes, with minimal and with padded numbers. A value has at most one minimal
+//! encoding. `HasTexts F fits text` says that `text` is the minimal encoding of each value that
+//! fits. No clause ranges over all formats, so each vector and each size-prefixed format has a
+//! clause of its own.
 ghost use Rattle.std.specs.Prelude.{◌≡◌, false, true, pos, All, IsUtf8};
 ghost use Rattle.wasm_base.specs.Formats.{
   u32 as u32_format,
@@ -31,7 +34,7 @@ ghost use Rattle.wasm_base.specs.declared.types.TheConstants.HeapType.{FUNC, EXT
 ghost use Rattle.wasm_base.specs.declared.types.TheConstants.RefType.{FUNCREF, EXTERNREF};
 ghost use Rattle.wasm_base.specs.Texts.{vec_text, VecFits, frame_text, FrameFits, module_text, ModuleFits, little_endian_text};
 
-/// Numbers are read uniquely. `s33` is an index, spelled as a signed number.
+/// The formats of numbers are unambiguous. `s33` is an index, encoded as a signed number.
 #[tactic(auto, using(crate::proofs::BaseLaws::numbers))]
 pub fn numbers()
     ensures u32 { UniqueReading u32_format }
@@ -47,7 +50,8 @@ pub fn numbers()
     ensures s33_texts { HasTexts s33 (FitsUnsigned 32) (λ n. signed_text (pos n)) }
 {}
 
-/// Fixed bytes, names, vectors and frames are read uniquely, and so is a module at the level of ids and payloads.
+/// Fixed-width bytes, names, vectors and size-prefixed payloads are unambiguous, and so is a module
+/// of section ids and payloads.
 #[tactic(auto, using(crate::proofs::BaseLaws::frames))]
 pub fn frames()
     ensures fixed_4 { UniqueReading (little_endian 4) }
@@ -73,8 +77,8 @@ pub fn frames()
     ensures module_texts { HasTexts wasm_module ModuleFits module_text }
 {}
 
-/// Where a module is read as ids and payloads, and the text that frames a payload as one value alone, the payload is read as this
-/// value alone.
+/// Suppose that a module decodes to ids and payloads, and that a payload with its size prefix
+/// decodes to one value alone. Then the payload decodes to this value alone.
 #[tactic(auto, using(crate::proofs::Payloads::payloads))]
 pub fn payloads()
     ensures bytes { ReadsPayloads any_bytes }
@@ -90,7 +94,8 @@ pub fn wide_payloads()
     ensures custom { ReadsPayloadsWide (pair name any_bytes) }
 {}
 
-/// Types are read uniquely: no index begins with a byte of theirs, nor with the 40 of an empty block type (hexadecimal).
+/// The formats of types are unambiguous. No index begins with a byte that encodes a type, nor with
+/// 0x40, the empty block type.
 #[tactic(auto, using(crate::proofs::TypeLaws::types))]
 pub fn types()
     ensures heap { UniqueReading heap_type }
@@ -111,7 +116,8 @@ pub fn constants()
     ensures host_reference { EXTERNREF ≡ record { nullable = true; heap_type = Abstract false Extern } }
 {}
 
-/// With padded numbers, as the standard allows them, bytes are read uniquely too, and what shortest numbers spell is among it.
+/// With padded numbers, as the standard allows them, the formats are unambiguous too. A minimal
+/// encoding is also an encoding in this mode.
 #[tactic(auto, using(crate::proofs::BaseLaws::wide_laws, crate::proofs::TypeLaws::wide_types))]
 pub fn wide()
     ensures u32 { IsUniqueWide u32_format }
@@ -134,7 +140,8 @@ pub fn wide()
     ensures val_type { IsUniqueWide val_type }
 {}
 
-/// A name is UTF-8. Where one lies behind a reference, as in a record, no clause shows it: this call does.
+/// A name is UTF-8. For a name behind a reference, as in a record, no clause shows that; this call
+/// does.
 pub fn plain_name(name: &str)
     ensures { IsUtf8 name.now }
 {}

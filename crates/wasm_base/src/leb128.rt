@@ -1,4 +1,4 @@
-// LEB128: numbers written in fewest bytes, and their groups of seven bits read.
+// LEB128: encodes numbers in their minimal form, and decodes groups of seven bits.
 ghost use Rattle.std.specs.Prelude.{◌≡◌, ◌+◌, ◌*◌, ◌^◌, ◌≤◌, ◌<◌, ◌++◌, ◌∷◌, [], length, vec_len, vec_capacity, ⊤, IfOk, IfErr};
 ghost use Rattle.wasm_base.specs.Calls.{Appends};
 ghost use Rattle.wasm_base.specs.Groups.{groups, HasGroups};
@@ -11,13 +11,14 @@ use crate::encode::Encode;
 use crate::refused::{R, Refused};
 use std::alloc::Allocator;
 
-/// An unsigned number below this is a group by itself, the last one.
+/// An unsigned number below this is one group, the last one.
 const UNSIGNED_LIMIT: u64 = 0x80;
 
-/// A signed number from the negation of this on, and below this, is a group by itself: bit 6 is the sign.
+/// A signed number from `-SIGNED_LIMIT` up to, but not including, `SIGNED_LIMIT` is one group: bit
+/// 6 is the sign.
 const SIGNED_LIMIT: u64 = 0x40;
 
-/// How many bytes the shortest unsigned spelling of `n` has.
+/// Returns the length in bytes of the minimal unsigned encoding of `n`.
 pub fn encoding_size(n: u32) -> usize
     ensures value { result ≡ length (unsigned_text n) }
     ensures bound { result ≤ 5 }
@@ -25,7 +26,7 @@ pub fn encoding_size(n: u32) -> usize
     groups_size(false, UNSIGNED_LIMIT, u64::from(n))
 }
 
-/// How many groups `n` has.
+/// Returns the number of groups of `n`.
 fn groups_size(negative: bool, limit: u64, n: u64) -> usize
     requires { 0 < limit }
     ensures { result ≡ length (groups_text negative limit n) }
@@ -39,7 +40,7 @@ fn groups_size(negative: bool, limit: u64, n: u64) -> usize
     size
 }
 
-/// A group of `n` that others follow.
+/// Returns the lowest group of `n`, which further groups follow.
 #[inline]
 fn group_before_others(negative: bool, n: u64) -> u8
     ensures { result ≡ next_group negative n }
@@ -48,7 +49,7 @@ fn group_before_others(negative: bool, n: u64) -> u8
     if negative { 0xFF - low } else { low + 0x80 }
 }
 
-/// The last group.
+/// Returns the last group of a number.
 #[inline]
 fn group_at_the_end(negative: bool, n: u64) -> u8
     requires { n < 0x80 }
@@ -58,7 +59,7 @@ fn group_at_the_end(negative: bool, n: u64) -> u8
     if negative { 0x7F - low } else { low }
 }
 
-/// Appends the groups of `n`, where the sink has room for them.
+/// Appends the groups of `n` into spare capacity of the sink, which holds them all.
 fn put_groups<A: Allocator>(sink: &mut Vec<u8, A>, negative: bool, limit: u64, n: u64)
     requires limit { 0 < limit × limit ≤ 0x80 }
     requires room { vec_len sink.old + length (groups_text negative limit n) ≤ vec_capacity sink.old }
@@ -73,7 +74,7 @@ fn put_groups<A: Allocator>(sink: &mut Vec<u8, A>, negative: bool, limit: u64, n
     sink.push_reserved(group_at_the_end(negative, rest));
 }
 
-/// Appends the groups of `n`, which has two of them, where the sink has room for them.
+/// Appends the two groups of `n` into spare capacity of the sink, which holds them.
 #[inline]
 fn put_two_groups<A: Allocator>(sink: &mut Vec<u8, A>, negative: bool, limit: u64, n: u64)
     requires limit { 0 < limit × limit ≤ 0x80 }
@@ -89,8 +90,8 @@ fn put_two_groups<A: Allocator>(sink: &mut Vec<u8, A>, negative: bool, limit: u6
 /// The most groups that a number of 64 bits has.
 const MOST_GROUPS: usize = 10;
 
-/// Appends the groups of `n`, which has several. Where there is room for as many as a number can have, they are not counted, and two
-/// are written without a loop.
+/// Appends the several groups of `n`. With spare capacity for `MOST_GROUPS` the groups are not
+/// counted first, and two groups are written without a loop.
 #[tactic(auto, using(crate::proofs::NumberTexts::most_groups))]
 #[inline(always)]
 fn append_groups<A: Allocator>(sink: &mut Vec<u8, A>, negative: bool, limit: u64, n: u64) -> R<()>
@@ -109,7 +110,7 @@ fn append_groups<A: Allocator>(sink: &mut Vec<u8, A>, negative: bool, limit: u64
     Ok(())
 }
 
-/// Appends the groups of `n`, after one request for as much memory as they take.
+/// Appends the groups of `n`, after one request for exactly the memory that they take.
 #[cold]
 #[inline(never)]
 fn append_counted_groups<A: Allocator>(
@@ -144,7 +145,7 @@ fn append_long_signed<A: Allocator>(sink: &mut Vec<u8, A>, negative: bool, n: u6
     append_groups(sink, negative, SIGNED_LIMIT, n)
 }
 
-/// Most numbers have one byte, which is written in place.
+/// Appends an unsigned number. Most have one byte, which is written here without a call.
 #[tactic(auto, using(crate::proofs::NumberTexts::one_group))]
 #[inline]
 fn append_unsigned<A: Allocator>(sink: &mut Vec<u8, A>, n: u64) -> R<()>
@@ -171,7 +172,7 @@ fn append_signed<A: Allocator>(sink: &mut Vec<u8, A>, n: i64) -> R<()>
     append_long_signed(sink, negative, n)
 }
 
-/// One byte.
+/// Encodes the number as one byte.
 impl Encode for u8 {
     ghost text = { λ n. n ∷ [] };
 
@@ -184,7 +185,7 @@ impl Encode for u8 {
     }
 }
 
-/// Unsigned LEB128.
+/// Encodes the number as unsigned LEB128.
 impl Encode for u32 {
     ghost text = { unsigned_text };
 
@@ -196,7 +197,7 @@ impl Encode for u32 {
     }
 }
 
-/// Unsigned LEB128.
+/// Encodes the number as unsigned LEB128.
 impl Encode for u64 {
     ghost text = { unsigned_text };
 
@@ -208,7 +209,7 @@ impl Encode for u64 {
     }
 }
 
-/// Unsigned LEB128 of a count or a length, which is too long past 4294967295.
+/// Encodes a count or a length as unsigned LEB128. A number above 4294967295 is `TooLong`.
 impl Encode for usize {
     ghost text = { unsigned_text };
 
@@ -224,7 +225,7 @@ impl Encode for usize {
     }
 }
 
-/// Signed LEB128.
+/// Encodes the number as signed LEB128.
 impl Encode for i32 {
     ghost text = { signed_text };
 
@@ -236,7 +237,7 @@ impl Encode for i32 {
     }
 }
 
-/// Signed LEB128.
+/// Encodes the number as signed LEB128.
 impl Encode for i64 {
     ghost text = { signed_text };
 
@@ -248,27 +249,28 @@ impl Encode for i64 {
     }
 }
 
-/// Groups of seven bits that stand at the front of bytes, the least group first.
+/// The groups of seven bits at the front of bytes, the lowest group first.
 #[derive(Clone, Copy, Debug)]
 pub struct Groups {
-    /// What they spell as a number without a sign.
+    /// The number that the groups encode without a sign.
     pub sum: u128,
-    /// 128 to the power of their number.
+    /// 128 to the power of the number of groups.
     pub power: u128,
-    /// The last of them, of which bit 6 is the sign.
+    /// The last group. Bit 6 is the sign of a signed number.
     pub last: u8,
 }
 
-/// Why no groups stand at the front.
+/// Why no number is at the front of the bytes.
 #[derive(Clone, Copy, PartialEq, Eq, Debug)]
 pub enum NoGroups {
     /// The bytes end before the last group.
     Ended,
-    /// There are more groups than may be.
+    /// There are more groups than the limit.
     TooMany,
 }
 
-/// The groups at the front, of which there may be `limit`, and the bytes after them.
+/// Decodes the groups at the front, at most `limit` of them, and returns them with the remaining
+/// bytes.
 #[tactic(auto, using(crate::proofs::GroupLaws::group_steps))]
 pub fn read_groups(bytes: &[u8], limit: u8) -> Result<(Groups, &[u8]), NoGroups>
     requires { limit ≤ 10 }

@@ -1,7 +1,9 @@
-//! The base of a WebAssembly encoder: numbers, names, vectors and frames, the entries of a builder, sections and modules.
+//! The base of a WebAssembly encoder: numbers, names, vectors and size prefixes, the entries of a
+//! builder, sections and modules.
 //!
-//! The formats are those of the WebAssembly core specification, "Binary Format". What bytes spell is defined in
-//! `specs/Formats.antt`, what a call appends in `specs/Calls.antt`, and [`laws`] says that bytes are read in one way.
+//! The formats are those of the WebAssembly core specification, "Binary Format".
+//! `specs/Formats.antt` defines which bytes encode which values, `specs/Calls.antt` the contracts
+//! of calls that append, and [`laws`] states that the formats are unambiguous.
 #![tactic(auto)]
 
 mod counted;

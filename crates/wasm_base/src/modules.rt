@@ -9,7 +9,7 @@ use crate::sections::Section;
 use std::alloc::{Allocator, Global};
 use std::marker::Model;
 
-/// A module, seen as its bytes.
+/// A module: its header and the sections that were appended, as bytes.
 ///
 /// ```rust
 /// let mut module = Module::new(alloc)?;
@@ -28,7 +28,11 @@ impl<A: Allocator> Model for Module<A> {
 }
 
 impl<A: Allocator> Module<A> {
-    /// A module of no sections.
+    /// Returns a module without sections.
+    ///
+    /// # Errors
+    ///
+    /// Returns [`Refused::Memory`] if the allocation of the header fails.
     #[tactic(auto, using(crate::proofs::ModuleLaws::module_empty))]
     pub fn new(alloc: A) -> R<Module<A>>
         ensures bytes { IfOk result (λ m. m ≡ header) }
@@ -40,7 +44,12 @@ impl<A: Allocator> Module<A> {
         })
     }
 
-    /// Appends a section. A refused call leaves the module as it was.
+    /// Appends a section.
+    ///
+    /// # Errors
+    ///
+    /// Returns [`Refused`], and leaves the module unchanged, if the section is too long or an
+    /// allocation fails.
     pub fn section<S: Section>(&mut self, section: &S) -> R<()>
         ensures ok { OnOk result (self.new ≡ self.old ++ (S.id_of section.now ∷ S.text section.now)) }
         ensures read { OnOk result (ReadsOneMore (S.payload section.now) (S.id_of section.now) self.old self.new) }
@@ -54,7 +63,7 @@ impl<A: Allocator> Module<A> {
         section.append_to(&mut self.bytes)
     }
 
-    /// A module with the same bytes, in memory of its own.
+    /// Returns a module of the same bytes, in memory of its own.
     pub fn clone(&self) -> R<Module<A>>
     where
         A: Clone,
@@ -67,7 +76,7 @@ impl<A: Allocator> Module<A> {
         })
     }
 
-    /// The bytes of the module.
+    /// Returns the bytes of the module.
     pub fn finish(self) -> Vec<u8, A>
         ensures { result.items ≡ self }
     {

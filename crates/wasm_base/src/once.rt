@@ -1,4 +1,4 @@
-// Values that are written once.
+// Values that are consumed by their encoding, such as the items of an iterator.
 ghost use Rattle.std.specs.Prelude.{◌≡◌, ◌≢◌, ℕ, ◌+◌, ◌<◌, ◌≤◌, List, ◌++◌, length, vec_len, vec_capacity, IfOk, IfErr};
 ghost use Rattle.std.specs.Iterator.{size, IsFinite, Drains, Yields};
 ghost use Rattle.wasm_base.specs.Once.{AppendsOnce, TellsCount, GivesVec, GivesBytes, GivesPair, GivesTriple, YieldsFitting};
@@ -9,38 +9,46 @@ use crate::encode::Encode;
 use crate::refused::{R, Refused};
 use std::alloc::Allocator;
 
-/// A value with a layout that is used up where it is written, since an iterator in it gives its items but once.
+/// A value that is consumed when it is encoded, since an iterator in it yields its items only once.
+///
+/// # Errors
+///
+/// `encode_once` returns [`Refused`], and leaves the sink unchanged, if an allocation fails or the
+/// encoding does not fit.
 pub trait EncodeOnce {
-    /// What its iterators promise.
+    /// `lawful`: the contract of its iterators.
     ghost lawful: { Self → Type 0 };
 
-    /// The texts that it may have.
+    /// `gives`: the encodings that it may have.
     ghost gives: { Self → List ℕ → Type 0 };
 
-    /// fits: whatever its iterators give, every count, run and length of the text can be spelled.
+    /// `fits`: whatever its iterators yield, every count and length in the encoding is
+    /// representable.
     ghost fits: { Self → Type 0 };
 
-    /// Appends a text of the value. A refused call leaves the bytes of the sink as they were.
+    /// Appends an encoding of the value. On an error, the bytes of the sink are unchanged.
     fn encode_once<A: Allocator>(self, sink: &mut Vec<u8, A>) -> R<()>
         requires { lawful self }
         ensures { AppendsOnce (gives self) (fits self) sink.old sink.new result };
 }
 
-/// The vector of the items of an iterator, which told their number before any was asked for: see [`vec_of`].
+/// The vector of an iterator's items, counted before the first item was requested: see [`vec_of`].
 #[derive(Drop, Debug)]
 pub struct VecOf<I> {
     items: I,
     count: u32,
 }
 
-/// The vector of the bytes of an iterator, which told their number before any was asked for: see [`bytes_of`].
+/// The vector of an iterator's bytes, counted before the first byte was requested: see
+/// [`bytes_of`].
 #[derive(Drop, Debug)]
 pub struct BytesOf<I> {
     items: I,
     count: u32,
 }
 
-/// How many items the iterator tells, where so many can be counted.
+/// Returns the number of items that the iterator reports, or `TooLong` if a count cannot represent
+/// it.
 fn count_of<I: ExactSizeIterator>(items: &I) -> R<u32>
     ensures ok { IfOk result (λ count. IsFinite (I.remaining items.now) × (size (I.remaining items.now) ≡ count) × (count ≤ longest)) }
     ensures too_long { size (I.remaining items.now) ≤ longest → result ≢ Err TooLong }
@@ -53,8 +61,12 @@ fn count_of<I: ExactSizeIterator>(items: &I) -> R<u32>
     Ok(count)
 }
 
-/// The vector of the elements, to be written once. It is refused where there are too many, and never for want of memory; it asks for no
-/// element, as tests show.
+/// Returns the vector of the elements, to be encoded once. It requests no element, as tests show.
+///
+/// # Errors
+///
+/// Returns `TooLong` if the iterator reports more than 4294967295 elements. It never returns
+/// `Memory`.
 pub fn vec_of<V: IntoIterator>(elements: V) -> R<VecOf<V::IntoIter>>
 where
     V::IntoIter: ExactSizeIterator + Drop,
@@ -68,8 +80,12 @@ where
     Ok(VecOf { items, count })
 }
 
-/// The vector of the bytes, to be written once, as a whole where the iterator lends them so. It is refused where there are too many, and
-/// never for want of memory; it asks for no byte, as tests show.
+/// Returns the vector of the bytes, to be encoded once. An iterator that lends its bytes as a slice
+/// is copied as a whole. The call requests no byte, as tests show.
+///
+/// # Errors
+///
+/// Returns `TooLong` if the iterator reports more than 4294967295 bytes. It never returns `Memory`.
 pub fn bytes_of<V: IntoIterator>(bytes: V) -> R<BytesOf<V::IntoIter>>
 where
     V::IntoIter: ExactSizeIterator + Drop,
@@ -105,16 +121,17 @@ impl<T: Encode + Drop, I: Iterator<Item = T> + Drop> EncodeOnce for VecOf<I> {
     }
 }
 
-/// The largest number of bytes of a spelled count.
+/// The largest number of bytes of an encoded count.
 const COUNT_BYTES: usize = 5;
 
-/// How many bytes are taken at a time of a short run.
+/// The number of bytes of a short run that are copied at a time.
 const BLOCK: usize = 16;
 
-/// The most bytes of a short run.
+/// The length limit of a short run, in bytes.
 const SHORT: usize = 256;
 
-/// The next bytes of an iterator that gives as many. Nothing but their number is tested, so that they are copied as a whole.
+/// Returns the next `BLOCK` bytes of an iterator that has that many. Only their number is tested,
+/// so that the compiler copies them as a whole.
 fn next_block<I: Iterator<Item = u8>>(items: &mut I) -> [u8; BLOCK]
     requires ready { I.can_next items.old × IsFinite (I.remaining items.old) }
     requires many { (xs : List ℕ) → Drains I.next_gives items.old xs → 16 ≤ length xs }
@@ -129,7 +146,8 @@ fn next_block<I: Iterator<Item = u8>>(items: &mut I) -> [u8; BLOCK]
     block
 }
 
-/// Appends the bytes of a short run but for the last few, a block at a time, and of a long one none. The sink has room for them.
+/// Appends a short run but for its last few bytes, one block at a time, and nothing of a long run.
+/// The sink has spare capacity for the run.
 fn append_blocks<I: Iterator<Item = u8>, A: Allocator>(
     sink: &mut Vec<u8, A>,
     items: &mut I,
@@ -173,7 +191,7 @@ impl<I: Iterator<Item = u8> + Drop> EncodeOnce for BytesOf<I> {
     }
 }
 
-/// A part, and then one that is written once.
+/// A value, and then one that is encoded once.
 impl<S: Encode + Drop, T: EncodeOnce + Drop> EncodeOnce for (S, T) {
     ghost lawful = { λ p. T.lawful p.1 };
 
@@ -194,7 +212,7 @@ impl<S: Encode + Drop, T: EncodeOnce + Drop> EncodeOnce for (S, T) {
     }
 }
 
-/// A part, and then two that are written once.
+/// A value, and then two that are encoded once.
 impl<S: Encode + Drop, T: EncodeOnce + Drop, U: EncodeOnce + Drop> EncodeOnce for (S, T, U) {
     ghost lawful = { λ p. T.lawful p.1 × U.lawful p.2 };
 

@@ -1,4 +1,4 @@
-// Parts of layouts: values that are lent, and values that may be missing.
+// Components of encodings: borrowed values, and optional values.
 ghost use Rattle.std.specs.Prelude.{IfSome};
 ghost use Rattle.wasm_base.specs.Texts.{optional_text};
 
@@ -6,11 +6,11 @@ use crate::encode::Encode;
 use crate::refused::R;
 use std::alloc::Allocator;
 
-/// A value that is lent, as a part of a layout.
+/// A borrowed value as a component of an encoding.
 #[derive(Drop, Debug)]
 pub struct Lent<'a, T>(pub &'a T);
 
-/// The text of the value.
+/// Encodes the value.
 impl<T: Encode> Encode for Lent<'_, T> {
     ghost text = { λ lent. T.text lent.0.now };
 
@@ -22,11 +22,11 @@ impl<T: Encode> Encode for Lent<'_, T> {
     }
 }
 
-/// A part of a layout that may be missing.
+/// An optional component of an encoding.
 #[derive(Clone, Copy, Debug)]
 pub struct Optional<T>(pub Option<T>);
 
-/// The part, or nothing.
+/// Encodes the value, or nothing if there is none.
 impl<T: Encode> Encode for Optional<T> {
     ghost text = { λ part. optional_text T.text part.0 };
 

@@ -1,4 +1,4 @@
-// The entries of a builder.
+// The buffer of a builder, in which its entries are encoded.
 ghost use Rattle.std.specs.Prelude.{◌≡◌, ◌≢◌, ℕ, ◌≤◌, List, [], ◌∷◌, ◌++◌, length, IfOk, IsTrue, ◌↔◌, slice_get, slice_index, ⊤};
 ghost use Rattle.std.specs.Option.{option_copied};
 ghost use Rattle.wasm_base.specs.Calls.{Adds};
@@ -13,9 +13,16 @@ use crate::refused::{R, Refused};
 use std::alloc::{Allocator, Global};
 use std::marker::Model;
 
-/// The entries of a builder, seen as the list of their bytes.
+/// The encoded entries of a builder, modelled as the list of their bytes.
 ///
-/// They lie one after another in one buffer; beside it stands where each of them ends.
+/// One buffer holds the entries one after another, and a second vector holds the end offset of
+/// each.
+///
+/// # Errors
+///
+/// An adding call that returns an error leaves the entries unchanged. The error is
+/// [`Refused::TooLong`] only if there are 4294967295 entries already or the item does not fit, and
+/// [`Refused::Memory`] only if an allocation fails.
 #[derive(Drop, Debug)]
 pub struct Pieces<A: Allocator = Global> {
     bytes: Vec<u8, A>,
@@ -30,7 +37,7 @@ impl<A: Allocator> Model for Pieces<A> {
     ghost invariant = { λ p. IsCut p.bytes.items p.ends.items × (length p.ends.items ≤ longest) };
 }
 
-/// Where the entry at `index` begins.
+/// Returns the offset at which the entry at `index` begins.
 fn start_of(ends: &[usize], index: usize) -> usize
     requires { index ≤ length ends.now }
     ensures { result ≡ slice_index (0 ∷ ends.now) index }
@@ -39,14 +46,14 @@ fn start_of(ends: &[usize], index: usize) -> usize
 }
 
 impl<A: Allocator> Pieces<A> {
-    /// How many bytes the entries have together.
+    /// Returns the length of all entries together, in bytes.
     pub fn raw_len(&self) -> usize
         ensures { result ≡ length (joined self.now) }
     {
         self.bytes.len()
     }
 
-    /// The number of entries.
+    /// Returns the number of entries.
     #[tactic(auto, using(crate::proofs::Cut::length_cut))]
     pub fn len(&self) -> u32
         ensures { result ≡ length self.now }
@@ -54,21 +61,21 @@ impl<A: Allocator> Pieces<A> {
         self.ends.len() as u32
     }
 
-    /// Whether there is no entry.
+    /// Returns `true` if there are no entries.
     pub fn is_empty(&self) -> bool
         ensures { IsTrue result ↔ (length self.now ≡ 0) }
     {
         self.ends.is_empty()
     }
 
-    /// The entries, one after another.
+    /// Returns the bytes of the entries, one entry after another.
     pub fn bytes(&self) -> &[u8]
         ensures { result.now ≡ joined self.now }
     {
         &self.bytes
     }
 
-    /// The bytes of the entry at `index`.
+    /// Returns the bytes of the entry at `index`, or `None` if there is no such entry.
     pub fn get(&self, index: u32) -> Option<&[u8]>
         ensures { option_copied result ≡ slice_get self.now index }
     {
@@ -97,7 +104,7 @@ impl<A: Allocator> Pieces<A> {
         Ok(())
     }
 
-    /// Adds an entry that is the text of the item, which is written straight into the buffer.
+    /// Adds the encoding of the item as an entry. It is encoded directly into the buffer.
     #[tactic(auto, using(crate::proofs::Cut::length_cut))]
     #[inline]
     pub fn add_encoded<T: Encode>(&mut self, item: &T) -> R<()>
@@ -113,7 +120,8 @@ impl<A: Allocator> Pieces<A> {
         Ok(())
     }
 
-    /// Adds an entry that is a text of the item, which is written straight into the buffer.
+    /// Adds an encoding of the item as an entry, and consumes the item. It is encoded directly into
+    /// the buffer.
     #[tactic(auto, using(crate::proofs::Cut::length_cut))]
     #[inline]
     pub fn add_once<T: EncodeOnce + Drop>(&mut self, item: T) -> R<()>
@@ -131,11 +139,11 @@ impl<A: Allocator> Pieces<A> {
     }
 }
 
-/// The largest number of entries.
+/// The largest number of entries, which a count of 32 bits represents.
 const MOST_ENTRIES: usize = 4294967295;
 
 impl<A: Allocator + Copy> Pieces<A> {
-    /// No entries. It takes no memory.
+    /// Returns no entries, without an allocation.
     pub fn new(alloc: A) -> Self
         ensures { result ≡ [] }
     {
@@ -145,7 +153,7 @@ impl<A: Allocator + Copy> Pieces<A> {
         }
     }
 
-    /// The same entries, in memory of their own.
+    /// Returns the same entries, in memory of their own.
     pub fn clone(&self) -> R<Self>
         ensures same { IfOk result (λ pieces. pieces ≡ self.now) }
         ensures memory { result ≢ Err Refused.TooLong }
@@ -158,7 +166,8 @@ impl<A: Allocator + Copy> Pieces<A> {
     }
 }
 
-/// A counted section without its id: the frame of the number of the entries and of these.
+/// Encodes a counted section without its id: the size prefix, the number of entries, and the
+/// entries.
 impl<A: Allocator> Encode for Pieces<A> {
     ghost text = { section_text };
 

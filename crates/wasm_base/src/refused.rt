@@ -1,22 +1,24 @@
-// Why a call did nothing.
+// The error of calls that append or add.
 ghost use Rattle.std.specs.Prelude.{◌≡◌};
 ghost use Rattle.wasm_base.specs.declared.refused.Refused.TheVariants.{Memory};
 
 use std::alloc::{AllocError, AllocFailed};
 use thiserror::Error;
 
-/// Why a call did nothing.
+/// The error of a call that appends to a sink or adds to a builder. Unless its documentation says
+/// otherwise, such a call changes nothing.
 #[derive(Clone, Copy, PartialEq, Eq, Debug, Error)]
 pub enum Refused {
-    /// A request for memory was refused.
+    /// An allocation failed. Tests show that calls return it in no other case; no contract says
+    /// that.
     #[error("out of memory")]
     Memory,
-    /// A count, run or length would pass 4294967295.
+    /// A count or length would exceed 4294967295.
     #[error("too long")]
     TooLong,
 }
 
-/// What a call that can be refused answers.
+/// The result of a call that can fail with [`Refused`].
 pub type R<T> = Result<T, Refused>;
 
 impl From<AllocError> for Refused {

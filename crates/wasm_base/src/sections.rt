@@ -1,4 +1,4 @@
-// Sections: an id, and a layout that is mostly a frame.
+// The trait `Section`: an id, and an encoding that is usually size-prefixed.
 ghost use Rattle.std.specs.Prelude.{◌≡◌, ◌<◌, ℕ, List, ◌∷◌, [], length, Err, OnOk};
 ghost use Rattle.wasm_base.specs.Calls.{Appends, ReadsBack};
 ghost use Rattle.wasm_base.specs.Formats.{any_bytes, frame};
@@ -11,31 +11,31 @@ use crate::frames::encode_frame;
 use crate::refused::{R, Refused};
 use std::alloc::Allocator;
 
-/// A part of a module: an id, and a text that a reader finds the items of the section in.
+/// A section of a module: an id, and an encoding from which a reader decodes the section's items.
 pub trait Section: Encode {
     ghost use Rattle.wasm_base.specs.Calls.{ReadsBack};
     ghost use Rattle.wasm_base.specs.Texts.{IsFrameOf};
 
-    /// The id of its kind.
+    /// The section id.
     ghost id_of: { Self → ℕ };
 
-    /// What such a section can say: its items, or its bytes where it has none.
+    /// The type of the decoded content: the items, or the bytes of a section without items.
     ghost Items: { Type 0 };
 
-    /// How items are spelled.
+    /// The format of the content.
     ghost format: { Mode → List ℕ → Items → Type 0 };
 
-    /// The section says these items.
+    /// The section holds these items.
     ghost says: { Self → Items → Type 0 };
 
-    /// The section's text is the frame of these bytes.
+    /// The encoding is the size prefix of these bytes, and the bytes.
     ghost payload: { Self → List ℕ → Type 0 };
 
-    /// The number of its kind.
+    /// Returns the section id.
     fn id(&self) -> u8
         ensures { result ≡ id_of self.now };
 
-    /// Appends the id and the text. A refused call leaves the bytes of `dst` as they were.
+    /// Appends the id and the encoding. On an error, the bytes of `dst` are unchanged.
     fn append_to<A: Allocator>(&self, dst: &mut Vec<u8, A>) -> R<()>
         ensures appends { Appends (id_of self.now ∷ Self.text self.now) (Self.fits self.now) dst.old dst.new result }
         ensures read { OnOk result (Self.reading self.now) }
@@ -43,7 +43,7 @@ pub trait Section: Encode {
     {
         let start = dst.len();
         if dst.push(self.id()).is_err() {
-            // A section that is too long says so, whatever memory there is.
+            // A section that is too long returns `TooLong`, however much memory there is.
             let refused = self.encode(dst).err();
             dst.truncate(start);
             return Err(refused.unwrap_or(Refused::Memory));
@@ -55,14 +55,14 @@ pub trait Section: Encode {
         Ok(())
     }
 
-    /// A payload is what the text frames.
+    /// The encoding is the payload with its size prefix.
     ghost framed: { (section : Self) (bytes : List ℕ) → Self.fits section → payload section bytes → IsFrameOf (Self.text section) bytes };
 
-    /// The headline: what `encode` promises to readers is at least this.
+    /// The headline: `encode` promises at least that the encoding decodes to the items alone.
     ghost reads_back: { (section : Self) → Self.reading section → ReadsBack format (says section) (Self.text section) };
 }
 
-/// A section whose data is given: its text is the frame of these bytes.
+/// A section of raw bytes, which become its payload.
 #[derive(Clone, Copy, Debug)]
 pub struct RawSection<'a> {
     pub id: u8,

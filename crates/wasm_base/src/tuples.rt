@@ -1,4 +1,4 @@
-// Layouts of several parts.
+// Encodings of several values one after another.
 ghost use Rattle.std.specs.Prelude.{◌++◌};
 ghost use Rattle.wasm_base.specs.Calls.{Appends};
 
@@ -6,7 +6,7 @@ use crate::encode::Encode;
 use crate::refused::R;
 use std::alloc::Allocator;
 
-/// Appends one part and then the other, or neither.
+/// Appends the encodings of both values, or of neither.
 #[inline(always)]
 fn encode_both<S: Encode, T: Encode, A: Allocator>(
     first: &S,
@@ -24,7 +24,7 @@ fn encode_both<S: Encode, T: Encode, A: Allocator>(
     Ok(())
 }
 
-/// One part, and then the other.
+/// Encodes one value, and then the other.
 impl<S: Encode, T: Encode> Encode for (S, T) {
     ghost text = { λ p. S.text p.0 ++ T.text p.1 };
 
@@ -36,7 +36,7 @@ impl<S: Encode, T: Encode> Encode for (S, T) {
     }
 }
 
-/// Three parts in order.
+/// Encodes three values in order.
 impl<S: Encode, T: Encode, U: Encode> Encode for (S, T, U) {
     ghost text = { λ p. S.text p.0 ++ (T.text p.1 ++ U.text p.2) };
 

@@ -6,7 +6,8 @@ use crate::encode::Encode;
 use crate::refused::R;
 use std::alloc::Allocator;
 
-/// The heap types that have a name, as the core specification and its proposals have them.
+/// The heap types that have a name, as the core specification ("Heap Types") and its proposals
+/// define them.
 #[derive(Clone, Copy, PartialEq, Eq, Hash, Debug)]
 pub enum AbstractHeapType {
     Func = 0x70,
@@ -25,13 +26,13 @@ pub enum AbstractHeapType {
     NoCont = 0x75,
 }
 
-/// What a reference leads to.
+/// The type of the values that a reference refers to.
 #[derive(Clone, Copy, PartialEq, Eq, Hash, Debug)]
 pub enum HeapType {
     Abstract { shared: bool, ty: AbstractHeapType },
     /// The type of this index, and its subtypes.
     Concrete(u32),
-    /// The type of this index alone.
+    /// Exactly the type of this index.
     Exact(u32),
 }
 
@@ -49,7 +50,7 @@ impl HeapType {
     };
 }
 
-/// A reference, which may be null or not.
+/// A reference type, nullable or not.
 #[derive(Clone, Copy, PartialEq, Eq, Hash, Debug)]
 pub struct RefType {
     pub nullable: bool,
@@ -82,7 +83,7 @@ pub enum ValType {
 }
 
 impl AbstractHeapType {
-    /// Its byte.
+    /// Returns the byte that encodes the type.
     #[inline]
     fn byte(self) -> u8
         ensures { result ≡ abstract_code self }
@@ -91,7 +92,7 @@ impl AbstractHeapType {
     }
 }
 
-/// One byte.
+/// Encodes the type as one byte.
 impl Encode for AbstractHeapType {
     ghost text = { λ ty. abstract_code ty ∷ [] };
 
@@ -103,7 +104,8 @@ impl Encode for AbstractHeapType {
     }
 }
 
-/// A byte, or an index as a signed number, or a byte and what follows it.
+/// Encodes an abstract type as its byte, after a prefix byte if it is shared. An index is encoded
+/// as a signed number, and an exact type as a prefix byte and its index.
 impl Encode for HeapType {
     ghost text = { heap_text };
 
@@ -120,7 +122,7 @@ impl Encode for HeapType {
     }
 }
 
-/// `FUNCREF` and `EXTERNREF` have a byte of their own; others are a byte and the heap type.
+/// Encodes `FUNCREF` and `EXTERNREF` as one byte, and all others as a byte and the heap type.
 impl Encode for RefType {
     ghost text = { ref_text };
 
@@ -150,7 +152,7 @@ impl Encode for RefType {
     }
 }
 
-/// One byte, or the reference type.
+/// Encodes a number or vector type as one byte, and a reference as its reference type.
 impl Encode for ValType {
     ghost text = { val_text };
 

@@ -8,7 +8,7 @@ use crate::once::{EncodeOnce, vec_of};
 use crate::refused::R;
 use std::alloc::Allocator;
 
-/// The vector of the members.
+/// Encodes the members as a vector.
 impl<T: Encode> Encode for &[T] {
     ghost text = { λ s. vec_text T.text s.now };
 
@@ -29,8 +29,9 @@ impl<T: Encode> Encode for &[T] {
     }
 }
 
-/// Appends the vector of the elements: the length that they tell, and each of them. A refused call leaves the bytes of the
-/// sink as they were. Where the length is too long, it answers `TooLong`, and asks for no element, as tests show.
+/// Appends the elements as a vector: the length that their iterator reports, and then each element.
+/// On an error, the bytes of the sink are unchanged. If the reported length exceeds 4294967295, the
+/// call returns `TooLong`, and requests no element, as tests show.
 pub fn encode_vec<T: Encode + Drop, V: IntoIterator<Item = T>, A: Allocator>(
     elements: V,
     sink: &mut Vec<u8, A>,

@@ -1,4 +1,4 @@
-// What workloads answer.
+// The results of workloads.
 ghost use Rattle.std.specs.Prelude.{◌≡◌, ◌≤◌, ◌<◌, ◌^◌, ℕ, List, length, IfErr, MatchOption, MatchResult};
 ghost use Rattle.wasm_base.specs.Pieces.{joined};
 ghost use Rattle.wasm_bench.specs.Answers.{Gives, Answers};
@@ -11,15 +11,15 @@ use wasm_custom::NameSection;
 use wasm_sections::{CountedSection, ItemKind};
 use wasm_types::TypeSection;
 
-/// The answer of a workload whose input is wrong, or of which the library has refused a call.
+/// The result of a workload whose input is wrong, or in which a call of the library failed.
 pub const NO_ANSWER: u64 = 18446744073709551615;
 
-/// Why a workload has no answer.
+/// The error of a workload.
 #[derive(Clone, Copy)]
 pub(crate) enum Fault {
-    /// The input is none that the workload reads.
+    /// The input is not one of the workload.
     WrongInput,
-    /// The library has refused a call.
+    /// A call of the library failed.
     Refused,
 }
 
@@ -31,7 +31,7 @@ impl From<Refused> for Fault {
     }
 }
 
-/// Copies the bytes to the front of `out`, where it has room for them, and answers how many they are.
+/// Copies the bytes to the front of `out`, if `out` holds all of them, and returns their number.
 fn copied(bytes: &[u8], out: &mut [u8]) -> u64
     ensures { Gives bytes.now out.old out.new result }
 {
@@ -48,7 +48,8 @@ pub(crate) trait Entries: Section {
     /// The bytes of the entries.
     ghost content: { Self → List ℕ };
 
-    /// How many bytes the entries have together, without their number; none where these are more than can be counted.
+    /// Returns the length of all entries together in bytes, without their number, or `None` if it
+    /// does not fit 64 bits.
     fn entries_len(&self) -> Option<u64>
         ensures { MatchOption result (2 ^ 64 ≤ length (content self.now)) (λ n. n ≡ length (content self.now)) };
 }
@@ -69,7 +70,7 @@ impl Entries for NameSection {
     }
 }
 
-/// The entries are asked for one by one, since the section does not tell how many bytes they have.
+/// Adds the lengths of the entries one by one, since the section does not report the total.
 impl<K: ItemKind> Entries for CountedSection<K> {
     ghost content = { λ section. joined section };
 
@@ -84,7 +85,7 @@ impl<K: ItemKind> Entries for CountedSection<K> {
     }
 }
 
-/// As of a counted section.
+/// The same as for a counted section.
 impl Entries for TypeSection {
     ghost content = { λ section. joined section };
 
@@ -99,8 +100,8 @@ impl Entries for TypeSection {
     }
 }
 
-/// What a workload gives that has built this section: in phase 0 how many bytes its entries have, in phase 1 the section, and in phase 2
-/// a module of this section alone.
+/// Returns the result of a workload that built this section: in phase 0 the length of its entries
+/// in bytes, in phase 1 the section, and in phase 2 a module of this section alone.
 pub(crate) fn answer<S: Entries>(
     alloc: Global,
     section: &S,
@@ -126,7 +127,7 @@ pub(crate) fn answer<S: Entries>(
     }
 }
 
-/// The answer as a number.
+/// Returns the result as a number.
 pub(crate) fn number(outcome: Result<u64, Fault>) -> u64
     ensures { MatchResult outcome (λ n. result ≡ n) (λ _. result ≡ NO_ANSWER) }
 {

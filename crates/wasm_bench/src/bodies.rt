@@ -3,7 +3,7 @@ use std::alloc::Global;
 use wasm_base::{R, ValType};
 use wasm_code::Function;
 
-/// A function with these runs of locals.
+/// Returns a function with these runs of locals.
 pub(crate) fn with_locals(alloc: Global, runs: &[(u32, ValType)]) -> R<Function> {
     Function::new(alloc, runs.iter().copied())
 }

@@ -1,4 +1,4 @@
-// Named calls of a sink, by the words of a workload.
+// Calls of the instruction sink, by the words of a workload.
 ghost use Rattle.std.specs.Prelude.{◌≡◌};
 
 use crate::answers::Fault;
@@ -24,7 +24,7 @@ pub(crate) fn mem_arg(words: &mut Words<'_>) -> Result<MemArg, Fault> {
     })
 }
 
-/// A branch by a table: the number of labels, these, and the default one.
+/// Adds a branch by a table: the words are the number of labels, the labels, and the default label.
 fn table_call(sink: &mut Sink<'_>, words: &mut Words<'_>) -> Result<(), Fault>
     ensures { sink.new.sink.ghost_name ≡ sink.old.sink.ghost_name }
 {
@@ -35,7 +35,7 @@ fn table_call(sink: &mut Sink<'_>, words: &mut Words<'_>) -> Result<(), Fault>
     Ok(())
 }
 
-/// A call through a table: the index of the table, and that of the type.
+/// Adds a call through a table: the words are the index of the table, and the index of the type.
 fn indirect_call(sink: &mut Sink<'_>, words: &mut Words<'_>) -> Result<(), Fault>
     ensures { sink.new.sink.ghost_name ≡ sink.old.sink.ghost_name }
 {
@@ -45,7 +45,7 @@ fn indirect_call(sink: &mut Sink<'_>, words: &mut Words<'_>) -> Result<(), Fault
     Ok(())
 }
 
-/// Control; no other code is known.
+/// Adds a control instruction. No other codes exist.
 #[inline]
 fn control_call(sink: &mut Sink<'_>, code: u32, words: &mut Words<'_>) -> Result<(), Fault>
     ensures { sink.new.sink.ghost_name ≡ sink.old.sink.ghost_name }
@@ -64,7 +64,7 @@ fn control_call(sink: &mut Sink<'_>, code: u32, words: &mut Words<'_>) -> Result
     }
 }
 
-/// Accesses of memory, and calls without operands; other codes go on.
+/// Adds an access of memory, or an instruction without operands. Passes other codes on.
 #[inline]
 fn plain_call(sink: &mut Sink<'_>, code: u32, words: &mut Words<'_>) -> Result<(), Fault>
     ensures { sink.new.sink.ghost_name ≡ sink.old.sink.ghost_name }
@@ -82,7 +82,7 @@ fn plain_call(sink: &mut Sink<'_>, code: u32, words: &mut Words<'_>) -> Result<(
     }
 }
 
-/// Constants; other codes go on.
+/// Adds a constant. Passes other codes on.
 #[inline]
 fn constant_call(sink: &mut Sink<'_>, code: u32, words: &mut Words<'_>) -> Result<(), Fault>
     ensures { sink.new.sink.ghost_name ≡ sink.old.sink.ghost_name }
@@ -98,7 +98,7 @@ fn constant_call(sink: &mut Sink<'_>, code: u32, words: &mut Words<'_>) -> Resul
     }
 }
 
-/// Locals and globals; other codes go on.
+/// Adds an access of a local or a global. Passes other codes on.
 #[inline]
 fn variable_call(sink: &mut Sink<'_>, code: u32, words: &mut Words<'_>) -> Result<(), Fault>
     ensures { sink.new.sink.ghost_name ≡ sink.old.sink.ghost_name }
@@ -113,8 +113,8 @@ fn variable_call(sink: &mut Sink<'_>, code: u32, words: &mut Words<'_>) -> Resul
     }
 }
 
-/// Reads an instruction, and makes the call of its name. Each of the functions above knows some codes and hands the others on, so
-/// that the compiler makes one jump of them.
+/// Reads an instruction, and makes the call of its name. Each of the functions above handles some
+/// codes and passes the others on, so that the compiler makes one jump of them.
 pub(crate) fn call(sink: &mut Sink<'_>, words: &mut Words<'_>) -> Result<(), Fault>
     ensures { sink.new.sink.ghost_name ≡ sink.old.sink.ghost_name }
 {

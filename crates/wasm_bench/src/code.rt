@@ -1,4 +1,4 @@
-// Functions and their code.
+// The workload of functions and their code.
 ghost use Rattle.std.specs.Prelude.{◌≡◌, ◌≤◌, get_or, length, IfOk, OnErr};
 ghost use Rattle.wasm_bench.specs.Answers.{CountedAnswer, Outcome};
 
@@ -29,7 +29,7 @@ fn add_by_values(function: &mut Function, words: &mut Words<'_>, count: u32) -> 
     Ok(())
 }
 
-/// Reads a function: the number of its instructions, and these.
+/// Reads a function: the number of its instructions, and the instructions.
 fn read_function(alloc: Global, words: &mut Words<'_>, mode: u32) -> Result<Function, Fault> {
     let count = words.next()?;
     let mut function = with_locals(alloc, &[(2, ValType::I32), (1, ValType::F64)])?;
@@ -41,7 +41,7 @@ fn read_function(alloc: Global, words: &mut Words<'_>, mode: u32) -> Result<Func
     Ok(function)
 }
 
-/// Reads the number of functions, and these: in mode 0 by calls, in mode 1 as values.
+/// Reads the number of functions, and the functions: in mode 0 by calls, in mode 1 as values.
 fn read_code(alloc: Global, words: &[u32], mode: u32) -> Result<CodeSection, Fault>
     ensures counted { IfOk result (λ code. length code ≡ get_or words.now 0 0) }
     ensures known { IfOk result (λ _. mode ≤ 1) }
@@ -63,7 +63,7 @@ fn read_code(alloc: Global, words: &[u32], mode: u32) -> Result<CodeSection, Fau
     }
 }
 
-/// Reads functions, and answers their code section.
+/// Reads functions, and returns their code section.
 fn code_section(
     alloc: Global,
     words: &[u32],
@@ -78,7 +78,7 @@ fn code_section(
     answer(alloc, &code, phase, out)
 }
 
-/// A code section of the functions that the words tell.
+/// Builds a code section of the functions in the words.
 #[unsafe(no_mangle)]
 pub extern "C" fn wb_code(
     alloc: Global,

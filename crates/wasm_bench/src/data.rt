@@ -1,4 +1,4 @@
-// The data section.
+// The workload of the data section.
 ghost use Rattle.std.specs.Prelude.{◌≡◌, ◌+◌, ◌<◌, length, IfOk, OnErr, OnOk};
 ghost use Rattle.wasm_bench.specs.Answers.{DataAnswer, IsSplit, Outcome};
 
@@ -8,7 +8,7 @@ use wasm_base::R;
 use wasm_code::ConstExpr;
 use wasm_sections::DataSection;
 
-/// Adds an active segment of these bytes, which begins at this place.
+/// Adds an active segment of these bytes, which begins at the offset `start`.
 #[tactic(auto, using(wasm_base::proofs::KnownLengths::drained_copied))]
 fn add(alloc: Global, section: &mut DataSection, start: i32, bytes: &[u8]) -> R<()>
     ensures { OnOk result (length section.new ≡ length section.old + 1) }
@@ -17,7 +17,8 @@ fn add(alloc: Global, section: &mut DataSection, start: i32, bytes: &[u8]) -> R<
     section.active(0, &offset, bytes.iter().copied())
 }
 
-/// A section of segments of so many bytes each, but for the last one. All of them begin below 2 GiB.
+/// Returns a section of segments of `segment` bytes each, but for the last one. All of them begin
+/// below 2 GiB.
 fn build(alloc: Global, bytes: &[u8], segment: usize) -> Result<DataSection, Fault>
     requires { 0 < segment }
     ensures { IfOk result (λ section. IsSplit (length bytes.now) segment (length section)) }
@@ -52,7 +53,7 @@ fn data_section(
     answer(alloc, &section, phase, out)
 }
 
-/// A section of active segments of memory 0, one for each so many bytes.
+/// Builds a section of active segments of memory 0, one for each `segment` bytes.
 #[unsafe(no_mangle)]
 pub extern "C" fn wb_data(
     alloc: Global,

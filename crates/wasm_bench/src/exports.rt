@@ -1,4 +1,4 @@
-// The export section.
+// The workload of the export section.
 ghost use Rattle.std.specs.Prelude.{◌≡◌, length, IfOk, OnErr};
 ghost use Rattle.wasm_bench.specs.Answers.{CountedAnswer, Outcome};
 
@@ -8,7 +8,7 @@ use crate::names::Names;
 use std::alloc::Global;
 use wasm_sections::ExportSection;
 
-/// A section of exports: the length of the name, the kind and the index of each.
+/// Returns a section of exports, from the length of the name, the kind and the index of each.
 fn build(
     alloc: Global,
     names: &[u8],
@@ -50,7 +50,7 @@ fn export_section(
     answer(alloc, &section, phase, out)
 }
 
-/// A section of exports. The names lie one after another, and have these lengths.
+/// Builds a section of exports. The names lie one after another, and have these lengths.
 #[unsafe(no_mangle)]
 pub extern "C" fn wb_exports(
     alloc: Global,

@@ -1,4 +1,4 @@
-// The function section.
+// The workload of the function section.
 ghost use Rattle.std.specs.Prelude.{◌≡◌, IfOk, OnErr, map};
 ghost use Rattle.wasm_base.specs.Numbers.{unsigned_text};
 ghost use Rattle.wasm_bench.specs.Answers.{FunctionsAnswer, Outcome};
@@ -8,7 +8,7 @@ use std::alloc::Global;
 use wasm_base::R;
 use wasm_sections::FunctionSection;
 
-/// A section of functions of these types.
+/// Returns a section of functions of these types.
 fn build(alloc: Global, types: &[u32]) -> R<FunctionSection>
     ensures { IfOk result (λ section. section ≡ map unsigned_text types.now) }
 {
@@ -27,7 +27,7 @@ fn function_section(alloc: Global, types: &[u32], phase: u32, out: &mut [u8]) ->
     answer(alloc, &section, phase, out)
 }
 
-/// A section of functions of the types of these indices.
+/// Builds a section of functions of the types of these indices.
 #[unsafe(no_mangle)]
 pub extern "C" fn wb_functions(alloc: Global, types: &[u32], phase: u32, out: &mut [u8]) -> u64
     ensures { Outcome out.old out.new result (FunctionsAnswer types.now phase out.old out.new result) }

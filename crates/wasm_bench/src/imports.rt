@@ -1,4 +1,4 @@
-// The import section.
+// The workload of the import section.
 ghost use Rattle.std.specs.Prelude.{◌≡◌, length, IfOk, OnErr};
 ghost use Rattle.wasm_bench.specs.Answers.{CountedAnswer, Outcome};
 
@@ -11,7 +11,7 @@ use wasm_sections::{
     EntityType, ExportKind, GlobalType, ImportSection, MemoryType, TableType, TagKind, TagType,
 };
 
-/// A table of functions.
+/// Returns a table of functions.
 fn table(minimum: u32) -> EntityType {
     EntityType::Table(TableType {
         element_type: RefType::FUNCREF,
@@ -22,7 +22,7 @@ fn table(minimum: u32) -> EntityType {
     })
 }
 
-/// A memory of 32-bit addresses.
+/// Returns a memory of 32-bit addresses.
 fn memory(minimum: u32) -> EntityType {
     EntityType::Memory(MemoryType {
         minimum: u64::from(minimum),
@@ -33,7 +33,7 @@ fn memory(minimum: u32) -> EntityType {
     })
 }
 
-/// A number of 64 bits, which can be set where the index is odd.
+/// Returns a number of 64 bits, which is mutable if the index is odd.
 fn global(index: u32) -> EntityType {
     EntityType::Global(GlobalType {
         val_type: ValType::I64,
@@ -42,7 +42,7 @@ fn global(index: u32) -> EntityType {
     })
 }
 
-/// The type of an import of this kind. The index is that of a type, or a minimum.
+/// Returns the type of an import of this kind. The index is that of a type, or a minimum.
 fn entity(kind: ExportKind, index: u32) -> EntityType {
     match kind {
         ExportKind::Func => EntityType::Function(index),
@@ -56,7 +56,8 @@ fn entity(kind: ExportKind, index: u32) -> EntityType {
     }
 }
 
-/// A section of imports: the lengths of the module and the name, the kind and the index of each.
+/// Returns a section of imports, from the lengths of the module and the name, the kind and the
+/// index of each.
 fn build(
     alloc: Global,
     names: &[u8],
@@ -102,7 +103,8 @@ fn import_section(
     answer(alloc, &section, phase, out)
 }
 
-/// A section of imports. The modules and names lie one after another by turns, and have these lengths.
+/// Builds a section of imports. The modules and names alternate, lie one after another, and have
+/// these lengths.
 #[unsafe(no_mangle)]
 pub extern "C" fn wb_imports(
     alloc: Global,

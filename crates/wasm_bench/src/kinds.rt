@@ -5,7 +5,7 @@ ghost use Rattle.wasm_sections.specs.Exports.{kind_code};
 use crate::answers::Fault;
 use wasm_sections::ExportKind;
 
-/// The kind of this number.
+/// Returns the kind of this number.
 pub(crate) fn export_kind_of(number: u8) -> Result<ExportKind, Fault>
     ensures { MatchResult result (λ kind. kind_code kind ≡ number) (λ _. 4 < number) }
 {

@@ -1,4 +1,5 @@
-//! Workloads that a program in C or Rust calls to measure the encoder. What each function reads and answers is told in `bench/README.md`.
+//! Workloads that a program in C or Rust calls to measure the encoder. `bench/README.md` describes
+//! the input and the result of each function.
 #![tactic(auto, using(wasm_base::proofs::KnownLengths::drained_array))]
 
 mod answers;

@@ -1,4 +1,4 @@
-// A long line of calls.
+// The workload of a long line of calls.
 ghost use Rattle.std.specs.Prelude.{◌≡◌, IfOk, OnErr};
 ghost use Rattle.wasm_bench.specs.Answers.{CountedAnswer, Outcome};
 
@@ -9,7 +9,7 @@ use wasm_base::R;
 use wasm_code::{CodeSection, Function};
 use wasm_insn::{InstructionSink, MemArg, MemArgTarget};
 
-/// Eight calls, with four operands.
+/// Makes eight calls, with four operands.
 fn eight_calls(
     sink: &mut InstructionSink<'_, Function>,
     index: u32,
@@ -35,7 +35,7 @@ fn eight_calls(
     sink.end()
 }
 
-/// A function of eight calls for each four operands.
+/// Returns a function of eight calls for each four operands.
 fn long_line(alloc: Global, operands: &[u32]) -> Result<Function, Fault> {
     let (rows, others) = operands.as_chunks::<4>();
     if !others.is_empty() {
@@ -59,7 +59,8 @@ fn line_section(alloc: Global, operands: &[u32], phase: u32, out: &mut [u8]) -> 
     answer(alloc, &code, phase, out)
 }
 
-/// A code section of one function: eight calls for each four operands, with nothing to decode.
+/// Builds a code section of one function: eight calls for each four operands, with nothing to
+/// decode.
 #[unsafe(no_mangle)]
 pub extern "C" fn wb_line(alloc: Global, operands: &[u32], phase: u32, out: &mut [u8]) -> u64
     ensures { Outcome out.old out.new result (CountedAnswer 10 1 phase out.old out.new result) }

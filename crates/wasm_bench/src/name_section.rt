@@ -1,4 +1,4 @@
-// The name section.
+// The workload of the name section.
 ghost use Rattle.std.specs.Prelude.{◌≡◌, length, IfOk, OnErr};
 ghost use Rattle.wasm_bench.specs.Answers.{NamesAnswer, Outcome};
 
@@ -7,7 +7,7 @@ use crate::names::Names;
 use std::alloc::Global;
 use wasm_custom::{NameMap, NameSection};
 
-/// The names of functions: the length and the index of each.
+/// Returns the names of functions, from the length and the index of each.
 fn build(alloc: Global, names: &[u8], lens: &[u32], indices: &[u32]) -> Result<NameMap, Fault>
     ensures { IfOk result (λ map. length map ≡ length indices.now) }
 {
@@ -43,7 +43,8 @@ fn name_section(
     answer(alloc, &section, phase, out)
 }
 
-/// A name section of the names of functions. The names lie one after another, and have these lengths.
+/// Builds a name section of the names of functions. The names lie one after another, and have these
+/// lengths.
 #[unsafe(no_mangle)]
 pub extern "C" fn wb_names(
     alloc: Global,

@@ -3,14 +3,14 @@ ghost use Rattle.std.specs.Prelude.{◌≡◌, ◌++◌, [], length, IfOk, OnErr
 
 use crate::answers::Fault;
 
-/// Names that are cut from a text one after another.
+/// Splits a string into names, one after another.
 #[derive(Drop)]
 pub(crate) struct Names<'a> {
     rest: &'a str,
 }
 
 impl<'a> Names<'a> {
-    /// The bytes have to be UTF-8.
+    /// Returns the names in these bytes, or an error if they are not UTF-8.
     pub(crate) fn new(bytes: &'a [u8]) -> Result<Self, Fault>
         ensures ok { IfOk result (λ names. names.rest.now ≡ bytes.now) }
         ensures err { OnErr result (IsUtf8 bytes.now → ⊥) }
@@ -21,14 +21,14 @@ impl<'a> Names<'a> {
         }
     }
 
-    /// Whether no byte is left.
+    /// Returns `true` if no byte remains.
     pub(crate) fn is_empty(&self) -> bool
         ensures { IsTrue result ↔ (self.now.rest.now ≡ []) }
     {
         self.rest.is_empty()
     }
 
-    /// The name of so many bytes.
+    /// Returns the name of the next `count` bytes.
     pub(crate) fn next(&mut self, count: u32) -> Result<&'a str, Fault>
         ensures cut { IfOk result (λ name. (length name.now ≡ count) × (self.old.rest.now ≡ name.now ++ self.new.rest.now)) }
         ensures utf8 { IfOk result (λ name. IsUtf8 name.now) }

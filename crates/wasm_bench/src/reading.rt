@@ -1,4 +1,4 @@
-// Code sections and bodies, read.
+// The workloads that decode code sections and bodies.
 ghost use Rattle.std.specs.Prelude.{◌≡◌, ◌⊎◌, ⊤, map, IfOk, MatchOption};
 ghost use Rattle.wasm_bench.specs.Readings.{HasRead, HasWalked, instructions_in};
 ghost use Rattle.wasm_bench.specs.declared.answers.TheConstants.{NO_ANSWER as no_answer};
@@ -10,7 +10,7 @@ use wasm_reader::{Items, SectionKind, read_section};
 use wasm_reader_base::ReadFault;
 use wasm_reader_insn::{Body, Instructions};
 
-/// How many instructions the bodies have together; none where these are more than can be counted.
+/// Returns the number of instructions in all bodies together, or `None` if it does not fit 64 bits.
 fn instructions(bodies: &[Body]) -> Option<u64>
     ensures { MatchOption result ⊤ (λ n. n ≡ instructions_in (map body_view bodies.now)) }
 {
@@ -21,7 +21,8 @@ fn instructions(bodies: &[Body]) -> Option<u64>
     Some(count)
 }
 
-/// Reads a code section, whose bytes begin at its size, into a list of its bodies, and answers how many instructions these have.
+/// Decodes a code section, whose bytes begin at its size prefix, into a list of its bodies, and
+/// returns the number of their instructions.
 #[unsafe(no_mangle)]
 pub extern "C" fn wb_read(alloc: Global, section: &[u8]) -> u64
     ensures { (result ≡ no_answer) ⊎ HasRead section.now result }
@@ -32,7 +33,7 @@ pub extern "C" fn wb_read(alloc: Global, section: &[u8]) -> u64
     }
 }
 
-/// How many instructions a walk goes over.
+/// Returns the number of instructions that a visitor visits.
 fn walked(alloc: Global, body: &[u8]) -> Result<u64, ReadFault>
     ensures { IfOk result (λ n. HasWalked body.now n) }
 {
@@ -44,7 +45,8 @@ fn walked(alloc: Global, body: &[u8]) -> Result<u64, ReadFault>
     Ok(count)
 }
 
-/// Goes over the instructions of a body, whose bytes are those without its size, and answers how many they are.
+/// Visits the instructions of a body, whose bytes are those without its size prefix, and returns
+/// their number.
 #[unsafe(no_mangle)]
 pub extern "C" fn wb_walk(alloc: Global, body: &[u8]) -> u64
     ensures { (result ≡ no_answer) ⊎ HasWalked body.now result }

@@ -1,4 +1,4 @@
-// The type section.
+// The workload of the type section.
 ghost use Rattle.std.specs.Prelude.{◌≡◌, length, IfOk, OnErr};
 ghost use Rattle.wasm_bench.specs.Answers.{CountedAnswer, Outcome};
 
@@ -7,7 +7,7 @@ use std::alloc::Global;
 use wasm_base::ValType;
 use wasm_types::TypeSection;
 
-/// The type of numbers of this code.
+/// Returns the number type of this code.
 fn val_type(code: u8) -> Result<ValType, Fault> {
     match code {
         0 => Ok(ValType::I32),
@@ -18,14 +18,14 @@ fn val_type(code: u8) -> Result<ValType, Fault> {
     }
 }
 
-/// The types of a word: a byte for each of three parameters and for the result.
+/// Returns the types of a word: a byte for each of three parameters and for the result.
 fn types_of(word: u32) -> Result<([ValType; 3], ValType), Fault> {
     let [first, second, third, result] = word.to_le_bytes();
     let params = [val_type(first)?, val_type(second)?, val_type(third)?];
     Ok((params, val_type(result)?))
 }
 
-/// A section of a function type for each word.
+/// Returns a section of a function type for each word.
 fn build(alloc: Global, words: &[u32]) -> Result<TypeSection, Fault>
     ensures { IfOk result (λ section. length section ≡ length words.now) }
 {
@@ -45,7 +45,8 @@ fn type_section(alloc: Global, words: &[u32], phase: u32, out: &mut [u8]) -> Res
     answer(alloc, &section, phase, out)
 }
 
-/// A section of function types, each of three parameters and a result, whose types a word tells.
+/// Builds a section of function types, each of three parameters and a result, whose types a word
+/// encodes.
 #[unsafe(no_mangle)]
 pub extern "C" fn wb_types(alloc: Global, words: &[u32], phase: u32, out: &mut [u8]) -> u64
     ensures { Outcome out.old out.new result (CountedAnswer 1 (length words.now) phase out.old out.new result) }

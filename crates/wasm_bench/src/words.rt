@@ -16,14 +16,14 @@ impl<'a> Words<'a> {
         Words { rest: words }
     }
 
-    /// Whether there is no word left.
+    /// Returns `true` if no words remain.
     pub(crate) fn is_empty(&self) -> bool
         ensures { IsTrue result ↔ (self.now.rest.now ≡ []) }
     {
         self.rest.is_empty()
     }
 
-    /// The next word.
+    /// Returns the next word.
     pub(crate) fn next(&mut self) -> Result<u32, Fault>
         ensures ok { IfOk result (λ word. self.old.rest.now ≡ word ∷ self.new.rest.now) }
         ensures err { OnErr result (self.old.rest.now ≡ []) }
@@ -37,7 +37,7 @@ impl<'a> Words<'a> {
         }
     }
 
-    /// A number of 64 bits: the low word, and the high one.
+    /// Returns a number of 64 bits: the low word, and the high one.
     pub(crate) fn wide(&mut self) -> Result<u64, Fault>
         ensures ok { IfOk result (λ n. (low : ℕ) × (high : ℕ) × (self.old.rest.now ≡ low ∷ high ∷ self.new.rest.now) × (n ≡ low + 2 ^ 32 * high)) }
         ensures err { OnErr result (length self.old.rest.now < 2) }
@@ -47,7 +47,7 @@ impl<'a> Words<'a> {
         Ok(u64::from(low) | (u64::from(high) << 32))
     }
 
-    /// The next `count` words.
+    /// Returns the next `count` words.
     pub(crate) fn take(&mut self, count: u32) -> Result<&'a [u32], Fault>
         ensures ok { IfOk result (λ words. (length words.now ≡ count) × (self.old.rest.now ≡ words.now ++ self.new.rest.now)) }
         ensures err { OnErr result (length self.old.rest.now < count) }

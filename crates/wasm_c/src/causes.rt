@@ -1,11 +1,11 @@
-// Texts of causes.
+// Messages of causes, for C.
 ghost use Rattle.std.specs.Prelude.{◌≡◌, option_map, string_bytes};
 ghost use Rattle.wasm_c.specs.Causes.{fault_texts, recipe_texts, text_numbered, Tells};
 
 use crate::NO_ANSWER;
 use crate::recipes::copied;
 
-/// What is wrong with the bytes of a section or a module, where a fault has the number.
+/// Returns the message of an error of a section or a module, if one has this number.
 fn fault_text(cause: u32) -> Option<&'static str>
     ensures { option_map (λ t. t.now) result ≡ text_numbered fault_texts cause }
 {
@@ -24,7 +24,7 @@ fn fault_text(cause: u32) -> Option<&'static str>
     }
 }
 
-/// What is wrong with a recipe, where a cause has the number.
+/// Returns the message of an error of a recipe, if one has this number.
 fn recipe_text(cause: u32) -> Option<&'static str>
     ensures { option_map (λ t. t.now) result ≡ text_numbered recipe_texts cause }
 {
@@ -40,8 +40,10 @@ fn recipe_text(cause: u32) -> Option<&'static str>
     }
 }
 
-/// The text of a cause of [`dz_list`](crate::listing::dz_list), [`dz_outline`](crate::outlining::dz_outline), [`dz_shorten`](crate::shortest::dz_shorten) or
-/// [`dz_shorten_module`](crate::whole::dz_shorten_module), in ASCII and without an end.
+/// Writes the message of a cause of [`dz_list`](crate::listing::dz_list),
+/// [`dz_outline`](crate::outlining::dz_outline), [`dz_shorten`](crate::shortest::dz_shorten) or
+/// [`dz_shorten_module`](crate::whole::dz_shorten_module), in ASCII and without a terminating NUL.
+/// Returns its length in bytes, or [`NO_ANSWER`] for any other number.
 #[unsafe(no_mangle)]
 pub extern "C" fn dz_cause(cause: u32, out: &mut [u8]) -> u64
     ensures { Tells (text_numbered fault_texts cause) out.old out.new result }
@@ -52,7 +54,8 @@ pub extern "C" fn dz_cause(cause: u32, out: &mut [u8]) -> u64
     }
 }
 
-/// The text of a cause of [`dz_assemble`](crate::recipes::dz_assemble), in ASCII and without an end.
+/// Writes the message of a cause of [`dz_assemble`](crate::recipes::dz_assemble), in ASCII and
+/// without a terminating NUL. Returns its length in bytes, or [`NO_ANSWER`] for any other number.
 #[unsafe(no_mangle)]
 pub extern "C" fn dz_recipe_cause(cause: u32, out: &mut [u8]) -> u64
     ensures { Tells (text_numbered recipe_texts cause) out.old out.new result }

@@ -1,4 +1,4 @@
-// Recipes.
+// Recipes, for C.
 ghost use Rattle.std.specs.Prelude.{◌≡◌};
 ghost use Rattle.wasm_c.specs.Assembled.{Gives, cause_number, Outcome};
 
@@ -6,10 +6,10 @@ use crate::NO_ANSWER;
 use std::alloc::Global;
 use wasm_tool::{RecipeCause, assemble};
 
-/// The number of the cause that a recipe is no text.
+/// The number of the cause of a recipe that is not UTF-8.
 const NOT_TEXT: u32 = 7;
 
-/// The number of a cause.
+/// Returns the number of a cause.
 pub(crate) fn number_of(cause: RecipeCause) -> u32
     ensures { result ≡ cause_number cause }
 {
@@ -23,7 +23,7 @@ pub(crate) fn number_of(cause: RecipeCause) -> u32
     }
 }
 
-/// Copies the bytes to the front of `out`, where it has room for them, and answers how many they are.
+/// Copies the bytes to the front of `out`, if `out` holds all of them, and returns their number.
 pub(crate) fn copied(bytes: &[u8], out: &mut [u8]) -> u64
     ensures { Gives bytes.now out.old out.new result }
 {
@@ -35,8 +35,10 @@ pub(crate) fn copied(bytes: &[u8], out: &mut [u8]) -> u64
     count as u64
 }
 
-/// Assembles a recipe. Where it is refused, `line` is the line of its first fault, counted from 1, or 0, and `cause` the number of what is wrong there;
-/// both are 0 where there is a module.
+/// Assembles a recipe. Returns the length of the module in bytes.
+///
+/// On an error, `line` is the first line with an error, counted from 1, or 0, and `cause` is the
+/// number of the error. On success both are 0.
 #[unsafe(no_mangle)]
 pub extern "C" fn dz_assemble(
     alloc: Global,

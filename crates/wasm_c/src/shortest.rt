@@ -1,4 +1,4 @@
-// Shortest texts of sections.
+// Minimal encodings of sections, for C.
 ghost use Rattle.wasm_c.specs.Shortened.{Outcome};
 
 use crate::NO_ANSWER;
@@ -7,11 +7,14 @@ use crate::recipes::copied;
 use std::alloc::Global;
 use wasm_reader::{SectionKind, shorten};
 
-/// The number of the cause that no kind has the number.
+/// The number of the cause of a kind that does not exist.
 const NO_KIND: u32 = 9;
 
-/// Writes the shortest text of the section of a kind that the bytes begin with; both begin at the section's size. `taken` is how many bytes it takes
-/// there. Where there is none, `cause` is the number of what is wrong; else it is 0.
+/// Writes the minimal encoding of the section of a kind at the front of the bytes; both begin at
+/// the section's size prefix. Returns its length in bytes.
+///
+/// `taken` is the length of the section in the input, in bytes. On an error, `cause` is the number
+/// of the error; on success it is 0.
 #[unsafe(no_mangle)]
 pub extern "C" fn dz_shorten(
     alloc: Global,

@@ -1,4 +1,4 @@
-// Each call, with ample room, too little and none.
+// Tests of each call, with an output that is ample, too short and empty.
 use crate::NO_ANSWER;
 use crate::causes::{dz_cause, dz_recipe_cause};
 use crate::listing::{DzSection, dz_list, number_of as fault_number};
@@ -14,7 +14,8 @@ use wasm_tool::RecipeCause;
 /// The module of a recipe of one body.
 const MODULE: &[u8] = b"\0asm\x01\0\0\0\x0A\x04\x01\x02\0\x0B";
 
-/// What a recipe is answered: how many bytes, the line and the cause, and what stands in the room then.
+/// Checks the result of a recipe: the length, the line and the cause, and the content of `room`
+/// afterwards.
 fn check_recipe(
     rt: &impl Abort,
     alloc: Global,
@@ -40,7 +41,8 @@ fn recipes(rt: HostRuntime) {
     check_recipe(&rt, alloc, &[0xFF], &mut [9], (NO_ANSWER, 0, 7), &[9]);
 }
 
-/// What a module is answered: how many sections, and the place and the cause.
+/// Checks the result of a module's listing: the number of sections, the section number and the
+/// cause.
 fn check_list(
     rt: &impl Abort,
     alloc: Global,
@@ -54,7 +56,7 @@ fn check_list(
     assert_eq!(rt; (answer, place, cause), expected);
 }
 
-/// The section is this.
+/// Checks a listed section.
 fn check_section(rt: &impl Abort, section: DzSection, expected: (u32, u32, u64)) {
     assert_eq!(rt; (section.id, section.size, section.items), expected);
 }
@@ -82,7 +84,8 @@ fn lists(rt: HostRuntime) {
     check_list(&rt, alloc, MODULE, &mut [], (1, 0, 0));
 }
 
-/// What a section of a kind is answered: how many bytes its shortest text has, how many it takes and the cause, and what stands in the room then.
+/// Checks the result for a section of a kind: the length of its minimal encoding, its length in the
+/// input, the cause, and the content of `room` afterwards.
 fn check_text(
     rt: &impl Abort,
     alloc: Global,
@@ -160,7 +163,7 @@ fn no_section_stands(rt: HostRuntime) {
     check_text(&rt, alloc, 5, &[], &mut [], (NO_ANSWER, 0, 1), &[]);
 }
 
-/// What an outline is answered: how many sections, and the place and the cause.
+/// Checks the result of an outline: the number of sections, the section number and the cause.
 fn check_outline(
     rt: &impl Abort,
     alloc: Global,
@@ -174,7 +177,8 @@ fn check_outline(
     assert_eq!(rt; (answer, place, cause), expected);
 }
 
-/// The section is this: its id, offset, size and items, and the place and the length of its name.
+/// Checks an outlined section: its id, offset, size and items, and the offset and length of its
+/// name.
 fn check_outlined(
     rt: &impl Abort,
     section: DzOutlined,
@@ -198,7 +202,8 @@ const NOT_OUTLINED: DzOutlined = DzOutlined {
     id: 77,
 };
 
-/// A type, a custom section called `name` of padded numbers, one without a name, seven functions that don't stand there, and one that does.
+/// A type, a custom section called `name` of padded numbers, one without a name, one that counts
+/// seven functions and holds none, and one of a function.
 const OUTLINED: &[u8] =
     b"\0asm\x01\0\0\0\x01\x04\x01\x60\0\0\0\x87\0\x84\0name\xFF\0\x01\x05\x03\x01\x07\x03\x02\x01\0";
 
@@ -216,7 +221,7 @@ fn outlines(rt: HostRuntime) {
     check_outlined(&rt, room[5], (77, 7, 7, 7), (7, 7));
 }
 
-/// Too little room, none, and bytes that are no module.
+/// An output that is too short, an empty one, and bytes that are not a module.
 #[test]
 fn no_outlines(rt: HostRuntime) {
     let alloc = rt.alloc();
@@ -229,7 +234,8 @@ fn no_outlines(rt: HostRuntime) {
     check_outlined(&rt, room[0], (77, 7, 7, 7), (7, 7));
 }
 
-/// What a module is answered: how many bytes its shortest text has, how many sections are kept, the place and the cause, and what stands in the room then.
+/// Checks the result for a whole module: the length of its minimal encoding, the number of kept
+/// sections, the section number and the cause, and the content of `room` afterwards.
 fn check_whole(
     rt: &impl Abort,
     alloc: Global,
@@ -255,7 +261,7 @@ fn check_whole(
     assert_eq!(rt; &*room, left);
 }
 
-/// A padded section of functions, and one of which seven functions don't stand there.
+/// A padded section of functions, and one that counts seven functions and holds none.
 const PADDED: &[u8] = b"\0asm\x01\0\0\0\x03\x86\0\x01\x85\x80\x80\x80\0\x03\x01\x07";
 
 /// A padded code section, and symbols, which hold offsets into it.
@@ -271,7 +277,7 @@ fn shortest_modules(rt: HostRuntime) {
     check_whole(&rt, alloc, SYMBOLS, 1, &mut [9; 14], (14, 0, 0, 0), MODULE);
 }
 
-/// A section whose offsets would be lost, and bytes that are no module.
+/// A section whose offsets would become wrong, and bytes that are not a module.
 #[test]
 fn modules_that_are_refused(rt: HostRuntime) {
     let alloc = rt.alloc();
@@ -296,13 +302,13 @@ fn modules_that_are_refused(rt: HostRuntime) {
     check_whole(&rt, alloc, &[], 1, &mut [], (NO_ANSWER, 0, 0, 1), &[]);
 }
 
-/// A text of a cause.
+/// The message of a cause.
 struct TextRow {
     cause: u32,
     text: &'static [u8],
 }
 
-/// What is wrong with the bytes of sections and modules.
+/// The messages of errors of sections and modules.
 const FAULT_TEXTS: [TextRow; 10] = [
     TextRow {
         cause: 1,
@@ -346,7 +352,7 @@ const FAULT_TEXTS: [TextRow; 10] = [
     },
 ];
 
-/// What is wrong with recipes.
+/// The messages of errors of recipes.
 const RECIPE_TEXTS: [TextRow; 7] = [
     TextRow {
         cause: 1,
@@ -378,7 +384,7 @@ const RECIPE_TEXTS: [TextRow; 7] = [
     },
 ];
 
-/// The text stands at the front of the room, and is all that was written.
+/// Checks that the message is at the front of the output, and is all that was written.
 fn check_told(rt: &impl Abort, answer: u64, room: &[u8], text: &[u8]) {
     assert_eq!(rt; answer, text.len() as u64);
     assert!(rt; room.starts_with(text));
@@ -418,7 +424,7 @@ fn texts_of_recipe_causes(rt: HostRuntime) {
     assert_eq!(rt; dz_recipe_cause(7, &mut []), 8);
 }
 
-/// The faults of the reader.
+/// The errors of the reader.
 const FAULTS: [ReadFault; 8] = [
     ReadFault::Ended,
     ReadFault::NotShortest,
@@ -430,7 +436,7 @@ const FAULTS: [ReadFault; 8] = [
     ReadFault::Memory,
 ];
 
-/// The causes of a recipe's fault.
+/// The causes of a recipe's error.
 const CAUSES: [RecipeCause; 6] = [
     RecipeCause::UnknownCommand,
     RecipeCause::BadNumber,
@@ -440,7 +446,7 @@ const CAUSES: [RecipeCause; 6] = [
     RecipeCause::TooLong,
 ];
 
-/// The texts are those that the faults and causes print themselves.
+/// The messages are those that the errors and causes print themselves.
 #[test]
 fn texts_that_are_printed(rt: HostRuntime) {
     for fault in FAULTS {

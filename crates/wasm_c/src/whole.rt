@@ -1,4 +1,4 @@
-// Shortest texts of modules.
+// Minimal encodings of modules, for C.
 ghost use Rattle.std.specs.Prelude.{◌≡◌};
 ghost use Rattle.wasm_c.specs.Whole.{offsets_numbered, Outcome};
 
@@ -8,10 +8,11 @@ use crate::recipes::copied;
 use std::alloc::Global;
 use wasm_reader::{ModuleFault, Offsets, shorten_module};
 
-/// The number of the cause that a section holds offsets.
+/// The number of the cause of a section whose offsets would become wrong.
 const OFFSETS: u32 = 10;
 
-/// What is done with sections that hold offsets: 0 refuses them, any other number leaves them out.
+/// Returns the treatment of sections that hold offsets: 0 is an error, and any other number leaves
+/// them out.
 fn offsets_of(drop_offsets: u32) -> Offsets
     ensures { result ≡ offsets_numbered drop_offsets }
 {
@@ -22,8 +23,11 @@ fn offsets_of(drop_offsets: u32) -> Offsets
     }
 }
 
-/// Writes a module with each section in its one shortest text. `kept` is how many sections are kept as they stand, since they are not read as sections of their kinds. Where there is no
-/// text, `place` is the number of the section that is refused, counted from 1, or 0, and `cause` the number of what is wrong there; both are 0 where there is one.
+/// Writes a module with each section in its minimal encoding. Returns its length in bytes.
+///
+/// `kept` is the number of sections that are kept unchanged, since they do not decode as their
+/// kinds. On an error, `place` is the number of the section, counted from 1, or 0, and `cause` is
+/// the number of the error. On success both are 0.
 #[unsafe(no_mangle)]
 pub extern "C" fn dz_shorten_module(
     alloc: Global,

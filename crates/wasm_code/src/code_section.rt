@@ -1,4 +1,4 @@
-// The code section.
+// The code section, to which function bodies are added.
 ghost use Rattle.std.specs.Prelude.{◌≡◌, ◌≢◌, ℕ, List, [], length, IfOk, IsTrue, ◌↔◌, slice_get};
 ghost use Rattle.std.specs.Option.{option_copied};
 ghost use Rattle.wasm_base.specs.Calls.{Adds};
@@ -13,13 +13,20 @@ use std::alloc::{Allocator, Global};
 use std::marker::Model;
 use wasm_base::{Counted, Encode, Pieces, R, Section, SectionId, encode_frame};
 
-/// The bodies of a module's functions, seen as the bytes of each entry: the frame of a raw body.
+/// The code section: the bodies of a module's functions, modelled as the bytes of each entry. An
+/// entry is a raw body with its size prefix.
 ///
 /// ```rust
 /// let mut code = CodeSection::new(alloc);
 /// code.raw(&[0x00, 0x0B])?;
 /// module.section(&code)?;
 /// ```
+///
+/// # Errors
+///
+/// An adding call that returns an error leaves the section unchanged. The error is `TooLong` only
+/// if the section is full or the body is longer than 4294967295 bytes, and `Memory` only if an
+/// allocation fails.
 #[derive(Drop, Debug)]
 pub struct CodeSection<A: Allocator = Global> {
     pieces: Pieces<A>,
@@ -31,7 +38,7 @@ impl<A: Allocator> Model for CodeSection<A> {
     ghost view = { λ s. s.pieces };
 }
 
-/// A raw body that is given as bytes.
+/// A raw body that the caller passes as bytes.
 #[derive(Clone, Copy)]
 pub(crate) struct RawBody<'a> {
     pub(crate) bytes: &'a [u8],
@@ -49,42 +56,42 @@ impl Encode for RawBody<'_> {
 }
 
 impl<A: Allocator> CodeSection<A> {
-    /// The number of bodies.
+    /// Returns the number of bodies.
     pub fn len(&self) -> u32
         ensures { result ≡ length self.now }
     {
         self.pieces.len()
     }
 
-    /// How many bytes the entries have together, without their number.
+    /// Returns the length of all entries together, in bytes, without their count.
     pub fn byte_len(&self) -> usize
         ensures { result ≡ length (joined self.now) }
     {
         self.pieces.raw_len()
     }
 
-    /// Whether there is no body.
+    /// Returns `true` if there are no bodies.
     pub fn is_empty(&self) -> bool
         ensures { IsTrue result ↔ (length self.now ≡ 0) }
     {
         self.pieces.is_empty()
     }
 
-    /// The bytes of the entry at `index`: the frame of a raw body.
+    /// Returns the bytes of the entry at `index`: a raw body with its size prefix.
     pub fn piece(&self, index: u32) -> Option<&[u8]>
         ensures { option_copied result ≡ slice_get self.now index }
     {
         self.pieces.get(index)
     }
 
-    /// Adds a function. A refused call leaves the section as it was.
+    /// Adds a function body.
     pub fn function<B: Allocator>(&mut self, function: &Function<B>) -> R<()>
         ensures { Adds (frame_text function.now) (FrameFits function.now) self.old self.new result }
     {
         self.pieces.add_encoded(function)
     }
 
-    /// Adds a raw body, as `Function::into_raw_body` gives it. A refused call leaves the section as it was.
+    /// Adds a raw body, as `Function::into_raw_body` returns it.
     pub fn raw(&mut self, body: &[u8]) -> R<()>
         ensures { Adds (frame_text body.now) (FrameFits body.now) self.old self.new result }
     {
@@ -93,7 +100,7 @@ impl<A: Allocator> CodeSection<A> {
 }
 
 impl<A: Allocator + Copy> CodeSection<A> {
-    /// A section of no bodies. It takes no memory.
+    /// Returns a section without bodies, and allocates nothing.
     pub fn new(alloc: A) -> Self
         ensures { result ≡ [] }
     {
@@ -102,7 +109,7 @@ impl<A: Allocator + Copy> CodeSection<A> {
         }
     }
 
-    /// A section of the same bodies, in memory of its own.
+    /// Returns a section of the same bodies, in memory of its own.
     pub fn clone(&self) -> R<Self>
         ensures same { IfOk result (λ section. section ≡ self.now) }
         ensures memory { result ≢ Err TooLong }
@@ -113,7 +120,7 @@ impl<A: Allocator + Copy> CodeSection<A> {
     }
 }
 
-/// The frame of the number of bodies and their frames.
+/// Encodes the size prefix, the number of bodies, and the bodies, each with its size prefix.
 impl<A: Allocator> Encode for CodeSection<A> {
     ghost text = { section_text };
 

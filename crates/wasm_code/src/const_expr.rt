@@ -1,4 +1,4 @@
-// Constant expressions.
+// Constant expressions: the initializers of globals, tables and segments.
 ghost use Rattle.std.specs.Prelude.{◌≡◌, ◌≢◌, ◌<◌, ◌≤◌, ◌^◌, ℕ, List, [], ◌++◌, IfOk, IfSome, ⊤};
 ghost use Rattle.std.specs.Iterator.{Drains, IsFinite};
 ghost use Rattle.wasm_base.specs.Calls.{ReadsBack};
@@ -13,11 +13,17 @@ use std::marker::Model;
 use wasm_base::{Encode, HeapType, Optional, R, read_groups};
 use wasm_insn::{Ieee32, Ieee64, Instruction, InstructionSink, Numeric, VectorImmediate};
 
-/// A constant expression, seen as the bytes that are stored: those of its instructions, without the `End` that is written after
-/// them.
+/// A constant expression, modelled as its stored bytes: the instructions without the `End` that
+/// follows them in the encoding.
 ///
-/// The one instruction that `global_get`, `ref_null`, `ref_func`, `i32_const`, `i64_const`, `f32_const` or `f64_const` makes is kept as
-/// a value, which takes no memory, as tests show. All others are bytes.
+/// A single instruction of `global_get`, `ref_null`, `ref_func`, `i32_const`, `i64_const`,
+/// `f32_const` or `f64_const` is kept as a value, without an allocation, as tests show. All others
+/// are kept as bytes.
+///
+/// # Errors
+///
+/// Its calls return `Memory` if an allocation fails. `extended` alone can return `TooLong`: then an
+/// instruction has a list that is too long.
 #[derive(Drop, Debug)]
 pub struct ConstExpr<A: Allocator = Global> {
     first: Option<First>,
@@ -30,11 +36,11 @@ impl<A: Allocator> Model for ConstExpr<A> {
     ghost view = { λ e. optional_text first_text e.first ++ e.bytes.items };
 }
 
-/// How many bytes `V128Const` has.
+/// The length of `V128Const` in bytes.
 const VECTOR_BYTES: usize = 18;
 
 impl<A: Allocator> ConstExpr<A> {
-    /// No instructions. It takes no memory.
+    /// Returns an expression without instructions, and allocates nothing.
     pub fn empty(alloc: A) -> Self
         ensures { result ≡ [] }
     {
@@ -44,7 +50,8 @@ impl<A: Allocator> ConstExpr<A> {
         }
     }
 
-    /// Bytes that spell instructions.
+    /// Returns the expression of these bytes, which should encode instructions. The call does not
+    /// check that.
     pub fn raw<I: IntoIterator<Item = u8>>(alloc: A, bytes: I) -> R<Self>
     where
         I::IntoIter: Drop,
@@ -60,7 +67,7 @@ impl<A: Allocator> ConstExpr<A> {
         Ok(ConstExpr::stored(stored))
     }
 
-    /// The instructions, one after another.
+    /// Returns the expression of the instructions, one after another.
     pub fn extended<'i, I: IntoIterator<Item = Instruction<'i>>>(
         alloc: A,
         instructions: I,
@@ -75,14 +82,14 @@ impl<A: Allocator> ConstExpr<A> {
         Ok(ConstExpr { first: None, bytes })
     }
 
-    /// The instructions that these bytes encode. It takes no memory.
+    /// Returns the instructions that these bytes encode, and allocates nothing.
     pub(crate) fn stored(bytes: Vec<u8, A>) -> Self
         ensures { result ≡ bytes.items }
     {
         ConstExpr { first: None, bytes }
     }
 
-    /// The instruction alone. It takes no memory.
+    /// Returns the expression of the instruction alone, and allocates nothing.
     #[inline]
     pub(crate) fn of(alloc: A, first: First) -> Self
         ensures { Stores (instruction_of first) [] result }
@@ -94,7 +101,7 @@ impl<A: Allocator> ConstExpr<A> {
         }
     }
 
-    /// `GlobalGet` alone.
+    /// Returns the expression of `GlobalGet` alone.
     #[inline]
     pub fn global_get(alloc: A, index: u32) -> R<Self>
         ensures stores { IfOk result (Stores (Instruction.GlobalGet index) []) }
@@ -103,7 +110,7 @@ impl<A: Allocator> ConstExpr<A> {
         Ok(ConstExpr::of(alloc, First::GlobalGet(index)))
     }
 
-    /// `RefNull` alone.
+    /// Returns the expression of `RefNull` alone.
     #[inline]
     pub fn ref_null(alloc: A, ty: HeapType) -> R<Self>
         ensures stores { IfOk result (Stores (Instruction.RefNull ty) []) }
@@ -112,7 +119,7 @@ impl<A: Allocator> ConstExpr<A> {
         Ok(ConstExpr::of(alloc, First::RefNull(ty)))
     }
 
-    /// `RefFunc` alone.
+    /// Returns the expression of `RefFunc` alone.
     #[inline]
     pub fn ref_func(alloc: A, function_index: u32) -> R<Self>
         ensures stores { IfOk result (Stores (Instruction.RefFunc function_index) []) }
@@ -121,7 +128,7 @@ impl<A: Allocator> ConstExpr<A> {
         Ok(ConstExpr::of(alloc, First::RefFunc(function_index)))
     }
 
-    /// `I32Const` alone.
+    /// Returns the expression of `I32Const` alone.
     #[inline]
     pub fn i32_const(alloc: A, value: i32) -> R<Self>
         ensures stores { IfOk result (Stores (Instruction.I32Const value) []) }
@@ -130,7 +137,7 @@ impl<A: Allocator> ConstExpr<A> {
         Ok(ConstExpr::of(alloc, First::I32Const(value)))
     }
 
-    /// `I64Const` alone.
+    /// Returns the expression of `I64Const` alone.
     #[inline]
     pub fn i64_const(alloc: A, value: i64) -> R<Self>
         ensures stores { IfOk result (Stores (Instruction.I64Const value) []) }
@@ -139,7 +146,7 @@ impl<A: Allocator> ConstExpr<A> {
         Ok(ConstExpr::of(alloc, First::I64Const(value)))
     }
 
-    /// `F32Const` alone.
+    /// Returns the expression of `F32Const` alone.
     #[inline]
     pub fn f32_const(alloc: A, value: Ieee32) -> R<Self>
         ensures stores { IfOk result (Stores (Instruction.F32Const value) []) }
@@ -148,7 +155,7 @@ impl<A: Allocator> ConstExpr<A> {
         Ok(ConstExpr::of(alloc, First::F32Const(value)))
     }
 
-    /// `F64Const` alone.
+    /// Returns the expression of `F64Const` alone.
     #[inline]
     pub fn f64_const(alloc: A, value: Ieee64) -> R<Self>
         ensures stores { IfOk result (Stores (Instruction.F64Const value) []) }
@@ -157,7 +164,7 @@ impl<A: Allocator> ConstExpr<A> {
         Ok(ConstExpr::of(alloc, First::F64Const(value)))
     }
 
-    /// `V128Const` alone.
+    /// Returns the expression of `V128Const` alone.
     pub fn v128_const(alloc: A, value: i128) -> R<Self>
         ensures stores { IfOk result (Stores (Instruction.VectorImmediate (VectorImmediate.V128Const value)) []) }
         ensures memory { result ≢ Err TooLong }
@@ -166,7 +173,7 @@ impl<A: Allocator> ConstExpr<A> {
         ConstExpr::stored(bytes).with_v128_const(value)
     }
 
-    /// This, and then `GlobalGet`.
+    /// Appends `GlobalGet` to the expression.
     #[inline]
     pub fn with_global_get(mut self, index: u32) -> R<Self>
         ensures stores { IfOk result (Stores (Instruction.GlobalGet index) self) }
@@ -176,7 +183,7 @@ impl<A: Allocator> ConstExpr<A> {
         Ok(self)
     }
 
-    /// This, and then `RefNull`.
+    /// Appends `RefNull` to the expression.
     #[inline]
     pub fn with_ref_null(mut self, ty: HeapType) -> R<Self>
         ensures stores { IfOk result (Stores (Instruction.RefNull ty) self) }
@@ -186,7 +193,7 @@ impl<A: Allocator> ConstExpr<A> {
         Ok(self)
     }
 
-    /// This, and then `RefFunc`.
+    /// Appends `RefFunc` to the expression.
     #[inline]
     pub fn with_ref_func(mut self, function_index: u32) -> R<Self>
         ensures stores { IfOk result (Stores (Instruction.RefFunc function_index) self) }
@@ -196,7 +203,7 @@ impl<A: Allocator> ConstExpr<A> {
         Ok(self)
     }
 
-    /// This, and then `I32Const`.
+    /// Appends `I32Const` to the expression.
     #[inline]
     pub fn with_i32_const(mut self, value: i32) -> R<Self>
         ensures stores { IfOk result (Stores (Instruction.I32Const value) self) }
@@ -206,7 +213,7 @@ impl<A: Allocator> ConstExpr<A> {
         Ok(self)
     }
 
-    /// This, and then `I64Const`.
+    /// Appends `I64Const` to the expression.
     #[inline]
     pub fn with_i64_const(mut self, value: i64) -> R<Self>
         ensures stores { IfOk result (Stores (Instruction.I64Const value) self) }
@@ -216,7 +223,7 @@ impl<A: Allocator> ConstExpr<A> {
         Ok(self)
     }
 
-    /// This, and then `F32Const`.
+    /// Appends `F32Const` to the expression.
     #[inline]
     pub fn with_f32_const(mut self, value: Ieee32) -> R<Self>
         ensures stores { IfOk result (Stores (Instruction.F32Const value) self) }
@@ -226,7 +233,7 @@ impl<A: Allocator> ConstExpr<A> {
         Ok(self)
     }
 
-    /// This, and then `F64Const`.
+    /// Appends `F64Const` to the expression.
     #[inline]
     pub fn with_f64_const(mut self, value: Ieee64) -> R<Self>
         ensures stores { IfOk result (Stores (Instruction.F64Const value) self) }
@@ -236,7 +243,7 @@ impl<A: Allocator> ConstExpr<A> {
         Ok(self)
     }
 
-    /// This, and then `V128Const`.
+    /// Appends `V128Const` to the expression.
     #[inline]
     pub fn with_v128_const(mut self, value: i128) -> R<Self>
         ensures stores { IfOk result (Stores (Instruction.VectorImmediate (VectorImmediate.V128Const value)) self) }
@@ -246,7 +253,7 @@ impl<A: Allocator> ConstExpr<A> {
         Ok(self)
     }
 
-    /// This, and then `I32Add`.
+    /// Appends `I32Add` to the expression.
     #[inline]
     pub fn with_i32_add(mut self) -> R<Self>
         ensures stores { IfOk result (Stores (Instruction.Numeric Numeric.I32Add) self) }
@@ -256,7 +263,7 @@ impl<A: Allocator> ConstExpr<A> {
         Ok(self)
     }
 
-    /// This, and then `I32Sub`.
+    /// Appends `I32Sub` to the expression.
     #[inline]
     pub fn with_i32_sub(mut self) -> R<Self>
         ensures stores { IfOk result (Stores (Instruction.Numeric Numeric.I32Sub) self) }
@@ -266,7 +273,7 @@ impl<A: Allocator> ConstExpr<A> {
         Ok(self)
     }
 
-    /// This, and then `I32Mul`.
+    /// Appends `I32Mul` to the expression.
     #[inline]
     pub fn with_i32_mul(mut self) -> R<Self>
         ensures stores { IfOk result (Stores (Instruction.Numeric Numeric.I32Mul) self) }
@@ -276,7 +283,7 @@ impl<A: Allocator> ConstExpr<A> {
         Ok(self)
     }
 
-    /// This, and then `I64Add`.
+    /// Appends `I64Add` to the expression.
     #[inline]
     pub fn with_i64_add(mut self) -> R<Self>
         ensures stores { IfOk result (Stores (Instruction.Numeric Numeric.I64Add) self) }
@@ -286,7 +293,7 @@ impl<A: Allocator> ConstExpr<A> {
         Ok(self)
     }
 
-    /// This, and then `I64Sub`.
+    /// Appends `I64Sub` to the expression.
     #[inline]
     pub fn with_i64_sub(mut self) -> R<Self>
         ensures stores { IfOk result (Stores (Instruction.Numeric Numeric.I64Sub) self) }
@@ -296,7 +303,7 @@ impl<A: Allocator> ConstExpr<A> {
         Ok(self)
     }
 
-    /// This, and then `I64Mul`.
+    /// Appends `I64Mul` to the expression.
     #[inline]
     pub fn with_i64_mul(mut self) -> R<Self>
         ensures stores { IfOk result (Stores (Instruction.Numeric Numeric.I64Mul) self) }
@@ -306,7 +313,7 @@ impl<A: Allocator> ConstExpr<A> {
         Ok(self)
     }
 
-    /// The index of `RefFunc`, where the expression begins with it.
+    /// Returns the index of `RefFunc`, if the expression begins with it.
     #[tactic(auto, using(crate::proofs::RefFuncLaws::first_index))]
     pub fn get_ref_func(&self) -> Option<u32>
         ensures { IsRefFunc self.now result }
@@ -318,7 +325,7 @@ impl<A: Allocator> ConstExpr<A> {
     }
 }
 
-/// The index of `RefFunc`, where the bytes begin with it.
+/// Returns the index of `RefFunc`, if the bytes begin with it.
 #[tactic(auto, using(crate::proofs::RefFuncLaws::ref_func_steps))]
 pub(crate) fn function_at_front(bytes: &[u8]) -> Option<u32>
     ensures { IsRefFunc bytes.now result }
@@ -339,7 +346,7 @@ pub(crate) fn function_at_front(bytes: &[u8]) -> Option<u32>
     }
 }
 
-/// Appends the texts of the elements.
+/// Appends the encodings of the elements.
 fn encode_each<T: Encode + Drop, I: IntoIterator<Item = T>, A: Allocator>(
     elements: I,
     sink: &mut Vec<u8, A>,
@@ -356,7 +363,7 @@ where
 }
 
 impl<A: Allocator + Copy> ConstExpr<A> {
-    /// The same expression, in memory of its own.
+    /// Returns the same expression, in memory of its own.
     pub fn clone(&self) -> R<Self>
         ensures same { IfOk result (λ e. e ≡ self.now) }
         ensures memory { result ≢ Err TooLong }
@@ -369,11 +376,11 @@ impl<A: Allocator + Copy> ConstExpr<A> {
     }
 }
 
-/// Bytes that are stored, as a part of a layout.
+/// Stored bytes as a component of an encoding.
 #[derive(Drop)]
 pub(crate) struct Stored<'a>(pub(crate) &'a [u8]);
 
-/// The bytes as they are.
+/// Encodes the bytes as they are.
 impl Encode for Stored<'_> {
     ghost text = { λ stored. stored.0.now };
 
@@ -386,10 +393,10 @@ impl Encode for Stored<'_> {
     }
 }
 
-/// The byte of `End`.
+/// The opcode of `End`.
 pub(crate) const END: u8 = 0x0B;
 
-/// The stored bytes, and `End`.
+/// Encodes the stored bytes, and `End`.
 impl<A: Allocator> Encode for ConstExpr<A> {
     ghost text = { expression_text };
 

@@ -1,4 +1,4 @@
-// The instruction that an expression begins with.
+// The first instruction of a constant expression, kept as a value.
 ghost use Rattle.std.specs.Prelude.{◌≡◌, ◌<◌, ◌^◌, IfSome, ⊤};
 ghost use Rattle.wasm_code.specs.Expressions.{first_text, index_of};
 
@@ -6,8 +6,8 @@ use std::alloc::Allocator;
 use wasm_base::{Encode, HeapType, R};
 use wasm_insn::{Ieee32, Ieee64};
 
-/// An instruction that is mostly an expression alone, kept as a value and not as bytes: it takes no memory, and is written once,
-/// where the expression is.
+/// An instruction that is usually a whole expression. It is kept as a value and not as bytes: it
+/// needs no allocation, and is encoded once, with the expression.
 #[derive(Clone, Copy, Debug)]
 pub enum First {
     GlobalGet(u32),
@@ -20,7 +20,7 @@ pub enum First {
 }
 
 impl First {
-    /// The index of `RefFunc`.
+    /// Returns the index of `RefFunc`.
     pub fn function_index(self) -> Option<u32>
         ensures index { result ≡ index_of self }
         ensures range { IfSome result (λ index. index < 2 ^ 32) }
@@ -32,7 +32,7 @@ impl First {
     }
 }
 
-/// The text of the instruction.
+/// Encodes the instruction.
 impl Encode for First {
     ghost text = { first_text };
 

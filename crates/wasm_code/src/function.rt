@@ -1,4 +1,4 @@
-// Function bodies.
+// Function bodies: locals and instructions.
 ghost use Rattle.std.specs.Prelude.{◌≡◌, ◌≢◌, ◌++◌, ℕ, List, length, OnOk, OnErr, IfOk};
 ghost use Rattle.std.specs.Iterator.{Drains, IsFinite};
 ghost use Rattle.wasm_base.specs.Calls.{ReadsBack};
@@ -14,7 +14,7 @@ use std::marker::Model;
 use wasm_base::{Encode, R, Refused, ValType, encode_frame, encode_vec};
 use wasm_insn::{Buffer, Instruction, InstructionSink};
 
-/// A function, seen as its raw body: the runs of its locals, and its instructions.
+/// A function, modelled as its raw body: the runs of its locals, and its instructions.
 ///
 /// ```rust
 /// let mut function = Function::new(alloc, [(1, ValType::I32)])?;
@@ -23,12 +23,17 @@ use wasm_insn::{Buffer, Instruction, InstructionSink};
 /// instructions.end()?;
 /// code.function(&function)?;
 /// ```
+///
+/// # Errors
+///
+/// A call that returns an error leaves the body unchanged. The error is `TooLong` only if a count
+/// or length is not representable, and `Memory` only if an allocation fails.
 #[derive(Drop, Debug)]
 pub struct Function<A: Allocator = Global> {
     bytes: Vec<u8, A>,
 }
 
-/// How many bytes a function has room for at first, so that a short one takes memory once.
+/// The initial capacity in bytes, so that a short function allocates once.
 const FIRST_CAPACITY: usize = 128;
 
 impl<A: Allocator> Model for Function<A> {
@@ -38,8 +43,9 @@ impl<A: Allocator> Model for Function<A> {
 }
 
 impl<A: Allocator> Function<A> {
-    /// A function with these runs of locals, whose instructions are to follow. Where the length that the locals tell is too long, it
-    /// answers `TooLong`, and asks for none of them, as tests show.
+    /// Returns a function with these runs of locals, to which instructions are then appended. If
+    /// the length that the locals report exceeds 4294967295, the call returns `TooLong`, and
+    /// requests none of them, as tests show.
     pub fn new<V: IntoIterator<Item = (u32, ValType)>>(alloc: A, locals: V) -> R<Self>
     where
         V::IntoIter: ExactSizeIterator + Drop,
@@ -55,7 +61,7 @@ impl<A: Allocator> Function<A> {
         Ok(Function { bytes })
     }
 
-    /// A sink that writes into the raw body.
+    /// Returns a sink that appends instructions to the raw body.
     pub fn instructions(&mut self) -> InstructionSink<'_, Function<A>>
         ensures same_reference { result.sink.ghost_name ≡ self.entry.ghost_name }
         ensures same { result.sink.now ≡ self.old }
@@ -63,7 +69,7 @@ impl<A: Allocator> Function<A> {
         InstructionSink::new(self)
     }
 
-    /// Appends an instruction. A refused call leaves the body as it was.
+    /// Appends an instruction.
     #[tactic(auto, using(crate::proofs::BodyLaws::grows))]
     pub fn instruction(&mut self, instruction: &Instruction<'_>) -> R<()>
         ensures { AddsInstruction instruction.now self.old self.new result }
@@ -71,7 +77,7 @@ impl<A: Allocator> Function<A> {
         instruction.encode(&mut self.bytes)
     }
 
-    /// Appends bytes that spell instructions. A refused call leaves the body as it was.
+    /// Appends bytes, which should encode instructions. The call does not check that.
     pub fn raw<I: IntoIterator<Item = u8>>(&mut self, bytes: I) -> R<()>
     where
         I::IntoIter: Drop,
@@ -86,14 +92,15 @@ impl<A: Allocator> Function<A> {
         append_all(&mut self.bytes, bytes)
     }
 
-    /// How many bytes the raw body has so far. Where it spells a body, this is the place of the next instruction ([`offset`](crate::laws::offset)).
+    /// Returns the length of the raw body so far, in bytes. If the raw body decodes, this is the
+    /// offset of the next instruction ([`offset`](crate::laws::offset)).
     pub fn byte_len(&self) -> usize
         ensures { result ≡ length self.now }
     {
         self.bytes.len()
     }
 
-    /// The raw body, which `CodeSection::raw` takes.
+    /// Returns the raw body, which `CodeSection::raw` accepts.
     pub fn into_raw_body(self) -> Vec<u8, A>
         ensures { result.items ≡ self }
     {
@@ -103,8 +110,8 @@ impl<A: Allocator> Function<A> {
 }
 
 impl<A: Allocator + Copy> Function<A> {
-    /// A function with locals of these types, whose instructions are to follow: `new` of their runs. Neighbours of one type are one
-    /// run.
+    /// Returns a function with locals of these types: `new` of their runs. Neighbours of one type
+    /// form one run.
     pub fn new_with_locals_types<I: IntoIterator<Item = ValType>>(alloc: A, locals: I) -> R<Self>
     where
         I::IntoIter: Drop,
@@ -115,7 +122,7 @@ impl<A: Allocator + Copy> Function<A> {
         Function::new(alloc, runs)
     }
 
-    /// The same function, in memory of its own.
+    /// Returns the same function, in memory of its own.
     pub fn clone(&self) -> R<Self>
         ensures same { IfOk result (λ f. f ≡ self.now) }
         ensures memory { result ≢ Err TooLong }
@@ -127,7 +134,7 @@ impl<A: Allocator + Copy> Function<A> {
     }
 }
 
-/// Functions are equal where their raw bodies are.
+/// Functions are equal if their raw bodies are equal.
 impl<A: Allocator> PartialEq for Function<A> {
     ghost use Rattle.std.specs.Str.{bytes_eq};
     ghost use Rattle.std.proofs.Common.{rules};
@@ -149,7 +156,7 @@ impl<A: Allocator> Eq for Function<A> {
     ghost laws = { Prim.search (comparing, rules) };
 }
 
-/// What is written goes to the end of the raw body.
+/// Instructions are appended to the raw body.
 impl<A: Allocator> Buffer for Function<A> {
     ghost written = { λ f. f };
 
@@ -195,7 +202,7 @@ where
     Ok(())
 }
 
-/// The frame of the raw body.
+/// Encodes the raw body with its size prefix.
 impl<A: Allocator> Encode for Function<A> {
     ghost text = { frame_text };
 

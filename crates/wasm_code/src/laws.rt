@@ -1,8 +1,10 @@
-//! What is promised of all lists of bytes, and not of a call: each function does nothing, and its clauses are the promise.
+//! Laws about expressions, bodies and code sections, for all byte sequences: each function does
+//! nothing, and its clauses are the law.
 //!
-//! `UniqueReading F` says that bytes begin with a spelling in the format `F` of at most one value, whatever follows, both with
-//! shortest and with padded numbers, and that a value has at most one shortest spelling; `UniqueWholeReading F` the same of a format whose
-//! spellings reach to the last byte. `HasTexts F fits text` says that the text of each value that fits is its shortest spelling.
+//! `UniqueReading F` says that the format `F` is unambiguous: at most one value decodes from the
+//! front of any bytes, with minimal and with padded numbers. A value has at most one minimal
+//! encoding. `UniqueWholeReading F` says the same of a format that occupies all of the bytes.
+//! `HasTexts F fits text` says that `text` is the minimal encoding of each value that fits.
 ghost use Rattle.std.specs.Prelude.{◌∷◌, [], List};
 ghost use Rattle.wasm_base.specs.Formats.{any_bytes, frame, vec};
 ghost use Rattle.wasm_base.specs.Modules.{ReadsPayloads, ReadsPayloadsWide};
@@ -37,14 +39,15 @@ ghost use Rattle.wasm_insn.specs.declared.instruction.Instruction.{Instruction};
 
 use std::alloc::Allocator;
 
-/// Expressions are read uniquely: one ends at the first `End` where an instruction begins.
+/// The format of expressions is unambiguous: an expression ends at the first `End` at which an
+/// instruction begins.
 #[tactic(auto, using(crate::proofs::CodeTexts::expressions))]
 pub fn expressions()
     ensures unique { UniqueReading expression }
     ensures texts { HasTexts expression PlainExpressionFits plain_expression_text }
 {}
 
-/// Bodies are read uniquely, and so are code sections, of raw bodies and of bodies.
+/// The formats of bodies and of code sections, of raw bodies and of decoded ones, are unambiguous.
 #[tactic(auto, using(crate::proofs::CodeTexts::bodies))]
 pub fn bodies()
     ensures body { UniqueWholeReading body }
@@ -58,15 +61,17 @@ pub fn bodies()
     ensures code_section_texts { HasTexts code_section CodeSectionFits code_section_text }
 {}
 
-/// Where a raw body that spells a body goes on and spells another, an instruction begins after as many bytes as it has: in the
-/// only reading of the longer one. Where a plain instruction was added next, it is that one.
+/// Suppose that a raw body decodes, and a longer one that begins with it decodes too. Then an
+/// instruction begins at the shorter one's length, in the only decoding of the longer one. If a
+/// well-formed instruction was appended next, it is that one.
 #[tactic(auto, using(crate::proofs::BodyLaws::offset))]
 pub fn offset<A: Allocator>()
     ensures begins { HasOffsets }
     ensures added { (i : Instruction A) → FindsAdded i }
 {}
 
-/// Where a module is read as ids and payloads, and a code section as bodies alone, its payload is read as these alone.
+/// If a module decodes to ids and payloads, and a code section decodes to bodies alone, then its
+/// payload decodes to these alone.
 #[tactic(auto, using(crate::proofs::CodeLaws::payloads))]
 pub fn payloads()
     ensures raw_code { ReadsPayloads (vec (frame any_bytes)) }
@@ -80,7 +85,8 @@ pub fn wide_payloads()
     ensures code_section { ReadsPayloadsWide (vec (frame body)) }
 {}
 
-/// What a code section holds, call by call, and what a body gains where a named call of a sink writes into it.
+/// The bodies that a code section holds, call by call; and the instruction that a body gains when a
+/// named call of a sink appends to it.
 #[tactic(auto, using(crate::proofs::Calls::calls))]
 pub fn calls<A: Allocator>()
     ensures code { HoldsMoreBodies }
@@ -88,7 +94,8 @@ pub fn calls<A: Allocator>()
     ensures labels { GrowsByLabels }
 {}
 
-/// The same with padded numbers: what a code section, a body and a constant expression hold, call by call.
+/// The same with padded numbers: the content of a code section, a body and a constant expression,
+/// call by call.
 #[tactic(auto, using(crate::proofs::Calls::wide_calls))]
 pub fn wide_calls<A: Allocator>()
     ensures code { HoldsMoreBodiesWide }
@@ -97,7 +104,7 @@ pub fn wide_calls<A: Allocator>()
     ensures expression { StoresMoreWide }
 {}
 
-/// With padded numbers too.
+/// With padded numbers the formats are unambiguous too.
 #[tactic(auto, using(crate::proofs::CodeLaws::wide_laws))]
 pub fn wide()
     ensures expression { IsUniqueWide expression }
@@ -107,14 +114,16 @@ pub fn wide()
     ensures code_section { IsUniqueWide code_section }
 {}
 
-/// A list of types has at most one list of runs with counts of at least 1 and no two neighbours of one type.
+/// A list of types has at most one list of runs with counts of at least 1 and no two neighbours of
+/// one type.
 #[tactic(auto, using(crate::proofs::RunLaws::one_expansion))]
 pub fn locals()
     ensures { (xs ys : List Run) → HaveOneExpansion xs ys }
 {}
 
-/// With shortest numbers no code section stands in these two texts: in one a memory argument is cut short, in the other a count of runs is
-/// padded. With padded numbers the second is one.
+/// With minimal numbers, these two byte sequences encode no code section: in one a memory argument
+/// is truncated, in the other a count of runs is padded. With padded numbers the second is a code
+/// section.
 #[tactic(auto, using(crate::proofs::NothingLaws::nothing))]
 pub fn nothing_stands()
     ensures cut { NothingStands code_section (6 ∷ 1 ∷ 4 ∷ 0 ∷ 40 ∷ 16 ∷ 0 ∷ []) }

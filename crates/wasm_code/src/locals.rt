@@ -1,4 +1,4 @@
-// The runs of locals that are told one by one.
+// Runs of locals, from a list of types.
 ghost use Rattle.std.specs.Prelude.{◌≡◌, ◌↔◌, IsTrue, OnOk};
 ghost use Rattle.std.specs.Iterator.{IsFinite};
 ghost use Rattle.std.specs.List.{All};
@@ -8,7 +8,7 @@ ghost use Rattle.wasm_code.specs.Bodies.{IsCounted, IsFull, MoreRuns, GathersRun
 use std::alloc::Allocator;
 use wasm_base::{R, Refused, ValType};
 
-/// The runs of the types: neighbours of one type are one run.
+/// Returns the runs of the types: neighbours of one type form one run.
 pub(crate) fn runs_of<I: IntoIterator<Item = ValType>, A: Allocator>(
     alloc: A,
     types: I,
@@ -25,15 +25,15 @@ where
     Ok(runs)
 }
 
-/// Whether a local of the type `ty` goes on a run of the type `last`.
+/// Returns `true` if a local of the type `ty` extends a run of the type `last`.
 fn goes_on(last: ValType, ty: ValType) -> bool
     ensures { IsTrue result ↔ (last ≡ ty) }
 {
     last == ty
 }
 
-/// One more local: the last run has one more where it is of this type, and else a run begins. After a refused call the runs are of
-/// no use, since the last one may be gone.
+/// Adds one local: it extends the last run if that is of this type, and begins a new run otherwise.
+/// After an error the runs are unusable, since the last one may be lost.
 fn add_local<A: Allocator>(runs: &mut Vec<(u32, ValType), A>, ty: ValType) -> R<()>
     ensures more { OnOk result (MoreRuns ty runs.old.items runs.new.items) }
     ensures counted { All IsCounted runs.old.items → OnOk result (All IsCounted runs.new.items) }

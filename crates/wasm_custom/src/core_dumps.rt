@@ -1,4 +1,4 @@
-// Core dumps: the process, its modules and its instances.
+// Core dump sections: the process, its modules and its instances.
 ghost use Rattle.std.specs.Prelude.{◌≡◌, ◌≢◌, ℕ, List, [], ◌∷◌, ◌++◌, IfOk, true, ⊤, IfErr, Err, OnOk, OnErr, map};
 ghost use Rattle.wasm_base.specs.Calls.{Adds, ReadsBack};
 ghost use Rattle.wasm_base.specs.Cow.{items_of, text_of};
@@ -26,11 +26,17 @@ use std::marker::Model;
 use wasm_base::{Encode, Kind, R, Section, SectionId, vec_of};
 use wasm_reader_base::{ReadFault, Readable, Shorten, read_whole};
 
-/// The process that was dumped, seen as the data of its section: the byte 00, and its name.
+/// The `core` section of a dumped process, modelled as its data: the byte 00, and the name of the
+/// process.
 ///
 /// ```rust
 /// module.section(&CoreDumpSection::new(alloc, "a.wasm")?)?;
 /// ```
+///
+/// # Errors
+///
+/// The error of `new` is `TooLong` only if the name is too long, and `Memory` only if an allocation
+/// fails.
 #[derive(Drop, Debug)]
 pub struct CoreDumpSection<A: Allocator = Global> {
     data: Vec<u8, A>,
@@ -43,7 +49,7 @@ impl<A: Allocator> Model for CoreDumpSection<A> {
 }
 
 impl<A: Allocator> CoreDumpSection<A> {
-    /// The process of this name.
+    /// Returns the section of the process of this name.
     pub fn new(alloc: A, name: &str) -> R<Self>
         ensures is { IfOk result (λ s. s ≡ marked_text name.now) }
         ensures fitted { IfOk result (λ _. FrameFits name.now) }
@@ -54,7 +60,7 @@ impl<A: Allocator> CoreDumpSection<A> {
         Ok(CoreDumpSection { data })
     }
 
-    /// The same process, in memory of its own.
+    /// Returns the same section, in memory of its own.
     pub fn clone(&self) -> R<Self>
     where
         A: Copy,
@@ -67,7 +73,7 @@ impl<A: Allocator> CoreDumpSection<A> {
     }
 }
 
-/// The frame of the name of the section, and of the data.
+/// Encodes the size prefix, the name of the section, and the data.
 impl<A: Allocator> Encode for CoreDumpSection<A> {
     ghost text = { λ s. named_text core_name s };
 
@@ -109,7 +115,7 @@ impl<A: Allocator> Section for CoreDumpSection<A> {
     ghost reads_back = { λ s promised. promised };
 }
 
-/// The modules of the process, by their names.
+/// The `coremodules` section: the modules of the process, by their names.
 ///
 /// ```rust
 /// let mut modules = CoreDumpModulesSection::new(alloc);
@@ -118,7 +124,7 @@ impl<A: Allocator> Section for CoreDumpSection<A> {
 /// ```
 pub type CoreDumpModulesSection<A = Global> = CustomEntries<ModuleItems, A>;
 
-/// The items of a section of modules: their names.
+/// The kind of the items of a modules section: their names.
 #[derive(Clone, Copy, Debug)]
 pub struct ModuleItems;
 
@@ -159,14 +165,14 @@ impl CustomKind for ModuleItems {
 }
 
 impl<A: Allocator> CoreDumpModulesSection<A> {
-    /// Adds a module. A refused call leaves the section as it was.
+    /// Adds a module.
     pub fn module(&mut self, name: &str) -> R<()>
         ensures { Adds (marked_text name.now) (⊤ × FrameFits name.now) self.old self.new result }
     {
         self.add_record(&(0x00u8, name))
     }
 
-    /// The section as a custom section, whose data are in memory of their own.
+    /// Returns the section as a custom section, with its data in memory of their own.
     pub fn as_custom<B: Allocator>(&self, alloc: B) -> R<CustomSection<'_, B>>
         ensures same { IfOk result (λ s. (text_of s.name ≡ modules_name) × (items_of s.bytes ≡ entries_text [] true self.now)) }
         ensures memory { result ≢ Err TooLong }
@@ -175,7 +181,7 @@ impl<A: Allocator> CoreDumpModulesSection<A> {
     }
 }
 
-/// The instances of the process. `len` is their number.
+/// The `coreinstances` section: the instances of the process. `len` is their number.
 ///
 /// ```rust
 /// let mut instances = CoreDumpInstancesSection::new(alloc);
@@ -184,7 +190,7 @@ impl<A: Allocator> CoreDumpModulesSection<A> {
 /// ```
 pub type CoreDumpInstancesSection<A = Global> = CustomEntries<InstanceItems, A>;
 
-/// The items of a section of instances.
+/// The kind of the items of an instances section.
 #[derive(Clone, Copy, Debug)]
 pub struct InstanceItems;
 
@@ -225,8 +231,8 @@ impl CustomKind for InstanceItems {
 }
 
 impl<A: Allocator> CoreDumpInstancesSection<A> {
-    /// Adds an instance of the module, with these memories and globals. A refused call leaves the section as it was. Where there are
-    /// too many of either, it answers `TooLong`, and asks for none, as tests show.
+    /// Adds an instance of the module, with these memories and globals. If there are too many of
+    /// either, it returns `TooLong` and requests none, as tests show.
     pub fn instance<M: IntoIterator<Item = u32>, G: IntoIterator<Item = u32> + Drop>(
         &mut self,
         module_index: u32,
@@ -246,7 +252,7 @@ impl<A: Allocator> CoreDumpInstancesSection<A> {
         self.add_once(((0x00u8, module_index), memories, globals))
     }
 
-    /// The section as a custom section, whose data are in memory of their own.
+    /// Returns the section as a custom section, with its data in memory of their own.
     pub fn as_custom<B: Allocator>(&self, alloc: B) -> R<CustomSection<'_, B>>
         ensures same { IfOk result (λ s. (text_of s.name ≡ instances_name) × (items_of s.bytes ≡ entries_text [] true self.now)) }
         ensures memory { result ≢ Err TooLong }
@@ -255,7 +261,11 @@ impl<A: Allocator> CoreDumpInstancesSection<A> {
     }
 }
 
-/// The name of the process.
+/// Decodes the payload of a process section: the name of the process.
+///
+/// # Errors
+///
+/// Any error but `Memory` means that the bytes are not such a payload.
 #[tactic(auto, using(crate::proofs::CoreDumpLaws::process_steps))]
 pub fn read_process<'a, A: Allocator + Copy>(
     bytes: &'a [u8],
@@ -293,7 +303,11 @@ impl<'a, A: Allocator + Copy> ReadsItems<'a, &'a str, A> for ModuleItems {
     }
 }
 
-/// The names of the modules.
+/// Decodes the payload of a modules section: the names of the modules.
+///
+/// # Errors
+///
+/// Any error but `Memory` means that the bytes are not such a payload.
 pub fn read_modules<'a, A: Allocator + Copy>(
     bytes: &'a [u8],
     alloc: A,
@@ -342,7 +356,12 @@ impl<'a, A: Allocator + Copy> ReadsItems<'a, (u32, Vec<u32, A>, Vec<u32, A>), A>
     }
 }
 
-/// The instances: the index of the module, the memories and the globals of each.
+/// Decodes the payload of an instances section: for each instance the index of its module, its
+/// memories and its globals.
+///
+/// # Errors
+///
+/// Any error but `Memory` means that the bytes are not such a payload.
 pub fn read_instances<'a, A: Allocator + Copy>(
     bytes: &'a [u8],
     alloc: A,
@@ -364,7 +383,8 @@ pub(crate) fn append_marked<B: Allocator>(name: &str, out: &mut Vec<u8, B>) -> R
     name.write_minimal(out)
 }
 
-/// Writes what [`append_process`] appends. After an error, a part of it may be behind the old bytes.
+/// Writes the bytes that [`append_process`] appends. After an error, part of them may follow the
+/// old bytes.
 #[tactic(auto, using(crate::proofs::CoreDumpLaws::process_appended, crate::proofs::CoreDumpLaws::process_encoded))]
 fn write_process<B: Allocator>(name: &str, out: &mut Vec<u8, B>) -> R<()>
     ensures ok { OnOk result (AppendsShortest core_payload name.now out.old.items out.new.items) }
@@ -375,7 +395,8 @@ fn write_process<B: Allocator>(name: &str, out: &mut Vec<u8, B>) -> R<()>
     append_marked(name, out)
 }
 
-/// Appends the minimal encoding of the payload of the section of this process. On an error, the sink is as it was.
+/// Appends the minimal encoding of the payload of the section of this process. On an error, the
+/// sink is unchanged.
 pub fn append_process<B: Allocator>(name: &str, out: &mut Vec<u8, B>) -> R<()>
     ensures ok { OnOk result (AppendsShortest core_payload name.now out.old.items out.new.items) }
     ensures err { OnErr result (out.new.items ≡ out.old.items) }
@@ -389,7 +410,8 @@ pub fn append_process<B: Allocator>(name: &str, out: &mut Vec<u8, B>) -> R<()>
     written
 }
 
-/// Appends the minimal encoding of the payload of a section of these modules. On an error, the sink is as it was.
+/// Appends the minimal encoding of the payload of a section of these modules. On an error, the sink
+/// is unchanged.
 pub fn append_modules<B: Allocator>(names: &[&str], out: &mut Vec<u8, B>) -> R<()>
     ensures ok { OnOk result (AppendsShortest modules_payload (map (λ n. n.now) names.now) out.old.items out.new.items) }
     ensures err { OnErr result (out.new.items ≡ out.old.items) }
@@ -398,7 +420,8 @@ pub fn append_modules<B: Allocator>(names: &[&str], out: &mut Vec<u8, B>) -> R<(
     append_counted::<ModuleItems, &str, _>(names, out)
 }
 
-/// Appends the minimal encoding of the payload of a section of these instances. On an error, the sink is as it was.
+/// Appends the minimal encoding of the payload of a section of these instances. On an error, the
+/// sink is unchanged.
 pub fn append_instances<A: Allocator, B: Allocator>(
     instances: &[(u32, Vec<u32, A>, Vec<u32, A>)],
     out: &mut Vec<u8, B>,

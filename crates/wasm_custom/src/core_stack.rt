@@ -1,4 +1,4 @@
-// The stack of a core dump.
+// The stack section of a core dump: its builder, its reader and its minimizer.
 ghost use Rattle.std.specs.Prelude.{◌≡◌, ◌≢◌, ℕ, List, [], ◌∷◌, ◌++◌, IfOk, true, ⊤, IfErr, Err, OnOk, OnErr, map};
 ghost use Rattle.wasm_base.specs.Calls.{ReadsBack};
 ghost use Rattle.wasm_base.specs.Cow.{items_of, text_of};
@@ -27,13 +27,18 @@ use std::marker::Model;
 use wasm_base::{CowSlice, CowStr, Encode, Pieces, R, Section, SectionId, vec_of};
 use wasm_reader_base::{ReadFault, Readable, Shorten, Spelled, read_whole};
 
-/// The stack of a thread, seen as what stands before its frames, which is the byte 00 and the name of the thread, and the bytes of
-/// each frame.
+/// The `corestack` section of a thread, modelled as the bytes before its stack frames and the bytes
+/// of each frame. The former are the byte 00 and the name of the thread.
 ///
 /// ```rust
 /// let mut stack = CoreDumpStackSection::new(alloc, "main")?;
 /// stack.frame(0, 42, 51, [CoreDumpValue::I32(1)], [CoreDumpValue::Missing])?;
 /// ```
+///
+/// # Errors
+///
+/// An adding call that returns an error leaves the section unchanged. The error is `TooLong` only
+/// if the section is full or an item does not fit, and `Memory` only if an allocation fails.
 #[derive(Drop, Debug)]
 pub struct CoreDumpStackSection<A: Allocator = Global> {
     front: Vec<u8, A>,
@@ -47,7 +52,7 @@ impl<A: Allocator> Model for CoreDumpStackSection<A> {
 }
 
 impl<A: Allocator + Copy> CoreDumpStackSection<A> {
-    /// The stack of the thread of this name, without frames.
+    /// Returns the stack of the thread of this name, without frames.
     pub fn new(alloc: A, thread_name: &str) -> R<Self>
         ensures is { IfOk result (λ s. s ≡ (marked_text thread_name.now, [])) }
         ensures fitted { IfOk result (λ _. FrameFits thread_name.now) }
@@ -61,7 +66,7 @@ impl<A: Allocator + Copy> CoreDumpStackSection<A> {
         })
     }
 
-    /// The same stack, in memory of its own.
+    /// Returns the same stack, in memory of its own.
     pub fn clone(&self) -> R<Self>
         ensures same { IfOk result (λ s. s ≡ self.now) }
         ensures memory { result ≢ Err TooLong }
@@ -74,9 +79,9 @@ impl<A: Allocator + Copy> CoreDumpStackSection<A> {
 }
 
 impl<A: Allocator> CoreDumpStackSection<A> {
-    /// Adds a frame: the instance and the function where it is, how far into the function, its locals, and its part of the stack. A
-    /// refused call leaves the section as it was. Where there are too many values of either list, it answers `TooLong`, and
-    /// asks for none, as tests show.
+    /// Adds a stack frame: its instance and function, the offset in the function, its locals, and
+    /// its operand stack. If there are too many values in either list, it returns `TooLong` and
+    /// requests none, as tests show.
     pub fn frame<
         L: IntoIterator<Item = CoreDumpValue>,
         S: IntoIterator<Item = CoreDumpValue> + Drop,
@@ -96,7 +101,7 @@ impl<A: Allocator> CoreDumpStackSection<A> {
         self.frames.add_once(((0x00u8, place), locals, stack))
     }
 
-    /// The section as a custom section, whose data are in memory of their own.
+    /// Returns the section as a custom section, with its data in memory of their own.
     pub fn as_custom<B: Allocator>(&self, alloc: B) -> R<CustomSection<'_, B>>
         ensures same { IfOk result (λ s. (text_of s.name ≡ stack_name) × (items_of s.bytes ≡ entries_text self.now.0 true self.now.1)) }
         ensures memory { result ≢ Err TooLong }
@@ -109,7 +114,8 @@ impl<A: Allocator> CoreDumpStackSection<A> {
     }
 }
 
-/// The frame of the name of the section, and of the data: the name of the thread, the number of frames, and these.
+/// Encodes the size prefix, the name of the section, and the data: the name of the thread, the
+/// number of frames, and the frames.
 impl<A: Allocator> Encode for CoreDumpStackSection<A> {
     ghost text = { λ s. named_text stack_name (entries_text s.0 true s.1) };
 
@@ -148,12 +154,12 @@ impl<A: Allocator> Section for CoreDumpStackSection<A> {
     ghost reads_back = { λ s promised. promised };
 }
 
-/// A frame of a stack.
+/// A decoded frame of a stack.
 #[derive(Debug, Drop)]
 pub struct CoreFrame<A: Allocator = Global> {
     pub instanceidx: u32,
     pub funcidx: u32,
-    /// How far into the function it is.
+    /// The offset in the function.
     pub codeoffset: u32,
     pub locals: Vec<CoreDumpValue, A>,
     pub stack: Vec<CoreDumpValue, A>,
@@ -189,7 +195,11 @@ impl<'a, A: Allocator + Copy> Readable<'a, A> for CoreFrame<A> {
     }
 }
 
-/// The name of the thread, and the frames of its stack.
+/// Decodes the payload of a stack section: the name of the thread, and the frames of its stack.
+///
+/// # Errors
+///
+/// Any error but `Memory` means that the bytes are not such a payload.
 #[tactic(auto, using(crate::proofs::CoreStackLaws::stack_steps))]
 pub fn read_stack<'a, A: Allocator + Copy>(
     bytes: &'a [u8],
@@ -216,7 +226,8 @@ impl<A: Allocator> Shorten for CoreFrame<A> {
     }
 }
 
-/// Writes what [`append_stack`] appends. After an error, a part of it may be behind the old bytes.
+/// Writes the bytes that [`append_stack`] appends. After an error, part of them may follow the old
+/// bytes.
 #[tactic(auto, using(crate::proofs::CoreStackLaws::stack_appended, crate::proofs::CoreStackLaws::thread_encoded, crate::proofs::CoreStackLaws::frames_encoded))]
 fn write_stack<A: Allocator, B: Allocator>(
     thread: &str,
@@ -232,7 +243,8 @@ fn write_stack<A: Allocator, B: Allocator>(
     frames.write_minimal(out)
 }
 
-/// Appends the minimal encoding of the payload of the section of this stack. On an error, the sink is as it was.
+/// Appends the minimal encoding of the payload of the section of this stack. On an error, the sink
+/// is unchanged.
 pub fn append_stack<A: Allocator, B: Allocator>(
     thread: &str,
     frames: &Vec<CoreFrame<A>, A>,

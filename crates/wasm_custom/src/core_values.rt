@@ -1,4 +1,4 @@
-// Values of a core dump.
+// The values of locals and stacks in a core dump.
 ghost use Rattle.std.specs.Prelude.{⊤};
 ghost use Rattle.wasm_custom.specs.CoreValues.{value_text, value as value_format};
 ghost use Rattle.wasm_custom.specs.declared.core_values.CoreDumpValue.{CoreDumpValue as ValueModel};
@@ -8,7 +8,7 @@ use wasm_base::{Encode, R};
 use wasm_immediates::{Ieee32, Ieee64};
 use wasm_reader_base::{ReadFault, Readable, Spelled};
 
-/// A value of a local or of the stack, or none where it was optimised away.
+/// A value of a local or of the stack, or none if it was optimized away.
 #[derive(Clone, Copy, Debug)]
 pub enum CoreDumpValue {
     Missing,
@@ -18,7 +18,7 @@ pub enum CoreDumpValue {
     F64(Ieee64),
 }
 
-/// A byte for the type, and the value.
+/// Encodes a byte for the type, and the value.
 impl Encode for CoreDumpValue {
     ghost text = { value_text };
 

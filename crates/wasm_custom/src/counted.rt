@@ -1,4 +1,4 @@
-// Custom sections of counted items: how they are read, and written in fewest bytes.
+// Readers and minimizers of custom sections of counted items.
 ghost use Rattle.std.specs.Prelude.{◌≡◌, ◌≢◌, ℕ, List, IfOk, IfErr, Err, OnOk, OnErr, map};
 ghost use Rattle.wasm_base.specs.Formats.{vec};
 ghost use Rattle.wasm_base.specs.Going.{FillsNothing};
@@ -15,36 +15,40 @@ use std::alloc::Allocator;
 use wasm_base::{Encode, R};
 use wasm_reader_base::{ReadFault, Readable};
 
-/// A kind whose items are written from a `T` that was read.
+/// A kind whose items can be encoded from a decoded `T`.
 pub(crate) trait ItemsAs<T>: CustomKind {
-    // The item without where it lies in memory.
+    // The item, without its location in memory.
     ghost Said: { Type 0 };
 
-    // What bytes spell.
+    // The format: which bytes encode which item.
     ghost format: { Mode → List ℕ → Said → Type 0 };
 
     ghost view: { T → Said };
 
-    /// One item stands at the front of bytes, whatever follows. The function does nothing.
+    /// Proves that the format is unambiguous: one item decodes from the front, whatever follows.
+    /// The function does nothing.
     fn alone()
         ensures { UniqueReading format };
 
-    /// Appends the one shortest text of the item, where some bytes are read as it. After a refusal a part of it may stand there.
+    /// Appends the minimal encoding of the item, if any bytes decode to it. After an error, part of
+    /// the encoding may follow the old bytes.
     fn append_item<B: Allocator>(item: &T, out: &mut Vec<u8, B>) -> R<()>
         ensures ok { OnOk result (AppendsShortest format (view item.now) out.old.items out.new.items) }
         ensures front { IsFrontOf out.old.items out.new.items }
         ensures too_long { HasEncoding format (view item.now) → result ≢ Err TooLong };
 }
 
-/// A kind whose items are read as a `T`.
+/// A kind whose items decode to a `T`.
 pub(crate) trait ReadsItems<'a, T: Drop, A: Allocator + Copy>: ItemsAs<T> {
-    /// The item at the front, its numbers padded or not, and the bytes after it.
+    /// Decodes the item at the front, padded numbers included, and returns it with the remaining
+    /// bytes.
     fn read_item(bytes: &'a [u8], alloc: A) -> Result<(T, &'a [u8]), ReadFault>
         ensures found { IfOk result (λ x. Reads Self.format wide bytes.now (Self.view x.0) x.1.now) }
         ensures none { IfErr result (λ e. e ≢ Memory → ReadsNothing Self.format wide bytes.now) };
 }
 
-/// Items behind their number, and the bytes after them. Memory is taken for items that stand there, and not by the number.
+/// Decodes a count and that many items, and returns them with the remaining bytes. Memory grows
+/// with the items that decode, and is not allocated by the count.
 #[tactic(auto, using(wasm_reader_base::proofs::ReadVectors::vec_steps))]
 fn read_items<'a, K: ReadsItems<'a, T, A>, T: Drop, A: Allocator + Copy>(
     bytes: &'a [u8],
@@ -64,7 +68,7 @@ fn read_items<'a, K: ReadsItems<'a, T, A>, T: Drop, A: Allocator + Copy>(
     Ok((items, rest))
 }
 
-/// The items of a section of the kind, where its name stands there.
+/// Decodes the payload of a section of this kind, including its name.
 pub(crate) fn read_counted<'a, K: ReadsItems<'a, T, A>, T: Drop, A: Allocator + Copy>(
     bytes: &'a [u8],
     alloc: A,
@@ -82,7 +86,7 @@ pub(crate) fn read_counted<'a, K: ReadsItems<'a, T, A>, T: Drop, A: Allocator + 
     }
 }
 
-/// Appends items behind their number.
+/// Appends a count and the items.
 #[tactic(auto, using(wasm_reader_base::proofs::ShortTexts::members_start))]
 fn append_items<K: ItemsAs<T>, T, B: Allocator>(items: &[T], out: &mut Vec<u8, B>) -> R<()>
     ensures ok { OnOk result (AppendsShortest (vec K.format) (map K.view items.now) out.old.items out.new.items) }
@@ -96,7 +100,8 @@ fn append_items<K: ItemsAs<T>, T, B: Allocator>(items: &[T], out: &mut Vec<u8, B
     Ok(())
 }
 
-/// Writes what [`append_counted`] appends. After an error, a part of it may be behind the old bytes.
+/// Writes the bytes that [`append_counted`] appends. After an error, part of them may follow the
+/// old bytes.
 #[tactic(auto, using(crate::proofs::EntriesLaws::counted_encoded, crate::proofs::EntriesLaws::counted_name_fits))]
 fn write_counted<K: ItemsAs<T>, T, B: Allocator>(items: &[T], out: &mut Vec<u8, B>) -> R<()>
     ensures ok { OnOk result (AppendsShortest (counted_payload K.name K.format) (map K.view items.now) out.old.items out.new.items) }
@@ -107,7 +112,8 @@ fn write_counted<K: ItemsAs<T>, T, B: Allocator>(items: &[T], out: &mut Vec<u8, 
     append_items::<K, T, _>(items, out)
 }
 
-/// Appends the minimal encoding of the payload of a section of the kind, which has these items. On an error, the sink is as it was.
+/// Appends the minimal encoding of the payload of a section of the kind, which has these items. On
+/// an error, the sink is unchanged.
 pub(crate) fn append_counted<K: ItemsAs<T>, T, B: Allocator>(
     items: &[T],
     out: &mut Vec<u8, B>,

@@ -1,4 +1,4 @@
-// Custom sections: a name, and data up to the end of the frame.
+// Custom sections: a name, and data up to the end of the payload.
 ghost use Rattle.std.specs.Prelude.{◌≡◌, ◌≢◌, ℕ, ◌+◌, ◌<◌, ◌≤◌, List, ◌++◌, length, vec_len, vec_capacity, OnOk, OnErr, IfOk, IsOk, IsUtf8};
 ghost use Rattle.wasm_base.specs.Calls.{ReadsBack};
 ghost use Rattle.wasm_base.specs.Cow.{items_of, text_of};
@@ -12,7 +12,8 @@ use wasm_base::{
     CowSlice, CowStr, Encode, R, Refused, Section, SectionId, begin_frame, encoding_size,
 };
 
-/// Appends the size and the name of a custom section, and makes room for data of `size` bytes that are to follow.
+/// Appends the size prefix and the name of a custom section, and reserves spare capacity for `size`
+/// bytes of data that the caller appends next.
 pub(crate) fn begin_custom<A: Allocator>(sink: &mut Vec<u8, A>, name: &str, size: usize) -> R<()>
     ensures ok { OnOk result (sink.new.items ≡ sink.old.items ++ (unsigned_text (length (frame_text name.now) + size) ++ frame_text name.now)) }
     ensures made_room { OnOk result (vec_len sink.new + size ≤ vec_capacity sink.new) }
@@ -56,7 +57,7 @@ pub struct CustomSection<'a, A: Allocator = Global> {
 }
 
 impl<'a, A: Allocator + Copy> CustomSection<'a, A> {
-    /// The same name and data: what is owned in memory of its own.
+    /// Returns the same name and data, and copies owned ones into memory of their own.
     pub fn clone(&self) -> R<Self>
         ensures same { IfOk result (λ s. (text_of s.name ≡ text_of self.now.name) × (items_of s.bytes ≡ items_of self.now.bytes)) }
         ensures memory { result ≢ Err Refused.TooLong }
@@ -68,7 +69,7 @@ impl<'a, A: Allocator + Copy> CustomSection<'a, A> {
     }
 }
 
-/// Sections are equal where their names and data have equal bytes.
+/// Sections are equal if their names and data have equal bytes.
 impl<A: Allocator> PartialEq for CustomSection<'_, A> {
     ghost use Rattle.std.proofs.Common.{rules};
     ghost use Rattle.std.specs.Cmp.Rules.{comparing};
@@ -91,7 +92,7 @@ impl<A: Allocator> Eq for CustomSection<'_, A> {
     ghost laws = { Prim.search (comparing, rules) };
 }
 
-/// The frame of the name and the data.
+/// Encodes the size prefix, the name and the data.
 impl<A: Allocator> Encode for CustomSection<'_, A> {
     ghost text = { λ s. named_text (text_of s.name) (items_of s.bytes) };
 

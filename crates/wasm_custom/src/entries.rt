@@ -1,4 +1,4 @@
-// Custom sections of entries: what they have in common.
+// The builder of all custom sections of entries.
 ghost use Rattle.std.specs.Prelude.{◌≡◌, ◌≢◌, ℕ, ◌+◌, ◌<◌, ◌≤◌, List, [], length, Bool, Err, IfOk, IsTrue, ◌↔◌, ⊤};
 ghost use Rattle.wasm_base.specs.Calls.{Adds, Appends, ReadsBackBoth};
 ghost use Rattle.wasm_base.specs.Cow.{items_of, text_of};
@@ -18,38 +18,44 @@ use wasm_base::{
     CowSlice, CowStr, Encode, EncodeOnce, Kind, Pieces, R, Section, SectionId, encoding_size,
 };
 
-/// A kind of custom section: its items, its name, what stands before its entries, and whether these are counted.
+/// A kind of custom section: its items, its name, the bytes before its entries, and whether the
+/// entries are counted.
 pub trait CustomKind: Kind {
     /// The name of the section.
     ghost name: { List ℕ };
 
-    /// What stands before the entries, and how it is spelled.
+    /// The bytes before the entries, and their format.
     ghost front: { List ℕ };
 
     ghost front_format: { Mode → List ℕ → Unit {0} → Type 0 };
 
-    /// Whether the number of entries stands before them.
+    /// Whether the number of entries precedes them.
     ghost counted: { Bool };
 
-    /// The name of the section.
+    /// Returns the name of the section.
     fn name() -> &'static str
         ensures { result.now ≡ name };
 
-    /// What stands before the entries.
+    /// Returns the bytes before the entries.
     fn front() -> &'static [u8]
         ensures { result.now ≡ front };
 
-    /// Whether the number of entries stands before them.
+    /// Returns `true` if the number of entries precedes them.
     fn counted() -> bool
         ensures { result ≡ counted };
 
-    /// The section's name is UTF-8, what stands before the items is spelled, in a format that is read uniquely, and where items are not
-    /// counted, none of them is empty. The function does nothing.
+    /// Proves three laws: the name is UTF-8, the bytes before the entries encode a value of an
+    /// unambiguous format, and uncounted items are never empty. The function does nothing.
     fn frame_laws()
         ensures { FrameLaws Self.kind.format name front front_format counted };
 }
 
-/// A custom section of entries of the kind `K`, seen as the bytes of each.
+/// A custom section of entries of the kind `K`, modelled as the bytes of each entry.
+///
+/// # Errors
+///
+/// An adding call that returns an error leaves the section unchanged. The error is `TooLong` only
+/// if the section is full or the item does not fit, and `Memory` only if an allocation fails.
 #[derive(Drop, Debug)]
 pub struct CustomEntries<K, A: Allocator = Global> {
     pieces: Pieces<A>,
@@ -63,28 +69,28 @@ impl<K, A: Allocator> Model for CustomEntries<K, A> {
 }
 
 impl<K, A: Allocator> CustomEntries<K, A> {
-    /// The number of entries.
+    /// Returns the number of entries.
     pub fn len(&self) -> u32
         ensures { result ≡ length self.now }
     {
         self.pieces.len()
     }
 
-    /// Whether there is no entry.
+    /// Returns `true` if there are no entries.
     pub fn is_empty(&self) -> bool
         ensures { IsTrue result ↔ (length self.now ≡ 0) }
     {
         self.pieces.is_empty()
     }
 
-    /// Adds an entry that is the text of the record. A refused call leaves the section as it was.
+    /// Adds the encoding of the record as an entry.
     pub(crate) fn add_record<T: Encode>(&mut self, given: &T) -> R<()>
         ensures { Adds (T.text given.now) (T.fits given.now) self.old self.new result }
     {
         self.pieces.add_encoded(given)
     }
 
-    /// Adds an entry that is a text of the item, which is written once. A refused call leaves the section as it was.
+    /// Adds an encoding of the item as an entry, and consumes the item.
     pub(crate) fn add_once<T: EncodeOnce + Drop>(&mut self, item: T) -> R<()>
         requires { T.lawful item }
         ensures { AddsOnce (T.gives item) (T.fits item) self.old self.new result }
@@ -92,7 +98,7 @@ impl<K, A: Allocator> CustomEntries<K, A> {
         self.pieces.add_once(item)
     }
 
-    /// The entries, one after another.
+    /// Returns the bytes of the entries, one entry after another.
     pub(crate) fn content(&self) -> &[u8]
         ensures { result.now ≡ joined self.now }
     {
@@ -101,7 +107,7 @@ impl<K, A: Allocator> CustomEntries<K, A> {
 }
 
 impl<K, A: Allocator + Copy> CustomEntries<K, A> {
-    /// A section of no entries. It takes no memory.
+    /// Returns a section without entries, and allocates nothing.
     pub fn new(alloc: A) -> Self
         ensures { result ≡ [] }
     {
@@ -111,7 +117,7 @@ impl<K, A: Allocator + Copy> CustomEntries<K, A> {
         }
     }
 
-    /// A section of the same entries, in memory of its own.
+    /// Returns a section of the same entries, in memory of its own.
     pub fn clone(&self) -> R<Self>
         ensures same { IfOk result (λ section. section ≡ self.now) }
         ensures memory { result ≢ Err TooLong }
@@ -124,7 +130,7 @@ impl<K, A: Allocator + Copy> CustomEntries<K, A> {
 }
 
 impl<K: CustomKind, A: Allocator> CustomEntries<K, A> {
-    /// The section as a custom section, whose data are in memory of their own.
+    /// Returns the section as a custom section, with its data in memory of their own.
     pub(crate) fn owned<B: Allocator>(&self, alloc: B) -> R<CustomSection<'_, B>>
         ensures same { IfOk result (λ s. (text_of s.name ≡ K.name) × (items_of s.bytes ≡ entries_text K.front K.counted self.now)) }
         ensures memory { result ≢ Err TooLong }
@@ -137,7 +143,7 @@ impl<K: CustomKind, A: Allocator> CustomEntries<K, A> {
     }
 }
 
-/// A number that is written where entries are counted.
+/// A count that is encoded only if entries are counted.
 #[derive(Clone, Copy)]
 struct Count {
     counted: bool,
@@ -145,7 +151,7 @@ struct Count {
 }
 
 impl Count {
-    /// The number of its bytes.
+    /// Returns the length of its encoding, in bytes.
     fn size(self) -> usize
         ensures is { result ≡ length (count_text self.counted self.number) }
         ensures small { result ≤ 5 }
@@ -158,7 +164,7 @@ impl Count {
     }
 }
 
-/// The number, or nothing.
+/// Encodes the number, or nothing.
 impl Encode for Count {
     ghost text = { λ c. count_text c.counted c.number };
 
@@ -173,7 +179,8 @@ impl Encode for Count {
     }
 }
 
-/// The number of bytes of the data, where that can be spelled.
+/// Returns the length of the data in bytes if a size prefix can represent it, and a number above
+/// 4294967295 otherwise.
 fn data_size<B: Allocator>(front: &[u8], count: Count, pieces: &Pieces<B>) -> usize
     ensures told { result ≤ longest → result ≡ length front.now + (length (count_text count.counted count.number) + length (joined pieces.now)) }
     ensures small { length front.now + (length (count_text count.counted count.number) + length (joined pieces.now)) ≤ longest → result ≡ length front.now + (length (count_text count.counted count.number) + length (joined pieces.now)) }
@@ -184,7 +191,8 @@ fn data_size<B: Allocator>(front: &[u8], count: Count, pieces: &Pieces<B>) -> us
         .saturating_add(pieces.raw_len())
 }
 
-/// Appends the frame of the name and of the data: what stands at the front, the number of entries where they are counted, and these.
+/// Appends a custom section without its id: the size prefix, the name, the bytes `front`, the
+/// number of entries if they are counted, and the entries.
 #[tactic(auto, unfolding(crate::specs::Customs::named_text))]
 pub(crate) fn encode_entries<A: Allocator, B: Allocator>(
     sink: &mut Vec<u8, A>,
@@ -209,7 +217,7 @@ pub(crate) fn encode_entries<A: Allocator, B: Allocator>(
     Ok(())
 }
 
-/// The data, in memory of their own.
+/// Returns the data, in memory of their own.
 pub(crate) fn data_of<A: Allocator, B: Allocator>(
     alloc: A,
     front: &[u8],
@@ -229,7 +237,7 @@ pub(crate) fn data_of<A: Allocator, B: Allocator>(
     Ok(sink)
 }
 
-/// The frame of the name and of the data.
+/// Encodes the size prefix, the name and the data.
 impl<K: CustomKind, A: Allocator> Encode for CustomEntries<K, A> {
     ghost text = { λ section. named_text K.name (entries_text K.front K.counted section) };
 

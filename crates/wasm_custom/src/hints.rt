@@ -1,4 +1,4 @@
-// Branch hints.
+// The branch hint section: its builder, its reader and its minimizer.
 ghost use Rattle.std.specs.Prelude.{◌≡◌, [], ◌++◌, true, ⊤, ◌≢◌, ◌<◌, ℕ, IfOk, IfErr, Err, OnOk, OnErr, map};
 ghost use Rattle.wasm_base.specs.Formats.{fixed, byte, such};
 ghost use Rattle.wasm_base.specs.Going.{FillsNothing};
@@ -19,7 +19,8 @@ use std::alloc::{Allocator, Global};
 use wasm_base::{Encode, Kind, R, vec_of};
 use wasm_reader_base::{ReadFault, Readable, Shorten, Spelled};
 
-/// Which branches are likely to be taken: a list of hints for each function. It stands before the code section.
+/// The branch hint section: which branches are likely to be taken, as a list of hints for each
+/// function. It belongs before the code section.
 ///
 /// ```rust
 /// let mut function = Function::new(alloc, [])?;
@@ -31,20 +32,20 @@ use wasm_reader_base::{ReadFault, Readable, Shorten, Spelled};
 /// ```
 pub type BranchHints<A = Global> = CustomEntries<HintItems, A>;
 
-/// The items of a section of branch hints: those of a function each.
+/// The kind of a branch hint section's items: the hints of one function each.
 #[derive(Clone, Copy, Debug)]
 pub struct HintItems;
 
-/// Which way a branch is likely to go.
+/// A branch hint: the likely direction of a branch.
 #[derive(Clone, Copy, Debug)]
 pub struct BranchHint {
-    /// Where the branch begins, in bytes from the beginning of the raw body of its function.
+    /// The offset of the branch instruction in the raw body of its function, in bytes.
     pub branch_func_offset: u32,
-    /// 0 where the branch is not likely to be taken, 1 where it is. Whatever is below 128 has a reading.
+    /// 1 if the branch is likely to be taken, and 0 if it is not. Any value below 128 decodes.
     pub branch_hint_value: u32,
 }
 
-/// The offset, a length of 1, and the value.
+/// Encodes the offset, a length of 1, and the value.
 impl Encode for BranchHint {
     ghost text = { hint_text };
 
@@ -92,8 +93,8 @@ impl CustomKind for HintItems {
 }
 
 impl<A: Allocator> BranchHints<A> {
-    /// Adds the hints of a function. A refused call leaves the section as it was. Where there are too many hints, it answers `TooLong`, and
-    /// asks for none, as tests show.
+    /// Adds the hints of a function. If there are too many hints, it returns `TooLong` and requests
+    /// none, as tests show.
     pub fn function_hints<H: IntoIterator<Item = BranchHint>>(
         &mut self,
         func: u32,
@@ -109,7 +110,7 @@ impl<A: Allocator> BranchHints<A> {
     }
 }
 
-/// The value of a hint: one byte.
+/// The value of a hint, in one byte.
 #[derive(Clone, Copy, Debug)]
 struct HintValue(u8);
 
@@ -185,7 +186,12 @@ impl<'a, A: Allocator + Copy> ReadsItems<'a, (u32, Vec<BranchHint, A>), A> for H
     }
 }
 
-/// The hints of each function: its index, and the hints of its branches.
+/// Decodes the payload of a branch hint section: for each function its index, and the hints of its
+/// branches.
+///
+/// # Errors
+///
+/// Any error but `Memory` means that the bytes are not such a payload.
 pub fn read_hints<'a, A: Allocator + Copy>(
     bytes: &'a [u8],
     alloc: A,
@@ -196,7 +202,8 @@ pub fn read_hints<'a, A: Allocator + Copy>(
     read_counted::<'a, HintItems, (u32, Vec<BranchHint, A>), A>(bytes, alloc)
 }
 
-/// Appends the minimal encoding of the payload of a section of these hints. On an error, the sink is as it was.
+/// Appends the minimal encoding of the payload of a section of these hints. On an error, the sink
+/// is unchanged.
 pub fn append_hints<A: Allocator, B: Allocator>(
     functions: &[(u32, Vec<BranchHint, A>)],
     out: &mut Vec<u8, B>,

@@ -1,6 +1,8 @@
-//! What is promised of all lists of bytes, and not of a call: each function does nothing, and its clauses are the promise.
+//! Laws about custom sections and their items, for all byte sequences: each function does nothing,
+//! and its clauses are the law.
 //!
-//! `ItemLaws` says of a kind of items that they are read uniquely, and that the text of a plain record spells what it says.
+//! `ItemLaws` says of a kind of items that its format is unambiguous, and that a well-formed record
+//! encodes its item.
 ghost use Rattle.std.specs.Prelude.{◌++◌, ◌∷◌, []};
 ghost use Rattle.wasm_base.specs.Entries.{ItemLaws};
 ghost use Rattle.wasm_base.specs.Formats.{custom, frame, pair, name, any_bytes};
@@ -17,7 +19,8 @@ ghost use Rattle.wasm_custom.specs.Names.{naming_text, IsNaming, inside_text, Is
 ghost use Rattle.wasm_custom.specs.Producers.{producer_text, IsProducer, field, field_items, producers_payload};
 ghost use Rattle.wasm_custom.specs.Symbols.{symbol_text, IsGivenSymbol, symbol};
 
-/// Sections are read uniquely, and so are their items; the text of a plain record spells what it says.
+/// The formats of sections and of their items are unambiguous. A well-formed record encodes its
+/// item.
 pub fn sections()
     ensures names { UniqueReading (frame name_payload) }
     ensures linking { UniqueReading (frame linking_payload) }
@@ -47,7 +50,8 @@ pub fn sections()
     ensures frame_laws { ItemLaws frame_items }
 {}
 
-/// With padded numbers too, sections are read uniquely, and what shortest numbers spell is among it.
+/// With padded numbers the formats of sections are unambiguous too. A minimal encoding is also an
+/// encoding in this mode.
 pub fn wide()
     ensures names { IsUniqueWide (frame name_payload) }
     ensures linking { IsUniqueWide (frame linking_payload) }
@@ -60,8 +64,8 @@ pub fn wide()
     ensures customs { IsUniqueWide custom }
 {}
 
-/// What sections and lists hold, call by call: at first nothing, and after a call that adds a plain record what this says too. The text
-/// of a list is the vector of its members.
+/// The items that sections and lists hold, call by call: none at first, and one more after each
+/// call that adds a well-formed record. A list encodes the vector of its members.
 pub fn calls()
     ensures names { HoldsMore name_items }
     ensures linking { HoldsMore link_items }
@@ -80,7 +84,8 @@ pub fn calls()
     ensures producer_fields_text { IsVectorOf producer_text IsProducer }
 {}
 
-/// The same with padded numbers, of the sections of entries: a piece may spell its item with padded numbers.
+/// The same with padded numbers, for the sections of entries: an entry may be a padded encoding of
+/// its item.
 #[tactic(auto, using(crate::proofs::Calls::sections, wasm_base::proofs::SectionLaws::held_wide))]
 pub fn wide_calls()
     ensures names { HoldsMoreWide name_items }
@@ -91,7 +96,8 @@ pub fn wide_calls()
     ensures instances { HoldsMoreWide instance_items }
 {}
 
-/// Where a module is read as ids and payloads, and a section as its items alone, its payload is read as these alone.
+/// If a module decodes to ids and payloads, and a section decodes to its items alone, then its
+/// payload decodes to these alone.
 #[tactic(auto, using(crate::proofs::Calls::sections, crate::proofs::Calls::payloads, wasm_base::proofs::SectionLaws::payloads))]
 pub fn payloads()
     ensures names { ReadsPayloads name_payload }
@@ -119,8 +125,8 @@ pub fn wide_payloads()
     ensures customs { ReadsPayloadsWide (pair name any_bytes) }
 {}
 
-/// No section stands in these two texts, with padded numbers neither: in that of branch hints a value is spelled by two bytes, in that of
-/// links a function that is defined has no name.
+/// These two byte sequences encode no section, with padded numbers neither. In that of branch
+/// hints, a value has two bytes. In that of links, a defined function has no name.
 #[tactic(auto, using(crate::proofs::NothingLaws::nothing))]
 pub fn nothing_stands()
     ensures long_value { NothingStandsWide (frame hints_payload) (33 ∷ 25 ∷ (hints_name ++ (1 ∷ 0 ∷ 1 ∷ 3 ∷ 1 ∷ 128 ∷ 1 ∷ []))) }

@@ -1,4 +1,4 @@
-// The linking section.
+// The linking section: its builder, its reader and its minimizer.
 ghost use Rattle.std.specs.Prelude.{◌≡◌, [], ◌∷◌, false, ⊤, ◌≢◌, IfOk, IfErr, Err, OnOk, OnErr, map};
 ghost use Rattle.wasm_base.specs.Calls.{Adds};
 ghost use Rattle.wasm_base.specs.Formats.{u32 as u32_format, just};
@@ -23,7 +23,8 @@ use wasm_reader_base::{
     Framed, ReadFault, Readable, Shorten, Spelled, append_all, frame_since, read_to_end, read_whole,
 };
 
-/// What a linker needs to know of a module: the version 2 of the format, and a subsection for each call. `new` takes no memory.
+/// The linking section: the symbols and target of a module for a linker, in version 2 of the
+/// format. Each call adds a subsection, and `new` allocates nothing.
 ///
 /// ```rust
 /// let mut symbols = SymbolTable::new(alloc);
@@ -34,7 +35,7 @@ use wasm_reader_base::{
 /// ```
 pub type LinkingSection<A = Global> = CustomEntries<LinkingItems, A>;
 
-/// The items of a linking section: subsections.
+/// The kind of a linking section's items: subsections.
 #[derive(Clone, Copy, Debug)]
 pub struct LinkingItems;
 
@@ -75,14 +76,14 @@ impl CustomKind for LinkingItems {
 }
 
 impl<A: Allocator> LinkingSection<A> {
-    /// Adds the symbols. A refused call leaves the section as it was.
+    /// Adds the symbols.
     pub fn symbol_table<B: Allocator>(&mut self, symbols: &SymbolTable<B>) -> R<()>
         ensures { Adds (subsection_text 8 (list_text symbols.now)) (FrameFits (list_text symbols.now) × ⊤) self.old self.new result }
     {
         self.add_record(symbols)
     }
 
-    /// Adds the architecture of the target. A refused call leaves the section as it was.
+    /// Adds the architecture of the target.
     pub fn target_arch(&mut self, name: &str) -> R<()>
         ensures { Adds (subsection_text 9 (frame_text name.now)) (FrameFits (frame_text name.now) × FrameFits name.now) self.old self.new result }
     {
@@ -96,7 +97,7 @@ impl<A: Allocator> LinkingSection<A> {
 /// The version of linking sections.
 const VERSION: u32 = 2;
 
-/// What a subsection of a linking section says.
+/// A decoded subsection of a linking section.
 #[derive(Debug, Drop)]
 pub enum LinkItem<'a, A: Allocator = Global> {
     Symbols(Vec<Symbol<'a>, A>),
@@ -136,7 +137,7 @@ impl<'a, A: Allocator + Copy + 'a> Readable<'a, A> for LinkItem<'a, A> {
     }
 }
 
-/// The bytes behind the version.
+/// Skips the version, and returns the remaining bytes.
 #[tactic(auto, using(crate::proofs::LinkLaws::version_steps))]
 fn after_version<'a, A: Allocator + Copy>(bytes: &'a [u8], alloc: A) -> Result<&'a [u8], ReadFault>
     ensures found { IfOk result (λ rest. Reads (just version u32_format) wide bytes.now tt rest.now) }
@@ -150,7 +151,11 @@ fn after_version<'a, A: Allocator + Copy>(bytes: &'a [u8], alloc: A) -> Result<&
     }
 }
 
-/// The subsections of a linking section.
+/// Decodes the payload of a linking section: its subsections.
+///
+/// # Errors
+///
+/// Any error but `Memory` means that the bytes are not such a payload.
 #[tactic(auto, using(crate::proofs::LinkLaws::section_steps))]
 pub fn read_links<'a, A: Allocator + Copy + 'a>(
     bytes: &'a [u8],
@@ -183,7 +188,8 @@ impl<'a, A: Allocator> Shorten for LinkItem<'a, A> {
     }
 }
 
-/// Writes what [`append_links`] appends. After an error, a part of it may be behind the old bytes.
+/// Writes the bytes that [`append_links`] appends. After an error, part of them may follow the old
+/// bytes.
 #[tactic(auto, using(crate::proofs::LinkLaws::links_appended, crate::proofs::LinkLaws::links_encoded))]
 fn write_links<A: Allocator, B: Allocator>(items: &[LinkItem<'_, A>], out: &mut Vec<u8, B>) -> R<()>
     ensures ok { OnOk result (AppendsShortest linking_payload (map link_view items.now) out.old.items out.new.items) }
@@ -195,7 +201,8 @@ fn write_links<A: Allocator, B: Allocator>(items: &[LinkItem<'_, A>], out: &mut 
     append_all(items, out)
 }
 
-/// Appends the minimal encoding of the payload of a linking section of these subsections. On an error, the sink is as it was.
+/// Appends the minimal encoding of the payload of a linking section of these subsections. On an
+/// error, the sink is unchanged.
 pub fn append_links<A: Allocator, B: Allocator>(
     items: &[LinkItem<'_, A>],
     out: &mut Vec<u8, B>,

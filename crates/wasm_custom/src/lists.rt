@@ -1,4 +1,4 @@
-// Lists of counted entries that are handed in as a whole.
+// Counted lists that are passed to sections as a whole.
 ghost use Rattle.std.specs.Prelude.{◌≡◌, ◌≢◌, ℕ, List, [], length, IfOk, IsTrue, ◌↔◌, ⊤, Option};
 ghost use Rattle.wasm_base.specs.Calls.{Adds};
 ghost use Rattle.wasm_base.specs.declared.refused.Refused.TheVariants.{TooLong};
@@ -9,33 +9,39 @@ use std::alloc::{Allocator, Global};
 use std::marker::{Model, PhantomData};
 use wasm_base::{Encode, Pieces, R, encoding_size};
 
-/// A kind of members of a list: how they are written.
+/// A kind of members of a list, and their encoding.
 pub trait ListKind {
-    /// What a call hands in.
+    /// The argument of an adding call.
     ghost Member: { Type 0 };
 
-    /// text: the bytes of a member.
+    /// `member_text`: the encoding of a member.
     ghost member_text: { Member → List ℕ };
 
-    /// What holds of each member that is handed in.
+    /// A property of each member that is added.
     ghost is_member: { Member → Type 0 };
 
-    /// The id of the subsection that a list is encoded as, or none where it is encoded as a vector alone.
+    /// The id of the subsection that a list is encoded as, or none if it is encoded as a vector
+    /// alone.
     ghost subsection: { Option ℕ };
 
-    /// That id.
+    /// Returns that id.
     fn subsection() -> Option<u8>
         ensures { result ≡ subsection };
 }
 
-/// A list of counted members of the kind `K`, seen as the bytes of each.
+/// A list of counted members of the kind `K`, modelled as the bytes of each entry.
+///
+/// # Errors
+///
+/// An adding call that returns an error leaves the list unchanged. The error is `TooLong` only if
+/// the list is full or the member does not fit, and `Memory` only if an allocation fails.
 #[derive(Drop, Debug)]
 pub struct CountedList<K: ListKind, A: Allocator = Global> {
     pieces: Pieces<A>,
     kind: PhantomData<K>,
 }
 
-/// There is a list whose texts the entries are.
+/// Invariant: the entries are the encodings of a list of members.
 impl<K: ListKind, A: Allocator> Model for CountedList<K, A> {
     ghost Value = { List (List ℕ) };
 
@@ -45,21 +51,21 @@ impl<K: ListKind, A: Allocator> Model for CountedList<K, A> {
 }
 
 impl<K: ListKind, A: Allocator> CountedList<K, A> {
-    /// The number of entries.
+    /// Returns the number of entries.
     pub fn len(&self) -> u32
         ensures { result ≡ length self.now }
     {
         self.pieces.len()
     }
 
-    /// Whether there is no entry.
+    /// Returns `true` if there are no entries.
     pub fn is_empty(&self) -> bool
         ensures { IsTrue result ↔ (length self.now ≡ 0) }
     {
         self.pieces.is_empty()
     }
 
-    /// Adds an entry that is the text of the record. A refused call leaves the list as it was.
+    /// Adds the encoding of the record as an entry.
     pub(crate) fn add_record<T: Encode>(&mut self, given: &T) -> R<()>
         requires { T.fits given.now → IsTextOf K.member_text K.is_member (T.text given.now) }
         ensures { Adds (T.text given.now) (T.fits given.now) self.old self.new result }
@@ -68,7 +74,7 @@ impl<K: ListKind, A: Allocator> CountedList<K, A> {
         Ok(())
     }
 
-    /// There is a list whose texts the entries are. The function does nothing.
+    /// Proves that the entries are the encodings of a list of members. The function does nothing.
     pub fn holds(&self)
         ensures { HoldsList K.member_text K.is_member self.now }
     {
@@ -77,7 +83,7 @@ impl<K: ListKind, A: Allocator> CountedList<K, A> {
 }
 
 impl<K: ListKind, A: Allocator + Copy> CountedList<K, A> {
-    /// A list of no entries. It takes no memory.
+    /// Returns a list without entries, and allocates nothing.
     pub fn new(alloc: A) -> Self
         ensures { result ≡ [] }
     {
@@ -87,7 +93,7 @@ impl<K: ListKind, A: Allocator + Copy> CountedList<K, A> {
         }
     }
 
-    /// A list of the same entries, in memory of its own.
+    /// Returns a list of the same entries, in memory of its own.
     pub fn clone(&self) -> R<Self>
         ensures same { IfOk result (λ l. l ≡ self.now) }
         ensures memory { result ≢ Err TooLong }
@@ -99,7 +105,7 @@ impl<K: ListKind, A: Allocator + Copy> CountedList<K, A> {
     }
 }
 
-/// The vector of the entries of a list, as a part of an encoding.
+/// The vector of a list's entries, as a component of an encoding.
 #[derive(Clone, Copy)]
 pub(crate) struct Entries<'a, K: ListKind, A: Allocator>(pub &'a CountedList<K, A>);
 
@@ -127,7 +133,7 @@ impl<K: ListKind, A: Allocator> Content for Entries<'_, K, A> {
     }
 }
 
-/// The vector of the entries: by itself, or in the subsection that lists of the kind are.
+/// Encodes the vector of the entries: alone, or in the subsection of the kind.
 impl<K: ListKind, A: Allocator> Encode for CountedList<K, A> {
     ghost text = { listed_text K.subsection };
 

@@ -1,4 +1,4 @@
-// Values behind a fixed byte.
+// Values after a fixed byte.
 ghost use Rattle.std.specs.Prelude.{◌≢◌, ◌∷◌, [], List, ℕ, IfOk, IfErr};
 ghost use Rattle.wasm_base.specs.Formats.{prefixed};
 ghost use Rattle.wasm_base.specs.Numbers.{wide};
@@ -9,7 +9,7 @@ ghost use Rattle.wasm_reader_base.specs.declared.fault.ReadFault.TheVariants.{Me
 use std::alloc::Allocator;
 use wasm_reader_base::{ReadFault, Readable, Spelled};
 
-/// A value behind this byte, and the bytes after it.
+/// Decodes the byte `mark` and the value after it, and returns the value with the remaining bytes.
 #[tactic(auto, using(crate::proofs::ReadMarked::marked_steps))]
 pub(crate) fn read_marked<'a, T: Readable<'a, A>, A: Allocator + Copy>(
     mark: u8,

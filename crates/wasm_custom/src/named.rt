@@ -1,4 +1,4 @@
-// The names of custom sections, and what stands behind them.
+// The name at the front of a custom section's payload.
 ghost use Rattle.std.specs.Prelude.{◌≢◌, IfOk, IfErr};
 ghost use Rattle.wasm_base.specs.Formats.{just, name as name_format};
 ghost use Rattle.wasm_base.specs.Numbers.{wide};
@@ -8,7 +8,7 @@ ghost use Rattle.wasm_reader_base.specs.declared.fault.ReadFault.TheVariants.{Me
 use std::alloc::Allocator;
 use wasm_reader_base::{ReadFault, Readable};
 
-/// The bytes behind the name, where the section is called so.
+/// Skips the section name if it is `name`, and returns the remaining bytes.
 #[tactic(auto, using(crate::proofs::ReadNamed::name_steps))]
 pub(crate) fn after_name<'a, A: Allocator + Copy>(
     name: &str,

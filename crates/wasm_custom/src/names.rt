@@ -1,4 +1,4 @@
-// Names of a module and of its parts.
+// The name section: its builder, its reader and its minimizer.
 ghost use Rattle.std.specs.Prelude.{None, ◌≡◌, ◌++◌, [], false, ⊤, ◌≢◌, IfOk, IfErr, Err, OnOk, OnErr, map};
 ghost use Rattle.wasm_base.specs.Calls.{Adds};
 ghost use Rattle.wasm_base.specs.Cow.{items_of, text_of};
@@ -26,10 +26,11 @@ use wasm_reader_base::{
     ReadFault, Readable, Shorten, Spelled, append_all, frame_since, read_to_end, read_whole,
 };
 
-/// Names, each of which belongs to an index. Neither their order nor whether an index is repeated is looked at.
+/// A name map: indices and their names. The calls check neither their order nor whether an index is
+/// repeated.
 pub type NameMap<A = Global> = CountedList<NameMembers, A>;
 
-/// The members of a name map: an index, and its name.
+/// The kind of a name map's members: an index, and its name.
 #[derive(Clone, Copy, Debug)]
 pub struct NameMembers;
 
@@ -48,7 +49,7 @@ impl ListKind for NameMembers {
 }
 
 impl<A: Allocator> NameMap<A> {
-    /// Adds the name of this index. A refused call leaves the map as it was.
+    /// Adds the name of this index.
     pub fn append(&mut self, index: u32, name: &str) -> R<()>
         ensures { Adds (unsigned_text index ++ frame_text name.now) (FrameFits name.now) self.old self.new result }
     {
@@ -56,11 +57,11 @@ impl<A: Allocator> NameMap<A> {
     }
 }
 
-/// Names of what is inside of something that has an index, as the locals of functions. Neither their order nor whether an index is
-/// repeated is looked at.
+/// An indirect name map: indices, each with a name map for the items in it, such as the locals of
+/// functions. The calls check neither their order nor whether an index is repeated.
 pub type IndirectNameMap<A = Global> = CountedList<IndirectMembers, A>;
 
-/// The members of an indirect name map: an index, and the names of what is inside.
+/// The kind of an indirect name map's members: an index, and the names of the items in it.
 #[derive(Clone, Copy, Debug)]
 pub struct IndirectMembers;
 
@@ -79,7 +80,7 @@ impl ListKind for IndirectMembers {
 }
 
 impl<A: Allocator> IndirectNameMap<A> {
-    /// Adds the names of what is inside of this index. A refused call leaves the map as it was.
+    /// Adds the names of the items in this index.
     pub fn append<B: Allocator>(&mut self, index: u32, names: &NameMap<B>) -> R<()>
         ensures { Adds (unsigned_text index ++ list_text names.now) ⊤ self.old self.new result }
     {
@@ -88,7 +89,8 @@ impl<A: Allocator> IndirectNameMap<A> {
     }
 }
 
-/// The names of a module and of its parts: a subsection for each call, in the order of the calls.
+/// The name section: the names of a module and of its items. Each call adds a subsection, in the
+/// order of the calls.
 ///
 /// ```rust
 /// let mut functions = NameMap::new(alloc);
@@ -100,7 +102,7 @@ impl<A: Allocator> IndirectNameMap<A> {
 /// ```
 pub type NameSection<A = Global> = CustomEntries<NameItems, A>;
 
-/// The items of a name section: subsections.
+/// The kind of a name section's items: subsections.
 #[derive(Clone, Copy, Debug)]
 pub struct NameItems;
 
@@ -141,7 +143,7 @@ impl CustomKind for NameItems {
 }
 
 impl<A: Allocator> NameSection<A> {
-    /// Adds a subsection of names. A refused call leaves the section as it was.
+    /// Adds a subsection with a name map.
     fn map<B: Allocator>(&mut self, id: u8, names: &NameMap<B>) -> R<()>
         ensures { Adds (subsection_text id (list_text names.now)) (FrameFits (list_text names.now) × ⊤) self.old self.new result }
     {
@@ -149,7 +151,7 @@ impl<A: Allocator> NameSection<A> {
         self.add_record(&Subsection { id, content })
     }
 
-    /// Adds a subsection of names of what is inside. A refused call leaves the section as it was.
+    /// Adds a subsection with an indirect name map.
     fn indirect_map<B: Allocator>(&mut self, id: u8, names: &IndirectNameMap<B>) -> R<()>
         ensures { Adds (subsection_text id (list_text names.now)) (FrameFits (list_text names.now) × ⊤) self.old self.new result }
     {
@@ -157,7 +159,7 @@ impl<A: Allocator> NameSection<A> {
         self.add_record(&Subsection { id, content })
     }
 
-    /// Adds the name of the module. A refused call leaves the section as it was.
+    /// Adds the name of the module.
     pub fn module(&mut self, name: &str) -> R<()>
         ensures { Adds (subsection_text 0 (frame_text name.now)) (FrameFits (frame_text name.now) × FrameFits name.now) self.old self.new result }
     {
@@ -167,105 +169,106 @@ impl<A: Allocator> NameSection<A> {
         })
     }
 
-    /// Adds the names of functions. A refused call leaves the section as it was.
+    /// Adds the names of functions.
     pub fn functions<B: Allocator>(&mut self, names: &NameMap<B>) -> R<()>
         ensures { Adds (subsection_text 1 (list_text names.now)) (FrameFits (list_text names.now) × ⊤) self.old self.new result }
     {
         self.map(1, names)
     }
 
-    /// Adds the names of types. A refused call leaves the section as it was.
+    /// Adds the names of types.
     pub fn types<B: Allocator>(&mut self, names: &NameMap<B>) -> R<()>
         ensures { Adds (subsection_text 4 (list_text names.now)) (FrameFits (list_text names.now) × ⊤) self.old self.new result }
     {
         self.map(4, names)
     }
 
-    /// Adds the names of tables. A refused call leaves the section as it was.
+    /// Adds the names of tables.
     pub fn tables<B: Allocator>(&mut self, names: &NameMap<B>) -> R<()>
         ensures { Adds (subsection_text 5 (list_text names.now)) (FrameFits (list_text names.now) × ⊤) self.old self.new result }
     {
         self.map(5, names)
     }
 
-    /// Adds the names of memories. A refused call leaves the section as it was.
+    /// Adds the names of memories.
     pub fn memories<B: Allocator>(&mut self, names: &NameMap<B>) -> R<()>
         ensures { Adds (subsection_text 6 (list_text names.now)) (FrameFits (list_text names.now) × ⊤) self.old self.new result }
     {
         self.map(6, names)
     }
 
-    /// Adds the names of globals. A refused call leaves the section as it was.
+    /// Adds the names of globals.
     pub fn globals<B: Allocator>(&mut self, names: &NameMap<B>) -> R<()>
         ensures { Adds (subsection_text 7 (list_text names.now)) (FrameFits (list_text names.now) × ⊤) self.old self.new result }
     {
         self.map(7, names)
     }
 
-    /// Adds the names of element segments. A refused call leaves the section as it was.
+    /// Adds the names of element segments.
     pub fn elements<B: Allocator>(&mut self, names: &NameMap<B>) -> R<()>
         ensures { Adds (subsection_text 8 (list_text names.now)) (FrameFits (list_text names.now) × ⊤) self.old self.new result }
     {
         self.map(8, names)
     }
 
-    /// Adds the names of data segments. A refused call leaves the section as it was.
+    /// Adds the names of data segments.
     pub fn data<B: Allocator>(&mut self, names: &NameMap<B>) -> R<()>
         ensures { Adds (subsection_text 9 (list_text names.now)) (FrameFits (list_text names.now) × ⊤) self.old self.new result }
     {
         self.map(9, names)
     }
 
-    /// Adds the names of tags, as `tags` does. A refused call leaves the section as it was.
+    /// Adds the names of tags. The same as `tags`.
     pub fn tag<B: Allocator>(&mut self, names: &NameMap<B>) -> R<()>
         ensures { Adds (subsection_text 11 (list_text names.now)) (FrameFits (list_text names.now) × ⊤) self.old self.new result }
     {
         self.tags(names)
     }
 
-    /// Adds the names of tags. A refused call leaves the section as it was.
+    /// Adds the names of tags.
     pub fn tags<B: Allocator>(&mut self, names: &NameMap<B>) -> R<()>
         ensures { Adds (subsection_text 11 (list_text names.now)) (FrameFits (list_text names.now) × ⊤) self.old self.new result }
     {
         self.map(11, names)
     }
 
-    /// Adds the names of the locals of functions, parameters among them. A refused call leaves the section as it was.
+    /// Adds the names of the locals of functions, including parameters.
     pub fn locals<B: Allocator>(&mut self, names: &IndirectNameMap<B>) -> R<()>
         ensures { Adds (subsection_text 2 (list_text names.now)) (FrameFits (list_text names.now) × ⊤) self.old self.new result }
     {
         self.indirect_map(2, names)
     }
 
-    /// Adds the names of the labels of functions. A refused call leaves the section as it was.
+    /// Adds the names of the labels of functions.
     pub fn labels<B: Allocator>(&mut self, names: &IndirectNameMap<B>) -> R<()>
         ensures { Adds (subsection_text 3 (list_text names.now)) (FrameFits (list_text names.now) × ⊤) self.old self.new result }
     {
         self.indirect_map(3, names)
     }
 
-    /// Adds the names of the fields of types. A refused call leaves the section as it was.
+    /// Adds the names of the fields of types.
     pub fn fields<B: Allocator>(&mut self, names: &IndirectNameMap<B>) -> R<()>
         ensures { Adds (subsection_text 10 (list_text names.now)) (FrameFits (list_text names.now) × ⊤) self.old self.new result }
     {
         self.indirect_map(10, names)
     }
 
-    /// Adds the names of the parameters of types of functions. A refused call leaves the section as it was.
+    /// Adds the names of the parameters of function types.
     pub fn parameters<B: Allocator>(&mut self, names: &IndirectNameMap<B>) -> R<()>
         ensures { Adds (subsection_text 12 (list_text names.now)) (FrameFits (list_text names.now) × ⊤) self.old self.new result }
     {
         self.indirect_map(12, names)
     }
 
-    /// Adds the names of the parameters of tags. A refused call leaves the section as it was.
+    /// Adds the names of the parameters of tags.
     pub fn tag_parameters<B: Allocator>(&mut self, names: &IndirectNameMap<B>) -> R<()>
         ensures { Adds (subsection_text 13 (list_text names.now)) (FrameFits (list_text names.now) × ⊤) self.old self.new result }
     {
         self.indirect_map(13, names)
     }
 
-    /// Adds a subsection of this id, whose content is spelled already. A refused call leaves the section as it was.
+    /// Adds a subsection of this id, whose content is already encoded. The call does not check the
+    /// content.
     pub fn raw(&mut self, id: u8, content: &[u8]) -> R<()>
         ensures { Adds (subsection_text id content.now) (FrameFits content.now × ⊤) self.old self.new result }
     {
@@ -275,7 +278,7 @@ impl<A: Allocator> NameSection<A> {
         })
     }
 
-    /// The section as a custom section, which borrows the entries. It takes no memory.
+    /// Returns the section as a custom section that borrows the entries, and allocates nothing.
     pub fn as_custom(&self) -> CustomSection<'_>
         ensures name { text_of result.name ≡ name_name }
         ensures bytes { items_of result.bytes ≡ joined self.now }
@@ -287,17 +290,18 @@ impl<A: Allocator> NameSection<A> {
     }
 }
 
-/// What a subsection of a name section says.
+/// A decoded subsection of a name section.
 #[derive(Debug, Drop)]
 pub enum NameItem<'a, A: Allocator = Global> {
     /// The name of the module.
     Module(&'a str),
-    /// Indices of what the id stands for, as functions, and their names.
+    /// A name map: indices of the kind that the id selects, such as functions, and their names.
     Map {
         id: u8,
         names: Vec<(u32, &'a str), A>,
     },
-    /// Indices of that in which they stand, as functions for locals, and the indices and names of each.
+    /// An indirect name map: indices of the outer kind, such as functions for locals, each with the
+    /// indices and names in it.
     Indirect {
         id: u8,
         maps: Vec<(u32, Vec<(u32, &'a str), A>), A>,
@@ -309,7 +313,7 @@ pub enum NameItem<'a, A: Allocator = Global> {
     },
 }
 
-/// What a subsection holds.
+/// The content of a subsection.
 #[derive(Clone, Copy, Debug)]
 enum NameKind {
     Module,
@@ -318,7 +322,7 @@ enum NameKind {
     Other,
 }
 
-/// What a subsection of the id holds.
+/// Returns the content of a subsection of this id.
 fn name_kind_of(id: u8) -> NameKind
     ensures { kind_as result ≡ kind_of_id id }
 {
@@ -330,7 +334,7 @@ fn name_kind_of(id: u8) -> NameKind
     }
 }
 
-/// What a subsection of the id says, which holds this.
+/// Decodes the content of a subsection of this kind and id.
 #[tactic(auto, using(crate::proofs::NameLaws::kind_steps))]
 fn fill_subsection<'a, A: Allocator + Copy + 'a>(
     kind: NameKind,
@@ -381,7 +385,11 @@ impl<'a, A: Allocator + Copy + 'a> Readable<'a, A> for NameItem<'a, A> {
     }
 }
 
-/// The subsections of a name section.
+/// Decodes the payload of a name section: its subsections.
+///
+/// # Errors
+///
+/// Any error but `Memory` means that the bytes are not such a payload.
 #[tactic(auto, using(crate::proofs::NameLaws::name_steps))]
 pub fn read_names<'a, A: Allocator + Copy + 'a>(
     bytes: &'a [u8],
@@ -396,7 +404,7 @@ pub fn read_names<'a, A: Allocator + Copy + 'a>(
 }
 
 impl<'a, A: Allocator> NameItem<'a, A> {
-    /// The id of the subsection.
+    /// Returns the id of the subsection.
     fn id(&self) -> u8
         ensures { result ≡ id_of (name_item_view self.now) }
     {
@@ -408,7 +416,7 @@ impl<'a, A: Allocator> NameItem<'a, A> {
         }
     }
 
-    /// Appends what the frame of the subsection holds.
+    /// Appends the content of the subsection, without its size prefix.
     #[tactic(auto, using(crate::proofs::NameLaws::module_appended, crate::proofs::NameLaws::map_appended, crate::proofs::NameLaws::indirect_appended, crate::proofs::NameLaws::other_appended, crate::proofs::NameLaws::module_encoded, crate::proofs::NameLaws::map_encoded, crate::proofs::NameLaws::indirect_encoded))]
     fn append_content<B: Allocator>(&self, out: &mut Vec<u8, B>) -> R<()>
         ensures ok { OnOk result (AppendsShortest (inside (held_by (name_item_view self.now)) (id_of (name_item_view self.now))) (name_item_view self.now) out.old.items out.new.items) }
@@ -437,7 +445,8 @@ impl<'a, A: Allocator> Shorten for NameItem<'a, A> {
     }
 }
 
-/// Writes what [`append_names`] appends. After an error, a part of it may be behind the old bytes.
+/// Writes the bytes that [`append_names`] appends. After an error, part of them may follow the old
+/// bytes.
 #[tactic(auto, using(crate::proofs::NameLaws::names_appended, crate::proofs::NameLaws::names_encoded))]
 fn write_names<A: Allocator, B: Allocator>(items: &[NameItem<'_, A>], out: &mut Vec<u8, B>) -> R<()>
     ensures ok { OnOk result (AppendsShortest name_payload (map name_item_view items.now) out.old.items out.new.items) }
@@ -448,7 +457,8 @@ fn write_names<A: Allocator, B: Allocator>(items: &[NameItem<'_, A>], out: &mut 
     append_all(items, out)
 }
 
-/// Appends the minimal encoding of the payload of a name section of these subsections. On an error, the sink is as it was.
+/// Appends the minimal encoding of the payload of a name section of these subsections. On an error,
+/// the sink is unchanged.
 pub fn append_names<A: Allocator, B: Allocator>(
     items: &[NameItem<'_, A>],
     out: &mut Vec<u8, B>,

@@ -1,4 +1,4 @@
-// The producers section.
+// The producers section: its builder, its reader and its minimizer.
 ghost use Rattle.std.specs.Prelude.{None, ◌≡◌, ◌++◌, [], true, ⊤, ◌≢◌, IfOk, IfErr, Err, OnOk, OnErr, map};
 ghost use Rattle.wasm_base.specs.Calls.{Adds};
 ghost use Rattle.wasm_base.specs.Formats.{fixed};
@@ -19,10 +19,10 @@ use std::alloc::{Allocator, Global};
 use wasm_base::{Kind, Lent, R};
 use wasm_reader_base::{ReadFault, Readable, Shorten};
 
-/// The values of a field: what has produced the module, and in which version.
+/// The values of a producers field: the tools that produced the module, and their versions.
 pub type ProducersField<A = Global> = CountedList<ValueMembers, A>;
 
-/// The members of a field: a name, and its version.
+/// The kind of a field's members: a name, and its version.
 #[derive(Clone, Copy, Debug)]
 pub struct ValueMembers;
 
@@ -41,7 +41,7 @@ impl ListKind for ValueMembers {
 }
 
 impl<A: Allocator> ProducersField<A> {
-    /// Adds a value. A refused call leaves the field as it was.
+    /// Adds a value.
     pub fn value(&mut self, name: &str, version: &str) -> R<()>
         ensures { Adds (frame_text name.now ++ frame_text version.now) (FrameFits name.now × FrameFits version.now) self.old self.new result }
     {
@@ -49,7 +49,7 @@ impl<A: Allocator> ProducersField<A> {
     }
 }
 
-/// What has produced the module.
+/// The producers section: the languages and tools that produced the module.
 ///
 /// ```rust
 /// let mut field = ProducersField::new(alloc);
@@ -60,7 +60,7 @@ impl<A: Allocator> ProducersField<A> {
 /// ```
 pub type ProducersSection<A = Global> = CustomEntries<ProducerItems, A>;
 
-/// The items of a producers section: fields.
+/// The kind of a producers section's items: fields.
 #[derive(Clone, Copy, Debug)]
 pub struct ProducerItems;
 
@@ -101,7 +101,7 @@ impl CustomKind for ProducerItems {
 }
 
 impl<A: Allocator> ProducersSection<A> {
-    /// Adds a field, as `language`, `processed-by` or `sdk`. A refused call leaves the section as it was.
+    /// Adds a field, such as `language`, `processed-by` or `sdk`.
     pub fn field<B: Allocator>(&mut self, name: &str, values: &ProducersField<B>) -> R<()>
         ensures { Adds (frame_text name.now ++ list_text values.now) (FrameFits name.now × ⊤) self.old self.new result }
     {
@@ -139,7 +139,12 @@ impl<'a, A: Allocator + Copy + 'a> ReadsItems<'a, (&'a str, Vec<(&'a str, &'a st
     }
 }
 
-/// The fields of a producers section: their names, and their values, each a name and a version.
+/// Decodes the payload of a producers section: its fields, each a name and its values, which are a
+/// name and a version.
+///
+/// # Errors
+///
+/// Any error but `Memory` means that the bytes are not such a payload.
 pub fn read_producers<'a, A: Allocator + Copy + 'a>(
     bytes: &'a [u8],
     alloc: A,
@@ -150,7 +155,8 @@ pub fn read_producers<'a, A: Allocator + Copy + 'a>(
     read_counted::<'a, ProducerItems, (&'a str, Vec<(&'a str, &'a str), A>), A>(bytes, alloc)
 }
 
-/// Appends the minimal encoding of the payload of a producers section of these fields. On an error, the sink is as it was.
+/// Appends the minimal encoding of the payload of a producers section of these fields. On an error,
+/// the sink is unchanged.
 pub fn append_producers<'a, A: Allocator, B: Allocator>(
     fields: &Vec<(&'a str, Vec<(&'a str, &'a str), A>), A>,
     out: &mut Vec<u8, B>,

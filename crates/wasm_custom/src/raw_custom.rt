@@ -1,4 +1,4 @@
-// Custom sections whose bytes are given.
+// Custom sections of raw bytes.
 ghost use Rattle.std.specs.Prelude.{ℕ, List, ⊤};
 ghost use Rattle.wasm_base.specs.Calls.{ReadsBackBoth};
 ghost use Rattle.wasm_base.specs.Formats.{custom};
@@ -7,8 +7,8 @@ ghost use Rattle.wasm_base.specs.Numbers.{shortest, wide};
 use std::alloc::Allocator;
 use wasm_base::{Encode, R, Section, SectionId};
 
-/// A custom section whose bytes are given as they are, its size among them. Where they are no frame of a name and data, a reader of
-/// the module finds something else there, or nothing.
+/// A custom section of raw bytes, including its size prefix. If they are not a size prefix, a name
+/// and data, then a reader of the module decodes something else there, or fails.
 ///
 /// ```rust
 /// module.section(&RawCustomSection(&[2, 1, b'a']))?;
@@ -16,7 +16,7 @@ use wasm_base::{Encode, R, Section, SectionId};
 #[derive(Clone, Copy, Debug)]
 pub struct RawCustomSection<'a>(pub &'a [u8]);
 
-/// The bytes.
+/// Encodes the bytes as they are.
 impl Encode for RawCustomSection<'_> {
     ghost text = { λ s. s.0.now };
 
@@ -30,7 +30,7 @@ impl Encode for RawCustomSection<'_> {
     }
 }
 
-/// Its payload is what its bytes frame.
+/// The payload is the bytes after their size prefix.
 impl Section for RawCustomSection<'_> {
     ghost use Rattle.wasm_base.specs.Formats.{custom};
     ghost use Rattle.wasm_base.specs.Numbers.{shortest};

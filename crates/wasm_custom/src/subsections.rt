@@ -1,4 +1,4 @@
-// Subsections: an id, and a frame.
+// Subsections: an id, and a size-prefixed content.
 ghost use Rattle.std.specs.Prelude.{◌≡◌, ◌≢◌, ◌+◌, ◌≤◌, length, vec_len, vec_capacity, Err, IsOk, ⊤};
 ghost use Rattle.wasm_base.specs.Calls.{Appends};
 ghost use Rattle.wasm_base.specs.Numbers.{unsigned_text};
@@ -9,15 +9,16 @@ ghost use Rattle.wasm_custom.specs.Customs.{subsection_text};
 use std::alloc::Allocator;
 use wasm_base::{Encode, R, begin_frame, encoding_size};
 
-/// What a subsection holds: its size is told before it is written.
+/// The content of a subsection, whose size is known before it is encoded.
 pub(crate) trait Content: Encode {
-    /// The number of its bytes, where that can be spelled.
+    /// Returns the length of the encoding in bytes if a size prefix can represent it, and a number
+    /// above 4294967295 otherwise.
     fn size(&self) -> usize
         ensures told { result ≤ longest → result ≡ length (Self.text self.now) }
         ensures small { length (Self.text self.now) ≤ longest → result ≡ length (Self.text self.now) };
 }
 
-/// The name.
+/// Encodes the name.
 impl Content for &str {
     fn size(&self) -> usize {
         let len = self.len();
@@ -28,11 +29,11 @@ impl Content for &str {
     }
 }
 
-/// Bytes that are spelled already.
+/// Bytes that are already encoded.
 #[derive(Clone, Copy)]
 pub(crate) struct RawContent<'a>(pub &'a [u8]);
 
-/// The bytes.
+/// Encodes the bytes as they are.
 impl Encode for RawContent<'_> {
     ghost text = { λ s. s.0.now };
 
@@ -50,7 +51,7 @@ impl Content for RawContent<'_> {
     }
 }
 
-/// Appends the frame of the content.
+/// Appends the content with its size prefix.
 fn encode_content<T: Content, A: Allocator>(sink: &mut Vec<u8, A>, content: &T) -> R<()>
     ensures { Appends (frame_text (T.text content.now)) (FrameFits (T.text content.now) × T.fits content.now) sink.old sink.new result }
 {
@@ -63,7 +64,8 @@ fn encode_content<T: Content, A: Allocator>(sink: &mut Vec<u8, A>, content: &T) 
     Ok(())
 }
 
-/// Makes room for the id, the size and the content of a subsection, in one request.
+/// Reserves spare capacity for the id, the size prefix and the content of a subsection, in one
+/// request.
 fn reserve_subsection<A: Allocator>(sink: &mut Vec<u8, A>, size: usize) -> R<()>
     ensures same { sink.new.items ≡ sink.old.items }
     ensures memory { result ≢ Err TooLong }
@@ -78,14 +80,14 @@ fn reserve_subsection<A: Allocator>(sink: &mut Vec<u8, A>, size: usize) -> R<()>
     Ok(())
 }
 
-/// A subsection: an id, and what is lent.
+/// A subsection: an id, and a borrowed content.
 #[derive(Drop)]
 pub(crate) struct Subsection<'a, T> {
     pub id: u8,
     pub content: &'a T,
 }
 
-/// The id, and the frame of the content.
+/// Encodes the id, and the content with its size prefix.
 impl<T: Content> Encode for Subsection<'_, T> {
     ghost text = { λ s. subsection_text s.id (T.text s.content.now) };
 

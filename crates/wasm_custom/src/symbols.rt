@@ -1,4 +1,4 @@
-// Symbols: what a linker knows by name.
+// The symbol table of a linking section: its builder, its reader and its minimizer.
 ghost use Rattle.std.specs.Prelude.{◌≡◌, ◌∷◌, [], IfSome, IsUtf8, ⊤, ◌≢◌, IfOk, IfErr, Err, OnOk, option_map, None, Some};
 ghost use Rattle.wasm_base.specs.Calls.{Adds};
 ghost use Rattle.wasm_base.specs.Formats.{name as name_format, optional};
@@ -18,7 +18,8 @@ use wasm_base::laws::plain_name;
 use wasm_base::{Encode, Optional, R};
 use wasm_reader_base::{ReadFault, Readable, Shorten, Spelled, read_optional};
 
-/// Symbols, in the order in which they are added. A table is encoded as subsection 8 of a linking section.
+/// A symbol table: the symbols of a module, in the order in which they are added. It is encoded as
+/// subsection 8 of a linking section.
 ///
 /// ```rust
 /// let mut symbols = SymbolTable::new(alloc);
@@ -26,7 +27,7 @@ use wasm_reader_base::{ReadFault, Readable, Shorten, Spelled, read_optional};
 /// ```
 pub type SymbolTable<A = Global> = CountedList<SymbolMembers, A>;
 
-/// The members of a symbol table.
+/// The kind of a symbol table's members.
 #[derive(Clone, Copy, Debug)]
 pub struct SymbolMembers;
 
@@ -44,18 +45,18 @@ impl ListKind for SymbolMembers {
     }
 }
 
-/// Where the bytes of a data symbol are.
+/// The location of the bytes of a data symbol.
 #[derive(Clone, Copy, Debug)]
 pub struct DataSymbolDefinition {
     /// The index of the data segment.
     pub index: u32,
-    /// Where the bytes begin in the segment.
+    /// The offset of the bytes in the segment.
     pub offset: u32,
-    /// How many bytes there are.
+    /// The number of bytes.
     pub size: u32,
 }
 
-/// The index, the offset and the size.
+/// Encodes the index, the offset and the size.
 impl Encode for DataSymbolDefinition {
     ghost text = { definition_text };
 
@@ -66,7 +67,7 @@ impl Encode for DataSymbolDefinition {
     }
 }
 
-/// What a symbol with an index is.
+/// The kind of a symbol with an index.
 #[derive(Clone, Copy, Debug)]
 pub enum SymbolKind {
     Function = 0x00,
@@ -74,7 +75,7 @@ pub enum SymbolKind {
     Table = 0x05,
 }
 
-/// One byte.
+/// Encodes the kind as one byte.
 impl Encode for SymbolKind {
     ghost text = { λ kind. kind_code kind ∷ [] };
 
@@ -85,7 +86,7 @@ impl Encode for SymbolKind {
     }
 }
 
-/// A name that is given is UTF-8. The function does nothing.
+/// Proves that a name, if there is one, is UTF-8. The function does nothing.
 #[inline]
 fn given_name(name: Option<&str>)
     ensures { IfSome name.entry (λ n. IsUtf8 n.now) }
@@ -95,7 +96,8 @@ fn given_name(name: Option<&str>)
     }
 }
 
-/// The numbers of a definition that is given are in range. The function does nothing.
+/// Proves that the numbers of a definition, if there is one, are in range. The function does
+/// nothing.
 #[inline]
 fn given_definition(definition: Option<DataSymbolDefinition>)
     ensures { IfSome definition IsDefinition }
@@ -109,7 +111,7 @@ fn given_definition(definition: Option<DataSymbolDefinition>)
 impl SymbolTable {
     /// A definition elsewhere replaces this one.
     pub const WASM_SYM_BINDING_WEAK: u32 = 0x1;
-    /// The symbol is known in this module alone.
+    /// The symbol is visible in this module only.
     pub const WASM_SYM_BINDING_LOCAL: u32 = 0x2;
     /// The symbol is not exported from the linked module.
     pub const WASM_SYM_VISIBILITY_HIDDEN: u32 = 0x4;
@@ -117,9 +119,9 @@ impl SymbolTable {
     pub const WASM_SYM_UNDEFINED: u32 = 0x10;
     /// The symbol is exported from the linked module.
     pub const WASM_SYM_EXPORTED: u32 = 0x20;
-    /// The symbol has a name of its own, also where it is imported.
+    /// The symbol has an explicit name, even if it is imported.
     pub const WASM_SYM_EXPLICIT_NAME: u32 = 0x40;
-    /// The symbol stays in the linked module, also where nothing uses it.
+    /// The symbol stays in the linked module, even if nothing uses it.
     pub const WASM_SYM_NO_STRIP: u32 = 0x80;
 }
 
@@ -139,7 +141,7 @@ const _: () = prove!(<SymbolTable>::WASM_SYM_EXPLICIT_NAME == 0x40);
 const _: () = prove!(<SymbolTable>::WASM_SYM_NO_STRIP == 0x80);
 
 impl<A: Allocator> SymbolTable<A> {
-    /// Adds a symbol with an index. A refused call leaves the table as it was.
+    /// Adds a symbol with an index.
     fn indexed(&mut self, kind: SymbolKind, flags: u32, index: u32, name: Option<&str>) -> R<()>
         ensures { Adds (indexed_text kind flags index (optional_text (λ n. frame_text n.now) name.entry)) (IfSome name.entry (λ n. FrameFits n.now)) self.old self.new result }
     {
@@ -147,30 +149,30 @@ impl<A: Allocator> SymbolTable<A> {
         self.add_record(&((kind, flags), index, Optional(name)))
     }
 
-    /// Adds a function. It has a name where it is defined, or where `flags` say that it has one of its own: whether that is so is not
-    /// looked at. A refused call leaves the table as it was.
+    /// Adds a function. A function has a name if it is defined here, or if `flags` say that its
+    /// name is explicit. The call does not check that `name` agrees.
     pub fn function(&mut self, flags: u32, index: u32, name: Option<&str>) -> R<()>
         ensures { Adds (indexed_text kinds.Function flags index (optional_text (λ n. frame_text n.now) name.entry)) (IfSome name.entry (λ n. FrameFits n.now)) self.old self.new result }
     {
         self.indexed(SymbolKind::Function, flags, index, name)
     }
 
-    /// Adds a global, whose name is that of `function`. A refused call leaves the table as it was.
+    /// Adds a global. It has a name in the same cases as in `function`.
     pub fn global(&mut self, flags: u32, index: u32, name: Option<&str>) -> R<()>
         ensures { Adds (indexed_text kinds.Global flags index (optional_text (λ n. frame_text n.now) name.entry)) (IfSome name.entry (λ n. FrameFits n.now)) self.old self.new result }
     {
         self.indexed(SymbolKind::Global, flags, index, name)
     }
 
-    /// Adds a table, whose name is that of `function`. A refused call leaves the table of symbols as it was.
+    /// Adds a table. It has a name in the same cases as in `function`.
     pub fn table(&mut self, flags: u32, index: u32, name: Option<&str>) -> R<()>
         ensures { Adds (indexed_text kinds.Table flags index (optional_text (λ n. frame_text n.now) name.entry)) (IfSome name.entry (λ n. FrameFits n.now)) self.old self.new result }
     {
         self.indexed(SymbolKind::Table, flags, index, name)
     }
 
-    /// Adds data. They have a definition where `flags` do not say that they are undefined: whether that is so is not looked at. A
-    /// refused call leaves the table as it was.
+    /// Adds data. Data have a definition unless `flags` say that they are undefined. The call does
+    /// not check that `definition` agrees.
     pub fn data(
         &mut self,
         flags: u32,
@@ -184,7 +186,7 @@ impl<A: Allocator> SymbolTable<A> {
     }
 }
 
-/// A symbol. Where its flags say that it has no name of its own, it has that of the import.
+/// A decoded symbol. If its flags say that it has no explicit name, its name is that of the import.
 #[derive(Clone, Copy, Debug)]
 pub enum Symbol<'a> {
     Function {
@@ -205,12 +207,12 @@ pub enum Symbol<'a> {
     DataSymbol {
         flags: u32,
         name: &'a str,
-        /// `None` where the flags say that the data are not defined in this module.
+        /// `None` if the flags say that the data are not defined in this module.
         definition: Option<DataSymbolDefinition>,
     },
 }
 
-/// Whether the bytes have a name for a symbol with an index.
+/// Returns `true` if the encoding of a symbol with an index has a name.
 fn has_name(flags: u32) -> bool
     ensures { result ≡ flags_name flags }
 {
@@ -219,7 +221,7 @@ fn has_name(flags: u32) -> bool
     !(undefined && !explicit)
 }
 
-/// Whether the bytes have a definition for data.
+/// Returns `true` if the encoding of a data symbol has a definition.
 fn has_definition(flags: u32) -> bool
     ensures { result ≡ flags_definition flags }
 {
@@ -227,7 +229,7 @@ fn has_definition(flags: u32) -> bool
     !undefined
 }
 
-/// A symbol of an index, behind its kind.
+/// Decodes a symbol with an index, after the byte of its kind.
 #[tactic(auto, using(crate::proofs::SymbolLaws::indexed_reads))]
 fn read_indexed<'a, A: Allocator + Copy>(
     kind: SymbolKind,
@@ -274,7 +276,7 @@ impl<'a, A: Allocator + Copy> Readable<'a, A> for DataSymbolDefinition {
     }
 }
 
-/// A definition where the flag is set, and nothing where it isn't.
+/// Decodes a definition if the flag is set, and returns `None` otherwise.
 #[tactic(auto, using(wasm_base::proofs::Tags::optional_steps))]
 fn read_definition<'a, A: Allocator + Copy>(
     given: bool,
@@ -292,7 +294,7 @@ fn read_definition<'a, A: Allocator + Copy>(
     }
 }
 
-/// A symbol of data, behind its kind.
+/// Decodes a data symbol, after the byte of its kind.
 #[tactic(auto, using(crate::proofs::SymbolLaws::data_steps))]
 fn read_data<'a, A: Allocator + Copy>(
     bytes: &'a [u8],
@@ -353,7 +355,7 @@ impl<'a, A: Allocator + Copy> Readable<'a, A> for Symbol<'a> {
     }
 }
 
-/// Appends a name where one is given.
+/// Appends the name if the flags say that the encoding has one.
 #[tactic(auto, using(crate::proofs::SymbolLaws::name_appended, crate::proofs::SymbolLaws::no_name_appended, crate::proofs::SymbolLaws::name_encoded))]
 fn append_name<B: Allocator>(flags: u32, name: Option<&str>, out: &mut Vec<u8, B>) -> R<()>
     ensures ok { OnOk result (AppendsShortest (optional (flags_name flags) name_format) (option_map (λ n. n.now) name.entry) out.old.items out.new.items) }
@@ -366,7 +368,7 @@ fn append_name<B: Allocator>(flags: u32, name: Option<&str>, out: &mut Vec<u8, B
     }
 }
 
-/// Appends a symbol of an index.
+/// Appends a symbol with an index.
 #[tactic(auto, using(crate::proofs::SymbolLaws::indexed_appended, crate::proofs::SymbolLaws::indexed_encoded))]
 fn append_indexed<B: Allocator>(
     kind: SymbolKind,
@@ -385,7 +387,7 @@ fn append_indexed<B: Allocator>(
     append_name(flags, name, out)
 }
 
-/// Appends a definition where one is given.
+/// Appends the definition if the flags say that the encoding has one.
 #[tactic(auto, using(crate::proofs::SymbolLaws::definition_appended, crate::proofs::SymbolLaws::no_definition_appended))]
 fn append_definition<B: Allocator>(
     flags: u32,
@@ -402,7 +404,7 @@ fn append_definition<B: Allocator>(
     }
 }
 
-/// Appends a symbol of data.
+/// Appends a data symbol.
 #[tactic(auto, using(crate::proofs::SymbolLaws::data_appended, crate::proofs::SymbolLaws::data_name_encoded, crate::proofs::SymbolLaws::data_definition_encoded))]
 fn append_data<B: Allocator>(
     flags: u32,

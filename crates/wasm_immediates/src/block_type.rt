@@ -5,18 +5,18 @@ ghost use Rattle.wasm_immediates.specs.Immediates.{block_text};
 use std::alloc::Allocator;
 use wasm_base::{Encode, R, ValType};
 
-/// What a block takes and leaves.
+/// The type of a block: its parameters and results.
 #[derive(Clone, Copy, Debug)]
 pub enum BlockType {
-    /// Nothing.
+    /// No parameters and no results.
     Empty,
-    /// It leaves a value of this type.
+    /// No parameters, and one result of this type.
     Result(ValType),
-    /// As the function type of this index.
+    /// The parameters and results of the function type of this index.
     FunctionType(u32),
 }
 
-/// A byte, or the type, or the index as a signed number.
+/// Encodes the empty type as 0x40, a result as its value type, and an index as a signed number.
 impl Encode for BlockType {
     ghost text = { block_text };
 

@@ -5,7 +5,7 @@ ghost use Rattle.wasm_immediates.specs.Immediates.{catch_text, handle_text};
 use std::alloc::Allocator;
 use wasm_base::{Encode, R};
 
-/// What `try_table` catches, and the label that it then goes to.
+/// A clause of `try_table`: the exceptions that it catches, and the label that it then branches to.
 #[derive(Clone, Copy, Debug)]
 pub enum Catch {
     One { tag: u32, label: u32 },
@@ -14,14 +14,14 @@ pub enum Catch {
     AllRef { label: u32 },
 }
 
-/// What a resumed stack does where it is suspended with a tag.
+/// A clause of `resume` and its variants: the action for a suspension with a tag.
 #[derive(Clone, Copy, Debug)]
 pub enum Handle {
     OnLabel { tag: u32, label: u32 },
     OnSwitch { tag: u32 },
 }
 
-/// A byte, the tag where there is one, and the label.
+/// Encodes a clause as its kind in one byte, the tag if it has one, and the label.
 impl Encode for Catch {
     ghost text = { catch_text };
 
@@ -37,7 +37,7 @@ impl Encode for Catch {
     }
 }
 
-/// A byte, the tag, and the label where there is one.
+/// Encodes a clause as its kind in one byte, the tag, and the label if it has one.
 impl Encode for Handle {
     ghost text = { handle_text };
 

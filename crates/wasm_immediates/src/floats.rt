@@ -5,21 +5,21 @@ ghost use Rattle.wasm_base.specs.Texts.{little_endian_text};
 use std::alloc::Allocator;
 use wasm_base::{Encode, R};
 
-/// The bits of a float of 32 bits. The format is that of IEEE 754.
+/// A float of 32 bits, as its IEEE 754 bits.
 #[derive(Clone, Copy, PartialEq, Eq, Hash, Debug)]
 pub struct Ieee32 {
     bits: u32,
 }
 
 impl Ieee32 {
-    /// The float of these bits.
+    /// Returns the float of these bits.
     pub fn new(bits: u32) -> Self
         ensures { result.bits ≡ bits }
     {
         Ieee32 { bits }
     }
 
-    /// Its bits.
+    /// Returns the bits.
     pub fn bits(self) -> u32
         ensures { result ≡ self.bits }
     {
@@ -27,7 +27,7 @@ impl Ieee32 {
     }
 }
 
-/// Four bytes, the least first.
+/// Encodes the bits in four bytes, little-endian.
 impl Encode for Ieee32 {
     ghost text = { λ float. little_endian_text 4 float.bits };
 
@@ -40,21 +40,21 @@ impl Encode for Ieee32 {
     }
 }
 
-/// The bits of a float of 64 bits. The format is that of IEEE 754.
+/// A float of 64 bits, as its IEEE 754 bits.
 #[derive(Clone, Copy, PartialEq, Eq, Hash, Debug)]
 pub struct Ieee64 {
     bits: u64,
 }
 
 impl Ieee64 {
-    /// The float of these bits.
+    /// Returns the float of these bits.
     pub fn new(bits: u64) -> Self
         ensures { result.bits ≡ bits }
     {
         Ieee64 { bits }
     }
 
-    /// Its bits.
+    /// Returns the bits.
     pub fn bits(self) -> u64
         ensures { result ≡ self.bits }
     {
@@ -62,7 +62,7 @@ impl Ieee64 {
     }
 }
 
-/// Eight bytes, the least first.
+/// Encodes the bits in eight bytes, little-endian.
 impl Encode for Ieee64 {
     ghost text = { λ float. little_endian_text 8 float.bits };
 

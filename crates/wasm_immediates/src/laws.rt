@@ -1,8 +1,10 @@
-//! What is promised of all lists of bytes, and not of a call: each function does nothing, and its clauses are the promise.
+//! Laws about the formats of immediates, for all byte sequences: each function does nothing, and
+//! its clauses are the law.
 //!
-//! `UniqueReading F` says that bytes begin with a spelling in the format `F` of at most one value, whatever follows, both with
-//! shortest and with padded numbers, and that a value has at most one shortest spelling. `HasTexts F fits text` says that the text of each
-//! value that fits is this spelling.
+//! `UniqueReading F` says that the format `F` is unambiguous: at most one value decodes from the
+//! front of any bytes, with minimal and with padded numbers. A value has at most one minimal
+//! encoding. `HasTexts F fits text` says that `text` is the minimal encoding of each value that
+//! fits.
 ghost use Rattle.std.specs.Prelude.{⊤};
 ghost use Rattle.wasm_base.specs.Reading.{UniqueReading, HasTexts, IsUniqueWide};
 ghost use Rattle.wasm_immediates.specs.Immediates.{mem_arg_text, block_text, catch_text, handle_text, vector_text};
@@ -23,7 +25,7 @@ ghost use Rattle.wasm_immediates.specs.PlainImmediates.{
 };
 ghost use Rattle.wasm_immediates.specs.declared.memory.MemArg.{MemArg};
 
-/// Immediates are read uniquely.
+/// The formats of immediates are unambiguous.
 #[tactic(auto, using(crate::proofs::ImmediateTexts::immediates))]
 pub fn immediates()
     ensures memory { UniqueReading mem_arg }
@@ -41,12 +43,12 @@ pub fn immediates()
     ensures vector_texts { HasTexts vector_format IsVector vector_text }
 {}
 
-/// The text of a memory argument that is plain is read as its normal form alone.
+/// The encoding of a well-formed memory argument decodes to its normal form alone.
 pub fn memory_arguments()
     ensures { (m : MemArg) → ReadsMemoryArgument m }
 {}
 
-/// With padded numbers too.
+/// With padded numbers the formats are unambiguous too.
 #[tactic(auto, using(crate::proofs::ImmediateTexts::wide_immediates))]
 pub fn wide()
     ensures memory { IsUniqueWide mem_arg }

@@ -1,4 +1,4 @@
-// The arguments of instructions that access memory.
+// Memory arguments: the immediates of instructions that access memory.
 ghost use Rattle.std.specs.Prelude.{◌≡◌, ◌+◌, ◌≤◌, ◌<◌, ◌++◌, ◌∷◌, [], vec_len, vec_capacity, ⊤};
 ghost use Rattle.wasm_base.specs.Calls.{Appends};
 ghost use Rattle.wasm_base.specs.Numbers.{unsigned_text};
@@ -9,22 +9,22 @@ use std::alloc::Allocator;
 use std::default::Default;
 use wasm_base::{Encode, R};
 
-/// The number of a lane of a vector.
+/// The index of a lane of a vector.
 pub type Lane = u8;
 
-/// Where and how an instruction accesses memory.
+/// A memory argument: the location and the ordering of an access.
 #[derive(Clone, Copy, Debug)]
 pub struct MemArg {
-    /// What is added to the address.
+    /// The constant that is added to the address, in bytes.
     pub offset: u64,
-    /// The alignment that is expected, as an exponent of 2.
+    /// The expected alignment, as an exponent of 2.
     pub align: u32,
     pub target: MemArgTarget,
-    /// Given where an atomic access has another ordering than its own.
+    /// The ordering of an atomic access, if it differs from the default of the instruction.
     pub ordering: Option<MemArgOrdering>,
 }
 
-/// What is accessed.
+/// The memory or the array type that is accessed.
 #[derive(Clone, Copy, PartialEq, Eq, Hash, Debug)]
 pub enum MemArgTarget {
     /// The memory of this index.
@@ -33,21 +33,21 @@ pub enum MemArgTarget {
     Array(u32),
 }
 
-/// The ordering of an access: of an operation, or of one that reads, modifies and writes.
+/// The ordering of an access: of a single operation, or of a read-modify-write.
 #[derive(Clone, Copy, PartialEq, Eq, Hash, Debug)]
 pub enum MemArgOrdering {
     Op(Ordering),
     Rmw(Ordering),
 }
 
-/// How atomic accesses are ordered.
+/// The ordering of atomic accesses.
 #[derive(Clone, Copy, PartialEq, Eq, Hash, Debug)]
 pub enum Ordering {
     AcqRel = 0x01,
     SeqCst = 0x00,
 }
 
-/// Memory 0.
+/// The default is memory 0.
 impl Default for MemArgTarget {
     ghost is_default = { λ target. target ≡ Memory 0 };
 
@@ -57,7 +57,7 @@ impl Default for MemArgTarget {
 }
 
 impl MemArgTarget {
-    /// The index that is written: memory 0 has none.
+    /// Returns the index in the encoding, or `None` for memory 0, which has none.
     #[inline]
     fn index(self) -> Option<u32>
         ensures { result ≡ index_of self }
@@ -70,7 +70,7 @@ impl MemArgTarget {
     }
 }
 
-/// One byte.
+/// Encodes the ordering as one byte.
 impl Encode for Ordering {
     ghost text = { λ ordering. ordering_code ordering ∷ [] };
 
@@ -81,7 +81,7 @@ impl Encode for Ordering {
     }
 }
 
-/// One byte; the strongest ordering has one for both.
+/// Encodes the ordering as one byte. `SeqCst` has the same byte for both kinds of access.
 impl Encode for MemArgOrdering {
     ghost text = { λ ordering. mem_ordering_code ordering ∷ [] };
 
@@ -99,7 +99,7 @@ impl Encode for MemArgOrdering {
 }
 
 impl MemArg {
-    /// The alignment, and a bit for each part that is written.
+    /// Returns the flags: the alignment, and a bit for each optional field that follows.
     #[inline]
     fn flags(self) -> u32
         ensures { result ≡ mem_flags self }
@@ -113,7 +113,7 @@ impl MemArg {
         self.align | ordering | target
     }
 
-    /// Appends all parts that the flags tell of.
+    /// Appends all fields for which the flags have a bit.
     #[inline(never)]
     fn encode_all<A: Allocator>(&self, sink: &mut Vec<u8, A>) -> R<()>
         ensures { Appends (mem_arg_text self.now) ⊤ sink.old sink.new result }
@@ -128,7 +128,8 @@ impl MemArg {
     }
 }
 
-/// Flags, the index and the ordering where the flags say so, and the offset. Most have memory 0 and no ordering; others are written out of line.
+/// Encodes the flags, the index and the ordering if their flags are set, and the offset. Most
+/// arguments have memory 0 and no ordering; the others are encoded out of line.
 impl Encode for MemArg {
     ghost text = { mem_arg_text };
 
@@ -143,7 +144,8 @@ impl Encode for MemArg {
     }
 }
 
-/// Flags and an offset. Most have one byte each, which are written after one test of the room.
+/// Appends flags and an offset. Most have one byte each, and are written after one test of the
+/// spare capacity.
 #[inline]
 fn encode_plain<A: Allocator>(flags: u32, offset: u64, sink: &mut Vec<u8, A>) -> R<()>
     ensures { Appends (unsigned_text flags ++ unsigned_text offset) ⊤ sink.old sink.new result }
@@ -155,7 +157,7 @@ fn encode_plain<A: Allocator>(flags: u32, offset: u64, sink: &mut Vec<u8, A>) ->
     (flags, offset).encode(sink)
 }
 
-/// Appends two numbers of one byte, where the sink has room for them.
+/// Appends two numbers of one byte each into spare capacity of the sink, which holds them.
 #[tactic(auto, using(crate::proofs::ImmediateTexts::one_byte))]
 #[inline]
 fn put_two_bytes<A: Allocator>(first: u8, second: u8, sink: &mut Vec<u8, A>)

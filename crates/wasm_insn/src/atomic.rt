@@ -236,7 +236,7 @@ pub enum Atomic {
 }
 
 impl Atomic {
-    /// The op of the table.
+    /// Returns the opcode, as in the opcode table.
     pub fn op(self) -> Op
         ensures { result ≡ (atomic_row self).op }
     {
@@ -348,7 +348,7 @@ impl Atomic {
         }
     }
 
-    /// Appends what follows the op.
+    /// Appends the immediates.
     pub(crate) fn encode_arguments<A: Allocator>(self, sink: &mut Vec<u8, A>) -> R<()>
         ensures { Appends (arguments_text (atomic_row self).arguments) (arguments_fit (atomic_row self).arguments) sink.old sink.new result }
     {
@@ -576,7 +576,7 @@ impl Atomic {
     }
 }
 
-/// The names of those without fields as instructions.
+/// The instructions without fields, by their names on `Instruction`.
 impl Instruction<'static> {
     pub const Pause: Self = Instruction::Atomic(Atomic::Pause);
 

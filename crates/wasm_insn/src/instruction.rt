@@ -1,4 +1,4 @@
-// All instructions.
+// The type of all instructions, and its encoding.
 ghost use Rattle.std.specs.Prelude.{◌≡◌, ◌≢◌, ◌++◌, ◌∷◌, [], ⊤, IfOk};
 ghost use Rattle.wasm_base.specs.Calls.{Appends};
 ghost use Rattle.wasm_base.specs.Numbers.{unsigned_text};
@@ -20,10 +20,11 @@ use std::slice;
 use wasm_base::{CowSlice, Encode, HeapType, R, RefType, Refused, ValType};
 use wasm_immediates::{BlockType, Catch, Handle, Ieee32, Ieee64, MemArg};
 
-/// An instruction.
+/// An instruction of the core specification, "Instructions", or of its proposals.
 ///
-/// One-byte instructions outside 45 to C4 (hexadecimal), and those with fields of the prefixes FB and FC, are cases of their own; the
-/// others are in an enum for each group of ops. Those without fields have a constant here, so that `Instruction::I32Add` is an instruction too.
+/// One-byte instructions outside 45 to C4 (hexadecimal), and those with fields of the prefixes FB
+/// and FC, are cases of their own. The others are in an enum for each group of opcodes. Those
+/// without fields also have a constant here, such as `Instruction::I32Add`.
 #[derive(Drop)]
 pub enum Instruction<'a, A: Allocator = Global> {
     Unreachable,
@@ -242,16 +243,17 @@ pub enum Instruction<'a, A: Allocator = Global> {
     Atomic(Atomic),
 }
 
-/// Bit 0 says that the first type is nullable, bit 1 that the second is.
+/// Returns the flags of a cast: bit 0 for a nullable first type, bit 1 for a nullable second type.
 fn cast_flag(from: RefType, to: RefType) -> u8
     ensures { result ≡ cast_flag_of from to }
 {
     u8::from(from.nullable) + 2 * u8::from(to.nullable)
 }
 
-// Lists and casts are rare. They are appended out of line, so that no other instruction clears room for their parts.
+// Lists and casts are rare. They are appended out of line, so that the other instructions need no
+// stack space for their immediates.
 
-/// The labels of a table, and the default one.
+/// Appends the labels of a branch table, and the default label.
 #[inline(never)]
 fn encode_labels<A: Allocator>(labels: &[u32], default: u32, sink: &mut Vec<u8, A>) -> R<()>
     ensures { Appends (vec_text unsigned_text labels.now ++ unsigned_text default) (VecFits (λ _. ⊤) labels.now × ⊤) sink.old sink.new result }
@@ -259,7 +261,7 @@ fn encode_labels<A: Allocator>(labels: &[u32], default: u32, sink: &mut Vec<u8, 
     (labels, default).encode(sink)
 }
 
-/// The type of a block, and what it catches.
+/// Appends the type of a block, and its catch clauses.
 #[inline(never)]
 fn encode_try_table<A: Allocator>(
     block_type: BlockType,
@@ -271,7 +273,7 @@ fn encode_try_table<A: Allocator>(
     (block_type, catches).encode(sink)
 }
 
-/// The index of a type, and handles.
+/// Appends the index of a type, and handle clauses.
 #[inline(never)]
 fn encode_resume<A: Allocator>(index: u32, handles: &[Handle], sink: &mut Vec<u8, A>) -> R<()>
     ensures { Appends (unsigned_text index ++ vec_text handle_text handles.now) (⊤ × VecFits (λ _. ⊤) handles.now) sink.old sink.new result }
@@ -279,7 +281,7 @@ fn encode_resume<A: Allocator>(index: u32, handles: &[Handle], sink: &mut Vec<u8
     (index, handles).encode(sink)
 }
 
-/// The indices of a type and of a tag, and handles.
+/// Appends the indices of a type and of a tag, and handle clauses.
 #[inline(never)]
 fn encode_resume_throw<A: Allocator>(
     index: u32,
@@ -292,7 +294,7 @@ fn encode_resume_throw<A: Allocator>(
     (index, tag, handles).encode(sink)
 }
 
-/// Flags, a label, and the two heap types of a cast.
+/// Appends the flags, the label, and the two heap types of a cast.
 #[inline(never)]
 fn encode_cast<A: Allocator>(label: u32, from: RefType, to: RefType, sink: &mut Vec<u8, A>) -> R<()>
     ensures { Appends (cast_flag_of from to ∷ [] ++ (unsigned_text label ++ (heap_text from.heap_type ++ heap_text to.heap_type))) (⊤ × ⊤ × (⊤ × ⊤)) sink.old sink.new result }
@@ -301,7 +303,7 @@ fn encode_cast<A: Allocator>(label: u32, from: RefType, to: RefType, sink: &mut 
 }
 
 impl<'a, A: Allocator> Instruction<'a, A> {
-    /// The op of the table.
+    /// Returns the opcode, as in the opcode table.
     pub fn op(&self) -> Op
         ensures { result ≡ (row_of self.now).op }
     {
@@ -437,7 +439,7 @@ impl<'a, A: Allocator> Instruction<'a, A> {
         }
     }
 
-    /// Appends what follows the op.
+    /// Appends the immediates.
     fn encode_arguments<B: Allocator>(&self, sink: &mut Vec<u8, B>) -> R<()>
         ensures { Appends (arguments_text (row_of self.now).arguments) (arguments_fit (row_of self.now).arguments) sink.old sink.new result }
     {
@@ -654,9 +656,10 @@ impl<'a, A: Allocator> Instruction<'a, A> {
     }
 }
 
-// A copy is made in a function for each group of cases, since the time of a proof grows with the square of its arms.
+// A function for each group of cases clones it, since proof time grows with the square of the
+// number of arms.
 impl<'a, A: Allocator + Copy> Instruction<'a, A> {
-    /// A copy. Owned lists are copied to their own allocator.
+    /// Returns a copy. Owned lists are copied with their own allocator.
     pub fn clone(&self) -> R<Self>
         ensures ok { IfOk result (λ i. row_of i ≡ row_of self.now) }
         ensures err { result ≢ Err Refused.TooLong }
@@ -707,7 +710,8 @@ impl<'a, A: Allocator + Copy> Instruction<'a, A> {
         })
     }
 
-    /// A copy of what gets and sets variables and table elements, and accesses memory; or of a later case.
+    /// Returns a copy of an instruction that accesses variables, table elements or memory; or of a
+    /// later group.
     fn clone_access(&self) -> R<Self>
         ensures ok { IfOk result (λ i. row_of i ≡ row_of self.now) }
         ensures err { result ≢ Err Refused.TooLong }
@@ -749,7 +753,8 @@ impl<'a, A: Allocator + Copy> Instruction<'a, A> {
         })
     }
 
-    /// A copy of a constant, or of what works on references and continuations; or of a later case.
+    /// Returns a copy of a constant, or of an instruction on references or continuations; or of a
+    /// later group.
     fn clone_reference(&self) -> R<Self>
         ensures ok { IfOk result (λ i. row_of i ≡ row_of self.now) }
         ensures err { result ≢ Err Refused.TooLong }
@@ -809,7 +814,7 @@ impl<'a, A: Allocator + Copy> Instruction<'a, A> {
         })
     }
 
-    /// A copy of what works on structs and arrays, and of casts; or of a later case.
+    /// Returns a copy of an instruction on structs or arrays, or of a cast; or of a later group.
     fn clone_aggregate(&self) -> R<Self>
         ensures ok { IfOk result (λ i. row_of i ≡ row_of self.now) }
         ensures err { result ≢ Err Refused.TooLong }
@@ -943,7 +948,8 @@ impl<'a, A: Allocator + Copy> Instruction<'a, A> {
         })
     }
 
-    /// A copy of what works on segments, tables and memories as a whole, and of the cases of nested enums.
+    /// Returns a copy of an instruction on whole segments, tables or memories, or of a case of a
+    /// nested enum.
     fn clone_bulk(&self) -> R<Self>
         ensures ok { IfOk result (λ i. row_of i ≡ row_of self.now) }
         ensures err { result ≢ Err Refused.TooLong }
@@ -987,7 +993,7 @@ impl<'a, A: Allocator + Copy> Instruction<'a, A> {
     }
 }
 
-/// The op, and what follows it.
+/// Encodes the opcode, and then the immediates.
 impl<'a, A: Allocator> Encode for Instruction<'a, A> {
     ghost text = { instruction_text };
 

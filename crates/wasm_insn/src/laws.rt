@@ -1,8 +1,10 @@
-//! What is promised of all lists of bytes, and not of a call: each function does nothing, and its clauses are the promise.
+//! Laws about opcodes and instructions, for all byte sequences: each function does nothing, and its
+//! clauses are the law.
 //!
-//! `UniqueReading F` says that bytes begin with a spelling in the format `F` of at most one value, whatever follows, both with
-//! shortest and with padded numbers, and that a value has at most one shortest spelling; `UniqueWholeReading F` the same of a format whose
-//! spellings reach to the last byte. `HasTexts F fits text` says that the text of each value that fits is its shortest spelling.
+//! `UniqueReading F` says that the format `F` is unambiguous: at most one value decodes from the
+//! front of any bytes, with minimal and with padded numbers. A value has at most one minimal
+//! encoding. `UniqueWholeReading F` says the same of a format that occupies all of the bytes.
+//! `HasTexts F fits text` says that `text` is the minimal encoding of each value that fits.
 ghost use Rattle.std.specs.Prelude.{All};
 ghost use Rattle.wasm_base.specs.Formats.{members};
 ghost use Rattle.wasm_base.specs.Reading.{UniqueReading, UniqueWholeReading, HasTexts, IsUniqueWide, IsUniqueWholeWide};
@@ -17,7 +19,8 @@ use crate::instruction::Instruction;
 use crate::ranged::arguments_ranged;
 use std::alloc::Allocator;
 
-/// Opcodes are read uniquely. The opcode table has 628 rows in ascending order, of which two neighbours alone share an op; no op's bytes begin another's.
+/// The format of opcodes is unambiguous. The opcode table has 628 rows in ascending order; one pair
+/// of neighbours shares an opcode. No opcode's bytes are a prefix of another's.
 #[tactic(auto, using(crate::proofs::InstructionLaws::opcodes))]
 pub fn opcodes()
     ensures alone { UniqueReading opcode }
@@ -26,27 +29,30 @@ pub fn opcodes()
     ensures apart { BeginsNoOther }
 {}
 
-/// Each instruction is a row of the table, with one argument for each part of its shape.
+/// Each instruction is a row of the table, with one immediate for each immediate of the row's
+/// shape.
 pub fn rows<A: Allocator>()
     ensures { (i : Instruction A) → IsRow table (row_of i) }
 {}
 
-/// The cases of the enums and the rows of the table are one to one: in the table's order, they have its ops and the parts of its
-/// shapes. Each instruction is one of the cases, with its own fields.
+/// The cases of the enums and the rows of the table correspond one to one: in the table's order,
+/// they have its opcodes and the immediates of its shapes. Each instruction is one of the cases,
+/// with its own fields.
 pub fn cases<A: Allocator>()
     ensures rows { (given : Given A) → AreRows (all_cases given) table }
     ensures each { (i : Instruction A) → IsCase i }
 {}
 
-/// Instructions are read uniquely over the table. The text of one that is plain is read as its normal form alone, and two that
-/// are plain have one text exactly where they have one normal form.
+/// The format of instructions over the table is unambiguous. The encoding of a well-formed
+/// instruction decodes to its normal form alone. Two well-formed instructions have the same
+/// encoding exactly if they have the same normal form.
 pub fn instructions<A: Allocator>()
     ensures alone { UniqueReading (instruction table) }
     ensures plain { (i : Instruction A) → ReadsInstruction i }
     ensures one_text { (i j : Instruction A) → HaveOneText i j }
 {}
 
-/// With padded numbers too.
+/// With padded numbers the formats are unambiguous too.
 #[tactic(auto, using(crate::proofs::InstructionLaws::wide))]
 pub fn wide()
     ensures opcode { IsUniqueWide opcode }
@@ -54,20 +60,21 @@ pub fn wide()
     ensures list { IsUniqueWholeWide (members (instruction table)) }
 {}
 
-/// Instructions one after another, up to the last byte, are read uniquely.
+/// Lists of instructions that occupy all of the bytes are unambiguous.
 #[tactic(auto, using(crate::proofs::InstructionLaws::lists))]
 pub fn lists()
     ensures { UniqueWholeReading (members (instruction table)) }
 {}
 
-/// An instruction is plain where its alignments are below 16 and its lists can be counted, which a call that accepts it has promised.
+/// An instruction is well-formed if its alignments are below 16 and its lists can be counted. A
+/// call that encodes it has promised the latter.
 pub fn plain_instruction<A: Allocator>(instruction: &Instruction<'_, A>)
     ensures { IsPlainWhereAligned instruction.now }
 {
     arguments_ranged(instruction);
 }
 
-/// So is each instruction of a list.
+/// The same holds for each instruction of a list.
 pub fn plain_instructions<A: Allocator>(instructions: &[Instruction<'_, A>])
     ensures { All IsPlainWhereAligned instructions.now }
 {

@@ -1,4 +1,4 @@
-// Opcodes, and the shapes of what follows them.
+// Opcodes, and the shapes of their immediates.
 ghost use Rattle.std.specs.Prelude.{⊤};
 ghost use Rattle.wasm_insn.specs.Opcodes.{op_text};
 
@@ -12,7 +12,7 @@ pub enum Op {
     Prefixed(u8, u32),
 }
 
-/// Which parts follow an opcode.
+/// The list of immediates of an opcode.
 #[derive(Clone, Copy, PartialEq, Eq, Hash, Debug)]
 pub enum Shape {
     Nothing,
@@ -62,7 +62,7 @@ pub enum Shape {
     Uuh,
 }
 
-/// The byte, or the prefix and the number.
+/// Encodes the byte, or the prefix and the number.
 impl Encode for Op {
     ghost text = { op_text };
 

@@ -1,4 +1,5 @@
-// What types say of the numbers in instructions: each function does nothing, and promises that these are in range.
+// Range facts from types: each function does nothing, and promises that the numbers in an
+// instruction are in range.
 ghost use Rattle.std.specs.Prelude.{◌<◌, ◌^◌, ◌∷◌, [], All};
 ghost use Rattle.wasm_base.specs.Laws.{FitsSigned32, FitsSigned64};
 ghost use Rattle.wasm_base.specs.Types.{IsHeap, IsVal};
@@ -16,12 +17,12 @@ use std::alloc::Allocator;
 use wasm_base::{HeapType, RefType, ValType};
 use wasm_immediates::{BlockType, Catch, Handle, Ieee32, Ieee64, MemArg};
 
-/// A value that is plain by its type alone.
+/// A value that is well-formed by its type alone.
 trait Ranged: Copy {
     /// The numbers in the value are in the range of their types.
     ghost in_range: { Self → Type 0 };
 
-    /// Does nothing.
+    /// Proves the property. The function does nothing.
     fn ranged(self)
         ensures { in_range self };
 }
@@ -86,7 +87,7 @@ impl Ranged for Handle {
     fn ranged(self) {}
 }
 
-/// What is in the range of its type but for an alignment.
+/// All numbers but the alignment are in the range of their types.
 impl Ranged for MemArg {
     ghost in_range = { λ m. m.align < 16 → IsPlainMemory m };
 
@@ -330,7 +331,7 @@ impl Ranged for Atomic {
     }
 }
 
-/// Each of a list.
+/// Proves the property of each item of a list.
 fn each_ranged<T: Ranged>(items: &[T])
     ensures { All T.in_range items.now }
 {
@@ -339,7 +340,7 @@ fn each_ranged<T: Ranged>(items: &[T])
     }
 }
 
-/// What a cast names.
+/// Proves that the immediates of a cast are in range.
 #[tactic(auto, using(crate::proofs::PlainLaws::cast_flag_below))]
 fn cast_ranged(label: u32, from: RefType, to: RefType)
     ensures { ArePlain (flag (cast_flag_of from to) ∷ unsigned label ∷ heap from.heap_type ∷ heap to.heap_type ∷ []) }
@@ -348,7 +349,7 @@ fn cast_ranged(label: u32, from: RefType, to: RefType)
     to.heap_type.ranged();
 }
 
-/// The arguments of an instruction.
+/// Proves that the immediates of an instruction are in range, if its alignments are.
 pub(crate) fn arguments_ranged<A: Allocator>(instruction: &Instruction<'_, A>)
     ensures { IsPlainWhereAligned instruction.now }
 {

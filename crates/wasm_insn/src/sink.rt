@@ -1,4 +1,4 @@
-// Named calls that write instructions into a buffer.
+// The instruction sink: a method for each common instruction, which appends it to a buffer.
 ghost use Rattle.std.specs.Prelude.{◌≡◌, ℕ, ◌+◌, ◌≤◌, List, length, vec_len, vec_capacity, ⊤};
 ghost use Rattle.wasm_base.specs.Iterators.{HasKnownLength};
 ghost use Rattle.wasm_insn.specs.Opcodes.{op_text};
@@ -13,20 +13,22 @@ use std::slice;
 use wasm_base::{CowSlice, Encode, HeapType, R, Refused, ValType, encode_vec};
 use wasm_immediates::{BlockType, Ieee32, Ieee64, MemArg};
 
-/// What instructions are written into.
+/// A buffer to which instructions are appended.
 pub trait Buffer {
-    /// written: the bytes that the buffer has.
+    /// `written`: the bytes in the buffer.
     ghost written: { Self → List ℕ };
 
-    /// has_room: There is room for so many bytes more. A buffer may leave this open.
+    /// `has_room`: the buffer has spare capacity for this many bytes. A buffer may leave this
+    /// unspecified.
     ghost has_room: { Self → ℕ → Type 0 } = { λ _ _. ⊥ };
 
-    /// Appends the text of the value. A refused call leaves the bytes as they were.
+    /// Appends the encoding of the value. On an error, the bytes are unchanged.
     fn append<E: Encode>(&mut self, value: &E) -> R<()>
         ensures { Writes (E.text value.now) (E.fits value.now) (has_room self.old (length (E.text value.now))) (written self.old) (written self.new) result };
 
-    /// Appends a value, the vector of the elements, and another value. A refused call leaves the bytes as they were. Where the
-    /// length that the elements tell is too long, it answers `TooLong`; a `Vec` asks for none of them then, as tests show.
+    /// Appends a value, the elements as a vector, and another value. On an error, the bytes are
+    /// unchanged. If the length that the elements report exceeds 4294967295, the call returns
+    /// `TooLong`; a `Vec` then requests no element, as tests show.
     fn append_vec<S: Encode, T: Encode + Drop, V: IntoIterator<Item = T>, U: Encode>(
         &mut self,
         before: &S,
@@ -39,7 +41,7 @@ pub trait Buffer {
         ensures { WritesVec V.into_iter_gives V.IntoIter.next_gives V.IntoIter.remaining T.fits T.text elements (S.fits before.now × U.fits after.now) (S.text before.now) (U.text after.now) (written self.old) (written self.new) result };
 }
 
-/// The bytes of the vector.
+/// Appends to the vector itself.
 impl<A: Allocator> Buffer for Vec<u8, A> {
     ghost written = { λ bytes. bytes.items };
 
@@ -76,14 +78,19 @@ impl<A: Allocator> Buffer for Vec<u8, A> {
     }
 }
 
-/// Writes instructions into a buffer that it borrows. A refused call leaves the buffer's bytes as they were.
+/// Appends instructions to a buffer that it borrows.
+///
+/// # Errors
+///
+/// A call that fails leaves the buffer's bytes unchanged. The error is `TooLong` only if a list is
+/// too long.
 #[derive(Drop)]
 pub struct InstructionSink<'a, B: Buffer> {
     sink: &'a mut B,
 }
 
 impl<'a, B: Buffer> InstructionSink<'a, B> {
-    /// A sink that writes into `sink`, after what it has.
+    /// Returns a sink that appends to `sink`.
     pub fn new(sink: &'a mut B) -> Self
         ensures same_reference { result.sink.ghost_name ≡ sink.entry.ghost_name }
         ensures same { result.sink.now ≡ sink.old }
@@ -91,7 +98,7 @@ impl<'a, B: Buffer> InstructionSink<'a, B> {
         InstructionSink { sink }
     }
 
-    /// Each call writes by this one, but `br_table`.
+    /// Appends one encoded instruction. Each call but `br_table` uses it.
     fn emit<E: Encode>(&mut self, value: &E) -> R<()>
         ensures same_reference { self.new.sink.ghost_name ≡ self.old.sink.ghost_name }
         ensures writes { Writes (E.text value.now) (E.fits value.now) (B.has_room self.old.sink.now (length (E.text value.now))) (B.written self.old.sink.now) (B.written self.new.sink.now) result }
@@ -99,7 +106,7 @@ impl<'a, B: Buffer> InstructionSink<'a, B> {
         self.sink.append(value)
     }
 
-    /// Appends the bytes of an op.
+    /// Appends an opcode.
     pub fn op(&mut self, op: Op) -> R<()>
         ensures same_reference { self.new.sink.ghost_name ≡ self.old.sink.ghost_name }
         ensures writes { Writes (op_text op) ⊤ (B.has_room self.old.sink.now (length (op_text op))) (B.written self.old.sink.now) (B.written self.new.sink.now) result }
@@ -107,7 +114,7 @@ impl<'a, B: Buffer> InstructionSink<'a, B> {
         self.emit(&op)
     }
 
-    /// Appends the text of `Unreachable`.
+    /// Appends the encoding of `Unreachable`.
     pub fn unreachable(&mut self) -> R<()>
         ensures same_reference { self.new.sink.ghost_name ≡ self.old.sink.ghost_name }
         ensures writes { WritesInstruction B.written B.has_room Instruction.Unreachable self.old.sink.now self.new.sink.now result }
@@ -115,7 +122,7 @@ impl<'a, B: Buffer> InstructionSink<'a, B> {
         self.emit(&0x00u8)
     }
 
-    /// Appends the text of `Nop`.
+    /// Appends the encoding of `Nop`.
     pub fn nop(&mut self) -> R<()>
         ensures same_reference { self.new.sink.ghost_name ≡ self.old.sink.ghost_name }
         ensures writes { WritesInstruction B.written B.has_room Instruction.Nop self.old.sink.now self.new.sink.now result }
@@ -123,7 +130,7 @@ impl<'a, B: Buffer> InstructionSink<'a, B> {
         self.emit(&0x01u8)
     }
 
-    /// Appends the text of `Block`.
+    /// Appends the encoding of `Block`.
     pub fn block(&mut self, block_type: BlockType) -> R<()>
         ensures same_reference { self.new.sink.ghost_name ≡ self.old.sink.ghost_name }
         ensures writes { WritesInstruction B.written B.has_room (Instruction.Block block_type) self.old.sink.now self.new.sink.now result }
@@ -131,7 +138,7 @@ impl<'a, B: Buffer> InstructionSink<'a, B> {
         self.emit(&(0x02u8, block_type))
     }
 
-    /// Appends the text of `Loop`.
+    /// Appends the encoding of `Loop`.
     pub fn loop_(&mut self, block_type: BlockType) -> R<()>
         ensures same_reference { self.new.sink.ghost_name ≡ self.old.sink.ghost_name }
         ensures writes { WritesInstruction B.written B.has_room (Instruction.Loop block_type) self.old.sink.now self.new.sink.now result }
@@ -139,7 +146,7 @@ impl<'a, B: Buffer> InstructionSink<'a, B> {
         self.emit(&(0x03u8, block_type))
     }
 
-    /// Appends the text of `If`.
+    /// Appends the encoding of `If`.
     pub fn if_(&mut self, block_type: BlockType) -> R<()>
         ensures same_reference { self.new.sink.ghost_name ≡ self.old.sink.ghost_name }
         ensures writes { WritesInstruction B.written B.has_room (Instruction.If block_type) self.old.sink.now self.new.sink.now result }
@@ -147,7 +154,7 @@ impl<'a, B: Buffer> InstructionSink<'a, B> {
         self.emit(&(0x04u8, block_type))
     }
 
-    /// Appends the text of `Else`.
+    /// Appends the encoding of `Else`.
     pub fn else_(&mut self) -> R<()>
         ensures same_reference { self.new.sink.ghost_name ≡ self.old.sink.ghost_name }
         ensures writes { WritesInstruction B.written B.has_room Instruction.Else self.old.sink.now self.new.sink.now result }
@@ -155,7 +162,7 @@ impl<'a, B: Buffer> InstructionSink<'a, B> {
         self.emit(&0x05u8)
     }
 
-    /// Appends the text of `End`.
+    /// Appends the encoding of `End`.
     pub fn end(&mut self) -> R<()>
         ensures same_reference { self.new.sink.ghost_name ≡ self.old.sink.ghost_name }
         ensures writes { WritesInstruction B.written B.has_room Instruction.End self.old.sink.now self.new.sink.now result }
@@ -163,7 +170,7 @@ impl<'a, B: Buffer> InstructionSink<'a, B> {
         self.emit(&0x0Bu8)
     }
 
-    /// Appends the text of `Br`.
+    /// Appends the encoding of `Br`.
     pub fn br(&mut self, label: u32) -> R<()>
         ensures same_reference { self.new.sink.ghost_name ≡ self.old.sink.ghost_name }
         ensures writes { WritesInstruction B.written B.has_room (Instruction.Br label) self.old.sink.now self.new.sink.now result }
@@ -171,7 +178,7 @@ impl<'a, B: Buffer> InstructionSink<'a, B> {
         self.emit(&(0x0Cu8, label))
     }
 
-    /// Appends the text of `BrIf`.
+    /// Appends the encoding of `BrIf`.
     pub fn br_if(&mut self, label: u32) -> R<()>
         ensures same_reference { self.new.sink.ghost_name ≡ self.old.sink.ghost_name }
         ensures writes { WritesInstruction B.written B.has_room (Instruction.BrIf label) self.old.sink.now self.new.sink.now result }
@@ -179,7 +186,7 @@ impl<'a, B: Buffer> InstructionSink<'a, B> {
         self.emit(&(0x0Du8, label))
     }
 
-    /// Appends the text of `BrTable`, of the labels that are given and the default one.
+    /// Appends the encoding of `BrTable`, with these labels and this default label.
     pub fn br_table<V: IntoIterator<Item = u32>>(&mut self, labels: V, default: u32) -> R<()>
     where
         V::IntoIter: ExactSizeIterator + Drop,
@@ -190,7 +197,7 @@ impl<'a, B: Buffer> InstructionSink<'a, B> {
         self.sink.append_vec(&0x0Eu8, labels, &default)
     }
 
-    /// Appends the text of `Return`.
+    /// Appends the encoding of `Return`.
     pub fn return_(&mut self) -> R<()>
         ensures same_reference { self.new.sink.ghost_name ≡ self.old.sink.ghost_name }
         ensures writes { WritesInstruction B.written B.has_room Instruction.Return self.old.sink.now self.new.sink.now result }
@@ -198,7 +205,7 @@ impl<'a, B: Buffer> InstructionSink<'a, B> {
         self.emit(&0x0Fu8)
     }
 
-    /// Appends the text of `Call`.
+    /// Appends the encoding of `Call`.
     pub fn call(&mut self, function_index: u32) -> R<()>
         ensures same_reference { self.new.sink.ghost_name ≡ self.old.sink.ghost_name }
         ensures writes { WritesInstruction B.written B.has_room (Instruction.Call function_index) self.old.sink.now self.new.sink.now result }
@@ -206,7 +213,7 @@ impl<'a, B: Buffer> InstructionSink<'a, B> {
         self.emit(&(0x10u8, function_index))
     }
 
-    /// Appends the text of `CallIndirect`.
+    /// Appends the encoding of `CallIndirect`.
     pub fn call_indirect(&mut self, table_index: u32, type_index: u32) -> R<()>
         ensures same_reference { self.new.sink.ghost_name ≡ self.old.sink.ghost_name }
         ensures writes { WritesInstruction B.written B.has_room (Instruction.CallIndirect type_index table_index) self.old.sink.now self.new.sink.now result }
@@ -214,7 +221,7 @@ impl<'a, B: Buffer> InstructionSink<'a, B> {
         self.emit(&(0x11u8, type_index, table_index))
     }
 
-    /// Appends the text of `Drop`.
+    /// Appends the encoding of `Drop`.
     pub fn drop_(&mut self) -> R<()>
         ensures same_reference { self.new.sink.ghost_name ≡ self.old.sink.ghost_name }
         ensures writes { WritesInstruction B.written B.has_room Instruction.Drop self.old.sink.now self.new.sink.now result }
@@ -222,7 +229,7 @@ impl<'a, B: Buffer> InstructionSink<'a, B> {
         self.emit(&0x1Au8)
     }
 
-    /// Appends the text of `Select`.
+    /// Appends the encoding of `Select`.
     pub fn select(&mut self) -> R<()>
         ensures same_reference { self.new.sink.ghost_name ≡ self.old.sink.ghost_name }
         ensures writes { WritesInstruction B.written B.has_room Instruction.Select self.old.sink.now self.new.sink.now result }
@@ -230,7 +237,7 @@ impl<'a, B: Buffer> InstructionSink<'a, B> {
         self.emit(&0x1Bu8)
     }
 
-    /// Appends the text of `TypedSelect`.
+    /// Appends the encoding of `TypedSelect`.
     pub fn typed_select(&mut self, ty: ValType) -> R<()>
         ensures same_reference { self.new.sink.ghost_name ≡ self.old.sink.ghost_name }
         ensures writes { WritesInstruction B.written B.has_room (Instruction.TypedSelect ty) self.old.sink.now self.new.sink.now result }
@@ -238,7 +245,7 @@ impl<'a, B: Buffer> InstructionSink<'a, B> {
         self.emit(&(0x1Cu8, slice::from_ref(&ty)))
     }
 
-    /// Appends the text of `TypedSelectMulti`.
+    /// Appends the encoding of `TypedSelectMulti`.
     pub fn typed_select_multi(&mut self, types: &[ValType]) -> R<()>
         ensures same_reference { self.new.sink.ghost_name ≡ self.old.sink.ghost_name }
         ensures writes { WritesInstruction B.written B.has_room (Instruction.TypedSelectMulti (CowSlice.Borrowed types.entry)) self.old.sink.now self.new.sink.now result }
@@ -246,7 +253,7 @@ impl<'a, B: Buffer> InstructionSink<'a, B> {
         self.emit(&(0x1Cu8, types))
     }
 
-    /// Appends the text of `LocalGet`.
+    /// Appends the encoding of `LocalGet`.
     pub fn local_get(&mut self, index: u32) -> R<()>
         ensures same_reference { self.new.sink.ghost_name ≡ self.old.sink.ghost_name }
         ensures writes { WritesInstruction B.written B.has_room (Instruction.LocalGet index) self.old.sink.now self.new.sink.now result }
@@ -254,7 +261,7 @@ impl<'a, B: Buffer> InstructionSink<'a, B> {
         self.emit(&(0x20u8, index))
     }
 
-    /// Appends the text of `LocalSet`.
+    /// Appends the encoding of `LocalSet`.
     pub fn local_set(&mut self, index: u32) -> R<()>
         ensures same_reference { self.new.sink.ghost_name ≡ self.old.sink.ghost_name }
         ensures writes { WritesInstruction B.written B.has_room (Instruction.LocalSet index) self.old.sink.now self.new.sink.now result }
@@ -262,7 +269,7 @@ impl<'a, B: Buffer> InstructionSink<'a, B> {
         self.emit(&(0x21u8, index))
     }
 
-    /// Appends the text of `LocalTee`.
+    /// Appends the encoding of `LocalTee`.
     pub fn local_tee(&mut self, index: u32) -> R<()>
         ensures same_reference { self.new.sink.ghost_name ≡ self.old.sink.ghost_name }
         ensures writes { WritesInstruction B.written B.has_room (Instruction.LocalTee index) self.old.sink.now self.new.sink.now result }
@@ -270,7 +277,7 @@ impl<'a, B: Buffer> InstructionSink<'a, B> {
         self.emit(&(0x22u8, index))
     }
 
-    /// Appends the text of `GlobalGet`.
+    /// Appends the encoding of `GlobalGet`.
     pub fn global_get(&mut self, index: u32) -> R<()>
         ensures same_reference { self.new.sink.ghost_name ≡ self.old.sink.ghost_name }
         ensures writes { WritesInstruction B.written B.has_room (Instruction.GlobalGet index) self.old.sink.now self.new.sink.now result }
@@ -278,7 +285,7 @@ impl<'a, B: Buffer> InstructionSink<'a, B> {
         self.emit(&(0x23u8, index))
     }
 
-    /// Appends the text of `GlobalSet`.
+    /// Appends the encoding of `GlobalSet`.
     pub fn global_set(&mut self, index: u32) -> R<()>
         ensures same_reference { self.new.sink.ghost_name ≡ self.old.sink.ghost_name }
         ensures writes { WritesInstruction B.written B.has_room (Instruction.GlobalSet index) self.old.sink.now self.new.sink.now result }
@@ -286,7 +293,7 @@ impl<'a, B: Buffer> InstructionSink<'a, B> {
         self.emit(&(0x24u8, index))
     }
 
-    /// Appends the text of `I32Load`.
+    /// Appends the encoding of `I32Load`.
     pub fn i32_load(&mut self, memarg: MemArg) -> R<()>
         ensures same_reference { self.new.sink.ghost_name ≡ self.old.sink.ghost_name }
         ensures writes { WritesInstruction B.written B.has_room (Instruction.I32Load memarg) self.old.sink.now self.new.sink.now result }
@@ -294,7 +301,7 @@ impl<'a, B: Buffer> InstructionSink<'a, B> {
         self.emit(&(0x28u8, memarg))
     }
 
-    /// Appends the text of `I32Store`.
+    /// Appends the encoding of `I32Store`.
     pub fn i32_store(&mut self, memarg: MemArg) -> R<()>
         ensures same_reference { self.new.sink.ghost_name ≡ self.old.sink.ghost_name }
         ensures writes { WritesInstruction B.written B.has_room (Instruction.I32Store memarg) self.old.sink.now self.new.sink.now result }
@@ -302,7 +309,7 @@ impl<'a, B: Buffer> InstructionSink<'a, B> {
         self.emit(&(0x36u8, memarg))
     }
 
-    /// Appends the text of `MemorySize`.
+    /// Appends the encoding of `MemorySize`.
     pub fn memory_size(&mut self, memory: u32) -> R<()>
         ensures same_reference { self.new.sink.ghost_name ≡ self.old.sink.ghost_name }
         ensures writes { WritesInstruction B.written B.has_room (Instruction.MemorySize memory) self.old.sink.now self.new.sink.now result }
@@ -310,7 +317,7 @@ impl<'a, B: Buffer> InstructionSink<'a, B> {
         self.emit(&(0x3Fu8, memory))
     }
 
-    /// Appends the text of `MemoryGrow`.
+    /// Appends the encoding of `MemoryGrow`.
     pub fn memory_grow(&mut self, memory: u32) -> R<()>
         ensures same_reference { self.new.sink.ghost_name ≡ self.old.sink.ghost_name }
         ensures writes { WritesInstruction B.written B.has_room (Instruction.MemoryGrow memory) self.old.sink.now self.new.sink.now result }
@@ -318,7 +325,7 @@ impl<'a, B: Buffer> InstructionSink<'a, B> {
         self.emit(&(0x40u8, memory))
     }
 
-    /// Appends the text of `I32Const`.
+    /// Appends the encoding of `I32Const`.
     pub fn i32_const(&mut self, value: i32) -> R<()>
         ensures same_reference { self.new.sink.ghost_name ≡ self.old.sink.ghost_name }
         ensures writes { WritesInstruction B.written B.has_room (Instruction.I32Const value) self.old.sink.now self.new.sink.now result }
@@ -326,7 +333,7 @@ impl<'a, B: Buffer> InstructionSink<'a, B> {
         self.emit(&(0x41u8, value))
     }
 
-    /// Appends the text of `I64Const`.
+    /// Appends the encoding of `I64Const`.
     pub fn i64_const(&mut self, value: i64) -> R<()>
         ensures same_reference { self.new.sink.ghost_name ≡ self.old.sink.ghost_name }
         ensures writes { WritesInstruction B.written B.has_room (Instruction.I64Const value) self.old.sink.now self.new.sink.now result }
@@ -334,7 +341,7 @@ impl<'a, B: Buffer> InstructionSink<'a, B> {
         self.emit(&(0x42u8, value))
     }
 
-    /// Appends the text of `F32Const`.
+    /// Appends the encoding of `F32Const`.
     pub fn f32_const(&mut self, value: Ieee32) -> R<()>
         ensures same_reference { self.new.sink.ghost_name ≡ self.old.sink.ghost_name }
         ensures writes { WritesInstruction B.written B.has_room (Instruction.F32Const value) self.old.sink.now self.new.sink.now result }
@@ -342,7 +349,7 @@ impl<'a, B: Buffer> InstructionSink<'a, B> {
         self.emit(&(0x43u8, value))
     }
 
-    /// Appends the text of `F64Const`.
+    /// Appends the encoding of `F64Const`.
     pub fn f64_const(&mut self, value: Ieee64) -> R<()>
         ensures same_reference { self.new.sink.ghost_name ≡ self.old.sink.ghost_name }
         ensures writes { WritesInstruction B.written B.has_room (Instruction.F64Const value) self.old.sink.now self.new.sink.now result }
@@ -350,7 +357,7 @@ impl<'a, B: Buffer> InstructionSink<'a, B> {
         self.emit(&(0x44u8, value))
     }
 
-    /// Appends the text of `V128Const`.
+    /// Appends the encoding of `V128Const`.
     pub fn v128_const(&mut self, value: i128) -> R<()>
         ensures same_reference { self.new.sink.ghost_name ≡ self.old.sink.ghost_name }
         ensures writes { WritesInstruction B.written B.has_room (Instruction.VectorImmediate (VectorImmediate.V128Const value)) self.old.sink.now self.new.sink.now result }
@@ -358,7 +365,7 @@ impl<'a, B: Buffer> InstructionSink<'a, B> {
         self.emit(&(0xFDu8, 12u32, vector_bytes(value)))
     }
 
-    /// Appends the text of `I32Eqz`.
+    /// Appends the encoding of `I32Eqz`.
     pub fn i32_eqz(&mut self) -> R<()>
         ensures same_reference { self.new.sink.ghost_name ≡ self.old.sink.ghost_name }
         ensures writes { WritesInstruction B.written B.has_room (Instruction.Numeric Numeric.I32Eqz) self.old.sink.now self.new.sink.now result }
@@ -366,7 +373,7 @@ impl<'a, B: Buffer> InstructionSink<'a, B> {
         self.emit(&0x45u8)
     }
 
-    /// Appends the text of `I32Add`.
+    /// Appends the encoding of `I32Add`.
     pub fn i32_add(&mut self) -> R<()>
         ensures same_reference { self.new.sink.ghost_name ≡ self.old.sink.ghost_name }
         ensures writes { WritesInstruction B.written B.has_room (Instruction.Numeric Numeric.I32Add) self.old.sink.now self.new.sink.now result }
@@ -374,7 +381,7 @@ impl<'a, B: Buffer> InstructionSink<'a, B> {
         self.emit(&0x6Au8)
     }
 
-    /// Appends the text of `I32Sub`.
+    /// Appends the encoding of `I32Sub`.
     pub fn i32_sub(&mut self) -> R<()>
         ensures same_reference { self.new.sink.ghost_name ≡ self.old.sink.ghost_name }
         ensures writes { WritesInstruction B.written B.has_room (Instruction.Numeric Numeric.I32Sub) self.old.sink.now self.new.sink.now result }
@@ -382,7 +389,7 @@ impl<'a, B: Buffer> InstructionSink<'a, B> {
         self.emit(&0x6Bu8)
     }
 
-    /// Appends the text of `I32Mul`.
+    /// Appends the encoding of `I32Mul`.
     pub fn i32_mul(&mut self) -> R<()>
         ensures same_reference { self.new.sink.ghost_name ≡ self.old.sink.ghost_name }
         ensures writes { WritesInstruction B.written B.has_room (Instruction.Numeric Numeric.I32Mul) self.old.sink.now self.new.sink.now result }
@@ -390,7 +397,7 @@ impl<'a, B: Buffer> InstructionSink<'a, B> {
         self.emit(&0x6Cu8)
     }
 
-    /// Appends the text of `I64Add`.
+    /// Appends the encoding of `I64Add`.
     pub fn i64_add(&mut self) -> R<()>
         ensures same_reference { self.new.sink.ghost_name ≡ self.old.sink.ghost_name }
         ensures writes { WritesInstruction B.written B.has_room (Instruction.Numeric Numeric.I64Add) self.old.sink.now self.new.sink.now result }
@@ -398,7 +405,7 @@ impl<'a, B: Buffer> InstructionSink<'a, B> {
         self.emit(&0x7Cu8)
     }
 
-    /// Appends the text of `I64Sub`.
+    /// Appends the encoding of `I64Sub`.
     pub fn i64_sub(&mut self) -> R<()>
         ensures same_reference { self.new.sink.ghost_name ≡ self.old.sink.ghost_name }
         ensures writes { WritesInstruction B.written B.has_room (Instruction.Numeric Numeric.I64Sub) self.old.sink.now self.new.sink.now result }
@@ -406,7 +413,7 @@ impl<'a, B: Buffer> InstructionSink<'a, B> {
         self.emit(&0x7Du8)
     }
 
-    /// Appends the text of `I64Mul`.
+    /// Appends the encoding of `I64Mul`.
     pub fn i64_mul(&mut self) -> R<()>
         ensures same_reference { self.new.sink.ghost_name ≡ self.old.sink.ghost_name }
         ensures writes { WritesInstruction B.written B.has_room (Instruction.Numeric Numeric.I64Mul) self.old.sink.now self.new.sink.now result }
@@ -414,7 +421,7 @@ impl<'a, B: Buffer> InstructionSink<'a, B> {
         self.emit(&0x7Eu8)
     }
 
-    /// Appends the text of `RefNull`.
+    /// Appends the encoding of `RefNull`.
     pub fn ref_null(&mut self, ty: HeapType) -> R<()>
         ensures same_reference { self.new.sink.ghost_name ≡ self.old.sink.ghost_name }
         ensures writes { WritesInstruction B.written B.has_room (Instruction.RefNull ty) self.old.sink.now self.new.sink.now result }
@@ -422,7 +429,7 @@ impl<'a, B: Buffer> InstructionSink<'a, B> {
         self.emit(&(0xD0u8, ty))
     }
 
-    /// Appends the text of `RefIsNull`.
+    /// Appends the encoding of `RefIsNull`.
     pub fn ref_is_null(&mut self) -> R<()>
         ensures same_reference { self.new.sink.ghost_name ≡ self.old.sink.ghost_name }
         ensures writes { WritesInstruction B.written B.has_room Instruction.RefIsNull self.old.sink.now self.new.sink.now result }
@@ -430,7 +437,7 @@ impl<'a, B: Buffer> InstructionSink<'a, B> {
         self.emit(&0xD1u8)
     }
 
-    /// Appends the text of `RefFunc`.
+    /// Appends the encoding of `RefFunc`.
     pub fn ref_func(&mut self, function_index: u32) -> R<()>
         ensures same_reference { self.new.sink.ghost_name ≡ self.old.sink.ghost_name }
         ensures writes { WritesInstruction B.written B.has_room (Instruction.RefFunc function_index) self.old.sink.now self.new.sink.now result }

@@ -10,7 +10,7 @@ use std::alloc::Allocator;
 use wasm_base::{Encode, R};
 use wasm_immediates::{Lane, MemArg};
 
-/// The bytes of a vector, the least first.
+/// Returns the bytes of a vector, little-endian.
 #[tactic(auto, using(wasm_immediates::proofs::FixedBytes::vector_bytes))]
 pub(crate) fn vector_bytes(value: i128) -> [u8; 16]
     ensures { result ≡ vector_text value }
@@ -62,7 +62,7 @@ pub enum VectorImmediate {
 }
 
 impl VectorImmediate {
-    /// The op of the table.
+    /// Returns the opcode, as in the opcode table.
     pub fn op(self) -> Op
         ensures { result ≡ (vector_immediate_row self).op }
     {
@@ -108,7 +108,7 @@ impl VectorImmediate {
         }
     }
 
-    /// Appends what follows the op.
+    /// Appends the immediates.
     pub(crate) fn encode_arguments<A: Allocator>(self, sink: &mut Vec<u8, A>) -> R<()>
         ensures { Appends (arguments_text (vector_immediate_row self).arguments) (arguments_fit (vector_immediate_row self).arguments) sink.old sink.new result }
     {

@@ -1,4 +1,4 @@
-// Items, counted as they are gone over: none is kept.
+// Counts the items of a section without keeping them.
 ghost use Rattle.std.specs.Prelude.{◌≡◌, ◌≢◌, List, length, Some, IfOk, IfErr};
 ghost use Rattle.wasm_base.specs.Formats.{vec};
 ghost use Rattle.wasm_base.specs.Going.{FillsNothing};
@@ -8,7 +8,7 @@ ghost use Rattle.wasm_reader_base.specs.declared.fault.ReadFault.TheVariants.{Me
 use std::alloc::Allocator;
 use wasm_reader_base::{Passed, ReadFault, pass_many};
 
-/// How many values there are behind their number, which all of the bytes spell.
+/// Skips the members of a vector that occupies all of the bytes, and returns their number.
 pub(crate) fn count_passed<'a, P: Passed<'a, A>, A: Allocator + Copy>(
     bytes: &'a [u8],
     alloc: A,

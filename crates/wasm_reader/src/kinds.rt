@@ -1,4 +1,4 @@
-// Kinds of sections: what each is read as, and how it is written in fewest bytes.
+// Kinds of sections: the reader and the minimizer of each.
 ghost use Rattle.std.specs.Prelude.{◌≡◌, ◌≢◌, IfOk, IfErr, OnOk};
 ghost use Rattle.wasm_base.specs.Going.{FillsNothing};
 ghost use Rattle.wasm_base.specs.Numbers.{wide};
@@ -22,10 +22,10 @@ use wasm_sections::{
 };
 use wasm_types::{TypeEntry, append_types, read_types};
 
-/// What a section is read as.
+/// A kind of section, which selects the reader of its payload.
 #[derive(Clone, Copy, PartialEq, Eq, Debug)]
 pub enum SectionKind {
-    /// The code section: functions' bodies.
+    /// The code section: function bodies.
     Bodies,
     /// The data section.
     Segments,
@@ -39,21 +39,21 @@ pub enum SectionKind {
     Start,
     Tables,
     Tags,
-    /// The name section: names of the module and of its parts.
+    /// The name section: names of the module and of its items.
     Names,
     /// The linking section: symbols, and the architecture of the target.
     Linking,
-    /// The producers section: which tools made the module.
+    /// The producers section: the tools that produced the module.
     Producers,
     /// The branch hint section.
     Hints,
-    /// Of a core dump: the process.
+    /// The process section of a core dump.
     Core,
-    /// Of a core dump: the modules of the process.
+    /// The modules section of a core dump.
     CoreModules,
-    /// Of a core dump: the instances of the process.
+    /// The instances section of a core dump.
     CoreInstances,
-    /// Of a core dump: the stack of a thread.
+    /// The stack section of a core dump: the stack of a thread.
     CoreStack,
     /// A custom section of any name.
     Custom,
@@ -63,7 +63,8 @@ pub enum SectionKind {
 }
 
 impl SectionKind {
-    /// The kind of this number, in the order of the enum's declaration, as C callers number them.
+    /// Returns the kind of this number, in the order of the enum's declaration. C callers use these
+    /// numbers.
     pub fn numbered(number: u32) -> Option<SectionKind>
         ensures { result ≡ kind_numbered number }
     {
@@ -96,7 +97,8 @@ impl SectionKind {
     }
 }
 
-/// The items of a section. Names, data and raw parts are slices of the input; lists are in memory of the allocator.
+/// The decoded items of a section. Names, data and raw bytes are slices of the input; lists are in
+/// memory of the allocator.
 #[derive(Debug, Drop)]
 pub enum Items<'a, A: Allocator = Global> {
     Bodies(Vec<Body<A>, A>),
@@ -107,7 +109,7 @@ pub enum Items<'a, A: Allocator = Global> {
     /// The indices of the functions' types.
     Functions(Vec<u32, A>),
     Globals(Vec<GlobalItem<A>, A>),
-    /// Imports and groups of them, whose lists are owned.
+    /// Imports and groups of imports, whose lists are owned.
     Imports(Vec<Imports<'a, A>, A>),
     Memories(Vec<MemoryType, A>),
     /// The index of a function.
@@ -116,15 +118,15 @@ pub enum Items<'a, A: Allocator = Global> {
     Tags(Vec<TagType, A>),
     Names(Vec<NameItem<'a, A>, A>),
     Linking(Vec<LinkItem<'a, A>, A>),
-    /// The name of each field, and its values: a name and a version each.
+    /// The name of each field, and its values, which are a name and a version.
     Producers(Vec<(&'a str, Vec<(&'a str, &'a str), A>), A>),
-    /// The index of each function that has hints, and these.
+    /// The index of each function with hints, and its hints.
     Hints(Vec<(u32, Vec<BranchHint, A>), A>),
     /// The name of the process.
     Core(&'a str),
     /// The names of the modules.
     CoreModules(Vec<&'a str, A>),
-    /// The index of its module, the memories and the globals of each instance.
+    /// For each instance the index of its module, its memories and its globals.
     CoreInstances(Vec<(u32, Vec<u32, A>, Vec<u32, A>), A>),
     /// The name of the thread, and the frames of its stack.
     CoreStack {
@@ -136,11 +138,11 @@ pub enum Items<'a, A: Allocator = Global> {
         bytes: &'a [u8],
     },
     Raw(&'a [u8]),
-    /// Types, and groups of types that may refer to one another.
+    /// Types and recursion groups.
     Types(Vec<TypeEntry<A>, A>),
 }
 
-/// The kind of a section of the id.
+/// Returns the kind of a section of this id.
 #[tactic(auto, using(crate::proofs::KindLaws::kind_steps))]
 pub(crate) fn kind_of_id(id: u8) -> SectionKind
     ensures { result ≡ kind_among_ids id }
@@ -163,7 +165,7 @@ pub(crate) fn kind_of_id(id: u8) -> SectionKind
     }
 }
 
-/// The kind of a custom section of the name.
+/// Returns the kind of a custom section of this name.
 pub(crate) fn kind_of_name(name: &str) -> SectionKind
     ensures { result ≡ kind_named name.now }
 {
@@ -180,7 +182,7 @@ pub(crate) fn kind_of_name(name: &str) -> SectionKind
     }
 }
 
-/// What the frame of a section of the kind holds.
+/// Decodes the payload of a section of this kind.
 #[tactic(auto, using(crate::proofs::KindLaws::content_steps))]
 pub(crate) fn read_content<'a, A: Allocator + Copy + 'a>(
     kind: SectionKind,
@@ -283,7 +285,8 @@ pub(crate) fn read_content<'a, A: Allocator + Copy + 'a>(
     }
 }
 
-/// The number of items of a section of the kind, from what its frame holds. Nothing is kept of what is counted.
+/// Returns the number of items in the payload of a section of this kind. The counted items are not
+/// kept.
 #[tactic(auto, using(crate::proofs::KindLaws::number_steps))]
 pub(crate) fn read_number<'a, A: Allocator + Copy>(
     kind: SectionKind,
@@ -315,7 +318,7 @@ pub(crate) fn read_number<'a, A: Allocator + Copy>(
     }
 }
 
-/// Appends the shortest text of what the frame of a section holds.
+/// Appends the minimal encoding of a section's payload.
 #[tactic(auto, using(crate::proofs::KindLaws::contents))]
 pub(crate) fn append_content<A: Allocator, B: Allocator>(
     items: Items<'_, A>,

@@ -1,8 +1,9 @@
-//! Reads sections, exactly: an answer is the items that the grammar reads there, with padded numbers too, and a cause other than
-//! [`ReadFault::Memory`] says that no reading exists.
+//! Decodes sections, exactly: `Ok` holds the items that the bytes encode, padded numbers included,
+//! and any error but [`ReadFault::Memory`] means that the bytes encode no such items.
 //!
-//! [`read_section`] reads a section of a [`SectionKind`], without its id, into [`Items`], and [`shorten`] writes it in its fewest bytes. A custom section is
-//! read as what its name stands for, or, as any is, as its name and data.
+//! [`read_section`] decodes a section of a [`SectionKind`], without its id, into [`Items`], and
+//! [`shorten`] writes its minimal encoding. A custom section decodes by the kind that its name
+//! selects, or, as any custom section does, to its name and data.
 #![tactic(auto)]
 
 mod counts;

@@ -1,4 +1,4 @@
-// Modules: an outline of the sections, read as their kinds or not.
+// Outlines a module: lists its sections, whether their payloads decode or not.
 ghost use Rattle.std.specs.Prelude.{◌≡◌, ◌≢◌, ◌++◌, ◌+◌, ◌<◌, ◌^◌, length, None, IfOk, IfErr};
 ghost use Rattle.wasm_base.specs.Formats.{any_section, wasm_module};
 ghost use Rattle.wasm_base.specs.Going.{FillsNothing};
@@ -15,22 +15,23 @@ use std::alloc::Allocator;
 use wasm_reader_base::ReadFault;
 use wasm_types::read_types;
 
-/// A section of a module, as an outline has it.
+/// A section in the outline of a module.
 #[derive(Clone, Copy, PartialEq, Eq, Debug)]
 pub struct Outlined<'a> {
     pub id: u8,
-    /// How many bytes of the module stand before what the section's frame holds.
+    /// The offset of the payload in the module, in bytes.
     pub offset: usize,
-    /// How many bytes its frame holds.
+    /// The length of the payload, in bytes.
     pub size: u32,
-    /// The number of its items, where it is read as a section of its id, and its items are counted: what `list_module` counts, and the entries of a type section. A recursion group is one entry,
-    /// however many types it defines.
+    /// The number of items, if the payload decodes as a section of its id and its items are
+    /// counted. These are the items that `list_module` counts, and the entries of a type section. A
+    /// recursion group is one entry, however many types it defines.
     pub items: Option<u32>,
-    /// The name of a custom section, where one stands there.
+    /// The name of a custom section, if its payload begins with one.
     pub name: Option<&'a str>,
 }
 
-/// The number of entries in the payload of a type section.
+/// Returns the number of entries in the payload of a type section.
 #[tactic(auto, using(crate::proofs::ReadOutlines::count_steps))]
 fn count_entries<A: Allocator + Copy>(bytes: &[u8], alloc: A) -> Result<Option<u32>, ReadFault>
     ensures found { IfOk result (λ count. IsCount kinds.Types bytes.now count) }
@@ -40,7 +41,8 @@ fn count_entries<A: Allocator + Copy>(bytes: &[u8], alloc: A) -> Result<Option<u
     Ok(Some(entries.len() as u32))
 }
 
-/// The number of items of a section, where it is read as its kind and these are counted.
+/// Returns the number of items of a section, if its payload decodes as its kind and the items are
+/// counted.
 #[tactic(auto, using(crate::proofs::ReadOutlines::count_steps))]
 fn count<A: Allocator + Copy>(section: &Standing<'_>, alloc: A) -> Result<Option<u32>, ReadFault>
     ensures found { IfOk result (λ count. IsCount (section_kind_of (section_of section.now)) section.now.payload.now count) }
@@ -58,7 +60,8 @@ fn count<A: Allocator + Copy>(section: &Standing<'_>, alloc: A) -> Result<Option
     }
 }
 
-/// The line of the section that the bytes begin with, which stand at this place, and the bytes after it.
+/// Returns the outline of the section at the front, which is at the offset `place`, and the
+/// remaining bytes.
 #[tactic(auto, using(crate::proofs::ReadOutlines::line_steps))]
 fn read_line<'a, A: Allocator + Copy>(
     place: usize,
@@ -82,10 +85,16 @@ fn read_line<'a, A: Allocator + Copy>(
     Ok((line, after))
 }
 
-/// An outline of a module: a line for each section, whatever its frame holds. A section that is not read as its kind has no number of items.
+/// Lists the sections of a module, whatever their payloads are. A section whose payload does not
+/// decode as its kind has no number of items.
 ///
-/// A custom section is read as what its name stands for, and a type section as types. The number beside a fault other than `Memory` is that of the first section that is no frame of an id,
-/// counted from 1, or 0 where the bytes don't begin with the header.
+/// A custom section decodes by the kind that its name selects, and a type section as types.
+///
+/// # Errors
+///
+/// Returns the error and a section number, counted from 1. For any error but `Memory`, this is the
+/// first section that is not an id and a size-prefixed payload. It is 0 if the bytes do not begin
+/// with the header.
 pub fn outline<'a, A: Allocator + Copy>(
     alloc: A,
     bytes: &'a [u8],

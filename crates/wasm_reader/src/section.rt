@@ -1,4 +1,4 @@
-// Whole sections.
+// Decodes whole sections.
 ghost use Rattle.std.specs.Prelude.{◌≢◌, IfOk, IfErr};
 ghost use Rattle.wasm_base.specs.Going.{FillsNothing};
 ghost use Rattle.wasm_base.specs.Numbers.{wide};
@@ -11,12 +11,17 @@ use crate::kinds::{Items, SectionKind, read_content};
 use std::alloc::Allocator;
 use wasm_reader_base::{ReadFault, Readable};
 
-/// The items of the section that the bytes begin with, and how many bytes it takes. The bytes begin at the section's size, behind its id.
+/// Decodes the section at the front, and returns its items and its length in bytes. The bytes begin
+/// with the section's size prefix, after its id.
 ///
 /// ```text
 /// let (items, taken) = read_section(alloc, SectionKind::Functions, &[0x02, 0x01, 0x05, 0x99])?;
 /// // items are the one index 5, and 3 bytes were taken
 /// ```
+///
+/// # Errors
+///
+/// Any error but `Memory` means that the bytes do not begin with such a section.
 #[tactic(auto, using(crate::proofs::ReadSections::section_steps))]
 pub fn read_section<'a, A: Allocator + Copy + 'a>(
     alloc: A,

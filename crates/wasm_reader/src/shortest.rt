@@ -1,4 +1,4 @@
-// Sections, written as shortly as can be.
+// Minimizes sections.
 ghost use Rattle.std.specs.Prelude.{◌≡◌, ◌≢◌, List, IfOk, IfErr, OnOk, OnErr};
 ghost use Rattle.wasm_base.specs.Formats.{frame, vec};
 ghost use Rattle.wasm_base.specs.Going.{FillsNothing};
@@ -16,7 +16,8 @@ use wasm_base::{Encode, R, encode_frame};
 use wasm_reader_base::{ReadFault, Readable, Shorten};
 use wasm_reader_insn::shorten_body;
 
-/// Appends the shortest texts of the bodies behind their number, which all of the bytes spell. It keeps none of them.
+/// Appends the minimal encoding of a vector of bodies that occupies all of the bytes. It keeps none
+/// of them.
 fn shorten_bodies<A: Allocator + Copy>(
     bytes: &[u8],
     alloc: A,
@@ -39,7 +40,7 @@ fn shorten_bodies<A: Allocator + Copy>(
     }
 }
 
-/// Appends the shortest text of what the frame of a section of the kind holds.
+/// Appends the minimal encoding of the payload of a section of this kind.
 fn shorten_content<A: Allocator + Copy>(
     kind: SectionKind,
     bytes: &[u8],
@@ -59,17 +60,23 @@ fn shorten_content<A: Allocator + Copy>(
     }
 }
 
-/// Appends the one shortest text of the section that the bytes begin with, and tells how many bytes it takes there. Both are without the
-/// section's id. A refused call leaves the bytes of the sink as they were. What is read is in memory of the sink's allocator, and is dropped: of code,
-/// one instruction at a time.
+/// Appends the minimal encoding of the section at the front, and returns the section's length in
+/// the input, in bytes. Both are without the section's id. On an error, the bytes of the sink are
+/// unchanged. Decoded items are allocated with the sink's allocator, and dropped: of code, one
+/// instruction at a time.
 ///
-/// A code section that gets shorter has its instructions in other places: offsets into it that are kept elsewhere (relocations, debugging information, branch hints,
-/// source maps) no longer fit.
+/// In a code section that becomes shorter, instructions move. Offsets into it that are kept
+/// elsewhere are then wrong: relocations, debugging information, branch hints and source maps.
 ///
 /// ```text
-/// let taken = shorten(SectionKind::Functions, &[0x86, 0x00, 0x01, 0x85, 0x80, 0x80, 0x80, 0x00], &mut sink)?;
+/// let padded = [0x86, 0x00, 0x01, 0x85, 0x80, 0x80, 0x80, 0x00];
+/// let taken = shorten(SectionKind::Functions, &padded, &mut sink)?;
 /// // 02 01 05 was appended, and 8 bytes were taken
 /// ```
+///
+/// # Errors
+///
+/// Any error but `Memory` means that the bytes do not begin with such a section.
 pub fn shorten<A: Allocator + Copy>(
     kind: SectionKind,
     bytes: &[u8],

@@ -1,4 +1,4 @@
-// Sections of a module as they stand there, whatever they hold.
+// Splits a module into its sections, without decoding their payloads.
 ghost use Rattle.std.specs.Prelude.{◌≡◌, ◌≢◌, ◌++◌, IfOk, IfErr, option_map};
 ghost use Rattle.wasm_base.specs.Formats.{any_section};
 ghost use Rattle.wasm_base.specs.Numbers.{wide};
@@ -11,20 +11,20 @@ use crate::kinds::{SectionKind, kind_of_id, kind_of_name};
 use std::alloc::Allocator;
 use wasm_reader_base::{ReadFault, Readable};
 
-/// A section of a module.
+/// A section of a module, with its payload not yet decoded.
 #[derive(Clone, Copy, Debug)]
 pub(crate) struct Standing<'a> {
     pub(crate) id: u8,
-    /// The size and what it counts.
+    /// The size prefix and the payload.
     pub(crate) framed: &'a [u8],
-    /// What stands behind the size.
+    /// The payload.
     pub(crate) payload: &'a [u8],
-    /// The name at the front of a custom section, where one stands there.
+    /// The name of a custom section, if its payload begins with one.
     pub(crate) name: Option<&'a str>,
 }
 
 impl Standing<'_> {
-    /// What it is read as.
+    /// Returns the kind as which its payload is decoded.
     pub(crate) fn kind(&self) -> SectionKind
         ensures { result ≡ kind_of_section (section_of self.now) }
     {
@@ -36,7 +36,7 @@ impl Standing<'_> {
     }
 }
 
-/// The name of a custom section, from what its frame holds.
+/// Decodes the name of a custom section from its payload.
 fn read_name<'a, A: Allocator + Copy>(
     id: u8,
     payload: &'a [u8],
@@ -55,7 +55,8 @@ fn read_name<'a, A: Allocator + Copy>(
     }
 }
 
-/// The section that the bytes begin with, at its id, and the bytes after it.
+/// Splits off the section at the front, which begins with its id, and returns it with the remaining
+/// bytes.
 #[tactic(auto, using(crate::proofs::ReadOutlines::standing_steps))]
 pub(crate) fn read_standing<'a, A: Allocator + Copy>(
     bytes: &'a [u8],

@@ -1,4 +1,4 @@
-// Why nothing was read.
+// The error of calls that decode.
 ghost use Rattle.std.specs.Prelude.{◌≡◌};
 ghost use Rattle.wasm_reader_base.specs.Faults.{fault_of};
 ghost use Rattle.wasm_reader_base.specs.declared.fault.ReadFault.TheVariants.{Memory};
@@ -7,19 +7,20 @@ use std::alloc::{AllocError, AllocFailed};
 use thiserror::Error;
 use wasm_base::{NoGroups, Refused};
 
-/// Why nothing was read. A cause other than `Memory` says that no reading exists. Which of the others it is, tests show, and no contract says.
+/// The cause of a failed decoding. Any cause but `Memory` means that the bytes encode no such
+/// value. Tests show which of the other causes a call returns; no contract says that.
 #[derive(Clone, Copy, PartialEq, Eq, Debug, Error)]
 pub enum ReadFault {
     /// The bytes end before the value does.
     #[error("Ended")]
     Ended,
-    /// A number is padded. Padded numbers are read, so this is never given.
+    /// A number is padded. No call returns it, since padded numbers are accepted.
     #[error("NotShortest")]
     NotShortest,
     /// A number is out of the range of its type, or has more bytes than the type's limit.
     #[error("TooLarge")]
     TooLarge,
-    /// A byte, a number or a name that tells what stands there is none that the grammar knows there.
+    /// A byte, a number or a name that selects a case is unknown to the grammar.
     #[error("UnknownTag")]
     UnknownTag,
     /// No instruction has the opcode.
@@ -28,10 +29,10 @@ pub enum ReadFault {
     /// The bytes of a name are not UTF-8.
     #[error("NotUtf8")]
     NotUtf8,
-    /// Bytes of a frame are left after what it should hold.
+    /// Payload bytes remain after the value that a size prefix delimits.
     #[error("SizeMismatch")]
     SizeMismatch,
-    /// A request for memory was refused.
+    /// An allocation failed.
     #[error("Memory")]
     Memory,
 }
@@ -63,9 +64,10 @@ impl From<NoGroups> for ReadFault {
     }
 }
 
-/// An error of a call that appends becomes `Memory`. Such a call never returns `TooLong` for a value
-/// that has an encoding, as each decoded value has (`too_long` of [`Shorten`](crate::Shorten)).
-/// A body that is passed without its size may be too long for one: that becomes `Memory` too.
+/// An error of a call that appends becomes `Memory`. Such a call never returns `TooLong` for a
+/// value that has an encoding, as each decoded value has (`too_long` of
+/// [`Shorten`](crate::Shorten)). A body that is passed without its size may be too long for a size
+/// prefix: that becomes `Memory` too.
 impl From<Refused> for ReadFault {
     ghost from_gives = { λ _ fault. fault ≡ Memory };
 

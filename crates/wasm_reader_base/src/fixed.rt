@@ -1,4 +1,4 @@
-// Fixed bytes: a byte, floats, vectors of 128 bits and lanes.
+// Decoding of fixed-width bytes: one byte, floats, vectors of 128 bits and lanes.
 ghost use Rattle.std.specs.Prelude.{ℕ, List, ℤ};
 ghost use Rattle.wasm_base.specs.Formats.{byte, little_endian, raw_bytes};
 ghost use Rattle.wasm_immediates.specs.PlainImmediates.{vector_format};
@@ -30,7 +30,7 @@ impl<'a, A: Allocator + Copy> Readable<'a, A> for u8 {
     }
 }
 
-/// A float's four bytes, the least first.
+/// A float's four bytes, little-endian.
 impl Spelled for Ieee32 {
     ghost Value = { ℕ };
 
@@ -51,7 +51,7 @@ impl<'a, A: Allocator + Copy> Readable<'a, A> for Ieee32 {
     }
 }
 
-/// A float's eight bytes, the least first.
+/// A float's eight bytes, little-endian.
 impl Spelled for Ieee64 {
     ghost Value = { ℕ };
 
@@ -72,7 +72,7 @@ impl<'a, A: Allocator + Copy> Readable<'a, A> for Ieee64 {
     }
 }
 
-/// A vector's sixteen bytes, the least first, in two's complement.
+/// A vector's sixteen bytes, little-endian, in two's complement.
 impl Spelled for i128 {
     ghost Value = { ℤ };
 
@@ -93,7 +93,7 @@ impl<'a, A: Allocator + Copy> Readable<'a, A> for i128 {
     }
 }
 
-/// Sixteen lanes, a byte each.
+/// Sixteen lanes, one byte each.
 impl Spelled for [u8; 16] {
     ghost Value = { List ℕ };
 

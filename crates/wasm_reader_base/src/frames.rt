@@ -1,4 +1,4 @@
-// Frames: a size, and exactly that many bytes.
+// Size-prefixed values: a size, and exactly that many bytes.
 ghost use Rattle.std.specs.Prelude.{◌≡◌, ◌≢◌, ◌≤◌, ◌++◌, take, drop, vec_len, Err, OnOk, OnErr};
 ghost use Rattle.wasm_base.specs.Formats.{frame};
 ghost use Rattle.wasm_base.specs.Texts.{frame_text, FrameFits};
@@ -11,7 +11,8 @@ use crate::shorten::Shorten;
 use std::alloc::Allocator;
 use wasm_base::{Encode, R};
 
-/// A value of known end in a frame, whose bytes it takes to the last.
+/// A size-prefixed value that occupies its payload to the last byte. Its own format determines its
+/// end too.
 #[derive(Debug, Drop)]
 pub struct Framed<T>(pub T);
 
@@ -41,7 +42,8 @@ impl<'a, A: Allocator + Copy, T: Readable<'a, A>> Readable<'a, A> for Framed<T> 
     }
 }
 
-/// Puts the size of what stands from `start` on before it, so that this is a frame.
+/// Inserts the size of the bytes from `start` on before them, so that they become a size prefix and
+/// its payload.
 pub fn frame_since<B: Allocator>(out: &mut Vec<u8, B>, start: usize) -> R<()>
     requires { start ≤ vec_len out.old }
     ensures framed { OnOk result (out.new.items ≡ take start out.old.items ++ frame_text (drop start out.old.items)) }
@@ -55,7 +57,7 @@ pub fn frame_since<B: Allocator>(out: &mut Vec<u8, B>, start: usize) -> R<()>
     Ok(())
 }
 
-/// Appends the shortest text of the value in a frame.
+/// Appends the minimal encoding of the value with its size prefix.
 #[tactic(auto, using(crate::proofs::ShortTexts::frame_appended, crate::proofs::Encodings::content_encoded, crate::proofs::Encodings::behind_fits))]
 fn append_framed<T: Shorten, B: Allocator>(value: &T, out: &mut Vec<u8, B>) -> R<()>
     ensures ok { OnOk result (AppendsShortest (frame T.format) (T.view value.now) out.old.items out.new.items) }

@@ -1,4 +1,5 @@
-// What follows opcodes: orderings, memory arguments, block types, and clauses that catch and handle.
+// Decoding of immediates: orderings, memory arguments, block types, and the clauses of `try_table`
+// and `resume`.
 ghost use Rattle.std.specs.Prelude.{◌≡◌, ◌≢◌, ℕ, List, IfOk, IfErr, option_map};
 ghost use Rattle.wasm_base.specs.Formats.{optional};
 ghost use Rattle.wasm_base.specs.Numbers.{Mode, wide};
@@ -67,7 +68,7 @@ impl<'a, A: Allocator + Copy> Readable<'a, A> for MemArgOrdering {
     }
 }
 
-/// What is accessed, where the flags say that this is an array or another memory than 0.
+/// Decodes the index of an array type, or of a memory other than 0, as the flags select.
 #[tactic(auto, using(crate::proofs::ReadImmediates::target_steps))]
 fn read_target<'a, A: Allocator + Copy>(
     array: bool,
@@ -95,7 +96,7 @@ fn read_target<'a, A: Allocator + Copy>(
     }
 }
 
-/// A memory argument. Out of line, for flags of any bits.
+/// Decodes a memory argument with any flags. Out of line.
 #[inline(never)]
 #[tactic(auto, using(crate::proofs::ReadImmediates::memory_steps))]
 fn read_any_memory<'a, A: Allocator + Copy>(
@@ -158,7 +159,7 @@ impl<'a, A: Allocator + Copy> Readable<'a, A> for MemArg {
     }
 }
 
-/// A block type. Out of line, for those with a type.
+/// Decodes a block type. Out of line, for those with a type.
 #[inline(never)]
 #[tactic(auto, using(crate::proofs::ReadImmediates::block_steps))]
 fn read_any_block<'a, A: Allocator + Copy>(

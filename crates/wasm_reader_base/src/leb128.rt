@@ -1,4 +1,4 @@
-// Numbers in LEB128, padded or not. One byte is read in place, up to five in 64 bits.
+// Decoding of LEB128, minimal or padded. One byte is decoded inline, up to five in 64 bits.
 ghost use Rattle.std.specs.Prelude.{◌≡◌, ◌≢◌, ℕ, ◌<◌, ◌≤◌, ◌^◌, ℤ, IfOk, IfErr};
 ghost use Rattle.wasm_base.specs.Formats.{u32 as u32_format, u64 as u64_format, s32, s64, s33};
 ghost use Rattle.wasm_base.specs.Groups.{groups, HasGroups, signed_of};
@@ -12,7 +12,7 @@ use crate::shorten::Shorten;
 use std::alloc::Allocator;
 use wasm_base::{Encode, Groups, NoGroups, R, read_groups};
 
-/// The number that the groups spell in two's complement.
+/// Returns the number that the groups encode in two's complement.
 fn signed(groups: Groups) -> i128
     requires { groups.sum < 2 ^ 70 × groups.power ≤ 2 ^ 70 }
     ensures { result ≡ signed_of groups.sum groups.power groups.last }
@@ -24,7 +24,7 @@ fn signed(groups: Groups) -> i128
     }
 }
 
-/// The number that one group spells in two's complement.
+/// Returns the number that one group encodes in two's complement.
 #[inline]
 fn signed_byte(group: u8) -> i16
     requires { group < 0x80 }
@@ -37,7 +37,7 @@ fn signed_byte(group: u8) -> i16
     }
 }
 
-/// At most five groups, as [`Groups`] has them, in 64 bits.
+/// At most five groups, as in [`Groups`], in 64 bits.
 #[derive(Clone, Copy)]
 struct FewGroups {
     sum: u64,
@@ -45,7 +45,7 @@ struct FewGroups {
     last: u8,
 }
 
-/// The groups at the front, of which there may be five, and the bytes after them.
+/// Decodes the groups at the front, at most five, and returns them with the remaining bytes.
 #[inline]
 fn read_few_groups(bytes: &[u8]) -> Result<(FewGroups, &[u8]), NoGroups>
     ensures found { IfOk result (λ x. HasGroups 5 bytes.now x.0.sum x.0.power x.0.last x.1.now) }
@@ -75,7 +75,7 @@ fn read_few_groups(bytes: &[u8]) -> Result<(FewGroups, &[u8]), NoGroups>
     Err(NoGroups::TooMany)
 }
 
-/// The number that a few groups spell in two's complement.
+/// Returns the number that at most five groups encode in two's complement.
 #[inline]
 fn signed_few(groups: FewGroups) -> i64
     requires { groups.sum < 2 ^ 35 × groups.power ≤ 2 ^ 35 }
@@ -88,7 +88,7 @@ fn signed_few(groups: FewGroups) -> i64
     }
 }
 
-/// A number of 32 bits. Out of line, for those of several bytes.
+/// Decodes an unsigned number of 32 bits. Out of line, for those of several bytes.
 #[inline(never)]
 #[tactic(auto, using(crate::proofs::ReadNumbers::u32_steps))]
 fn read_long_u32(bytes: &[u8]) -> Result<(u32, &[u8]), ReadFault>
@@ -103,7 +103,7 @@ fn read_long_u32(bytes: &[u8]) -> Result<(u32, &[u8]), ReadFault>
     }
 }
 
-/// A number of 64 bits. Out of line, for those of several bytes.
+/// Decodes an unsigned number of 64 bits. Out of line, for those of several bytes.
 #[inline(never)]
 #[tactic(auto, using(crate::proofs::ReadNumbers::u64_steps))]
 fn read_long_u64(bytes: &[u8]) -> Result<(u64, &[u8]), ReadFault>
@@ -121,7 +121,7 @@ fn read_long_u64(bytes: &[u8]) -> Result<(u64, &[u8]), ReadFault>
     }
 }
 
-/// A signed number of 32 bits. Out of line, for those of several bytes.
+/// Decodes a signed number of 32 bits. Out of line, for those of several bytes.
 #[inline(never)]
 #[tactic(auto, using(crate::proofs::ReadNumbers::s32_steps))]
 fn read_long_i32(bytes: &[u8]) -> Result<(i32, &[u8]), ReadFault>
@@ -140,7 +140,7 @@ fn read_long_i32(bytes: &[u8]) -> Result<(i32, &[u8]), ReadFault>
     }
 }
 
-/// A signed number of 64 bits. Out of line, for those of several bytes.
+/// Decodes a signed number of 64 bits. Out of line, for those of several bytes.
 #[inline(never)]
 #[tactic(auto, using(crate::proofs::ReadNumbers::s64_steps))]
 fn read_long_i64(bytes: &[u8]) -> Result<(i64, &[u8]), ReadFault>
@@ -258,7 +258,8 @@ impl<'a, A: Allocator + Copy> Readable<'a, A> for i64 {
     }
 }
 
-/// An index, spelled as a signed number of 33 bits. Negative ones stand for types, of which the known ones were told by their byte.
+/// Decodes an index, encoded as a signed number of 33 bits. Negative numbers encode types, whose
+/// known bytes the caller has already matched.
 #[tactic(auto, using(crate::proofs::ReadNumbers::index_steps))]
 #[inline]
 pub(crate) fn read_index(bytes: &[u8]) -> Result<(u32, &[u8]), ReadFault>

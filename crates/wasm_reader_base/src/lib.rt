@@ -1,9 +1,11 @@
-//! Reads what stands at the front of bytes, exactly: an answer is what the grammar reads there, with padded numbers too, and a cause
-//! other than [`ReadFault::Memory`] says that no reading exists.
+//! Decodes values from the front of bytes, exactly: `Ok` holds the value that the bytes encode,
+//! padded numbers included. Any error but [`ReadFault::Memory`] means that no such value is at the
+//! front.
 //!
-//! What is read is a type with [`Readable`]: numbers, fixed bytes, names, frames, pairs, vectors, types and immediates here, and
-//! instructions and items of sections in the crates above; [`Spelled`] says what bytes spell it. What is written in its fewest bytes has
-//! [`Shorten`]. What is gone over and not kept has [`Passed`].
+//! A type that can be decoded has [`Readable`]: numbers, fixed-width bytes, names, size-prefixed
+//! bytes, pairs, vectors, types and immediates in this crate, and instructions and items of
+//! sections in the crates above. [`Spelled`] defines its format. A type with [`Shorten`] can be
+//! written in its minimal encoding, and a type with [`Passed`] can be skipped without being kept.
 #![tactic(auto)]
 
 mod fault;

@@ -1,4 +1,4 @@
-// Framed bytes and names, which are slices of the input.
+// Size-prefixed bytes and names, which are slices of the input.
 ghost use Rattle.std.specs.Prelude.{ℕ, List};
 ghost use Rattle.wasm_base.specs.Formats.{frame, any_bytes, name};
 ghost use Rattle.wasm_base.specs.Reading.{UniqueReading};
@@ -9,7 +9,7 @@ use crate::shorten::Shorten;
 use std::alloc::Allocator;
 use wasm_base::{Encode, R, encode_frame};
 
-/// The bytes of a frame.
+/// The payload of size-prefixed bytes.
 impl<'a> Spelled for &'a [u8] {
     ghost Value = { List ℕ };
 

@@ -1,4 +1,4 @@
-// Values that a flag tells.
+// Decoding of values whose presence a flag reports.
 ghost use Rattle.std.specs.Prelude.{◌≢◌, IfOk, IfErr, option_map};
 ghost use Rattle.wasm_base.specs.Formats.{optional};
 ghost use Rattle.wasm_base.specs.Numbers.{wide};
@@ -9,7 +9,11 @@ use crate::fault::ReadFault;
 use crate::readable::Readable;
 use std::alloc::Allocator;
 
-/// A value where the flag is set, and nothing where it isn't.
+/// Decodes a value if the flag is set, and returns `None` otherwise.
+///
+/// # Errors
+///
+/// Any error but `Memory` means that the flag is set, and no such value is at the front.
 #[tactic(auto, using(wasm_base::proofs::Tags::optional_steps))]
 pub fn read_optional<'a, T: Readable<'a, A>, A: Allocator + Copy>(
     flag: bool,

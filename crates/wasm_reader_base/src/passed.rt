@@ -1,4 +1,4 @@
-// Values that are gone over and not kept.
+// The trait `Passed`: values that are skipped and not kept.
 ghost use Rattle.std.specs.Prelude.{◌≡◌, ◌≢◌, ℕ, List, length, IfOk, IfErr};
 ghost use Rattle.wasm_base.specs.Formats.{pair, vec};
 ghost use Rattle.wasm_base.specs.Numbers.{Mode, wide};
@@ -10,25 +10,31 @@ use crate::readable::Readable;
 use std::alloc::Allocator;
 use std::marker::PhantomData;
 
-/// A value that stands at the front of bytes, as [`Readable`] has it, where the bytes after it are wanted and the value isn't.
+/// A value at the front of bytes, as for [`Readable`], that is skipped to reach the remaining
+/// bytes.
 pub trait Passed<'a, A: Allocator + Copy> {
-    // The value without where it lies in memory.
+    // The value, without its location in memory.
     ghost Value: { Type 0 };
 
-    // What bytes spell.
+    // The format: which bytes encode which value.
     ghost format: { Mode → List ℕ → Value → Type 0 };
 
-    /// One value stands at the front of bytes, whatever follows. The function does nothing.
+    /// Proves that the format is unambiguous: one value decodes from the front, whatever follows.
+    /// The function does nothing.
     fn laws()
         ensures { UniqueReading format };
 
-    /// The bytes after the value at the front, its numbers padded or not.
+    /// Skips the value at the front, padded numbers included, and returns the remaining bytes.
+    ///
+    /// # Errors
+    ///
+    /// Any error but `Memory` means that no such value is at the front.
     fn pass(bytes: &'a [u8], alloc: A) -> Result<&'a [u8], ReadFault>
         ensures found { IfOk result (λ rest. (x : Value) × Reads format wide bytes.now x rest.now) }
         ensures none { IfErr result (λ e. e ≢ Memory → ReadsNothing format wide bytes.now) };
 }
 
-/// A value that is read, and dropped at once.
+/// A value that is decoded, and dropped at once.
 pub struct Dropped<T>(PhantomData<T>);
 
 impl<'a, A: Allocator + Copy, T: Readable<'a, A>> Passed<'a, A> for Dropped<T> {
@@ -67,7 +73,11 @@ impl<'a, A: Allocator + Copy, P: Passed<'a, A>, Q: Passed<'a, A>> Passed<'a, A> 
     }
 }
 
-/// How many values there are behind their number, and the bytes after them.
+/// Skips a vector, and returns its number of members and the remaining bytes.
+///
+/// # Errors
+///
+/// Any error but `Memory` means that no such vector is at the front.
 pub fn pass_many<'a, P: Passed<'a, A>, A: Allocator + Copy>(
     bytes: &'a [u8],
     alloc: A,

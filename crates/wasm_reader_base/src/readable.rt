@@ -1,4 +1,4 @@
-// What bytes spell, and what can be read of them.
+// The traits of decoding: the format of a value, and its decoder.
 ghost use Rattle.std.specs.Prelude.{◌≢◌, ℕ, List, IfOk, IfErr};
 ghost use Rattle.wasm_base.specs.Numbers.{Mode, wide};
 ghost use Rattle.wasm_base.specs.Reading.{UniqueReading, Reads, ReadsNothing};
@@ -7,24 +7,31 @@ ghost use Rattle.wasm_reader_base.specs.declared.fault.ReadFault.TheVariants.{Me
 use crate::fault::ReadFault;
 use std::alloc::Allocator;
 
-/// A value that bytes spell.
+/// A value with a format, which defines the bytes that encode it.
 pub trait Spelled {
-    // The value without where it lies in memory.
+    // The value, without its location in memory.
     ghost Value: { Type 0 };
 
-    // What bytes spell.
+    // The format: which bytes encode which value.
     ghost format: { Mode → List ℕ → Value → Type 0 };
 
     ghost view: { Self → Value };
 
-    /// One value stands at the front of bytes, whatever follows. The function does nothing.
+    /// Proves that the format is unambiguous: one value decodes from the front, whatever follows.
+    /// The function does nothing.
     fn laws()
         ensures { UniqueReading format };
 }
 
-/// A value that stands at the front of bytes. Lists take their memory from `A`; names and bytes are slices of the input.
+/// A value that can be decoded from the front of bytes. Lists are allocated in `A`; names and bytes
+/// are slices of the input.
 pub trait Readable<'a, A: Allocator + Copy>: Spelled + Drop {
-    /// The value at the front, its numbers padded or not, and the bytes after it.
+    /// Decodes the value at the front, padded numbers included, and returns it with the remaining
+    /// bytes.
+    ///
+    /// # Errors
+    ///
+    /// Any error but `Memory` means that no such value is at the front.
     fn read(bytes: &'a [u8], alloc: A) -> Result<(Self, &'a [u8]), ReadFault>
         ensures found { IfOk result (λ x. Reads Self.format wide bytes.now (Self.view x.0) x.1.now) }
         ensures none { IfErr result (λ e. e ≢ Memory → ReadsNothing Self.format wide bytes.now) };

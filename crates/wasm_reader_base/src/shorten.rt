@@ -1,4 +1,4 @@
-// Values that can be written in their minimal encoding.
+// The trait `Shorten`: values that can be written in their minimal encoding.
 ghost use Rattle.std.specs.Prelude.{◌≡◌, ◌≢◌, Err, OnOk, OnErr};
 ghost use Rattle.wasm_base.specs.declared.refused.Refused.TheVariants.{TooLong};
 ghost use Rattle.wasm_reader_base.specs.Shortest.{AppendsShortest, IsFrontOf, HasEncoding};
@@ -7,17 +7,17 @@ use crate::readable::Spelled;
 use std::alloc::Allocator;
 use wasm_base::R;
 
-/// A value that was read, or a part of one.
+/// A decoded value, or a component of one, that can be written in its minimal encoding.
 pub trait Shorten: Spelled {
-    /// Writes the minimal encoding of the value after the old bytes. An impl defines it, and callers
-    /// use [`append_shortest`](Shorten::append_shortest): after an error of this method, a part of the
-    /// encoding may be in the sink.
+    /// Writes the minimal encoding of the value after the old bytes. An impl defines it, and
+    /// callers use [`append_shortest`](Shorten::append_shortest): after an error of this method,
+    /// part of the encoding may be in the sink.
     fn write_minimal<B: Allocator>(&self, out: &mut Vec<u8, B>) -> R<()>
         ensures ok { OnOk result (AppendsShortest Self.format (Self.view self.now) out.old.items out.new.items) }
         ensures front { IsFrontOf out.old.items out.new.items }
         ensures too_long { HasEncoding Self.format (Self.view self.now) → result ≢ Err TooLong };
 
-    /// Appends the minimal encoding of the value. On an error, the sink is as it was.
+    /// Appends the minimal encoding of the value. On an error, the sink is unchanged.
     fn append_shortest<B: Allocator>(&self, out: &mut Vec<u8, B>) -> R<()>
         ensures ok { OnOk result (AppendsShortest Self.format (Self.view self.now) out.old.items out.new.items) }
         ensures err { OnErr result (out.new.items ≡ out.old.items) }

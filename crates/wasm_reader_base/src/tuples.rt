@@ -1,4 +1,4 @@
-// Values one after the other.
+// Decoding of pairs: one value after the other.
 ghost use Rattle.wasm_base.specs.Formats.{pair};
 
 use crate::fault::ReadFault;

@@ -1,4 +1,4 @@
-// Heap types, reference types and value types.
+// Decoding of heap types, reference types and value types.
 ghost use Rattle.std.specs.Prelude.{◌≡◌, ◌≢◌, ℕ, List, IfOk, IfErr, IsTrue, false, MatchOption};
 ghost use Rattle.wasm_base.specs.Formats.{choice, impossible};
 ghost use Rattle.wasm_base.specs.Numbers.{Mode, wide};
@@ -17,7 +17,7 @@ use crate::shorten::Shorten;
 use std::alloc::Allocator;
 use wasm_base::{AbstractHeapType, Encode, HeapType, R, RefType, ValType};
 
-/// The type of this byte.
+/// Returns the abstract heap type of this byte.
 #[tactic(auto, using(crate::proofs::ReadTypes::abstract_steps))]
 fn abstract_of(byte: u8) -> Option<AbstractHeapType>
     ensures { MatchOption result ((ty : Abstract) → byte ≢ abstract_code ty) (λ ty. byte ≡ abstract_code ty) }
@@ -98,7 +98,7 @@ impl<'a, A: Allocator + Copy> Readable<'a, A> for HeapType {
     }
 }
 
-/// Whether the nullable reference to it has a byte of its own.
+/// Returns `true` if the nullable reference to the heap type has a one-byte encoding.
 #[tactic(auto, using(crate::proofs::ReadTypes::own_byte_steps))]
 fn has_own_byte(heap: HeapType) -> bool
     ensures yes { IsTrue result → HasNoByte heap → ⊥ }
@@ -113,7 +113,7 @@ fn has_own_byte(heap: HeapType) -> bool
     }
 }
 
-/// What follows the first byte of a reference type.
+/// Decodes a reference type after its first byte, `tag`.
 #[tactic(auto, using(crate::proofs::ReadTypes::ref_steps))]
 fn read_ref_after<'a, A: Allocator + Copy>(
     tag: u8,
@@ -172,7 +172,7 @@ impl<'a, A: Allocator + Copy> Readable<'a, A> for RefType {
     }
 }
 
-/// What follows the first byte of a value type.
+/// Decodes a value type after its first byte, `tag`.
 #[tactic(auto, using(crate::proofs::ReadTypes::val_steps))]
 pub fn read_val_after<'a, A: Allocator + Copy>(
     tag: u8,

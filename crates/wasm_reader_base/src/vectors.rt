@@ -1,4 +1,4 @@
-// Vectors.
+// Decoding and minimal encoding of vectors.
 ghost use Rattle.std.specs.Prelude.{◌≡◌, ◌≢◌, List, Err, OnOk, OnErr, map};
 ghost use Rattle.wasm_base.specs.Formats.{members, vec};
 ghost use Rattle.wasm_base.specs.declared.refused.Refused.TheVariants.{TooLong};
@@ -10,7 +10,8 @@ use crate::shorten::Shorten;
 use std::alloc::Allocator;
 use wasm_base::{Encode, R};
 
-/// A count, and that many members. Memory is taken for members that stand there, and not by the count.
+/// A count, and that many members. Memory grows with the members that decode, and is not allocated
+/// by the count.
 impl<A: Allocator, T: Spelled> Spelled for Vec<T, A> {
     ghost Value = { List T.Value };
 
@@ -38,7 +39,8 @@ impl<'a, A: Allocator + Copy, T: Readable<'a, A>> Readable<'a, A> for Vec<T, A> 
     }
 }
 
-/// Writes what [`append_all`] appends. After an error, a part of it may be behind the old bytes.
+/// Writes the bytes that [`append_all`] appends. After an error, part of them may follow the old
+/// bytes.
 #[tactic(auto, using(crate::proofs::ShortTexts::members_start))]
 fn write_all<T: Shorten, B: Allocator>(items: &[T], out: &mut Vec<u8, B>) -> R<()>
     ensures ok { OnOk result (AppendsShortest (members T.format) (map T.view items.now) out.old.items out.new.items) }
@@ -51,7 +53,8 @@ fn write_all<T: Shorten, B: Allocator>(items: &[T], out: &mut Vec<u8, B>) -> R<(
     Ok(())
 }
 
-/// Appends the minimal encodings of the values, one after another. On an error, the sink is as it was.
+/// Appends the minimal encodings of the values, one after another. On an error, the sink is
+/// unchanged.
 pub fn append_all<T: Shorten, B: Allocator>(items: &[T], out: &mut Vec<u8, B>) -> R<()>
     ensures ok { OnOk result (AppendsShortest (members T.format) (map T.view items.now) out.old.items out.new.items) }
     ensures err { OnErr result (out.new.items ≡ out.old.items) }
@@ -65,7 +68,7 @@ pub fn append_all<T: Shorten, B: Allocator>(items: &[T], out: &mut Vec<u8, B>) -
     written
 }
 
-/// The number of the values, and the values.
+/// Writes the number of values, and the values.
 impl<T: Shorten, A: Allocator> Shorten for Vec<T, A> {
     fn write_minimal<B: Allocator>(&self, out: &mut Vec<u8, B>) -> R<()> {
         self.len().encode(out)?;

@@ -1,4 +1,4 @@
-// Values that all of the bytes spell.
+// Decoding of values that occupy all of the bytes.
 ghost use Rattle.std.specs.Prelude.{◌≢◌, IfOk, IfErr, map};
 ghost use Rattle.wasm_base.specs.Formats.{members};
 ghost use Rattle.wasm_base.specs.Going.{FillsNothing};
@@ -10,7 +10,11 @@ use crate::fault::ReadFault;
 use crate::readable::Readable;
 use std::alloc::Allocator;
 
-/// The value that all of the bytes spell.
+/// Decodes a value that occupies all of the bytes.
+///
+/// # Errors
+///
+/// Any error but `Memory` means that the bytes as a whole encode no such value.
 #[tactic(auto, using(crate::proofs::ReadWhole::whole_steps))]
 pub fn read_whole<'a, T: Readable<'a, A>, A: Allocator + Copy>(
     bytes: &'a [u8],
@@ -28,7 +32,12 @@ pub fn read_whole<'a, T: Readable<'a, A>, A: Allocator + Copy>(
     }
 }
 
-/// Values one after another, up to the last byte, none of which is empty. Memory is taken for values that stand there.
+/// Decodes values one after another, up to the last byte; no encoding of one is empty. Memory grows
+/// with the values that decode.
+///
+/// # Errors
+///
+/// Any error but `Memory` means that the bytes as a whole encode no such values.
 pub fn read_to_end<'a, T: Readable<'a, A>, A: Allocator + Copy>(
     bytes: &'a [u8],
     alloc: A,

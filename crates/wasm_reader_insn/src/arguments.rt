@@ -1,4 +1,4 @@
-// The arguments of instructions.
+// Decoding and encoding of the arguments (immediates) of instructions.
 ghost use Rattle.std.specs.Prelude.{◌≡◌, ◌≢◌, ◌++◌, [], ◌∷◌, IfOk, IfErr, Err, OnOk, OnErr, map};
 ghost use Rattle.std.specs.List.{flat_map};
 ghost use Rattle.wasm_base.specs.Numbers.{wide};
@@ -17,7 +17,7 @@ use wasm_base::{Encode, HeapType, R, ValType};
 use wasm_insn::{BlockType, Catch, Handle, Ieee32, Ieee64, MemArg, Ordering, Part, Shape};
 use wasm_reader_base::{ReadFault, Readable};
 
-/// An argument of an instruction. Each is given for a part of the instruction's shape.
+/// An argument of an instruction, decoded from one immediate of its shape.
 #[derive(Debug, Drop)]
 pub enum Arg<A: Allocator = Global> {
     /// A number of 32 bits: an index, a label or a length.
@@ -37,16 +37,17 @@ pub enum Arg<A: Allocator = Global> {
     Block(BlockType),
     Heap(HeapType),
     Order(Ordering),
-    /// The labels of a branch by a table, without its default.
+    /// The labels of a branch table, without its default.
     Labels(Vec<u32, A>),
     Catches(Vec<Catch, A>),
     Types(Vec<ValType, A>),
     Handles(Vec<Handle, A>),
-    /// The flags of a cast, below 4: bit 0 is set where the first of its two types is nullable, bit 1 where the second is.
+    /// The flags of a cast, below 4: bit 0 is set if the first of its two types is nullable, bit 1
+    /// if the second is.
     Flag(u8),
 }
 
-/// A number.
+/// Decodes an unsigned number of 32 bits.
 #[inline(always)]
 #[tactic(auto, using(crate::proofs::ReadArguments::unsigned_part))]
 pub(crate) fn read_unsigned<'a, A: Allocator + Copy>(
@@ -60,7 +61,7 @@ pub(crate) fn read_unsigned<'a, A: Allocator + Copy>(
     Ok((Arg::U32(value), rest))
 }
 
-/// A signed number of 32 bits.
+/// Decodes a signed number of 32 bits.
 #[inline(always)]
 #[tactic(auto, using(crate::proofs::ReadArguments::signed32_part))]
 pub(crate) fn read_signed32<'a, A: Allocator + Copy>(
@@ -74,7 +75,7 @@ pub(crate) fn read_signed32<'a, A: Allocator + Copy>(
     Ok((Arg::S32(value), rest))
 }
 
-/// A signed number of 64 bits.
+/// Decodes a signed number of 64 bits.
 #[inline(always)]
 #[tactic(auto, using(crate::proofs::ReadArguments::signed64_part))]
 pub(crate) fn read_signed64<'a, A: Allocator + Copy>(
@@ -88,7 +89,7 @@ pub(crate) fn read_signed64<'a, A: Allocator + Copy>(
     Ok((Arg::S64(value), rest))
 }
 
-/// A float of 32 bits.
+/// Decodes a float of 32 bits.
 #[inline(never)]
 #[tactic(auto, using(crate::proofs::ReadArguments::float32_part))]
 fn read_float32<'a, A: Allocator + Copy>(
@@ -102,7 +103,7 @@ fn read_float32<'a, A: Allocator + Copy>(
     Ok((Arg::F32(value), rest))
 }
 
-/// A float of 64 bits.
+/// Decodes a float of 64 bits.
 #[inline(never)]
 #[tactic(auto, using(crate::proofs::ReadArguments::float64_part))]
 fn read_float64<'a, A: Allocator + Copy>(
@@ -116,7 +117,7 @@ fn read_float64<'a, A: Allocator + Copy>(
     Ok((Arg::F64(value), rest))
 }
 
-/// A vector.
+/// Decodes a vector of 128 bits.
 #[inline(never)]
 #[tactic(auto, using(crate::proofs::ReadArguments::vector_part))]
 fn read_vector<'a, A: Allocator + Copy>(
@@ -130,7 +131,7 @@ fn read_vector<'a, A: Allocator + Copy>(
     Ok((Arg::V128(value), rest))
 }
 
-/// A memory argument.
+/// Decodes a memory argument.
 #[inline(always)]
 #[tactic(auto, using(crate::proofs::ReadArguments::memory_part))]
 pub(crate) fn read_memory<'a, A: Allocator + Copy>(
@@ -144,7 +145,7 @@ pub(crate) fn read_memory<'a, A: Allocator + Copy>(
     Ok((Arg::Mem(value), rest))
 }
 
-/// A lane.
+/// Decodes a lane.
 #[tactic(auto, using(crate::proofs::ReadArguments::lane_part))]
 fn read_lane<'a, A: Allocator + Copy>(
     bytes: &'a [u8],
@@ -157,7 +158,7 @@ fn read_lane<'a, A: Allocator + Copy>(
     Ok((Arg::Lane(value), rest))
 }
 
-/// Sixteen lanes.
+/// Decodes sixteen lanes.
 #[inline(never)]
 #[tactic(auto, using(crate::proofs::ReadArguments::lanes_part))]
 fn read_lanes<'a, A: Allocator + Copy>(
@@ -171,7 +172,7 @@ fn read_lanes<'a, A: Allocator + Copy>(
     Ok((Arg::Lanes(value), rest))
 }
 
-/// A block type.
+/// Decodes a block type.
 #[inline(always)]
 #[tactic(auto, using(crate::proofs::ReadArguments::block_part))]
 pub(crate) fn read_block<'a, A: Allocator + Copy>(
@@ -185,7 +186,7 @@ pub(crate) fn read_block<'a, A: Allocator + Copy>(
     Ok((Arg::Block(value), rest))
 }
 
-/// A heap type.
+/// Decodes a heap type.
 #[inline(never)]
 #[tactic(auto, using(crate::proofs::ReadArguments::heap_part))]
 fn read_heap<'a, A: Allocator + Copy>(
@@ -199,7 +200,7 @@ fn read_heap<'a, A: Allocator + Copy>(
     Ok((Arg::Heap(value), rest))
 }
 
-/// An ordering.
+/// Decodes an ordering.
 #[inline(never)]
 #[tactic(auto, using(crate::proofs::ReadArguments::ordering_part))]
 fn read_ordering<'a, A: Allocator + Copy>(
@@ -213,7 +214,7 @@ fn read_ordering<'a, A: Allocator + Copy>(
     Ok((Arg::Order(value), rest))
 }
 
-/// Labels.
+/// Decodes a vector of labels.
 #[inline(never)]
 #[tactic(auto, using(crate::proofs::ReadArguments::labels_part))]
 fn read_labels<'a, A: Allocator + Copy>(
@@ -227,7 +228,7 @@ fn read_labels<'a, A: Allocator + Copy>(
     Ok((Arg::Labels(value), rest))
 }
 
-/// Clauses that catch.
+/// Decodes a vector of catch clauses.
 #[inline(never)]
 #[tactic(auto, using(crate::proofs::ReadArguments::catches_part))]
 fn read_catches<'a, A: Allocator + Copy>(
@@ -241,7 +242,7 @@ fn read_catches<'a, A: Allocator + Copy>(
     Ok((Arg::Catches(value), rest))
 }
 
-/// Value types.
+/// Decodes a vector of value types.
 #[inline(never)]
 #[tactic(auto, using(crate::proofs::ReadArguments::types_part))]
 fn read_types<'a, A: Allocator + Copy>(
@@ -255,7 +256,7 @@ fn read_types<'a, A: Allocator + Copy>(
     Ok((Arg::Types(value), rest))
 }
 
-/// Clauses that handle.
+/// Decodes a vector of handle clauses.
 #[inline(never)]
 #[tactic(auto, using(crate::proofs::ReadArguments::handles_part))]
 fn read_handles<'a, A: Allocator + Copy>(
@@ -269,7 +270,7 @@ fn read_handles<'a, A: Allocator + Copy>(
     Ok((Arg::Handles(value), rest))
 }
 
-/// The flags of a cast.
+/// Decodes the flags of a cast.
 #[tactic(auto, using(crate::proofs::ReadArguments::flag_part))]
 fn read_flag<'a, A: Allocator + Copy>(
     bytes: &'a [u8],
@@ -286,7 +287,8 @@ fn read_flag<'a, A: Allocator + Copy>(
     }
 }
 
-/// One argument. Arms that are rare or long are not put in place: with all of them there, what each leaves is moved by all.
+/// Decodes one argument. Rare and long arms are not inlined: with all of them inline, the compiler
+/// moves the result of each arm through all of them.
 pub(crate) fn read_part<'a, A: Allocator + Copy>(
     wanted: Part,
     bytes: &'a [u8],
@@ -316,7 +318,8 @@ pub(crate) fn read_part<'a, A: Allocator + Copy>(
     }
 }
 
-/// Appends an argument for each part, and answers the bytes after them.
+/// Decodes one argument for each of `wanted`, appends it to `args`, and returns the remaining
+/// bytes.
 fn read_parts<'a, A: Allocator + Copy>(
     wanted: &[Part],
     bytes: &'a [u8],
@@ -336,7 +339,8 @@ fn read_parts<'a, A: Allocator + Copy>(
     Ok(rest)
 }
 
-/// The arguments of any shape, in memory of just their number. Out of line, for those that are rare.
+/// Decodes the arguments of any shape, into a list of exactly their number. Out of line, for rare
+/// shapes.
 #[inline(never)]
 #[tactic(auto, using(crate::proofs::ReadArguments::shape_steps))]
 fn read_any<'a, A: Allocator + Copy>(
@@ -353,7 +357,7 @@ fn read_any<'a, A: Allocator + Copy>(
     Ok((args, rest))
 }
 
-/// The list of the one argument that was read, and the bytes after it.
+/// Returns the list of the one decoded argument, and the remaining bytes.
 #[inline(always)]
 fn list_one<'a, A: Allocator + Copy>(
     alloc: A,
@@ -368,7 +372,8 @@ fn list_one<'a, A: Allocator + Copy>(
     Ok((args, rest))
 }
 
-/// The arguments that follow an op of the shape, in memory of just their number. Those of common shapes are read in place.
+/// Decodes the arguments of an opcode of this shape, into a list of exactly their number. Common
+/// shapes are decoded inline.
 #[inline]
 pub(crate) fn read_arguments<'a, A: Allocator + Copy>(
     shape: Shape,
@@ -389,7 +394,7 @@ pub(crate) fn read_arguments<'a, A: Allocator + Copy>(
     }
 }
 
-/// The arguments of any shape, in the memory of the list. Out of line, for those that are rare.
+/// Decodes the arguments of any shape into the memory of `args`. Out of line, for rare shapes.
 #[inline(never)]
 #[tactic(auto, using(crate::proofs::ReadArguments::shape_steps))]
 fn read_any_into<'a, A: Allocator + Copy>(
@@ -405,7 +410,7 @@ fn read_any_into<'a, A: Allocator + Copy>(
     read_parts(shape.parts(), bytes, alloc, args)
 }
 
-/// Makes the argument that was read the only one of the list, and answers the bytes after it.
+/// Makes the decoded argument the only one of the list, and returns the remaining bytes.
 #[inline(always)]
 fn keep_one<'a, A: Allocator + Copy>(
     args: &mut Vec<Arg<A>, A>,
@@ -424,7 +429,8 @@ fn keep_one<'a, A: Allocator + Copy>(
     Ok(rest)
 }
 
-/// The arguments that follow an op of the shape, in the memory of the list, which loses what it had. Those of common shapes are read in place.
+/// Decodes the arguments of an opcode of this shape into the memory of `args`, and drops its old
+/// ones. Common shapes are decoded inline.
 #[inline]
 pub(crate) fn read_arguments_into<'a, A: Allocator + Copy>(
     shape: Shape,
@@ -449,7 +455,7 @@ pub(crate) fn read_arguments_into<'a, A: Allocator + Copy>(
     }
 }
 
-/// Appends the text of the argument.
+/// Appends the minimal encoding of the argument.
 #[tactic(auto, using(wasm_immediates::proofs::FixedBytes::vector_bytes, crate::proofs::ReadPlain::any_members))]
 fn append_argument<A: Allocator, B: Allocator>(arg: &Arg<A>, out: &mut Vec<u8, B>) -> R<()>
     ensures ok { OnOk result (out.new.items ≡ out.old.items ++ argument_text (argument_view arg.now)) }
@@ -477,7 +483,7 @@ fn append_argument<A: Allocator, B: Allocator>(arg: &Arg<A>, out: &mut Vec<u8, B
     }
 }
 
-/// Appends the texts of the arguments.
+/// Appends the minimal encodings of the arguments.
 pub(crate) fn append_arguments<A: Allocator, B: Allocator>(
     args: &[Arg<A>],
     out: &mut Vec<u8, B>,

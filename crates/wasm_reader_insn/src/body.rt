@@ -1,4 +1,4 @@
-// Lists of instructions up to the last byte, and functions' bodies.
+// Decoding and minimal encoding of instruction lists and function bodies.
 ghost use Rattle.std.specs.Prelude.{◌≡◌, ◌≢◌, IfOk, IfErr, Err, OnOk, OnErr, map};
 ghost use Rattle.wasm_base.specs.Formats.{members, frame};
 ghost use Rattle.wasm_base.specs.Going.{FillsNothing};
@@ -17,10 +17,15 @@ use std::alloc::{Allocator, Global};
 use wasm_base::{R, ValType};
 use wasm_reader_base::{ReadFault, Readable, Shorten, Spelled, frame_since};
 
-/// A list is made with room for an instruction of so many bytes each, and grows where they are shorter.
+/// The capacity of a new list allows for one instruction per this many bytes. The list grows if
+/// they are shorter.
 const BYTES_OF_ONE: usize = 4;
 
-/// The instructions up to the last byte.
+/// Decodes instructions that occupy all of the bytes.
+///
+/// # Errors
+///
+/// Any error but `Memory` means that the bytes as a whole encode no instructions.
 pub fn read_code<'a, A: Allocator + Copy>(
     bytes: &'a [u8],
     alloc: A,
@@ -40,7 +45,7 @@ pub fn read_code<'a, A: Allocator + Copy>(
     }
 }
 
-/// Appends the shortest texts of the instructions.
+/// Appends the minimal encodings of the instructions.
 #[tactic(auto, using(wasm_reader_base::proofs::ShortTexts::members_start))]
 pub(crate) fn append_code<A: Allocator, B: Allocator>(
     code: &[Plain<A>],
@@ -56,14 +61,19 @@ pub(crate) fn append_code<A: Allocator, B: Allocator>(
     Ok(())
 }
 
-/// A function's body: the runs of its locals, each a count and a type, and its instructions, each `End` among them.
+/// A function body: the runs of its locals, each a count and a type, and its instructions,
+/// including each `End`.
 #[derive(Debug, Drop)]
 pub struct Body<A: Allocator = Global> {
     pub runs: Vec<(u32, ValType), A>,
     pub code: Vec<Plain<A>, A>,
 }
 
-/// The body that all of the bytes spell, which are those in its frame.
+/// Decodes a body that occupies all of the bytes, which are a payload without its size prefix.
+///
+/// # Errors
+///
+/// Any error but `Memory` means that the bytes as a whole encode no body.
 #[tactic(auto, using(crate::proofs::ReadLists::body_steps))]
 pub fn read_body<'a, A: Allocator + Copy>(bytes: &'a [u8], alloc: A) -> Result<Body<A>, ReadFault>
     ensures found { IfOk result (λ x. body wide bytes.now (body_view x)) }
@@ -74,7 +84,7 @@ pub fn read_body<'a, A: Allocator + Copy>(bytes: &'a [u8], alloc: A) -> Result<B
     Ok(Body { runs, code })
 }
 
-/// A body in its frame, as it stands in a code section.
+/// A body with its size prefix, as in a code section.
 impl<A: Allocator> Spelled for Body<A> {
     ghost Value = { BodyModel };
 
@@ -104,7 +114,8 @@ impl<A: Allocator> Shorten for Body<A> {
     }
 }
 
-/// Writes what [`shorten_body`] appends. After an error, a part of it may be behind the old bytes.
+/// Writes the bytes that [`shorten_body`] appends. After an error, part of them may follow the old
+/// bytes.
 fn write_body<A: Allocator + Copy, B: Allocator>(
     bytes: &[u8],
     alloc: A,
@@ -124,13 +135,18 @@ fn write_body<A: Allocator + Copy, B: Allocator>(
     Ok(())
 }
 
-/// Appends the minimal encoding of a function's body, with its size, as a code section has it. The bytes are those of the body without its size. It
-/// goes over the instructions and keeps one of them. On an error, the sink is as it was.
+/// Appends the minimal encoding of a function body with its size prefix, as in a code section. The
+/// bytes are those of the body without its size prefix. The call visits the instructions, and keeps
+/// one at a time. On an error, the sink is unchanged.
 ///
 /// ```text
 /// shorten_body(&[0x80, 0x00, 0x20, 0x81, 0x00, 0x0B], alloc, &mut out)?;
 /// // 04 00 20 01 0B was appended: a body of no locals, `LocalGet(1)` and `End`
 /// ```
+///
+/// # Errors
+///
+/// Any error but `Memory` means that the bytes as a whole encode no body.
 pub fn shorten_body<A: Allocator + Copy, B: Allocator>(
     bytes: &[u8],
     alloc: A,

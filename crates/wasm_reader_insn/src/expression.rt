@@ -1,4 +1,4 @@
-// Constant expressions: instructions up to `End`.
+// Decoding and minimal encoding of constant expressions: instructions up to `End`.
 ghost use Rattle.std.specs.Prelude.{List, map};
 ghost use Rattle.wasm_insn.specs.Plain.{Plain as PlainInstruction};
 ghost use Rattle.wasm_code.specs.Expressions.{expression};
@@ -13,7 +13,7 @@ use wasm_reader_base::{ReadFault, Readable, Shorten, Spelled};
 /// The opcode of `End`.
 pub(crate) const END: u8 = 0x0B;
 
-/// The instructions of a constant expression, without the `End` that ends it.
+/// The instructions of a constant expression, without its final `End`.
 #[derive(Debug, Drop)]
 pub struct Expression<A: Allocator = Global>(pub Vec<Plain<A>, A>);
 

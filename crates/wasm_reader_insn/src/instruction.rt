@@ -1,4 +1,5 @@
-// Instructions: an opcode, and an argument for each part of its shape.
+// Decoding and minimal encoding of one instruction: an opcode, and an argument for each immediate
+// of its shape.
 ghost use Rattle.std.specs.Prelude.{◌≡◌, ◌≢◌, IfOk, IfErr, Err, OnOk, map};
 ghost use Rattle.wasm_base.specs.Numbers.{wide};
 ghost use Rattle.wasm_base.specs.Reading.{Reads, ReadsNothing};
@@ -16,14 +17,15 @@ use wasm_base::{Encode, R};
 use wasm_insn::Op;
 use wasm_reader_base::{ReadFault, Readable, Shorten, Spelled};
 
-/// An instruction in normal form: its opcode, and an argument for each part of the opcode's shape.
+/// An instruction in normal form: its opcode, and an argument for each immediate of the opcode's
+/// shape.
 #[derive(Debug, Drop)]
 pub struct Plain<A: Allocator = Global> {
     pub op: Op,
     pub args: Vec<Arg<A>, A>,
 }
 
-/// The opcode that the bytes begin with, and the bytes after it.
+/// Decodes the opcode at the front, and returns it with the remaining bytes.
 #[tactic(auto, using(crate::proofs::ReadInstructions::opcode_steps))]
 #[inline]
 pub(crate) fn read_op<'a, A: Allocator + Copy>(
@@ -67,8 +69,8 @@ impl<'a, A: Allocator + Copy> Readable<'a, A> for Plain<A> {
     }
 }
 
-/// The opcode of the instruction that the bytes begin with, and the bytes after the instruction. Its arguments are in the list, which
-/// loses what it had.
+/// Decodes the instruction at the front: returns its opcode and the remaining bytes, and replaces
+/// the content of `args` by its arguments.
 #[tactic(auto, using(crate::proofs::ReadInstructions::instruction_steps))]
 pub(crate) fn read_instruction_into<'a, A: Allocator + Copy>(
     bytes: &'a [u8],
@@ -86,7 +88,7 @@ pub(crate) fn read_instruction_into<'a, A: Allocator + Copy>(
     Ok((op, rest))
 }
 
-/// Appends the shortest text of the instruction.
+/// Appends the minimal encoding of the instruction.
 pub(crate) fn append_instruction<A: Allocator, B: Allocator>(
     op: Op,
     args: &[Arg<A>],

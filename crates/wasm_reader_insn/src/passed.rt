@@ -1,4 +1,4 @@
-// Instructions, expressions and bodies that are gone over, of which nothing is kept.
+// Skipping of instructions, expressions and bodies, of which nothing is kept.
 ghost use Rattle.std.specs.Prelude.{◌≢◌, List, IfOk, IfErr, OnOk};
 ghost use Rattle.wasm_base.specs.Formats.{members, frame};
 ghost use Rattle.wasm_base.specs.Going.{FillsNothing};
@@ -23,7 +23,7 @@ use wasm_base::ValType;
 use wasm_insn::{Catch, Handle, Part, Shape};
 use wasm_reader_base::{Dropped, Passed, ReadFault, Readable, pass_many};
 
-/// The bytes after one argument. Lists are gone over member by member.
+/// Skips one argument, and returns the remaining bytes. Lists are skipped member by member.
 fn pass_part<'a, A: Allocator + Copy>(
     wanted: Part,
     bytes: &'a [u8],
@@ -56,7 +56,7 @@ fn pass_part<'a, A: Allocator + Copy>(
     }
 }
 
-/// The bytes after an argument for each part.
+/// Skips one argument for each of `wanted`, and returns the remaining bytes.
 fn pass_parts<'a, A: Allocator + Copy>(
     wanted: &[Part],
     bytes: &'a [u8],
@@ -72,7 +72,7 @@ fn pass_parts<'a, A: Allocator + Copy>(
     Ok(rest)
 }
 
-/// The bytes after the arguments of any shape. Out of line, for those that are rare.
+/// Skips the arguments of any shape, and returns the remaining bytes. Out of line, for rare shapes.
 #[inline(never)]
 #[tactic(auto, using(crate::proofs::ReadArguments::shape_steps))]
 fn pass_any<'a, A: Allocator + Copy>(
@@ -86,7 +86,8 @@ fn pass_any<'a, A: Allocator + Copy>(
     pass_parts(shape.parts(), bytes, alloc)
 }
 
-/// The bytes after the arguments that follow an op of the shape. Those of common shapes are gone over in place.
+/// Skips the arguments of an opcode of this shape, and returns the remaining bytes. Common shapes
+/// are skipped inline.
 #[inline]
 fn pass_arguments<'a, A: Allocator + Copy>(
     shape: Shape,
@@ -122,7 +123,7 @@ fn pass_arguments<'a, A: Allocator + Copy>(
     }
 }
 
-/// The bytes after the instruction at the front.
+/// Skips the instruction at the front, and returns the remaining bytes.
 #[inline]
 #[tactic(auto, using(crate::proofs::ReadInstructions::instruction_steps))]
 fn pass_instruction<'a, A: Allocator + Copy>(
@@ -140,7 +141,7 @@ fn pass_instruction<'a, A: Allocator + Copy>(
     Ok(rest)
 }
 
-/// Goes over instructions up to the last byte.
+/// Skips instructions up to the last byte.
 fn pass_code<A: Allocator + Copy>(bytes: &[u8], alloc: A) -> Result<(), ReadFault>
     ensures found { OnOk result ((xs : List PlainInstruction) × members (instruction table) wide bytes.now xs) }
     ensures none { IfErr result (λ e. e ≢ Memory → FillsNothing (members (instruction table)) bytes.now) }
@@ -154,7 +155,7 @@ fn pass_code<A: Allocator + Copy>(bytes: &[u8], alloc: A) -> Result<(), ReadFaul
     }
 }
 
-/// Goes over the bytes of a body, without its size.
+/// Skips the bytes of a body without its size prefix.
 #[tactic(auto, using(crate::proofs::ReadLists::body_steps))]
 fn pass_body<'a, A: Allocator + Copy>(bytes: &'a [u8], alloc: A) -> Result<(), ReadFault>
     ensures found { OnOk result ((x : BodyModel) × body wide bytes.now x) }
@@ -165,7 +166,7 @@ fn pass_body<'a, A: Allocator + Copy>(bytes: &'a [u8], alloc: A) -> Result<(), R
     Ok(())
 }
 
-/// A body in its frame, as it stands in a code section. It takes no memory.
+/// Skips a body with its size prefix, as in a code section, and allocates nothing.
 impl<'a, A: Allocator + Copy> Passed<'a, A> for Body<A> {
     ghost Value = { BodyModel };
 
@@ -181,7 +182,7 @@ impl<'a, A: Allocator + Copy> Passed<'a, A> for Body<A> {
     }
 }
 
-/// A constant expression with its `End`. It takes no memory.
+/// Skips a constant expression with its `End`, and allocates nothing.
 impl<'a, A: Allocator + Copy> Passed<'a, A> for Expression<A> {
     ghost Value = { List PlainInstruction };
 

@@ -1,4 +1,4 @@
-// Walks over instructions.
+// A visitor of instructions, one at a time.
 ghost use Rattle.std.specs.Prelude.{◌≡◌, ◌≢◌, ◌≤◌, ◌<◌, ◌+◌, [], ◌∷◌, IfOk, IfErr, IfSome, None, drop, length, map};
 ghost use Rattle.wasm_base.specs.Formats.{u32, pair, such, vec};
 ghost use Rattle.wasm_base.specs.Going.{FillsNothing};
@@ -22,8 +22,9 @@ use wasm_base::ValType;
 use wasm_insn::Op;
 use wasm_reader_base::{ReadFault, Readable};
 
-/// Goes over the instructions of a body or an expression, one after another. It keeps the arguments of one of them, in memory that it
-/// uses again: the lists in them apart, no memory is taken after the first that has any.
+/// Visits the instructions of a body or an expression, one after another. It keeps the arguments of
+/// one instruction, in memory that it reuses: lists in arguments apart, it allocates nothing after
+/// the first instruction that has arguments.
 ///
 /// ```text
 /// let (_runs, mut instructions) = Instructions::of_body(bytes, alloc)?;
@@ -31,6 +32,11 @@ use wasm_reader_base::{ReadFault, Readable};
 ///     // step.op begins at step.place, and instructions.args() are its arguments
 /// }
 /// ```
+///
+/// # Errors
+///
+/// Any error but `Memory` means that the bytes at the offset encode no instruction, and for
+/// `next_before_end` no expression.
 #[derive(Debug, Drop)]
 pub struct Instructions<'a, A: Allocator = Global> {
     bytes: &'a [u8],
@@ -46,7 +52,7 @@ impl<'a, A: Allocator> Model for Instructions<'a, A> {
     ghost invariant = { λ w. w.place ≤ length w.bytes.now };
 }
 
-/// An instruction that was gone over: how many bytes are before it, and its opcode.
+/// A visited instruction: its offset in bytes, and its opcode.
 #[derive(Clone, Copy, PartialEq, Eq, Debug)]
 pub struct Step {
     pub place: usize,
@@ -54,7 +60,7 @@ pub struct Step {
 }
 
 impl<'a, A: Allocator + Copy> Instructions<'a, A> {
-    /// The walk that begins at the first byte. It takes no memory.
+    /// Returns a visitor that begins at the first byte, and allocates nothing.
     pub fn new(bytes: &'a [u8], alloc: A) -> Self
         ensures { result ≡ record { bytes = bytes.now; place = 0; arguments = [] } }
     {
@@ -65,8 +71,9 @@ impl<'a, A: Allocator + Copy> Instructions<'a, A> {
         }
     }
 
-    /// The runs of a body's locals, and the walk over its instructions. The bytes are those of the body without its size, and the
-    /// runs stand before the first place.
+    /// Decodes the runs of a body's locals, and returns them with a visitor of its instructions.
+    /// The bytes are those of the body without its size prefix. Offsets count from the first byte,
+    /// before the runs.
     #[tactic(auto, using(crate::proofs::WalkLaws::body_steps))]
     pub fn of_body(bytes: &'a [u8], alloc: A) -> Result<(Vec<(u32, ValType), A>, Self), ReadFault>
         ensures found { IfOk result (λ x. Reads (vec (pair u32 val_type)) wide bytes.now x.0.items (ahead x.1)) }
@@ -84,7 +91,7 @@ impl<'a, A: Allocator + Copy> Instructions<'a, A> {
         Ok((runs, instructions))
     }
 
-    /// The instruction at the place of the walk, which goes behind it.
+    /// Visits the instruction at the offset of the visitor, and advances the offset past it.
     fn step(&mut self) -> Result<Step, ReadFault>
         ensures place { IfOk result (λ step. step.place ≡ self.old.place) }
         ensures found { IfOk result (λ step. Reads (instruction table) wide (ahead self.old) (record { op = step.op; arguments = self.new.arguments }) (ahead self.new)) }
@@ -100,7 +107,8 @@ impl<'a, A: Allocator + Copy> Instructions<'a, A> {
         Ok(Step { place, op })
     }
 
-    /// The next instruction, and `None` where the bytes end. After an error the place is what it was.
+    /// Visits the next instruction, or returns `None` at the end of the bytes. After an error the
+    /// offset is unchanged.
     pub fn next(&mut self) -> Result<Option<Step>, ReadFault>
         ensures place { IfOk result (λ next. IfSome next (λ step. step.place ≡ self.old.place)) }
         ensures found { IfOk result (λ next. IfSome next (λ step. Reads (instruction table) wide (ahead self.old) (record { op = step.op; arguments = self.new.arguments }) (ahead self.new))) }
@@ -119,8 +127,8 @@ impl<'a, A: Allocator + Copy> Instructions<'a, A> {
         Ok(Some(step))
     }
 
-    /// The next instruction of an expression, and `None` where `End` stands, which the walk doesn't go past. After an error the place is
-    /// what it was.
+    /// Visits the next instruction of an expression, or returns `None` at its final `End`, which
+    /// the visitor does not pass. After an error the offset is unchanged.
     pub fn next_before_end(&mut self) -> Result<Option<Step>, ReadFault>
         ensures place { IfOk result (λ next. IfSome next (λ step. step.place ≡ self.old.place)) }
         ensures found { IfOk result (λ next. IfSome next (λ step. Reads (such IsNoEnd (instruction table)) wide (ahead self.old) (record { op = step.op; arguments = self.new.arguments }) (ahead self.new))) }
@@ -141,21 +149,22 @@ impl<'a, A: Allocator + Copy> Instructions<'a, A> {
         Ok(Some(step))
     }
 
-    /// The arguments of the instruction that was gone over last. After an error they say nothing.
+    /// Returns the arguments of the instruction that was visited last. After an error they are
+    /// unspecified.
     pub fn args(&self) -> &[Arg<A>]
         ensures { map argument_view result.now ≡ self.now.arguments }
     {
         &self.args
     }
 
-    /// How many bytes are before the next instruction.
+    /// Returns the offset of the next instruction, in bytes.
     pub fn place(&self) -> usize
         ensures { result ≡ self.now.place }
     {
         self.place
     }
 
-    /// The bytes from the next instruction on.
+    /// Returns the bytes from the next instruction on.
     pub fn rest(&self) -> &'a [u8]
         ensures { result.now ≡ ahead self.now }
     {

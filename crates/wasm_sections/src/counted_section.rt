@@ -1,4 +1,4 @@
-// Sections of counted items: what they have in common.
+// The builder of all sections of counted items.
 ghost use Rattle.std.specs.Prelude.{◌≡◌, ◌≢◌, ℕ, List, [], ◌∷◌, length, IfOk, IsTrue, ◌↔◌, slice_get, ⊤};
 ghost use Rattle.std.proofs.Common.{refl};
 ghost use Rattle.std.specs.Option.{option_copied};
@@ -17,7 +17,7 @@ pub trait ItemKind: Kind {
     /// The id of the section of these items.
     ghost section_id: { ℕ };
 
-    /// The id of the section of these items.
+    /// Returns the id of the section of these items.
     fn id() -> u8
         ensures { result ≡ section_id };
 }
@@ -25,7 +25,12 @@ pub trait ItemKind: Kind {
 /// A record that can be added to a section of items of the kind `K`.
 pub trait RecordOf<K>: Encode {}
 
-/// A section of counted items of the kind `K`, seen as the bytes of each entry.
+/// A section of counted items of the kind `K`, modelled as the bytes of each entry.
+///
+/// # Errors
+///
+/// An adding call that returns an error leaves the section unchanged. The error is `TooLong` only
+/// if the section is full or the item does not fit, and `Memory` only if an allocation fails.
 #[derive(Drop, Debug)]
 pub struct CountedSection<K, A: Allocator = Global> {
     pieces: Pieces<A>,
@@ -39,35 +44,35 @@ impl<K, A: Allocator> Model for CountedSection<K, A> {
 }
 
 impl<K, A: Allocator> CountedSection<K, A> {
-    /// The number of entries.
+    /// Returns the number of entries.
     pub fn len(&self) -> u32
         ensures { result ≡ length self.now }
     {
         self.pieces.len()
     }
 
-    /// Whether there is no entry.
+    /// Returns `true` if there are no entries.
     pub fn is_empty(&self) -> bool
         ensures { IsTrue result ↔ (length self.now ≡ 0) }
     {
         self.pieces.is_empty()
     }
 
-    /// The bytes of the entry at `index`.
+    /// Returns the bytes of the entry at `index`, or `None` if there is no such entry.
     pub fn piece(&self, index: u32) -> Option<&[u8]>
         ensures { option_copied result ≡ slice_get self.now index }
     {
         self.pieces.get(index)
     }
 
-    /// Adds an entry that is the text of the record. A refused call leaves the section as it was.
+    /// Adds the encoding of the record as an entry.
     pub(crate) fn add_record<T: Encode>(&mut self, given: &T) -> R<()>
         ensures { Adds (T.text given.now) (T.fits given.now) self.old self.new result }
     {
         self.pieces.add_encoded(given)
     }
 
-    /// Adds an entry that is a text of the item, which is written once. A refused call leaves the section as it was.
+    /// Adds an encoding of the item as an entry, and consumes the item.
     pub(crate) fn add_once<T: EncodeOnce + Drop>(&mut self, item: T) -> R<()>
         requires { T.lawful item }
         ensures { AddsOnce (T.gives item) (T.fits item) self.old self.new result }
@@ -75,7 +80,7 @@ impl<K, A: Allocator> CountedSection<K, A> {
         self.pieces.add_once(item)
     }
 
-    /// Adds an entry that is spelled already. A refused call leaves the section as it was.
+    /// Adds an entry that is already encoded.
     pub(crate) fn add_piece(&mut self, piece: &[u8]) -> R<()>
         ensures { Adds piece.now ⊤ self.old self.new result }
     {
@@ -84,7 +89,7 @@ impl<K, A: Allocator> CountedSection<K, A> {
 }
 
 impl<K, A: Allocator + Copy> CountedSection<K, A> {
-    /// A section of no entries. It takes no memory.
+    /// Returns a section without entries, and allocates nothing.
     pub fn new(alloc: A) -> Self
         ensures { result ≡ [] }
     {
@@ -94,7 +99,7 @@ impl<K, A: Allocator + Copy> CountedSection<K, A> {
         }
     }
 
-    /// A section of the same entries, in memory of its own.
+    /// Returns a section of the same entries, in memory of its own.
     pub fn clone(&self) -> R<Self>
         ensures same { IfOk result (λ section. section ≡ self.now) }
         ensures memory { result ≢ Err TooLong }
@@ -106,7 +111,7 @@ impl<K, A: Allocator + Copy> CountedSection<K, A> {
     }
 }
 
-/// The frame of the number of entries and of these.
+/// Encodes the size prefix, the number of entries, and the entries.
 impl<K: ItemKind, A: Allocator> Encode for CountedSection<K, A> {
     ghost text = { section_text };
 

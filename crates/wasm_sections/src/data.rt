@@ -1,4 +1,4 @@
-// Data segments and the data section.
+// The data section: its builder, its reader and its minimizer.
 ghost use Rattle.std.specs.Prelude.{◌≡◌, ◌≢◌, ℕ, List, ◌++◌, IfOk, ⊤, IfErr, Err, OnOk, map};
 ghost use Rattle.wasm_base.specs.Calls.{Adds};
 ghost use Rattle.wasm_base.specs.Formats.{byte, pair, vec};
@@ -21,7 +21,7 @@ use wasm_code::ConstExpr;
 use wasm_reader_base::{Dropped, Passed, ReadFault, Readable, Shorten, Spelled, read_whole};
 use wasm_reader_insn::Expression;
 
-/// The bytes that a module puts in memories.
+/// The data section: segments of bytes that a module copies to memories.
 ///
 /// ```rust
 /// let mut data = DataSection::new(alloc);
@@ -31,24 +31,24 @@ use wasm_reader_insn::Expression;
 /// ```
 pub type DataSection<A = Global> = CountedSection<DataItems, A>;
 
-/// The items of a data section: segments of bytes.
+/// The kind of a data section's items: segments of bytes.
 #[derive(Clone, Copy, Debug)]
 pub struct DataItems;
 
-/// When the bytes of a segment are put in a memory.
+/// The mode of a data segment: when its bytes are copied to a memory.
 #[derive(Drop, Debug)]
 pub enum DataSegmentMode<'a, A: Allocator = Global> {
-    /// When the module is instantiated.
+    /// The bytes are copied when the module is instantiated.
     Active {
         memory_index: u32,
-        /// Computes the place of the first byte.
+        /// Computes the offset of the first byte in the memory.
         offset: &'a ConstExpr<A>,
     },
-    /// When an instruction `MemoryInit` says so.
+    /// The bytes are copied by an instruction `MemoryInit`.
     Passive,
 }
 
-/// A segment of bytes, which an iterator gives.
+/// A data segment, whose bytes an iterator yields.
 #[derive(Drop, Debug)]
 pub struct DataSegment<'a, D, A: Allocator = Global> {
     pub mode: DataSegmentMode<'a, A>,
@@ -56,7 +56,7 @@ pub struct DataSegment<'a, D, A: Allocator = Global> {
 }
 
 impl<'a, A: Allocator> DataSegmentMode<'a, A> {
-    /// The same mode.
+    /// Returns the same mode.
     pub fn clone(&self) -> R<Self>
         ensures same { IfOk result (λ mode. mode ≡ self.now) }
         ensures memory { result ≢ Err TooLong }
@@ -75,7 +75,7 @@ impl<'a, A: Allocator> DataSegmentMode<'a, A> {
 }
 
 impl<'a, D: Clone, A: Allocator> DataSegment<'a, D, A> {
-    /// The same segment: its mode, and a clone of its bytes.
+    /// Returns the same segment: its mode, and a clone of its bytes.
     pub fn clone(&self) -> R<Self>
         ensures mode { IfOk result (λ segment. segment.mode ≡ self.now.mode) }
         ensures bytes { IfOk result (λ segment. D.is_clone self.now.bytes segment.bytes) }
@@ -112,12 +112,13 @@ impl ItemKind for DataItems {
     }
 }
 
-/// A flag, the memory where it isn't 0, the place where the segment is active, and the bytes: see "Data Section".
+/// Adding calls. A segment is a flag, the memory if it is not 0, the offset of an active segment,
+/// and the bytes: see "Data Section".
 impl<A: Allocator> DataSection<A> {
     ghost use Rattle.wasm_sections.specs.DataSegments.{segment_text, active_text, passive_text, AddsBytes};
 
-    /// Adds a segment. A refused call leaves the section as it was. Where there are too many bytes, it answers `TooLong`, and asks for
-    /// none, as tests show.
+    /// Adds a segment. If there are too many bytes, it returns `TooLong` and requests none, as
+    /// tests show.
     pub fn segment<D: IntoIterator<Item = u8>, B: Allocator>(
         &mut self,
         segment: DataSegment<'_, D, B>,
@@ -137,8 +138,8 @@ impl<A: Allocator> DataSection<A> {
         }
     }
 
-    /// Adds a segment whose bytes are put in this memory when the module is instantiated. A refused call leaves the section as it
-    /// was; where there are too many bytes, the answer is `TooLong`.
+    /// Adds a segment whose bytes are copied to this memory when the module is instantiated. If
+    /// there are too many bytes, it returns `TooLong`.
     pub fn active<D: IntoIterator<Item = u8>, B: Allocator>(
         &mut self,
         memory_index: u32,
@@ -157,8 +158,8 @@ impl<A: Allocator> DataSection<A> {
         }
     }
 
-    /// Adds a segment whose bytes are put in a memory when code says so. A refused call leaves the section as it was; where there
-    /// are too many bytes, the answer is `TooLong`.
+    /// Adds a segment whose bytes are copied to a memory by an instruction. If there are too many
+    /// bytes, it returns `TooLong`.
     pub fn passive<D: IntoIterator<Item = u8>>(&mut self, bytes: D) -> R<()>
     where
         D::IntoIter: ExactSizeIterator + Drop,
@@ -168,14 +169,14 @@ impl<A: Allocator> DataSection<A> {
         self.add_bytes(PASSIVE, bytes)
     }
 
-    /// Adds a segment that is spelled already. A refused call leaves the section as it was.
+    /// Adds a segment that is already encoded. The call does not check that it is one.
     pub fn raw(&mut self, segment: &[u8]) -> R<()>
         ensures { Adds segment.now ⊤ self.old self.new result }
     {
         self.add_piece(segment)
     }
 
-    /// Adds a segment of what stands before its bytes, and these.
+    /// Adds a segment of `front` and the bytes.
     fn add_bytes<S: Encode + Drop, D: IntoIterator<Item = u8>>(
         &mut self,
         front: S,
@@ -199,7 +200,7 @@ pub(crate) const PASSIVE: u8 = 0x01;
 
 pub(crate) const ACTIVE_IN_MEMORY: u8 = 0x02;
 
-/// Bytes behind their number.
+/// Bytes after their count.
 #[derive(Clone, Copy, Debug)]
 struct Bytes<'a>(&'a [u8]);
 
@@ -224,17 +225,17 @@ impl<'a, A: Allocator + Copy> Readable<'a, A> for Bytes<'a> {
     }
 }
 
-/// A data segment, whose bytes are a slice of the input.
+/// A decoded data segment, whose bytes are a slice of the input.
 #[derive(Debug, Drop)]
 pub enum Segment<'a, A: Allocator = Global> {
-    /// Its bytes are put in the memory when the module is instantiated.
+    /// The bytes are copied to the memory when the module is instantiated.
     Active {
         memory: u32,
-        /// Computes the place of the first byte.
+        /// Computes the offset of the first byte in the memory.
         offset: Expression<A>,
         bytes: &'a [u8],
     },
-    /// Its bytes are put in a memory when an instruction says so.
+    /// The bytes are copied to a memory by an instruction.
     Passive {
         bytes: &'a [u8],
     },
@@ -300,7 +301,12 @@ impl<'a, A: Allocator + Copy> Readable<'a, A> for Segment<'a, A> {
     }
 }
 
-/// Segments behind their number, which all of the bytes spell. Memory is taken for those that stand there, and not by their number.
+/// Decodes the payload of a data section: a count and that many segments, which occupy all of the
+/// bytes. Memory grows with the segments that decode, and is not allocated by the count.
+///
+/// # Errors
+///
+/// Any error but `Memory` means that the bytes are not such a payload.
 pub fn read_segments<'a, A: Allocator + Copy + 'a>(
     bytes: &'a [u8],
     alloc: A,
@@ -311,7 +317,7 @@ pub fn read_segments<'a, A: Allocator + Copy + 'a>(
     read_whole::<'a, Vec<Segment<'a, A>, A>, A>(bytes, alloc)
 }
 
-/// Appends the place and the bytes of a segment.
+/// Appends the offset and the bytes of a segment.
 #[tactic(auto, using(crate::proofs::DataLaws::placed_appended, crate::proofs::DataLaws::offset_encoded, crate::proofs::DataLaws::bytes_fit))]
 fn append_placed<A: Allocator, B: Allocator>(
     offset: &Expression<A>,
@@ -326,7 +332,7 @@ fn append_placed<A: Allocator, B: Allocator>(
     encode_frame(out, bytes)
 }
 
-/// Appends a segment of the memory: memory 0 has a flag of its own.
+/// Appends an active segment of the memory. Memory 0 has a flag of its own.
 #[tactic(auto, using(crate::proofs::DataLaws::first_appended, crate::proofs::DataLaws::other_appended))]
 fn append_active<A: Allocator, B: Allocator>(
     memory: u32,

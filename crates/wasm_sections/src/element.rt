@@ -1,4 +1,4 @@
-// Element segments and the element section.
+// The builder of the element section.
 ghost use Rattle.std.specs.Prelude.{◌≡◌, ◌≢◌, ◌≤◌, IfOk, ⊤};
 ghost use Rattle.wasm_base.specs.Calls.{Adds};
 ghost use Rattle.wasm_base.specs.declared.refused.Refused.TheVariants.{TooLong};
@@ -13,7 +13,7 @@ use std::alloc::{Allocator, Global};
 use wasm_base::{AbstractHeapType, CowSlice, Encode, HeapType, Kind, Lent, R, RefType, SectionId};
 use wasm_code::ConstExpr;
 
-/// The references that a module puts in tables.
+/// The element section: segments of references that a module copies to tables.
 ///
 /// ```rust
 /// let mut elements = ElementSection::new(alloc);
@@ -23,7 +23,7 @@ use wasm_code::ConstExpr;
 /// ```
 pub type ElementSection<A = Global> = CountedSection<ElementItems, A>;
 
-/// The items of an element section: segments of references.
+/// The kind of an element section's items: segments of references.
 #[derive(Clone, Copy, Debug)]
 pub struct ElementItems;
 
@@ -36,31 +36,32 @@ pub enum Elements<'a, A: Allocator = Global> {
     Expressions(RefType, CowSlice<'a, ConstExpr<A>, A>),
 }
 
-/// When the references of a segment are put in a table.
+/// The mode of an element segment: when its references are copied to a table.
 #[derive(Drop, Debug)]
 pub enum ElementMode<'a, A: Allocator = Global> {
-    /// When an instruction `TableInit` says so.
+    /// The references are copied by an instruction `TableInit`.
     Passive,
-    /// Never: the segment declares that code may refer to these functions.
+    /// The references are never copied: the segment declares that code may refer to these
+    /// functions.
     Declared,
-    /// When the module is instantiated.
+    /// The references are copied when the module is instantiated.
     Active {
-        /// `None` is table 0, and is written in a form without a table where there is one: for functions, and for expressions of the
-        /// type [`RefType::FUNCREF`].
+        /// `None` is table 0. It is encoded in a form without a table if there is one: for
+        /// functions, and for expressions of the type [`RefType::FUNCREF`].
         table: Option<u32>,
-        /// Computes the place of the first reference.
+        /// Computes the offset of the first reference in the table.
         offset: &'a ConstExpr<A>,
     },
 }
 
-/// A segment of references.
+/// An element segment: its mode and its references.
 #[derive(Drop, Debug)]
 pub struct ElementSegment<'a, A: Allocator = Global> {
     pub mode: ElementMode<'a, A>,
     pub elements: Elements<'a, A>,
 }
 
-/// The same expressions, each in memory of its own.
+/// Returns the same expressions, each in memory of its own.
 fn clone_each<A: Allocator + Copy>(
     alloc: A,
     expressions: &[ConstExpr<A>],
@@ -79,7 +80,7 @@ fn clone_each<A: Allocator + Copy>(
 impl<'a, A: Allocator + Copy> Elements<'a, A> {
     ghost use Rattle.wasm_sections.specs.GivenElements.{list_in};
 
-    /// The same references: owned ones in memory of their own.
+    /// Returns the same references, and copies owned ones into memory of their own.
     pub fn clone(&self) -> R<Self>
         ensures same { IfOk result (λ elements. list_in elements ≡ list_in self.now) }
         ensures memory { result ≢ Err TooLong }
@@ -99,7 +100,7 @@ impl<'a, A: Allocator + Copy> Elements<'a, A> {
 }
 
 impl<'a, A: Allocator> ElementMode<'a, A> {
-    /// The same mode.
+    /// Returns the same mode.
     pub fn clone(&self) -> R<Self>
         ensures same { IfOk result (λ mode. mode ≡ self.now) }
         ensures memory { result ≢ Err TooLong }
@@ -118,7 +119,7 @@ impl<'a, A: Allocator> ElementMode<'a, A> {
 impl<'a, A: Allocator + Copy> ElementSegment<'a, A> {
     ghost use Rattle.wasm_sections.specs.GivenElements.{segment_in};
 
-    /// The same segment: owned references in memory of their own.
+    /// Returns the same segment, and copies owned references into memory of their own.
     pub fn clone(&self) -> R<Self>
         ensures same { IfOk result (λ segment. segment_in segment ≡ segment_in self.now) }
         ensures memory { result ≢ Err TooLong }
@@ -130,7 +131,7 @@ impl<'a, A: Allocator + Copy> ElementSegment<'a, A> {
     }
 }
 
-/// Whether it is the type [`RefType::FUNCREF`], for which there are forms that tell no type.
+/// Returns `true` for the type [`RefType::FUNCREF`], which has forms without an explicit type.
 fn has_short_form(ty: RefType) -> bool
     ensures { result ≡ is_funcref ty }
 {
@@ -143,7 +144,7 @@ fn has_short_form(ty: RefType) -> bool
     }
 }
 
-/// The table that is named: table 0 where one is needed and none is given.
+/// Returns the explicit table: table 0 if one is needed and `table` is `None`.
 fn named_table(table: Option<u32>, needed: bool) -> Option<u32>
     ensures { result ≡ settled_table needed table }
 {
@@ -157,7 +158,7 @@ fn named_table(table: Option<u32>, needed: bool) -> Option<u32>
 impl<A: Allocator> Elements<'_, A> {
     ghost use Rattle.wasm_sections.specs.GivenElements.{list_in};
 
-    /// Whether an active segment of these names its table.
+    /// Returns `true` if an active segment of these references needs an explicit table.
     fn needs_table(&self) -> bool
         ensures { result ≡ needs_table (list_in self.now) }
     {
@@ -167,7 +168,7 @@ impl<A: Allocator> Elements<'_, A> {
         }
     }
 
-    /// The bit of the flag that says that these are expressions.
+    /// Returns the bit of the flag that marks expressions.
     fn flag(&self) -> u8
         ensures is { result ≡ where_set (are_expressions (list_in self.now)) 4 }
         ensures small { result ≤ 4 }
@@ -179,7 +180,7 @@ impl<A: Allocator> Elements<'_, A> {
     }
 }
 
-// Parts of the flag of a segment.
+// Bits of the flag of a segment.
 const PASSIVE: u8 = 0x01;
 
 const WITH_TABLE: u8 = 0x02;
@@ -188,17 +189,17 @@ const DECLARED: u8 = 0x03;
 
 const EXPRESSIONS: u8 = 0x04;
 
-/// The byte that tells of functions, where expressions have a type.
+/// The kind byte of functions, in the forms in which expressions have a type.
 const FUNCTIONS: u8 = 0x00;
 
-/// References, and whether their type is told before them.
+/// References, and whether their type is explicit in the encoding.
 #[derive(Drop)]
 struct Told<'a, 'b, A: Allocator> {
     told: bool,
     elements: &'b Elements<'a, A>,
 }
 
-/// The type, where it is told, and the references.
+/// Encodes the type if it is explicit, and the references.
 impl<A: Allocator> Encode for Told<'_, '_, A> {
     ghost use Rattle.wasm_sections.specs.GivenElements.{list_in};
 
@@ -220,7 +221,7 @@ impl<A: Allocator> Encode for Told<'_, '_, A> {
     }
 }
 
-/// A flag, the table and the place where they are told, and the references.
+/// Encodes a flag, the table and the offset if they are explicit, and the references.
 impl<A: Allocator> Encode for ElementSegment<'_, A> {
     ghost use Rattle.wasm_sections.specs.GivenElements.{given_text, list_in};
 
@@ -308,7 +309,7 @@ impl ItemKind for ElementItems {
     }
 }
 
-/// Adding calls. A refused one leaves the section as it was. The layout is that of "Element Section".
+/// Adding calls. The layout is that of "Element Section".
 impl<A: Allocator> ElementSection<A> {
     ghost use Rattle.wasm_sections.specs.declared.element.ElementMode.{ElementMode as Mode};
     ghost use Rattle.wasm_sections.specs.declared.element.ElementMode.TheVariants as modes;
@@ -321,7 +322,7 @@ impl<A: Allocator> ElementSection<A> {
         self.add_record(&segment)
     }
 
-    /// Adds a segment whose references are put in this table when the module is instantiated.
+    /// Adds a segment whose references are copied to this table when the module is instantiated.
     pub fn active<'a, B: Allocator>(
         &mut self,
         table: Option<u32>,
@@ -336,7 +337,7 @@ impl<A: Allocator> ElementSection<A> {
         })
     }
 
-    /// Adds a segment whose references are put in a table when code says so.
+    /// Adds a segment whose references are copied to a table by an instruction.
     pub fn passive<B: Allocator>(&mut self, elements: Elements<'_, B>) -> R<()>
         ensures { Adds (given_text (record { mode = modes.Passive; elements = elements.entry })) (ElementsFit (list_in elements.entry)) self.old self.new result }
     {
@@ -356,7 +357,7 @@ impl<A: Allocator> ElementSection<A> {
         })
     }
 
-    /// Adds a segment that is spelled already.
+    /// Adds a segment that is already encoded. The call does not check that it is one.
     pub fn raw(&mut self, segment: &[u8]) -> R<()>
         ensures { Adds segment.now ⊤ self.old self.new result }
     {

@@ -1,4 +1,4 @@
-// Element segments that were read.
+// The reader and the minimizer of the element section.
 ghost use Rattle.std.specs.Prelude.{◌≡◌, true, false, ◌≢◌, List, IfOk, IfErr, Err, OnOk, map};
 ghost use Rattle.wasm_base.specs.Formats.{is_given, numbered};
 ghost use Rattle.wasm_base.specs.Numbers.{wide};
@@ -15,7 +15,7 @@ use wasm_base::{Encode, R, RefType};
 use wasm_reader_base::{Dropped, Passed, ReadFault, Readable, Shorten, Spelled, pass_many};
 use wasm_reader_insn::Expression;
 
-/// What the flag of an element segment says.
+/// The flag of an element segment, as its bits.
 #[derive(Clone, Copy, Debug)]
 struct ElementFlag {
     not_active: bool,
@@ -24,7 +24,7 @@ struct ElementFlag {
 }
 
 impl ElementFlag {
-    /// Its number.
+    /// Returns the number that encodes the flag.
     fn code(self) -> u32
         ensures { result ≡ flag_code (element_flag_view self) }
     {
@@ -34,7 +34,7 @@ impl ElementFlag {
         not_active + second + expressions
     }
 
-    /// Whether the kind of the elements is told.
+    /// Returns `true` if the kind of the elements is explicit in the encoding.
     fn tells_kind(self) -> bool
         ensures { result ≡ tells_kind (element_flag_view self) }
     {
@@ -69,23 +69,23 @@ impl<'a, A: Allocator + Copy> Readable<'a, A> for ElementFlag {
     }
 }
 
-/// When the elements of a segment are put in a table.
+/// The mode of a decoded element segment: when its elements are copied to a table.
 #[derive(Debug, Drop)]
 pub enum ElementItemMode<A: Allocator = Global> {
-    /// When an instruction says so.
+    /// The elements are copied by an instruction.
     Passive,
-    /// Never: the segment declares that code may refer to these functions.
+    /// The elements are never copied: the segment declares that code may refer to these functions.
     Declared,
-    /// When the module is instantiated.
+    /// The elements are copied when the module is instantiated.
     Active {
-        /// `None` where no table is named, which stands for table 0.
+        /// `None` if the table is not explicit, which means table 0.
         table: Option<u32>,
-        /// Computes the place of the first element.
+        /// Computes the offset of the first element in the table.
         offset: Expression<A>,
     },
 }
 
-/// The elements of a segment.
+/// The elements of a decoded segment.
 #[derive(Debug, Drop)]
 pub enum ElementList<A: Allocator = Global> {
     /// References to the functions of these indices.
@@ -94,14 +94,14 @@ pub enum ElementList<A: Allocator = Global> {
     Expressions(RefType, Vec<Expression<A>, A>),
 }
 
-/// An element segment.
+/// A decoded element segment.
 #[derive(Debug, Drop)]
 pub struct ElementItem<A: Allocator = Global> {
     pub mode: ElementItemMode<A>,
     pub elements: ElementList<A>,
 }
 
-/// Where the elements go, as the flag tells.
+/// Decodes the mode that the flag selects.
 #[tactic(auto, using(crate::proofs::ElementLaws::place_steps))]
 fn read_mode<'a, A: Allocator + Copy>(
     flag: ElementFlag,
@@ -129,7 +129,7 @@ fn read_mode<'a, A: Allocator + Copy>(
     }
 }
 
-/// The indices of functions, behind the byte of their kind where that is told.
+/// Decodes the indices of functions, after the byte of their kind if that is explicit.
 #[tactic(auto, using(crate::proofs::ElementLaws::function_steps))]
 fn read_functions<'a, A: Allocator + Copy>(
     told: bool,
@@ -151,7 +151,7 @@ fn read_functions<'a, A: Allocator + Copy>(
     Ok((ElementList::Functions(functions), rest))
 }
 
-/// Expressions, behind their type where that is told.
+/// Decodes expressions, after their type if that is explicit.
 #[tactic(auto, using(crate::proofs::ElementLaws::expression_steps))]
 fn read_expressions<'a, A: Allocator + Copy>(
     told: bool,
@@ -174,7 +174,7 @@ fn read_expressions<'a, A: Allocator + Copy>(
     ))
 }
 
-/// The elements, of the kind that the flag tells.
+/// Decodes the elements of the kind that the flag selects.
 #[tactic(auto, using(crate::proofs::ElementLaws::list_steps))]
 fn read_elements<'a, A: Allocator + Copy>(
     told: bool,
@@ -214,7 +214,7 @@ impl<'a, A: Allocator + Copy> Readable<'a, A> for ElementItem<A> {
     }
 }
 
-/// Appends the indices of functions, behind the byte of their kind where that is told.
+/// Appends the indices of functions, after the byte of their kind if that is explicit.
 #[tactic(auto, using(crate::proofs::ElementLaws::functions_encoded))]
 fn append_functions<A: Allocator, B: Allocator>(
     told: bool,
@@ -232,7 +232,7 @@ fn append_functions<A: Allocator, B: Allocator>(
     indices.write_minimal(out)
 }
 
-/// Appends expressions, behind their type where that is told.
+/// Appends expressions, after their type if that is explicit.
 #[tactic(auto, using(crate::proofs::ElementLaws::expressions_encoded))]
 fn append_expressions<A: Allocator, B: Allocator>(
     told: bool,
@@ -251,7 +251,7 @@ fn append_expressions<A: Allocator, B: Allocator>(
     elements.write_minimal(out)
 }
 
-/// Appends the table that is named, and the place of the first element.
+/// Appends the table if it is explicit, and the offset of the first element.
 #[tactic(auto, using(crate::proofs::ElementLaws::in_table_appended, crate::proofs::ElementLaws::no_table_appended, crate::proofs::ElementLaws::offset_encoded))]
 fn append_active<A: Allocator, B: Allocator>(
     table: Option<u32>,
@@ -272,7 +272,7 @@ fn append_active<A: Allocator, B: Allocator>(
 }
 
 impl<A: Allocator> ElementItem<A> {
-    /// The flag that says what stands in the segment.
+    /// Returns the flag of the segment.
     fn flag(&self) -> ElementFlag
         ensures { element_flag_view result ≡ flag_of (element_view self.now) }
     {
@@ -290,7 +290,7 @@ impl<A: Allocator> ElementItem<A> {
         }
     }
 
-    /// Appends where the elements go.
+    /// Appends the table and the offset, as the mode needs them.
     #[tactic(auto, using(crate::proofs::ElementLaws::passive_appended, crate::proofs::ElementLaws::declared_appended))]
     fn append_place<B: Allocator>(&self, out: &mut Vec<u8, B>) -> R<()>
         ensures ok { OnOk result (AppendsShortest (place (flag_of (element_view self.now))) (place_view self.now.mode) out.old.items out.new.items) }
@@ -305,7 +305,7 @@ impl<A: Allocator> ElementItem<A> {
     }
 }
 
-/// Appends the elements, with their kind where that is told.
+/// Appends the elements, after their kind if that is explicit.
 fn append_elements<A: Allocator, B: Allocator>(
     told: bool,
     elements: &ElementList<A>,
@@ -331,7 +331,7 @@ impl<A: Allocator> Shorten for ElementItem<A> {
     }
 }
 
-/// Goes over where the elements go, as the flag tells.
+/// Skips the table and the offset that the flag selects.
 #[tactic(auto, using(crate::proofs::ElementLaws::place_steps))]
 fn pass_place<'a, A: Allocator + Copy>(
     flag: ElementFlag,
@@ -355,7 +355,7 @@ fn pass_place<'a, A: Allocator + Copy>(
     }
 }
 
-/// Goes over the indices of functions, behind the byte of their kind where that is told.
+/// Skips the indices of functions, and the byte of their kind if that is explicit.
 fn pass_functions<'a, A: Allocator + Copy>(
     told: bool,
     bytes: &'a [u8],
@@ -376,7 +376,7 @@ fn pass_functions<'a, A: Allocator + Copy>(
     Ok(rest)
 }
 
-/// Goes over expressions, behind their type where that is told.
+/// Skips expressions, and their type if that is explicit.
 fn pass_expressions<'a, A: Allocator + Copy>(
     told: bool,
     bytes: &'a [u8],
@@ -394,7 +394,7 @@ fn pass_expressions<'a, A: Allocator + Copy>(
     Ok(rest)
 }
 
-/// Goes over the elements, of the kind that the flag tells.
+/// Skips the elements of the kind that the flag selects.
 fn pass_elements<'a, A: Allocator + Copy>(
     told: bool,
     of_expressions: bool,

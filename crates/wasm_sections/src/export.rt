@@ -1,4 +1,4 @@
-// Exports and the export section.
+// The export section: its builder, its reader and its minimizer.
 ghost use Rattle.std.specs.Prelude.{◌≡◌, ◌∷◌, ◌++◌, [], ⊤};
 ghost use Rattle.wasm_base.specs.Calls.{Adds};
 ghost use Rattle.wasm_base.specs.Formats.{coded};
@@ -14,7 +14,7 @@ use std::alloc::{Allocator, Global};
 use wasm_base::{Encode, Kind, R, SectionId};
 use wasm_reader_base::{ReadFault, Readable, Spelled};
 
-/// What a module exports.
+/// The export section: the items that a module exports.
 ///
 /// ```rust
 /// let mut exports = ExportSection::new(alloc);
@@ -23,11 +23,11 @@ use wasm_reader_base::{ReadFault, Readable, Spelled};
 /// ```
 pub type ExportSection<A = Global> = CountedSection<ExportItems, A>;
 
-/// The items of an export section: exports.
+/// The kind of an export section's items: exports.
 #[derive(Clone, Copy, Debug)]
 pub struct ExportItems;
 
-/// What kind of thing is exported.
+/// The kind of an exported item.
 #[derive(Clone, Copy, PartialEq, Eq, Hash, Debug)]
 pub enum ExportKind {
     Func = 0x00,
@@ -37,7 +37,7 @@ pub enum ExportKind {
     Tag = 0x04,
 }
 
-/// A name, and what is exported under it.
+/// An export: a name, and the item that is exported under it.
 #[derive(Clone, Copy, Debug)]
 pub struct Export<'a> {
     pub name: &'a str,
@@ -45,7 +45,7 @@ pub struct Export<'a> {
     pub index: u32,
 }
 
-/// One byte.
+/// Encodes the kind as one byte.
 impl Encode for ExportKind {
     ghost text = { λ kind. kind_code kind ∷ [] };
 
@@ -57,7 +57,7 @@ impl Encode for ExportKind {
     }
 }
 
-/// The name, the kind and the index.
+/// Encodes the name, the kind and the index.
 impl Encode for Export<'_> {
     ghost text = { export_text };
 
@@ -94,7 +94,7 @@ impl ItemKind for ExportItems {
 impl RecordOf<ExportItems> for Export<'_> {}
 
 impl<A: Allocator> ExportSection<A> {
-    /// Adds an export. A refused call leaves the section as it was.
+    /// Adds an export.
     pub fn export(&mut self, name: &str, kind: ExportKind, index: u32) -> R<()>
         ensures { Adds (frame_text name.now ++ (kind_code kind ∷ [] ++ unsigned_text index)) (FrameFits name.now) self.old self.new result }
     {

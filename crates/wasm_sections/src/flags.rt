@@ -1,8 +1,8 @@
-// Flags.
+// Flag bytes.
 ghost use Rattle.std.specs.Prelude.{◌≡◌, ◌≤◌};
 ghost use Rattle.wasm_immediates.specs.Immediates.{where_set};
 
-/// So much where the bit is set.
+/// Returns `weight` if the bit is set, and 0 otherwise.
 #[inline]
 pub(crate) fn where_set(set: bool, weight: u8) -> u8
     ensures is { result ≡ where_set set weight }

@@ -8,7 +8,8 @@ use crate::counted_section::{CountedSection, ItemKind, RecordOf};
 use std::alloc::{Allocator, Global};
 use wasm_base::{Encode, Kind, R, SectionId};
 
-/// The types of the functions that a module defines, in the order of their bodies.
+/// The function section: the types of the functions that a module defines, in the order of their
+/// bodies.
 ///
 /// ```rust
 /// let mut functions = FunctionSection::new(alloc);
@@ -17,7 +18,7 @@ use wasm_base::{Encode, Kind, R, SectionId};
 /// ```
 pub type FunctionSection<A = Global> = CountedSection<FunctionItems, A>;
 
-/// The items of a function section: the index of a type for each function.
+/// The kind of a function section's items: the index of a type for each function.
 #[derive(Clone, Copy, Debug)]
 pub struct FunctionItems;
 
@@ -45,7 +46,7 @@ impl ItemKind for FunctionItems {
 
 impl RecordOf<FunctionItems> for u32 {}
 
-/// The index of a type. Many have two bytes, which are written in place too.
+/// The index of a type. Many have two bytes, which are also written inline.
 #[derive(Clone, Copy)]
 struct TypeIndex {
     index: u32,
@@ -73,7 +74,7 @@ impl Encode for TypeIndex {
 }
 
 impl<A: Allocator> FunctionSection<A> {
-    /// Adds a function of the type of this index. A refused call leaves the section as it was.
+    /// Adds a function of the type of this index.
     pub fn function(&mut self, type_index: u32) -> R<()>
         ensures { Adds (unsigned_text type_index) ⊤ self.old self.new result }
     {

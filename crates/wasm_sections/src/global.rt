@@ -1,4 +1,4 @@
-// Global types and the global section.
+// The global section: its builder, its reader and its minimizer.
 ghost use Rattle.std.specs.Prelude.{◌≡◌, ◌++◌, ⊤};
 ghost use Rattle.wasm_base.specs.Calls.{Adds};
 ghost use Rattle.wasm_base.specs.Formats.{coded};
@@ -14,7 +14,7 @@ use wasm_code::ConstExpr;
 use wasm_reader_base::{Dropped, Passed, ReadFault, Readable, Shorten, Spelled};
 use wasm_reader_insn::Expression;
 
-/// The globals that a module defines.
+/// The global section: the globals that a module defines.
 ///
 /// ```rust
 /// let mut globals = GlobalSection::new(alloc);
@@ -24,7 +24,7 @@ use wasm_reader_insn::Expression;
 /// ```
 pub type GlobalSection<A = Global> = CountedSection<GlobalItems, A>;
 
-/// The items of a global section: types of globals, each with the expression of a first value.
+/// The kind of a global section's items: types of globals, each with an initializer expression.
 #[derive(Clone, Copy, Debug)]
 pub struct GlobalItems;
 
@@ -39,7 +39,7 @@ pub struct GlobalType {
 }
 
 impl GlobalType {
-    /// A bit for each part that is set.
+    /// Returns the flags: a bit for each attribute that is set.
     #[inline]
     fn flags(&self) -> u8
         ensures { result ≡ global_code (global_flags self.now) }
@@ -48,7 +48,7 @@ impl GlobalType {
     }
 }
 
-/// The type of the value, and flags.
+/// Encodes the type of the value, and the flags.
 impl Encode for GlobalType {
     ghost text = { global_text };
 
@@ -83,14 +83,14 @@ impl ItemKind for GlobalItems {
 }
 
 impl<A: Allocator> GlobalSection<A> {
-    /// Adds a global of this type, whose first value the expression computes. A refused call leaves the section as it was.
+    /// Adds a global of this type, initialized by the expression.
     pub fn global<B: Allocator>(&mut self, global_type: GlobalType, init: &ConstExpr<B>) -> R<()>
         ensures { Adds (global_text global_type ++ expression_text init.now) ⊤ self.old self.new result }
     {
         self.add_record(&(global_type, Lent(init)))
     }
 
-    /// Adds a global that is spelled already. A refused call leaves the section as it was.
+    /// Adds a global that is already encoded. The call does not check that it is one.
     pub fn raw(&mut self, global: &[u8]) -> R<()>
         ensures { Adds global.now ⊤ self.old self.new result }
     {
@@ -157,7 +157,7 @@ impl<'a, A: Allocator + Copy> Readable<'a, A> for GlobalType {
     }
 }
 
-/// A global: its type, and the expression of its first value.
+/// A decoded global: its type, and its initializer expression.
 #[derive(Debug, Drop)]
 pub struct GlobalItem<A: Allocator = Global> {
     pub global_type: GlobalType,

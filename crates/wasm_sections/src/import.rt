@@ -1,4 +1,4 @@
-// Imports and the import section.
+// The import section: its builder, its reader and its minimizer.
 ghost use Rattle.std.specs.Prelude.{◌≡◌, ◌≢◌, ◌++◌, IfOk, ⊤, ◌≤◌, ◌∷◌, [], List, ℕ, IfErr, MatchOption, Err, OnOk, OnErr, map};
 ghost use Rattle.wasm_base.specs.Calls.{Adds};
 ghost use Rattle.wasm_base.specs.Formats.{name, pair, prefixed, vec};
@@ -25,7 +25,7 @@ use wasm_base::{
 };
 use wasm_reader_base::{Dropped, Passed, ReadFault, Readable, Spelled, pass_many, read_whole};
 
-/// What a module imports.
+/// The import section: the items that a module imports.
 ///
 /// ```rust
 /// let mut imports = ImportSection::new(alloc);
@@ -34,11 +34,12 @@ use wasm_reader_base::{Dropped, Passed, ReadFault, Readable, Spelled, pass_many,
 /// ```
 pub type ImportSection<A = Global> = CountedSection<ImportItems, A>;
 
-/// The items of an import section: imports, and groups of them, each of which is one entry.
+/// The kind of an import section's items: imports and groups of imports, each of which is one
+/// entry.
 #[derive(Clone, Copy, Debug)]
 pub struct ImportItems;
 
-/// The type of what is imported.
+/// The type of an imported item.
 #[derive(Clone, Copy, PartialEq, Eq, Debug)]
 pub enum EntityType {
     /// A function of the type of this index.
@@ -83,7 +84,7 @@ impl From<TagType> for EntityType {
     }
 }
 
-/// A byte for the kind, and the type.
+/// Encodes a byte for the kind, and the type.
 impl Encode for EntityType {
     ghost text = { entity_text };
 
@@ -102,7 +103,7 @@ impl Encode for EntityType {
     }
 }
 
-/// An item of a module, and its type.
+/// An import: the names of a module and of an item in it, and the item's type.
 #[derive(Clone, Copy, Debug)]
 pub struct Import<'a> {
     pub module: &'a str,
@@ -110,23 +111,24 @@ pub struct Import<'a> {
     pub ty: EntityType,
 }
 
-/// An item of a group, whose module is given once.
+/// An item of a group of imports, which names the module once.
 #[derive(Clone, Copy, Debug)]
 pub struct ImportCompact<'a> {
     pub name: &'a str,
     pub ty: EntityType,
 }
 
-/// An import, or a group of imports from one module. A section takes lists that are borrowed, or owned in memory of its own allocator's kind.
+/// An import, or a group of imports from one module. A section accepts lists that are borrowed, or
+/// owned in memory of the section's type of allocator.
 #[derive(Drop, Debug)]
 pub enum Imports<'a, A: Allocator = Global> {
     Single(Import<'a>),
-    /// Items of types of their own.
+    /// A group whose items have types of their own.
     Compact1 {
         module: &'a str,
         items: CowSlice<'a, ImportCompact<'a>, A>,
     },
-    /// Items of one type.
+    /// A group of items of one type.
     Compact2 {
         module: &'a str,
         ty: EntityType,
@@ -135,7 +137,7 @@ pub enum Imports<'a, A: Allocator = Global> {
 }
 
 impl<A: Allocator + Copy> Imports<'_, A> {
-    /// The same imports; a list that is owned is copied.
+    /// Returns the same imports, and copies an owned list.
     pub fn clone(&self) -> R<Self>
         ensures same { IfOk result (λ imports. imports_item imports ≡ imports_item self.now) }
         ensures memory { result ≢ Err TooLong }
@@ -155,7 +157,7 @@ impl<A: Allocator + Copy> Imports<'_, A> {
     }
 }
 
-/// The two names, and the type.
+/// Encodes the two names, and the type.
 impl Encode for Import<'_> {
     ghost text = { λ import. import_text (import_item import) };
 
@@ -167,7 +169,7 @@ impl Encode for Import<'_> {
     }
 }
 
-/// The name, and the type.
+/// Encodes the name, and the type.
 impl Encode for ImportCompact<'_> {
     ghost text = { λ import. named_text (compact_item import) };
 
@@ -179,7 +181,8 @@ impl Encode for ImportCompact<'_> {
     }
 }
 
-/// The import; or the name of the module, two bytes that no import has there, and the group.
+/// Encodes a single import as such. A group is the name of the module, two bytes that no import has
+/// there, and the items.
 impl<A: Allocator> Encode for Imports<'_, A> {
     ghost text = { λ imports. import_text (imports_item imports) };
 
@@ -224,14 +227,14 @@ impl ItemKind for ImportItems {
 impl RecordOf<ImportItems> for Import<'_> {}
 
 impl<A: Allocator> ImportSection<A> {
-    /// Adds an import. A refused call leaves the section as it was.
+    /// Adds an import.
     pub fn import(&mut self, module: &str, name: &str, ty: EntityType) -> R<()>
         ensures { Adds (frame_text «module».now ++ (frame_text name.now ++ entity_text ty)) (FrameFits «module».now × FrameFits name.now) self.old self.new result }
     {
         self.add_record(&Import { module, name, ty })
     }
 
-    /// Adds an import or a group of imports, as one entry. A refused call leaves the section as it was.
+    /// Adds an import or a group of imports, as one entry.
     pub fn imports(&mut self, imports: Imports<'_, A>) -> R<()>
         ensures { Adds (import_text (imports_item imports.entry)) (ImportFits (imports_item imports.entry)) self.old self.new result }
     {
@@ -305,7 +308,8 @@ impl<'a, A: Allocator + Copy> Readable<'a, A> for ImportCompact<'a> {
     }
 }
 
-/// The byte of a group, and what follows it, where no single import stands there: behind an empty name the byte is no entity's.
+/// Returns the kind byte of a group and the remaining bytes, if no single import is at the front:
+/// after an empty name, this byte is the kind of no entity.
 #[tactic(auto, using(crate::proofs::ImportLaws::group_steps))]
 fn group_kind(bytes: &[u8]) -> Option<(u8, &[u8])>
     ensures { MatchOption result (ReadsNothing (prefixed (0x00 ∷ []) group) wide bytes.now) (λ x. (bytes.now ≡ 0x00 ∷ x.0 ∷ x.1.now) × (0x7E ≤ x.0)) }
@@ -363,7 +367,12 @@ impl<'a, A: Allocator + Copy> Readable<'a, A> for Imports<'a, A> {
     }
 }
 
-/// Imports, and groups of them, behind their number, which all of the bytes spell. Memory is taken for those that stand there, and not by their number.
+/// Decodes the payload of an import section: a count and that many imports and groups, which occupy
+/// all of the bytes. Memory grows with the imports that decode, and is not allocated by the count.
+///
+/// # Errors
+///
+/// Any error but `Memory` means that the bytes are not such a payload.
 pub fn read_imports<'a, A: Allocator + Copy + 'a>(
     bytes: &'a [u8],
     alloc: A,
@@ -374,7 +383,8 @@ pub fn read_imports<'a, A: Allocator + Copy + 'a>(
     read_whole::<'a, Vec<Imports<'a, A>, A>, A>(bytes, alloc)
 }
 
-/// Writes what [`append_imports`] appends. After an error, a part of it may be behind the old bytes.
+/// Writes the bytes that [`append_imports`] appends. After an error, part of them may follow the
+/// old bytes.
 #[tactic(auto, using(wasm_reader_base::proofs::ShortTexts::members_start))]
 fn write_imports<A: Allocator, B: Allocator>(
     imports: &[Imports<'_, A>],
@@ -391,7 +401,8 @@ fn write_imports<A: Allocator, B: Allocator>(
     Ok(())
 }
 
-/// Appends the minimal encoding of imports, and groups of them, after their number. On an error, the sink is as it was.
+/// Appends the minimal encoding of imports and groups of imports, after their count. On an error,
+/// the sink is unchanged.
 pub fn append_imports<A: Allocator, B: Allocator>(
     imports: &[Imports<'_, A>],
     out: &mut Vec<u8, B>,
@@ -408,7 +419,7 @@ pub fn append_imports<A: Allocator, B: Allocator>(
     written
 }
 
-/// An import or a group of imports, of which nothing is kept.
+/// An import or a group of imports that is skipped.
 #[derive(Debug)]
 pub struct PassedImports;
 

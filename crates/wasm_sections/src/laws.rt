@@ -1,6 +1,8 @@
-//! What is promised of all lists of bytes, and not of a call: each function does nothing, and its clauses are the promise.
+//! Laws about sections and their items, for all byte sequences: each function does nothing, and its
+//! clauses are the law.
 //!
-//! `ItemLaws` says of a kind of items that they are read uniquely, and that the text of a plain record spells what it says.
+//! `ItemLaws` says of a kind of items that its format is unambiguous, and that a well-formed record
+//! encodes its item.
 ghost use Rattle.std.specs.Prelude.{◌≡◌, All, ◌∷◌, []};
 ghost use Rattle.wasm_base.specs.Entries.{ItemLaws, counted_format};
 ghost use Rattle.wasm_base.specs.Formats.{u32 as u32_format, frame, vec};
@@ -27,7 +29,8 @@ use crate::memory::MemoryType;
 use crate::table::TableType;
 use std::alloc::Allocator;
 
-/// Sections are read uniquely, and so are their items; the text of a plain record spells what it says.
+/// The formats of sections and of their items are unambiguous. A well-formed record encodes its
+/// item.
 pub fn sections()
     ensures functions { UniqueReading (counted_format u32_format) }
     ensures tables { UniqueReading (counted_format table_item) }
@@ -54,7 +57,8 @@ pub fn sections()
     ensures tag_items { ItemLaws tag_items }
 {}
 
-/// With padded numbers too, sections are read uniquely, and what shortest numbers spell is among it.
+/// With padded numbers the formats of sections are unambiguous too. A minimal encoding is also an
+/// encoding in this mode.
 pub fn wide()
     ensures functions { IsUniqueWide (counted_format u32_format) }
     ensures tables { IsUniqueWide (counted_format table_item) }
@@ -71,7 +75,8 @@ pub fn wide()
     ensures numbers { IsUniqueWide (frame u32_format) }
 {}
 
-/// What sections hold, call by call: at first no items, and after a call that adds a plain record what this says too.
+/// The items that sections hold, call by call: none at first, and one more after each call that
+/// adds a well-formed record.
 pub fn calls()
     ensures functions { HoldsMore function_items }
     ensures tables { HoldsMore table_items }
@@ -84,8 +89,8 @@ pub fn calls()
     ensures tags { HoldsMore tag_items }
 {}
 
-/// The same with padded numbers: a record may be plain but for padded numbers in its expressions, and a piece may spell its item with
-/// padded numbers.
+/// The same with padded numbers: a record may be well-formed but for padded numbers in its
+/// expressions, and an entry may be a padded encoding of its item.
 #[tactic(auto, using(crate::proofs::Calls::sections, wasm_base::proofs::SectionLaws::held_wide))]
 pub fn wide_calls()
     ensures functions { HoldsMoreWide function_items }
@@ -99,14 +104,15 @@ pub fn wide_calls()
     ensures tags { HoldsMoreWide tag_items }
 {}
 
-/// What a call of an element section appends, `given_text`, is the `element_text` of each record that has the segment's place and elements,
-/// with the same bytes of expressions.
+/// A call of an element section appends `given_text`. It equals the `element_text` of each record
+/// that has the segment's mode and elements, with the same bytes of expressions.
 #[tactic(auto, using(crate::proofs::ElementLaws::given_element))]
 pub fn given_elements<A: Allocator>()
     ensures { (segment : ElementSegment A) (given : ElementItem Stored) → HaveOneText segment given }
 {}
 
-/// Where a module is read as ids and payloads, and a section as its items alone, its payload is read as these alone.
+/// If a module decodes to ids and payloads, and a section decodes to its items alone, then its
+/// payload decodes to these alone.
 pub fn payloads()
     ensures functions { ReadsPayloads (vec u32_format) }
     ensures tables { ReadsPayloads (vec table_item) }
@@ -135,8 +141,9 @@ pub fn wide_payloads()
     ensures numbers { ReadsPayloadsWide u32_format }
 {}
 
-/// No section stands in these three texts, with padded numbers neither: in that of globals bytes follow the first `End` of a constant
-/// expression, in that of data a segment that names its memory names memory 0, and in that of imports the byte 00 before a group is padded.
+/// These three byte sequences encode no section, with padded numbers neither. In that of globals,
+/// bytes follow the first `End` of a constant expression. In that of data, a segment with an
+/// explicit memory has memory 0. In that of imports, the byte 00 before a group is padded.
 #[tactic(auto, using(crate::proofs::NothingLaws::nothing))]
 pub fn nothing_stands()
     ensures inner_end { NothingStandsWide (counted_format global_item) (9 ∷ 1 ∷ 127 ∷ 0 ∷ 65 ∷ 1 ∷ 11 ∷ 65 ∷ 2 ∷ 11 ∷ []) }
@@ -144,7 +151,8 @@ pub fn nothing_stands()
     ensures padded_group { NothingStandsWide (counted_format import_format) (6 ∷ 1 ∷ 0 ∷ 128 ∷ 0 ∷ 127 ∷ 0 ∷ []) }
 {}
 
-/// An export is plain: its name is UTF-8, and its index in range. Returns the index.
+/// Proves that an export is well-formed: its name is UTF-8, and its index is in range. Returns the
+/// index.
 pub fn plain_export(export: &Export<'_>) -> u32
     ensures plain { IsExport export.now }
     ensures index { result ≡ export.now.index }
@@ -152,7 +160,7 @@ pub fn plain_export(export: &Export<'_>) -> u32
     export.index
 }
 
-/// Each export of a list is plain.
+/// Proves that each export of a list is well-formed.
 pub fn plain_exports(exports: &[Export<'_>])
     ensures { All IsExport exports.now }
 {
@@ -161,22 +169,23 @@ pub fn plain_exports(exports: &[Export<'_>])
     }
 }
 
-/// The numbers of a table type are in range. Of one that lies behind a reference, as in a list, no clause shows it: this call does.
+/// Proves that the numbers of a table type are in range. For one behind a reference, as in a list,
+/// no clause shows that; this call does.
 pub fn plain_table(table: TableType)
     ensures { IsTable table }
 {}
 
-/// So are those of a memory type.
+/// Proves the same of a memory type.
 pub fn plain_memory(memory: MemoryType)
     ensures { IsMemory memory }
 {}
 
-/// So are those of a global type.
+/// Proves the same of a global type.
 pub fn plain_global(global: GlobalType)
     ensures { IsGlobal global }
 {}
 
-/// So are those of what is imported, whatever its kind.
+/// Proves the same of the type of an import, whatever its kind.
 pub fn plain_entity(entity: EntityType)
     ensures { IsEntity entity }
 {}

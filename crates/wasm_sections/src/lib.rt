@@ -1,6 +1,9 @@
-//! The sections of a WebAssembly module, by the core specification, "Binary Format", "Modules".
+//! The core sections of a WebAssembly module but for types and code, by the core specification,
+//! "Binary Format", "Modules".
 //!
-//! The crate also reads their items, by `Readable` of `wasm_reader_base`, goes over them by `Passed`, and writes those that were read in their fewest bytes, by `Shorten`.
+//! Each section has a builder. The crate also decodes their items (`Readable` of
+//! `wasm_reader_base`), skips them (`Passed`), and writes decoded ones in their minimal encoding
+//! (`Shorten`).
 #![tactic(auto)]
 
 mod counted_section;

@@ -1,4 +1,4 @@
-// Memory types and the memory section.
+// The memory section: its builder, its reader and its minimizer.
 ghost use Rattle.std.specs.Prelude.{◌≡◌, ◌^◌, ◌<◌, ⊤};
 ghost use Rattle.wasm_base.specs.Calls.{Adds};
 ghost use Rattle.wasm_sections.specs.Flags.{flags_code, Flags as FlagBits, flags as flags_format, flags_view};
@@ -11,7 +11,7 @@ use std::alloc::{Allocator, Global};
 use wasm_base::{Encode, Kind, Optional, R, SectionId};
 use wasm_reader_base::{ReadFault, Readable, Spelled, read_optional};
 
-/// The memories that a module defines.
+/// The memory section: the memories that a module defines.
 ///
 /// ```rust
 /// let mut memories = MemorySection::new(alloc);
@@ -20,7 +20,7 @@ use wasm_reader_base::{ReadFault, Readable, Spelled, read_optional};
 /// ```
 pub type MemorySection<A = Global> = CountedSection<MemoryItems, A>;
 
-/// The items of a memory section: memory types.
+/// The kind of a memory section's items: memory types.
 #[derive(Clone, Copy, Debug)]
 pub struct MemoryItems;
 
@@ -33,12 +33,12 @@ pub struct MemoryType {
     pub memory64: bool,
     /// Whether threads share the memory.
     pub shared: bool,
-    /// The size of a page, as an exponent of 2. It is not checked.
+    /// The size of a page in bytes, as an exponent of 2. It is not checked.
     pub page_size_log2: Option<u32>,
 }
 
 impl MemoryType {
-    /// The size of a page, as an exponent of 2: 16 where none is given.
+    /// Returns the size of a page in bytes, as an exponent of 2: 16 by default.
     pub fn page_size_log2(&self) -> u32
         ensures { result ≡ page_exponent self.now.page_size_log2 }
     {
@@ -48,7 +48,7 @@ impl MemoryType {
         }
     }
 
-    /// The size of a page in bytes.
+    /// Returns the size of a page in bytes.
     pub fn page_size(&self) -> u32
         requires { page_exponent self.now.page_size_log2 < 32 }
         ensures { result ≡ 2 ^ page_exponent self.now.page_size_log2 }
@@ -56,7 +56,8 @@ impl MemoryType {
         1 << self.page_size_log2()
     }
 
-    /// A bit for each part that is given or set.
+    /// Returns the flags: a bit for each optional field that is present, and for each attribute
+    /// that is set.
     #[inline]
     fn flags(&self) -> u8
         ensures { result ≡ flags_code (memory_flags self.now) }
@@ -68,7 +69,7 @@ impl MemoryType {
     }
 }
 
-/// Flags, the minimum, and the parts that the flags tell of.
+/// Encodes the flags, the minimum, and the fields for which the flags have a bit.
 impl Encode for MemoryType {
     ghost text = { memory_text };
 
@@ -107,7 +108,7 @@ impl ItemKind for MemoryItems {
 impl RecordOf<MemoryItems> for MemoryType {}
 
 impl<A: Allocator> MemorySection<A> {
-    /// Adds a memory of this type. A refused call leaves the section as it was.
+    /// Adds a memory of this type.
     pub fn memory(&mut self, memory_type: MemoryType) -> R<()>
         ensures { Adds (memory_text memory_type) ⊤ self.old self.new result }
     {

@@ -1,4 +1,4 @@
-// Sections of one number.
+// The start section and the data count section, which hold one number each.
 ghost use Rattle.std.specs.Prelude.{◌≡◌, ℕ, OnOk};
 ghost use Rattle.wasm_base.specs.Calls.{Appends, ReadsBack};
 ghost use Rattle.wasm_base.specs.Formats.{frame, u32 as u32_format};
@@ -8,7 +8,7 @@ ghost use Rattle.wasm_base.specs.Texts.{frame_text, FrameFits};
 use std::alloc::Allocator;
 use wasm_base::{Encode, R, Section, SectionId, begin_frame, encoding_size};
 
-/// The function that a module runs when it is instantiated.
+/// The start section: the function that runs when a module is instantiated.
 ///
 /// ```rust
 /// module.section(&StartSection { function_index: 0 })?;
@@ -18,7 +18,8 @@ pub struct StartSection {
     pub function_index: u32,
 }
 
-/// The number of data segments, which stands before the code that refers to them.
+/// The data count section: the number of data segments. It belongs before the code that refers to
+/// them.
 ///
 /// ```rust
 /// module.section(&DataCountSection { count: 1 })?;
@@ -29,7 +30,7 @@ pub struct DataCountSection {
     pub count: u32,
 }
 
-/// Appends the frame of the number, which is read as this alone.
+/// Appends the number with its size prefix, which decode to this number alone.
 fn encode_number<A: Allocator>(sink: &mut Vec<u8, A>, number: u32) -> R<()>
     ensures appends { Appends (frame_text (unsigned_text number)) (FrameFits (unsigned_text number)) sink.old sink.new result }
     ensures read { OnOk result (ReadsBack (frame u32_format) (λ said. said ≡ number) (frame_text (unsigned_text number))) }
@@ -39,7 +40,7 @@ fn encode_number<A: Allocator>(sink: &mut Vec<u8, A>, number: u32) -> R<()>
     Ok(())
 }
 
-/// The frame of the index.
+/// Encodes the index with its size prefix.
 impl Encode for StartSection {
     ghost text = { λ s. frame_text (unsigned_text s.function_index) };
 
@@ -76,7 +77,7 @@ impl Section for StartSection {
     ghost reads_back = { λ s promised. promised };
 }
 
-/// The frame of the count.
+/// Encodes the count with its size prefix.
 impl Encode for DataCountSection {
     ghost text = { λ s. frame_text (unsigned_text s.count) };
 

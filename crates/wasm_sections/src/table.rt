@@ -1,4 +1,4 @@
-// Table types and the table section.
+// The table section: its builder, its reader and its minimizer.
 ghost use Rattle.std.specs.Prelude.{◌≡◌, ◌++◌, ⊤};
 ghost use Rattle.wasm_base.specs.Calls.{Adds};
 ghost use Rattle.wasm_code.specs.Expressions.{expression_text};
@@ -15,7 +15,7 @@ use wasm_code::ConstExpr;
 use wasm_reader_base::{Dropped, Passed, ReadFault, Readable, Shorten, Spelled, read_optional};
 use wasm_reader_insn::Expression;
 
-/// The tables that a module defines.
+/// The table section: the tables that a module defines.
 ///
 /// ```rust
 /// let mut tables = TableSection::new(alloc);
@@ -26,7 +26,7 @@ use wasm_reader_insn::Expression;
 /// ```
 pub type TableSection<A = Global> = CountedSection<TableItems, A>;
 
-/// The items of a table section: table types, some with the expression of a first value.
+/// The kind of a table section's items: table types, some with an initializer expression.
 #[derive(Clone, Copy, Debug)]
 pub struct TableItems;
 
@@ -43,7 +43,7 @@ pub struct TableType {
 }
 
 impl TableType {
-    /// The type of an index into the table.
+    /// Returns the type of an index into the table.
     pub fn index_type(&self) -> ValType
         ensures { result ≡ index_type_of self.now.table64 }
     {
@@ -54,7 +54,8 @@ impl TableType {
         }
     }
 
-    /// A bit for each part that is given or set.
+    /// Returns the flags: a bit for each optional field that is present, and for each attribute
+    /// that is set.
     #[inline]
     fn flags(&self) -> u8
         ensures { result ≡ flags_code (table_flags self.now) }
@@ -65,7 +66,7 @@ impl TableType {
     }
 }
 
-/// The type of the elements, flags, the minimum, and the maximum where one is given.
+/// Encodes the type of the elements, the flags, the minimum, and the maximum if there is one.
 impl Encode for TableType {
     ghost text = { table_text };
 
@@ -103,15 +104,14 @@ impl ItemKind for TableItems {
 impl RecordOf<TableItems> for TableType {}
 
 impl<A: Allocator> TableSection<A> {
-    /// Adds a table of this type, whose elements are null at first. A refused call leaves the section as it was.
+    /// Adds a table of this type, whose elements are initially null.
     pub fn table(&mut self, table_type: TableType) -> R<()>
         ensures { Adds (table_text table_type) ⊤ self.old self.new result }
     {
         self.add_record(&table_type)
     }
 
-    /// Adds a table of this type, whose elements have at first the value that the expression computes. A refused call leaves the
-    /// section as it was.
+    /// Adds a table of this type, whose elements are initialized by the expression.
     pub fn table_with_init<B: Allocator>(
         &mut self,
         table_type: TableType,
@@ -123,7 +123,7 @@ impl<A: Allocator> TableSection<A> {
     }
 }
 
-/// The limits of a table: all of its type but the type of its elements.
+/// The limits of a table: its type without the type of its elements.
 #[derive(Clone, Copy, Debug)]
 struct Limits {
     table64: bool,
@@ -190,10 +190,10 @@ impl<'a, A: Allocator + Copy> Readable<'a, A> for TableType {
     }
 }
 
-/// What stands before a table with a first value.
+/// The bytes before a table with an initializer.
 pub(crate) const BEFORE_INIT: [u8; 2] = [0x40, 0x00];
 
-/// A table: its type, and the expression of its elements' first value where one is given.
+/// A decoded table: its type, and its optional initializer expression.
 #[derive(Debug, Drop)]
 pub struct TableItem<A: Allocator = Global> {
     pub table_type: TableType,

@@ -1,4 +1,4 @@
-// Tag types and the tag section.
+// The tag section: its builder, its reader and its minimizer.
 ghost use Rattle.std.specs.Prelude.{◌≡◌, ⊤};
 ghost use Rattle.wasm_base.specs.Calls.{Adds};
 ghost use Rattle.wasm_base.specs.Formats.{coded};
@@ -11,7 +11,7 @@ use std::alloc::{Allocator, Global};
 use wasm_base::{Encode, Kind, R, SectionId};
 use wasm_reader_base::{ReadFault, Readable, Spelled};
 
-/// The tags that a module defines.
+/// The tag section: the tags that a module defines.
 ///
 /// ```rust
 /// let mut tags = TagSection::new(alloc);
@@ -20,11 +20,11 @@ use wasm_reader_base::{ReadFault, Readable, Spelled};
 /// ```
 pub type TagSection<A = Global> = CountedSection<TagItems, A>;
 
-/// The items of a tag section: tag types.
+/// The kind of a tag section's items: tag types.
 #[derive(Clone, Copy, Debug)]
 pub struct TagItems;
 
-/// What a tag is for.
+/// The purpose of a tag.
 #[derive(Clone, Copy, PartialEq, Eq, Debug)]
 pub enum TagKind {
     Exception,
@@ -34,12 +34,12 @@ pub enum TagKind {
 #[derive(Clone, Copy, PartialEq, Eq, Debug)]
 pub struct TagType {
     pub kind: TagKind,
-    /// The index of the type of a function, whose parameters the tag carries.
+    /// The index of a function type, whose parameters the tag carries.
     pub func_type_idx: u32,
 }
 
 impl TagKind {
-    /// Its byte.
+    /// Returns the byte that encodes the kind.
     #[inline]
     fn byte(self) -> u8
         ensures { result ≡ tag_code self }
@@ -50,7 +50,7 @@ impl TagKind {
     }
 }
 
-/// The kind, and the index.
+/// Encodes the kind, and the index.
 impl Encode for TagType {
     ghost text = { tag_text };
 
@@ -87,7 +87,7 @@ impl ItemKind for TagItems {
 impl RecordOf<TagItems> for TagType {}
 
 impl<A: Allocator> TagSection<A> {
-    /// Adds a tag of this type. A refused call leaves the section as it was.
+    /// Adds a tag of this type.
     pub fn tag(&mut self, tag_type: TagType) -> R<()>
         ensures { Adds (tag_text tag_type) ⊤ self.old self.new result }
     {

@@ -1,33 +1,34 @@
-// What is wrong with a recipe, and where.
+// The error of a recipe, and its line.
 ghost use Rattle.std.specs.Prelude.{◌≡◌};
 
 use thiserror::Error;
 use wasm_base::Refused;
 
-/// Why a line of a recipe is refused.
+/// The cause of an error in a recipe.
 #[derive(Clone, Copy, PartialEq, Eq, Debug, Error)]
 pub enum RecipeCause {
-    /// The first word of the line is no command, or the kind of an export is none.
+    /// The first word of the line is not a command, or the kind of an export is unknown.
     #[error("unknown command")]
     UnknownCommand,
-    /// A word that is to be a number is none in range.
+    /// A word that should be a number is not one in range.
     #[error("bad number")]
     BadNumber,
-    /// A word that is to be bytes is no even number of hexadecimal digits.
+    /// A word that should be bytes is not an even number of hexadecimal digits.
     #[error("bad hex")]
     BadHex,
     /// The command needs more words.
     #[error("missing word")]
     MissingWord,
-    /// A request for memory was refused.
+    /// An allocation failed.
     #[error("out of memory")]
     Memory,
-    /// A count or a size of the module would pass 4294967295.
+    /// A count or a size of the module would exceed 4294967295.
     #[error("too long")]
     TooLong,
 }
 
-/// The first faulty line of a recipe, or the one at which it was refused, counted from 1; 0 for a refusal after the last line.
+/// The error of a recipe, with the number of its line, counted from 1; 0 for an error after the
+/// last line.
 #[derive(Clone, Copy, PartialEq, Eq, Debug, Error)]
 #[error("line {line}: {cause}")]
 pub struct RecipeFault {
@@ -48,7 +49,7 @@ impl From<Refused> for RecipeCause {
     }
 }
 
-/// A refusal after the last line.
+/// An error after the last line.
 impl From<Refused> for RecipeFault {
     ghost use Rattle.wasm_tool.specs.Steps.{cause_of};
 

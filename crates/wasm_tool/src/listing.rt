@@ -1,4 +1,4 @@
-// A module's sections, as lines of text.
+// The listing of a module's sections, for `--read`.
 ghost use Rattle.std.specs.Prelude.{◌≡◌, ◌≢◌, ◌++◌, OnOk, IfErr, IfOk, string_bytes};
 ghost use Rattle.wasm_tool.specs.Listings.{line_of, listing_of, DropsBlanks, IsHexText, Lists};
 ghost use Rattle.wasm_tool.specs.declared.program.Trouble.TheVariants.{Usage};
@@ -8,7 +8,7 @@ use hex::FromHexError;
 use std::alloc::{AllocError, Allocator};
 use wasm_reader::{Listed, list_module};
 
-/// The line of a section: its id, its size and its number of items.
+/// Appends the line of a section: its id, its size and its number of items.
 fn push_line<A: Allocator>(text: &mut String<A>, section: &Listed) -> Result<(), AllocError>
     ensures { OnOk result (string_bytes text.new ≡ string_bytes text.old ++ line_of section.now) }
 {
@@ -20,7 +20,7 @@ fn push_line<A: Allocator>(text: &mut String<A>, section: &Listed) -> Result<(),
     }
 }
 
-/// The lines of the sections.
+/// Returns the lines of the sections.
 fn lines<A: Allocator>(alloc: A, sections: &[Listed]) -> Result<String<A>, AllocError>
     ensures { IfOk result (λ text. string_bytes text ≡ listing_of sections.now) }
 {
@@ -31,7 +31,7 @@ fn lines<A: Allocator>(alloc: A, sections: &[Listed]) -> Result<String<A>, Alloc
     Ok(text)
 }
 
-/// The text without the spaces and line ends at its end.
+/// Returns the input without spaces and line ends at its end.
 fn without_end(text: &[u8]) -> &[u8]
     ensures { DropsBlanks text.now result.now }
 {
@@ -42,7 +42,7 @@ fn without_end(text: &[u8]) -> &[u8]
     text
 }
 
-/// The bytes that a hexadecimal text tells.
+/// Returns the bytes that the hexadecimal digits encode.
 fn hex_bytes<A: Allocator>(alloc: A, text: &[u8]) -> Result<Vec<u8, A>, Trouble>
     ensures bytes { IfOk result (λ bytes. IsHexText text.now bytes.items) }
     ensures usage { IfErr result (λ trouble. trouble ≢ Usage) }
@@ -56,7 +56,7 @@ fn hex_bytes<A: Allocator>(alloc: A, text: &[u8]) -> Result<Vec<u8, A>, Trouble>
     })
 }
 
-/// What is written for the hexadecimal text of a module.
+/// Returns the output for a module in hexadecimal.
 pub(crate) fn listing<A: Allocator + Copy>(alloc: A, text: &[u8]) -> Result<String<A>, Trouble>
     ensures listed { IfOk result (λ lines. Lists text.now (string_bytes lines)) }
     ensures usage { IfErr result (λ trouble. trouble ≢ Usage) }

@@ -1,4 +1,4 @@
-// Recipes: from lines of text to a module.
+// Recipes: from lines to a module.
 ghost use Rattle.std.specs.Prelude.{get_or, ◌≡◌, ◌≢◌, ◌⊎◌, ◌++◌, ◌∷◌, [], All, IfOk, IfErr, IsErr, OnOk, MatchResult, Some, None, length};
 ghost use Rattle.std.specs.Str.Lines.{strip_carriage_return};
 ghost use Rattle.hex.specs.Hex.{decode_of};
@@ -48,7 +48,7 @@ use wasm_sections::{
     GlobalType, ItemKind, MemorySection, MemoryType, StartSection,
 };
 
-/// The sections to which the lines read so far have added.
+/// The sections to which the lines so far have added items.
 #[derive(Drop)]
 pub(crate) struct Recipe<A: Allocator> {
     types: Pieces<A>,
@@ -62,7 +62,7 @@ pub(crate) struct Recipe<A: Allocator> {
     names: NameSection<A>,
 }
 
-/// The bytes of a word of hexadecimal digits.
+/// Decodes a word of hexadecimal digits.
 fn hex_bytes<A: Allocator>(alloc: A, word: &str) -> Result<Vec<u8, A>, RecipeCause>
     ensures ok { IfOk result (λ bytes. decode_of word.now ≡ Ok bytes.items) }
     ensures err { IfErr result (λ cause. (cause ≡ RecipeCause.Memory) ⊎ ((cause ≡ RecipeCause.BadHex) × IsErr (decode_of word.now))) }
@@ -73,7 +73,8 @@ fn hex_bytes<A: Allocator>(alloc: A, word: &str) -> Result<Vec<u8, A>, RecipeCau
     })
 }
 
-/// The word, unless it begins with a plus sign: `parse` takes one, and a number of a recipe has none.
+/// Returns the word unless it begins with a plus sign, which `parse` accepts and a number of a
+/// recipe does not have.
 fn numeral(word: &str) -> Result<&str, RecipeCause>
     ensures { MatchResult result (λ same. (same.now ≡ word.now) × (get_or word.now 0 0 ≢ 43)) (λ cause. (cause ≡ RecipeCause.BadNumber) × (get_or word.now 0 0 ≡ 43)) }
 {
@@ -83,7 +84,7 @@ fn numeral(word: &str) -> Result<&str, RecipeCause>
     Ok(word)
 }
 
-/// The number that a word of decimal digits spells.
+/// Parses a word of decimal digits as a number of 64 bits.
 fn number(word: &str) -> Result<u64, RecipeCause>
     ensures { MatchResult result (λ n. decimal_of 64 word.now ≡ Some n) (λ cause. (cause ≡ RecipeCause.BadNumber) × (decimal_of 64 word.now ≡ None)) }
 {
@@ -93,7 +94,7 @@ fn number(word: &str) -> Result<u64, RecipeCause>
     Ok(n)
 }
 
-/// The number of 32 bits that a word of decimal digits spells.
+/// Parses a word of decimal digits as a number of 32 bits.
 fn index(word: &str) -> Result<u32, RecipeCause>
     ensures { MatchResult result (λ n. decimal_of 32 word.now ≡ Some n) (λ cause. (cause ≡ RecipeCause.BadNumber) × (decimal_of 32 word.now ≡ None)) }
 {
@@ -103,7 +104,7 @@ fn index(word: &str) -> Result<u32, RecipeCause>
     Ok(n)
 }
 
-/// The number of 32 bits that a word of decimal digits spells, behind `-` a negative one.
+/// Parses a word of decimal digits, negative after `-`, as a signed number of 32 bits.
 fn signed(word: &str) -> Result<i32, RecipeCause>
     ensures { MatchResult result (λ n. signed_of word.now ≡ Some n) (λ cause. (cause ≡ RecipeCause.BadNumber) × (signed_of word.now ≡ None)) }
 {
@@ -113,7 +114,7 @@ fn signed(word: &str) -> Result<i32, RecipeCause>
     Ok(value)
 }
 
-/// What a word names that can be exported.
+/// Returns the kind of export that a word names.
 fn export_kind(word: &str) -> Option<ExportKind>
     ensures { result ≡ export_kind_of word.now }
 {
@@ -127,7 +128,7 @@ fn export_kind(word: &str) -> Option<ExportKind>
     }
 }
 
-/// Puts a section into the module, if it has an item.
+/// Appends a section to the module, if it has an item.
 fn put_counted<K: ItemKind, A: Allocator, B: Allocator>(
     section: &CountedSection<K, A>,
     target: &mut Module<B>,
@@ -140,7 +141,7 @@ fn put_counted<K: ItemKind, A: Allocator, B: Allocator>(
     target.section(section)
 }
 
-/// A function without locals, of these instructions.
+/// Returns a function without locals, with these instructions.
 fn function_of<A: Allocator>(alloc: A, instructions: Vec<u8, A>) -> R<Function<A>>
     ensures ok { IfOk result (λ function. function ≡ 0 ∷ instructions.items) }
     ensures memory { result ≢ Err refusals.TooLong }
@@ -150,7 +151,7 @@ fn function_of<A: Allocator>(alloc: A, instructions: Vec<u8, A>) -> R<Function<A
     Ok(function)
 }
 
-/// Adds bytes at this place of memory 0.
+/// Adds bytes at this offset of memory 0.
 fn add_data<A: Allocator>(
     segments: &mut DataSection<A>,
     offset: &ConstExpr<A>,
@@ -178,7 +179,7 @@ impl<A: Allocator + Copy> Recipe<A> {
         }
     }
 
-    /// Reads a line, and adds its item.
+    /// Parses a line, and adds its item.
     fn read_line(&mut self, alloc: A, line: &str) -> Result<(), RecipeCause>
         ensures { Follows (entry_of line.now) self.old self.new result }
     {
@@ -200,7 +201,7 @@ impl<A: Allocator + Copy> Recipe<A> {
         }
     }
 
-    /// Reads the lines of a text into sections without items.
+    /// Parses the lines of a recipe into sections without items.
     fn read_lines(&mut self, alloc: A, lines: &str) -> Result<(), RecipeFault>
         ensures { IsEmpty self.old → MatchResult result (λ _. HoldsLines (lines_of lines.now) self.new) (λ fault. Explains lines.now fault.line fault.cause) }
     {
@@ -276,7 +277,7 @@ impl<A: Allocator + Copy> Recipe<A> {
         Ok(())
     }
 
-    /// Reads the start index, which replaces an earlier one.
+    /// Parses the start index, which replaces an earlier one.
     fn read_start(&mut self, mut words: Words<'_>) -> Result<(), RecipeCause>
         ensures { Follows (start_entry (words_of words.entry.rest.now)) self.old self.new result }
     {
@@ -306,7 +307,7 @@ impl<A: Allocator + Copy> Recipe<A> {
         Ok(())
     }
 
-    /// Reads the name of the module, which is the rest of the line.
+    /// Parses the name of the module: the remaining words of the line.
     fn read_name(&mut self, words: Words<'_>) -> Result<(), RecipeCause>
         ensures { Follows (name_entry (without_spaces words.entry.rest.now)) self.old self.new result }
     {
@@ -318,7 +319,7 @@ impl<A: Allocator + Copy> Recipe<A> {
         Ok(())
     }
 
-    /// Puts the type section into the module: the number of types, and these.
+    /// Appends the type section to the module: the number of types, and the types.
     fn put_types(&self, alloc: A, target: &mut Module<A>) -> R<()>
         ensures { Puts (section_of 1 self.now.types) (SectionFits self.now.types) target.old target.new result }
     {
@@ -361,7 +362,7 @@ impl<A: Allocator + Copy> Recipe<A> {
         }
     }
 
-    /// Puts the sections into the module, in the order of the standard.
+    /// Appends the sections to the module, in the order of the standard.
     fn put_sections(&self, alloc: A, target: &mut Module<A>) -> R<()>
         ensures { Puts (listed self.now) (FitsSections self.now) target.old target.new result }
     {
@@ -376,7 +377,7 @@ impl<A: Allocator + Copy> Recipe<A> {
         self.put_names(target)
     }
 
-    /// The module of the sections.
+    /// Returns the module of the sections.
     fn finish(&self, alloc: A) -> R<Vec<u8, A>>
         ensures ok { IfOk result (λ bytes. bytes.items ≡ module_text (listed self.now)) }
         ensures fitted { OnOk result (FitsSections self.now) }
@@ -387,7 +388,7 @@ impl<A: Allocator + Copy> Recipe<A> {
         Ok(module.finish())
     }
 
-    /// The module of the lines of a text, which are read into sections without items.
+    /// Returns the module of a recipe, whose lines are parsed into sections without items.
     fn module_of(&mut self, alloc: A, lines: &str) -> Result<Vec<u8, A>, RecipeFault>
         ensures { IsEmpty self.old → MatchResult result (λ bytes. IsModule (lines_of lines.now) self.new bytes.items) (λ fault. Explains lines.now fault.line fault.cause) }
     {
@@ -396,22 +397,34 @@ impl<A: Allocator + Copy> Recipe<A> {
     }
 }
 
-/// A line without the carriage return at its end.
+/// Returns the line without a carriage return at its end.
 fn without_return(line: &str) -> &str
     ensures { result.now ≡ strip_carriage_return line.now }
 {
     line.strip_suffix('\r').unwrap_or(line)
 }
 
-/// The module that a recipe makes, or its first faulty line.
+/// Assembles the module of a recipe.
 ///
-/// Each line is a command and its words. `type HEX` adds a type to the type section, `func N` a function of the type N, `memory MIN`
-/// a memory of at least so many pages, `global I` a number of 32 bits that is never set, `export NAME KIND N` the export of a `func`,
-/// `table`, `memory`, `global` or `tag`, `body HEX` a function without locals and with these instructions to the code section, and
-/// `data I HEX` bytes at the place I of memory 0. `start N` names the function that is run first; a later line replaces it. `name TEXT`
-/// adds the rest of the line, without the spaces before it, to the name section as the name of the module. Sections that received an
-/// item are written in the order of the standard, and the name section after them. A line without words is skipped, and words past
-/// those needed are ignored.
+/// Each line is a command and its words:
+///
+/// - `type HEX` adds a type to the type section.
+/// - `func N` adds a function of the type N.
+/// - `memory MIN` adds a memory of at least MIN pages.
+/// - `global I` adds an immutable global, a number of 32 bits.
+/// - `export NAME KIND N` adds an export of a `func`, `table`, `memory`, `global` or `tag`.
+/// - `body HEX` adds a function without locals and with these instructions to the code section.
+/// - `data I HEX` adds bytes at the offset I of memory 0.
+/// - `start N` sets the start function; a later line replaces it.
+/// - `name TEXT` sets the name of the module, in the name section: the remainder of the line,
+///   without the spaces before it.
+///
+/// Sections that received an item are written in the order of the standard, and the name section
+/// after them. A line without words is skipped, and words after the needed ones are ignored.
+///
+/// # Errors
+///
+/// Returns the first line with an error, and its cause; 0 is an error after the last line.
 ///
 /// ```rust
 /// let module = assemble(alloc, "body 200020016a0b")?;

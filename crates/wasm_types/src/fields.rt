@@ -1,4 +1,4 @@
-// Storage and field types.
+// Decoding and minimal encoding of storage and field types.
 ghost use Rattle.std.specs.Prelude.{◌≢◌, Bool, IfOk, IfErr};
 ghost use Rattle.wasm_base.specs.Formats.{coded, s33};
 ghost use Rattle.wasm_base.specs.Numbers.{wide};
@@ -13,7 +13,7 @@ use std::alloc::Allocator;
 use wasm_base::{ValType, read_groups};
 use wasm_reader_base::{ReadFault, Readable, Spelled};
 
-/// An index, spelled as a signed number of 33 bits.
+/// Decodes an index, encoded as a signed number of 33 bits.
 #[tactic(auto, using(wasm_reader_base::proofs::ReadNumbers::index_steps))]
 pub(crate) fn read_index(bytes: &[u8]) -> Result<(u32, &[u8]), ReadFault>
     ensures found { IfOk result (λ x. Reads s33 wide bytes.now x.0 x.1.now) }
@@ -30,7 +30,7 @@ pub(crate) fn read_index(bytes: &[u8]) -> Result<(u32, &[u8]), ReadFault>
     }
 }
 
-/// Whether a field can be set.
+/// The mutability of a field.
 #[derive(Clone, Copy)]
 struct Mutable(bool);
 

@@ -1,4 +1,4 @@
-// Subtypes and groups of them.
+// The decoded entries of a type section: subtypes and recursion groups.
 ghost use Rattle.std.specs.Prelude.{◌≢◌, IfOk, IfErr};
 ghost use Rattle.wasm_base.specs.Formats.{pair, vec, u32 as u32_format};
 ghost use Rattle.wasm_base.specs.Numbers.{wide};
@@ -14,7 +14,7 @@ use std::alloc::{Allocator, Global};
 use wasm_base::{Encode, Lent, R};
 use wasm_reader_base::{ReadFault, Readable, Spelled};
 
-/// A type that may have supertypes, and subtypes where it isn't final.
+/// A decoded subtype: its supertypes, and whether it is final, so that it can have no subtypes.
 #[derive(Drop, Debug)]
 pub struct SubItem<A: Allocator = Global> {
     pub is_final: bool,
@@ -23,15 +23,15 @@ pub struct SubItem<A: Allocator = Global> {
     pub composite_type: CompositeType<A>,
 }
 
-/// An entry of a type section.
+/// A decoded entry of a type section.
 #[derive(Drop, Debug)]
 pub enum TypeEntry<A: Allocator = Global> {
     Single(SubItem<A>),
-    /// Types that may refer to one another.
+    /// A recursion group: types that may refer to one another.
     Group(Vec<SubItem<A>, A>),
 }
 
-/// Supertypes, and a composite type.
+/// Decodes supertypes, and a composite type.
 fn read_supertypes_and<'a, A: Allocator + Copy>(
     bytes: &'a [u8],
     alloc: A,
@@ -44,7 +44,7 @@ fn read_supertypes_and<'a, A: Allocator + Copy>(
     Ok((supertypes, composite_type, rest))
 }
 
-/// What follows the first byte of a subtype.
+/// Decodes a subtype after its first byte, `tag`.
 #[tactic(auto, using(crate::proofs::ReadItems::sub_steps))]
 fn read_sub_after<'a, A: Allocator + Copy>(
     tag: u8,
@@ -130,7 +130,7 @@ impl<'a, A: Allocator + Copy> Readable<'a, A> for TypeEntry<A> {
     }
 }
 
-/// What stands before the composite type, and this.
+/// Encodes the subtype's prefix, if it needs one, and the composite type.
 impl<A: Allocator> Encode for SubItem<A> {
     ghost text = { λ s. sub_text (sub_view s) };
 
@@ -158,7 +158,7 @@ impl<A: Allocator> Encode for SubItem<A> {
     }
 }
 
-/// A subtype, or a byte and the vector of subtypes.
+/// Encodes a subtype, or a byte and the vector of subtypes.
 impl<A: Allocator> Encode for TypeEntry<A> {
     ghost use Rattle.wasm_types.specs.Items.{entry_text, EntryFits};
 

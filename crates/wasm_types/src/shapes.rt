@@ -1,4 +1,4 @@
-// Composite types.
+// Decoding and minimal encoding of composite types.
 ghost use Rattle.std.specs.Prelude.{◌≢◌, IfOk, IfErr};
 ghost use Rattle.wasm_base.specs.Numbers.{wide};
 ghost use Rattle.wasm_base.specs.Reading.{Reads, ReadsNothing};
@@ -15,7 +15,7 @@ use std::alloc::Allocator;
 use wasm_base::ValType;
 use wasm_reader_base::{ReadFault, Readable};
 
-/// What follows the first byte of an inner type.
+/// Decodes an inner type after its first byte, `tag`.
 #[tactic(auto, using(crate::proofs::ReadShapes::shape_steps))]
 fn read_shape_after<'a, A: Allocator + Copy>(
     tag: u8,
@@ -52,7 +52,7 @@ fn read_shape_after<'a, A: Allocator + Copy>(
     }
 }
 
-/// What follows the first byte of an inner type that another may describe.
+/// Decodes an optional descriptor and an inner type after the first byte, `tag`.
 #[tactic(auto, using(crate::proofs::ReadShapes::index_steps))]
 fn read_descriptor_after<'a, A: Allocator + Copy>(
     tag: u8,
@@ -72,7 +72,8 @@ fn read_descriptor_after<'a, A: Allocator + Copy>(
     }
 }
 
-/// What follows the first byte of an inner type that may describe another.
+/// Decodes an optional described type, an optional descriptor and an inner type after the first
+/// byte, `tag`.
 #[tactic(auto, using(crate::proofs::ReadShapes::index_steps))]
 fn read_describes_after<'a, A: Allocator + Copy>(
     tag: u8,
@@ -98,7 +99,7 @@ fn read_describes_after<'a, A: Allocator + Copy>(
     }
 }
 
-/// What follows the first byte of a composite type.
+/// Decodes a composite type after its first byte, `tag`.
 #[tactic(auto, using(crate::proofs::ReadShapes::composite_steps))]
 pub(crate) fn read_composite_after<'a, A: Allocator + Copy>(
     tag: u8,

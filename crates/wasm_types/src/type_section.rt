@@ -1,4 +1,4 @@
-// The type section: built, read, and written in its fewest bytes.
+// The type section: its builder, its reader and its minimizer.
 ghost use Rattle.std.specs.Prelude.{◌≡◌, ◌≢◌, ℕ, List, [], ◌∷◌, length, map, IfErr, IfOk, IsTrue, Err, OnOk, OnErr, ◌↔◌, slice_get, ⊤, pos};
 ghost use Rattle.std.specs.Option.{option_copied};
 ghost use Rattle.wasm_base.specs.Calls.{Adds, ReadsBackBoth};
@@ -23,13 +23,18 @@ use std::marker::Model;
 use wasm_base::{Encode, Kind, Pieces, R, Section, SectionId, ValType, vec_of};
 use wasm_reader_base::{ReadFault, read_whole};
 
-/// The types that a module defines, seen as the bytes of each entry.
+/// The type section: the types that a module defines, modelled as the bytes of each entry.
 ///
 /// ```rust
 /// let mut types = TypeSection::new(alloc);
 /// types.ty().function([ValType::I32, ValType::I32], [ValType::I32])?;
 /// module.section(&types)?;
 /// ```
+///
+/// # Errors
+///
+/// An adding call that returns an error leaves the section unchanged. The error is `TooLong` only
+/// if the section is full or a list is too long, and `Memory` only if an allocation fails.
 #[derive(Drop, Debug)]
 pub struct TypeSection<A: Allocator = Global> {
     pieces: Pieces<A>,
@@ -41,7 +46,7 @@ impl<A: Allocator> Model for TypeSection<A> {
     ghost view = { λ s. s.pieces };
 }
 
-/// The items of a type section: subtypes, and groups of them.
+/// The kind of a type section's items: subtypes and recursion groups.
 #[derive(Clone, Copy, Debug)]
 pub struct TypeItems;
 
@@ -57,28 +62,28 @@ impl Kind for TypeItems {
 }
 
 impl<A: Allocator> TypeSection<A> {
-    /// The number of entries.
+    /// Returns the number of entries.
     pub fn len(&self) -> u32
         ensures { result ≡ length self.now }
     {
         self.pieces.len()
     }
 
-    /// Whether there is no entry.
+    /// Returns `true` if there are no entries.
     pub fn is_empty(&self) -> bool
         ensures { IsTrue result ↔ (length self.now ≡ 0) }
     {
         self.pieces.is_empty()
     }
 
-    /// The bytes of the entry at `index`.
+    /// Returns the bytes of the entry at `index`, or `None` if there is no such entry.
     pub fn piece(&self, index: u32) -> Option<&[u8]>
         ensures { option_copied result ≡ slice_get self.now index }
     {
         self.pieces.get(index)
     }
 
-    /// What adds a type. Where none of its calls is made, nothing is added.
+    /// Returns an encoder that adds one type. If none of its methods is called, nothing is added.
     pub fn ty(&mut self) -> CoreTypeEncoder<'_, A>
         ensures same_reference { result.section.ghost_name ≡ self.entry.ghost_name }
         ensures same { result.section.now ≡ self.old }
@@ -88,7 +93,7 @@ impl<A: Allocator> TypeSection<A> {
 }
 
 impl<A: Allocator + Copy> TypeSection<A> {
-    /// A section of no entries. It takes no memory.
+    /// Returns a section without entries, and allocates nothing.
     pub fn new(alloc: A) -> Self
         ensures { result ≡ [] }
     {
@@ -97,7 +102,7 @@ impl<A: Allocator + Copy> TypeSection<A> {
         }
     }
 
-    /// A section of the same entries, in memory of its own.
+    /// Returns a section of the same entries, in memory of its own.
     pub fn clone(&self) -> R<Self>
         ensures same { IfOk result (λ section. section ≡ self.now) }
         ensures memory { result ≢ Err TooLong }
@@ -108,7 +113,7 @@ impl<A: Allocator + Copy> TypeSection<A> {
     }
 }
 
-/// The frame of the number of entries and of these.
+/// Encodes the size prefix, the number of entries, and the entries.
 impl<A: Allocator> Encode for TypeSection<A> {
     ghost text = { section_text };
 
@@ -148,7 +153,8 @@ impl<A: Allocator> Section for TypeSection<A> {
     ghost reads_back = { λ section promised. promised.plain };
 }
 
-/// Adds one type to a section that it borrows. A refused call leaves the section as it was.
+/// Adds one type to a section that it borrows. A call that returns an error leaves the section
+/// unchanged.
 #[derive(Drop, Debug)]
 pub struct CoreTypeEncoder<'a, A: Allocator = Global> {
     section: &'a mut TypeSection<A>,
@@ -165,7 +171,7 @@ impl<'a, A: Allocator> CoreTypeEncoder<'a, A> {
         section.pieces.add_encoded(ty)
     }
 
-    /// Adds the type of an array.
+    /// Adds an array type.
     pub fn array(self, ty: &StorageType, mutable: bool) -> R<()>
         ensures { Adds (0x5E ∷ field_text (record { element_type = ty.now; mutable = mutable })) ⊤ self.entry.section.now self.exit.0.now result }
     {
@@ -177,7 +183,7 @@ impl<'a, A: Allocator> CoreTypeEncoder<'a, A> {
         section.pieces.add_encoded(&(ARRAY, element))
     }
 
-    /// Adds the type of a continuation.
+    /// Adds a continuation type.
     pub fn cont(self, ty: &ContType) -> R<()>
         ensures { Adds (cont_text ty.now.0) ⊤ self.entry.section.now self.exit.0.now result }
     {
@@ -193,7 +199,8 @@ impl<'a, A: Allocator> CoreTypeEncoder<'a, A> {
         section.pieces.add_encoded(ty)
     }
 
-    /// Adds a function type of these parameters and results. Where there are too many of either, it answers `TooLong`, and asks for none.
+    /// Adds a function type of these parameters and results. If there are too many of either, it
+    /// returns `TooLong` and requests none.
     pub fn function<P: IntoIterator<Item = ValType>, Q: IntoIterator<Item = ValType>>(
         self,
         params: P,
@@ -212,7 +219,8 @@ impl<'a, A: Allocator> CoreTypeEncoder<'a, A> {
         section.pieces.add_once((FUNC, params?, results?))
     }
 
-    /// Adds the type of a structure of these fields. Where there are too many, it answers `TooLong`, and asks for none.
+    /// Adds a structure type of these fields. If there are too many, it returns `TooLong` and
+    /// requests none.
     pub fn struct_<F: IntoIterator<Item = FieldType>>(self, fields: F) -> R<()>
     where
         F::IntoIter: ExactSizeIterator + Drop,
@@ -224,7 +232,8 @@ impl<'a, A: Allocator> CoreTypeEncoder<'a, A> {
         section.pieces.add_once((STRUCT, fields))
     }
 
-    /// Adds a group of subtypes, which may refer to one another. Where there are too many, it answers `TooLong`, and asks for none.
+    /// Adds a recursion group: subtypes that may refer to one another. If there are too many, it
+    /// returns `TooLong` and requests none.
     pub fn rec<T: IntoIterator<Item = SubType<B>>, B: Allocator>(self, types: T) -> R<()>
     where
         T::IntoIter: ExactSizeIterator + Drop,
@@ -237,10 +246,15 @@ impl<'a, A: Allocator> CoreTypeEncoder<'a, A> {
     }
 }
 
-/// The byte before a group.
+/// The byte before a recursion group.
 pub(crate) const REC: u8 = 0x4E;
 
-/// The types behind their number that all of the bytes spell, their numbers padded or not.
+/// Decodes the payload of a type section: a count and that many types, padded numbers included.
+/// They must occupy all of the bytes.
+///
+/// # Errors
+///
+/// Any error but `Memory` means that the bytes are not such a payload.
 pub fn read_types<'a, A: Allocator + Copy>(
     bytes: &'a [u8],
     alloc: A,
@@ -251,7 +265,8 @@ pub fn read_types<'a, A: Allocator + Copy>(
     read_whole::<'a, Vec<TypeEntry<A>, A>, A>(bytes, alloc)
 }
 
-/// Appends the minimal encoding of types, after their number. On an error, the sink is as it was.
+/// Appends the minimal encoding of a type section's payload: the number of types, and the types. On
+/// an error, the sink is unchanged.
 #[tactic(auto, using(crate::proofs::ShortTypes::types_appended))]
 pub fn append_types<A: Allocator, B: Allocator>(
     types: &[TypeEntry<A>],

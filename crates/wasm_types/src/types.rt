@@ -1,4 +1,4 @@
-// Types that a module defines.
+// The types that a module can define: functions, structures, arrays and continuations.
 ghost use Rattle.std.specs.Iterator.{IsFinite, Drains};
 ghost use Rattle.std.specs.Prelude.{◌≡◌, ◌≢◌, ◌∷◌, ◌++◌, [], ℕ, pos, IfOk, ⊤};
 ghost use Rattle.wasm_base.specs.declared.refused.Refused.TheVariants.{TooLong};
@@ -21,7 +21,7 @@ use std::alloc::{Allocator, Global};
 use std::slice;
 use wasm_base::{Encode, Lent, R, ValType};
 
-/// What a field or an element holds: a value, or a packed number.
+/// The type of the content of a field or an element: a value, or a packed integer.
 #[derive(Clone, Copy, PartialEq, Eq, Hash, Debug)]
 pub enum StorageType {
     I8,
@@ -40,7 +40,7 @@ pub struct FieldType {
 #[derive(Clone, Copy, PartialEq, Eq, Hash, Debug)]
 pub struct ArrayType(pub FieldType);
 
-/// The type of a continuation: of the function type of this index.
+/// The type of a continuation of the function type of this index.
 #[derive(Clone, Copy, PartialEq, Eq, Hash, Debug)]
 pub struct ContType(pub u32);
 
@@ -57,7 +57,7 @@ pub struct StructType<A: Allocator = Global> {
     pub fields: Vec<FieldType, A>,
 }
 
-/// A composite type, without what stands before it.
+/// A composite type without its sharing and descriptor prefixes.
 #[derive(Drop, Debug)]
 pub enum CompositeInnerType<A: Allocator = Global> {
     Func(FuncType<A>),
@@ -66,7 +66,7 @@ pub enum CompositeInnerType<A: Allocator = Global> {
     Cont(ContType),
 }
 
-/// A composite type.
+/// A composite type, with its prefixes.
 #[derive(Drop, Debug)]
 pub struct CompositeType<A: Allocator = Global> {
     pub inner: CompositeInnerType<A>,
@@ -78,7 +78,8 @@ pub struct CompositeType<A: Allocator = Global> {
     pub describes: Option<u32>,
 }
 
-/// A type that may have a supertype, and subtypes where it isn't final.
+/// A subtype: a composite type, an optional supertype, and whether it is final, so that it can have
+/// no subtypes.
 #[derive(Drop, Debug)]
 pub struct SubType<A: Allocator = Global> {
     pub is_final: bool,
@@ -88,7 +89,7 @@ pub struct SubType<A: Allocator = Global> {
 }
 
 impl<A: Allocator + Copy> FuncType<A> {
-    /// A function type of these parameters and results.
+    /// Returns a function type of these parameters and results, from iterators.
     pub fn new<P: IntoIterator<Item = ValType>, Q: IntoIterator<Item = ValType>>(
         alloc: A,
         params: P,
@@ -110,7 +111,7 @@ impl<A: Allocator + Copy> FuncType<A> {
     }
 }
 
-/// The types that an iterator gives.
+/// Returns the types that an iterator yields.
 fn collected<A: Allocator, P: IntoIterator<Item = ValType>>(
     alloc: A,
     types: P,
@@ -129,7 +130,7 @@ where
 }
 
 impl<A: Allocator> FuncType<A> {
-    /// A function type of these parameters and results.
+    /// Returns a function type of these parameters and results.
     pub fn of(params: Vec<ValType, A>, results: Vec<ValType, A>) -> Self
         ensures params { result.params.items ≡ params.items }
         ensures results { result.results.items ≡ results.items }
@@ -137,14 +138,14 @@ impl<A: Allocator> FuncType<A> {
         FuncType { params, results }
     }
 
-    /// The types of the parameters.
+    /// Returns the types of the parameters.
     pub fn params(&self) -> &[ValType]
         ensures { result.now ≡ self.now.params.items }
     {
         self.params.as_slice()
     }
 
-    /// The types of the results.
+    /// Returns the types of the results.
     pub fn results(&self) -> &[ValType]
         ensures { result.now ≡ self.now.results.items }
     {
@@ -152,7 +153,7 @@ impl<A: Allocator> FuncType<A> {
     }
 }
 
-/// The same items, in memory of their own.
+/// Returns the same items, in memory of their own.
 fn copied<T: Copy, A: Allocator + Copy>(items: &Vec<T, A>) -> R<Vec<T, A>>
     ensures same { IfOk result (λ copies. copies.items ≡ items.now.items) }
     ensures memory { result ≢ Err TooLong }
@@ -163,7 +164,7 @@ fn copied<T: Copy, A: Allocator + Copy>(items: &Vec<T, A>) -> R<Vec<T, A>>
 impl<A: Allocator + Copy> FuncType<A> {
     ghost use Rattle.wasm_types.specs.Given.{func_in};
 
-    /// The same type, in memory of its own.
+    /// Returns the same type, in memory of its own.
     pub fn clone(&self) -> R<Self>
         ensures same { IfOk result (λ f. func_in f ≡ func_in self.now) }
         ensures memory { result ≢ Err TooLong }
@@ -176,7 +177,7 @@ impl<A: Allocator + Copy> FuncType<A> {
 }
 
 impl<A: Allocator + Copy> StructType<A> {
-    /// The same type, in memory of its own.
+    /// Returns the same type, in memory of its own.
     pub fn clone(&self) -> R<Self>
         ensures same { IfOk result (λ s. s.fields.items ≡ self.now.fields.items) }
         ensures memory { result ≢ Err TooLong }
@@ -190,7 +191,7 @@ impl<A: Allocator + Copy> StructType<A> {
 impl<A: Allocator + Copy> CompositeInnerType<A> {
     ghost use Rattle.wasm_types.specs.Given.{shape_in};
 
-    /// The same type, in memory of its own.
+    /// Returns the same type, in memory of its own.
     pub fn clone(&self) -> R<Self>
         ensures same { IfOk result (λ inner. shape_in inner ≡ shape_in self.now) }
         ensures memory { result ≢ Err TooLong }
@@ -207,7 +208,7 @@ impl<A: Allocator + Copy> CompositeInnerType<A> {
 impl<A: Allocator + Copy> CompositeType<A> {
     ghost use Rattle.wasm_types.specs.Given.{composite_in};
 
-    /// The same type, in memory of its own.
+    /// Returns the same type, in memory of its own.
     pub fn clone(&self) -> R<Self>
         ensures same { IfOk result (λ c. composite_in c ≡ composite_in self.now) }
         ensures memory { result ≢ Err TooLong }
@@ -224,7 +225,7 @@ impl<A: Allocator + Copy> CompositeType<A> {
 impl<A: Allocator + Copy> SubType<A> {
     ghost use Rattle.wasm_types.specs.Given.{sub_in};
 
-    /// The same type, in memory of its own.
+    /// Returns the same type, in memory of its own.
     pub fn clone(&self) -> R<Self>
         ensures same { IfOk result (λ s. sub_in s ≡ sub_in self.now) }
         ensures memory { result ≢ Err TooLong }
@@ -237,7 +238,7 @@ impl<A: Allocator + Copy> SubType<A> {
     }
 }
 
-/// The byte of a packed type, or the value type.
+/// Encodes a packed type as its byte, and a value type as such.
 impl Encode for StorageType {
     ghost text = { storage_text };
 
@@ -252,7 +253,7 @@ impl Encode for StorageType {
     }
 }
 
-/// The byte that says whether a field can be set.
+/// Returns the byte that encodes the mutability of a field.
 #[inline]
 fn mutability(mutable: bool) -> u8
     ensures { result ≡ mutable_code mutable }
@@ -260,7 +261,7 @@ fn mutability(mutable: bool) -> u8
     if mutable { 0x01 } else { 0x00 }
 }
 
-/// The storage type, and whether the field can be set.
+/// Encodes the storage type, and the mutability of the field.
 impl Encode for FieldType {
     ghost text = { field_text };
 
@@ -271,7 +272,7 @@ impl Encode for FieldType {
     }
 }
 
-// The bytes that tell what a composite type is.
+// The first bytes of composite types.
 pub(crate) const CONT: u8 = 0x5D;
 
 pub(crate) const ARRAY: u8 = 0x5E;
@@ -280,7 +281,7 @@ pub(crate) const STRUCT: u8 = 0x5F;
 
 pub(crate) const FUNC: u8 = 0x60;
 
-/// A byte, the element type.
+/// Encodes a byte, and the element type.
 impl Encode for ArrayType {
     ghost text = { λ a. 0x5E ∷ field_text a.0 };
 
@@ -291,7 +292,7 @@ impl Encode for ArrayType {
     }
 }
 
-/// A byte, and the index as a signed number.
+/// Encodes a byte, and the index as a signed number.
 impl Encode for ContType {
     ghost text = { λ c. 0x5D ∷ signed_text (pos c.0) };
 
@@ -302,7 +303,7 @@ impl Encode for ContType {
     }
 }
 
-/// A byte, the vector of the parameters and that of the results.
+/// Encodes a byte, the vector of the parameters and the vector of the results.
 impl<A: Allocator> Encode for FuncType<A> {
     ghost text = { λ f. func_text f.params.items f.results.items };
 
@@ -313,7 +314,7 @@ impl<A: Allocator> Encode for FuncType<A> {
     }
 }
 
-/// A byte, and the vector of the fields.
+/// Encodes a byte, and the vector of the fields.
 impl<A: Allocator> Encode for StructType<A> {
     ghost text = { λ s. 0x5F ∷ vec_text field_text s.fields.items };
 
@@ -324,7 +325,7 @@ impl<A: Allocator> Encode for StructType<A> {
     }
 }
 
-/// A byte that tells which it is, and what follows.
+/// Encodes a byte that selects the case, and its fields.
 impl<A: Allocator> Encode for CompositeInnerType<A> {
     ghost use Rattle.wasm_types.specs.Given.{shape_in, ShapeFits};
 
@@ -342,7 +343,7 @@ impl<A: Allocator> Encode for CompositeInnerType<A> {
     }
 }
 
-/// The byte of a shared type, where it is one.
+/// The byte of a shared type, or nothing for others.
 #[derive(Clone, Copy)]
 struct Shared(bool);
 
@@ -356,7 +357,7 @@ impl Encode for Shared {
     }
 }
 
-/// An index behind a byte, where it is given.
+/// A byte and an index, or nothing if there is no index.
 #[derive(Clone, Copy)]
 struct Marked {
     byte: u8,
@@ -376,7 +377,7 @@ impl Encode for Marked {
     }
 }
 
-/// What stands before the inner type, and this.
+/// Encodes the prefixes, and the inner type.
 impl<A: Allocator> Encode for CompositeType<A> {
     ghost use Rattle.wasm_types.specs.Given.{composite_in, ShapeFits, shape_in};
 
@@ -402,14 +403,15 @@ impl<A: Allocator> Encode for CompositeType<A> {
     }
 }
 
-/// What stands before the composite type of a subtype.
+/// The prefix of a subtype before its composite type.
 #[derive(Clone, Copy)]
 struct Before {
     is_final: bool,
     supertype_idx: Option<u32>,
 }
 
-/// Nothing where it is final and has no supertype, and else a byte and the vector of its supertypes.
+/// Encodes nothing for a final type without supertypes, and otherwise a byte and the vector of its
+/// supertypes.
 impl Encode for Before {
     ghost use Rattle.wasm_types.specs.Given.{listed};
 
@@ -430,7 +432,7 @@ impl Encode for Before {
     }
 }
 
-/// What stands before the composite type, and this.
+/// Encodes the subtype's prefix, if it needs one, and the composite type.
 impl<A: Allocator> Encode for SubType<A> {
     ghost use Rattle.wasm_types.specs.Given.{sub_in, shape_in, ShapeFits};
 

@@ -1,4 +1,4 @@
-//! The laws, which do nothing and promise.
+//! The laws: functions that do nothing, and whose clauses are the law.
 use std::alloc::Global;
 
 #[test]

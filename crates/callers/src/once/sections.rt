@@ -6,7 +6,7 @@ use wasm_sections::{
     Elements, Export, ExportKind, GlobalType, MemoryType, TableType, TagKind, TagSection, TagType,
 };
 
-/// A byte that is not active.
+/// Returns a passive segment of one byte.
 fn passive_byte<'a>() -> DataSegment<'a, [u8; 1]> {
     DataSegment {
         mode: DataSegmentMode::Passive,
@@ -14,7 +14,7 @@ fn passive_byte<'a>() -> DataSegment<'a, [u8; 1]> {
     }
 }
 
-/// The function 7.
+/// Returns a reference to the function 7.
 fn seventh<'a>() -> Elements<'a> {
     Elements::Functions(CowSlice::Borrowed(&[7]))
 }

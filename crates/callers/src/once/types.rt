@@ -5,13 +5,13 @@ use wasm_types::{
     SubType, TypeSection,
 };
 
-/// A byte that can be set.
+/// A mutable byte.
 const BYTE: FieldType = FieldType {
     element_type: StorageType::I8,
     mutable: true,
 };
 
-/// A subtype without further ones: an array of bytes.
+/// Returns a final subtype: an array of bytes.
 fn bytes() -> SubType {
     SubType {
         is_final: true,
