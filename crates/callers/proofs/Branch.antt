@@ -1,14 +1,14 @@
 -- This file proves the bytes of a caller that encodes a branch, whose numbers have one byte each.
 use Rattle.std.proofs.Common.{◌≡◌, ℕ, ◌<◌, ◌+◌, List, [], ◌∷◌, ◌++◌, length, false, pos, refl, ap, arith, append_assoc, length-append}
-use Rattle.wasm_base.specs.Numbers.{signed_text}
-use Rattle.wasm_base.proofs.NumberTexts.{groups_text-last}
+use Rattle.wasm_base.specs.Numbers.{signed_encoding}
+use Rattle.wasm_base.proofs.NumberEncodings.{groups_encoding-last}
 
-pub one_byte : (n : ℕ) → n < 0x40 → signed_text (pos n) ≡ n ∷ []
-one_byte n h = groups_text-last false 0x40 n h
+pub one_byte : (n : ℕ) → n < 0x40 → signed_encoding (pos n) ≡ n ∷ []
+one_byte n h = groups_encoding-last false 0x40 n h
 
 -- ---- the steps of the caller
 
-pub after_constant : (old given new : List ℕ) → given ≡ old → new ≡ given ++ (0x41 ∷ (signed_text (pos 1) ++ [])) → new ≡ old ++ 0x41 ∷ 0x01 ∷ []
+pub after_constant : (old given new : List ℕ) → given ≡ old → new ≡ given ++ (0x41 ∷ (signed_encoding (pos 1) ++ [])) → new ≡ old ++ 0x41 ∷ 0x01 ∷ []
 after_constant old given new same e = rw (e, same, one_byte 1 (omega arith)) refl
 
 pub with_block : (old f1 given f2 f3 f4 : List ℕ) → f1 ≡ old ++ 0x41 ∷ 0x01 ∷ [] → given ≡ f1 → f2 ≡ given ++ 0x04 ∷ 0x40 ∷ [] → f3 ≡ f2 ++ 0x0B ∷ [] → f4 ≡ f3 ++ 0x0B ∷ []

@@ -1,3 +1,3 @@
 pub mod Branch
 pub mod OneByte
-pub mod ReadBodies
+pub mod DecodeBodies

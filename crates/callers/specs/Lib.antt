@@ -1,2 +1,2 @@
 pub mod FirstValues
-pub mod Readings
+pub mod Decodings

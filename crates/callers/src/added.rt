@@ -1,8 +1,8 @@
 //! Calls that add an entry to a custom section: the contract states the entry's bytes.
 ghost use Rattle.std.specs.Prelude.{◌≡◌, [], ◌∷◌, ◌++◌, OnOk};
-ghost use Rattle.wasm_custom.specs.Customs.{subsection_text};
-ghost use Rattle.wasm_custom.specs.Lists.{list_text};
-ghost use Rattle.wasm_custom.specs.Symbols.{indexed_text};
+ghost use Rattle.wasm_custom.specs.Customs.{subsection_encoding};
+ghost use Rattle.wasm_custom.specs.Lists.{list_encoding};
+ghost use Rattle.wasm_custom.specs.Symbols.{indexed_encoding};
 ghost use Rattle.wasm_custom.specs.declared.symbols.SymbolKind.TheVariants as kinds;
 
 use std::alloc::Allocator;
@@ -14,7 +14,7 @@ pub fn name_types<A: Allocator, B: Allocator>(
     section: &mut NameSection<A>,
     names: &NameMap<B>,
 ) -> R<()>
-    ensures { OnOk result (section.new ≡ section.old ++ subsection_text 4 (list_text names.now) ∷ []) }
+    ensures { OnOk result (section.new ≡ section.old ++ subsection_encoding 4 (list_encoding names.now) ∷ []) }
 {
     section.types(names)
 }
@@ -24,7 +24,7 @@ pub fn name_tables<A: Allocator, B: Allocator>(
     section: &mut NameSection<A>,
     names: &NameMap<B>,
 ) -> R<()>
-    ensures { OnOk result (section.new ≡ section.old ++ subsection_text 5 (list_text names.now) ∷ []) }
+    ensures { OnOk result (section.new ≡ section.old ++ subsection_encoding 5 (list_encoding names.now) ∷ []) }
 {
     section.tables(names)
 }
@@ -34,7 +34,7 @@ pub fn name_memories<A: Allocator, B: Allocator>(
     section: &mut NameSection<A>,
     names: &NameMap<B>,
 ) -> R<()>
-    ensures { OnOk result (section.new ≡ section.old ++ subsection_text 6 (list_text names.now) ∷ []) }
+    ensures { OnOk result (section.new ≡ section.old ++ subsection_encoding 6 (list_encoding names.now) ∷ []) }
 {
     section.memories(names)
 }
@@ -44,7 +44,7 @@ pub fn name_globals<A: Allocator, B: Allocator>(
     section: &mut NameSection<A>,
     names: &NameMap<B>,
 ) -> R<()>
-    ensures { OnOk result (section.new ≡ section.old ++ subsection_text 7 (list_text names.now) ∷ []) }
+    ensures { OnOk result (section.new ≡ section.old ++ subsection_encoding 7 (list_encoding names.now) ∷ []) }
 {
     section.globals(names)
 }
@@ -54,7 +54,7 @@ pub fn name_elements<A: Allocator, B: Allocator>(
     section: &mut NameSection<A>,
     names: &NameMap<B>,
 ) -> R<()>
-    ensures { OnOk result (section.new ≡ section.old ++ subsection_text 8 (list_text names.now) ∷ []) }
+    ensures { OnOk result (section.new ≡ section.old ++ subsection_encoding 8 (list_encoding names.now) ∷ []) }
 {
     section.elements(names)
 }
@@ -64,7 +64,7 @@ pub fn name_tags<A: Allocator, B: Allocator>(
     section: &mut NameSection<A>,
     names: &NameMap<B>,
 ) -> R<()>
-    ensures { OnOk result (section.new ≡ section.old ++ subsection_text 11 (list_text names.now) ∷ []) }
+    ensures { OnOk result (section.new ≡ section.old ++ subsection_encoding 11 (list_encoding names.now) ∷ []) }
 {
     section.tag(names)
 }
@@ -72,14 +72,14 @@ pub fn name_tags<A: Allocator, B: Allocator>(
 /// Adds a global that another module defines: its flags say that it is not defined here, and it has
 /// no name.
 pub fn import_global<A: Allocator>(table: &mut SymbolTable<A>, index: u32) -> R<()>
-    ensures { OnOk result (table.new ≡ table.old ++ indexed_text kinds.Global 0x10 index [] ∷ []) }
+    ensures { OnOk result (table.new ≡ table.old ++ indexed_encoding kinds.Global 0x10 index [] ∷ []) }
 {
     table.global(0x10, index, None)
 }
 
 /// Adds a table that another module defines.
 pub fn import_table<A: Allocator>(table: &mut SymbolTable<A>, index: u32) -> R<()>
-    ensures { OnOk result (table.new ≡ table.old ++ indexed_text kinds.Table 0x10 index [] ∷ []) }
+    ensures { OnOk result (table.new ≡ table.old ++ indexed_encoding kinds.Table 0x10 index [] ∷ []) }
 {
     table.table(0x10, index, None)
 }

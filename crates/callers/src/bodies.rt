@@ -11,7 +11,7 @@ use wasm_insn::BlockType;
 #[tactic(auto, using(crate::proofs::Branch::one_byte))]
 pub fn branch_on_one<A: Allocator>(function: &mut Function<A>) -> R<usize>
     ensures body { IfOk result (λ at. function.new ≡ function.old ++ 0x41 ∷ 0x01 ∷ 0x04 ∷ 0x40 ∷ 0x0B ∷ 0x0B ∷ []) }
-    ensures place { IfOk result (λ at. at ≡ length function.old + 2) }
+    ensures offset { IfOk result (λ at. at ≡ length function.old + 2) }
 {
     function.instructions().i32_const(1)?;
     let at = function.byte_len();

@@ -35,10 +35,10 @@ pub fn copied_data_mode<'a, A: Allocator>(
 }
 
 /// Returns the same mode of an element segment.
-pub fn copied_element_mode<'a, A: Allocator>(place: &ElementMode<'a, A>) -> R<ElementMode<'a, A>>
-    ensures { IfOk result (λ copy. copy ≡ place.now) }
+pub fn copied_element_mode<'a, A: Allocator>(offset: &ElementMode<'a, A>) -> R<ElementMode<'a, A>>
+    ensures { IfOk result (λ copy. copy ≡ offset.now) }
 {
-    place.clone()
+    offset.clone()
 }
 
 /// Returns references to the same functions, or by the same expressions.

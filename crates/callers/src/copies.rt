@@ -1,6 +1,6 @@
 //! Copies of builders and values: each has the same content as the original.
 ghost use Rattle.std.specs.Prelude.{◌≡◌, IfOk};
-ghost use Rattle.wasm_base.specs.Cow.{items_of, text_of};
+ghost use Rattle.wasm_base.specs.Cow.{items_of, encoding_of};
 ghost use Rattle.wasm_insn.specs.Instructions.{row_of};
 ghost use Rattle.wasm_types.specs.Given.{composite_in, func_in, shape_in, sub_in};
 
@@ -91,7 +91,7 @@ pub fn copied_subtype<A: Allocator + Copy>(subtype: &SubType<A>) -> R<SubType<A>
 pub fn copied_custom<'a, A: Allocator + Copy>(
     custom: &CustomSection<'a, A>,
 ) -> R<CustomSection<'a, A>>
-    ensures { IfOk result (λ copy. (text_of copy.name ≡ text_of custom.now.name) × (items_of copy.bytes ≡ items_of custom.now.bytes)) }
+    ensures { IfOk result (λ copy. (encoding_of copy.name ≡ encoding_of custom.now.name) × (items_of copy.bytes ≡ items_of custom.now.bytes)) }
 {
     custom.clone()
 }

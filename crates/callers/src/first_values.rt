@@ -2,7 +2,7 @@
 //! decode.
 ghost use Rattle.std.specs.Prelude.{[], ◌∷◌, OnOk};
 ghost use Rattle.wasm_base.specs.Entries.{counted_format};
-ghost use Rattle.wasm_base.specs.Modules.{GainsReading};
+ghost use Rattle.wasm_base.specs.Modules.{GainsDecoding};
 ghost use Rattle.wasm_sections.specs.Globals.{global_item};
 ghost use Rattle.wasm_sections.specs.Tables.{table_item};
 ghost use Rattle.callers.specs.FirstValues.{copied, null_table, nulled_table};
@@ -15,7 +15,7 @@ use wasm_sections::{GlobalSection, GlobalType, TableSection, TableType};
 /// Appends a global section of one immutable global, which has the value of the global at the
 /// index.
 pub fn encode_copied<A: Allocator + Copy>(sink: &mut Vec<u8, A>, index: u32) -> R<()>
-    ensures { OnOk result (GainsReading (counted_format global_item) (copied index ∷ []) sink.old.items sink.new.items) }
+    ensures { OnOk result (GainsDecoding (counted_format global_item) (copied index ∷ []) sink.old.items sink.new.items) }
 {
     let alloc = *sink.allocator();
     let constant = GlobalType {
@@ -30,7 +30,7 @@ pub fn encode_copied<A: Allocator + Copy>(sink: &mut Vec<u8, A>, index: u32) -> 
 
 /// Appends a table section of two tables of functions, all initially null.
 pub fn encode_null_tables<A: Allocator + Copy>(sink: &mut Vec<u8, A>, minimum: u64) -> R<()>
-    ensures { OnOk result (GainsReading (counted_format table_item) (null_table minimum ∷ nulled_table minimum ∷ []) sink.old.items sink.new.items) }
+    ensures { OnOk result (GainsDecoding (counted_format table_item) (null_table minimum ∷ nulled_table minimum ∷ []) sink.old.items sink.new.items) }
 {
     let alloc = *sink.allocator();
     let functions = TableType {

@@ -1,10 +1,10 @@
 //! Values that are made from their fields, and data as custom sections.
 ghost use Rattle.std.specs.Prelude.{◌≡◌, [], IfOk, true};
-ghost use Rattle.wasm_base.specs.Cow.{items_of, text_of};
+ghost use Rattle.wasm_base.specs.Cow.{items_of, encoding_of};
 ghost use Rattle.wasm_code.specs.Expressions.{Stores};
 ghost use Rattle.wasm_custom.specs.CoreDumps.{instances_name, modules_name};
 ghost use Rattle.wasm_custom.specs.CoreStacks.{stack_name};
-ghost use Rattle.wasm_custom.specs.Entries.{entries_text};
+ghost use Rattle.wasm_custom.specs.Entries.{entries_encoding};
 
 use std::alloc::Allocator;
 use wasm_base::{R, ValType};
@@ -50,7 +50,7 @@ pub fn custom_modules<'a, A: Allocator, B: Allocator>(
     modules: &'a CoreDumpModulesSection<A>,
     alloc: B,
 ) -> R<CustomSection<'a, B>>
-    ensures { IfOk result (λ s. (text_of s.name ≡ modules_name) × (items_of s.bytes ≡ entries_text [] true modules.now)) }
+    ensures { IfOk result (λ s. (encoding_of s.name ≡ modules_name) × (items_of s.bytes ≡ entries_encoding [] true modules.now)) }
 {
     modules.as_custom(alloc)
 }
@@ -60,7 +60,7 @@ pub fn custom_instances<'a, A: Allocator, B: Allocator>(
     instances: &'a CoreDumpInstancesSection<A>,
     alloc: B,
 ) -> R<CustomSection<'a, B>>
-    ensures { IfOk result (λ s. (text_of s.name ≡ instances_name) × (items_of s.bytes ≡ entries_text [] true instances.now)) }
+    ensures { IfOk result (λ s. (encoding_of s.name ≡ instances_name) × (items_of s.bytes ≡ entries_encoding [] true instances.now)) }
 {
     instances.as_custom(alloc)
 }
@@ -70,7 +70,7 @@ pub fn custom_stack<'a, A: Allocator, B: Allocator>(
     stack: &'a CoreDumpStackSection<A>,
     alloc: B,
 ) -> R<CustomSection<'a, B>>
-    ensures { IfOk result (λ s. (text_of s.name ≡ stack_name) × (items_of s.bytes ≡ entries_text stack.now.0 true stack.now.1)) }
+    ensures { IfOk result (λ s. (encoding_of s.name ≡ stack_name) × (items_of s.bytes ≡ entries_encoding stack.now.0 true stack.now.1)) }
 {
     stack.as_custom(alloc)
 }

@@ -14,6 +14,6 @@ mod once;
 pub mod queries;
 pub mod raw_segments;
 pub mod readers;
-pub mod readings;
+pub mod decodings;
 pub mod segments;
 pub mod walks;

@@ -1,7 +1,7 @@
 //! Readers of instructions: where a visitor begins, the bytes before it, and a body as a whole.
 ghost use Rattle.std.specs.Prelude.{◌≡◌, ◌≢◌, [], IfOk, IfErr};
-ghost use Rattle.wasm_base.specs.Going.{FillsNothing};
-ghost use Rattle.wasm_base.specs.Numbers.{wide};
+ghost use Rattle.wasm_base.specs.Continuing.{RejectsWhole};
+ghost use Rattle.wasm_base.specs.Numbers.{padded};
 ghost use Rattle.wasm_code.specs.Bodies.{body};
 ghost use Rattle.wasm_reader_base.specs.declared.fault.ReadFault.TheVariants.{Memory};
 ghost use Rattle.wasm_reader_insn.specs.Arguments.{body_view};
@@ -13,7 +13,7 @@ use wasm_reader_insn::{Body, Instructions, read_body};
 
 /// Returns a visitor that begins at the first byte.
 pub fn walk_over<'a, A: Allocator + Copy>(bytes: &'a [u8], alloc: A) -> Instructions<'a, A>
-    ensures { result ≡ record { bytes = bytes.now; place = 0; arguments = [] } }
+    ensures { result ≡ record { bytes = bytes.now; offset = 0; arguments = [] } }
 {
     Instructions::new(bytes, alloc)
 }
@@ -27,8 +27,8 @@ pub fn bytes_ahead<'a, A: Allocator + Copy>(walk: &Instructions<'a, A>) -> &'a [
 
 /// Decodes a body from these bytes, which are without its size prefix.
 pub fn body_of<A: Allocator + Copy>(bytes: &[u8], alloc: A) -> Result<Body<A>, ReadFault>
-    ensures found { IfOk result (λ x. body wide bytes.now (body_view x)) }
-    ensures none { IfErr result (λ e. e ≢ Memory → FillsNothing body bytes.now) }
+    ensures found { IfOk result (λ x. body padded bytes.now (body_view x)) }
+    ensures none { IfErr result (λ e. e ≢ Memory → RejectsWhole body bytes.now) }
 {
     read_body(bytes, alloc)
 }

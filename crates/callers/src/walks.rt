@@ -1,7 +1,7 @@
 //! Callers of the instruction visitor, which prove their results.
 ghost use Rattle.std.specs.Prelude.{◌≡◌, ◌≢◌, ◌++◌, ℕ, List, IfOk, IfErr, length};
-ghost use Rattle.wasm_base.specs.Going.{FillsNothing};
-ghost use Rattle.wasm_base.specs.Numbers.{wide};
+ghost use Rattle.wasm_base.specs.Continuing.{RejectsWhole};
+ghost use Rattle.wasm_base.specs.Numbers.{padded};
 ghost use Rattle.wasm_code.specs.Bodies.{Body, body};
 ghost use Rattle.wasm_reader_base.specs.declared.fault.ReadFault.TheVariants.{Memory};
 
@@ -12,8 +12,8 @@ use wasm_reader_insn::{Instructions, laws};
 /// Returns the number of instructions in a body. The bytes are those of the body without its size
 /// prefix.
 pub fn count_instructions<A: Allocator + Copy>(bytes: &[u8], alloc: A) -> Result<usize, ReadFault>
-    ensures found { IfOk result (λ n. (x : Body) × body wide bytes.now x × (length x.code ≡ n)) }
-    ensures none { IfErr result (λ e. e ≢ Memory → FillsNothing body bytes.now) }
+    ensures found { IfOk result (λ n. (x : Body) × body padded bytes.now x × (length x.code ≡ n)) }
+    ensures none { IfErr result (λ e. e ≢ Memory → RejectsWhole body bytes.now) }
 {
     let (_runs, mut instructions) = Instructions::of_body(bytes, alloc)?;
     let mut count = 0;
@@ -31,7 +31,7 @@ pub fn place_after<A: Allocator + Copy>(
     count: usize,
     alloc: A,
 ) -> Result<usize, ReadFault>
-    ensures { IfOk result (λ place. (front more : List ℕ) (x : Body) → body wide front x → length x.code ≡ count → bytes.now ≡ front ++ more → place ≡ length front) }
+    ensures { IfOk result (λ offset. (front more : List ℕ) (x : Body) → body padded front x → length x.code ≡ count → bytes.now ≡ front ++ more → offset ≡ length front) }
 {
     let (_runs, mut instructions) = Instructions::of_body(bytes, alloc)?;
     laws::places();
@@ -40,5 +40,5 @@ pub fn place_after<A: Allocator + Copy>(
             return Err(ReadFault::Ended);
         };
     }
-    Ok(instructions.place())
+    Ok(instructions.offset())
 }

@@ -5,8 +5,8 @@ use Rattle.std.specs.Prelude.{OnOk}
 use Rattle.std.proofs.lemmas.List.{map-append, take_more, flat_map_more}
 use Rattle.std.specs.declared.alloc.Global.{Global}
 use Rattle.wasm_base.specs.declared.refused.Refused.{Refused}
-use Rattle.wasm_code.specs.Bodies.{AddsInstruction, IsPlainBody, and_then}
-use Rattle.wasm_insn.specs.Instructions.{IsPlainInstruction}
+use Rattle.wasm_code.specs.Bodies.{AddsInstruction, IsWellFormedBody, and_then}
+use Rattle.wasm_insn.specs.Instructions.{IsWellFormedInstruction}
 use Rattle.wasm_insn.specs.declared.instruction.Instruction.{Instruction}
 use Rattle.examples.specs.Bodies.{row}
 use Rattle.examples.specs.Lowering.{instruction_of, rows_of, GainsOperations}
@@ -14,21 +14,21 @@ use Rattle.examples.specs.declared.lowering.Operation.{Operation}
 
 -- No operations.
 pub gains_none : {bytes : List ℕ} → GainsOperations [] bytes bytes
-gains_none {bytes = bytes} = record { plain = λ x spelled. subst (λ s. IsPlainBody bytes (record { runs = x.runs; code = s })) (sym (append-nil x.code)) spelled }
+gains_none {bytes = bytes} = record { plain = λ x encodes. subst (λ s. IsWellFormedBody bytes (record { runs = x.runs; code = s })) (sym (append-nil x.code)) encodes }
 
 -- One operation, which a call adds.
-pub gains_one : {i : Instruction Global} {old new : List ℕ} {result : Result (Unit {0}) Refused} (operation : Operation) → AddsInstruction i old new result → i ≡ instruction_of operation → IsPlainInstruction i
+pub gains_one : {i : Instruction Global} {old new : List ℕ} {result : Result (Unit {0}) Refused} (operation : Operation) → AddsInstruction i old new result → i ≡ instruction_of operation → IsWellFormedInstruction i
     → OnOk result (GainsOperations (operation ∷ []) old new)
-gains_one {new = new} {result = Ok u} operation added same plain = record { plain = λ x spelled. subst (λ j. IsPlainBody new (and_then x (row j ∷ []))) same (added.ok.plain plain x spelled) }
+gains_one {new = new} {result = Ok u} operation added same plain = record { plain = λ x encodes. subst (λ j. IsWellFormedBody new (and_then x (row j ∷ []))) same (added.ok.plain plain x encodes) }
 gains_one {result = Err e} operation added same plain = tt
 
 -- Some operations, then others.
 pub gains_more : {first second : List Operation} {old between new : List ℕ} → GainsOperations first old between → GainsOperations second between new → GainsOperations (first ++ second) old new
 gains_more {first = first} {second = second} {new = new} g h = record {
-  plain = λ x spelled.
-      subst (λ s. IsPlainBody new (record { runs = x.runs; code = s }))
+  plain = λ x encodes.
+      subst (λ s. IsWellFormedBody new (record { runs = x.runs; code = s }))
       (append_assoc x.code (rows_of first) (rows_of second) ∙ ap (λ s. x.code ++ s) (sym (map-append _ first second)))
-      (h.plain (and_then x (rows_of first)) (g.plain x spelled));
+      (h.plain (and_then x (rows_of first)) (g.plain x encodes));
 }
 
 -- The operations of one more member of a list.

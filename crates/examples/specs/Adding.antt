@@ -1,17 +1,17 @@
 -- This file defines the module of a function that adds two numbers.
 use Rattle.std.specs.Prelude.{List, [], ◌∷◌}
 use Rattle.std.specs.declared.alloc.Global.{Global}
-use Rattle.wasm_base.specs.Modules.{SectionReading}
+use Rattle.wasm_base.specs.Modules.{SectionDecoding}
 use Rattle.wasm_base.specs.declared.types.ValType.TheVariants.{I32}
 use Rattle.wasm_code.specs.Bodies.{Body}
-use Rattle.wasm_code.specs.Code.{code_reading}
+use Rattle.wasm_code.specs.Code.{code_decoding}
 use Rattle.wasm_code.specs.Expressions.{normal_row}
 use Rattle.wasm_insn.specs.declared.instruction.Instruction.TheVariants.{LocalGet, Numeric, End}
 use Rattle.wasm_insn.specs.declared.numeric.Numeric.TheVariants.{I32Add}
-use Rattle.wasm_sections.specs.Exports.{ExportItem, export_reading}
-use Rattle.wasm_sections.specs.Functions.{function_reading}
+use Rattle.wasm_sections.specs.Exports.{ExportItem, export_decoding}
+use Rattle.wasm_sections.specs.Functions.{function_decoding}
 use Rattle.wasm_sections.specs.declared.export.ExportKind.TheVariants.{Func}
-use Rattle.wasm_types.specs.RecTypes.{TypeItem, func, type_reading, plain_type}
+use Rattle.wasm_types.specs.RecTypes.{TypeItem, func, type_decoding, plain_type}
 
 -- The type of a function of two numbers that returns one.
 abbrev pub adding_type : TypeItem
@@ -26,5 +26,5 @@ abbrev pub adding_body : Body
 adding_body = record { runs = []; code = normal_row {A = Global} (LocalGet 0) ∷ normal_row {A = Global} (LocalGet 1) ∷ normal_row {A = Global} (Numeric I32Add) ∷ normal_row {A = Global} End ∷ [] }
 
 -- The sections of the module, in order.
-abbrev pub adding_sections : List SectionReading
-adding_sections = type_reading (adding_type ∷ []) ∷ function_reading (0 ∷ []) ∷ export_reading (add_export ∷ []) ∷ code_reading (adding_body ∷ []) ∷ []
+abbrev pub adding_sections : List SectionDecoding
+adding_sections = type_decoding (adding_type ∷ []) ∷ function_decoding (0 ∷ []) ∷ export_decoding (add_export ∷ []) ∷ code_decoding (adding_body ∷ []) ∷ []

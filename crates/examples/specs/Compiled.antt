@@ -1,13 +1,13 @@
 -- This file defines the module of compiled functions.
 use Rattle.std.specs.Prelude.{List, [], ◌∷◌, pos, codes}
-use Rattle.wasm_base.specs.Modules.{SectionReading}
+use Rattle.wasm_base.specs.Modules.{SectionDecoding}
 use Rattle.wasm_base.specs.declared.types.ValType.TheVariants.{I32}
 use Rattle.wasm_code.specs.Bodies.{Body}
-use Rattle.wasm_code.specs.Code.{code_reading}
-use Rattle.wasm_sections.specs.Exports.{ExportItem, export_reading}
-use Rattle.wasm_sections.specs.Functions.{function_reading}
+use Rattle.wasm_code.specs.Code.{code_decoding}
+use Rattle.wasm_sections.specs.Exports.{ExportItem, export_decoding}
+use Rattle.wasm_sections.specs.Functions.{function_decoding}
 use Rattle.wasm_sections.specs.declared.export.ExportKind.TheVariants.{Func}
-use Rattle.wasm_types.specs.RecTypes.{TypeItem, func, type_reading, plain_type}
+use Rattle.wasm_types.specs.RecTypes.{TypeItem, func, type_decoding, plain_type}
 use Rattle.examples.specs.Adding.{adding_type}
 use Rattle.examples.specs.Lowering.{body_of}
 use Rattle.examples.specs.declared.lowering.Operator.TheVariants.{Add, Subtract, Multiply}
@@ -84,10 +84,10 @@ abbrev pub compiled_bodies : List Body
 compiled_bodies = body_of 0 product_operations ∷ body_of 1 factorial_operations ∷ body_of 1 squares_operations ∷ []
 
 -- The sections of the module, in order.
-abbrev pub compiled_sections : List SectionReading
+abbrev pub compiled_sections : List SectionDecoding
 compiled_sections =
-    type_reading (adding_type ∷ one_number ∷ [])
-    ∷ function_reading (0 ∷ 1 ∷ 1 ∷ [])
-    ∷ export_reading (factorial_of ∷ squares_of ∷ [])
-    ∷ code_reading compiled_bodies
+    type_decoding (adding_type ∷ one_number ∷ [])
+    ∷ function_decoding (0 ∷ 1 ∷ 1 ∷ [])
+    ∷ export_decoding (factorial_of ∷ squares_of ∷ [])
+    ∷ code_decoding compiled_bodies
     ∷ []

@@ -1,16 +1,16 @@
 -- This file defines the module that fills a table and a memory.
 use Rattle.std.specs.Prelude.{ℕ, List, [], ◌∷◌, false, None, pos}
-use Rattle.wasm_base.specs.Modules.{SectionReading, raw_reading}
+use Rattle.wasm_base.specs.Modules.{SectionDecoding, raw_decoding}
 use Rattle.wasm_base.specs.Types.{FUNCREF}
 use Rattle.wasm_insn.specs.Plain.{Plain}
 use Rattle.wasm_insn.specs.declared.instruction.Instruction.TheVariants.{I32Const, RefFunc}
 use Rattle.wasm_sections.specs.DataSegments as segments
 use Rattle.wasm_sections.specs.Elements as elements
-use Rattle.wasm_sections.specs.DataSegments.{data_count_reading, data_reading}
-use Rattle.wasm_sections.specs.Elements.{element_reading}
-use Rattle.wasm_sections.specs.Imports.{import_reading}
-use Rattle.wasm_sections.specs.Memories.{memory_reading}
-use Rattle.wasm_sections.specs.Tables.{TableItem, table_reading}
+use Rattle.wasm_sections.specs.DataSegments.{data_count_decoding, data_decoding}
+use Rattle.wasm_sections.specs.Elements.{element_decoding}
+use Rattle.wasm_sections.specs.Imports.{import_decoding}
+use Rattle.wasm_sections.specs.Memories.{memory_decoding}
+use Rattle.wasm_sections.specs.Tables.{TableItem, table_decoding}
 use Rattle.examples.specs.Bodies.{row}
 use Rattle.examples.specs.Whole.{ready, one_page}
 
@@ -24,11 +24,11 @@ three_places = record { table_type = record { element_type = FUNCREF; table64 = 
 
 -- Function 0 at offset 0 of table 0.
 abbrev pub ready_at_0 : elements.ElementItem (List Plain)
-ready_at_0 = record { place = elements.active None (row (I32Const (pos 0)) ∷ []); elements = elements.functions (0 ∷ []) }
+ready_at_0 = record { segment_mode = elements.active None (row (I32Const (pos 0)) ∷ []); elements = elements.functions (0 ∷ []) }
 
 -- A passive segment with a reference to the function of this index.
 abbrev pub later : ℕ → elements.ElementItem (List Plain)
-later index = record { place = elements.passive; elements = elements.expressions FUNCREF ((row (RefFunc index) ∷ []) ∷ []) }
+later index = record { segment_mode = elements.passive; elements = elements.expressions FUNCREF ((row (RefFunc index) ∷ []) ∷ []) }
 
 -- These bytes at offset 8 of memory 0.
 abbrev pub bytes_at_8 : List ℕ → segments.DataItem
@@ -39,17 +39,17 @@ abbrev pub bytes_later : segments.DataItem
 bytes_later = segments.passive (1 ∷ 2 ∷ 3 ∷ [])
 
 -- The sections before the segments: types, an import, a table and a memory.
-abbrev pub empty_sections : List SectionReading
-empty_sections = raw_reading 1 one_type ∷ import_reading (ready ∷ []) ∷ table_reading (three_places ∷ []) ∷ memory_reading (one_page ∷ []) ∷ []
+abbrev pub empty_sections : List SectionDecoding
+empty_sections = raw_decoding 1 one_type ∷ import_decoding (ready ∷ []) ∷ table_decoding (three_places ∷ []) ∷ memory_decoding (one_page ∷ []) ∷ []
 
 -- The sections of the module, in order.
-abbrev pub filled_sections : List ℕ → List SectionReading
+abbrev pub filled_sections : List ℕ → List SectionDecoding
 filled_sections bytes =
-    raw_reading 1 one_type
-    ∷ import_reading (ready ∷ [])
-    ∷ table_reading (three_places ∷ [])
-    ∷ memory_reading (one_page ∷ [])
-    ∷ element_reading (ready_at_0 ∷ [])
-    ∷ data_count_reading 2
-    ∷ data_reading (bytes_at_8 bytes ∷ bytes_later ∷ [])
+    raw_decoding 1 one_type
+    ∷ import_decoding (ready ∷ [])
+    ∷ table_decoding (three_places ∷ [])
+    ∷ memory_decoding (one_page ∷ [])
+    ∷ element_decoding (ready_at_0 ∷ [])
+    ∷ data_count_decoding 2
+    ∷ data_decoding (bytes_at_8 bytes ∷ bytes_later ∷ [])
     ∷ []

@@ -1,10 +1,10 @@
 -- This file defines the module of 64-bit numbers.
 use Rattle.std.specs.Prelude.{List, [], ◌∷◌, true, false, Some, None, pos, neg_ℤ}
-use Rattle.wasm_base.specs.Modules.{SectionReading}
+use Rattle.wasm_base.specs.Modules.{SectionDecoding}
 use Rattle.wasm_base.specs.declared.types.ValType.TheVariants.{I64}
 use Rattle.wasm_insn.specs.declared.instruction.Instruction.TheVariants.{I64Const}
-use Rattle.wasm_sections.specs.Globals.{GlobalItem, global_reading}
-use Rattle.wasm_sections.specs.Memories.{memory_reading}
+use Rattle.wasm_sections.specs.Globals.{GlobalItem, global_decoding}
+use Rattle.wasm_sections.specs.Memories.{memory_decoding}
 use Rattle.wasm_sections.specs.declared.memory.MemoryType.{MemoryType}
 use Rattle.examples.specs.Bodies.{row}
 
@@ -17,5 +17,5 @@ abbrev pub large_constant : GlobalItem
 large_constant = record { global_type = record { val_type = I64; mutable = false; shared = false }; init = row (I64Const (neg_ℤ (pos 1099511627776))) ∷ [] }
 
 -- The sections of the module, in order.
-abbrev pub large_sections : List SectionReading
-large_sections = memory_reading (large_memory ∷ []) ∷ global_reading (large_constant ∷ []) ∷ []
+abbrev pub large_sections : List SectionDecoding
+large_sections = memory_decoding (large_memory ∷ []) ∷ global_decoding (large_constant ∷ []) ∷ []

@@ -2,7 +2,7 @@
 use Rattle.std.specs.Prelude.{ℕ, List, [], ◌∷◌, ◌++◌, map}
 use Rattle.std.specs.declared.alloc.Global.{Global}
 use Rattle.wasm_base.specs.declared.types.ValType.TheVariants.{I32}
-use Rattle.wasm_code.specs.Bodies.{Body, IsPlainBody, and_then}
+use Rattle.wasm_code.specs.Bodies.{Body, IsWellFormedBody, and_then}
 use Rattle.wasm_immediates.specs.declared.block_type.BlockType.TheVariants.{Empty}
 use Rattle.wasm_insn.specs.Plain.{Plain}
 use Rattle.wasm_insn.specs.declared.instruction.Instruction.{Instruction}
@@ -49,4 +49,4 @@ body_of locals operations = record { runs = (locals, I32) ∷ []; code = rows_of
 -- If the old bytes minimally encode a body, the new ones encode it with the instructions of these
 -- operations appended.
 pub record GainsOperations (operations : List Operation) (old new : List ℕ) : Type 0 where
-  pub plain : (x : Body) → IsPlainBody old x → IsPlainBody new (and_then x (rows_of operations))
+  pub plain : (x : Body) → IsWellFormedBody old x → IsWellFormedBody new (and_then x (rows_of operations))

@@ -1,12 +1,12 @@
 -- This file defines the module for a linker.
 use Rattle.std.specs.Prelude.{List, [], ◌∷◌, Some, None, pos, codes}
-use Rattle.wasm_base.specs.Modules.{SectionReading}
+use Rattle.wasm_base.specs.Modules.{SectionDecoding}
 use Rattle.wasm_base.specs.declared.types.ValType.TheVariants.{I32}
 use Rattle.wasm_code.specs.Bodies.{Body}
-use Rattle.wasm_code.specs.Code.{code_reading}
-use Rattle.wasm_custom.specs.Hints.{Hints, hints_reading}
-use Rattle.wasm_custom.specs.Linking.{LinkItem, Symbols, linking_reading}
-use Rattle.wasm_custom.specs.Producers.{Field, producers_reading}
+use Rattle.wasm_code.specs.Code.{code_decoding}
+use Rattle.wasm_custom.specs.Hints.{Hints, hints_decoding}
+use Rattle.wasm_custom.specs.Linking.{LinkItem, Symbols, linking_decoding}
+use Rattle.wasm_custom.specs.Producers.{Field, producers_decoding}
 use Rattle.wasm_custom.specs.Symbols.{Symbol, indexed}
 use Rattle.wasm_custom.specs.declared.symbols.SymbolKind.TheVariants as kinds
 use Rattle.wasm_immediates.specs.declared.block_type.BlockType.TheVariants.{Empty}
@@ -14,9 +14,9 @@ use Rattle.wasm_immediates.specs.declared.memory.MemArg.{MemArg}
 use Rattle.wasm_immediates.specs.declared.memory.MemArgTarget.TheVariants.{Memory}
 use Rattle.wasm_insn.specs.declared.instruction.Instruction.TheVariants.{Block, LocalGet, I32Load, I32Store, Numeric, BrIf, I32Const, End}
 use Rattle.wasm_insn.specs.declared.numeric.Numeric.TheVariants.{I32Eqz, I32Sub}
-use Rattle.wasm_sections.specs.Functions.{function_reading}
-use Rattle.wasm_sections.specs.Memories.{memory_reading}
-use Rattle.wasm_types.specs.RecTypes.{TypeItem, func, type_reading, plain_type}
+use Rattle.wasm_sections.specs.Functions.{function_decoding}
+use Rattle.wasm_sections.specs.Memories.{memory_decoding}
+use Rattle.wasm_types.specs.RecTypes.{TypeItem, func, type_decoding, plain_type}
 use Rattle.examples.specs.Bodies.{row}
 use Rattle.examples.specs.Whole.{one_page}
 
@@ -66,17 +66,17 @@ abbrev pub producers_fields : List Field
 producers_fields = (codes "processed-by", (codes "dolzhytik", codes "0.1.0") ∷ []) ∷ []
 
 -- The sections of types, functions and memories.
-abbrev pub object_types : List SectionReading
-object_types = type_reading (address_type ∷ []) ∷ function_reading (0 ∷ []) ∷ memory_reading (one_page ∷ []) ∷ []
+abbrev pub object_types : List SectionDecoding
+object_types = type_decoding (address_type ∷ []) ∷ function_decoding (0 ∷ []) ∷ memory_decoding (one_page ∷ []) ∷ []
 
 -- The sections of the module, in order.
-abbrev pub object_sections : List SectionReading
+abbrev pub object_sections : List SectionDecoding
 object_sections =
-    type_reading (address_type ∷ [])
-    ∷ function_reading (0 ∷ [])
-    ∷ memory_reading (one_page ∷ [])
-    ∷ hints_reading unlikely_hints
-    ∷ code_reading (count_down_body ∷ [])
-    ∷ linking_reading links
-    ∷ producers_reading producers_fields
+    type_decoding (address_type ∷ [])
+    ∷ function_decoding (0 ∷ [])
+    ∷ memory_decoding (one_page ∷ [])
+    ∷ hints_decoding unlikely_hints
+    ∷ code_decoding (count_down_body ∷ [])
+    ∷ linking_decoding links
+    ∷ producers_decoding producers_fields
     ∷ []

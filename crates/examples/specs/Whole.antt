@@ -1,15 +1,15 @@
 -- This file defines the module of eight sections.
 use Rattle.std.specs.Prelude.{ℕ, List, [], ◌∷◌, ◌++◌, true, false, None, pos}
-use Rattle.wasm_base.specs.Modules.{SectionReading, raw_reading}
+use Rattle.wasm_base.specs.Modules.{SectionDecoding, raw_decoding}
 use Rattle.wasm_base.specs.declared.types.ValType.TheVariants.{I32}
 use Rattle.wasm_code.specs.Bodies.{Body}
-use Rattle.wasm_code.specs.Code.{code_reading}
+use Rattle.wasm_code.specs.Code.{code_decoding}
 use Rattle.wasm_insn.specs.declared.instruction.Instruction.TheVariants.{GlobalGet, GlobalSet, I32Const, Call, End}
-use Rattle.wasm_sections.specs.Exports.{ExportItem, export_reading}
-use Rattle.wasm_sections.specs.Globals.{GlobalItem, global_reading}
-use Rattle.wasm_sections.specs.Imports.{ImportItem, single, alike, import_reading}
-use Rattle.wasm_sections.specs.Functions.{function_reading, start_reading}
-use Rattle.wasm_sections.specs.Memories.{memory_reading}
+use Rattle.wasm_sections.specs.Exports.{ExportItem, export_decoding}
+use Rattle.wasm_sections.specs.Globals.{GlobalItem, global_decoding}
+use Rattle.wasm_sections.specs.Imports.{ImportItem, single, alike, import_decoding}
+use Rattle.wasm_sections.specs.Functions.{function_decoding, start_decoding}
+use Rattle.wasm_sections.specs.Memories.{memory_decoding}
 use Rattle.wasm_sections.specs.declared.export.ExportKind.TheVariants.{Func, Memory}
 use Rattle.wasm_sections.specs.declared.import.EntityType.TheVariants.{Function}
 use Rattle.wasm_sections.specs.declared.memory.MemoryType.{MemoryType}
@@ -52,22 +52,22 @@ abbrev pub start_body : Body
 start_body = record { runs = []; code = row (GlobalGet 0) ∷ row (Call 1) ∷ row (GlobalSet 0) ∷ row (Call 0) ∷ row End ∷ [] }
 
 -- The sections that declare types, imports and functions.
-abbrev pub declared_sections : List SectionReading
-declared_sections = raw_reading 1 two_types ∷ import_reading (ready ∷ []) ∷ function_reading (1 ∷ 0 ∷ []) ∷ []
+abbrev pub declared_sections : List SectionDecoding
+declared_sections = raw_decoding 1 two_types ∷ import_decoding (ready ∷ []) ∷ function_decoding (1 ∷ 0 ∷ []) ∷ []
 
 -- These sections, then those of memories, globals and exports.
-abbrev pub stored_sections : List SectionReading
-stored_sections = declared_sections ++ memory_reading (one_page ∷ []) ∷ global_reading (five ∷ []) ∷ export_reading (factorial_export ∷ memory_export ∷ []) ∷ []
+abbrev pub stored_sections : List SectionDecoding
+stored_sections = declared_sections ++ memory_decoding (one_page ∷ []) ∷ global_decoding (five ∷ []) ∷ export_decoding (factorial_export ∷ memory_export ∷ []) ∷ []
 
 -- The sections of the module, in order.
-abbrev pub whole_sections : List SectionReading
+abbrev pub whole_sections : List SectionDecoding
 whole_sections =
-    raw_reading 1 two_types
-    ∷ import_reading (ready ∷ [])
-    ∷ function_reading (1 ∷ 0 ∷ [])
-    ∷ memory_reading (one_page ∷ [])
-    ∷ global_reading (five ∷ [])
-    ∷ export_reading (factorial_export ∷ memory_export ∷ [])
-    ∷ start_reading 2
-    ∷ code_reading (factorial_body 1 ∷ start_body ∷ [])
+    raw_decoding 1 two_types
+    ∷ import_decoding (ready ∷ [])
+    ∷ function_decoding (1 ∷ 0 ∷ [])
+    ∷ memory_decoding (one_page ∷ [])
+    ∷ global_decoding (five ∷ [])
+    ∷ export_decoding (factorial_export ∷ memory_export ∷ [])
+    ∷ start_decoding 2
+    ∷ code_decoding (factorial_body 1 ∷ start_body ∷ [])
     ∷ []

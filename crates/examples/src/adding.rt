@@ -1,11 +1,11 @@
 // A whole module by builders alone: a function that adds two numbers.
 ghost use Rattle.std.specs.Prelude.{IfOk, [], ◌∷◌};
-ghost use Rattle.wasm_base.specs.Modules.{ReadsSections};
-ghost use Rattle.wasm_code.specs.Bodies.{IsPlainBody};
-ghost use Rattle.wasm_code.specs.Code.{SpellsBodies};
-ghost use Rattle.wasm_sections.specs.Exports.{HoldsExports};
-ghost use Rattle.wasm_sections.specs.Functions.{HoldsFunctions};
-ghost use Rattle.wasm_types.specs.RecTypes.{HoldsTypes};
+ghost use Rattle.wasm_base.specs.Modules.{DecodesSections};
+ghost use Rattle.wasm_code.specs.Bodies.{IsWellFormedBody};
+ghost use Rattle.wasm_code.specs.Code.{EncodesBodies};
+ghost use Rattle.wasm_sections.specs.Exports.{ContainsExports};
+ghost use Rattle.wasm_sections.specs.Functions.{ContainsFunctions};
+ghost use Rattle.wasm_types.specs.RecTypes.{ContainsTypes};
 ghost use Rattle.examples.specs.Adding.{adding_sections, adding_type, add_export, adding_body};
 
 use std::alloc::Allocator;
@@ -16,7 +16,7 @@ use wasm_types::TypeSection;
 
 /// Returns a module that exports, as `add`, the sum of two numbers.
 pub fn adding_module<A: Allocator + Copy>(alloc: A) -> R<Vec<u8, A>>
-    ensures { IfOk result (λ bytes. ReadsSections adding_sections bytes.items) }
+    ensures { IfOk result (λ bytes. DecodesSections adding_sections bytes.items) }
 {
     let mut module = Module::new(alloc)?;
     module.section(&types(alloc)?)?;
@@ -28,7 +28,7 @@ pub fn adding_module<A: Allocator + Copy>(alloc: A) -> R<Vec<u8, A>>
 
 /// Returns the type of the function.
 fn types<A: Allocator + Copy>(alloc: A) -> R<TypeSection<A>>
-    ensures { IfOk result (λ section. HoldsTypes section (adding_type ∷ [])) }
+    ensures { IfOk result (λ section. ContainsTypes section (adding_type ∷ [])) }
 {
     let mut section = TypeSection::new(alloc);
     section
@@ -39,7 +39,7 @@ fn types<A: Allocator + Copy>(alloc: A) -> R<TypeSection<A>>
 
 /// The function is of the type 0.
 fn functions<A: Allocator + Copy>(alloc: A) -> R<FunctionSection<A>>
-    ensures { IfOk result (λ section. HoldsFunctions section (0 ∷ [])) }
+    ensures { IfOk result (λ section. ContainsFunctions section (0 ∷ [])) }
 {
     let mut section = FunctionSection::new(alloc);
     section.function(0)?;
@@ -48,7 +48,7 @@ fn functions<A: Allocator + Copy>(alloc: A) -> R<FunctionSection<A>>
 
 /// Exports the function 0 as `add`.
 fn exports<A: Allocator + Copy>(alloc: A) -> R<ExportSection<A>>
-    ensures { IfOk result (λ section. HoldsExports section (add_export ∷ [])) }
+    ensures { IfOk result (λ section. ContainsExports section (add_export ∷ [])) }
 {
     let mut section = ExportSection::new(alloc);
     section.export("add", ExportKind::Func, 0)?;
@@ -57,7 +57,7 @@ fn exports<A: Allocator + Copy>(alloc: A) -> R<ExportSection<A>>
 
 /// Returns the body of the function.
 fn code<A: Allocator + Copy>(alloc: A) -> R<CodeSection<A>>
-    ensures { IfOk result (λ section. SpellsBodies section (adding_body ∷ [])) }
+    ensures { IfOk result (λ section. EncodesBodies section (adding_body ∷ [])) }
 {
     let mut section = CodeSection::new(alloc);
     section.function(&sum(alloc)?)?;
@@ -66,7 +66,7 @@ fn code<A: Allocator + Copy>(alloc: A) -> R<CodeSection<A>>
 
 /// Returns the sum of the two parameters.
 fn sum<A: Allocator>(alloc: A) -> R<Function<A>>
-    ensures { IfOk result (λ function. IsPlainBody function adding_body) }
+    ensures { IfOk result (λ function. IsWellFormedBody function adding_body) }
 {
     let mut function = Function::new(alloc, [])?;
     let mut sink = function.instructions();

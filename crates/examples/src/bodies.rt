@@ -1,6 +1,6 @@
 // Functions that several examples add.
 ghost use Rattle.std.specs.Prelude.{IfOk};
-ghost use Rattle.wasm_code.specs.Bodies.{IsPlainBody};
+ghost use Rattle.wasm_code.specs.Bodies.{IsWellFormedBody};
 ghost use Rattle.examples.specs.Bodies.{first_body, local_body};
 
 use std::alloc::Allocator;
@@ -9,7 +9,7 @@ use wasm_code::Function;
 
 /// Returns a function of one local, which does nothing.
 pub(crate) fn first_function<A: Allocator>(alloc: A) -> R<Function<A>>
-    ensures { IfOk result (λ function. IsPlainBody function first_body) }
+    ensures { IfOk result (λ function. IsWellFormedBody function first_body) }
 {
     let mut function = Function::new(alloc, [(1, ValType::I32)])?;
     let mut sink = function.instructions();
@@ -19,7 +19,7 @@ pub(crate) fn first_function<A: Allocator>(alloc: A) -> R<Function<A>>
 
 /// Returns a function that returns the local of this index.
 pub(crate) fn local_function<A: Allocator>(alloc: A, index: u32) -> R<Function<A>>
-    ensures { IfOk result (λ function. IsPlainBody function (local_body index)) }
+    ensures { IfOk result (λ function. IsWellFormedBody function (local_body index)) }
 {
     let mut function = Function::new(alloc, [])?;
     let mut sink = function.instructions();

@@ -1,11 +1,11 @@
 // A module of compiled functions.
 ghost use Rattle.std.specs.Prelude.{[], ◌∷◌, IfOk};
-ghost use Rattle.wasm_base.specs.Modules.{ReadsSections};
-ghost use Rattle.wasm_code.specs.Bodies.{IsPlainBody};
-ghost use Rattle.wasm_code.specs.Code.{SpellsBodies};
-ghost use Rattle.wasm_sections.specs.Exports.{HoldsExports};
-ghost use Rattle.wasm_sections.specs.Functions.{HoldsFunctions};
-ghost use Rattle.wasm_types.specs.RecTypes.{HoldsTypes};
+ghost use Rattle.wasm_base.specs.Modules.{DecodesSections};
+ghost use Rattle.wasm_code.specs.Bodies.{IsWellFormedBody};
+ghost use Rattle.wasm_code.specs.Code.{EncodesBodies};
+ghost use Rattle.wasm_sections.specs.Exports.{ContainsExports};
+ghost use Rattle.wasm_sections.specs.Functions.{ContainsFunctions};
+ghost use Rattle.wasm_types.specs.RecTypes.{ContainsTypes};
 ghost use Rattle.examples.specs.Adding.{adding_type};
 ghost use Rattle.examples.specs.Compiled.{one_number, factorial_of, squares_of, factorial_operations, compiled_bodies, compiled_sections};
 ghost use Rattle.examples.specs.Lowering.{body_of};
@@ -69,7 +69,7 @@ const SQUARES: [Operation; 19] = [
 /// Returns a module that exports a factorial, compiled from a tree, and a sum of squares, compiled
 /// from operations. Both have a loop, and call a third function.
 pub fn compiled_module<A: Allocator + Copy>(alloc: A) -> R<Vec<u8, A>>
-    ensures { IfOk result (λ bytes. ReadsSections compiled_sections bytes.items) }
+    ensures { IfOk result (λ bytes. DecodesSections compiled_sections bytes.items) }
 {
     let mut module = Module::new(alloc)?;
     module.section(&types(alloc)?)?;
@@ -81,7 +81,7 @@ pub fn compiled_module<A: Allocator + Copy>(alloc: A) -> R<Vec<u8, A>>
 
 /// Returns the types of the functions: of two numbers, and of one.
 fn types<A: Allocator + Copy>(alloc: A) -> R<TypeSection<A>>
-    ensures { IfOk result (λ section. HoldsTypes section (adding_type ∷ one_number ∷ [])) }
+    ensures { IfOk result (λ section. ContainsTypes section (adding_type ∷ one_number ∷ [])) }
 {
     let mut section = TypeSection::new(alloc);
     section
@@ -93,7 +93,7 @@ fn types<A: Allocator + Copy>(alloc: A) -> R<TypeSection<A>>
 
 /// The product is of the type 0, and the others are of the type 1.
 fn functions<A: Allocator + Copy>(alloc: A) -> R<FunctionSection<A>>
-    ensures { IfOk result (λ section. HoldsFunctions section (0 ∷ 1 ∷ 1 ∷ [])) }
+    ensures { IfOk result (λ section. ContainsFunctions section (0 ∷ 1 ∷ 1 ∷ [])) }
 {
     let mut section = FunctionSection::new(alloc);
     section.function(0)?;
@@ -104,7 +104,7 @@ fn functions<A: Allocator + Copy>(alloc: A) -> R<FunctionSection<A>>
 
 /// Exports the functions 1 and 2.
 fn exports<A: Allocator + Copy>(alloc: A) -> R<ExportSection<A>>
-    ensures { IfOk result (λ section. HoldsExports section (factorial_of ∷ squares_of ∷ [])) }
+    ensures { IfOk result (λ section. ContainsExports section (factorial_of ∷ squares_of ∷ [])) }
 {
     let mut section = ExportSection::new(alloc);
     section.export("factorial", ExportKind::Func, 1)?;
@@ -114,7 +114,7 @@ fn exports<A: Allocator + Copy>(alloc: A) -> R<ExportSection<A>>
 
 /// Returns the bodies of the three functions.
 fn code<A: Allocator + Copy>(alloc: A) -> R<CodeSection<A>>
-    ensures { IfOk result (λ section. SpellsBodies section compiled_bodies) }
+    ensures { IfOk result (λ section. EncodesBodies section compiled_bodies) }
 {
     let mut section = CodeSection::new(alloc);
     section.function(&compile(alloc, 0, &PRODUCT)?)?;
@@ -125,7 +125,7 @@ fn code<A: Allocator + Copy>(alloc: A) -> R<CodeSection<A>>
 
 /// Returns the compiled factorial.
 fn compiled_factorial<A: Allocator>(alloc: A) -> R<Function<A>>
-    ensures { IfOk result (λ function. IsPlainBody function (body_of 1 factorial_operations)) }
+    ensures { IfOk result (λ function. IsWellFormedBody function (body_of 1 factorial_operations)) }
 {
     compile_tree(alloc, 1, &FACTORIAL)
 }

@@ -1,9 +1,9 @@
 // A module whose table and memory are filled.
 ghost use Rattle.std.specs.Prelude.{IfOk, OnOk, [], ◌∷◌};
-ghost use Rattle.wasm_base.specs.Modules.{ReadsSections};
-ghost use Rattle.wasm_sections.specs.DataSegments.{HoldsSegments};
-ghost use Rattle.wasm_sections.specs.Elements.{HoldsElements};
-ghost use Rattle.wasm_sections.specs.Tables.{HoldsTables};
+ghost use Rattle.wasm_base.specs.Modules.{DecodesSections};
+ghost use Rattle.wasm_sections.specs.DataSegments.{ContainsSegments};
+ghost use Rattle.wasm_sections.specs.Elements.{ContainsElements};
+ghost use Rattle.wasm_sections.specs.Tables.{ContainsTables};
 ghost use Rattle.examples.specs.Filled.{three_places, ready_at_0, bytes_at_8, bytes_later, empty_sections, filled_sections};
 
 use crate::whole::{imports, memories};
@@ -16,7 +16,7 @@ use wasm_sections::{
 
 /// Returns a module that copies an imported function to a table, and bytes to a memory.
 pub fn filled_module<A: Allocator + Copy>(alloc: A, bytes: &[u8]) -> R<Vec<u8, A>>
-    ensures { IfOk result (λ made. ReadsSections (filled_sections bytes.now) made.items) }
+    ensures { IfOk result (λ made. DecodesSections (filled_sections bytes.now) made.items) }
 {
     let mut module = Module::new(alloc)?;
     add_empty(&mut module, alloc)?;
@@ -28,7 +28,7 @@ pub fn filled_module<A: Allocator + Copy>(alloc: A, bytes: &[u8]) -> R<Vec<u8, A
 
 /// Adds the imported function, the table and the memory.
 fn add_empty<A: Allocator + Copy>(built: &mut Module<A>, alloc: A) -> R<()>
-    ensures { ReadsSections [] built.old → OnOk result (ReadsSections empty_sections built.new) }
+    ensures { DecodesSections [] built.old → OnOk result (DecodesSections empty_sections built.new) }
 {
     built.section(&RawSection {
         id: 1,
@@ -42,7 +42,7 @@ fn add_empty<A: Allocator + Copy>(built: &mut Module<A>, alloc: A) -> R<()>
 
 /// Returns a table of three functions.
 fn tables<A: Allocator + Copy>(alloc: A) -> R<TableSection<A>>
-    ensures { IfOk result (λ section. HoldsTables section (three_places ∷ [])) }
+    ensures { IfOk result (λ section. ContainsTables section (three_places ∷ [])) }
 {
     let mut section = TableSection::new(alloc);
     section.table(TableType {
@@ -57,7 +57,7 @@ fn tables<A: Allocator + Copy>(alloc: A) -> R<TableSection<A>>
 
 /// Returns a segment of the function 0, at the front of the table.
 fn elements<A: Allocator + Copy>(alloc: A) -> R<ElementSection<A>>
-    ensures { IfOk result (λ section. HoldsElements section (ready_at_0 ∷ [])) }
+    ensures { IfOk result (λ section. ContainsElements section (ready_at_0 ∷ [])) }
 {
     let mut section = ElementSection::new(alloc);
     let offset = ConstExpr::i32_const(alloc, 0)?;
@@ -69,7 +69,7 @@ fn elements<A: Allocator + Copy>(alloc: A) -> R<ElementSection<A>>
 /// Returns a segment of the bytes at the offset 8, and another for a later call.
 #[tactic(auto, using(wasm_base::proofs::KnownLengths::drained_array, wasm_base::proofs::KnownLengths::drained_copied))]
 fn segments<A: Allocator + Copy>(alloc: A, bytes: &[u8]) -> R<DataSection<A>>
-    ensures { IfOk result (λ section. HoldsSegments section (bytes_at_8 bytes.now ∷ bytes_later ∷ [])) }
+    ensures { IfOk result (λ section. ContainsSegments section (bytes_at_8 bytes.now ∷ bytes_later ∷ [])) }
 {
     let mut section = DataSection::new(alloc);
     let offset = ConstExpr::i32_const(alloc, 8)?;

@@ -2,8 +2,8 @@
 // are well-formed.
 ghost use Rattle.std.specs.Prelude.{All, [], ◌∷◌, map, OnOk};
 ghost use Rattle.wasm_base.specs.Entries.{counted_format};
-ghost use Rattle.wasm_base.specs.Modules.{GainsReading};
-ghost use Rattle.wasm_code.specs.Bodies.{Body, IsPlainBody, and_then};
+ghost use Rattle.wasm_base.specs.Modules.{GainsDecoding};
+ghost use Rattle.wasm_code.specs.Bodies.{Body, IsWellFormedBody, and_then};
 ghost use Rattle.wasm_code.specs.Expressions.{normal_row};
 ghost use Rattle.wasm_insn.specs.Instructions.{HasSmallAlignments};
 ghost use Rattle.wasm_sections.specs.Imports.{import_item, import_format};
@@ -21,7 +21,7 @@ use wasm_sections::{Import, ImportSection, MemorySection, MemoryType};
 /// Adds an instruction that the caller passes. The only requirement is that its alignments are
 /// below 16.
 pub fn grow<A: Allocator>(function: &mut Function<A>, instruction: &Instruction<'_>) -> R<()>
-    ensures { OnOk result (HasSmallAlignments instruction.now → (x : Body) → IsPlainBody function.old x → IsPlainBody function.new (and_then x (normal_row instruction.now ∷ []))) }
+    ensures { OnOk result (HasSmallAlignments instruction.now → (x : Body) → IsWellFormedBody function.old x → IsWellFormedBody function.new (and_then x (normal_row instruction.now ∷ []))) }
 {
     plain_instruction(instruction);
     function.instruction(instruction)
@@ -33,7 +33,7 @@ pub fn grow_by_each<A: Allocator>(
     function: &mut Function<A>,
     instructions: &[Instruction<'_>],
 ) -> R<()>
-    ensures { OnOk result (All HasSmallAlignments instructions.now → (x : Body) → IsPlainBody function.old x → IsPlainBody function.new (and_then x (map normal_row instructions.now))) }
+    ensures { OnOk result (All HasSmallAlignments instructions.now → (x : Body) → IsWellFormedBody function.old x → IsWellFormedBody function.new (and_then x (map normal_row instructions.now))) }
 {
     plain_instructions(instructions);
     for instruction in instructions {
@@ -44,7 +44,7 @@ pub fn grow_by_each<A: Allocator>(
 
 /// Appends an import section of one import that the caller passes.
 pub fn encode_given_import<A: Allocator + Copy>(sink: &mut Vec<u8, A>, import: &Import<'_>) -> R<()>
-    ensures { OnOk result (GainsReading (counted_format import_format) (import_item import.now ∷ []) sink.old.items sink.new.items) }
+    ensures { OnOk result (GainsDecoding (counted_format import_format) (import_item import.now ∷ []) sink.old.items sink.new.items) }
 {
     plain_name(import.module);
     plain_name(import.name);
@@ -56,7 +56,7 @@ pub fn encode_given_import<A: Allocator + Copy>(sink: &mut Vec<u8, A>, import: &
 
 /// Appends a memory section of the memories of a list.
 pub fn encode_memories<A: Allocator + Copy>(sink: &mut Vec<u8, A>, memories: &[MemoryType]) -> R<()>
-    ensures { OnOk result (GainsReading (counted_format memory_type) memories.now sink.old.items sink.new.items) }
+    ensures { OnOk result (GainsDecoding (counted_format memory_type) memories.now sink.old.items sink.new.items) }
 {
     plain_memories(memories);
     let mut section = MemorySection::new(*sink.allocator());

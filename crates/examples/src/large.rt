@@ -1,8 +1,8 @@
 // A module with numbers of 64 bits.
 ghost use Rattle.std.specs.Prelude.{[], ◌∷◌, IfOk};
-ghost use Rattle.wasm_base.specs.Modules.{ReadsSections};
-ghost use Rattle.wasm_sections.specs.Globals.{HoldsGlobals};
-ghost use Rattle.wasm_sections.specs.Memories.{HoldsMemories};
+ghost use Rattle.wasm_base.specs.Modules.{DecodesSections};
+ghost use Rattle.wasm_sections.specs.Globals.{ContainsGlobals};
+ghost use Rattle.wasm_sections.specs.Memories.{ContainsMemories};
 ghost use Rattle.examples.specs.Large.{large_memory, large_constant, large_sections};
 
 use std::alloc::Allocator;
@@ -13,7 +13,7 @@ use wasm_sections::{GlobalSection, GlobalType, MemorySection, MemoryType};
 /// Returns a module of a memory whose addresses have 64 bits, and of a constant that needs more
 /// than 32.
 pub fn large_module<A: Allocator + Copy>(alloc: A) -> R<Vec<u8, A>>
-    ensures { IfOk result (λ bytes. ReadsSections large_sections bytes.items) }
+    ensures { IfOk result (λ bytes. DecodesSections large_sections bytes.items) }
 {
     let mut module = Module::new(alloc)?;
     module.section(&memories(alloc)?)?;
@@ -23,7 +23,7 @@ pub fn large_module<A: Allocator + Copy>(alloc: A) -> R<Vec<u8, A>>
 
 /// Returns a memory of 1 page, which grows to 8589934592 at most.
 fn memories<A: Allocator + Copy>(alloc: A) -> R<MemorySection<A>>
-    ensures { IfOk result (λ section. HoldsMemories section (large_memory ∷ [])) }
+    ensures { IfOk result (λ section. ContainsMemories section (large_memory ∷ [])) }
 {
     let mut section = MemorySection::new(alloc);
     section.memory(MemoryType {
@@ -38,7 +38,7 @@ fn memories<A: Allocator + Copy>(alloc: A) -> R<MemorySection<A>>
 
 /// Returns a global of the number -1099511627776.
 fn globals<A: Allocator + Copy>(alloc: A) -> R<GlobalSection<A>>
-    ensures { IfOk result (λ section. HoldsGlobals section (large_constant ∷ [])) }
+    ensures { IfOk result (λ section. ContainsGlobals section (large_constant ∷ [])) }
 {
     let global_type = GlobalType {
         val_type: ValType::I64,

@@ -1,7 +1,7 @@
 // A compiler from the operations of a stack machine.
 ghost use Rattle.std.specs.Prelude.{◌≡◌, [], ◌∷◌, IfOk, OnOk};
-ghost use Rattle.wasm_code.specs.Bodies.{IsPlainBody};
-ghost use Rattle.wasm_insn.specs.Instructions.{IsPlainInstruction};
+ghost use Rattle.wasm_code.specs.Bodies.{IsWellFormedBody};
+ghost use Rattle.wasm_insn.specs.Instructions.{IsWellFormedInstruction};
 ghost use Rattle.examples.specs.Lowering.{numeric_of, instruction_of, GainsOperations, body_of};
 
 use std::alloc::Allocator;
@@ -61,7 +61,7 @@ fn numeric(operator: Operator) -> Numeric
 #[tactic(auto, unfolding(crate::specs::Lowering::instruction_of))]
 pub fn lower(operation: Operation) -> Instruction<'static>
     ensures same { result ≡ instruction_of operation }
-    ensures plain { IsPlainInstruction result }
+    ensures plain { IsWellFormedInstruction result }
 {
     match operation {
         Operation::Constant(value) => Instruction::I32Const(value),
@@ -98,7 +98,7 @@ fn emit_all<A: Allocator>(function: &mut Function<A>, operations: &[Operation]) 
 
 /// Returns a function of these operations, with `locals` locals of 32 bits after its parameters.
 pub fn compile<A: Allocator>(alloc: A, locals: u32, operations: &[Operation]) -> R<Function<A>>
-    ensures { IfOk result (λ function. IsPlainBody function (body_of locals operations.now)) }
+    ensures { IfOk result (λ function. IsWellFormedBody function (body_of locals operations.now)) }
 {
     let mut function = Function::new(alloc, [(locals, ValType::I32)])?;
     emit_all(&mut function, operations)?;

@@ -1,8 +1,8 @@
 // A module with names for debuggers.
 ghost use Rattle.std.specs.Prelude.{[], ◌∷◌, IfOk};
-ghost use Rattle.wasm_base.specs.Modules.{ReadsSections};
-ghost use Rattle.wasm_code.specs.Code.{SpellsBodies, code_reading};
-ghost use Rattle.wasm_custom.specs.Names.{AreNamings, AreInsides, HoldsNames, name_reading};
+ghost use Rattle.wasm_base.specs.Modules.{DecodesSections};
+ghost use Rattle.wasm_code.specs.Code.{EncodesBodies, code_decoding};
+ghost use Rattle.wasm_custom.specs.Names.{AreNamings, AreInsides, ContainsNames, name_decoding};
 ghost use Rattle.examples.specs.Bodies.{first_body};
 ghost use Rattle.examples.specs.Named.{x_at_0, names_of};
 
@@ -14,7 +14,7 @@ use wasm_custom::{IndirectNameMap, NameMap, NameSection};
 
 /// Returns a module of one function, which does nothing, and of its names.
 pub fn named_module<A: Allocator + Copy>(alloc: A, name: &str) -> R<Vec<u8, A>>
-    ensures { IfOk result (λ bytes. ReadsSections (code_reading (first_body ∷ []) ∷ name_reading (names_of name.now) ∷ []) bytes.items) }
+    ensures { IfOk result (λ bytes. DecodesSections (code_decoding (first_body ∷ []) ∷ name_decoding (names_of name.now) ∷ []) bytes.items) }
 {
     let mut module = Module::new(alloc)?;
     module.section(&code(alloc)?)?;
@@ -24,7 +24,7 @@ pub fn named_module<A: Allocator + Copy>(alloc: A, name: &str) -> R<Vec<u8, A>>
 
 /// Returns a function of one local.
 fn code<A: Allocator + Copy>(alloc: A) -> R<CodeSection<A>>
-    ensures { IfOk result (λ section. SpellsBodies section (first_body ∷ [])) }
+    ensures { IfOk result (λ section. EncodesBodies section (first_body ∷ [])) }
 {
     let mut section = CodeSection::new(alloc);
     section.function(&first_function(alloc)?)?;
@@ -53,7 +53,7 @@ fn locals<A: Allocator + Copy>(alloc: A) -> R<IndirectNameMap<A>>
 
 /// Returns the names of the module, of its function, and of the function's local.
 fn names<A: Allocator + Copy>(alloc: A, name: &str) -> R<NameSection<A>>
-    ensures { IfOk result (λ section. HoldsNames section (names_of name.now)) }
+    ensures { IfOk result (λ section. ContainsNames section (names_of name.now)) }
 {
     let mut section = NameSection::new(alloc);
     section.module("m")?;

@@ -1,14 +1,14 @@
 // A module for a linker: code, hints, symbols and producers.
 ghost use Rattle.std.specs.Prelude.{[], ◌∷◌, IfOk, OnOk};
-ghost use Rattle.wasm_base.specs.Modules.{ReadsSections};
-ghost use Rattle.wasm_code.specs.Bodies.{IsPlainBody};
-ghost use Rattle.wasm_code.specs.Code.{SpellsBodies};
+ghost use Rattle.wasm_base.specs.Modules.{DecodesSections};
+ghost use Rattle.wasm_code.specs.Bodies.{IsWellFormedBody};
+ghost use Rattle.wasm_code.specs.Code.{EncodesBodies};
 ghost use Rattle.wasm_custom.specs.Symbols.{AreSymbols};
-ghost use Rattle.wasm_custom.specs.Linking.{HoldsLinks};
-ghost use Rattle.wasm_custom.specs.Producers.{HoldsFields};
-ghost use Rattle.wasm_custom.specs.Hints.{HoldsHints};
-ghost use Rattle.wasm_sections.specs.Functions.{HoldsFunctions};
-ghost use Rattle.wasm_types.specs.RecTypes.{HoldsTypes};
+ghost use Rattle.wasm_custom.specs.Linking.{ContainsLinks};
+ghost use Rattle.wasm_custom.specs.Producers.{ContainsFields};
+ghost use Rattle.wasm_custom.specs.Hints.{ContainsHints};
+ghost use Rattle.wasm_sections.specs.Functions.{ContainsFunctions};
+ghost use Rattle.wasm_types.specs.RecTypes.{ContainsTypes};
 ghost use Rattle.examples.specs.Object.{address_type, count_down_body, unlikely_hints, count_down_symbol, links, producers_fields, object_types, object_sections};
 
 use crate::whole::memories;
@@ -33,7 +33,7 @@ const NUMBER: MemArg = MemArg {
 /// Returns a module for a linker: a function that counts down a number in memory, a hint of its
 /// branch, its symbol, and its producer.
 pub fn object_module<A: Allocator + Copy>(alloc: A) -> R<Vec<u8, A>>
-    ensures { IfOk result (λ bytes. ReadsSections object_sections bytes.items) }
+    ensures { IfOk result (λ bytes. DecodesSections object_sections bytes.items) }
 {
     let mut module = Module::new(alloc)?;
     add_types(&mut module, alloc)?;
@@ -46,7 +46,7 @@ pub fn object_module<A: Allocator + Copy>(alloc: A) -> R<Vec<u8, A>>
 
 /// Adds the types, the functions and the memory.
 fn add_types<A: Allocator + Copy>(module: &mut Module<A>, alloc: A) -> R<()>
-    ensures { ReadsSections [] module.old → OnOk result (ReadsSections object_types module.new) }
+    ensures { DecodesSections [] module.old → OnOk result (DecodesSections object_types module.new) }
 {
     module.section(&types(alloc)?)?;
     module.section(&functions(alloc)?)?;
@@ -56,7 +56,7 @@ fn add_types<A: Allocator + Copy>(module: &mut Module<A>, alloc: A) -> R<()>
 
 /// Returns the type of the function.
 fn types<A: Allocator + Copy>(alloc: A) -> R<TypeSection<A>>
-    ensures { IfOk result (λ section. HoldsTypes section (address_type ∷ [])) }
+    ensures { IfOk result (λ section. ContainsTypes section (address_type ∷ [])) }
 {
     let mut section = TypeSection::new(alloc);
     section.ty().function([ValType::I32], [])?;
@@ -65,7 +65,7 @@ fn types<A: Allocator + Copy>(alloc: A) -> R<TypeSection<A>>
 
 /// The function is of the type 0.
 fn functions<A: Allocator + Copy>(alloc: A) -> R<FunctionSection<A>>
-    ensures { IfOk result (λ section. HoldsFunctions section (0 ∷ [])) }
+    ensures { IfOk result (λ section. ContainsFunctions section (0 ∷ [])) }
 {
     let mut section = FunctionSection::new(alloc);
     section.function(0)?;
@@ -76,7 +76,7 @@ fn functions<A: Allocator + Copy>(alloc: A) -> R<FunctionSection<A>>
 /// it are the count of locals (1 byte), `block` (2), `local.get` (2), `i32.load` (3) and `i32.eqz`
 /// (1).
 fn hints<A: Allocator + Copy>(alloc: A) -> R<BranchHints<A>>
-    ensures { IfOk result (λ section. HoldsHints section unlikely_hints) }
+    ensures { IfOk result (λ section. ContainsHints section unlikely_hints) }
 {
     let hint = BranchHint {
         branch_func_offset: 9,
@@ -89,7 +89,7 @@ fn hints<A: Allocator + Copy>(alloc: A) -> R<BranchHints<A>>
 
 /// Returns the body of the function.
 fn code<A: Allocator + Copy>(alloc: A) -> R<CodeSection<A>>
-    ensures { IfOk result (λ section. SpellsBodies section (count_down_body ∷ [])) }
+    ensures { IfOk result (λ section. EncodesBodies section (count_down_body ∷ [])) }
 {
     let mut section = CodeSection::new(alloc);
     section.function(&count_down(alloc)?)?;
@@ -98,7 +98,7 @@ fn code<A: Allocator + Copy>(alloc: A) -> R<CodeSection<A>>
 
 /// Decrements the number if it is not 0.
 fn count_down<A: Allocator>(alloc: A) -> R<Function<A>>
-    ensures { IfOk result (λ function. IsPlainBody function count_down_body) }
+    ensures { IfOk result (λ function. IsWellFormedBody function count_down_body) }
 {
     let mut function = Function::new(alloc, [])?;
     let mut sink = function.instructions();
@@ -129,7 +129,7 @@ fn symbols<A: Allocator + Copy>(alloc: A) -> R<SymbolTable<A>>
 
 /// Returns the linking section: the symbols.
 fn linking<A: Allocator + Copy>(alloc: A) -> R<LinkingSection<A>>
-    ensures { IfOk result (λ section. HoldsLinks section links) }
+    ensures { IfOk result (λ section. ContainsLinks section links) }
 {
     let mut section = LinkingSection::new(alloc);
     section.symbol_table(&symbols(alloc)?)?;
@@ -138,7 +138,7 @@ fn linking<A: Allocator + Copy>(alloc: A) -> R<LinkingSection<A>>
 
 /// Returns the producers of the module.
 fn producers<A: Allocator + Copy>(alloc: A) -> R<ProducersSection<A>>
-    ensures { IfOk result (λ section. HoldsFields section producers_fields) }
+    ensures { IfOk result (λ section. ContainsFields section producers_fields) }
 {
     let mut values = ProducersField::new(alloc);
     values.value("dolzhytik", "0.1.0")?;

@@ -1,6 +1,6 @@
 // Functions built with the instruction sink.
 ghost use Rattle.std.specs.Prelude.{IfOk};
-ghost use Rattle.wasm_code.specs.Bodies.{IsPlainBody};
+ghost use Rattle.wasm_code.specs.Bodies.{IsWellFormedBody};
 ghost use Rattle.examples.specs.Bodies.{factorial_body, choice_body};
 
 use std::alloc::Allocator;
@@ -11,7 +11,7 @@ use wasm_insn::BlockType;
 /// Returns the factorial of its one parameter: 1 for 0, and otherwise the parameter times the
 /// factorial of the number below. `itself` is the index of the function in its module.
 pub fn factorial<A: Allocator>(alloc: A, itself: u32) -> R<Function<A>>
-    ensures { IfOk result (λ function. IsPlainBody function (factorial_body itself)) }
+    ensures { IfOk result (λ function. IsWellFormedBody function (factorial_body itself)) }
 {
     let mut function = Function::new(alloc, [])?;
     let mut sink = function.instructions();
@@ -35,7 +35,7 @@ pub fn factorial<A: Allocator>(alloc: A, itself: u32) -> R<Function<A>>
 /// Returns a function that branches out of the inner block if its one parameter is 0, and otherwise
 /// out of both.
 pub fn choice<A: Allocator>(alloc: A) -> R<Function<A>>
-    ensures { IfOk result (λ function. IsPlainBody function choice_body) }
+    ensures { IfOk result (λ function. IsWellFormedBody function choice_body) }
 {
     let mut function = Function::new(alloc, [])?;
     let mut sink = function.instructions();

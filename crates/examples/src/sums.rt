@@ -1,7 +1,7 @@
 // Global sections whose initializer is a sum.
 ghost use Rattle.std.specs.Prelude.{[], ◌∷◌, IfOk, OnOk, pos};
 ghost use Rattle.wasm_base.specs.Entries.{counted_format};
-ghost use Rattle.wasm_base.specs.Modules.{GainsReading, GainsReadingWide};
+ghost use Rattle.wasm_base.specs.Modules.{GainsDecoding, GainsDecodingPadded};
 ghost use Rattle.wasm_code.specs.Expressions.{StoresInstructions};
 ghost use Rattle.wasm_sections.specs.Globals.{global_item};
 ghost use Rattle.examples.specs.Padded.{number};
@@ -30,7 +30,7 @@ fn sum_of<A: Allocator + Copy>(alloc: A, index: u32) -> R<ConstExpr<A>>
 /// Appends a global section of one global, whose initializer is the sum of the global of this index
 /// and 5.
 pub fn encode_sum<A: Allocator + Copy>(sink: &mut Vec<u8, A>, index: u32) -> R<()>
-    ensures { OnOk result (GainsReading (counted_format global_item) (sum_global index ∷ []) sink.old.items sink.new.items) }
+    ensures { OnOk result (GainsDecoding (counted_format global_item) (sum_global index ∷ []) sink.old.items sink.new.items) }
 {
     let alloc = *sink.allocator();
     let mut section = GlobalSection::new(alloc);
@@ -41,7 +41,7 @@ pub fn encode_sum<A: Allocator + Copy>(sink: &mut Vec<u8, A>, index: u32) -> R<(
 /// Appends a global section of that global, and of one that is already encoded, whose number is
 /// padded.
 pub fn encode_sum_and_padded<A: Allocator + Copy>(sink: &mut Vec<u8, A>, index: u32) -> R<()>
-    ensures { OnOk result (GainsReadingWide (counted_format global_item) (sum_global index ∷ number (pos 0) ∷ []) sink.old.items sink.new.items) }
+    ensures { OnOk result (GainsDecodingPadded (counted_format global_item) (sum_global index ∷ number (pos 0) ∷ []) sink.old.items sink.new.items) }
 {
     let alloc = *sink.allocator();
     let mut section = GlobalSection::new(alloc);

@@ -1,7 +1,7 @@
 // A compiler from trees.
 ghost use Rattle.std.specs.Prelude.{IfOk, OnOk};
 ghost use Rattle.std.specs.List.{flat_map};
-ghost use Rattle.wasm_code.specs.Bodies.{IsPlainBody};
+ghost use Rattle.wasm_code.specs.Bodies.{IsWellFormedBody};
 ghost use Rattle.examples.specs.Lowering.{GainsOperations, body_of};
 ghost use Rattle.examples.specs.Trees.{expr_operations, statement_operations};
 
@@ -107,7 +107,7 @@ pub fn compile_tree<A: Allocator>(
     locals: u32,
     statements: &[Statement<'_>],
 ) -> R<Function<A>>
-    ensures { IfOk result (λ function. IsPlainBody function (body_of locals (flat_map statement_operations statements.now))) }
+    ensures { IfOk result (λ function. IsWellFormedBody function (body_of locals (flat_map statement_operations statements.now))) }
 {
     let mut function = Function::new(alloc, [(locals, ValType::I32)])?;
     emit_statements(&mut function, statements)?;

@@ -1,13 +1,13 @@
 // A module of eight sections.
 ghost use Rattle.std.specs.Prelude.{IfOk, OnOk, [], ◌∷◌};
-ghost use Rattle.wasm_base.specs.Modules.{ReadsSections};
-ghost use Rattle.wasm_code.specs.Bodies.{IsPlainBody};
-ghost use Rattle.wasm_code.specs.Code.{SpellsBodies};
-ghost use Rattle.wasm_sections.specs.Exports.{HoldsExports};
-ghost use Rattle.wasm_sections.specs.Functions.{HoldsFunctions};
-ghost use Rattle.wasm_sections.specs.Globals.{HoldsGlobals};
-ghost use Rattle.wasm_sections.specs.Imports.{HoldsImports};
-ghost use Rattle.wasm_sections.specs.Memories.{HoldsMemories};
+ghost use Rattle.wasm_base.specs.Modules.{DecodesSections};
+ghost use Rattle.wasm_code.specs.Bodies.{IsWellFormedBody};
+ghost use Rattle.wasm_code.specs.Code.{EncodesBodies};
+ghost use Rattle.wasm_sections.specs.Exports.{ContainsExports};
+ghost use Rattle.wasm_sections.specs.Functions.{ContainsFunctions};
+ghost use Rattle.wasm_sections.specs.Globals.{ContainsGlobals};
+ghost use Rattle.wasm_sections.specs.Imports.{ContainsImports};
+ghost use Rattle.wasm_sections.specs.Memories.{ContainsMemories};
 ghost use Rattle.examples.specs.Bodies.{factorial_body};
 ghost use Rattle.examples.specs.Whole.{ready, one_page, five, factorial_export, memory_export, start_body, declared_sections, stored_sections, whole_sections};
 
@@ -23,7 +23,7 @@ use wasm_sections::{
 /// Returns a module that imports a function, has a global and a memory, and replaces the global by
 /// its factorial when it starts.
 pub fn whole_module<A: Allocator + Copy>(alloc: A) -> R<Vec<u8, A>>
-    ensures { IfOk result (λ bytes. ReadsSections whole_sections bytes.items) }
+    ensures { IfOk result (λ bytes. DecodesSections whole_sections bytes.items) }
 {
     let mut module = Module::new(alloc)?;
     add_declared(&mut module, alloc)?;
@@ -35,7 +35,7 @@ pub fn whole_module<A: Allocator + Copy>(alloc: A) -> R<Vec<u8, A>>
 
 /// Adds the types, the imported function, and the types of the others.
 fn add_declared<A: Allocator + Copy>(built: &mut Module<A>, alloc: A) -> R<()>
-    ensures { ReadsSections [] built.old → OnOk result (ReadsSections declared_sections built.new) }
+    ensures { DecodesSections [] built.old → OnOk result (DecodesSections declared_sections built.new) }
 {
     built.section(&RawSection {
         id: 1,
@@ -48,7 +48,7 @@ fn add_declared<A: Allocator + Copy>(built: &mut Module<A>, alloc: A) -> R<()>
 
 /// Adds the memory, the global, and the exports.
 fn add_stored<A: Allocator + Copy>(built: &mut Module<A>, alloc: A) -> R<()>
-    ensures { ReadsSections declared_sections built.old → OnOk result (ReadsSections stored_sections built.new) }
+    ensures { DecodesSections declared_sections built.old → OnOk result (DecodesSections stored_sections built.new) }
 {
     built.section(&memories(alloc)?)?;
     built.section(&globals(alloc)?)?;
@@ -58,7 +58,7 @@ fn add_stored<A: Allocator + Copy>(built: &mut Module<A>, alloc: A) -> R<()>
 
 /// Imports the function 0 from the host.
 pub(crate) fn imports<A: Allocator + Copy>(alloc: A) -> R<ImportSection<A>>
-    ensures { IfOk result (λ section. HoldsImports section (ready ∷ [])) }
+    ensures { IfOk result (λ section. ContainsImports section (ready ∷ [])) }
 {
     let mut section = ImportSection::new(alloc);
     section.import("host", "ready", EntityType::Function(0))?;
@@ -67,7 +67,7 @@ pub(crate) fn imports<A: Allocator + Copy>(alloc: A) -> R<ImportSection<A>>
 
 /// Returns the types of the functions 1 and 2.
 fn functions<A: Allocator + Copy>(alloc: A) -> R<FunctionSection<A>>
-    ensures { IfOk result (λ section. HoldsFunctions section (1 ∷ 0 ∷ [])) }
+    ensures { IfOk result (λ section. ContainsFunctions section (1 ∷ 0 ∷ [])) }
 {
     let mut section = FunctionSection::new(alloc);
     section.function(1)?;
@@ -77,7 +77,7 @@ fn functions<A: Allocator + Copy>(alloc: A) -> R<FunctionSection<A>>
 
 /// Returns a memory of one page.
 pub(crate) fn memories<A: Allocator + Copy>(alloc: A) -> R<MemorySection<A>>
-    ensures { IfOk result (λ section. HoldsMemories section (one_page ∷ [])) }
+    ensures { IfOk result (λ section. ContainsMemories section (one_page ∷ [])) }
 {
     let mut section = MemorySection::new(alloc);
     section.memory(MemoryType {
@@ -92,7 +92,7 @@ pub(crate) fn memories<A: Allocator + Copy>(alloc: A) -> R<MemorySection<A>>
 
 /// Returns a mutable number, initially 5.
 fn globals<A: Allocator + Copy>(alloc: A) -> R<GlobalSection<A>>
-    ensures { IfOk result (λ section. HoldsGlobals section (five ∷ [])) }
+    ensures { IfOk result (λ section. ContainsGlobals section (five ∷ [])) }
 {
     let global_type = GlobalType {
         val_type: ValType::I32,
@@ -106,7 +106,7 @@ fn globals<A: Allocator + Copy>(alloc: A) -> R<GlobalSection<A>>
 
 /// Exports the factorial and the memory.
 fn exports<A: Allocator + Copy>(alloc: A) -> R<ExportSection<A>>
-    ensures { IfOk result (λ section. HoldsExports section (factorial_export ∷ memory_export ∷ [])) }
+    ensures { IfOk result (λ section. ContainsExports section (factorial_export ∷ memory_export ∷ [])) }
 {
     let mut section = ExportSection::new(alloc);
     section.export("factorial", ExportKind::Func, 1)?;
@@ -116,7 +116,7 @@ fn exports<A: Allocator + Copy>(alloc: A) -> R<ExportSection<A>>
 
 /// Returns the bodies of the functions 1 and 2.
 fn code<A: Allocator + Copy>(alloc: A) -> R<CodeSection<A>>
-    ensures { IfOk result (λ section. SpellsBodies section (factorial_body 1 ∷ start_body ∷ [])) }
+    ensures { IfOk result (λ section. EncodesBodies section (factorial_body 1 ∷ start_body ∷ [])) }
 {
     let mut section = CodeSection::new(alloc);
     section.function(&factorial(alloc, 1)?)?;
@@ -126,7 +126,7 @@ fn code<A: Allocator + Copy>(alloc: A) -> R<CodeSection<A>>
 
 /// Returns the start function: it replaces the global by its factorial, and calls the host.
 fn start<A: Allocator>(alloc: A) -> R<Function<A>>
-    ensures { IfOk result (λ function. IsPlainBody function start_body) }
+    ensures { IfOk result (λ function. IsWellFormedBody function start_body) }
 {
     let mut function = Function::new(alloc, [])?;
     let mut sink = function.instructions();

@@ -8,7 +8,7 @@ use Rattle.wasm_sections.specs.declared.import.EntityType.TheVariants.{Function}
 use Rattle.wasm_sections.specs.declared.memory.MemoryType.{MemoryType}
 use Rattle.wasm_sections.specs.declared.tag.TagKind.TheVariants.{Exception}
 use Rattle.wasm_sections.specs.declared.tag.TagType.{TagType}
-use Rattle.wasm_types.specs.RecTypes.{Sub, TypeItem, single as alone, array, structure, plain_type}
+use Rattle.wasm_types.specs.RecTypes.{Sub, TypeItem, single as unique, array, structure, plain_type}
 use Rattle.wasm_types.specs.declared.types.FieldType.{FieldType}
 use Rattle.wasm_types.specs.declared.types.StorageType.TheVariants.{I8}
 
@@ -22,7 +22,7 @@ open_bytes = record { is_final = false; supertypes = []; composite = record { sh
 
 -- An array of bytes, a structure of one byte, and an array of bytes that is not final.
 abbrev pub byte_types : List TypeItem
-byte_types = plain_type (array byte_field) ∷ plain_type (structure (byte_field ∷ [])) ∷ alone open_bytes ∷ []
+byte_types = plain_type (array byte_field) ∷ plain_type (structure (byte_field ∷ [])) ∷ unique open_bytes ∷ []
 
 -- The import of `f` from `m`, a function of this type index.
 abbrev pub imported_function : ℕ → ImportItem

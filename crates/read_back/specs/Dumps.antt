@@ -1,8 +1,8 @@
 -- This file defines the items of the core dump.
 use Rattle.std.specs.Prelude.{ℕ, List, [], ◌∷◌, pos, codes}
-use Rattle.wasm_base.specs.Modules.{SectionReading}
-use Rattle.wasm_custom.specs.CoreDumps.{Instance, core_reading, modules_reading, instances_reading}
-use Rattle.wasm_custom.specs.CoreStacks.{StackFrame, stack_reading}
+use Rattle.wasm_base.specs.Modules.{SectionDecoding}
+use Rattle.wasm_custom.specs.CoreDumps.{Instance, core_decoding, modules_decoding, instances_decoding}
+use Rattle.wasm_custom.specs.CoreStacks.{StackFrame, stack_decoding}
 use Rattle.wasm_custom.specs.declared.core_values.CoreDumpValue.TheVariants.{Missing, I32}
 
 -- An instance of module 0, with one memory and two globals.
@@ -22,10 +22,10 @@ abbrev pub other_frame : ℕ → StackFrame
 other_frame offset = record { instance = 0; function = 0; offset = offset; locals = I32 (pos 5) ∷ []; stack = [] }
 
 -- The sections of the core dump of a process of this name, in order.
-abbrev pub dump_sections : List ℕ → ℕ → List SectionReading
+abbrev pub dump_sections : List ℕ → ℕ → List SectionDecoding
 dump_sections name index =
-    core_reading name
-    ∷ modules_reading (codes "main" ∷ name ∷ [])
-    ∷ instances_reading (first_instance ∷ other_instance index (7 ∷ []) ∷ [])
-    ∷ stack_reading name (first_frame ∷ other_frame index ∷ [])
+    core_decoding name
+    ∷ modules_decoding (codes "main" ∷ name ∷ [])
+    ∷ instances_decoding (first_instance ∷ other_instance index (7 ∷ []) ∷ [])
+    ∷ stack_decoding name (first_frame ∷ other_frame index ∷ [])
     ∷ []

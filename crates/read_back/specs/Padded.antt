@@ -2,7 +2,7 @@
 use Rattle.std.specs.Prelude.{ℕ, List, [], ◌∷◌, None, Some, pos}
 use Rattle.std.specs.declared.alloc.Global.{Global}
 use Rattle.wasm_base.specs.Formats.{vec}
-use Rattle.wasm_base.specs.Modules.{SectionReading, wide_reading_of}
+use Rattle.wasm_base.specs.Modules.{SectionDecoding, padded_decoding_of}
 use Rattle.wasm_code.specs.Bodies.{Body}
 use Rattle.wasm_code.specs.Expressions.{normal_row}
 use Rattle.wasm_custom.specs.Names.{NameItem, Indirect, name_payload}
@@ -23,7 +23,7 @@ zero_offset = normal_row {A = Global} (I32Const (pos 0)) ∷ []
 
 -- Function 1 at offset 0 of table 0.
 abbrev pub at_front : elements.ElementItem (List Plain)
-at_front = record { place = elements.active None zero_offset; elements = elements.functions (1 ∷ []) }
+at_front = record { segment_mode = elements.active None zero_offset; elements = elements.functions (1 ∷ []) }
 
 -- These bytes at offset 0 of this memory.
 abbrev pub bytes_at_front : ℕ → List ℕ → segments.DataItem
@@ -38,10 +38,10 @@ abbrev pub gets_twice : Body
 gets_twice = record { runs = []; code = normal_row {A = Global} (LocalGet 0) ∷ normal_row {A = Global} (LocalGet 0) ∷ normal_row {A = Global} End ∷ [] }
 
 -- The sections, in order.
-abbrev pub padded_sections : ℕ → List ℕ → List SectionReading
+abbrev pub padded_sections : ℕ → List ℕ → List SectionDecoding
 padded_sections memory bytes =
-    wide_reading_of 4 (vec table_item) (first_everywhere ∷ [])
-    ∷ wide_reading_of 9 (vec elements.element) (at_front ∷ [])
-    ∷ wide_reading_of 11 (vec segments.data_item) (bytes_at_front memory bytes ∷ [])
-    ∷ wide_reading_of 0 name_payload local_name
+    padded_decoding_of 4 (vec table_item) (first_everywhere ∷ [])
+    ∷ padded_decoding_of 9 (vec elements.element) (at_front ∷ [])
+    ∷ padded_decoding_of 11 (vec segments.data_item) (bytes_at_front memory bytes ∷ [])
+    ∷ padded_decoding_of 0 name_payload local_name
     ∷ []

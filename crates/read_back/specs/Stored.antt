@@ -15,11 +15,11 @@ eight = normal_row {A = Global} (I32Const (pos 8)) ∷ []
 
 -- The function of this index at offset 8 of table 0.
 abbrev pub function_at_8 : ℕ → elements.ElementItem (List Plain)
-function_at_8 index = record { place = elements.active None eight; elements = elements.functions (index ∷ []) }
+function_at_8 index = record { segment_mode = elements.active None eight; elements = elements.functions (index ∷ []) }
 
 -- A passive segment of the functions 1 and 2.
 abbrev pub later_functions : elements.ElementItem (List Plain)
-later_functions = record { place = elements.passive; elements = elements.functions (1 ∷ 2 ∷ []) }
+later_functions = record { segment_mode = elements.passive; elements = elements.functions (1 ∷ 2 ∷ []) }
 
 -- Two bytes at offset 8 of memory 0.
 abbrev pub bytes_at_8 : segments.DataItem

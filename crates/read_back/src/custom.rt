@@ -1,14 +1,14 @@
 //! Custom sections, written and read back: names, linking, producers, hints, and any name and data.
 ghost use Rattle.std.specs.Prelude.{◌≡◌, ◌≢◌, ◌++◌, [], ◌∷◌, true, false, Err, IfOk, IfErr, OnOk, OnErr, map};
-ghost use Rattle.wasm_base.specs.Formats.{frame, custom as custom_format};
-ghost use Rattle.wasm_base.specs.Modules.{GainsReading};
+ghost use Rattle.wasm_base.specs.Formats.{size_prefixed, custom as custom_format};
+ghost use Rattle.wasm_base.specs.Modules.{GainsDecoding};
 ghost use Rattle.wasm_custom.specs.Symbols.{AreSymbols};
 ghost use Rattle.wasm_base.specs.declared.refused.Refused.TheVariants.{TooLong};
 ghost use Rattle.wasm_custom.specs.Names.{name_payload, name_item_view};
 ghost use Rattle.wasm_custom.specs.Linking.{linking_payload};
 ghost use Rattle.wasm_custom.specs.Producers.{producers_payload};
 ghost use Rattle.wasm_custom.specs.Hints.{hints_payload};
-ghost use Rattle.wasm_reader_base.specs.Shortest.{AppendsShortest};
+ghost use Rattle.wasm_reader_base.specs.Minimal.{AppendsMinimal};
 ghost use Rattle.wasm_reader_base.specs.declared.fault.ReadFault.TheVariants.{Memory};
 ghost use Rattle.read_back.specs.Customs.{name_and_more, data_symbol, links, language, likely_hints};
 ghost use Rattle.wasm_reader.specs.Kinds.{Names, Linking, Producers, Hints, Custom, contents_of};
@@ -25,7 +25,7 @@ use wasm_reader_base::ReadFault;
 
 /// Appends a name section: the name of the module, and bytes of an id that no call has.
 fn write_more_names<A: Allocator + Copy>(sink: &mut Vec<u8, A>, name: &str, more: &[u8]) -> R<()>
-    ensures { OnOk result (GainsReading (frame name_payload) (name_and_more name.now more.now) sink.old.items sink.new.items) }
+    ensures { OnOk result (GainsDecoding (size_prefixed name_payload) (name_and_more name.now more.now) sink.old.items sink.new.items) }
 {
     let mut section = NameSection::new(*sink.allocator());
     section.module(name)?;
@@ -35,18 +35,18 @@ fn write_more_names<A: Allocator + Copy>(sink: &mut Vec<u8, A>, name: &str, more
 
 /// Decodes that name section, and appends its minimal encoding.
 pub fn read_more_names<'a, A: Allocator + Copy + 'a>(
-    text: &'a mut Vec<u8, A>,
+    encoding: &'a mut Vec<u8, A>,
     name: &str,
     more: &[u8],
     sink: &mut Vec<u8, A>,
 ) -> Result<Items<'a, A>, ReadFault>
-    requires { text.old.items ≡ [] }
+    requires { encoding.old.items ≡ [] }
     ensures read { IfOk result (λ items. contents_of items ≡ Names (name_and_more name.now more.now)) }
-    ensures same { OnOk result (GainsReading (frame name_payload) (name_and_more name.now more.now) sink.old.items sink.new.items) }
+    ensures same { OnOk result (GainsDecoding (size_prefixed name_payload) (name_and_more name.now more.now) sink.old.items sink.new.items) }
     ensures memory { IfErr result (λ e. e ≢ Memory → ⊥) }
 {
-    write_more_names(text, name, more)?;
-    let items = read_and_shorten(SectionKind::Names, text, sink)?;
+    write_more_names(encoding, name, more)?;
+    let items = read_and_shorten(SectionKind::Names, encoding, sink)?;
     Ok(items)
 }
 
@@ -57,7 +57,7 @@ pub fn titled_names<A: Allocator>(
     names: &[NameItem<'_, A>],
     sink: &mut Vec<u8, A>,
 ) -> R<bool>
-    ensures named { IfOk result (λ all. all ≡ true → AppendsShortest name_payload (map name_item_view names.now) (sink.old.items ++ title.now) sink.new.items) }
+    ensures named { IfOk result (λ all. all ≡ true → AppendsMinimal name_payload (map name_item_view names.now) (sink.old.items ++ title.now) sink.new.items) }
     ensures titled { IfOk result (λ all. all ≡ false → sink.new.items ≡ sink.old.items ++ title.now) }
     ensures err { OnErr result (sink.new.items ≡ sink.old.items) }
 {
@@ -99,7 +99,7 @@ fn symbols<A: Allocator + Copy>(alloc: A, name: &str) -> R<SymbolTable<A>>
 
 /// Appends a linking section: a symbol, and the architecture of the target.
 fn write_linking<A: Allocator + Copy>(sink: &mut Vec<u8, A>, name: &str) -> R<()>
-    ensures { OnOk result (GainsReading (frame linking_payload) (links name.now) sink.old.items sink.new.items) }
+    ensures { OnOk result (GainsDecoding (size_prefixed linking_payload) (links name.now) sink.old.items sink.new.items) }
 {
     let alloc = *sink.allocator();
     let mut section = LinkingSection::new(alloc);
@@ -110,23 +110,23 @@ fn write_linking<A: Allocator + Copy>(sink: &mut Vec<u8, A>, name: &str) -> R<()
 
 /// Decodes that linking section, and appends its minimal encoding.
 pub fn read_linking<'a, A: Allocator + Copy + 'a>(
-    text: &'a mut Vec<u8, A>,
+    encoding: &'a mut Vec<u8, A>,
     name: &str,
     sink: &mut Vec<u8, A>,
 ) -> Result<Items<'a, A>, ReadFault>
-    requires { text.old.items ≡ [] }
+    requires { encoding.old.items ≡ [] }
     ensures read { IfOk result (λ items. contents_of items ≡ Linking (links name.now)) }
-    ensures same { OnOk result (GainsReading (frame linking_payload) (links name.now) sink.old.items sink.new.items) }
+    ensures same { OnOk result (GainsDecoding (size_prefixed linking_payload) (links name.now) sink.old.items sink.new.items) }
     ensures memory { IfErr result (λ e. e ≢ Memory → ⊥) }
 {
-    write_linking(text, name)?;
-    let items = read_and_shorten(SectionKind::Linking, text, sink)?;
+    write_linking(encoding, name)?;
+    let items = read_and_shorten(SectionKind::Linking, encoding, sink)?;
     Ok(items)
 }
 
 /// Appends a producers section of one field.
 fn write_producers<A: Allocator + Copy>(sink: &mut Vec<u8, A>, version: &str) -> R<()>
-    ensures { OnOk result (GainsReading (frame producers_payload) (language version.now) sink.old.items sink.new.items) }
+    ensures { OnOk result (GainsDecoding (size_prefixed producers_payload) (language version.now) sink.old.items sink.new.items) }
 {
     let alloc = *sink.allocator();
     let mut values = ProducersField::new(alloc);
@@ -138,24 +138,24 @@ fn write_producers<A: Allocator + Copy>(sink: &mut Vec<u8, A>, version: &str) ->
 
 /// Decodes that producers section, and appends its minimal encoding.
 pub fn read_producers<'a, A: Allocator + Copy + 'a>(
-    text: &'a mut Vec<u8, A>,
+    encoding: &'a mut Vec<u8, A>,
     version: &str,
     sink: &mut Vec<u8, A>,
 ) -> Result<Items<'a, A>, ReadFault>
-    requires { text.old.items ≡ [] }
+    requires { encoding.old.items ≡ [] }
     ensures read { IfOk result (λ items. contents_of items ≡ Producers (language version.now)) }
-    ensures same { OnOk result (GainsReading (frame producers_payload) (language version.now) sink.old.items sink.new.items) }
+    ensures same { OnOk result (GainsDecoding (size_prefixed producers_payload) (language version.now) sink.old.items sink.new.items) }
     ensures memory { IfErr result (λ e. e ≢ Memory → ⊥) }
 {
-    write_producers(text, version)?;
-    let items = read_and_shorten(SectionKind::Producers, text, sink)?;
+    write_producers(encoding, version)?;
+    let items = read_and_shorten(SectionKind::Producers, encoding, sink)?;
     Ok(items)
 }
 
 /// Appends a section of branch hints: of an array, and of a slice.
 #[tactic(auto, using(wasm_base::proofs::KnownLengths::drained_array, wasm_base::proofs::KnownLengths::drained_copied))]
 fn write_hints<A: Allocator + Copy>(sink: &mut Vec<u8, A>, index: u32) -> R<()>
-    ensures { OnOk result (GainsReading (frame hints_payload) (likely_hints index) sink.old.items sink.new.items) }
+    ensures { OnOk result (GainsDecoding (size_prefixed hints_payload) (likely_hints index) sink.old.items sink.new.items) }
 {
     let likely = BranchHint {
         branch_func_offset: 3,
@@ -170,23 +170,23 @@ fn write_hints<A: Allocator + Copy>(sink: &mut Vec<u8, A>, index: u32) -> R<()>
 
 /// Decodes that section of branch hints, and appends its minimal encoding.
 pub fn read_hints<'a, A: Allocator + Copy + 'a>(
-    text: &'a mut Vec<u8, A>,
+    encoding: &'a mut Vec<u8, A>,
     index: u32,
     sink: &mut Vec<u8, A>,
 ) -> Result<Items<'a, A>, ReadFault>
-    requires { text.old.items ≡ [] }
+    requires { encoding.old.items ≡ [] }
     ensures read { IfOk result (λ items. contents_of items ≡ Hints (likely_hints index)) }
-    ensures same { OnOk result (GainsReading (frame hints_payload) (likely_hints index) sink.old.items sink.new.items) }
+    ensures same { OnOk result (GainsDecoding (size_prefixed hints_payload) (likely_hints index) sink.old.items sink.new.items) }
     ensures memory { IfErr result (λ e. e ≢ Memory → ⊥) }
 {
-    write_hints(text, index)?;
-    let items = read_and_shorten(SectionKind::Hints, text, sink)?;
+    write_hints(encoding, index)?;
+    let items = read_and_shorten(SectionKind::Hints, encoding, sink)?;
     Ok(items)
 }
 
 /// Appends a custom section of a name and data.
 fn write_custom<A: Allocator>(sink: &mut Vec<u8, A>, name: &str, bytes: &[u8]) -> R<()>
-    ensures { OnOk result (GainsReading custom_format (name.now, bytes.now) sink.old.items sink.new.items) }
+    ensures { OnOk result (GainsDecoding custom_format (name.now, bytes.now) sink.old.items sink.new.items) }
 {
     let section: CustomSection<'_> = CustomSection {
         name: CowStr::Borrowed(name),
@@ -197,17 +197,17 @@ fn write_custom<A: Allocator>(sink: &mut Vec<u8, A>, name: &str, bytes: &[u8]) -
 
 /// Decodes that custom section, and appends its minimal encoding.
 pub fn read_custom<'a, A: Allocator + Copy + 'a>(
-    text: &'a mut Vec<u8, A>,
+    encoding: &'a mut Vec<u8, A>,
     name: &str,
     bytes: &[u8],
     sink: &mut Vec<u8, A>,
 ) -> Result<Items<'a, A>, ReadFault>
-    requires { text.old.items ≡ [] }
+    requires { encoding.old.items ≡ [] }
     ensures read { IfOk result (λ items. contents_of items ≡ Custom (name.now, bytes.now)) }
-    ensures same { OnOk result (GainsReading custom_format (name.now, bytes.now) sink.old.items sink.new.items) }
+    ensures same { OnOk result (GainsDecoding custom_format (name.now, bytes.now) sink.old.items sink.new.items) }
     ensures memory { IfErr result (λ e. e ≢ Memory → ⊥) }
 {
-    write_custom(text, name, bytes)?;
-    let items = read_and_shorten(SectionKind::Custom, text, sink)?;
+    write_custom(encoding, name, bytes)?;
+    let items = read_and_shorten(SectionKind::Custom, encoding, sink)?;
     Ok(items)
 }

@@ -2,13 +2,13 @@
 //! exports.
 ghost use Rattle.std.specs.Prelude.{◌≡◌, ◌≢◌, [], ◌∷◌, IfOk, IfErr, OnOk};
 ghost use Rattle.wasm_base.specs.Entries.{counted_format};
-ghost use Rattle.wasm_base.specs.Modules.{GainsReading};
+ghost use Rattle.wasm_base.specs.Modules.{GainsDecoding};
 ghost use Rattle.wasm_reader_base.specs.declared.fault.ReadFault.TheVariants.{Memory};
 ghost use Rattle.wasm_sections.specs.Exports.{export};
 ghost use Rattle.wasm_sections.specs.Imports.{import_format};
 ghost use Rattle.wasm_sections.specs.Memories.{memory_type};
 ghost use Rattle.wasm_sections.specs.Tables.{table_item};
-ghost use Rattle.wasm_sections.specs.Tags.{tag_type, HoldsTags};
+ghost use Rattle.wasm_sections.specs.Tags.{tag_type, ContainsTags};
 ghost use Rattle.wasm_types.specs.RecTypes.{type_item};
 ghost use Rattle.read_back.specs.Declarations.{byte_types, imported_function, pages, two_pages, thrown, exported};
 ghost use Rattle.callers.specs.FirstValues.{null_table, nulled_table};
@@ -48,7 +48,7 @@ const OPEN_BYTES: SubType = SubType {
 
 /// Appends a type section: an array, a structure, and an array that others may extend.
 fn write_types<A: Allocator + Copy>(sink: &mut Vec<u8, A>) -> R<()>
-    ensures { OnOk result (GainsReading (counted_format type_item) byte_types sink.old.items sink.new.items) }
+    ensures { OnOk result (GainsDecoding (counted_format type_item) byte_types sink.old.items sink.new.items) }
 {
     let mut section = TypeSection::new(*sink.allocator());
     section.ty().array(&StorageType::I8, true)?;
@@ -59,22 +59,22 @@ fn write_types<A: Allocator + Copy>(sink: &mut Vec<u8, A>) -> R<()>
 
 /// Decodes that type section, and appends its minimal encoding.
 pub fn read_types<'a, A: Allocator + Copy + 'a>(
-    text: &'a mut Vec<u8, A>,
+    encoding: &'a mut Vec<u8, A>,
     sink: &mut Vec<u8, A>,
 ) -> Result<Items<'a, A>, ReadFault>
-    requires { text.old.items ≡ [] }
+    requires { encoding.old.items ≡ [] }
     ensures read { IfOk result (λ items. contents_of items ≡ Types byte_types) }
-    ensures same { OnOk result (GainsReading (counted_format type_item) byte_types sink.old.items sink.new.items) }
+    ensures same { OnOk result (GainsDecoding (counted_format type_item) byte_types sink.old.items sink.new.items) }
     ensures memory { IfErr result (λ e. e ≢ Memory → ⊥) }
 {
-    write_types(text)?;
-    let items = read_and_shorten(SectionKind::Types, text, sink)?;
+    write_types(encoding)?;
+    let items = read_and_shorten(SectionKind::Types, encoding, sink)?;
     Ok(items)
 }
 
 /// Appends an import section of one function.
 fn write_imports<A: Allocator + Copy>(sink: &mut Vec<u8, A>, index: u32) -> R<()>
-    ensures { OnOk result (GainsReading (counted_format import_format) (imported_function index ∷ []) sink.old.items sink.new.items) }
+    ensures { OnOk result (GainsDecoding (counted_format import_format) (imported_function index ∷ []) sink.old.items sink.new.items) }
 {
     let mut section = ImportSection::new(*sink.allocator());
     section.import("m", "f", EntityType::Function(index))?;
@@ -83,40 +83,40 @@ fn write_imports<A: Allocator + Copy>(sink: &mut Vec<u8, A>, index: u32) -> R<()
 
 /// Decodes that import section, and appends its minimal encoding.
 pub fn read_imports<'a, A: Allocator + Copy + 'a>(
-    text: &'a mut Vec<u8, A>,
+    encoding: &'a mut Vec<u8, A>,
     index: u32,
     sink: &mut Vec<u8, A>,
 ) -> Result<Items<'a, A>, ReadFault>
-    requires { text.old.items ≡ [] }
+    requires { encoding.old.items ≡ [] }
     ensures read { IfOk result (λ items. contents_of items ≡ Imports (imported_function index ∷ [])) }
-    ensures same { OnOk result (GainsReading (counted_format import_format) (imported_function index ∷ []) sink.old.items sink.new.items) }
+    ensures same { OnOk result (GainsDecoding (counted_format import_format) (imported_function index ∷ []) sink.old.items sink.new.items) }
     ensures memory { IfErr result (λ e. e ≢ Memory → ⊥) }
 {
-    write_imports(text, index)?;
-    let items = read_and_shorten(SectionKind::Imports, text, sink)?;
+    write_imports(encoding, index)?;
+    let items = read_and_shorten(SectionKind::Imports, encoding, sink)?;
     Ok(items)
 }
 
 /// Decodes a table section of two tables, one with an initializer, and appends its minimal
 /// encoding.
 pub fn read_tables<'a, A: Allocator + Copy + 'a>(
-    text: &'a mut Vec<u8, A>,
+    encoding: &'a mut Vec<u8, A>,
     minimum: u64,
     sink: &mut Vec<u8, A>,
 ) -> Result<Items<'a, A>, ReadFault>
-    requires { text.old.items ≡ [] }
+    requires { encoding.old.items ≡ [] }
     ensures read { IfOk result (λ items. contents_of items ≡ Tables (null_table minimum ∷ nulled_table minimum ∷ [])) }
-    ensures same { OnOk result (GainsReading (counted_format table_item) (null_table minimum ∷ nulled_table minimum ∷ []) sink.old.items sink.new.items) }
+    ensures same { OnOk result (GainsDecoding (counted_format table_item) (null_table minimum ∷ nulled_table minimum ∷ []) sink.old.items sink.new.items) }
     ensures memory { IfErr result (λ e. e ≢ Memory → ⊥) }
 {
-    encode_null_tables(text, minimum)?;
-    let items = read_and_shorten(SectionKind::Tables, text, sink)?;
+    encode_null_tables(encoding, minimum)?;
+    let items = read_and_shorten(SectionKind::Tables, encoding, sink)?;
     Ok(items)
 }
 
 /// Appends a memory section of two memories.
 fn write_memories<A: Allocator + Copy>(sink: &mut Vec<u8, A>, minimum: u64) -> R<()>
-    ensures { OnOk result (GainsReading (counted_format memory_type) (pages minimum ∷ two_pages ∷ []) sink.old.items sink.new.items) }
+    ensures { OnOk result (GainsDecoding (counted_format memory_type) (pages minimum ∷ two_pages ∷ []) sink.old.items sink.new.items) }
 {
     let mut section = MemorySection::new(*sink.allocator());
     section.memory(MemoryType {
@@ -138,23 +138,23 @@ fn write_memories<A: Allocator + Copy>(sink: &mut Vec<u8, A>, minimum: u64) -> R
 
 /// Decodes that memory section, and appends its minimal encoding.
 pub fn read_memories<'a, A: Allocator + Copy + 'a>(
-    text: &'a mut Vec<u8, A>,
+    encoding: &'a mut Vec<u8, A>,
     minimum: u64,
     sink: &mut Vec<u8, A>,
 ) -> Result<Items<'a, A>, ReadFault>
-    requires { text.old.items ≡ [] }
+    requires { encoding.old.items ≡ [] }
     ensures read { IfOk result (λ items. contents_of items ≡ Memories (pages minimum ∷ two_pages ∷ [])) }
-    ensures same { OnOk result (GainsReading (counted_format memory_type) (pages minimum ∷ two_pages ∷ []) sink.old.items sink.new.items) }
+    ensures same { OnOk result (GainsDecoding (counted_format memory_type) (pages minimum ∷ two_pages ∷ []) sink.old.items sink.new.items) }
     ensures memory { IfErr result (λ e. e ≢ Memory → ⊥) }
 {
-    write_memories(text, minimum)?;
-    let items = read_and_shorten(SectionKind::Memories, text, sink)?;
+    write_memories(encoding, minimum)?;
+    let items = read_and_shorten(SectionKind::Memories, encoding, sink)?;
     Ok(items)
 }
 
 /// Returns a tag section of two tags: of the type 0, and of the type of this index.
 pub(crate) fn tags<A: Allocator + Copy>(alloc: A, index: u32) -> R<TagSection<A>>
-    ensures { IfOk result (λ section. HoldsTags section (thrown 0 ∷ thrown index ∷ [])) }
+    ensures { IfOk result (λ section. ContainsTags section (thrown 0 ∷ thrown index ∷ [])) }
 {
     let mut section = TagSection::new(alloc);
     section.tag(TagType {
@@ -170,7 +170,7 @@ pub(crate) fn tags<A: Allocator + Copy>(alloc: A, index: u32) -> R<TagSection<A>
 
 /// Appends that tag section.
 fn write_tags<A: Allocator + Copy>(sink: &mut Vec<u8, A>, index: u32) -> R<()>
-    ensures { OnOk result (GainsReading (counted_format tag_type) (thrown 0 ∷ thrown index ∷ []) sink.old.items sink.new.items) }
+    ensures { OnOk result (GainsDecoding (counted_format tag_type) (thrown 0 ∷ thrown index ∷ []) sink.old.items sink.new.items) }
 {
     let section = tags(*sink.allocator(), index)?;
     section.encode(sink)
@@ -178,23 +178,23 @@ fn write_tags<A: Allocator + Copy>(sink: &mut Vec<u8, A>, index: u32) -> R<()>
 
 /// Decodes that tag section, and appends its minimal encoding.
 pub fn read_tags<'a, A: Allocator + Copy + 'a>(
-    text: &'a mut Vec<u8, A>,
+    encoding: &'a mut Vec<u8, A>,
     index: u32,
     sink: &mut Vec<u8, A>,
 ) -> Result<Items<'a, A>, ReadFault>
-    requires { text.old.items ≡ [] }
+    requires { encoding.old.items ≡ [] }
     ensures read { IfOk result (λ items. contents_of items ≡ Tags (thrown 0 ∷ thrown index ∷ [])) }
-    ensures same { OnOk result (GainsReading (counted_format tag_type) (thrown 0 ∷ thrown index ∷ []) sink.old.items sink.new.items) }
+    ensures same { OnOk result (GainsDecoding (counted_format tag_type) (thrown 0 ∷ thrown index ∷ []) sink.old.items sink.new.items) }
     ensures memory { IfErr result (λ e. e ≢ Memory → ⊥) }
 {
-    write_tags(text, index)?;
-    let items = read_and_shorten(SectionKind::Tags, text, sink)?;
+    write_tags(encoding, index)?;
+    let items = read_and_shorten(SectionKind::Tags, encoding, sink)?;
     Ok(items)
 }
 
 /// Appends an export section of one function.
 fn write_exports<A: Allocator + Copy>(sink: &mut Vec<u8, A>, name: &str, index: u32) -> R<()>
-    ensures { OnOk result (GainsReading (counted_format export) (exported name.now index ∷ []) sink.old.items sink.new.items) }
+    ensures { OnOk result (GainsDecoding (counted_format export) (exported name.now index ∷ []) sink.old.items sink.new.items) }
 {
     let mut section = ExportSection::new(*sink.allocator());
     section.export(name, ExportKind::Func, index)?;
@@ -203,17 +203,17 @@ fn write_exports<A: Allocator + Copy>(sink: &mut Vec<u8, A>, name: &str, index: 
 
 /// Decodes that export section, and appends its minimal encoding.
 pub fn read_exports<'a, A: Allocator + Copy + 'a>(
-    text: &'a mut Vec<u8, A>,
+    encoding: &'a mut Vec<u8, A>,
     name: &str,
     index: u32,
     sink: &mut Vec<u8, A>,
 ) -> Result<Items<'a, A>, ReadFault>
-    requires { text.old.items ≡ [] }
+    requires { encoding.old.items ≡ [] }
     ensures read { IfOk result (λ items. contents_of items ≡ Exports (exported name.now index ∷ [])) }
-    ensures same { OnOk result (GainsReading (counted_format export) (exported name.now index ∷ []) sink.old.items sink.new.items) }
+    ensures same { OnOk result (GainsDecoding (counted_format export) (exported name.now index ∷ []) sink.old.items sink.new.items) }
     ensures memory { IfErr result (λ e. e ≢ Memory → ⊥) }
 {
-    write_exports(text, name, index)?;
-    let items = read_and_shorten(SectionKind::Exports, text, sink)?;
+    write_exports(encoding, name, index)?;
+    let items = read_and_shorten(SectionKind::Exports, encoding, sink)?;
     Ok(items)
 }

@@ -3,9 +3,9 @@
 ghost use Rattle.std.specs.Prelude.{List, IfOk, OnOk, [], ◌∷◌, map};
 ghost use Rattle.std.specs.List.{AllZip};
 ghost use Rattle.wasm_base.specs.Entries.{counted_format};
-ghost use Rattle.wasm_base.specs.Modules.{ReadsSections, GainsReadingWide};
-ghost use Rattle.wasm_code.specs.Bodies.{Body, IsPlainBody, IsWideBody};
-ghost use Rattle.wasm_code.specs.Code.{HoldsBodies, SpellsBodies, SpellsBodiesWide};
+ghost use Rattle.wasm_base.specs.Modules.{DecodesSections, GainsDecodingPadded};
+ghost use Rattle.wasm_code.specs.Bodies.{Body, IsWellFormedBody, IsPaddedBody};
+ghost use Rattle.wasm_code.specs.Code.{ContainsBodies, EncodesBodies, EncodesBodiesPadded};
 ghost use Rattle.wasm_sections.specs.Exports.{export as export_format, item_of};
 ghost use Rattle.read_back.specs.Handed.{handed_sections};
 
@@ -19,7 +19,7 @@ use wasm_sections::{Export, ExportSection};
 
 /// Returns a code section of a raw body.
 fn code<A: Allocator + Copy>(alloc: A, body: &[u8]) -> R<CodeSection<A>>
-    ensures { IfOk result (λ section. HoldsBodies section (body.now ∷ [])) }
+    ensures { IfOk result (λ section. ContainsBodies section (body.now ∷ [])) }
 {
     let mut section = CodeSection::new(alloc);
     section.raw(body)?;
@@ -34,27 +34,27 @@ pub fn handed_module<A: Allocator + Copy>(
     name: &str,
     bytes: &[u8],
 ) -> R<Vec<u8, A>>
-    ensures { IfOk result (λ made. ReadsSections (handed_sections index body.now name.now bytes.now) made.items) }
+    ensures { IfOk result (λ made. DecodesSections (handed_sections index body.now name.now bytes.now) made.items) }
 {
     let given: CustomSection<'_> = CustomSection {
         name: CowStr::Borrowed(name),
         bytes: CowSlice::Borrowed(bytes),
     };
-    let mut text = Vec::new(alloc);
-    given.encode(&mut text)?;
+    let mut encoding = Vec::new(alloc);
+    given.encode(&mut encoding)?;
     let mut built = Module::new(alloc)?;
     built.section(&tags(alloc, index)?)?;
     built.section(&code(alloc, body)?)?;
     built.section(&given)?;
-    built.section(&RawCustomSection(text.as_slice()))?;
+    built.section(&RawCustomSection(encoding.as_slice()))?;
     Ok(built.finish())
 }
 
 /// Returns a code section of functions: it holds, in order, the bodies that they encode, minimal
 /// and padded.
 pub fn code_of<A: Allocator + Copy>(alloc: A, functions: &[Function<A>]) -> R<CodeSection<A>>
-    ensures plain { IfOk result (λ section. (bodies : List Body) → AllZip IsPlainBody functions.now bodies → SpellsBodies section bodies) }
-    ensures padded { IfOk result (λ section. (bodies : List Body) → AllZip IsWideBody functions.now bodies → SpellsBodiesWide section bodies) }
+    ensures plain { IfOk result (λ section. (bodies : List Body) → AllZip IsWellFormedBody functions.now bodies → EncodesBodies section bodies) }
+    ensures padded_of { IfOk result (λ section. (bodies : List Body) → AllZip IsPaddedBody functions.now bodies → EncodesBodiesPadded section bodies) }
 {
     let mut section = CodeSection::new(alloc);
     match add_all(&mut section, functions) {
@@ -69,7 +69,7 @@ pub fn encode_listed_exports<A: Allocator + Copy>(
     sink: &mut Vec<u8, A>,
     exports: &[Export<'_>],
 ) -> R<()>
-    ensures { OnOk result (GainsReadingWide (counted_format export_format) (map item_of exports.now) sink.old.items sink.new.items) }
+    ensures { OnOk result (GainsDecodingPadded (counted_format export_format) (map item_of exports.now) sink.old.items sink.new.items) }
 {
     plain_exports(exports);
     let mut section = ExportSection::new(*sink.allocator());

@@ -4,12 +4,12 @@
 
 ghost use Rattle.std.specs.Prelude.{◌≡◌, ◌≢◌, ◌⊎◌, ◌≤◌, ◌++◌, [], ◌∷◌, ℕ, List, length, IfOk, IfErr, OnOk, OnErr};
 ghost use Rattle.wasm_base.specs.Entries.{counted_format};
-ghost use Rattle.wasm_base.specs.Formats.{u32 as u32_format, frame, wasm_module};
-ghost use Rattle.wasm_base.specs.Modules.{GainsReading};
+ghost use Rattle.wasm_base.specs.Formats.{u32 as u32_format, size_prefixed, wasm_module};
+ghost use Rattle.wasm_base.specs.Modules.{GainsDecoding};
 ghost use Rattle.wasm_custom.specs.Names.{Module, Map, name_payload};
 ghost use Rattle.wasm_reader_base.specs.declared.fault.ReadFault.TheVariants.{Memory};
-ghost use Rattle.wasm_base.specs.Numbers.{wide};
-ghost use Rattle.wasm_base.specs.Reading.{Reads, ReadsNothing};
+ghost use Rattle.wasm_base.specs.Numbers.{padded};
+ghost use Rattle.wasm_base.specs.Decoding.{Decodes, Rejects};
 ghost use Rattle.wasm_reader.specs.Kinds.{Functions, Names, contents_of};
 ghost use Rattle.wasm_reader.specs.Sections.{section, Takes, Shortens};
 ghost use Rattle.wasm_reader.specs.Shortening.{Explains, IsMemory, ShortensModule};
@@ -20,7 +20,7 @@ pub mod custom;
 pub mod declared;
 pub mod dumps;
 pub mod handed;
-pub mod padded;
+pub mod padded_of;
 pub mod stored;
 
 use std::alloc::Allocator;
@@ -35,22 +35,22 @@ use wasm_sections::FunctionSection;
 /// Decodes the section of this kind in a buffer, and appends its minimal encoding to the sink.
 pub(crate) fn read_and_shorten<'a, A: Allocator + Copy + 'a>(
     kind: SectionKind,
-    text: &'a Vec<u8, A>,
+    encoding: &'a Vec<u8, A>,
     sink: &mut Vec<u8, A>,
 ) -> Result<Items<'a, A>, ReadFault>
-    ensures found { IfOk result (λ items. (n : ℕ) × Takes kind text.now.items (contents_of items) n) }
-    ensures shortened { OnOk result ((n : ℕ) × Shortens kind text.now.items n sink.old.items sink.new.items) }
+    ensures found { IfOk result (λ items. (n : ℕ) × Takes kind encoding.now.items (contents_of items) n) }
+    ensures shortened { OnOk result ((n : ℕ) × Shortens kind encoding.now.items n sink.old.items sink.new.items) }
     ensures err { OnErr result (sink.new.items ≡ sink.old.items) }
-    ensures none { IfErr result (λ e. e ≢ Memory → ReadsNothing (section kind) wide text.now.items) }
+    ensures none { IfErr result (λ e. e ≢ Memory → Rejects (section kind) padded encoding.now.items) }
 {
-    let (items, _taken) = read_section(*text.allocator(), kind, text.as_slice())?;
-    shorten(kind, text.as_slice(), sink)?;
+    let (items, _taken) = read_section(*encoding.allocator(), kind, encoding.as_slice())?;
+    shorten(kind, encoding.as_slice(), sink)?;
     Ok(items)
 }
 
 /// Appends a function section of one function.
 pub fn write_function<A: Allocator + Copy>(sink: &mut Vec<u8, A>, index: u32) -> R<()>
-    ensures { OnOk result (GainsReading (counted_format u32_format) (index ∷ []) sink.old.items sink.new.items) }
+    ensures { OnOk result (GainsDecoding (counted_format u32_format) (index ∷ []) sink.old.items sink.new.items) }
 {
     let mut section = FunctionSection::new(*sink.allocator());
     section.function(index)?;
@@ -60,61 +60,61 @@ pub fn write_function<A: Allocator + Copy>(sink: &mut Vec<u8, A>, index: u32) ->
 /// Writes a function section and decodes it: `Ok` holds the index that was added, and the only
 /// error is `Memory`.
 pub fn written_function<'a, A: Allocator + Copy + 'a>(
-    text: &'a mut Vec<u8, A>,
+    encoding: &'a mut Vec<u8, A>,
     index: u32,
 ) -> Result<Items<'a, A>, ReadFault>
-    requires { text.old.items ≡ [] }
+    requires { encoding.old.items ≡ [] }
     ensures read { IfOk result (λ items. contents_of items ≡ Functions (index ∷ [])) }
     ensures memory { IfErr result (λ e. e ≢ Memory → ⊥) }
 {
-    let alloc = *text.allocator();
-    match write_function(text, index) {
+    let alloc = *encoding.allocator();
+    match write_function(encoding, index) {
         Ok(()) => {}
         Err(_) => return Err(ReadFault::Memory),
     }
-    let (items, _taken) = read_section(alloc, SectionKind::Functions, text.as_slice())?;
+    let (items, _taken) = read_section(alloc, SectionKind::Functions, encoding.as_slice())?;
     Ok(items)
 }
 
 /// Writes a function section and minimizes it: the output is that section again.
 pub fn shortened_function<A: Allocator + Copy>(
-    text: &mut Vec<u8, A>,
+    encoding: &mut Vec<u8, A>,
     index: u32,
     sink: &mut Vec<u8, A>,
 ) -> Result<usize, ReadFault>
-    requires { text.old.items ≡ [] }
-    ensures same { OnOk result (sink.new.items ≡ sink.old.items ++ text.new.items) }
+    requires { encoding.old.items ≡ [] }
+    ensures same { OnOk result (sink.new.items ≡ sink.old.items ++ encoding.new.items) }
     ensures err { OnErr result (sink.new.items ≡ sink.old.items) }
     ensures memory { IfErr result (λ e. e ≢ Memory → ⊥) }
 {
-    match write_function(text, index) {
+    match write_function(encoding, index) {
         Ok(()) => {}
         Err(_) => return Err(ReadFault::Memory),
     }
-    let taken = shorten(SectionKind::Functions, text.as_slice(), sink)?;
+    let taken = shorten(SectionKind::Functions, encoding.as_slice(), sink)?;
     Ok(taken)
 }
 
 /// Decodes and minimizes a padded encoding of a function section. The items are those that were
 /// added, and the output is the section as it was written.
 pub fn padded_function<'a, A: Allocator + Copy + 'a>(
-    text: &mut Vec<u8, A>,
+    encoding: &mut Vec<u8, A>,
     index: u32,
-    padded: &'a [u8],
+    padded_of: &'a [u8],
     sink: &mut Vec<u8, A>,
 ) -> Result<Items<'a, A>, ReadFault>
-    requires { text.old.items ≡ [] }
-    ensures read { IfOk result (λ items. (rest : List ℕ) → Reads (section kinds.Functions) wide padded.now (Functions (index ∷ [])) rest → contents_of items ≡ Functions (index ∷ [])) }
-    ensures same { OnOk result ((rest : List ℕ) → Reads (section kinds.Functions) wide padded.now (Functions (index ∷ [])) rest → sink.new.items ≡ sink.old.items ++ text.new.items) }
-    ensures memory { IfErr result (λ e. e ≢ Memory → (rest : List ℕ) → Reads (section kinds.Functions) wide padded.now (Functions (index ∷ [])) rest → ⊥) }
+    requires { encoding.old.items ≡ [] }
+    ensures read { IfOk result (λ items. (rest : List ℕ) → Decodes (section kinds.Functions) padded padded_of.now (Functions (index ∷ [])) rest → contents_of items ≡ Functions (index ∷ [])) }
+    ensures same { OnOk result ((rest : List ℕ) → Decodes (section kinds.Functions) padded padded_of.now (Functions (index ∷ [])) rest → sink.new.items ≡ sink.old.items ++ encoding.new.items) }
+    ensures memory { IfErr result (λ e. e ≢ Memory → (rest : List ℕ) → Decodes (section kinds.Functions) padded padded_of.now (Functions (index ∷ [])) rest → ⊥) }
 {
-    let alloc = *text.allocator();
-    match write_function(text, index) {
+    let alloc = *encoding.allocator();
+    match write_function(encoding, index) {
         Ok(()) => {}
         Err(_) => return Err(ReadFault::Memory),
     }
-    let (items, _taken) = read_section(alloc, SectionKind::Functions, padded)?;
-    let _taken = shorten(SectionKind::Functions, padded, sink)?;
+    let (items, _taken) = read_section(alloc, SectionKind::Functions, padded_of)?;
+    let _taken = shorten(SectionKind::Functions, padded_of, sink)?;
     Ok(items)
 }
 
@@ -127,8 +127,8 @@ pub fn both_or_neither<T: Shorten, U: Shorten, A: Allocator>(
     ensures { OnErr result (sink.new.items ≡ sink.old.items) }
 {
     let start = sink.len();
-    first.append_shortest(sink)?;
-    let appended = second.append_shortest(sink);
+    first.append_minimal(sink)?;
+    let appended = second.append_minimal(sink);
     if appended.is_err() {
         sink.truncate(start);
     }
@@ -137,7 +137,7 @@ pub fn both_or_neither<T: Shorten, U: Shorten, A: Allocator>(
 
 /// Appends a name section: the names of the module and of its first function.
 pub fn write_names<A: Allocator + Copy>(sink: &mut Vec<u8, A>, name: &str, function: &str) -> R<()>
-    ensures { OnOk result (GainsReading (frame name_payload) (Module name.now ∷ Map 1 ((0, function.now) ∷ []) ∷ []) sink.old.items sink.new.items) }
+    ensures { OnOk result (GainsDecoding (size_prefixed name_payload) (Module name.now ∷ Map 1 ((0, function.now) ∷ []) ∷ []) sink.old.items sink.new.items) }
 {
     let mut functions = NameMap::new(*sink.allocator());
     functions.append(0, function)?;
@@ -150,20 +150,20 @@ pub fn write_names<A: Allocator + Copy>(sink: &mut Vec<u8, A>, name: &str, funct
 /// Writes a name section and decodes it: `Ok` holds the names that were added, and the only error
 /// is `Memory`.
 pub fn written_names<'a, A: Allocator + Copy + 'a>(
-    text: &'a mut Vec<u8, A>,
+    encoding: &'a mut Vec<u8, A>,
     name: &str,
     function: &str,
 ) -> Result<Items<'a, A>, ReadFault>
-    requires { text.old.items ≡ [] }
+    requires { encoding.old.items ≡ [] }
     ensures read { IfOk result (λ items. contents_of items ≡ Names (Module name.now ∷ Map 1 ((0, function.now) ∷ []) ∷ [])) }
     ensures memory { IfErr result (λ e. e ≢ Memory → ⊥) }
 {
-    let alloc = *text.allocator();
-    match write_names(text, name, function) {
+    let alloc = *encoding.allocator();
+    match write_names(encoding, name, function) {
         Ok(()) => {}
         Err(_) => return Err(ReadFault::Memory),
     }
-    let (items, _taken) = read_section(alloc, SectionKind::Names, text.as_slice())?;
+    let (items, _taken) = read_section(alloc, SectionKind::Names, encoding.as_slice())?;
     Ok(items)
 }
 
@@ -175,7 +175,7 @@ pub fn smaller_module<A: Allocator + Copy>(
     sink: &mut Vec<u8, A>,
 ) -> Result<usize, ModuleFault>
     requires { sink.old.items ≡ [] }
-    ensures is_module { OnOk result ((sections : List (ℕ × List ℕ)) × wasm_module wide sink.new.items sections) }
+    ensures is_module { OnOk result ((sections : List (ℕ × List ℕ)) × wasm_module padded sink.new.items sections) }
     ensures no_longer { OnOk result (length sink.new.items ≤ length bytes.now) }
     ensures shortened { IfOk result (λ kept. ShortensModule Refuse bytes.now kept sink.old.items sink.new.items) }
     ensures err { OnErr result (sink.new.items ≡ []) }

@@ -2,9 +2,9 @@
 //! of one number.
 ghost use Rattle.std.specs.Prelude.{◌≡◌, ◌≢◌, [], ◌∷◌, IfOk, IfErr, OnOk};
 ghost use Rattle.wasm_base.specs.Entries.{counted_format};
-ghost use Rattle.wasm_base.specs.Formats.{u32 as u32_format, frame};
-ghost use Rattle.wasm_base.specs.Modules.{GainsReading};
-ghost use Rattle.wasm_code.specs.Bodies.{IsPlainBody};
+ghost use Rattle.wasm_base.specs.Formats.{u32 as u32_format, size_prefixed};
+ghost use Rattle.wasm_base.specs.Modules.{GainsDecoding};
+ghost use Rattle.wasm_code.specs.Bodies.{IsWellFormedBody};
 ghost use Rattle.wasm_code.specs.Code.{code_section};
 ghost use Rattle.wasm_reader_base.specs.declared.fault.ReadFault.TheVariants.{Memory};
 ghost use Rattle.wasm_sections.specs.DataSegments.{data_item};
@@ -30,23 +30,23 @@ use wasm_sections::{
 /// Decodes a global section of one global, which has the value of another, and appends its minimal
 /// encoding.
 pub fn read_globals<'a, A: Allocator + Copy + 'a>(
-    text: &'a mut Vec<u8, A>,
+    encoding: &'a mut Vec<u8, A>,
     index: u32,
     sink: &mut Vec<u8, A>,
 ) -> Result<Items<'a, A>, ReadFault>
-    requires { text.old.items ≡ [] }
+    requires { encoding.old.items ≡ [] }
     ensures read { IfOk result (λ items. contents_of items ≡ Globals (copied index ∷ [])) }
-    ensures same { OnOk result (GainsReading (counted_format global_item) (copied index ∷ []) sink.old.items sink.new.items) }
+    ensures same { OnOk result (GainsDecoding (counted_format global_item) (copied index ∷ []) sink.old.items sink.new.items) }
     ensures memory { IfErr result (λ e. e ≢ Memory → ⊥) }
 {
-    encode_copied(text, index)?;
-    let items = read_and_shorten(SectionKind::Globals, text, sink)?;
+    encode_copied(encoding, index)?;
+    let items = read_and_shorten(SectionKind::Globals, encoding, sink)?;
     Ok(items)
 }
 
 /// Appends an element section: a function at an offset of a table, and two for a later call.
 fn write_elements<A: Allocator + Copy>(sink: &mut Vec<u8, A>, index: u32) -> R<()>
-    ensures { OnOk result (GainsReading (counted_format element) (function_at_8 index ∷ later_functions ∷ []) sink.old.items sink.new.items) }
+    ensures { OnOk result (GainsDecoding (counted_format element) (function_at_8 index ∷ later_functions ∷ []) sink.old.items sink.new.items) }
 {
     let alloc = *sink.allocator();
     let offset = ConstExpr::i32_const(alloc, 8)?;
@@ -67,23 +67,23 @@ fn write_elements<A: Allocator + Copy>(sink: &mut Vec<u8, A>, index: u32) -> R<(
 
 /// Decodes that element section, and appends its minimal encoding.
 pub fn read_elements<'a, A: Allocator + Copy + 'a>(
-    text: &'a mut Vec<u8, A>,
+    encoding: &'a mut Vec<u8, A>,
     index: u32,
     sink: &mut Vec<u8, A>,
 ) -> Result<Items<'a, A>, ReadFault>
-    requires { text.old.items ≡ [] }
+    requires { encoding.old.items ≡ [] }
     ensures read { IfOk result (λ items. contents_of items ≡ held.Elements (function_at_8 index ∷ later_functions ∷ [])) }
-    ensures same { OnOk result (GainsReading (counted_format element) (function_at_8 index ∷ later_functions ∷ []) sink.old.items sink.new.items) }
+    ensures same { OnOk result (GainsDecoding (counted_format element) (function_at_8 index ∷ later_functions ∷ []) sink.old.items sink.new.items) }
     ensures memory { IfErr result (λ e. e ≢ Memory → ⊥) }
 {
-    write_elements(text, index)?;
-    let items = read_and_shorten(SectionKind::Elements, text, sink)?;
+    write_elements(encoding, index)?;
+    let items = read_and_shorten(SectionKind::Elements, encoding, sink)?;
     Ok(items)
 }
 
 /// Appends a data section: bytes at an offset of a memory, and a segment that is already encoded.
 fn write_segments<A: Allocator + Copy>(sink: &mut Vec<u8, A>) -> R<()>
-    ensures { OnOk result (GainsReading (counted_format data_item) (bytes_at_8 ∷ byte_later ∷ []) sink.old.items sink.new.items) }
+    ensures { OnOk result (GainsDecoding (counted_format data_item) (bytes_at_8 ∷ byte_later ∷ []) sink.old.items sink.new.items) }
 {
     let alloc = *sink.allocator();
     let offset = ConstExpr::i32_const(alloc, 8)?;
@@ -95,22 +95,22 @@ fn write_segments<A: Allocator + Copy>(sink: &mut Vec<u8, A>) -> R<()>
 
 /// Decodes that data section, and appends its minimal encoding.
 pub fn read_segments<'a, A: Allocator + Copy + 'a>(
-    text: &'a mut Vec<u8, A>,
+    encoding: &'a mut Vec<u8, A>,
     sink: &mut Vec<u8, A>,
 ) -> Result<Items<'a, A>, ReadFault>
-    requires { text.old.items ≡ [] }
+    requires { encoding.old.items ≡ [] }
     ensures read { IfOk result (λ items. contents_of items ≡ Segments (bytes_at_8 ∷ byte_later ∷ [])) }
-    ensures same { OnOk result (GainsReading (counted_format data_item) (bytes_at_8 ∷ byte_later ∷ []) sink.old.items sink.new.items) }
+    ensures same { OnOk result (GainsDecoding (counted_format data_item) (bytes_at_8 ∷ byte_later ∷ []) sink.old.items sink.new.items) }
     ensures memory { IfErr result (λ e. e ≢ Memory → ⊥) }
 {
-    write_segments(text)?;
-    let items = read_and_shorten(SectionKind::Segments, text, sink)?;
+    write_segments(encoding)?;
+    let items = read_and_shorten(SectionKind::Segments, encoding, sink)?;
     Ok(items)
 }
 
 /// Returns a function of two locals, added one by one, which returns the local of the index.
 pub(crate) fn of_locals<A: Allocator + Copy>(alloc: A, index: u32) -> R<Function<A>>
-    ensures { IfOk result (λ function. IsPlainBody function (of_two_locals index)) }
+    ensures { IfOk result (λ function. IsWellFormedBody function (of_two_locals index)) }
 {
     let mut function = Function::new_with_locals_types(alloc, [ValType::I32, ValType::I32])?;
     let mut sink = function.instructions();
@@ -121,7 +121,7 @@ pub(crate) fn of_locals<A: Allocator + Copy>(alloc: A, index: u32) -> R<Function
 
 /// Returns a function that does nothing.
 pub(crate) fn of_nothing<A: Allocator>(alloc: A) -> R<Function<A>>
-    ensures { IfOk result (λ function. IsPlainBody function empty_body) }
+    ensures { IfOk result (λ function. IsWellFormedBody function empty_body) }
 {
     let mut function = Function::new(alloc, [])?;
     let mut sink = function.instructions();
@@ -131,7 +131,7 @@ pub(crate) fn of_nothing<A: Allocator>(alloc: A) -> R<Function<A>>
 
 /// Appends a code section of these two functions.
 fn write_bodies<A: Allocator + Copy>(sink: &mut Vec<u8, A>, index: u32) -> R<()>
-    ensures { OnOk result (GainsReading code_section (of_two_locals index ∷ empty_body ∷ []) sink.old.items sink.new.items) }
+    ensures { OnOk result (GainsDecoding code_section (of_two_locals index ∷ empty_body ∷ []) sink.old.items sink.new.items) }
 {
     let alloc = *sink.allocator();
     let mut section = CodeSection::new(alloc);
@@ -142,23 +142,23 @@ fn write_bodies<A: Allocator + Copy>(sink: &mut Vec<u8, A>, index: u32) -> R<()>
 
 /// Decodes that code section, and appends its minimal encoding.
 pub fn read_bodies<'a, A: Allocator + Copy + 'a>(
-    text: &'a mut Vec<u8, A>,
+    encoding: &'a mut Vec<u8, A>,
     index: u32,
     sink: &mut Vec<u8, A>,
 ) -> Result<Items<'a, A>, ReadFault>
-    requires { text.old.items ≡ [] }
+    requires { encoding.old.items ≡ [] }
     ensures read { IfOk result (λ items. contents_of items ≡ Bodies (of_two_locals index ∷ empty_body ∷ [])) }
-    ensures same { OnOk result (GainsReading code_section (of_two_locals index ∷ empty_body ∷ []) sink.old.items sink.new.items) }
+    ensures same { OnOk result (GainsDecoding code_section (of_two_locals index ∷ empty_body ∷ []) sink.old.items sink.new.items) }
     ensures memory { IfErr result (λ e. e ≢ Memory → ⊥) }
 {
-    write_bodies(text, index)?;
-    let items = read_and_shorten(SectionKind::Bodies, text, sink)?;
+    write_bodies(encoding, index)?;
+    let items = read_and_shorten(SectionKind::Bodies, encoding, sink)?;
     Ok(items)
 }
 
 /// Appends a start section.
 fn write_start<A: Allocator>(sink: &mut Vec<u8, A>, index: u32) -> R<()>
-    ensures { OnOk result (GainsReading (frame u32_format) index sink.old.items sink.new.items) }
+    ensures { OnOk result (GainsDecoding (size_prefixed u32_format) index sink.old.items sink.new.items) }
 {
     StartSection {
         function_index: index,
@@ -168,39 +168,39 @@ fn write_start<A: Allocator>(sink: &mut Vec<u8, A>, index: u32) -> R<()>
 
 /// Decodes that start section, and appends its minimal encoding.
 pub fn read_start<'a, A: Allocator + Copy + 'a>(
-    text: &'a mut Vec<u8, A>,
+    encoding: &'a mut Vec<u8, A>,
     index: u32,
     sink: &mut Vec<u8, A>,
 ) -> Result<Items<'a, A>, ReadFault>
-    requires { text.old.items ≡ [] }
+    requires { encoding.old.items ≡ [] }
     ensures read { IfOk result (λ items. contents_of items ≡ Start index) }
-    ensures same { OnOk result (GainsReading (frame u32_format) index sink.old.items sink.new.items) }
+    ensures same { OnOk result (GainsDecoding (size_prefixed u32_format) index sink.old.items sink.new.items) }
     ensures memory { IfErr result (λ e. e ≢ Memory → ⊥) }
 {
-    write_start(text, index)?;
-    let items = read_and_shorten(SectionKind::Start, text, sink)?;
+    write_start(encoding, index)?;
+    let items = read_and_shorten(SectionKind::Start, encoding, sink)?;
     Ok(items)
 }
 
 /// Appends a data count section.
 fn write_data_count<A: Allocator>(sink: &mut Vec<u8, A>, count: u32) -> R<()>
-    ensures { OnOk result (GainsReading (frame u32_format) count sink.old.items sink.new.items) }
+    ensures { OnOk result (GainsDecoding (size_prefixed u32_format) count sink.old.items sink.new.items) }
 {
     DataCountSection { count }.encode(sink)
 }
 
 /// Decodes that data count section, and appends its minimal encoding.
 pub fn read_data_count<'a, A: Allocator + Copy + 'a>(
-    text: &'a mut Vec<u8, A>,
+    encoding: &'a mut Vec<u8, A>,
     count: u32,
     sink: &mut Vec<u8, A>,
 ) -> Result<Items<'a, A>, ReadFault>
-    requires { text.old.items ≡ [] }
+    requires { encoding.old.items ≡ [] }
     ensures read { IfOk result (λ items. contents_of items ≡ DataCount count) }
-    ensures same { OnOk result (GainsReading (frame u32_format) count sink.old.items sink.new.items) }
+    ensures same { OnOk result (GainsDecoding (size_prefixed u32_format) count sink.old.items sink.new.items) }
     ensures memory { IfErr result (λ e. e ≢ Memory → ⊥) }
 {
-    write_data_count(text, count)?;
-    let items = read_and_shorten(SectionKind::DataCount, text, sink)?;
+    write_data_count(encoding, count)?;
+    let items = read_and_shorten(SectionKind::DataCount, encoding, sink)?;
     Ok(items)
 }

@@ -1,175 +1,175 @@
 -- This file proves the laws of this crate's formats.
 use Rattle.std.proofs.Common.{ℕ, List, [], ◌∷◌, ◌++◌, length, pos, refl, arith}
 use Rattle.std.specs.Prelude.{IsUtf8}
-use Rattle.wasm_base.specs.Numbers.{shortest, wide, unsigned_text, signed_text}
-use Rattle.wasm_base.specs.Formats.{Format, u32, u64, s32, s64, s33, little_endian, byte, any_bytes, members, pair, vec, frame, name, custom, wasm_module}
-use Rattle.wasm_base.specs.Reading.{UniqueReading, UniqueWholeReading, HasTexts, IsUniqueWide, IsUniqueWholeWide}
-use Rattle.wasm_base.specs.Texts.{vec_text, VecFits, frame_text, FrameFits, little_endian_text}
-use Rattle.wasm_base.specs.Laws.{FitsUnsigned, FitsBytes, FitsSigned32, FitsSigned64, NameFits, custom_text, CustomFits}
-use Rattle.wasm_base.proofs.NumberLaws.{unsigned_unique, signed_unique, u32_unique}
-use Rattle.wasm_base.proofs.FormatLaws.{little_endian_unique, byte_unique, any_bytes_whole, pair_whole, vec_unique, frame_unique, such_unique}
-use Rattle.wasm_base.proofs.TextLaws.{little_endian_spelled, u32_spelled, u64_spelled, s32_spelled, s64_spelled, s33_spelled, frame_spelled, name_spelled, vec_spelled}
-use Rattle.wasm_base.proofs.ModuleLaws.{module_whole, module-texts}
+use Rattle.wasm_base.specs.Numbers.{minimal, padded, unsigned_encoding, signed_encoding}
+use Rattle.wasm_base.specs.Formats.{Format, u32, u64, s32, s64, s33, little_endian, byte, any_bytes, members, pair, vec, size_prefixed, name, custom, wasm_module}
+use Rattle.wasm_base.specs.Decoding.{Unambiguous, UnambiguousWhole, HasMinimalEncodings, UnambiguousPadded, UnambiguousWholePadded}
+use Rattle.wasm_base.specs.Encodings.{vec_encoding, IsEncodableVec, size_prefixed_encoding, HasEncodableSize, little_endian_encoding}
+use Rattle.wasm_base.specs.Laws.{IsUnsignedInRange, IsByteNumberInRange, IsSigned32InRange, IsSigned64InRange, IsEncodableName, custom_encoding, IsEncodableCustom}
+use Rattle.wasm_base.proofs.NumberLaws.{unsigned_unambiguous, signed_unambiguous, u32_unambiguous}
+use Rattle.wasm_base.proofs.FormatLaws.{little_endian_unambiguous, byte_unambiguous, any_bytes_whole, pair_whole, vec_unambiguous, size_prefixed_unambiguous, such_unambiguous}
+use Rattle.wasm_base.proofs.EncodingLaws.{little_endian_encodes, u32_encodes, u64_encodes, s32_encodes, s64_encodes, s33_encodes, size_prefixed_encodes, name_encodes, vec_encodes}
+use Rattle.wasm_base.proofs.ModuleLaws.{module_whole, module-encodings}
 
-pub unique_wide : {X : Type 0} {F : Format X} → UniqueReading F → IsUniqueWide F
-unique_wide {F = F} f = record { alone = f.alone wide; wider = f.spellings.wider shortest wide tt }
+pub unambiguous_padded : {X : Type 0} {F : Format X} → Unambiguous F → UnambiguousPadded F
+unambiguous_padded {F = F} f = record { unique = f.unique padded; included = f.encodings.included minimal padded tt }
 
-pub unique_whole_wide : {X : Type 0} {F : Format X} → UniqueWholeReading F → IsUniqueWholeWide F
-unique_whole_wide {F = F} f = record { whole = f.whole wide; wider = f.spellings.wider shortest wide tt }
+pub unambiguous_whole_padded : {X : Type 0} {F : Format X} → UnambiguousWhole F → UnambiguousWholePadded F
+unambiguous_whole_padded {F = F} f = record { whole = f.whole padded; included = f.encodings.included minimal padded tt }
 
 -- ---- numbers
 
-pub u64_unique : UniqueReading u64
-u64_unique = unsigned_unique 64 (omega arith)
+pub u64_unambiguous : Unambiguous u64
+u64_unambiguous = unsigned_unambiguous 64 (omega arith)
 
-pub s32_unique : UniqueReading s32
-s32_unique = signed_unique 32 (omega arith)
+pub s32_unambiguous : Unambiguous s32
+s32_unambiguous = signed_unambiguous 32 (omega arith)
 
-pub s64_unique : UniqueReading s64
-s64_unique = signed_unique 64 (omega arith)
+pub s64_unambiguous : Unambiguous s64
+s64_unambiguous = signed_unambiguous 64 (omega arith)
 
-pub s33_unique : UniqueReading s33
-s33_unique =
-    let f = signed_unique 33 (omega arith) in
+pub s33_unambiguous : Unambiguous s33
+s33_unambiguous =
+    let f = signed_unambiguous 33 (omega arith) in
     record {
-      alone = λ mode s t r q x y h g e. let a = f.alone mode s t r q (pos x) (pos y) h g e in (cc (a.0), a.1, a.2);
-      spellings = record {
-        one = λ w s t x h g. f.spellings.one w s t (pos x) h g;
-        wider = λ m n below s x h. f.spellings.wider m n below s (pos x) h;
-        shorter = λ w s x h. f.spellings.shorter w s (pos x) h;
+      unique = λ mode s t r q x y h g e. let a = f.unique mode s t r q (pos x) (pos y) h g e in (cc (a.0), a.1, a.2);
+      encodings = record {
+        one = λ w s t x h g. f.encodings.one w s t (pos x) h g;
+        included = λ m n below s x h. f.encodings.included m n below s (pos x) h;
+        shorter = λ w s x h. f.encodings.shorter w s (pos x) h;
       };
     }
 
-pub u32-texts : HasTexts u32 (FitsUnsigned 32) unsigned_text
-u32-texts = record { spelled = u32_spelled }
+pub u32-encodings : HasMinimalEncodings u32 (IsUnsignedInRange 32) unsigned_encoding
+u32-encodings = record { encodes = u32_encodes }
 
-pub u64-texts : HasTexts u64 (FitsUnsigned 64) unsigned_text
-u64-texts = record { spelled = u64_spelled }
+pub u64-encodings : HasMinimalEncodings u64 (IsUnsignedInRange 64) unsigned_encoding
+u64-encodings = record { encodes = u64_encodes }
 
-pub s32-texts : HasTexts s32 FitsSigned32 signed_text
-s32-texts = record { spelled = s32_spelled }
+pub s32-encodings : HasMinimalEncodings s32 IsSigned32InRange signed_encoding
+s32-encodings = record { encodes = s32_encodes }
 
-pub s64-texts : HasTexts s64 FitsSigned64 signed_text
-s64-texts = record { spelled = s64_spelled }
+pub s64-encodings : HasMinimalEncodings s64 IsSigned64InRange signed_encoding
+s64-encodings = record { encodes = s64_encodes }
 
-pub s33-texts : HasTexts s33 (FitsUnsigned 32) (λ n. signed_text (pos n))
-s33-texts = record { spelled = s33_spelled }
+pub s33-encodings : HasMinimalEncodings s33 (IsUnsignedInRange 32) (λ n. signed_encoding (pos n))
+s33-encodings = record { encodes = s33_encodes }
 
-pub ruleset numbers = (u32_unique, u64_unique, s32_unique, s64_unique, s33_unique, u32-texts, u64-texts, s32-texts, s64-texts, s33-texts)
+pub ruleset numbers = (u32_unambiguous, u64_unambiguous, s32_unambiguous, s64_unambiguous, s33_unambiguous, u32-encodings, u64-encodings, s32-encodings, s64-encodings, s33-encodings)
 
 -- ---- fixed bytes, names, vectors, size-prefixed bytes, modules
 
-pub fixed_4_unique : UniqueReading (little_endian 4)
-fixed_4_unique = little_endian_unique 4
+pub fixed_4_unambiguous : Unambiguous (little_endian 4)
+fixed_4_unambiguous = little_endian_unambiguous 4
 
-pub fixed_8_unique : UniqueReading (little_endian 8)
-fixed_8_unique = little_endian_unique 8
+pub fixed_8_unambiguous : Unambiguous (little_endian 8)
+fixed_8_unambiguous = little_endian_unambiguous 8
 
-pub fixed_16_unique : UniqueReading (little_endian 16)
-fixed_16_unique = little_endian_unique 16
+pub fixed_16_unambiguous : Unambiguous (little_endian 16)
+fixed_16_unambiguous = little_endian_unambiguous 16
 
-pub fixed_4-texts : HasTexts (little_endian 4) (FitsBytes 4) (little_endian_text 4)
-fixed_4-texts = record { spelled = little_endian_spelled 4 }
+pub fixed_4-encodings : HasMinimalEncodings (little_endian 4) (IsByteNumberInRange 4) (little_endian_encoding 4)
+fixed_4-encodings = record { encodes = little_endian_encodes 4 }
 
-pub fixed_8-texts : HasTexts (little_endian 8) (FitsBytes 8) (little_endian_text 8)
-fixed_8-texts = record { spelled = little_endian_spelled 8 }
+pub fixed_8-encodings : HasMinimalEncodings (little_endian 8) (IsByteNumberInRange 8) (little_endian_encoding 8)
+fixed_8-encodings = record { encodes = little_endian_encodes 8 }
 
-pub fixed_16-texts : HasTexts (little_endian 16) (FitsBytes 16) (little_endian_text 16)
-fixed_16-texts = record { spelled = little_endian_spelled 16 }
+pub fixed_16-encodings : HasMinimalEncodings (little_endian 16) (IsByteNumberInRange 16) (little_endian_encoding 16)
+fixed_16-encodings = record { encodes = little_endian_encodes 16 }
 
-pub frame_bytes_unique : UniqueReading (frame any_bytes)
-frame_bytes_unique = frame_unique any_bytes_whole
+pub size_prefixed_bytes_unambiguous : Unambiguous (size_prefixed any_bytes)
+size_prefixed_bytes_unambiguous = size_prefixed_unambiguous any_bytes_whole
 
-pub name_unique : UniqueReading name
-name_unique = such_unique IsUtf8 frame_bytes_unique
+pub name_unambiguous : Unambiguous name
+name_unambiguous = such_unambiguous IsUtf8 size_prefixed_bytes_unambiguous
 
-pub vec_bytes_unique : UniqueReading (vec byte)
-vec_bytes_unique = vec_unique byte_unique
+pub vec_bytes_unambiguous : Unambiguous (vec byte)
+vec_bytes_unambiguous = vec_unambiguous byte_unambiguous
 
-pub vec_u32_unique : UniqueReading (vec u32)
-vec_u32_unique = vec_unique u32_unique
+pub vec_u32_unambiguous : Unambiguous (vec u32)
+vec_u32_unambiguous = vec_unambiguous u32_unambiguous
 
-pub vec_names_unique : UniqueReading (vec name)
-vec_names_unique = vec_unique name_unique
+pub vec_names_unambiguous : Unambiguous (vec name)
+vec_names_unambiguous = vec_unambiguous name_unambiguous
 
-pub custom_unique : UniqueReading custom
-custom_unique = frame_unique (pair_whole name_unique any_bytes_whole)
+pub custom_unambiguous : Unambiguous custom
+custom_unambiguous = size_prefixed_unambiguous (pair_whole name_unambiguous any_bytes_whole)
 
-pub frame-texts : HasTexts (frame any_bytes) FrameFits frame_text
-frame-texts = record { spelled = λ bytes h. frame_spelled any_bytes bytes bytes h refl }
+pub size_prefixed-encodings : HasMinimalEncodings (size_prefixed any_bytes) HasEncodableSize size_prefixed_encoding
+size_prefixed-encodings = record { encodes = λ bytes h. size_prefixed_encodes any_bytes bytes bytes h refl }
 
-pub name-texts : HasTexts name NameFits frame_text
-name-texts = record { spelled = λ bytes h. name_spelled bytes h.0 h.1 }
+pub name-encodings : HasMinimalEncodings name IsEncodableName size_prefixed_encoding
+name-encodings = record { encodes = λ bytes h. name_encodes bytes h.0 h.1 }
 
-pub vec-u32-texts : HasTexts (vec u32) (VecFits (FitsUnsigned 32)) (vec_text unsigned_text)
-vec-u32-texts = record { spelled = vec_spelled u32 (FitsUnsigned 32) unsigned_text u32_spelled }
+pub vec-u32-encodings : HasMinimalEncodings (vec u32) (IsEncodableVec (IsUnsignedInRange 32)) (vec_encoding unsigned_encoding)
+vec-u32-encodings = record { encodes = vec_encodes u32 (IsUnsignedInRange 32) unsigned_encoding u32_encodes }
 
-pub vec-names-texts : HasTexts (vec name) (VecFits NameFits) (vec_text frame_text)
-vec-names-texts = record { spelled = vec_spelled name NameFits frame_text (λ bytes h. name_spelled bytes h.0 h.1) }
+pub vec-names-encodings : HasMinimalEncodings (vec name) (IsEncodableVec IsEncodableName) (vec_encoding size_prefixed_encoding)
+vec-names-encodings = record { encodes = vec_encodes name IsEncodableName size_prefixed_encoding (λ bytes h. name_encodes bytes h.0 h.1) }
 
-members_bytes : (bytes : List ℕ) → members byte shortest bytes bytes
+members_bytes : (bytes : List ℕ) → members byte minimal bytes bytes
 members_bytes [] = refl
 members_bytes (b ∷ bs) = (b ∷ [], bs, refl, refl, members_bytes bs)
 
-pub vec-bytes-texts : HasTexts (vec byte) FrameFits frame_text
-vec-bytes-texts = record {
-  spelled = λ bytes h. record { front = unsigned_text (length bytes); back = bytes; joined = refl; first = u32_spelled (length bytes) (omega (arith, h)); second = members_bytes bytes };
+pub vec-bytes-encodings : HasMinimalEncodings (vec byte) HasEncodableSize size_prefixed_encoding
+vec-bytes-encodings = record {
+  encodes = λ bytes h. record { front = unsigned_encoding (length bytes); back = bytes; joined = refl; first = u32_encodes (length bytes) (omega (arith, h)); second = members_bytes bytes };
 }
 
-pub custom-texts : HasTexts custom CustomFits custom_text
-custom-texts = record {
-  spelled = λ c h.
-      frame_spelled (pair name any_bytes) (frame_text c.0 ++ c.1) c h.size
-      (record { front = frame_text c.0; back = c.1; joined = refl; first = name_spelled c.0 h.name.0 h.name.1; second = refl });
+pub custom-encodings : HasMinimalEncodings custom IsEncodableCustom custom_encoding
+custom-encodings = record {
+  encodes = λ c h.
+      size_prefixed_encodes (pair name any_bytes) (size_prefixed_encoding c.0 ++ c.1) c h.size
+      (record { front = size_prefixed_encoding c.0; back = c.1; joined = refl; first = name_encodes c.0 h.name.0 h.name.1; second = refl });
 }
 
-pub ruleset frames = (vec-bytes-texts, custom-texts, fixed_4_unique, fixed_8_unique, fixed_16_unique, fixed_4-texts, fixed_8-texts, fixed_16-texts, frame_bytes_unique, name_unique, vec_bytes_unique, vec_u32_unique, vec_names_unique, custom_unique, module_whole, module-texts, frame-texts, name-texts, vec-u32-texts, vec-names-texts)
+pub ruleset frames = (vec-bytes-encodings, custom-encodings, fixed_4_unambiguous, fixed_8_unambiguous, fixed_16_unambiguous, fixed_4-encodings, fixed_8-encodings, fixed_16-encodings, size_prefixed_bytes_unambiguous, name_unambiguous, vec_bytes_unambiguous, vec_u32_unambiguous, vec_names_unambiguous, custom_unambiguous, module_whole, module-encodings, size_prefixed-encodings, name-encodings, vec-u32-encodings, vec-names-encodings)
 
 -- ---- padded LEB128
 
-pub wide-u32 : IsUniqueWide u32
-wide-u32 = unique_wide u32_unique
+pub padded-u32 : UnambiguousPadded u32
+padded-u32 = unambiguous_padded u32_unambiguous
 
-pub wide-u64 : IsUniqueWide u64
-wide-u64 = unique_wide u64_unique
+pub padded-u64 : UnambiguousPadded u64
+padded-u64 = unambiguous_padded u64_unambiguous
 
-pub wide-s32 : IsUniqueWide s32
-wide-s32 = unique_wide s32_unique
+pub padded-s32 : UnambiguousPadded s32
+padded-s32 = unambiguous_padded s32_unambiguous
 
-pub wide-s64 : IsUniqueWide s64
-wide-s64 = unique_wide s64_unique
+pub padded-s64 : UnambiguousPadded s64
+padded-s64 = unambiguous_padded s64_unambiguous
 
-pub wide-s33 : IsUniqueWide s33
-wide-s33 = unique_wide s33_unique
+pub padded-s33 : UnambiguousPadded s33
+padded-s33 = unambiguous_padded s33_unambiguous
 
-pub wide-fixed_4 : IsUniqueWide (little_endian 4)
-wide-fixed_4 = unique_wide fixed_4_unique
+pub padded-fixed_4 : UnambiguousPadded (little_endian 4)
+padded-fixed_4 = unambiguous_padded fixed_4_unambiguous
 
-pub wide-fixed_8 : IsUniqueWide (little_endian 8)
-wide-fixed_8 = unique_wide fixed_8_unique
+pub padded-fixed_8 : UnambiguousPadded (little_endian 8)
+padded-fixed_8 = unambiguous_padded fixed_8_unambiguous
 
-pub wide-fixed_16 : IsUniqueWide (little_endian 16)
-wide-fixed_16 = unique_wide fixed_16_unique
+pub padded-fixed_16 : UnambiguousPadded (little_endian 16)
+padded-fixed_16 = unambiguous_padded fixed_16_unambiguous
 
-pub wide-name : IsUniqueWide name
-wide-name = unique_wide name_unique
+pub padded-name : UnambiguousPadded name
+padded-name = unambiguous_padded name_unambiguous
 
-pub wide-vec-bytes : IsUniqueWide (vec byte)
-wide-vec-bytes = unique_wide vec_bytes_unique
+pub padded-vec-bytes : UnambiguousPadded (vec byte)
+padded-vec-bytes = unambiguous_padded vec_bytes_unambiguous
 
-pub wide-vec-u32 : IsUniqueWide (vec u32)
-wide-vec-u32 = unique_wide vec_u32_unique
+pub padded-vec-u32 : UnambiguousPadded (vec u32)
+padded-vec-u32 = unambiguous_padded vec_u32_unambiguous
 
-pub wide-vec-names : IsUniqueWide (vec name)
-wide-vec-names = unique_wide vec_names_unique
+pub padded-vec-names : UnambiguousPadded (vec name)
+padded-vec-names = unambiguous_padded vec_names_unambiguous
 
-pub wide-frame : IsUniqueWide (frame any_bytes)
-wide-frame = unique_wide frame_bytes_unique
+pub padded-size_prefixed : UnambiguousPadded (size_prefixed any_bytes)
+padded-size_prefixed = unambiguous_padded size_prefixed_bytes_unambiguous
 
-pub wide-custom : IsUniqueWide custom
-wide-custom = unique_wide custom_unique
+pub padded-custom : UnambiguousPadded custom
+padded-custom = unambiguous_padded custom_unambiguous
 
-pub wide-module : IsUniqueWholeWide wasm_module
-wide-module = unique_whole_wide module_whole
+pub padded-module : UnambiguousWholePadded wasm_module
+padded-module = unambiguous_whole_padded module_whole
 
-pub ruleset wide_laws = (wide-u32, wide-u64, wide-s32, wide-s64, wide-s33, wide-fixed_4, wide-fixed_8, wide-fixed_16, wide-name, wide-vec-bytes, wide-vec-u32, wide-vec-names, wide-frame, wide-custom, wide-module)
+pub ruleset padded_laws = (padded-u32, padded-u64, padded-s32, padded-s64, padded-s33, padded-fixed_4, padded-fixed_8, padded-fixed_16, padded-name, padded-vec-bytes, padded-vec-u32, padded-vec-names, padded-size_prefixed, padded-custom, padded-module)

@@ -1,21 +1,21 @@
 -- This file proves how LEB128 groups decode and how large their sums are.
 use Rattle.std.proofs.Common.{◌≡◌, ℕ, ◌<◌, ◌%◌, ◌*◌, ◌^◌, List, [], ◌∷◌, ◌++◌, length, add-one, ◌+◌, ◌-◌, ◌≤◌, ◌≢◌, Result, Ok, Err, IfErr, refl, sym, ap, subst, ◌∙◌, arith}
 use Rattle.std.proofs.Math.Nat.{pow-suc, pow-le-pow_right}
-use Rattle.wasm_base.specs.Numbers.{wide, AreGroups, last_byte}
-use Rattle.wasm_base.specs.Reading.{ReadsNothing}
+use Rattle.wasm_base.specs.Numbers.{padded, AreGroups, last_byte}
+use Rattle.wasm_base.specs.Decoding.{Rejects}
 use Rattle.wasm_base.specs.Groups.{groups, HasGroups}
 
 -- ---- groups
 
-pub groups_none : (bytes : List ℕ) → ReadsNothing (groups 0) wide bytes
-groups_none bytes = record { none = λ x rest h. empty h.front h.spelled.1 h.spelled.2 }
+pub groups_none : (bytes : List ℕ) → Rejects (groups 0) padded bytes
+groups_none bytes = record { none = λ x rest h. empty h.front h.encodes.1 h.encodes.2 }
   where
     empty : (s : List ℕ) → AreGroups s → length s ≤ 0 → ⊥
     empty [] h l = h
     empty (b ∷ s) h l = omega arith
 
-pub groups_ended : (limit : ℕ) (bytes : List ℕ) → bytes ≡ [] → ReadsNothing (groups limit) wide bytes
-groups_ended limit bytes e = record { none = λ x rest h. empty h.front rest h.spelled.1 (sym e ∙ h.split) }
+pub groups_ended : (limit : ℕ) (bytes : List ℕ) → bytes ≡ [] → Rejects (groups limit) padded bytes
+groups_ended limit bytes e = record { none = λ x rest h. empty h.front rest h.encodes.1 (sym e ∙ h.split) }
   where
     empty : (s rest : List ℕ) → AreGroups s → [] ≡ s ++ rest → ⊥
     empty [] rest h f = h
@@ -24,7 +24,7 @@ groups_ended limit bytes e = record { none = λ x rest h. empty h.front rest h.s
 pub groups_last : (limit b n : ℕ) (bytes rest : List ℕ) → bytes ≡ b ∷ rest → b < 128 → limit ≢ 0 → n ≡ b → HasGroups limit bytes n 128 b rest
 groups_last limit b n bytes rest e l m is = record {
   front = b ∷ [];
-  read = record { front = b ∷ []; split = e; spelled = (refl, l, omega (arith, m)) };
+  read = record { front = b ∷ []; split = e; encodes = (refl, l, omega (arith, m)) };
   total = omega (arith, l, is);
   count = refl;
   end = refl;
@@ -43,26 +43,26 @@ pub groups_more : (less limit b sum power last total count : ℕ) (bytes rest af
 groups_more less limit b sum power last total count bytes rest after e l u k g is times =
     let s = g.front in
     let h = g.read in
-    let are = subst AreGroups h.spelled.0 h.spelled.1 in
+    let are = subst AreGroups h.encodes.0 h.encodes.1 in
     record {
       front = b ∷ s;
       read = record {
         front = b ∷ s;
-        split = e ∙ ap (λ z. b ∷ z) (subst (λ z. rest ≡ z ++ after) h.spelled.0 h.split);
-        spelled = (refl, more_groups b s l u are, omega (arith, ap length h.spelled.0, h.spelled.2));
+        split = e ∙ ap (λ z. b ∷ z) (subst (λ z. rest ≡ z ++ after) h.encodes.0 h.split);
+        encodes = (refl, more_groups b s l u are, omega (arith, ap length h.encodes.0, h.encodes.2));
       };
       total = ap (λ z. b % 128 + 128 * z) g.total ∙ sym is;
       count = omega (arith, pow-suc 128 (length s), g.count, times);
       end = last_more b s are ∙ g.end;
     }
 
-pub groups_less : (less limit b : ℕ) (bytes rest : List ℕ) → bytes ≡ b ∷ rest → 128 ≤ b → limit ≡ less + 1 → ReadsNothing (groups less) wide rest → ReadsNothing (groups limit) wide bytes
-groups_less less limit b bytes rest e l m none = record { none = λ x last h. go h.front last (sym e ∙ h.split) h.spelled.1 h.spelled.2 }
+pub groups_less : (less limit b : ℕ) (bytes rest : List ℕ) → bytes ≡ b ∷ rest → 128 ≤ b → limit ≡ less + 1 → Rejects (groups less) padded rest → Rejects (groups limit) padded bytes
+groups_less less limit b bytes rest e l m none = record { none = λ x last h. go h.front last (sym e ∙ h.split) h.encodes.1 h.encodes.2 }
   where
     go : (s last : List ℕ) → b ∷ rest ≡ s ++ last → AreGroups s → length s ≤ limit → ⊥
     go [] last f h g = h
     go (c ∷ []) last f h g = let same : b ≡ c = cc f in omega (arith, same)
-    go (c ∷ d ∷ s) last f h g = none.none (d ∷ s) last (record { front = d ∷ s; split = cc f; spelled = (refl, h.2, omega arith) })
+    go (c ∷ d ∷ s) last f h g = none.none (d ∷ s) last (record { front = d ∷ s; split = cc f; encodes = (refl, h.2, omega arith) })
 
 pub ruleset group_steps = (groups_none, groups_ended)
 
@@ -71,14 +71,14 @@ pub ruleset group_steps = (groups_none, groups_ended)
 power_more : (n k : ℕ) → n ^ (k + 1) ≡ n ^ k * n
 power_more n k = subst (λ z. n ^ z ≡ n ^ k * n) (sym (add-one k)) (pow-suc n k)
 
-power_fits : (limit less power : ℕ) → limit ≡ less + 1 → power ≤ 128 ^ less → 128 * power ≤ 128 ^ limit
-power_fits limit less power e l = rw e (omega (arith, l, power_more 128 less))
+power_encodable : (limit less power : ℕ) → limit ≡ less + 1 → power ≤ 128 ^ less → 128 * power ≤ 128 ^ limit
+power_encodable limit less power e l = rw e (omega (arith, l, power_more 128 less))
 
-pub power_fits_more : (limit power : ℕ) → limit ≢ 0 → power ≤ 128 ^ (limit - 1) → 128 * power ≤ 128 ^ limit
-power_fits_more limit power e l = power_fits limit (limit - 1) power (omega arith) l
+pub power_encodable_more : (limit power : ℕ) → limit ≢ 0 → power ≤ 128 ^ (limit - 1) → 128 * power ≤ 128 ^ limit
+power_encodable_more limit power e l = power_encodable limit (limit - 1) power (omega arith) l
 
-pub one_fits : (limit b : ℕ) → limit ≢ 0 → b ≤ 128 → b ≤ 128 ^ limit
-one_fits limit b e l =
+pub one_encodable : (limit b : ℕ) → limit ≢ 0 → b ≤ 128 → b ≤ 128 ^ limit
+one_encodable limit b e l =
     let p : 128 ^ 1 ≤ 128 ^ limit = pow-le-pow_right (omega arith) {i = 1} {j = limit} (omega arith) in
     omega (arith, p)
 

@@ -1,12 +1,12 @@
 pub mod NumberLaws
 pub mod FormatLaws
-pub mod NumberTexts
-pub mod TextLaws
+pub mod NumberEncodings
+pub mod EncodingLaws
 pub mod EntryLaws
 pub mod AfterLaws
 pub mod PartLaws
-pub mod HeldLaws
-pub mod NothingLaws
+pub mod ContentsLaws
+pub mod RejectionLaws
 pub mod ModuleLaws
 pub mod BaseLaws
 pub mod TypeLaws
@@ -19,6 +19,6 @@ pub mod KnownLengths
 pub mod Members
 pub mod Outcomes
 pub mod Yielded
-pub mod ReadingSteps
+pub mod DecodingSteps
 pub mod Tags
 pub mod GroupLaws

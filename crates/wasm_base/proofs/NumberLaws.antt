@@ -4,9 +4,9 @@ use Rattle.std.proofs.lemmas.Bool.{cases_lt, cases_eq, lt-ltb, le-ltb}
 use Rattle.std.proofs.lemmas.Nat.{pow-add}
 use Rattle.std.proofs.Math.Nat.{pow-suc, pow-le-pow_right}
 use Rattle.std.proofs.lemmas.Int.{ints}
-use Rattle.wasm_base.specs.Numbers.{Mode, shortest, wide, AreGroups, groups_sum, last_byte, byte_limit, IsUnsignedSize, Unsigned, signed_sum, IsShortSigned, Signed, Grammar, Below, least, padded, tight, standard, builders, admitted}
+use Rattle.wasm_base.specs.Numbers.{Mode, minimal, padded, AreGroups, groups_sum, last_byte, byte_limit, IsUnsignedSize, Unsigned, signed_sum, IsMinimalSigned, Signed, Grammar, Below, minimal_of, padded_of, standard_minimal, standard, builders, admitted}
 use Rattle.wasm_base.specs.Formats.{Format, u32}
-use Rattle.wasm_base.specs.Reading.{UniqueReading, HasOneSpelling, IsPartOf, IsShortenedBy}
+use Rattle.wasm_base.specs.Decoding.{Unambiguous, HasOneEncoding, IsIncludedIn, ShrinksTo}
 
 -- Groups are prefix-free, since bit 7 marks the last byte.
 pub groups_apart : (s t r q : List ℕ) → AreGroups s → AreGroups t → s ++ r ≡ t ++ q → (s ≡ t) × (r ≡ q)
@@ -33,7 +33,7 @@ sum_pos [] h l = absurd h
 sum_pos (b ∷ []) h l = omega arith
 sum_pos (b ∷ c ∷ s) h l = let more = sum_pos (c ∷ s) h.2 l in omega arith
 
-unsigned_one : (s t : List ℕ) → AreGroups s → AreGroups t → IsUnsignedSize shortest 0 s → IsUnsignedSize shortest 0 t → groups_sum s ≡ groups_sum t → s ≡ t
+unsigned_one : (s t : List ℕ) → AreGroups s → AreGroups t → IsUnsignedSize minimal 0 s → IsUnsignedSize minimal 0 t → groups_sum s ≡ groups_sum t → s ≡ t
 unsigned_one [] t h g k l e = absurd h
 unsigned_one (b ∷ []) [] h g k l e = absurd g
 unsigned_one (b ∷ []) (d ∷ []) h g k l e = ap (λ x. x ∷ []) (omega arith)
@@ -62,11 +62,11 @@ size_from_power n bits v h l =
       | inr le ↦ absurd (omega (arith, pow-le-pow_right {n = 2} (omega arith) le, pow-add 2 7 bits))
     ]
 
-short_is_within : (bits : ℕ) (s : List ℕ) → 0 < bits → AreGroups s → groups_sum s < 2 ^ bits → IsUnsignedSize shortest bits s → length s ≤ byte_limit bits
+short_is_within : (bits : ℕ) (s : List ℕ) → 0 < bits → AreGroups s → groups_sum s < 2 ^ bits → IsUnsignedSize minimal bits s → length s ≤ byte_limit bits
 short_is_within bits s some h l (inl k) = omega arith
 short_is_within bits s some h l (inr k) = size_from_power (length s) bits (groups_sum s) (sum_large s h k) l
 
-pub last_of_one : (t : List ℕ) → AreGroups t → 0 < groups_sum t → IsUnsignedSize shortest 0 t → 0 < last_byte t
+pub last_of_one : (t : List ℕ) → AreGroups t → 0 < groups_sum t → IsUnsignedSize minimal 0 t → 0 < last_byte t
 last_of_one [] h l k = absurd h
 last_of_one (c ∷ []) h l k = omega arith
 last_of_one (c ∷ d ∷ t) h l (inl k) = absurd (omega arith)
@@ -77,7 +77,7 @@ one_more d [] l h k = absurd h
 one_more d (c ∷ t) l h k = ((omega arith, omega arith, h), omega arith, k)
 
 -- A number up to the sum of groups has minimal groups that are no longer.
-lesser : (s : List ℕ) (v : ℕ) → AreGroups s → v ≤ groups_sum s → (t : List ℕ) × AreGroups t × (groups_sum t ≡ v) × IsUnsignedSize shortest 0 t × (length t ≤ length s)
+lesser : (s : List ℕ) (v : ℕ) → AreGroups s → v ≤ groups_sum s → (t : List ℕ) × AreGroups t × (groups_sum t ≡ v) × IsUnsignedSize minimal 0 t × (length t ≤ length s)
 lesser [] v h l = absurd h
 lesser (b ∷ []) v h l = (v ∷ [], omega arith, omega arith, inl refl, le_refl 1)
 lesser (b ∷ c ∷ s) v h l =
@@ -103,11 +103,11 @@ single_low b l = rw (lt-ltb b 64 l) (omega (arith, ints))
 pub single_high : (b : ℕ) → 64 ≤ b → b < 128 → signed_sum (b ∷ []) ≡ negsuc (127 - b)
 single_high b l k = rw (le-ltb b 64 l) (omega (arith, ints))
 
-pub short_tail : (b c : ℕ) (s : List ℕ) → IsShortSigned (b ∷ c ∷ s) → IsShortSigned (c ∷ s)
+pub short_tail : (b c : ℕ) (s : List ℕ) → IsMinimalSigned (b ∷ c ∷ s) → IsMinimalSigned (c ∷ s)
 short_tail b c [] h = tt
 short_tail b c (d ∷ s) h = h
 
-zero_is : (s : List ℕ) → AreGroups s → IsShortSigned s → signed_sum s ≡ pos 0 → s ≡ 0 ∷ []
+zero_is : (s : List ℕ) → AreGroups s → IsMinimalSigned s → signed_sum s ≡ pos 0 → s ≡ 0 ∷ []
 zero_is [] h k e = absurd h
 zero_is (b ∷ []) h k e =
     elim (cases_lt b 64) [
@@ -122,7 +122,7 @@ zero_is (b ∷ c ∷ d ∷ s) h k e =
     let tail = zero_is (c ∷ d ∷ s) h.2 k (omega (arith, ints, e, signed_step b c (d ∷ s))) in
     absurd (cc tail)
 
-minus_one_is : (s : List ℕ) → AreGroups s → IsShortSigned s → signed_sum s ≡ negsuc 0 → s ≡ 127 ∷ []
+minus_one_is : (s : List ℕ) → AreGroups s → IsMinimalSigned s → signed_sum s ≡ negsuc 0 → s ≡ 127 ∷ []
 minus_one_is [] h k e = absurd h
 minus_one_is (b ∷ []) h k e =
     elim (cases_lt b 64) [
@@ -138,7 +138,7 @@ minus_one_is (b ∷ c ∷ d ∷ s) h k e =
     absurd (cc tail)
 
 -- A second byte after a sufficient one is padding.
-no_padding : (b d z : ℕ) (t : List ℕ) → b < 128 → AreGroups (d ∷ z ∷ t) → IsShortSigned (d ∷ z ∷ t) → signed_sum (b ∷ []) ≡ signed_sum (d ∷ z ∷ t) → ⊥
+no_padding : (b d z : ℕ) (t : List ℕ) → b < 128 → AreGroups (d ∷ z ∷ t) → IsMinimalSigned (d ∷ z ∷ t) → signed_sum (b ∷ []) ≡ signed_sum (d ∷ z ∷ t) → ⊥
 no_padding b d z t l g k e =
     elim (cases_lt b 64) [
       | inl lt ↦
@@ -149,11 +149,11 @@ no_padding b d z t l g k e =
           one_end t k (omega (arith, ints, e, high, signed_step d z t)) (minus_one_is (z ∷ t) g.2 (short_tail d z t k) (omega (arith, ints, e, high, signed_step d z t)))
     ]
   where
-    zero_end : (t : List ℕ) → IsShortSigned (d ∷ z ∷ t) → d % 128 < 64 → z ∷ t ≡ 0 ∷ [] → ⊥
+    zero_end : (t : List ℕ) → IsMinimalSigned (d ∷ z ∷ t) → d % 128 < 64 → z ∷ t ≡ 0 ∷ [] → ⊥
     zero_end [] k l e = let z_is : z ≡ 0 = cc in omega (arith, k.0 z_is)
     zero_end (y ∷ t) k l e = absurd cc
 
-    one_end : (t : List ℕ) → IsShortSigned (d ∷ z ∷ t) → 64 ≤ d % 128 → z ∷ t ≡ 127 ∷ [] → ⊥
+    one_end : (t : List ℕ) → IsMinimalSigned (d ∷ z ∷ t) → 64 ≤ d % 128 → z ∷ t ≡ 127 ∷ [] → ⊥
     one_end [] k l e = let z_is : z ≡ 127 = cc in omega (arith, k.1 z_is)
     one_end (y ∷ t) k l e = absurd cc
 
@@ -170,7 +170,7 @@ same_single b d h g e =
       ]
     ]
 
-signed_one : (s t : List ℕ) → AreGroups s → AreGroups t → IsShortSigned s → IsShortSigned t → signed_sum s ≡ signed_sum t → s ≡ t
+signed_one : (s t : List ℕ) → AreGroups s → AreGroups t → IsMinimalSigned s → IsMinimalSigned t → signed_sum s ≡ signed_sum t → s ≡ t
 signed_one [] t h g k l e = absurd h
 signed_one (b ∷ []) [] h g k l e = absurd g
 signed_one (b ∷ []) (d ∷ []) h g k l e = ap (λ x. x ∷ []) (same_single b d h g e)
@@ -182,7 +182,7 @@ signed_one (b ∷ c ∷ s) (d ∷ z ∷ t) h g k l e =
     (signed_one (c ∷ s) (z ∷ t) h.2 g.2 (short_tail b c s k) (short_tail d z t l) (omega (arith, ints, e, signed_step b c s, signed_step d z t)))
 
 -- Minimal groups of two or more bytes encode a number that needs them.
-spread : (b c : ℕ) (s : List ℕ) → AreGroups (b ∷ c ∷ s) → IsShortSigned (b ∷ c ∷ s) → (pos (2 ^ (6 + 7 * length s)) ≤ℤ signed_sum (b ∷ c ∷ s)) ⊎ (signed_sum (b ∷ c ∷ s) <ℤ neg_ℤ (pos (2 ^ (6 + 7 * length s))))
+spread : (b c : ℕ) (s : List ℕ) → AreGroups (b ∷ c ∷ s) → IsMinimalSigned (b ∷ c ∷ s) → (pos (2 ^ (6 + 7 * length s)) ≤ℤ signed_sum (b ∷ c ∷ s)) ⊎ (signed_sum (b ∷ c ∷ s) <ℤ neg_ℤ (pos (2 ^ (6 + 7 * length s))))
 spread b c [] h k =
     elim (cases_lt c 64) [
       | inl lt ↦ elim (cases_lt c 1) [
@@ -208,7 +208,7 @@ size_from_spread n bits h =
       | inr le ↦ absurd (omega (arith, h, pow-le-pow_right {n = 2} (omega arith) le))
     ]
 
-short_signed_is_within : (bits : ℕ) (s : List ℕ) → 0 < bits → AreGroups s → IsShortSigned s → neg_ℤ (pos (2 ^ (bits - 1))) ≤ℤ signed_sum s → signed_sum s <ℤ pos (2 ^ (bits - 1)) → length s ≤ byte_limit bits
+short_signed_is_within : (bits : ℕ) (s : List ℕ) → 0 < bits → AreGroups s → IsMinimalSigned s → neg_ℤ (pos (2 ^ (bits - 1))) ≤ℤ signed_sum s → signed_sum s <ℤ pos (2 ^ (bits - 1)) → length s ≤ byte_limit bits
 short_signed_is_within bits [] some h k l u = omega arith
 short_signed_is_within bits (b ∷ []) some h k l u = omega arith
 short_signed_is_within bits (b ∷ c ∷ s) some h k l u =
@@ -221,7 +221,7 @@ short_signed_is_within bits (b ∷ c ∷ s) some h k l u =
 
 -- Minimal groups of the same number as `s`, which are no longer.
 abbrev Shortened : List ℕ → Type 0
-Shortened s = (t : List ℕ) × AreGroups t × (signed_sum t ≡ signed_sum s) × IsShortSigned t × (length t ≤ length s)
+Shortened s = (t : List ℕ) × AreGroups t × (signed_sum t ≡ signed_sum s) × IsMinimalSigned t × (length t ≤ length s)
 
 shortened_pair : (b d c : ℕ) (s : List ℕ) → AreGroups (b ∷ c ∷ s) → d < 128 → signed_sum (d ∷ []) ≡ signed_sum (c ∷ s) → Shortened (b ∷ c ∷ s)
 shortened_pair b d c s h l e =
@@ -250,25 +250,25 @@ shortened (b ∷ c ∷ s) h = go (shortened (c ∷ s) h.2)
 
 -- A number up to `n` has a minimal encoding no longer than any encoding of `n`.
 abbrev pub ShortenLess : Format ℕ → Type 0
-ShortenLess F = (w : Grammar) (s : List ℕ) (n v : ℕ) → v ≤ n → F (padded w) s n → (t : List ℕ) × F (least w) t v × (length t ≤ length s)
+ShortenLess F = (w : Grammar) (s : List ℕ) (n v : ℕ) → v ≤ n → F (padded_of w) s n → (t : List ℕ) × F (minimal_of w) t v × (length t ≤ length s)
 
 -- A property of pairs of modes holds of each pair in `Below` if it holds of the three.
-pub below_cases : (P : Mode → Mode → Type 0) → P shortest wide → P tight standard → P wide standard → (m n : Mode) → Below m n → P m n
-below_cases P a b c shortest wide h = a
-below_cases P a b c tight standard h = b
-below_cases P a b c wide standard h = c
-below_cases P a b c shortest shortest h = absurd h
-below_cases P a b c shortest tight h = absurd h
-below_cases P a b c shortest standard h = absurd h
-below_cases P a b c wide shortest h = absurd h
-below_cases P a b c wide wide h = absurd h
-below_cases P a b c wide tight h = absurd h
-below_cases P a b c tight shortest h = absurd h
-below_cases P a b c tight wide h = absurd h
-below_cases P a b c tight tight h = absurd h
-below_cases P a b c standard shortest h = absurd h
-below_cases P a b c standard wide h = absurd h
-below_cases P a b c standard tight h = absurd h
+pub below_cases : (P : Mode → Mode → Type 0) → P minimal padded → P standard_minimal standard → P padded standard → (m n : Mode) → Below m n → P m n
+below_cases P a b c minimal padded h = a
+below_cases P a b c standard_minimal standard h = b
+below_cases P a b c padded standard h = c
+below_cases P a b c minimal minimal h = absurd h
+below_cases P a b c minimal standard_minimal h = absurd h
+below_cases P a b c minimal standard h = absurd h
+below_cases P a b c padded minimal h = absurd h
+below_cases P a b c padded padded h = absurd h
+below_cases P a b c padded standard_minimal h = absurd h
+below_cases P a b c standard_minimal minimal h = absurd h
+below_cases P a b c standard_minimal padded h = absurd h
+below_cases P a b c standard_minimal standard_minimal h = absurd h
+below_cases P a b c standard minimal h = absurd h
+below_cases P a b c standard padded h = absurd h
+below_cases P a b c standard standard_minimal h = absurd h
 below_cases P a b c standard standard h = absurd h
 
 pub unsigned-less : (bits : ℕ) → 0 < bits → ShortenLess (λ mode. Unsigned mode bits)
@@ -279,51 +279,51 @@ unsigned-less bits some admitted s n v l h =
     let t = lesser s v h.groups (omega (arith, h.total)) in
     (t.0, record { groups = t.1; total = t.2; range = omega (arith, h.range); size = t.3 }, t.4)
 
-pub unsigned_unique : (bits : ℕ) → 0 < bits → UniqueReading (λ mode. Unsigned mode bits)
-unsigned_unique bits some = record {
-  alone = λ mode s t r q x y h g e.
+pub unsigned_unambiguous : (bits : ℕ) → 0 < bits → Unambiguous (λ mode. Unsigned mode bits)
+unsigned_unambiguous bits some = record {
+  unique = λ mode s t r q x y h g e.
       let a = groups_apart s t r q h.groups g.groups e in
       (sym h.total ∙ ap groups_sum a.0 ∙ g.total, a.0, a.1);
-  spellings = record {
+  encodings = record {
     one = one;
-    wider = below_cases (λ m n. IsPartOf (Unsigned m bits) (Unsigned n bits)) pads pads_tight (λ s x h. record { groups = h.groups; total = h.total; range = h.range; size = h.size });
+    included = below_cases (λ m n. IsIncludedIn (Unsigned m bits) (Unsigned n bits)) pads pads_tight (λ s x h. record { groups = h.groups; total = h.total; range = h.range; size = h.size });
     shorter = λ w s x h. unsigned-less bits some w s x x (le_refl x) h;
   };
 }
   where
-    one : (w : Grammar) → HasOneSpelling (Unsigned (least w) bits)
+    one : (w : Grammar) → HasOneEncoding (Unsigned (minimal_of w) bits)
     one builders s t x h g = unsigned_one s t h.groups g.groups h.size g.size (h.total ∙ sym g.total)
     one admitted s t x h g = unsigned_one s t h.groups g.groups h.size g.size (h.total ∙ sym g.total)
 
-    pads : IsPartOf (Unsigned shortest bits) (Unsigned wide bits)
+    pads : IsIncludedIn (Unsigned minimal bits) (Unsigned padded bits)
     pads s x h = record { groups = h.groups; total = h.total; range = h.range; size = short_is_within bits s some h.groups (omega (arith, h.total, h.range)) h.size }
 
-    pads_tight : IsPartOf (Unsigned tight bits) (Unsigned standard bits)
+    pads_tight : IsIncludedIn (Unsigned standard_minimal bits) (Unsigned standard bits)
     pads_tight s x h = record { groups = h.groups; total = h.total; range = h.range; size = short_is_within bits s some h.groups (omega (arith, h.total, h.range)) h.size }
 
-pub signed_unique : (bits : ℕ) → 0 < bits → UniqueReading (λ mode. Signed mode bits)
-signed_unique bits some = record {
-  alone = λ mode s t r q x y h g e.
+pub signed_unambiguous : (bits : ℕ) → 0 < bits → Unambiguous (λ mode. Signed mode bits)
+signed_unambiguous bits some = record {
+  unique = λ mode s t r q x y h g e.
       let a = groups_apart s t r q h.groups g.groups e in
       (sym h.total ∙ ap signed_sum a.0 ∙ g.total, a.0, a.1);
-  spellings = record {
+  encodings = record {
     one = one;
-    wider = below_cases (λ m n. IsPartOf (Signed m bits) (Signed n bits)) pads pads_tight (λ s x h. record { groups = h.groups; total = h.total; above = h.above; below = h.below; size = h.size });
+    included = below_cases (λ m n. IsIncludedIn (Signed m bits) (Signed n bits)) pads pads_tight (λ s x h. record { groups = h.groups; total = h.total; above = h.above; below = h.below; size = h.size });
     shorter = shorter;
   };
 }
   where
-    one : (w : Grammar) → HasOneSpelling (Signed (least w) bits)
+    one : (w : Grammar) → HasOneEncoding (Signed (minimal_of w) bits)
     one builders s t x h g = signed_one s t h.groups g.groups h.size g.size (h.total ∙ sym g.total)
     one admitted s t x h g = signed_one s t h.groups g.groups h.size g.size (h.total ∙ sym g.total)
 
-    pads : IsPartOf (Signed shortest bits) (Signed wide bits)
+    pads : IsIncludedIn (Signed minimal bits) (Signed padded bits)
     pads s x h = record { groups = h.groups; total = h.total; above = h.above; below = h.below; size = short_signed_is_within bits s some h.groups h.size (rw h.total h.above) (rw h.total h.below) }
 
-    pads_tight : IsPartOf (Signed tight bits) (Signed standard bits)
+    pads_tight : IsIncludedIn (Signed standard_minimal bits) (Signed standard bits)
     pads_tight s x h = record { groups = h.groups; total = h.total; above = h.above; below = h.below; size = short_signed_is_within bits s some h.groups h.size (rw h.total h.above) (rw h.total h.below) }
 
-    shorter : (w : Grammar) → IsShortenedBy (Signed (padded w) bits) (Signed (least w) bits)
+    shorter : (w : Grammar) → ShrinksTo (Signed (padded_of w) bits) (Signed (minimal_of w) bits)
     shorter builders s x h =
         let t = shortened s h.groups in
         (t.0, record { groups = t.1; total = t.2 ∙ h.total; above = h.above; below = h.below; size = t.3 }, t.4)
@@ -331,15 +331,15 @@ signed_unique bits some = record {
         let t = shortened s h.groups in
         (t.0, record { groups = t.1; total = t.2 ∙ h.total; above = h.above; below = h.below; size = t.3 }, t.4)
 
-pub u32_unique : UniqueReading u32
-u32_unique = unsigned_unique 32 (omega arith)
+pub u32_unambiguous : Unambiguous u32
+u32_unambiguous = unsigned_unambiguous 32 (omega arith)
 
 pub u32-less : ShortenLess u32
 u32-less = unsigned-less 32 (omega arith)
 
 -- A number below 128 has one byte in every mode.
 pub u32_small : (mode : Mode) (n : ℕ) → n < 128 → u32 mode (n ∷ []) n
-u32_small shortest n h = record { groups = h; total = omega arith; range = omega arith; size = inl refl }
-u32_small wide n h = record { groups = h; total = omega arith; range = omega arith; size = omega arith }
-u32_small tight n h = record { groups = h; total = omega arith; range = omega arith; size = inl refl }
+u32_small minimal n h = record { groups = h; total = omega arith; range = omega arith; size = inl refl }
+u32_small padded n h = record { groups = h; total = omega arith; range = omega arith; size = omega arith }
+u32_small standard_minimal n h = record { groups = h; total = omega arith; range = omega arith; size = inl refl }
 u32_small standard n h = record { groups = h; total = omega arith; range = omega arith; size = omega arith }

@@ -1,55 +1,55 @@
 -- This file proves the laws of the sections of a kind from the laws of its items.
 use Rattle.wasm_base.specs.Entries.{Kind, ItemLaws}
-use Rattle.wasm_base.specs.Formats.{Format, frame, vec}
-use Rattle.wasm_base.specs.Laws.{HoldsMore, HoldsMoreWide}
-use Rattle.wasm_base.specs.Modules.{ReadsPayloads}
-use Rattle.wasm_base.specs.Numbers.{wide}
-use Rattle.wasm_base.specs.Reading.{UniqueReading, UniqueWholeReading, IsUniqueWide}
-use Rattle.wasm_base.specs.Texts.{FrameFits}
-use Rattle.wasm_base.proofs.BaseLaws.{unique_wide}
-use Rattle.wasm_base.proofs.FormatLaws.{frame_unique, vec_unique, whole_from_alone}
-use Rattle.wasm_base.proofs.HeldLaws.{holds_more as more, holds_more_wide, plain_more_wide}
-use Rattle.wasm_base.proofs.Payloads.{payload-reads}
+use Rattle.wasm_base.specs.Formats.{Format, size_prefixed, vec}
+use Rattle.wasm_base.specs.Laws.{ContainsMore, ContainsMorePadded}
+use Rattle.wasm_base.specs.Modules.{DecodesPayloads}
+use Rattle.wasm_base.specs.Numbers.{padded}
+use Rattle.wasm_base.specs.Decoding.{Unambiguous, UnambiguousWhole, UnambiguousPadded}
+use Rattle.wasm_base.specs.Encodings.{HasEncodableSize}
+use Rattle.wasm_base.proofs.BaseLaws.{unambiguous_padded}
+use Rattle.wasm_base.proofs.FormatLaws.{size_prefixed_unambiguous, vec_unambiguous, whole_from_unique}
+use Rattle.wasm_base.proofs.ContentsLaws.{contains_more as more, contains_more_padded, plain_more_padded}
+use Rattle.wasm_base.proofs.Payloads.{payload-decodes}
 use Rattle.std.proofs.Common.{List}
 
 -- The laws of a kind's sections: the payload is unambiguous as a whole, and items have their laws.
--- Possibly padded items are held as `HoldsMoreWide` states.
+-- Possibly padded items are held as `ContainsMorePadded` states.
 pub record SectionLaws {Record Item : Type 0} (kind : Kind Record Item) (payload : Format (List Item)) : Type 0 where
-  pub whole : UniqueWholeReading payload
+  pub whole : UnambiguousWhole payload
   pub items : ItemLaws kind
-  pub held_wide : HoldsMoreWide kind
+  pub held_padded : ContainsMorePadded kind
 
-module _ {Record Item : Type 0} {kind : Kind Record Item} (laws : ItemLaws kind) (wider : (given : Record) → kind.IsPlain given → kind.IsPlainWide given) where
+module _ {Record Item : Type 0} {kind : Kind Record Item} (laws : ItemLaws kind) (included : (given : Record) → kind.IsWellFormed given → kind.IsWellFormedPadded given) where
   -- For records without expressions, being well-formed does not depend on padding.
-  pub framed_laws : {payload : Format (List Item)} → UniqueWholeReading payload → ((given : Record) → kind.IsPlainWide given → kind.IsPlain given) → SectionLaws kind payload
-  framed_laws whole plain = record { whole = whole; items = laws; held_wide = plain_more_wide laws wider plain }
+  pub sized_laws : {payload : Format (List Item)} → UnambiguousWhole payload → ((given : Record) → kind.IsWellFormedPadded given → kind.IsWellFormed given) → SectionLaws kind payload
+  sized_laws whole plain = record { whole = whole; items = laws; held_padded = plain_more_padded laws included plain }
 
   -- The laws of sections of counted items.
-  pub counted_laws : ((given : Record) → kind.IsPlainWide given → kind.IsPlain given) → SectionLaws kind (vec kind.format)
-  counted_laws plain = framed_laws (whole_from_alone (vec_unique laws.alone)) plain
+  pub counted_laws : ((given : Record) → kind.IsWellFormedPadded given → kind.IsWellFormed given) → SectionLaws kind (vec kind.format)
+  counted_laws plain = sized_laws (whole_from_unique (vec_unambiguous laws.unique)) plain
 
   -- The laws of sections of counted items whose expressions may be padded.
-  pub counted_laws_wide : ((given : Record) → kind.IsPlainWide given → FrameFits (kind.text given) → kind.format wide (kind.text given) (kind.normal_form given)) → SectionLaws kind (vec kind.format)
-  counted_laws_wide spelled = record { whole = whole_from_alone (vec_unique laws.alone); items = laws; held_wide = holds_more_wide kind laws wider spelled }
+  pub counted_laws_padded : ((given : Record) → kind.IsWellFormedPadded given → HasEncodableSize (kind.encoding given) → kind.format padded (kind.encoding given) (kind.normal_form given)) → SectionLaws kind (vec kind.format)
+  counted_laws_padded encodes = record { whole = whole_from_unique (vec_unambiguous laws.unique); items = laws; held_padded = contains_more_padded kind laws included encodes }
 
 -- ---- each law of a kind
 
 module _ {Record Item : Type 0} {kind : Kind Record Item} where
-  pub held : HoldsMore kind
+  pub held : ContainsMore kind
   held = more kind
 
   module _ {payload : Format (List Item)} (laws : SectionLaws kind payload) where
-    pub unique : UniqueReading (frame payload)
-    unique = frame_unique laws.whole
+    pub unambiguous : Unambiguous (size_prefixed payload)
+    unambiguous = size_prefixed_unambiguous laws.whole
 
-    pub wide_unique : IsUniqueWide (frame payload)
-    wide_unique = unique_wide unique
+    pub padded_unambiguous : UnambiguousPadded (size_prefixed payload)
+    padded_unambiguous = unambiguous_padded unambiguous
 
     pub items : ItemLaws kind
     items = laws.items
 
-    pub held_wide : HoldsMoreWide kind
-    held_wide = laws.held_wide
+    pub held_padded : ContainsMorePadded kind
+    held_padded = laws.held_padded
 
-    pub payloads : ReadsPayloads payload
-    payloads = payload-reads laws.whole
+    pub payloads : DecodesPayloads payload
+    payloads = payload-decodes laws.whole

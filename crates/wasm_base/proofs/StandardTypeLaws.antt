@@ -1,18 +1,18 @@
 -- This file proves that reference types in the standard's grammar are unambiguous.
 use Rattle.std.proofs.Common.{◌≡◌, ◌⊎◌, ℕ, ◌<◌, ◌≤◌, List, [], ◌∷◌, ◌++◌, length, Bool, true, false, cond, eqb, refl, sym, ap, ap₂, subst, ◌∙◌, le_refl, arith, inl, inr}
 use Rattle.std.proofs.lemmas.Bool.{eqb-true}
-use Rattle.wasm_base.specs.Numbers.{Mode, shortest, wide, tight, standard, admitted}
+use Rattle.wasm_base.specs.Numbers.{Mode, minimal, padded, standard_minimal, standard, admitted}
 use Rattle.wasm_base.specs.Formats.{Format, byte, impossible, fixed, mapped, such, choice, tagged, one_of, when}
-use Rattle.wasm_base.specs.Reading.{UniqueReading, BeginsWith, IsPartOf, IsShortenedBy, IsReadAlone}
+use Rattle.wasm_base.specs.Decoding.{Unambiguous, BeginsWith, IsIncludedIn, ShrinksTo, DeterminesPrefix}
 use Rattle.wasm_base.specs.declared.types.AbstractHeapType.{AbstractHeapType}
 use Rattle.wasm_base.specs.declared.types.AbstractHeapType.TheVariants as kinds
 use Rattle.wasm_base.specs.declared.types.HeapType.{HeapType}
 use Rattle.wasm_base.specs.declared.types.HeapType.TheVariants.{Abstract, Concrete, Exact}
 use Rattle.wasm_base.specs.declared.types.RefType.{RefType}
 use Rattle.wasm_base.specs.Types.{abstract_code, abstract_type, unshared, heap_type, FUNCREF, EXTERNREF, nullable_to, to, HasNoByte, ref_tags, ref_type, nullable_abstract, HasNoCode, tight_tags, admitted_tags, tight_ref, admitted_ref, ref_type_in}
-use Rattle.wasm_base.proofs.FormatLaws.{AreApart, mapped_unique, such_unique, byte_unique, begins_mapped, begins_coded, choice_of, choice_begins, AllValues, values_mapped, values_tagged, none_in_common, AllTell, AllAlone, one_of_unique, one_of_alone, begin_apart, by_mode_unique}
-use Rattle.wasm_base.proofs.TextLaws.{tagged_spelled}
-use Rattle.wasm_base.proofs.TypeLaws.{abstract_unique, abstract_bytes, heap_unique, ref_unique}
+use Rattle.wasm_base.proofs.FormatLaws.{AreApart, mapped_unambiguous, such_unambiguous, byte_unambiguous, begins_mapped, begins_coded, choice_of, choice_begins, AllValues, values_mapped, values_tagged, none_in_common, AllDetermine, AllUnambiguous, one_of_unambiguous, one_of_unique, begin_apart, by_mode_unambiguous}
+use Rattle.wasm_base.proofs.EncodingLaws.{tagged_encodes}
+use Rattle.wasm_base.proofs.TypeLaws.{abstract_unambiguous, abstract_bytes, heap_unambiguous, ref_unambiguous}
 
 -- ---- elimination of choices
 
@@ -43,27 +43,27 @@ short_ref = mapped nullable_abstract abstract_type
 short_begins : BeginsWith IsAbstractByte short_ref
 short_begins = begins_mapped IsAbstractByte nullable_abstract (begins_coded IsAbstractByte abstract_code abstract_bytes)
 
-short_unique : UniqueReading short_ref
-short_unique = mapped_unique nullable_abstract (λ x y e. let h : unshared x ≡ unshared y = ap (λ r. r.heap_type) e in cc h) abstract_unique
+short_unambiguous : Unambiguous short_ref
+short_unambiguous = mapped_unambiguous nullable_abstract (λ x y e. let h : unshared x ≡ unshared y = ap (λ r. r.heap_type) e in cc h) abstract_unambiguous
 
 abbrev long_tag : RefType → ℕ
 long_tag r = cond r.nullable 0x63 0x64
 
-tight_tells : AllTell long_tag tight_tags
-tight_tells = (λ mode s x h. ap long_tag h.1, (λ mode s x h. ap long_tag h.1, tt))
+standard_minimal_determines : AllDetermine long_tag tight_tags
+standard_minimal_determines = (λ mode s x h. ap long_tag h.1, (λ mode s x h. ap long_tag h.1, tt))
 
-admitted_tells : AllTell long_tag admitted_tags
-admitted_tells = (λ mode s x h. ap long_tag h.1, (λ mode s x h. ap long_tag h.1, tt))
+admitted_determines : AllDetermine long_tag admitted_tags
+admitted_determines = (λ mode s x h. ap long_tag h.1, (λ mode s x h. ap long_tag h.1, tt))
 
-tight_long : UniqueReading (tagged byte (choice tight_tags (λ b. impossible)))
-tight_long = choice_of byte long_tag tight_tags byte_unique
-    (mapped_unique nullable_to (λ x y e. ap (λ r. r.heap_type) e) (such_unique HasNoCode heap_unique), (mapped_unique to (λ x y e. ap (λ r. r.heap_type) e) heap_unique, tt))
-    tight_tells
+tight_long : Unambiguous (tagged byte (choice tight_tags (λ b. impossible)))
+tight_long = choice_of byte long_tag tight_tags byte_unambiguous
+    (mapped_unambiguous nullable_to (λ x y e. ap (λ r. r.heap_type) e) (such_unambiguous HasNoCode heap_unambiguous), (mapped_unambiguous to (λ x y e. ap (λ r. r.heap_type) e) heap_unambiguous, tt))
+    standard_minimal_determines
 
-admitted_long : UniqueReading (tagged byte (choice admitted_tags (λ b. impossible)))
-admitted_long = choice_of byte long_tag admitted_tags byte_unique
-    (mapped_unique nullable_to (λ x y e. ap (λ r. r.heap_type) e) heap_unique, (mapped_unique to (λ x y e. ap (λ r. r.heap_type) e) heap_unique, tt))
-    admitted_tells
+admitted_long : Unambiguous (tagged byte (choice admitted_tags (λ b. impossible)))
+admitted_long = choice_of byte long_tag admitted_tags byte_unambiguous
+    (mapped_unambiguous nullable_to (λ x y e. ap (λ r. r.heap_type) e) heap_unambiguous, (mapped_unambiguous to (λ x y e. ap (λ r. r.heap_type) e) heap_unambiguous, tt))
+    admitted_determines
 
 tight_begins : BeginsWith IsLongTag (tagged byte (choice tight_tags (λ b. impossible)))
 tight_begins = choice_begins IsLongTag tight_tags (λ b. impossible) ((omega arith, omega arith), ((omega arith, omega arith), tt)) (λ b mode s x h. absurd h)
@@ -91,80 +91,80 @@ tight_values : AllValues (λ x. 0 < ref_form x) (tagged byte (choice tight_tags 
 tight_values = values_tagged (λ x. 0 < ref_form x) tight_tags
     ((λ mode s x h. subst (λ z. 0 < ref_form z) h.1 (no_code_form h.0 h.2.1)), (values_mapped (λ x. 0 < ref_form x) to heap_type (λ x. omega arith), tt))
 
-tight_unique : UniqueReading tight_ref
-tight_unique = one_of_unique IsAbstractByte IsLongTag apart short_begins tight_begins
+standard_minimal_unambiguous : Unambiguous tight_ref
+standard_minimal_unambiguous = one_of_unambiguous IsAbstractByte IsLongTag apart short_begins tight_begins
     (none_in_common (λ x. ref_form x ≡ 0) (λ x. 0 < ref_form x) (λ x p q. omega (arith, p, q)) (values_mapped (λ x. ref_form x ≡ 0) nullable_abstract abstract_type (λ x. refl)) tight_values)
-    short_unique tight_long
+    short_unambiguous tight_long
 
-admitted_alone : IsReadAlone (admitted_ref standard)
-admitted_alone = one_of_alone {F = short_ref} {G = tagged byte (choice admitted_tags (λ b. impossible))} (begin_apart IsAbstractByte IsLongTag apart short_begins admitted_begins) standard (short_unique.alone standard) (admitted_long.alone standard)
+admitted_unique : DeterminesPrefix (admitted_ref standard)
+admitted_unique = one_of_unique {F = short_ref} {G = tagged byte (choice admitted_tags (λ b. impossible))} (begin_apart IsAbstractByte IsLongTag apart short_begins admitted_begins) standard (short_unambiguous.unique standard) (admitted_long.unique standard)
 
 -- ---- the encodings of one format that another one has too
 
 null_admitted : (b : ℕ) (t : List ℕ) (x : RefType) (heap : HeapType) → b ≡ 0x63 → nullable_to heap ≡ x → heap_type standard t heap → admitted_ref standard (b ∷ t) x
-null_admitted b t x heap e q h = subst (λ z. admitted_ref standard (z ∷ t) x) (sym e) (subst (λ y. admitted_ref standard (0x63 ∷ t) y) q (inr (tagged_spelled standard 0x63 t (nullable_to heap) (heap, refl, h))))
+null_admitted b t x heap e q h = subst (λ z. admitted_ref standard (z ∷ t) x) (sym e) (subst (λ y. admitted_ref standard (0x63 ∷ t) y) q (inr (tagged_encodes standard 0x63 t (nullable_to heap) (heap, refl, h))))
 
 to_admitted : (b : ℕ) (t : List ℕ) (x : RefType) (heap : HeapType) → b ≡ 0x64 → to heap ≡ x → heap_type standard t heap → admitted_ref standard (b ∷ t) x
-to_admitted b t x heap e q h = subst (λ z. admitted_ref standard (z ∷ t) x) (sym e) (subst (λ y. admitted_ref standard (0x64 ∷ t) y) q (inr (tagged_spelled standard 0x64 t (to heap) (heap, refl, h))))
+to_admitted b t x heap e q h = subst (λ z. admitted_ref standard (z ∷ t) x) (sym e) (subst (λ y. admitted_ref standard (0x64 ∷ t) y) q (inr (tagged_encodes standard 0x64 t (to heap) (heap, refl, h))))
 
 byte_admitted : (b : ℕ) (t : List ℕ) (x : RefType) (ty : AbstractHeapType) → b ≡ abstract_code ty → t ≡ [] → x ≡ nullable_abstract ty → admitted_ref standard (b ∷ t) x
 byte_admitted b t x ty e n q = inl (ty, sym q, ap₂ ◌∷◌ e n)
 
-ref_admitted : IsPartOf (ref_type wide) (admitted_ref standard)
+ref_admitted : IsIncludedIn (ref_type padded) (admitted_ref standard)
 ref_admitted s x h =
-    let u = untag ref_tags wide s x h in
+    let u = untag ref_tags padded s x h in
     subst (λ z. admitted_ref standard z x) (sym u.2) (first u.0 u.1 u.3)
   where
-    fourth : (b : ℕ) (t : List ℕ) → choice ((0x64, mapped to heap_type) ∷ []) (λ b. impossible) b wide t x → admitted_ref standard (b ∷ t) x
-    fourth b t c = elim (choice_elim (0x64, mapped to heap_type) [] (λ b. impossible) b wide t x c) [
-      | inl p ↦ to_admitted b t x p.1.0 p.0 p.1.1 (heap_unique.spellings.wider wide standard tt t p.1.0 p.1.2)
+    fourth : (b : ℕ) (t : List ℕ) → choice ((0x64, mapped to heap_type) ∷ []) (λ b. impossible) b padded t x → admitted_ref standard (b ∷ t) x
+    fourth b t c = elim (choice_elim (0x64, mapped to heap_type) [] (λ b. impossible) b padded t x c) [
+      | inl p ↦ to_admitted b t x p.1.0 p.0 p.1.1 (heap_unambiguous.encodings.included padded standard tt t p.1.0 p.1.2)
       | inr d ↦ absurd d
     ]
 
-    third : (b : ℕ) (t : List ℕ) → choice ((0x63, mapped nullable_to (such HasNoByte heap_type)) ∷ (0x64, mapped to heap_type) ∷ []) (λ b. impossible) b wide t x → admitted_ref standard (b ∷ t) x
-    third b t c = elim (choice_elim (0x63, mapped nullable_to (such HasNoByte heap_type)) ((0x64, mapped to heap_type) ∷ []) (λ b. impossible) b wide t x c) [
-      | inl p ↦ null_admitted b t x p.1.0 p.0 p.1.1 (heap_unique.spellings.wider wide standard tt t p.1.0 p.1.2.0)
+    third : (b : ℕ) (t : List ℕ) → choice ((0x63, mapped nullable_to (such HasNoByte heap_type)) ∷ (0x64, mapped to heap_type) ∷ []) (λ b. impossible) b padded t x → admitted_ref standard (b ∷ t) x
+    third b t c = elim (choice_elim (0x63, mapped nullable_to (such HasNoByte heap_type)) ((0x64, mapped to heap_type) ∷ []) (λ b. impossible) b padded t x c) [
+      | inl p ↦ null_admitted b t x p.1.0 p.0 p.1.1 (heap_unambiguous.encodings.included padded standard tt t p.1.0 p.1.2.0)
       | inr d ↦ fourth b t d
     ]
 
-    second : (b : ℕ) (t : List ℕ) → choice ((0x6F, fixed [] EXTERNREF) ∷ (0x63, mapped nullable_to (such HasNoByte heap_type)) ∷ (0x64, mapped to heap_type) ∷ []) (λ b. impossible) b wide t x → admitted_ref standard (b ∷ t) x
-    second b t c = elim (choice_elim (0x6F, fixed [] EXTERNREF) ((0x63, mapped nullable_to (such HasNoByte heap_type)) ∷ (0x64, mapped to heap_type) ∷ []) (λ b. impossible) b wide t x c) [
+    second : (b : ℕ) (t : List ℕ) → choice ((0x6F, fixed [] EXTERNREF) ∷ (0x63, mapped nullable_to (such HasNoByte heap_type)) ∷ (0x64, mapped to heap_type) ∷ []) (λ b. impossible) b padded t x → admitted_ref standard (b ∷ t) x
+    second b t c = elim (choice_elim (0x6F, fixed [] EXTERNREF) ((0x63, mapped nullable_to (such HasNoByte heap_type)) ∷ (0x64, mapped to heap_type) ∷ []) (λ b. impossible) b padded t x c) [
       | inl p ↦ byte_admitted b t x kinds.Extern p.0 p.1.0 p.1.1
       | inr d ↦ third b t d
     ]
 
-    first : (b : ℕ) (t : List ℕ) → choice ref_tags (λ b. impossible) b wide t x → admitted_ref standard (b ∷ t) x
-    first b t c = elim (choice_elim (0x70, fixed [] FUNCREF) ((0x6F, fixed [] EXTERNREF) ∷ (0x63, mapped nullable_to (such HasNoByte heap_type)) ∷ (0x64, mapped to heap_type) ∷ []) (λ b. impossible) b wide t x c) [
+    first : (b : ℕ) (t : List ℕ) → choice ref_tags (λ b. impossible) b padded t x → admitted_ref standard (b ∷ t) x
+    first b t c = elim (choice_elim (0x70, fixed [] FUNCREF) ((0x6F, fixed [] EXTERNREF) ∷ (0x63, mapped nullable_to (such HasNoByte heap_type)) ∷ (0x64, mapped to heap_type) ∷ []) (λ b. impossible) b padded t x c) [
       | inl p ↦ byte_admitted b t x kinds.Func p.0 p.1.0 p.1.1
       | inr d ↦ second b t d
     ]
 
-tight_admitted : IsPartOf (tight_ref tight) (admitted_ref standard)
+tight_admitted : IsIncludedIn (tight_ref standard_minimal) (admitted_ref standard)
 tight_admitted s x (inl k) = inl k
 tight_admitted s x (inr k) =
-    let u = untag tight_tags tight s x k in
+    let u = untag tight_tags standard_minimal s x k in
     subst (λ z. admitted_ref standard z x) (sym u.2) (first u.0 u.1 u.3)
   where
-    second : (b : ℕ) (t : List ℕ) → choice ((0x64, mapped to heap_type) ∷ []) (λ b. impossible) b tight t x → admitted_ref standard (b ∷ t) x
-    second b t c = elim (choice_elim (0x64, mapped to heap_type) [] (λ b. impossible) b tight t x c) [
-      | inl p ↦ to_admitted b t x p.1.0 p.0 p.1.1 (heap_unique.spellings.wider tight standard tt t p.1.0 p.1.2)
+    second : (b : ℕ) (t : List ℕ) → choice ((0x64, mapped to heap_type) ∷ []) (λ b. impossible) b standard_minimal t x → admitted_ref standard (b ∷ t) x
+    second b t c = elim (choice_elim (0x64, mapped to heap_type) [] (λ b. impossible) b standard_minimal t x c) [
+      | inl p ↦ to_admitted b t x p.1.0 p.0 p.1.1 (heap_unambiguous.encodings.included standard_minimal standard tt t p.1.0 p.1.2)
       | inr d ↦ absurd d
     ]
 
-    first : (b : ℕ) (t : List ℕ) → choice tight_tags (λ b. impossible) b tight t x → admitted_ref standard (b ∷ t) x
-    first b t c = elim (choice_elim (0x63, mapped nullable_to (such HasNoCode heap_type)) ((0x64, mapped to heap_type) ∷ []) (λ b. impossible) b tight t x c) [
-      | inl p ↦ null_admitted b t x p.1.0 p.0 p.1.1 (heap_unique.spellings.wider tight standard tt t p.1.0 p.1.2.0)
+    first : (b : ℕ) (t : List ℕ) → choice tight_tags (λ b. impossible) b standard_minimal t x → admitted_ref standard (b ∷ t) x
+    first b t c = elim (choice_elim (0x63, mapped nullable_to (such HasNoCode heap_type)) ((0x64, mapped to heap_type) ∷ []) (λ b. impossible) b standard_minimal t x c) [
+      | inl p ↦ null_admitted b t x p.1.0 p.0 p.1.1 (heap_unambiguous.encodings.included standard_minimal standard tt t p.1.0 p.1.2.0)
       | inr d ↦ second b t d
     ]
 
 -- A minimal encoding of the type that is no longer.
 abbrev Shrinks : List ℕ → RefType → Type 0
-Shrinks s x = (w : List ℕ) × tight_ref tight w x × (length w ≤ length s)
+Shrinks s x = (w : List ℕ) × tight_ref standard_minimal w x × (length w ≤ length s)
 
 coded_shrinks : (b : ℕ) (t : List ℕ) (x : RefType) (heap : HeapType) → HasNoCode heap → nullable_to heap ≡ x → heap_type standard t heap → Shrinks (b ∷ t) x
 coded_shrinks b t x heap n q h =
-    let a = heap_unique.spellings.shorter admitted t heap h in
-    (0x63 ∷ a.0, subst (λ y. tight_ref tight (0x63 ∷ a.0) y) q (inr (tagged_spelled tight 0x63 a.0 (nullable_to heap) (heap, refl, (a.1, n)))), omega (arith, a.2))
+    let a = heap_unambiguous.encodings.shorter admitted t heap h in
+    (0x63 ∷ a.0, subst (λ y. tight_ref standard_minimal (0x63 ∷ a.0) y) q (inr (tagged_encodes standard_minimal 0x63 a.0 (nullable_to heap) (heap, refl, (a.1, n)))), omega (arith, a.2))
 
 null_shrinks : (b : ℕ) (t : List ℕ) (x : RefType) (heap : HeapType) → nullable_to heap ≡ x → heap_type standard t heap → Shrinks (b ∷ t) x
 null_shrinks b t x (Abstract false ty) q h = (abstract_code ty ∷ [], inl (ty, q, refl), omega arith)
@@ -172,7 +172,7 @@ null_shrinks b t x (Abstract true ty) q h = coded_shrinks b t x (Abstract true t
 null_shrinks b t x (Concrete n) q h = coded_shrinks b t x (Concrete n) tt q h
 null_shrinks b t x (Exact n) q h = coded_shrinks b t x (Exact n) tt q h
 
-ref_shrinks : IsShortenedBy (admitted_ref standard) (tight_ref tight)
+ref_shrinks : ShrinksTo (admitted_ref standard) (tight_ref standard_minimal)
 ref_shrinks s x (inl k) = (s, inl k, le_refl (length s))
 ref_shrinks s x (inr k) =
     let u = untag admitted_tags standard s x k in
@@ -182,8 +182,8 @@ ref_shrinks s x (inr k) =
     second : (b : ℕ) (t : List ℕ) → choice ((0x64, mapped to heap_type) ∷ []) (λ b. impossible) b standard t x → Shrinks (b ∷ t) x
     second b t c = elim (choice_elim (0x64, mapped to heap_type) [] (λ b. impossible) b standard t x c) [
       | inl p ↦
-          let a = heap_unique.spellings.shorter admitted t p.1.0 p.1.2 in
-          (0x64 ∷ a.0, subst (λ y. tight_ref tight (0x64 ∷ a.0) y) p.1.1 (inr (tagged_spelled tight 0x64 a.0 (to p.1.0) (p.1.0, refl, a.1))), omega (arith, a.2))
+          let a = heap_unambiguous.encodings.shorter admitted t p.1.0 p.1.2 in
+          (0x64 ∷ a.0, subst (λ y. tight_ref standard_minimal (0x64 ∷ a.0) y) p.1.1 (inr (tagged_encodes standard_minimal 0x64 a.0 (to p.1.0) (p.1.0, refl, a.1))), omega (arith, a.2))
       | inr d ↦ absurd d
     ]
 
@@ -195,5 +195,5 @@ ref_shrinks s x (inr k) =
 
 -- ---- both grammars
 
-pub ref_in_unique : UniqueReading ref_type_in
-ref_in_unique = by_mode_unique ref_type tight_ref admitted_ref ref_unique tight_unique admitted_alone ref_admitted tight_admitted ref_shrinks
+pub ref_in_unambiguous : Unambiguous ref_type_in
+ref_in_unambiguous = by_mode_unambiguous ref_type tight_ref admitted_ref ref_unambiguous standard_minimal_unambiguous admitted_unique ref_admitted tight_admitted ref_shrinks

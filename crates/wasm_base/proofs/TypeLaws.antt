@@ -2,9 +2,9 @@
 use Rattle.std.proofs.Common.{◌≡◌, ◌≢◌, ◌⊎◌, ℕ, ◌<◌, ◌≤◌, List, [], ◌∷◌, Bool, true, false, cond, eqb, refl, sym, ap, ◌∙◌, arith, inl, inr, pos}
 use Rattle.std.proofs.lemmas.Int.{ints}
 use Rattle.std.proofs.lemmas.Bool.{cases_lt, ne_eqb}
-use Rattle.wasm_base.specs.Numbers.{shortest, signed_sum, unsigned_text}
+use Rattle.wasm_base.specs.Numbers.{minimal, signed_sum, unsigned_encoding}
 use Rattle.wasm_base.specs.Formats.{Format, byte, s33, impossible, mapped, choice, tagged, one_of}
-use Rattle.wasm_base.specs.Reading.{UniqueReading, HasTexts, IsUniqueWide, BeginsWith}
+use Rattle.wasm_base.specs.Decoding.{Unambiguous, HasMinimalEncodings, UnambiguousPadded, BeginsWith}
 use Rattle.wasm_base.specs.declared.types.AbstractHeapType.{AbstractHeapType}
 use Rattle.wasm_base.specs.declared.types.AbstractHeapType.TheVariants as kinds
 use Rattle.wasm_base.specs.declared.types.HeapType.{HeapType}
@@ -12,11 +12,11 @@ use Rattle.wasm_base.specs.declared.types.HeapType.TheVariants.{Abstract, Concre
 use Rattle.wasm_base.specs.declared.types.RefType.{RefType}
 use Rattle.wasm_base.specs.declared.types.ValType.{ValType}
 use Rattle.wasm_base.specs.declared.types.ValType.TheVariants.{I32, I64, F32, F64, V128, Ref}
-use Rattle.wasm_base.specs.Types.{abstract_code, abstract_type, unshared, shared, heap_tags, heap_type, FUNCREF, EXTERNREF, nullable_to, to, HasNoByte, ref_tags, ref_type, val_tags, val_ref, val_type, IsIndexByte, heap_text, nullable_text, ref_bytes, ref_text, val_text, IsHeap, IsRef, IsVal}
-use Rattle.wasm_base.proofs.FormatLaws.{TellsTag, AreApart, mapped_unique, such_unique, coded_unique, fixed_unique, impossible_unique, tagged_unique, one_of_unique, byte_unique, begins_mapped, begins_coded, begins_weaker, begins_one_of, choice_of, choice_begins, choice_tells, choice_unique, choice_tags, AllValues, values_mapped, values_tagged, values_one_of, none_in_common, AllTell, AllAlone}
-use Rattle.wasm_base.proofs.NumberLaws.{u32_unique, single_high}
-use Rattle.wasm_base.proofs.TextLaws.{u32_spelled, s33_spelled, tagged_spelled}
-use Rattle.wasm_base.proofs.BaseLaws.{s33_unique, unique_wide}
+use Rattle.wasm_base.specs.Types.{abstract_code, abstract_type, unshared, shared, heap_tags, heap_type, FUNCREF, EXTERNREF, nullable_to, to, HasNoByte, ref_tags, ref_type, val_tags, val_ref, val_type, IsIndexByte, heap_encoding, nullable_encoding, ref_bytes, ref_encoding, val_encoding, IsHeap, IsRef, IsVal}
+use Rattle.wasm_base.proofs.FormatLaws.{DeterminesTag, AreApart, mapped_unambiguous, such_unambiguous, coded_unambiguous, fixed_unambiguous, impossible_unambiguous, tagged_unambiguous, one_of_unambiguous, byte_unambiguous, begins_mapped, begins_coded, begins_weaker, begins_one_of, choice_of, choice_begins, choice_determines, choice_unambiguous, choice_tags, AllValues, values_mapped, values_tagged, values_one_of, none_in_common, AllDetermine, AllUnambiguous}
+use Rattle.wasm_base.proofs.NumberLaws.{u32_unambiguous, single_high}
+use Rattle.wasm_base.proofs.EncodingLaws.{u32_encodes, s33_encodes, tagged_encodes}
+use Rattle.wasm_base.proofs.BaseLaws.{s33_unambiguous, unambiguous_padded}
 
 abstract_decode : ℕ → AbstractHeapType
 abstract_decode b = cond (eqb b 0x70) kinds.Func (cond (eqb b 0x6F) kinds.Extern (cond (eqb b 0x6E) kinds.Any (cond (eqb b 0x6D) kinds.Eq (cond (eqb b 0x6C) kinds.I31 (cond (eqb b 0x6B) kinds.Struct (cond (eqb b 0x6A) kinds.Array (cond (eqb b 0x69) kinds.Exn (cond (eqb b 0x74) kinds.NoExn (cond (eqb b 0x73) kinds.NoFunc (cond (eqb b 0x72) kinds.NoExtern (cond (eqb b 0x71) kinds.None (cond (eqb b 0x68) kinds.Cont kinds.NoCont))))))))))))
@@ -38,8 +38,8 @@ abstract_back kinds.None = refl
 abstract_back kinds.Cont = refl
 abstract_back kinds.NoCont = refl
 
-pub abstract_unique : UniqueReading abstract_type
-abstract_unique = coded_unique abstract_code abstract_decode abstract_back
+pub abstract_unambiguous : Unambiguous abstract_type
+abstract_unambiguous = coded_unambiguous abstract_code abstract_decode abstract_back
 
 -- ---- no index begins with the byte of a type
 
@@ -87,10 +87,10 @@ heap_tag (Abstract b ty) = 0x65
 heap_tag (Concrete n) = 0
 heap_tag (Exact n) = 0x62
 
-tagged_heap_unique : UniqueReading (tagged byte (choice heap_tags (λ b. impossible)))
-tagged_heap_unique =
-    choice_of byte heap_tag heap_tags byte_unique
-    (mapped_unique shared (λ x y e. cc) abstract_unique, (mapped_unique Exact (λ x y e. cc) u32_unique, tt))
+tagged_heap_unambiguous : Unambiguous (tagged byte (choice heap_tags (λ b. impossible)))
+tagged_heap_unambiguous =
+    choice_of byte heap_tag heap_tags byte_unambiguous
+    (mapped_unambiguous shared (λ x y e. cc) abstract_unambiguous, (mapped_unambiguous Exact (λ x y e. cc) u32_unambiguous, tt))
     (λ mode s x h. ap heap_tag h.1, (λ mode s x h. ap heap_tag h.1, tt))
 
 mapped_heap_begins : (P : ℕ → Type 0) → ((b : ℕ) → 0x68 ≤ b → b < 0x76 → P b) → BeginsWith P (mapped unshared abstract_type)
@@ -102,8 +102,8 @@ IsHeapTag b = (0x62 ≤ b) × (b < 0x68)
 tagged_heap_begins : BeginsWith IsHeapTag (tagged byte (choice heap_tags (λ b. impossible)))
 tagged_heap_begins = choice_begins IsHeapTag heap_tags (λ b. impossible) ((omega arith, omega arith), ((omega arith, omega arith), tt)) (λ b mode s x h. absurd h)
 
-abbrev told : Format HeapType
-told = one_of (tagged byte (choice heap_tags (λ b. impossible))) (mapped Concrete s33)
+abbrev unshared_or_index : Format HeapType
+unshared_or_index = one_of (tagged byte (choice heap_tags (λ b. impossible))) (mapped Concrete s33)
 
 -- The number of the heap type's form, out of four.
 abbrev form : HeapType → ℕ
@@ -112,22 +112,22 @@ form (Abstract true ty) = 1
 form (Concrete n) = 2
 form (Exact n) = 3
 
-told_unique : UniqueReading told
-told_unique =
-    one_of_unique IsHeapTag IsIndexByte
+told_unambiguous : Unambiguous unshared_or_index
+told_unambiguous =
+    one_of_unambiguous IsHeapTag IsIndexByte
     (λ b p q. types_apart b (omega (arith, p.0, p.1)) q) tagged_heap_begins (begins_mapped IsIndexByte Concrete begins_s33)
     (none_in_common (λ x. form x ≢ 2) (λ x. form x ≡ 2) (λ x p q. p q)
     (values_tagged (λ x. form x ≢ 2) heap_tags (values_mapped (λ x. form x ≢ 2) shared _ (λ x. omega arith), (values_mapped (λ x. form x ≢ 2) Exact _ (λ x. omega arith), tt)))
     (values_mapped (λ x. form x ≡ 2) Concrete _ (λ x. refl)))
-    tagged_heap_unique (mapped_unique Concrete (λ x y e. cc) s33_unique)
+    tagged_heap_unambiguous (mapped_unambiguous Concrete (λ x y e. cc) s33_unambiguous)
 
-told_begins : BeginsWith (λ b. IsHeapTag b ⊎ IsIndexByte b) told
+told_begins : BeginsWith (λ b. IsHeapTag b ⊎ IsIndexByte b) unshared_or_index
 told_begins =
     begins_one_of (λ b. IsHeapTag b ⊎ IsIndexByte b)
     (begins_weaker IsHeapTag (λ b. IsHeapTag b ⊎ IsIndexByte b) (λ b p. inl p) tagged_heap_begins)
     (begins_weaker IsIndexByte (λ b. IsHeapTag b ⊎ IsIndexByte b) (λ b p. inr p) (begins_mapped IsIndexByte Concrete begins_s33))
 
-told_values : AllValues (λ x. 0 < form x) told
+told_values : AllValues (λ x. 0 < form x) unshared_or_index
 told_values =
     values_one_of (λ x. 0 < form x)
     (values_tagged (λ x. 0 < form x) heap_tags (values_mapped (λ x. 0 < form x) shared _ (λ x. omega arith), (values_mapped (λ x. 0 < form x) Exact _ (λ x. omega arith), tt)))
@@ -136,13 +136,13 @@ told_values =
 abbrev IsAbstractByte : ℕ → Type 0
 IsAbstractByte b = (0x68 ≤ b) × (b < 0x76)
 
-pub heap_unique : UniqueReading heap_type
-heap_unique =
-    one_of_unique IsAbstractByte (λ b. IsHeapTag b ⊎ IsIndexByte b)
+pub heap_unambiguous : Unambiguous heap_type
+heap_unambiguous =
+    one_of_unambiguous IsAbstractByte (λ b. IsHeapTag b ⊎ IsIndexByte b)
     (λ b p q. elim q [ inl h ↦ omega (arith, p.0, h.1) | inr i ↦ types_apart b (omega (arith, p.0, p.1)) i ])
     (mapped_heap_begins IsAbstractByte (λ b p q. (p, q))) told_begins
     (none_in_common (λ x. form x ≡ 0) (λ x. 0 < form x) (λ x p q. omega (arith, p, q)) (values_mapped (λ x. form x ≡ 0) unshared _ (λ x. refl)) told_values)
-    (mapped_unique unshared (λ x y e. cc) abstract_unique) told_unique
+    (mapped_unambiguous unshared (λ x y e. cc) abstract_unambiguous) told_unambiguous
 
 -- ---- reference types
 
@@ -167,8 +167,8 @@ ref_tag r = cond r.nullable (nullable_tag (mark r.heap_type)) 0x64
 other_tag : (m : ℕ) → m ≢ 0x70 → m ≢ 0x6F → 0x63 ≡ nullable_tag m
 other_tag m p q = rw (ne_eqb m 0x70 p, ne_eqb m 0x6F q) refl
 
-pub ref_tells : AllTell ref_tag ref_tags
-ref_tells = (
+pub ref_determines : AllDetermine ref_tag ref_tags
+ref_determines = (
   λ mode s x h. ap ref_tag (sym h.1),
   (
     λ mode s x h. ap ref_tag (sym h.1),
@@ -179,20 +179,20 @@ ref_tells = (
   ),
 )
 
-pub ref_all : AllAlone ref_tags
+pub ref_all : AllUnambiguous ref_tags
 ref_all = (
-  fixed_unique [] FUNCREF,
+  fixed_unambiguous [] FUNCREF,
   (
-    fixed_unique [] EXTERNREF,
+    fixed_unambiguous [] EXTERNREF,
     (
-      mapped_unique nullable_to (λ x y e. ap (λ r. r.heap_type) e) (such_unique HasNoByte heap_unique),
-      (mapped_unique to (λ x y e. ap (λ r. r.heap_type) e) heap_unique, tt),
+      mapped_unambiguous nullable_to (λ x y e. ap (λ r. r.heap_type) e) (such_unambiguous HasNoByte heap_unambiguous),
+      (mapped_unambiguous to (λ x y e. ap (λ r. r.heap_type) e) heap_unambiguous, tt),
     ),
   ),
 )
 
-pub ref_unique : UniqueReading ref_type
-ref_unique = choice_of byte ref_tag ref_tags byte_unique ref_all ref_tells
+pub ref_unambiguous : Unambiguous ref_type
+ref_unambiguous = choice_of byte ref_tag ref_tags byte_unambiguous ref_all ref_determines
 
 -- ---- value types
 
@@ -204,19 +204,19 @@ val_tag F64 = 0x7C
 val_tag V128 = 0x7B
 val_tag (Ref r) = ref_tag r
 
-pub val_tells : TellsTag (choice val_tags val_ref) val_tag
-val_tells =
-    choice_tells val_tag val_tags val_ref
+pub val_determines : DeterminesTag (choice val_tags val_ref) val_tag
+val_determines =
+    choice_determines val_tag val_tags val_ref
     (λ mode s x h. ap val_tag (sym h.1), (λ mode s x h. ap val_tag (sym h.1), (λ mode s x h. ap val_tag (sym h.1), (λ mode s x h. ap val_tag (sym h.1), (λ mode s x h. ap val_tag (sym h.1), tt)))))
-    (λ b mode s x h. choice_tells ref_tag ref_tags (λ b. impossible) ref_tells (λ b mode s x h. absurd h) mode b s h.0 h.2 ∙ ap val_tag h.1)
+    (λ b mode s x h. choice_determines ref_tag ref_tags (λ b. impossible) ref_determines (λ b mode s x h. absurd h) mode b s h.0 h.2 ∙ ap val_tag h.1)
 
-pub val_choice_unique : (b : ℕ) → UniqueReading (choice val_tags val_ref b)
-val_choice_unique = choice_unique val_tags val_ref
-    (fixed_unique [] I32, (fixed_unique [] I64, (fixed_unique [] F32, (fixed_unique [] F64, (fixed_unique [] V128, tt)))))
-    (λ b. mapped_unique Ref (λ x y e. cc) (choice_unique ref_tags (λ b. impossible) ref_all (λ b. impossible_unique) b))
+pub val_choice_unambiguous : (b : ℕ) → Unambiguous (choice val_tags val_ref b)
+val_choice_unambiguous = choice_unambiguous val_tags val_ref
+    (fixed_unambiguous [] I32, (fixed_unambiguous [] I64, (fixed_unambiguous [] F32, (fixed_unambiguous [] F64, (fixed_unambiguous [] V128, tt)))))
+    (λ b. mapped_unambiguous Ref (λ x y e. cc) (choice_unambiguous ref_tags (λ b. impossible) ref_all (λ b. impossible_unambiguous) b))
 
-pub val_unique : UniqueReading val_type
-val_unique = tagged_unique val_tag val_tells byte_unique val_choice_unique
+pub val_unambiguous : Unambiguous val_type
+val_unambiguous = tagged_unambiguous val_tag val_determines byte_unambiguous val_choice_unambiguous
 
 -- The first bytes of value types.
 abbrev pub IsValByte : ℕ → Type 0
@@ -233,60 +233,60 @@ val_begins b mode s x h = let p = val_bytes b mode s x h in (omega (arith, p.0),
 
 -- ---- encodings
 
-heap_spelled : (h : HeapType) → IsHeap h → heap_type shortest (heap_text h) h
-heap_spelled (Abstract false ty) p = inl (ty, refl, refl)
-heap_spelled (Abstract true ty) p = inr (inl (tagged_spelled shortest 0x65 (abstract_code ty ∷ []) (shared ty) (ty, refl, refl)))
-heap_spelled (Concrete n) p = inr (inr (n, refl, s33_spelled n p))
-heap_spelled (Exact n) p = inr (inl (tagged_spelled shortest 0x62 (unsigned_text n) (Exact n) (n, refl, u32_spelled n p)))
+heap_encodes : (h : HeapType) → IsHeap h → heap_type minimal (heap_encoding h) h
+heap_encodes (Abstract false ty) p = inl (ty, refl, refl)
+heap_encodes (Abstract true ty) p = inr (inl (tagged_encodes minimal 0x65 (abstract_code ty ∷ []) (shared ty) (ty, refl, refl)))
+heap_encodes (Concrete n) p = inr (inr (n, refl, s33_encodes n p))
+heap_encodes (Exact n) p = inr (inl (tagged_encodes minimal 0x62 (unsigned_encoding n) (Exact n) (n, refl, u32_encodes n p)))
 
 -- The bytes encode a reference type, also as a value type.
-abbrev IsRefText : List ℕ → RefType → Type 0
-IsRefText s r = ref_type shortest s r × val_type shortest s (Ref r)
+abbrev IsRefEncoding : List ℕ → RefType → Type 0
+IsRefEncoding s r = ref_type minimal s r × val_type minimal s (Ref r)
 
-marked_spelled : (h : HeapType) → IsHeap h → mark h ≢ 0x70 → mark h ≢ 0x6F → IsRefText (0x63 ∷ heap_text h) (nullable_to h)
-marked_spelled h p f g =
-    let after : choice ref_tags (λ b. impossible) 0x63 shortest (heap_text h) (nullable_to h) = (h, refl, (heap_spelled h p, (λ e. f (ap mark e), λ e. g (ap mark e)))) in
-    (tagged_spelled shortest 0x63 (heap_text h) (nullable_to h) after, tagged_spelled shortest 0x63 (heap_text h) (Ref (nullable_to h)) (nullable_to h, refl, after))
+marked_encodes : (h : HeapType) → IsHeap h → mark h ≢ 0x70 → mark h ≢ 0x6F → IsRefEncoding (0x63 ∷ heap_encoding h) (nullable_to h)
+marked_encodes h p f g =
+    let after : choice ref_tags (λ b. impossible) 0x63 minimal (heap_encoding h) (nullable_to h) = (h, refl, (heap_encodes h p, (λ e. f (ap mark e), λ e. g (ap mark e)))) in
+    (tagged_encodes minimal 0x63 (heap_encoding h) (nullable_to h) after, tagged_encodes minimal 0x63 (heap_encoding h) (Ref (nullable_to h)) (nullable_to h, refl, after))
 
-nullable_spelled : (h : HeapType) → IsHeap h → IsRefText (nullable_text h) (nullable_to h)
-nullable_spelled (Abstract false kinds.Func) p = (tagged_spelled shortest 0x70 [] FUNCREF (refl, refl), tagged_spelled shortest 0x70 [] (Ref FUNCREF) (FUNCREF, refl, (refl, refl)))
-nullable_spelled (Abstract false kinds.Extern) p = (tagged_spelled shortest 0x6F [] EXTERNREF (refl, refl), tagged_spelled shortest 0x6F [] (Ref EXTERNREF) (EXTERNREF, refl, (refl, refl)))
-nullable_spelled heap p = marked_spelled heap p (omega arith) (omega arith)
+nullable_encodes : (h : HeapType) → IsHeap h → IsRefEncoding (nullable_encoding h) (nullable_to h)
+nullable_encodes (Abstract false kinds.Func) p = (tagged_encodes minimal 0x70 [] FUNCREF (refl, refl), tagged_encodes minimal 0x70 [] (Ref FUNCREF) (FUNCREF, refl, (refl, refl)))
+nullable_encodes (Abstract false kinds.Extern) p = (tagged_encodes minimal 0x6F [] EXTERNREF (refl, refl), tagged_encodes minimal 0x6F [] (Ref EXTERNREF) (EXTERNREF, refl, (refl, refl)))
+nullable_encodes heap p = marked_encodes heap p (omega arith) (omega arith)
 
-bytes_spelled : (nullable : Bool) (h : HeapType) → IsHeap h → IsRefText (ref_bytes nullable h) (record { nullable = nullable; heap_type = h })
-bytes_spelled true h p = nullable_spelled h p
-bytes_spelled false h p =
-    let after : choice ref_tags (λ b. impossible) 0x64 shortest (heap_text h) (to h) = (h, refl, heap_spelled h p) in
-    (tagged_spelled shortest 0x64 (heap_text h) (to h) after, tagged_spelled shortest 0x64 (heap_text h) (Ref (to h)) (to h, refl, after))
+bytes_encodes : (nullable : Bool) (h : HeapType) → IsHeap h → IsRefEncoding (ref_bytes nullable h) (record { nullable = nullable; heap_type = h })
+bytes_encodes true h p = nullable_encodes h p
+bytes_encodes false h p =
+    let after : choice ref_tags (λ b. impossible) 0x64 minimal (heap_encoding h) (to h) = (h, refl, heap_encodes h p) in
+    (tagged_encodes minimal 0x64 (heap_encoding h) (to h) after, tagged_encodes minimal 0x64 (heap_encoding h) (Ref (to h)) (to h, refl, after))
 
-val_spelled : (t : ValType) → IsVal t → val_type shortest (val_text t) t
-val_spelled I32 p = tagged_spelled shortest 0x7F [] I32 (refl, refl)
-val_spelled I64 p = tagged_spelled shortest 0x7E [] I64 (refl, refl)
-val_spelled F32 p = tagged_spelled shortest 0x7D [] F32 (refl, refl)
-val_spelled F64 p = tagged_spelled shortest 0x7C [] F64 (refl, refl)
-val_spelled V128 p = tagged_spelled shortest 0x7B [] V128 (refl, refl)
-val_spelled (Ref r) p = (bytes_spelled r.nullable r.heap_type p).1
+val_encodes : (t : ValType) → IsVal t → val_type minimal (val_encoding t) t
+val_encodes I32 p = tagged_encodes minimal 0x7F [] I32 (refl, refl)
+val_encodes I64 p = tagged_encodes minimal 0x7E [] I64 (refl, refl)
+val_encodes F32 p = tagged_encodes minimal 0x7D [] F32 (refl, refl)
+val_encodes F64 p = tagged_encodes minimal 0x7C [] F64 (refl, refl)
+val_encodes V128 p = tagged_encodes minimal 0x7B [] V128 (refl, refl)
+val_encodes (Ref r) p = (bytes_encodes r.nullable r.heap_type p).1
 
-pub heap-texts : HasTexts heap_type IsHeap heap_text
-heap-texts = record { spelled = heap_spelled }
+pub heap-encodings : HasMinimalEncodings heap_type IsHeap heap_encoding
+heap-encodings = record { encodes = heap_encodes }
 
-pub ref-texts : HasTexts ref_type IsRef ref_text
-ref-texts = record { spelled = λ r p. (bytes_spelled r.nullable r.heap_type p).0 }
+pub ref-encodings : HasMinimalEncodings ref_type IsRef ref_encoding
+ref-encodings = record { encodes = λ r p. (bytes_encodes r.nullable r.heap_type p).0 }
 
-pub val-texts : HasTexts val_type IsVal val_text
-val-texts = record { spelled = val_spelled }
+pub val-encodings : HasMinimalEncodings val_type IsVal val_encoding
+val-encodings = record { encodes = val_encodes }
 
-pub ruleset types = (heap_unique, ref_unique, val_unique, heap-texts, ref-texts, val-texts, begins_s33)
+pub ruleset types = (heap_unambiguous, ref_unambiguous, val_unambiguous, heap-encodings, ref-encodings, val-encodings, begins_s33)
 
 -- ---- padded LEB128
 
-pub wide-heap : IsUniqueWide heap_type
-wide-heap = unique_wide heap_unique
+pub padded-heap : UnambiguousPadded heap_type
+padded-heap = unambiguous_padded heap_unambiguous
 
-pub wide-ref : IsUniqueWide ref_type
-wide-ref = unique_wide ref_unique
+pub padded-ref : UnambiguousPadded ref_type
+padded-ref = unambiguous_padded ref_unambiguous
 
-pub wide-val : IsUniqueWide val_type
-wide-val = unique_wide val_unique
+pub padded-val : UnambiguousPadded val_type
+padded-val = unambiguous_padded val_unambiguous
 
-pub ruleset wide_types = (wide-heap, wide-ref, wide-val)
+pub ruleset padded_types = (padded-heap, padded-ref, padded-val)

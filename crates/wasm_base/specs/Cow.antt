@@ -3,7 +3,7 @@ use Rattle.std.specs.Prelude.{ℕ, List, string_bytes}
 use Rattle.wasm_base.specs.declared.cow.CowSlice.{CowSlice}
 use Rattle.wasm_base.specs.declared.cow.CowSlice.TheVariants as slices
 use Rattle.wasm_base.specs.declared.cow.CowStr.{CowStr}
-use Rattle.wasm_base.specs.declared.cow.CowStr.TheVariants as texts
+use Rattle.wasm_base.specs.declared.cow.CowStr.TheVariants as encodings
 
 -- The items of a slice, borrowed or owned.
 abbrev pub items_of : {T A : Type 0} → CowSlice T A → List T
@@ -11,6 +11,6 @@ items_of (slices.Borrowed items) = items.now
 items_of (slices.Owned items) = items.items
 
 -- The bytes of a string, borrowed or owned.
-abbrev pub text_of : {A : Type 0} → CowStr A → List ℕ
-text_of (texts.Borrowed text) = text.now
-text_of (texts.Owned text) = string_bytes text
+abbrev pub encoding_of : {A : Type 0} → CowStr A → List ℕ
+encoding_of (encodings.Borrowed encoding) = encoding.now
+encoding_of (encodings.Owned encoding) = string_bytes encoding

@@ -2,15 +2,15 @@
 -- that build formats.
 use Rattle.std.specs.Prelude.{◌≡◌, ◌⊎◌, ℕ, ◌+◌, ◌*◌, ◌<◌, List, [], ◌∷◌, ◌++◌, length, IsUtf8, ℤ, pos, Option, Some, None, Bool, true, false, cond, ◌==◌}
 use Rattle.std.specs.List.{AllByRecursion}
-use Rattle.wasm_base.specs.Numbers.{Mode, shortest, wide, tight, standard, Unsigned, Signed}
+use Rattle.wasm_base.specs.Numbers.{Mode, minimal, padded, standard_minimal, standard, Unsigned, Signed}
 
 -- A relation of bytes to the values that they encode.
-abbrev pub Spelling : Type 0 → Type 1
-Spelling X = List ℕ → X → Type 0
+abbrev pub Encoding : Type 0 → Type 1
+Encoding X = List ℕ → X → Type 0
 
 -- A format: the encodings of values, for each mode.
 abbrev pub Format : Type 0 → Type 1
-Format X = Mode → Spelling X
+Format X = Mode → Encoding X
 
 -- ---- numbers and bytes
 
@@ -118,16 +118,16 @@ abbrev pub vec : {X : Type 0} → Format X → Format (List X)
 vec F mode s xs = Then u32 (λ n. members F) mode s (length xs, xs)
 
 -- A size prefix, then a payload of exactly that many bytes, which together encode one value.
-pub record Framed {X : Type 0} (F : Format X) (mode : Mode) (s : List ℕ) (x : X) : Type 0 where
+pub record SizePrefixed {X : Type 0} (F : Format X) (mode : Mode) (s : List ℕ) (x : X) : Type 0 where
   pub front : List ℕ
   pub content : List ℕ
   pub joined : s ≡ front ++ content
   pub size : u32 mode front (length content)
-  pub spelled : F mode content x
+  pub encodes : F mode content x
 
 -- Size-prefixed values of `F`, as a format.
-abbrev pub frame : {X : Type 0} → Format X → Format X
-frame F = Framed F
+abbrev pub size_prefixed : {X : Type 0} → Format X → Format X
+size_prefixed F = SizePrefixed F
 
 -- Values of `F` one after another, then the byte `stop`.
 abbrev pub ended : {X : Type 0} → ℕ → Format X → Format (List X)
@@ -168,12 +168,12 @@ after x F G = tagged (just x F) (λ u. G)
 -- A name: a length, then that many bytes of UTF-8. Core specification, Binary Format, Values,
 -- Names.
 abbrev pub name : Format (List ℕ)
-name = such IsUtf8 (frame any_bytes)
+name = such IsUtf8 (size_prefixed any_bytes)
 
 -- A custom section without its id: a size prefix, then a name and data up to the last byte. Core
 -- specification, Binary Format, Modules, Custom Section.
 abbrev pub custom : Format (List ℕ × List ℕ)
-custom = frame (pair name any_bytes)
+custom = size_prefixed (pair name any_bytes)
 
 -- The magic and the version of a module. Core specification, Binary Format, Modules.
 abbrev pub header : List ℕ
@@ -182,7 +182,7 @@ header = 0x00 ∷ 0x61 ∷ 0x73 ∷ 0x6D ∷ 0x01 ∷ 0x00 ∷ 0x00 ∷ 0x00 ∷
 -- A section with an opaque payload: an id byte, then size-prefixed bytes. Core specification,
 -- Binary Format, Modules, Sections.
 abbrev pub any_section : Format (ℕ × List ℕ)
-any_section = pair byte (frame any_bytes)
+any_section = pair byte (size_prefixed any_bytes)
 
 -- A module of opaque sections: the header, then sections up to the last byte.
 abbrev pub wasm_module : Format (List (ℕ × List ℕ))
@@ -191,7 +191,7 @@ wasm_module = prefixed header (members any_section)
 -- `F` in the two modes of the builders' grammar; in the standard's grammar, `G` for minimal
 -- encodings and `H` for padded ones.
 abbrev pub by_mode : {X : Type 0} → Format X → Format X → Format X → Format X
-by_mode F G H shortest = F shortest
-by_mode F G H wide = F wide
-by_mode F G H tight = G tight
+by_mode F G H minimal = F minimal
+by_mode F G H padded = F padded
+by_mode F G H standard_minimal = G standard_minimal
 by_mode F G H standard = H standard

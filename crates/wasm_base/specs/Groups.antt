@@ -1,9 +1,9 @@
 -- This file defines the groups of seven bits at the front of bytes that unsigned and signed LEB128
 -- have in common.
 use Rattle.std.specs.Prelude.{◌≡◌, ℕ, ◌≤◌, ◌^◌, List, length, ℤ, pos, ◌-ℤ◌, nat_lt, if◌then◌else◌}
-use Rattle.wasm_base.specs.Numbers.{wide, AreGroups, groups_sum, last_byte}
+use Rattle.wasm_base.specs.Numbers.{padded, AreGroups, groups_sum, last_byte}
 use Rattle.wasm_base.specs.Formats.{Format}
-use Rattle.wasm_base.specs.Reading.{Reads}
+use Rattle.wasm_base.specs.Decoding.{Decodes}
 
 -- Groups of seven bits, at most `limit` of them.
 abbrev pub groups : ℕ → Format (List ℕ)
@@ -13,7 +13,7 @@ groups limit mode s x = (s ≡ x) × AreGroups s × (length s ≤ limit)
 -- number, and the last group.
 pub record HasGroups (limit : ℕ) (bytes : List ℕ) (sum power last : ℕ) (rest : List ℕ) : Type 0 where
   pub front : List ℕ
-  pub read : Reads (groups limit) wide bytes front rest
+  pub read : Decodes (groups limit) padded bytes front rest
   pub total : groups_sum front ≡ sum
   pub count : 128 ^ length front ≡ power
   pub end : last_byte front ≡ last

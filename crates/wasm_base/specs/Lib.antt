@@ -1,7 +1,7 @@
 pub mod Numbers
 pub mod Formats
-pub mod Reading
-pub mod Texts
+pub mod Decoding
+pub mod Encodings
 pub mod Iterators
 pub mod Pieces
 pub mod Calls
@@ -13,4 +13,4 @@ pub mod Types
 pub mod Cow
 pub mod Laws
 pub mod Groups
-pub mod Going
+pub mod Continuing

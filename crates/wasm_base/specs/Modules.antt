@@ -1,56 +1,56 @@
 -- This file defines the sections that a module decodes to.
 use Rattle.std.specs.Prelude.{◌≡◌, ℕ, List, [], ◌∷◌, ◌++◌, ⊤}
-use Rattle.wasm_base.specs.Formats.{Format, any_bytes, frame, wasm_module}
-use Rattle.wasm_base.specs.Reading.{ReadsAlone, ReadsAloneWide, ReadsWhole, ReadsWholeWide}
-use Rattle.wasm_base.specs.Texts.{IsFrameOf}
+use Rattle.wasm_base.specs.Formats.{Format, any_bytes, size_prefixed, wasm_module}
+use Rattle.wasm_base.specs.Decoding.{DecodesUniquely, DecodesUniquelyPadded, DecodesWhole, DecodesWholePadded}
+use Rattle.wasm_base.specs.Encodings.{IsSizePrefixed}
 
 -- A section as it decodes: its id, and a property of its payload.
-abbrev pub SectionReading : Type 1
-SectionReading = ℕ × (List ℕ → Type 0)
+abbrev pub SectionDecoding : Type 1
+SectionDecoding = ℕ × (List ℕ → Type 0)
 
 -- The section of this id whose payload decodes to `x` alone, and is its one minimal encoding.
-abbrev pub reading_of : {X : Type 0} → ℕ → Format X → X → SectionReading
-reading_of id F x = (id, λ payload. ReadsWhole F payload x)
+abbrev pub decoding_of : {X : Type 0} → ℕ → Format X → X → SectionDecoding
+decoding_of id F x = (id, λ payload. DecodesWhole F payload x)
 
 -- The section of this id whose payload is a possibly padded encoding of `x`, and decodes to `x`
 -- alone.
-abbrev pub wide_reading_of : {X : Type 0} → ℕ → Format X → X → SectionReading
-wide_reading_of id F x = (id, λ payload. ReadsWholeWide F payload x)
+abbrev pub padded_decoding_of : {X : Type 0} → ℕ → Format X → X → SectionDecoding
+padded_decoding_of id F x = (id, λ payload. DecodesWholePadded F payload x)
 
 -- The section of this id whose payload is these bytes.
-abbrev pub raw_reading : ℕ → List ℕ → SectionReading
-raw_reading id bytes = reading_of id any_bytes bytes
+abbrev pub raw_decoding : ℕ → List ℕ → SectionDecoding
+raw_decoding id bytes = decoding_of id any_bytes bytes
 
 -- The sections have these ids and properties, one by one and in order.
-abbrev pub AreRead : List SectionReading → List (ℕ × List ℕ) → Type 0
-AreRead [] [] = ⊤
-AreRead [] (s ∷ sections) = ⊥
-AreRead (r ∷ readings) [] = ⊥
-AreRead (r ∷ readings) (s ∷ sections) = (s.0 ≡ r.0) × r.1 s.1 × AreRead readings sections
+abbrev pub AreDecoded : List SectionDecoding → List (ℕ × List ℕ) → Type 0
+AreDecoded [] [] = ⊤
+AreDecoded [] (s ∷ sections) = ⊥
+AreDecoded (r ∷ decodings) [] = ⊥
+AreDecoded (r ∷ decodings) (s ∷ sections) = (s.0 ≡ r.0) × r.1 s.1 × AreDecoded decodings sections
 
 -- The bytes decode to a module of exactly these sections: each has the id, and its payload the
 -- property.
-pub record ReadsSections (readings : List SectionReading) (bytes : List ℕ) : Type 0 where
+pub record DecodesSections (decodings : List SectionDecoding) (bytes : List ℕ) : Type 0 where
   pub sections : List (ℕ × List ℕ)
-  pub read : ReadsWhole wasm_module bytes sections
-  pub payloads : AreRead readings sections
+  pub read : DecodesWhole wasm_module bytes sections
+  pub payloads : AreDecoded decodings sections
 
 -- The bytes gain an encoding that decodes to `x` alone.
-pub record GainsReading {X : Type 0} (F : Format X) (x : X) (old new : List ℕ) : Type 0 where
-  pub text : List ℕ
-  pub added : new ≡ old ++ text
-  pub alone : ReadsAlone F text x
+pub record GainsDecoding {X : Type 0} (F : Format X) (x : X) (old new : List ℕ) : Type 0 where
+  pub encoding : List ℕ
+  pub added : new ≡ old ++ encoding
+  pub unique : DecodesUniquely F encoding x
 
 -- The bytes gain a possibly padded encoding that decodes to `x` alone.
-pub record GainsReadingWide {X : Type 0} (F : Format X) (x : X) (old new : List ℕ) : Type 0 where
-  pub text : List ℕ
-  pub added : new ≡ old ++ text
-  pub alone : ReadsAloneWide F text x
+pub record GainsDecodingPadded {X : Type 0} (F : Format X) (x : X) (old new : List ℕ) : Type 0 where
+  pub encoding : List ℕ
+  pub added : new ≡ old ++ encoding
+  pub unique : DecodesUniquelyPadded F encoding x
 
 -- If size-prefixed bytes decode to `x` alone, their payload decodes to `x` alone.
-pub record ReadsPayloads {X : Type 0} (F : Format X) : Type 0 where
-  pub alone : (text payload : List ℕ) (x : X) → IsFrameOf text payload → ReadsAlone (frame F) text x → ReadsWhole F payload x
+pub record DecodesPayloads {X : Type 0} (F : Format X) : Type 0 where
+  pub unique : (encoding payload : List ℕ) (x : X) → IsSizePrefixed encoding payload → DecodesUniquely (size_prefixed F) encoding x → DecodesWhole F payload x
 
 -- The same for padded LEB128.
-pub record ReadsPayloadsWide {X : Type 0} (F : Format X) : Type 0 where
-  pub alone : (text payload : List ℕ) (x : X) → IsFrameOf text payload → ReadsAloneWide (frame F) text x → ReadsWholeWide F payload x
+pub record DecodesPayloadsPadded {X : Type 0} (F : Format X) : Type 0 where
+  pub unique : (encoding payload : List ℕ) (x : X) → IsSizePrefixed encoding payload → DecodesUniquelyPadded (size_prefixed F) encoding x → DecodesWholePadded F payload x

@@ -2,12 +2,12 @@
 -- least significant group first. Core specification, Binary Format, Values, Integers.
 use Rattle.std.specs.Prelude.{◌≡◌, ℕ, zero, suc, Bool, true, false, negsuc, ◌+◌, ◌-◌, ◌*◌, ◌/◌, ◌%◌, ◌^◌, ◌<◌, ◌≤◌, ◌⊎◌, List, [], ◌∷◌, length, ℤ, pos, neg_ℤ, ◌-ℤ◌, ◌≤ℤ◌, ◌<ℤ◌, nat_lt, if◌then◌else◌}
 
--- The mode of an encoding. In the builders' grammar `shortest` is minimal LEB128 and `wide` may be
--- padded; in the standard's grammar `tight` and `standard` are these two.
+-- The mode of an encoding. In the builders' grammar `minimal` is minimal LEB128 and `padded` may be
+-- padded; in the standard's grammar `standard_minimal` and `standard` are these two.
 pub data Mode : Type 0 where
-  shortest : Mode
-  wide : Mode
-  tight : Mode
+  minimal : Mode
+  padded : Mode
+  standard_minimal : Mode
   standard : Mode
 
 -- The two grammars: the encodings that builders write, and all that the standard admits.
@@ -16,27 +16,27 @@ pub data Grammar : Type 0 where
   admitted : Grammar
 
 -- The mode of minimal LEB128 in each grammar.
-abbrev pub least : Grammar → Mode
-least builders = shortest
-least admitted = tight
+abbrev pub minimal_of : Grammar → Mode
+minimal_of builders = minimal
+minimal_of admitted = standard_minimal
 
 -- The mode of possibly padded LEB128 in each grammar.
-abbrev pub padded : Grammar → Mode
-padded builders = wide
-padded admitted = standard
+abbrev pub padded_of : Grammar → Mode
+padded_of builders = padded
+padded_of admitted = standard
 
 -- The pairs of modes for which a format promises that the second admits every encoding of the
 -- first.
 abbrev pub Below : Mode → Mode → Type 0
-Below shortest wide = Unit {0}
-Below tight standard = Unit {0}
-Below wide standard = Unit {0}
+Below minimal padded = Unit {0}
+Below standard_minimal standard = Unit {0}
+Below padded standard = Unit {0}
 Below _ _ = ⊥
 
 -- A mode of the builders' grammar.
 abbrev pub IsOfBuilders : Mode → Type 0
-IsOfBuilders shortest = Unit {0}
-IsOfBuilders wide = Unit {0}
+IsOfBuilders minimal = Unit {0}
+IsOfBuilders padded = Unit {0}
 IsOfBuilders _ = ⊥
 
 -- The bytes are LEB128 groups: bit 7 is set in every byte but the last.
@@ -63,9 +63,9 @@ byte_limit bits = (bits + 6) / 7
 -- The length of an unsigned encoding. Minimal: one byte, or a last byte that is not 00. Padded: at
 -- most `byte_limit` bytes.
 abbrev pub IsUnsignedSize : Mode → ℕ → List ℕ → Type 0
-IsUnsignedSize shortest bits s = (length s ≡ 1) ⊎ (0 < last_byte s)
-IsUnsignedSize wide bits s = length s ≤ byte_limit bits
-IsUnsignedSize tight bits s = (length s ≡ 1) ⊎ (0 < last_byte s)
+IsUnsignedSize minimal bits s = (length s ≡ 1) ⊎ (0 < last_byte s)
+IsUnsignedSize padded bits s = length s ≤ byte_limit bits
+IsUnsignedSize standard_minimal bits s = (length s ≡ 1) ⊎ (0 < last_byte s)
 IsUnsignedSize standard bits s = length s ≤ byte_limit bits
 
 -- Unsigned LEB128: the bytes `s` encode the number `v` of at most this many bits.
@@ -81,17 +81,17 @@ signed_sum s = if nat_lt (last_byte s) 0x40 then pos (groups_sum s) else (pos (g
 
 -- The last byte is needed: it is 00 only after a byte with bit 6 set, and 7F only after one with
 -- bit 6 clear.
-abbrev pub IsShortSigned : List ℕ → Type 0
-IsShortSigned (b ∷ c ∷ []) = (c ≡ 0x00 → 0x40 ≤ b % 128) × (c ≡ 0x7F → b % 128 < 0x40)
-IsShortSigned (b ∷ c ∷ d ∷ bs) = IsShortSigned (c ∷ d ∷ bs)
-IsShortSigned _ = Unit {0}
+abbrev pub IsMinimalSigned : List ℕ → Type 0
+IsMinimalSigned (b ∷ c ∷ []) = (c ≡ 0x00 → 0x40 ≤ b % 128) × (c ≡ 0x7F → b % 128 < 0x40)
+IsMinimalSigned (b ∷ c ∷ d ∷ bs) = IsMinimalSigned (c ∷ d ∷ bs)
+IsMinimalSigned _ = Unit {0}
 
 -- The length of a signed encoding. Minimal: the last byte is needed. Padded: at most `byte_limit`
 -- bytes.
 abbrev pub IsSignedSize : Mode → ℕ → List ℕ → Type 0
-IsSignedSize shortest bits s = IsShortSigned s
-IsSignedSize wide bits s = length s ≤ byte_limit bits
-IsSignedSize tight bits s = IsShortSigned s
+IsSignedSize minimal bits s = IsMinimalSigned s
+IsSignedSize padded bits s = length s ≤ byte_limit bits
+IsSignedSize standard_minimal bits s = IsMinimalSigned s
 IsSignedSize standard bits s = length s ≤ byte_limit bits
 
 -- Signed LEB128: the bytes `s` encode the number `v` of this many bits, in two's complement.
@@ -127,14 +127,14 @@ groups_of negative limit (suc more) n =
     ]
 
 -- The groups of `n`. The second `n` only bounds the number of groups.
-unfoldable pub groups_text : Bool → ℕ → ℕ → List ℕ
-groups_text negative limit n = groups_of negative limit n n
+unfoldable pub groups_encoding : Bool → ℕ → ℕ → List ℕ
+groups_encoding negative limit n = groups_of negative limit n n
 
 -- The encoding of an unsigned number.
-abbrev pub unsigned_text : ℕ → List ℕ
-unsigned_text n = groups_text false 0x80 n
+abbrev pub unsigned_encoding : ℕ → List ℕ
+unsigned_encoding n = groups_encoding false 0x80 n
 
 -- The encoding of a signed number, which has the sign in bit 6 of its last group.
-abbrev pub signed_text : ℤ → List ℕ
-signed_text (pos n) = groups_text false 0x40 n
-signed_text (negsuc n) = groups_text true 0x40 n
+abbrev pub signed_encoding : ℤ → List ℕ
+signed_encoding (pos n) = groups_encoding false 0x40 n
+signed_encoding (negsuc n) = groups_encoding true 0x40 n

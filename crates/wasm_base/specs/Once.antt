@@ -4,64 +4,64 @@ use Rattle.std.specs.Prelude.{◌≡◌, ◌≢◌, ℕ, ◌<◌, ◌≤◌, Lis
 use Rattle.std.specs.Iterator.{Count, Drains, Yields, IsFinite}
 use Rattle.std.specs.List.{All}
 use Rattle.std.specs.declared.vec.Vec.{Vec}
-use Rattle.wasm_base.specs.Texts.{longest, vec_text, VecFits, frame_text, FrameFits}
+use Rattle.wasm_base.specs.Encodings.{longest, vec_encoding, IsEncodableVec, size_prefixed_encoding, HasEncodableSize}
 use Rattle.wasm_base.specs.declared.refused.Refused.{Refused}
 use Rattle.wasm_base.specs.declared.refused.Refused.TheVariants.{TooLong}
 
 -- The call appends one of the encodings that the value may have, or returns an error and leaves the
 -- bytes as they were.
-pub record AppendsOnce {A : Type 0} (Gives : List ℕ → Type 0) (fits : Type 0) (old new : Vec ℕ A) (result : Result (Unit {0}) Refused) : Type 0 where
-  pub ok : OnOk result ((text : List ℕ) × Gives text × (new.items ≡ old.items ++ text))
+pub record AppendsOnce {A : Type 0} (Gives : List ℕ → Type 0) (encodable : Type 0) (old new : Vec ℕ A) (result : Result (Unit {0}) Refused) : Type 0 where
+  pub ok : OnOk result ((encoding : List ℕ) × Gives encoding × (new.items ≡ old.items ++ encoding))
   pub err : OnErr result (new.items ≡ old.items)
-  pub too_long : fits → result ≢ Err TooLong
+  pub too_long : encodable → result ≢ Err TooLong
   pub capacity : vec_capacity old ≤ vec_capacity new
 
 -- The builder gains one entry with one of these encodings, or the call returns an error and changes
 -- nothing. A full builder, with 2^32 - 1 entries, returns `TooLong`.
-pub record AddsOnce (Gives : List ℕ → Type 0) (fits : Type 0) (old new : List (List ℕ)) (result : Result (Unit {0}) Refused) : Type 0 where
-  pub ok : OnOk result ((text : List ℕ) × Gives text × (new ≡ old ++ text ∷ []))
+pub record AddsOnce (Gives : List ℕ → Type 0) (encodable : Type 0) (old new : List (List ℕ)) (result : Result (Unit {0}) Refused) : Type 0 where
+  pub ok : OnOk result ((encoding : List ℕ) × Gives encoding × (new ≡ old ++ encoding ∷ []))
   pub err : OnErr result (new ≡ old)
   pub counted : OnOk result (length old < longest)
-  pub too_long : fits → length old < longest → result ≢ Err TooLong
+  pub too_long : encodable → length old < longest → result ≢ Err TooLong
   pub full : length old ≡ longest → result ≡ Err TooLong
 
 -- The iterator may be called, ends, and yields exactly `count` items, which are at most 2^32 - 1.
-pub record TellsCount {S T : Type 0} (can_next : S → Type 0) (gives : S → Option T → S → Type 0) (remaining : S → Count) (it : S) (count : ℕ) : Type 0 where
+pub record ReportsCount {S T : Type 0} (can_next : S → Type 0) (gives : S → Option T → S → Type 0) (remaining : S → Count) (it : S) (count : ℕ) : Type 0 where
   pub can : can_next it
   pub finite : IsFinite (remaining it)
-  pub told : (xs : List T) → Drains gives it xs → length xs ≡ count
+  pub reported : (xs : List T) → Drains gives it xs → length xs ≡ count
   pub counted : count ≤ longest
 
 -- The bytes are the encoding of the vector of the items that the iterator yields.
-pub record GivesVec {S T : Type 0} (gives : S → Option T → S → Type 0) (Fits : T → Type 0) (text : T → List ℕ) (it : S) (s : List ℕ) : Type 0 where
+pub record GivesVec {S T : Type 0} (gives : S → Option T → S → Type 0) (Encodable : T → Type 0) (encoding : T → List ℕ) (it : S) (s : List ℕ) : Type 0 where
   pub items : List T
   pub drained : Drains gives it items
-  pub fits : VecFits Fits items
-  pub is : s ≡ vec_text text items
+  pub encodable : IsEncodableVec Encodable items
+  pub is : s ≡ vec_encoding encoding items
 
 -- The bytes are size-prefixed bytes, those that the iterator yields.
 pub record GivesBytes {S : Type 0} (gives : S → Option ℕ → S → Type 0) (it : S) (s : List ℕ) : Type 0 where
   pub bytes : List ℕ
   pub drained : Drains gives it bytes
-  pub fits : FrameFits bytes
-  pub is : s ≡ frame_text bytes
+  pub encodable : HasEncodableSize bytes
+  pub is : s ≡ size_prefixed_encoding bytes
 
 -- The bytes are `front` and then one of the possible encodings of a second value.
-pub record GivesPair (front : List ℕ) (fits : Type 0) (Gives : List ℕ → Type 0) (s : List ℕ) : Type 0 where
+pub record GivesPair (front : List ℕ) (encodable : Type 0) (Gives : List ℕ → Type 0) (s : List ℕ) : Type 0 where
   pub back : List ℕ
-  pub fitted : fits
+  pub was_encodable : encodable
   pub given : Gives back
   pub is : s ≡ front ++ back
 
 -- The bytes are `front` and then one of the possible encodings of each of two values.
-pub record GivesTriple (front : List ℕ) (fits : Type 0) (First Second : List ℕ → Type 0) (s : List ℕ) : Type 0 where
+pub record GivesTriple (front : List ℕ) (encodable : Type 0) (First Second : List ℕ → Type 0) (s : List ℕ) : Type 0 where
   pub middle : List ℕ
   pub back : List ℕ
-  pub fitted : fits
+  pub was_encodable : encodable
   pub first : First middle
   pub second : Second back
   pub is : s ≡ front ++ (middle ++ back)
 
 -- All items that the iterator ever yields fit.
-abbrev pub YieldsFitting : {S T : Type 0} → (S → Option T → S → Type 0) → (T → Type 0) → S → Type 0
-YieldsFitting {S} {T} gives Fits it = (left : S) (xs : List T) → Yields gives it xs left → All Fits xs
+abbrev pub YieldsEncodable : {S T : Type 0} → (S → Option T → S → Type 0) → (T → Type 0) → S → Type 0
+YieldsEncodable {S} {T} gives Encodable it = (left : S) (xs : List T) → Yields gives it xs left → All Encodable xs

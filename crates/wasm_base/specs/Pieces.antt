@@ -1,8 +1,8 @@
 -- This file defines the entries of a builder: pieces of bytes that are stored one after another.
 use Rattle.std.specs.Prelude.{◌≡◌, ℕ, ◌+◌, ◌-◌, ◌<◌, ◌≤◌, List, [], ◌∷◌, ◌++◌, length, take, drop}
-use Rattle.wasm_base.specs.Numbers.{unsigned_text}
+use Rattle.wasm_base.specs.Numbers.{unsigned_encoding}
 use Rattle.std.proofs.Common.{sym, ap, subst}
-use Rattle.wasm_base.specs.Texts.{longest, frame_text, FrameFits, IsFrameOf}
+use Rattle.wasm_base.specs.Encodings.{longest, size_prefixed_encoding, HasEncodableSize, IsSizePrefixed}
 
 -- The pieces, one after another.
 abbrev pub joined : List (List ℕ) → List ℕ
@@ -26,23 +26,23 @@ pub record IsCut (bytes ends : List ℕ) : Type 0 where
 
 -- The encoding of a counted section without its id: a size prefix, the count of entries and the
 -- entries.
-unfoldable pub section_text : List (List ℕ) → List ℕ
-section_text pieces = frame_text (unsigned_text (length pieces) ++ joined pieces)
+unfoldable pub section_encoding : List (List ℕ) → List ℕ
+section_encoding pieces = size_prefixed_encoding (unsigned_encoding (length pieces) ++ joined pieces)
 
 -- The count and the size of the section are at most 2^32 - 1.
-pub record SectionFits (pieces : List (List ℕ)) : Type 0 where
+pub record IsEncodableSection (pieces : List (List ℕ)) : Type 0 where
   pub count : length pieces ≤ longest
-  pub size : FrameFits (unsigned_text (length pieces) ++ joined pieces)
+  pub size : HasEncodableSize (unsigned_encoding (length pieces) ++ joined pieces)
 
 -- The size of the section is more than 2^32 - 1.
 abbrev pub IsOverlong : List (List ℕ) → Type 0
-IsOverlong pieces = longest < length (unsigned_text (length pieces) ++ joined pieces)
+IsOverlong pieces = longest < length (unsigned_encoding (length pieces) ++ joined pieces)
 
 -- The payload of a counted section: the count of its entries, and the entries.
 abbrev pub SectionPayload : List (List ℕ) → List ℕ → Type 0
-SectionPayload pieces bytes = bytes ≡ unsigned_text (length pieces) ++ joined pieces
+SectionPayload pieces bytes = bytes ≡ unsigned_encoding (length pieces) ++ joined pieces
 
 -- The encoding of a counted section that fits is its size-prefixed payload.
-pub section_framed : (pieces : List (List ℕ)) (bytes : List ℕ) → SectionFits pieces → SectionPayload pieces bytes → IsFrameOf (section_text pieces) bytes
-unfolding section_text
-section_framed pieces bytes fits e = record { is = ap frame_text (sym e); fits = subst FrameFits (sym e) fits.size }
+pub section_sized : (pieces : List (List ℕ)) (bytes : List ℕ) → IsEncodableSection pieces → SectionPayload pieces bytes → IsSizePrefixed (section_encoding pieces) bytes
+unfolding section_encoding
+section_sized pieces bytes encodable e = record { is = ap size_prefixed_encoding (sym e); encodable = subst HasEncodableSize (sym e) encodable.size }

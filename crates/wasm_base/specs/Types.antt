@@ -1,7 +1,7 @@
 -- This file defines the encodings and the formats of heap types, reference types and value types.
 -- Core specification, Binary Format, Types.
 use Rattle.std.specs.Prelude.{◌≢◌, ℕ, ◌^◌, ◌<◌, ◌≤◌, ◌⊎◌, List, [], ◌∷◌, Bool, true, false, pos}
-use Rattle.wasm_base.specs.Numbers.{unsigned_text, signed_text}
+use Rattle.wasm_base.specs.Numbers.{unsigned_encoding, signed_encoding}
 use Rattle.wasm_base.specs.Formats.{Format, u32, byte, s33, fixed, impossible, coded, mapped, such, choice, tagged, one_of, by_mode}
 use Rattle.wasm_base.specs.declared.types.AbstractHeapType.{AbstractHeapType}
 use Rattle.wasm_base.specs.declared.types.AbstractHeapType.TheVariants as kinds
@@ -33,36 +33,36 @@ abstract_code kinds.NoCont = 0x75
 
 -- The encoding of a heap type. A shared abstract type has the byte 65 before its own, and an exact
 -- type the byte 62 before its index. Neither is in the core specification.
-abbrev pub heap_text : HeapType → List ℕ
-heap_text (Abstract false ty) = abstract_code ty ∷ []
-heap_text (Abstract true ty) = 0x65 ∷ abstract_code ty ∷ []
-heap_text (Concrete index) = signed_text (pos index)
-heap_text (Exact index) = 0x62 ∷ unsigned_text index
+abbrev pub heap_encoding : HeapType → List ℕ
+heap_encoding (Abstract false ty) = abstract_code ty ∷ []
+heap_encoding (Abstract true ty) = 0x65 ∷ abstract_code ty ∷ []
+heap_encoding (Concrete index) = signed_encoding (pos index)
+heap_encoding (Exact index) = 0x62 ∷ unsigned_encoding index
 
 -- The encoding of a nullable reference type. Those to unshared functions and external values have a
 -- byte of their own.
-abbrev pub nullable_text : HeapType → List ℕ
-nullable_text (Abstract false kinds.Func) = 0x70 ∷ []
-nullable_text (Abstract false kinds.Extern) = 0x6F ∷ []
-nullable_text heap = 0x63 ∷ heap_text heap
+abbrev pub nullable_encoding : HeapType → List ℕ
+nullable_encoding (Abstract false kinds.Func) = 0x70 ∷ []
+nullable_encoding (Abstract false kinds.Extern) = 0x6F ∷ []
+nullable_encoding heap = 0x63 ∷ heap_encoding heap
 
 -- The encoding of a reference type, by whether it is nullable.
 abbrev pub ref_bytes : (nullable : Bool) → HeapType → List ℕ
-ref_bytes true heap = nullable_text heap
-ref_bytes false heap = 0x64 ∷ heap_text heap
+ref_bytes true heap = nullable_encoding heap
+ref_bytes false heap = 0x64 ∷ heap_encoding heap
 
 -- The encoding of a reference type.
-abbrev pub ref_text : RefType → List ℕ
-ref_text r = ref_bytes r.nullable r.heap_type
+abbrev pub ref_encoding : RefType → List ℕ
+ref_encoding r = ref_bytes r.nullable r.heap_type
 
 -- The encoding of a value type.
-abbrev pub val_text : ValType → List ℕ
-val_text I32 = 0x7F ∷ []
-val_text I64 = 0x7E ∷ []
-val_text F32 = 0x7D ∷ []
-val_text F64 = 0x7C ∷ []
-val_text V128 = 0x7B ∷ []
-val_text (Ref r) = ref_text r
+abbrev pub val_encoding : ValType → List ℕ
+val_encoding I32 = 0x7F ∷ []
+val_encoding I64 = 0x7E ∷ []
+val_encoding F32 = 0x7D ∷ []
+val_encoding F64 = 0x7C ∷ []
+val_encoding V128 = 0x7B ∷ []
+val_encoding (Ref r) = ref_encoding r
 
 -- ---- indices of 32 bits
 

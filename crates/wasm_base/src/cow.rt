@@ -1,7 +1,7 @@
 // Slices and strings that are borrowed or owned.
 ghost use Rattle.std.specs.Prelude.{◌≡◌, ◌≢◌, IfOk};
-ghost use Rattle.wasm_base.specs.Cow.{items_of, text_of};
-ghost use Rattle.wasm_base.specs.Texts.{vec_text, VecFits, frame_text, FrameFits};
+ghost use Rattle.wasm_base.specs.Cow.{items_of, encoding_of};
+ghost use Rattle.wasm_base.specs.Encodings.{vec_encoding, IsEncodableVec, size_prefixed_encoding, HasEncodableSize};
 
 use crate::encode::Encode;
 use crate::refused::{R, Refused};
@@ -44,9 +44,9 @@ impl<'a, T: Copy, A: Allocator + Copy> CowSlice<'a, T, A> {
 
 /// Encodes the items as a vector.
 impl<T: Encode, A: Allocator> Encode for CowSlice<'_, T, A> {
-    ghost text = { λ cow. vec_text T.text (items_of cow) };
+    ghost encoding = { λ cow. vec_encoding T.encoding (items_of cow) };
 
-    ghost fits = { λ cow. VecFits T.fits (items_of cow) };
+    ghost encodable = { λ cow. IsEncodableVec T.encodable (items_of cow) };
 
     fn encode<B: Allocator>(&self, sink: &mut Vec<u8, B>) -> R<()> {
         self.as_slice().encode(sink)
@@ -63,11 +63,11 @@ pub enum CowStr<'a, A: Allocator = Global> {
 impl<'a, A: Allocator> CowStr<'a, A> {
     /// Returns the string.
     pub fn as_str(&self) -> &str
-        ensures { result.now ≡ text_of self.now }
+        ensures { result.now ≡ encoding_of self.now }
     {
         match self {
-            CowStr::Borrowed(text) => text,
-            CowStr::Owned(text) => text.as_str(),
+            CowStr::Borrowed(encoding) => encoding,
+            CowStr::Owned(encoding) => encoding.as_str(),
         }
     }
 }
@@ -75,14 +75,14 @@ impl<'a, A: Allocator> CowStr<'a, A> {
 impl<'a, A: Allocator + Copy> CowStr<'a, A> {
     /// Returns the same string, and copies an owned one into memory of its own.
     pub fn clone(&self) -> R<Self>
-        ensures same { IfOk result (λ cow. text_of cow ≡ text_of self.now) }
+        ensures same { IfOk result (λ cow. encoding_of cow ≡ encoding_of self.now) }
         ensures memory { result ≢ Err Refused.TooLong }
     {
         match self {
-            CowStr::Borrowed(text) => Ok(CowStr::Borrowed(text)),
-            CowStr::Owned(text) => Ok(CowStr::Owned(String::from_str(
-                *text.allocator(),
-                text.as_str(),
+            CowStr::Borrowed(encoding) => Ok(CowStr::Borrowed(encoding)),
+            CowStr::Owned(encoding) => Ok(CowStr::Owned(String::from_str(
+                *encoding.allocator(),
+                encoding.as_str(),
             )?)),
         }
     }
@@ -90,9 +90,9 @@ impl<'a, A: Allocator + Copy> CowStr<'a, A> {
 
 /// Encodes the string as a name.
 impl<A: Allocator> Encode for CowStr<'_, A> {
-    ghost text = { λ cow. frame_text (text_of cow) };
+    ghost encoding = { λ cow. size_prefixed_encoding (encoding_of cow) };
 
-    ghost fits = { λ cow. FrameFits (text_of cow) };
+    ghost encodable = { λ cow. HasEncodableSize (encoding_of cow) };
 
     fn encode<B: Allocator>(&self, sink: &mut Vec<u8, B>) -> R<()> {
         self.as_str().encode(sink)

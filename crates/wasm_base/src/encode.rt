@@ -13,22 +13,22 @@ use std::alloc::Allocator;
 /// `encode` returns [`Refused`](crate::refused::Refused), and leaves the sink unchanged, if the
 /// value does not fit or an allocation fails.
 pub trait Encode {
-    /// `text`: the encoding of the value.
-    ghost text: { Self → List ℕ };
+    /// `encoding`: the encoding of the value.
+    ghost encoding: { Self → List ℕ };
 
-    /// `fits`: every count and length in that encoding is representable.
-    ghost fits: { Self → Type 0 };
+    /// `encodable`: every count and length in that encoding is representable.
+    ghost encodable: { Self → Type 0 };
 
-    /// `reading`: the promise about decoding the encoding. A section must promise its headline
+    /// `decoding`: the promise about decoding the encoding. A section must promise its headline
     /// here.
-    ghost reading: { Self → Type 0 } = { λ _. ⊤ };
+    ghost decoding: { Self → Type 0 } = { λ _. ⊤ };
 
     /// `overlong`: `encode` returns `TooLong` for such a value, however much memory there is.
     ghost overlong: { Self → Type 0 } = { λ _. ⊥ };
 
     /// Appends the encoding of the value. On an error, the bytes of the sink are unchanged.
     fn encode<A: Allocator>(&self, sink: &mut Vec<u8, A>) -> R<()>
-        ensures appends { Appends (text self.now) (fits self.now) sink.old sink.new result }
-        ensures read { OnOk result (reading self.now) }
+        ensures appends { Appends (encoding self.now) (encodable self.now) sink.old sink.new result }
+        ensures read { OnOk result (decoding self.now) }
         ensures too_many { overlong self.now → result ≡ Err TooLong };
 }

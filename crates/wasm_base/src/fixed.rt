@@ -7,9 +7,9 @@ use std::alloc::Allocator;
 
 /// Encodes the bytes as they are, without a count.
 impl<const N: usize> Encode for [u8; N] {
-    ghost text = { λ bytes. bytes };
+    ghost encoding = { λ bytes. bytes };
 
-    ghost fits = { λ _. ⊤ };
+    ghost encodable = { λ _. ⊤ };
 
     #[inline]
     fn encode<A: Allocator>(&self, sink: &mut Vec<u8, A>) -> R<()> {

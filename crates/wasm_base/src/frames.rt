@@ -1,8 +1,8 @@
 // Size-prefixed bytes: a size, and exactly that many bytes.
 ghost use Rattle.std.specs.Prelude.{◌≡◌, ◌≢◌, ◌+◌, ◌<◌, ◌≤◌, ◌++◌, length, vec_len, vec_capacity, OnOk, OnErr, IsOk};
 ghost use Rattle.wasm_base.specs.Calls.{Appends};
-ghost use Rattle.wasm_base.specs.Numbers.{unsigned_text};
-ghost use Rattle.wasm_base.specs.Texts.{longest, frame_text, FrameFits};
+ghost use Rattle.wasm_base.specs.Numbers.{unsigned_encoding};
+ghost use Rattle.wasm_base.specs.Encodings.{longest, size_prefixed_encoding, HasEncodableSize};
 
 use crate::encode::Encode;
 use crate::leb128::encoding_size;
@@ -10,17 +10,17 @@ use crate::refused::{R, Refused};
 use std::alloc::Allocator;
 
 /// Appends a size prefix, and reserves spare capacity for the payload that the caller appends next.
-pub fn begin_frame<A: Allocator>(sink: &mut Vec<u8, A>, size: usize) -> R<()>
-    ensures ok { OnOk result (sink.new.items ≡ sink.old.items ++ unsigned_text size) }
-    ensures made_room { OnOk result (vec_len sink.new + size ≤ vec_capacity sink.new) }
+pub fn begin_size_prefixed<A: Allocator>(sink: &mut Vec<u8, A>, size: usize) -> R<()>
+    ensures ok { OnOk result (sink.new.items ≡ sink.old.items ++ unsigned_encoding size) }
+    ensures reserved { OnOk result (vec_len sink.new + size ≤ vec_capacity sink.new) }
     ensures err { OnErr result (sink.new.items ≡ sink.old.items) }
 
-    ensures fitted { OnOk result (size ≤ longest) }
+    ensures was_encodable { OnOk result (size ≤ longest) }
     ensures too_long { size ≤ longest → result ≢ Err Refused.TooLong }
     ensures too_many { longest < size → result ≡ Err Refused.TooLong }
 
-    ensures room { size ≤ longest
-        → vec_len sink.old + (length (unsigned_text size) + size) ≤ vec_capacity sink.old
+    ensures spare { size ≤ longest
+        → vec_len sink.old + (length (unsigned_encoding size) + size) ≤ vec_capacity sink.old
         → IsOk result }
     ensures capacity { vec_capacity sink.old ≤ vec_capacity sink.new }
 {
@@ -35,15 +35,15 @@ pub fn begin_frame<A: Allocator>(sink: &mut Vec<u8, A>, size: usize) -> R<()>
 const SHORT: usize = 0x80;
 
 /// Appends the bytes with their size prefix.
-#[tactic(auto, using(crate::proofs::NumberTexts::one_group))]
+#[tactic(auto, using(crate::proofs::NumberEncodings::one_group))]
 #[inline(always)]
-pub fn encode_frame<A: Allocator>(sink: &mut Vec<u8, A>, bytes: &[u8]) -> R<()>
-    ensures appends { Appends (frame_text bytes.now) (FrameFits bytes.now) sink.old sink.new result }
+pub fn encode_size_prefixed<A: Allocator>(sink: &mut Vec<u8, A>, bytes: &[u8]) -> R<()>
+    ensures appends { Appends (size_prefixed_encoding bytes.now) (HasEncodableSize bytes.now) sink.old sink.new result }
     ensures too_many { longest < length bytes.now → result ≡ Err Refused.TooLong }
 {
     let size = bytes.len();
     if size >= SHORT {
-        return encode_long_frame(sink, bytes);
+        return encode_long_payload(sink, bytes);
     }
     sink.reserve(size + 1)?;
     sink.push_reserved(size as u8);
@@ -53,11 +53,11 @@ pub fn encode_frame<A: Allocator>(sink: &mut Vec<u8, A>, bytes: &[u8]) -> R<()>
 
 /// Appends the bytes with their size prefix, which may have several bytes.
 #[inline(never)]
-fn encode_long_frame<A: Allocator>(sink: &mut Vec<u8, A>, bytes: &[u8]) -> R<()>
-    ensures appends { Appends (frame_text bytes.now) (FrameFits bytes.now) sink.old sink.new result }
+fn encode_long_payload<A: Allocator>(sink: &mut Vec<u8, A>, bytes: &[u8]) -> R<()>
+    ensures appends { Appends (size_prefixed_encoding bytes.now) (HasEncodableSize bytes.now) sink.old sink.new result }
     ensures too_many { longest < length bytes.now → result ≡ Err Refused.TooLong }
 {
-    begin_frame(sink, bytes.len())?;
+    begin_size_prefixed(sink, bytes.len())?;
     sink.extend_from_slice(bytes).unwrap();
     Ok(())
 }
@@ -65,10 +65,10 @@ fn encode_long_frame<A: Allocator>(sink: &mut Vec<u8, A>, bytes: &[u8]) -> R<()>
 /// Appends a size prefix, then `count`, then the bytes. This is a counted section if the bytes are
 /// the encodings of `count` entries; the call does not check that.
 pub fn encode_section<A: Allocator>(sink: &mut Vec<u8, A>, count: u32, bytes: &[u8]) -> R<()>
-    ensures appends { Appends (frame_text (unsigned_text count ++ bytes.now)) (FrameFits (unsigned_text count ++ bytes.now)) sink.old sink.new result }
-    ensures too_many { longest < length (unsigned_text count ++ bytes.now) → result ≡ Err Refused.TooLong }
+    ensures appends { Appends (size_prefixed_encoding (unsigned_encoding count ++ bytes.now)) (HasEncodableSize (unsigned_encoding count ++ bytes.now)) sink.old sink.new result }
+    ensures too_many { longest < length (unsigned_encoding count ++ bytes.now) → result ≡ Err Refused.TooLong }
 {
-    begin_frame(sink, bytes.len().saturating_add(encoding_size(count)))?;
+    begin_size_prefixed(sink, bytes.len().saturating_add(encoding_size(count)))?;
     count.encode(sink).unwrap();
     sink.extend_from_slice(bytes).unwrap();
     Ok(())
@@ -76,14 +76,14 @@ pub fn encode_section<A: Allocator>(sink: &mut Vec<u8, A>, count: u32, bytes: &[
 
 /// Encodes a name: the size prefix and the UTF-8 bytes.
 impl Encode for &str {
-    ghost text = { λ name. frame_text name.now };
+    ghost encoding = { λ name. size_prefixed_encoding name.now };
 
-    ghost fits = { λ name. FrameFits name.now };
+    ghost encodable = { λ name. HasEncodableSize name.now };
 
     ghost overlong = { λ name. longest < length name.now };
 
     #[inline(always)]
     fn encode<A: Allocator>(&self, sink: &mut Vec<u8, A>) -> R<()> {
-        encode_frame(sink, self.as_bytes())
+        encode_size_prefixed(sink, self.as_bytes())
     }
 }

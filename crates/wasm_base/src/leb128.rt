@@ -2,9 +2,9 @@
 ghost use Rattle.std.specs.Prelude.{◌≡◌, ◌+◌, ◌*◌, ◌^◌, ◌≤◌, ◌<◌, ◌++◌, ◌∷◌, [], length, vec_len, vec_capacity, ⊤, IfOk, IfErr};
 ghost use Rattle.wasm_base.specs.Calls.{Appends};
 ghost use Rattle.wasm_base.specs.Groups.{groups, HasGroups};
-ghost use Rattle.wasm_base.specs.Numbers.{wide, next_group, last_group, groups_text, unsigned_text, signed_text};
-ghost use Rattle.wasm_base.specs.Reading.{ReadsNothing};
-ghost use Rattle.wasm_base.specs.Texts.{longest};
+ghost use Rattle.wasm_base.specs.Numbers.{padded, next_group, last_group, groups_encoding, unsigned_encoding, signed_encoding};
+ghost use Rattle.wasm_base.specs.Decoding.{Rejects};
+ghost use Rattle.wasm_base.specs.Encodings.{longest};
 ghost use Rattle.wasm_base.specs.declared.leb128.NoGroups.TheVariants.{Ended, TooMany};
 
 use crate::encode::Encode;
@@ -20,7 +20,7 @@ const SIGNED_LIMIT: u64 = 0x40;
 
 /// Returns the length in bytes of the minimal unsigned encoding of `n`.
 pub fn encoding_size(n: u32) -> usize
-    ensures value { result ≡ length (unsigned_text n) }
+    ensures value { result ≡ length (unsigned_encoding n) }
     ensures bound { result ≤ 5 }
 {
     groups_size(false, UNSIGNED_LIMIT, u64::from(n))
@@ -29,7 +29,7 @@ pub fn encoding_size(n: u32) -> usize
 /// Returns the number of groups of `n`.
 fn groups_size(negative: bool, limit: u64, n: u64) -> usize
     requires { 0 < limit }
-    ensures { result ≡ length (groups_text negative limit n) }
+    ensures { result ≡ length (groups_encoding negative limit n) }
 {
     let mut size = 1;
     let mut rest = n;
@@ -62,8 +62,8 @@ fn group_at_the_end(negative: bool, n: u64) -> u8
 /// Appends the groups of `n` into spare capacity of the sink, which holds them all.
 fn put_groups<A: Allocator>(sink: &mut Vec<u8, A>, negative: bool, limit: u64, n: u64)
     requires limit { 0 < limit × limit ≤ 0x80 }
-    requires room { vec_len sink.old + length (groups_text negative limit n) ≤ vec_capacity sink.old }
-    ensures items { sink.new.items ≡ sink.old.items ++ groups_text negative limit n }
+    requires spare { vec_len sink.old + length (groups_encoding negative limit n) ≤ vec_capacity sink.old }
+    ensures items { sink.new.items ≡ sink.old.items ++ groups_encoding negative limit n }
     ensures capacity { vec_capacity sink.new ≡ vec_capacity sink.old }
 {
     let mut rest = n;
@@ -79,8 +79,8 @@ fn put_groups<A: Allocator>(sink: &mut Vec<u8, A>, negative: bool, limit: u64, n
 fn put_two_groups<A: Allocator>(sink: &mut Vec<u8, A>, negative: bool, limit: u64, n: u64)
     requires limit { 0 < limit × limit ≤ 0x80 }
     requires two { limit ≤ n × n < limit * 0x80 }
-    requires room { vec_len sink.old + 2 ≤ vec_capacity sink.old }
-    ensures items { sink.new.items ≡ sink.old.items ++ groups_text negative limit n }
+    requires spare { vec_len sink.old + 2 ≤ vec_capacity sink.old }
+    ensures items { sink.new.items ≡ sink.old.items ++ groups_encoding negative limit n }
     ensures capacity { vec_capacity sink.new ≡ vec_capacity sink.old }
 {
     sink.push_reserved(group_before_others(negative, n));
@@ -92,12 +92,12 @@ const MOST_GROUPS: usize = 10;
 
 /// Appends the several groups of `n`. With spare capacity for `MOST_GROUPS` the groups are not
 /// counted first, and two groups are written without a loop.
-#[tactic(auto, using(crate::proofs::NumberTexts::most_groups))]
+#[tactic(auto, using(crate::proofs::NumberEncodings::most_groups))]
 #[inline(always)]
 fn append_groups<A: Allocator>(sink: &mut Vec<u8, A>, negative: bool, limit: u64, n: u64) -> R<()>
     requires limit { 0x40 ≤ limit × limit ≤ 0x80 }
     requires several { limit ≤ n }
-    ensures { Appends (groups_text negative limit n) ⊤ sink.old sink.new result }
+    ensures { Appends (groups_encoding negative limit n) ⊤ sink.old sink.new result }
 {
     if sink.capacity() - sink.len() < MOST_GROUPS {
         return append_counted_groups(sink, negative, limit, n);
@@ -120,7 +120,7 @@ fn append_counted_groups<A: Allocator>(
     n: u64,
 ) -> R<()>
     requires { 0 < limit × limit ≤ 0x80 }
-    ensures { Appends (groups_text negative limit n) ⊤ sink.old sink.new result }
+    ensures { Appends (groups_encoding negative limit n) ⊤ sink.old sink.new result }
 {
     sink.reserve(groups_size(negative, limit, n))?;
     put_groups(sink, negative, limit, n);
@@ -131,7 +131,7 @@ fn append_counted_groups<A: Allocator>(
 #[inline(never)]
 fn append_long_unsigned<A: Allocator>(sink: &mut Vec<u8, A>, n: u64) -> R<()>
     requires { 0x80 ≤ n }
-    ensures { Appends (unsigned_text n) ⊤ sink.old sink.new result }
+    ensures { Appends (unsigned_encoding n) ⊤ sink.old sink.new result }
 {
     append_groups(sink, false, UNSIGNED_LIMIT, n)
 }
@@ -140,16 +140,16 @@ fn append_long_unsigned<A: Allocator>(sink: &mut Vec<u8, A>, n: u64) -> R<()>
 #[inline(never)]
 fn append_long_signed<A: Allocator>(sink: &mut Vec<u8, A>, negative: bool, n: u64) -> R<()>
     requires { 0x40 ≤ n }
-    ensures { Appends (groups_text negative SIGNED_LIMIT n) ⊤ sink.old sink.new result }
+    ensures { Appends (groups_encoding negative SIGNED_LIMIT n) ⊤ sink.old sink.new result }
 {
     append_groups(sink, negative, SIGNED_LIMIT, n)
 }
 
 /// Appends an unsigned number. Most have one byte, which is written here without a call.
-#[tactic(auto, using(crate::proofs::NumberTexts::one_group))]
+#[tactic(auto, using(crate::proofs::NumberEncodings::one_group))]
 #[inline]
 fn append_unsigned<A: Allocator>(sink: &mut Vec<u8, A>, n: u64) -> R<()>
-    ensures { Appends (unsigned_text n) ⊤ sink.old sink.new result }
+    ensures { Appends (unsigned_encoding n) ⊤ sink.old sink.new result }
 {
     if n < UNSIGNED_LIMIT {
         sink.push(n as u8)?;
@@ -158,10 +158,10 @@ fn append_unsigned<A: Allocator>(sink: &mut Vec<u8, A>, n: u64) -> R<()>
     append_long_unsigned(sink, n)
 }
 
-#[tactic(auto, using(crate::proofs::NumberTexts::one_group))]
+#[tactic(auto, using(crate::proofs::NumberEncodings::one_group))]
 #[inline]
 fn append_signed<A: Allocator>(sink: &mut Vec<u8, A>, n: i64) -> R<()>
-    ensures { Appends (signed_text n) ⊤ sink.old sink.new result }
+    ensures { Appends (signed_encoding n) ⊤ sink.old sink.new result }
 {
     let negative = n < 0;
     let n = if negative { -(n + 1) } else { n } as u64;
@@ -174,9 +174,9 @@ fn append_signed<A: Allocator>(sink: &mut Vec<u8, A>, n: i64) -> R<()>
 
 /// Encodes the number as one byte.
 impl Encode for u8 {
-    ghost text = { λ n. n ∷ [] };
+    ghost encoding = { λ n. n ∷ [] };
 
-    ghost fits = { λ _. ⊤ };
+    ghost encodable = { λ _. ⊤ };
 
     #[inline]
     fn encode<A: Allocator>(&self, sink: &mut Vec<u8, A>) -> R<()> {
@@ -187,9 +187,9 @@ impl Encode for u8 {
 
 /// Encodes the number as unsigned LEB128.
 impl Encode for u32 {
-    ghost text = { unsigned_text };
+    ghost encoding = { unsigned_encoding };
 
-    ghost fits = { λ _. ⊤ };
+    ghost encodable = { λ _. ⊤ };
 
     #[inline]
     fn encode<A: Allocator>(&self, sink: &mut Vec<u8, A>) -> R<()> {
@@ -199,9 +199,9 @@ impl Encode for u32 {
 
 /// Encodes the number as unsigned LEB128.
 impl Encode for u64 {
-    ghost text = { unsigned_text };
+    ghost encoding = { unsigned_encoding };
 
-    ghost fits = { λ _. ⊤ };
+    ghost encodable = { λ _. ⊤ };
 
     #[inline]
     fn encode<A: Allocator>(&self, sink: &mut Vec<u8, A>) -> R<()> {
@@ -211,9 +211,9 @@ impl Encode for u64 {
 
 /// Encodes a count or a length as unsigned LEB128. A number above 4294967295 is `TooLong`.
 impl Encode for usize {
-    ghost text = { unsigned_text };
+    ghost encoding = { unsigned_encoding };
 
-    ghost fits = { λ n. n ≤ longest };
+    ghost encodable = { λ n. n ≤ longest };
 
     ghost overlong = { λ n. longest < n };
 
@@ -227,9 +227,9 @@ impl Encode for usize {
 
 /// Encodes the number as signed LEB128.
 impl Encode for i32 {
-    ghost text = { signed_text };
+    ghost encoding = { signed_encoding };
 
-    ghost fits = { λ _. ⊤ };
+    ghost encodable = { λ _. ⊤ };
 
     #[inline]
     fn encode<A: Allocator>(&self, sink: &mut Vec<u8, A>) -> R<()> {
@@ -239,9 +239,9 @@ impl Encode for i32 {
 
 /// Encodes the number as signed LEB128.
 impl Encode for i64 {
-    ghost text = { signed_text };
+    ghost encoding = { signed_encoding };
 
-    ghost fits = { λ _. ⊤ };
+    ghost encodable = { λ _. ⊤ };
 
     #[inline]
     fn encode<A: Allocator>(&self, sink: &mut Vec<u8, A>) -> R<()> {
@@ -277,7 +277,7 @@ pub fn read_groups(bytes: &[u8], limit: u8) -> Result<(Groups, &[u8]), NoGroups>
     ensures found { IfOk result (λ x. HasGroups limit bytes.now x.0.sum x.0.power x.0.last x.1.now) }
     ensures power { IfOk result (λ x. x.0.power ≤ 128 ^ limit) }
     ensures below { IfOk result (λ x. x.0.sum < x.0.power) }
-    ensures none { IfErr result (λ _. ReadsNothing (groups limit) wide bytes.now) }
+    ensures none { IfErr result (λ _. Rejects (groups limit) padded bytes.now) }
     ensures ended { IfErr result (λ e. e ≡ Ended → length bytes.now < limit) }
     ensures too_many { IfErr result (λ e. e ≡ TooMany → limit ≤ length bytes.now) }
 {

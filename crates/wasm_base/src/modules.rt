@@ -1,8 +1,8 @@
 // Modules: the header, and sections one after another.
 ghost use Rattle.std.specs.Prelude.{◌≡◌, ◌≢◌, ℕ, List, ◌∷◌, [], ◌++◌, OnOk, OnErr, IfOk};
-ghost use Rattle.wasm_base.specs.Calls.{ReadsOneMore};
+ghost use Rattle.wasm_base.specs.Calls.{DecodesOneMore};
 ghost use Rattle.wasm_base.specs.Formats.{header, wasm_module};
-ghost use Rattle.wasm_base.specs.Reading.{ReadsWhole};
+ghost use Rattle.wasm_base.specs.Decoding.{DecodesWhole};
 
 use crate::refused::{R, Refused};
 use crate::sections::Section;
@@ -36,7 +36,7 @@ impl<A: Allocator> Module<A> {
     #[tactic(auto, using(crate::proofs::ModuleLaws::module_empty))]
     pub fn new(alloc: A) -> R<Module<A>>
         ensures bytes { IfOk result (λ m. m ≡ header) }
-        ensures read { IfOk result (λ m. ReadsWhole wasm_module m []) }
+        ensures read { IfOk result (λ m. DecodesWhole wasm_module m []) }
         ensures memory { result ≢ Err Refused.TooLong }
     {
         Ok(Module {
@@ -51,13 +51,13 @@ impl<A: Allocator> Module<A> {
     /// Returns [`Refused`], and leaves the module unchanged, if the section is too long or an
     /// allocation fails.
     pub fn section<S: Section>(&mut self, section: &S) -> R<()>
-        ensures ok { OnOk result (self.new ≡ self.old ++ (S.id_of section.now ∷ S.text section.now)) }
-        ensures read { OnOk result (ReadsOneMore (S.payload section.now) (S.id_of section.now) self.old self.new) }
-        ensures section { OnOk result (S.reading section.now) }
+        ensures ok { OnOk result (self.new ≡ self.old ++ (S.id_of section.now ∷ S.encoding section.now)) }
+        ensures read { OnOk result (DecodesOneMore (S.payload section.now) (S.id_of section.now) self.old self.new) }
+        ensures section { OnOk result (S.decoding section.now) }
         ensures err { OnErr result (self.new ≡ self.old) }
 
-        ensures fitted { OnOk result (S.fits section.now) }
-        ensures too_long { S.fits section.now → result ≢ Err Refused.TooLong }
+        ensures was_encodable { OnOk result (S.encodable section.now) }
+        ensures too_long { S.encodable section.now → result ≢ Err Refused.TooLong }
         ensures too_many { S.overlong section.now → result ≡ Err Refused.TooLong }
     {
         section.append_to(&mut self.bytes)

@@ -1,8 +1,8 @@
 // Values that are consumed by their encoding, such as the items of an iterator.
 ghost use Rattle.std.specs.Prelude.{◌≡◌, ◌≢◌, ℕ, ◌+◌, ◌<◌, ◌≤◌, List, ◌++◌, length, vec_len, vec_capacity, IfOk, IfErr};
 ghost use Rattle.std.specs.Iterator.{size, IsFinite, Drains, Yields};
-ghost use Rattle.wasm_base.specs.Once.{AppendsOnce, TellsCount, GivesVec, GivesBytes, GivesPair, GivesTriple, YieldsFitting};
-ghost use Rattle.wasm_base.specs.Texts.{longest};
+ghost use Rattle.wasm_base.specs.Once.{AppendsOnce, ReportsCount, GivesVec, GivesBytes, GivesPair, GivesTriple, YieldsEncodable};
+ghost use Rattle.wasm_base.specs.Encodings.{longest};
 ghost use Rattle.wasm_base.specs.declared.refused.Refused.TheVariants.{TooLong};
 
 use crate::encode::Encode;
@@ -22,14 +22,14 @@ pub trait EncodeOnce {
     /// `gives`: the encodings that it may have.
     ghost gives: { Self → List ℕ → Type 0 };
 
-    /// `fits`: whatever its iterators yield, every count and length in the encoding is
+    /// `encodable`: whatever its iterators yield, every count and length in the encoding is
     /// representable.
-    ghost fits: { Self → Type 0 };
+    ghost encodable: { Self → Type 0 };
 
     /// Appends an encoding of the value. On an error, the bytes of the sink are unchanged.
     fn encode_once<A: Allocator>(self, sink: &mut Vec<u8, A>) -> R<()>
         requires { lawful self }
-        ensures { AppendsOnce (gives self) (fits self) sink.old sink.new result };
+        ensures { AppendsOnce (gives self) (encodable self) sink.old sink.new result };
 }
 
 /// The vector of an iterator's items, counted before the first item was requested: see [`vec_of`].
@@ -100,11 +100,11 @@ where
 }
 
 impl<T: Encode + Drop, I: Iterator<Item = T> + Drop> EncodeOnce for VecOf<I> {
-    ghost lawful = { λ v. TellsCount I.can_next I.next_gives I.remaining v.items v.count };
+    ghost lawful = { λ v. ReportsCount I.can_next I.next_gives I.remaining v.items v.count };
 
-    ghost gives = { λ v. GivesVec I.next_gives T.fits T.text v.items };
+    ghost gives = { λ v. GivesVec I.next_gives T.encodable T.encoding v.items };
 
-    ghost fits = { λ v. YieldsFitting I.next_gives T.fits v.items };
+    ghost encodable = { λ v. YieldsEncodable I.next_gives T.encodable v.items };
 
     #[inline(always)]
     fn encode_once<A: Allocator>(self, sink: &mut Vec<u8, A>) -> R<()> {
@@ -154,8 +154,8 @@ fn append_blocks<I: Iterator<Item = u8>, A: Allocator>(
     count: usize,
 )
     requires ready { I.can_next items.old × IsFinite (I.remaining items.old) }
-    requires told { (xs : List ℕ) → Drains I.next_gives items.old xs → length xs ≡ count }
-    requires room { vec_len sink.old + count ≤ vec_capacity sink.old }
+    requires reported { (xs : List ℕ) → Drains I.next_gives items.old xs → length xs ≡ count }
+    requires spare { vec_len sink.old + count ≤ vec_capacity sink.old }
     ensures appends { (xs : List ℕ) × Yields I.next_gives items.old xs items.new × (sink.new.items ≡ sink.old.items ++ xs) }
     ensures ready { I.can_next items.new × IsFinite (I.remaining items.new) }
     ensures capacity { vec_capacity sink.old ≤ vec_capacity sink.new }
@@ -169,11 +169,11 @@ fn append_blocks<I: Iterator<Item = u8>, A: Allocator>(
 }
 
 impl<I: Iterator<Item = u8> + Drop> EncodeOnce for BytesOf<I> {
-    ghost lawful = { λ v. TellsCount I.can_next I.next_gives I.remaining v.items v.count };
+    ghost lawful = { λ v. ReportsCount I.can_next I.next_gives I.remaining v.items v.count };
 
     ghost gives = { λ v. GivesBytes I.next_gives v.items };
 
-    ghost fits = { λ _. Unit {0} };
+    ghost encodable = { λ _. Unit {0} };
 
     #[inline(always)]
     fn encode_once<A: Allocator>(self, sink: &mut Vec<u8, A>) -> R<()> {
@@ -195,9 +195,9 @@ impl<I: Iterator<Item = u8> + Drop> EncodeOnce for BytesOf<I> {
 impl<S: Encode + Drop, T: EncodeOnce + Drop> EncodeOnce for (S, T) {
     ghost lawful = { λ p. T.lawful p.1 };
 
-    ghost gives = { λ p. GivesPair (S.text p.0) (S.fits p.0) (T.gives p.1) };
+    ghost gives = { λ p. GivesPair (S.encoding p.0) (S.encodable p.0) (T.gives p.1) };
 
-    ghost fits = { λ p. S.fits p.0 × T.fits p.1 };
+    ghost encodable = { λ p. S.encodable p.0 × T.encodable p.1 };
 
     #[inline(always)]
     fn encode_once<A: Allocator>(self, sink: &mut Vec<u8, A>) -> R<()> {
@@ -216,9 +216,9 @@ impl<S: Encode + Drop, T: EncodeOnce + Drop> EncodeOnce for (S, T) {
 impl<S: Encode + Drop, T: EncodeOnce + Drop, U: EncodeOnce + Drop> EncodeOnce for (S, T, U) {
     ghost lawful = { λ p. T.lawful p.1 × U.lawful p.2 };
 
-    ghost gives = { λ p. GivesTriple (S.text p.0) (S.fits p.0) (T.gives p.1) (U.gives p.2) };
+    ghost gives = { λ p. GivesTriple (S.encoding p.0) (S.encodable p.0) (T.gives p.1) (U.gives p.2) };
 
-    ghost fits = { λ p. S.fits p.0 × T.fits p.1 × U.fits p.2 };
+    ghost encodable = { λ p. S.encodable p.0 × T.encodable p.1 × U.encodable p.2 };
 
     #[inline(always)]
     fn encode_once<A: Allocator>(self, sink: &mut Vec<u8, A>) -> R<()> {

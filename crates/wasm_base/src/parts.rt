@@ -1,6 +1,6 @@
 // Components of encodings: borrowed values, and optional values.
 ghost use Rattle.std.specs.Prelude.{IfSome};
-ghost use Rattle.wasm_base.specs.Texts.{optional_text};
+ghost use Rattle.wasm_base.specs.Encodings.{optional_encoding};
 
 use crate::encode::Encode;
 use crate::refused::R;
@@ -12,9 +12,9 @@ pub struct Lent<'a, T>(pub &'a T);
 
 /// Encodes the value.
 impl<T: Encode> Encode for Lent<'_, T> {
-    ghost text = { λ lent. T.text lent.0.now };
+    ghost encoding = { λ lent. T.encoding lent.0.now };
 
-    ghost fits = { λ lent. T.fits lent.0.now };
+    ghost encodable = { λ lent. T.encodable lent.0.now };
 
     #[inline]
     fn encode<A: Allocator>(&self, sink: &mut Vec<u8, A>) -> R<()> {
@@ -28,9 +28,9 @@ pub struct Optional<T>(pub Option<T>);
 
 /// Encodes the value, or nothing if there is none.
 impl<T: Encode> Encode for Optional<T> {
-    ghost text = { λ part. optional_text T.text part.0 };
+    ghost encoding = { λ part. optional_encoding T.encoding part.0 };
 
-    ghost fits = { λ part. IfSome part.0 T.fits };
+    ghost encodable = { λ part. IfSome part.0 T.encodable };
 
     #[inline]
     fn encode<A: Allocator>(&self, sink: &mut Vec<u8, A>) -> R<()> {

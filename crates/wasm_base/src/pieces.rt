@@ -3,8 +3,8 @@ ghost use Rattle.std.specs.Prelude.{◌≡◌, ◌≢◌, ℕ, ◌≤◌, List, 
 ghost use Rattle.std.specs.Option.{option_copied};
 ghost use Rattle.wasm_base.specs.Calls.{Adds};
 ghost use Rattle.wasm_base.specs.Once.{AddsOnce};
-ghost use Rattle.wasm_base.specs.Pieces.{joined, cut_from, IsCut, section_text, SectionFits, IsOverlong};
-ghost use Rattle.wasm_base.specs.Texts.{longest};
+ghost use Rattle.wasm_base.specs.Pieces.{joined, cut_from, IsCut, section_encoding, IsEncodableSection, IsOverlong};
+ghost use Rattle.wasm_base.specs.Encodings.{longest};
 
 use crate::encode::Encode;
 use crate::frames::encode_section;
@@ -108,7 +108,7 @@ impl<A: Allocator> Pieces<A> {
     #[tactic(auto, using(crate::proofs::Cut::length_cut))]
     #[inline]
     pub fn add_encoded<T: Encode>(&mut self, item: &T) -> R<()>
-        ensures { Adds (T.text item.now) (T.fits item.now) self.old self.new result }
+        ensures { Adds (T.encoding item.now) (T.encodable item.now) self.old self.new result }
     {
         if self.ends.len() >= MOST_ENTRIES {
             return Err(Refused::TooLong);
@@ -126,7 +126,7 @@ impl<A: Allocator> Pieces<A> {
     #[inline]
     pub fn add_once<T: EncodeOnce + Drop>(&mut self, item: T) -> R<()>
         requires { T.lawful item }
-        ensures { AddsOnce (T.gives item) (T.fits item) self.old self.new result }
+        ensures { AddsOnce (T.gives item) (T.encodable item) self.old self.new result }
     {
         if self.ends.len() >= MOST_ENTRIES {
             return Err(Refused::TooLong);
@@ -169,13 +169,13 @@ impl<A: Allocator + Copy> Pieces<A> {
 /// Encodes a counted section without its id: the size prefix, the number of entries, and the
 /// entries.
 impl<A: Allocator> Encode for Pieces<A> {
-    ghost text = { section_text };
+    ghost encoding = { section_encoding };
 
-    ghost fits = { SectionFits };
+    ghost encodable = { IsEncodableSection };
 
     ghost overlong = { IsOverlong };
 
-    #[tactic(auto, unfolding(crate::specs::Pieces::section_text))]
+    #[tactic(auto, unfolding(crate::specs::Pieces::section_encoding))]
     fn encode<B: Allocator>(&self, sink: &mut Vec<u8, B>) -> R<()> {
         encode_section(sink, self.len(), self.bytes())
     }

@@ -1,20 +1,20 @@
 // The trait `Section`: an id, and an encoding that is usually size-prefixed.
 ghost use Rattle.std.specs.Prelude.{◌≡◌, ◌<◌, ℕ, List, ◌∷◌, [], length, Err, OnOk};
-ghost use Rattle.wasm_base.specs.Calls.{Appends, ReadsBack};
-ghost use Rattle.wasm_base.specs.Formats.{any_bytes, frame};
+ghost use Rattle.wasm_base.specs.Calls.{Appends, DecodesBack};
+ghost use Rattle.wasm_base.specs.Formats.{any_bytes, size_prefixed};
 ghost use Rattle.wasm_base.specs.Numbers.{Mode};
-ghost use Rattle.wasm_base.specs.Texts.{longest, frame_text, FrameFits, IsFrameOf};
+ghost use Rattle.wasm_base.specs.Encodings.{longest, size_prefixed_encoding, HasEncodableSize, IsSizePrefixed};
 ghost use Rattle.wasm_base.specs.declared.refused.Refused.TheVariants.{TooLong};
 
 use crate::encode::Encode;
-use crate::frames::encode_frame;
+use crate::frames::encode_size_prefixed;
 use crate::refused::{R, Refused};
 use std::alloc::Allocator;
 
 /// A section of a module: an id, and an encoding from which a reader decodes the section's items.
 pub trait Section: Encode {
-    ghost use Rattle.wasm_base.specs.Calls.{ReadsBack};
-    ghost use Rattle.wasm_base.specs.Texts.{IsFrameOf};
+    ghost use Rattle.wasm_base.specs.Calls.{DecodesBack};
+    ghost use Rattle.wasm_base.specs.Encodings.{IsSizePrefixed};
 
     /// The section id.
     ghost id_of: { Self → ℕ };
@@ -37,8 +37,8 @@ pub trait Section: Encode {
 
     /// Appends the id and the encoding. On an error, the bytes of `dst` are unchanged.
     fn append_to<A: Allocator>(&self, dst: &mut Vec<u8, A>) -> R<()>
-        ensures appends { Appends (id_of self.now ∷ Self.text self.now) (Self.fits self.now) dst.old dst.new result }
-        ensures read { OnOk result (Self.reading self.now) }
+        ensures appends { Appends (id_of self.now ∷ Self.encoding self.now) (Self.encodable self.now) dst.old dst.new result }
+        ensures read { OnOk result (Self.decoding self.now) }
         ensures too_many { Self.overlong self.now → result ≡ Err TooLong }
     {
         let start = dst.len();
@@ -56,10 +56,10 @@ pub trait Section: Encode {
     }
 
     /// The encoding is the payload with its size prefix.
-    ghost framed: { (section : Self) (bytes : List ℕ) → Self.fits section → payload section bytes → IsFrameOf (Self.text section) bytes };
+    ghost sized: { (section : Self) (bytes : List ℕ) → Self.encodable section → payload section bytes → IsSizePrefixed (Self.encoding section) bytes };
 
     /// The headline: `encode` promises at least that the encoding decodes to the items alone.
-    ghost reads_back: { (section : Self) → Self.reading section → ReadsBack format (says section) (Self.text section) };
+    ghost decodes_back: { (section : Self) → Self.decoding section → DecodesBack format (says section) (Self.encoding section) };
 }
 
 /// A section of raw bytes, which become its payload.
@@ -70,27 +70,27 @@ pub struct RawSection<'a> {
 }
 
 impl Encode for RawSection<'_> {
-    ghost text = { λ s. frame_text s.bytes.now };
+    ghost encoding = { λ s. size_prefixed_encoding s.bytes.now };
 
-    ghost fits = { λ s. FrameFits s.bytes.now };
+    ghost encodable = { λ s. HasEncodableSize s.bytes.now };
 
     ghost overlong = { λ s. longest < length s.bytes.now };
 
-    ghost reading = { λ s. ReadsBack (frame any_bytes) (λ bytes. bytes ≡ s.bytes.now) (frame_text s.bytes.now) };
+    ghost decoding = { λ s. DecodesBack (size_prefixed any_bytes) (λ bytes. bytes ≡ s.bytes.now) (size_prefixed_encoding s.bytes.now) };
 
     fn encode<A: Allocator>(&self, sink: &mut Vec<u8, A>) -> R<()> {
-        encode_frame(sink, self.bytes)
+        encode_size_prefixed(sink, self.bytes)
     }
 }
 
 impl Section for RawSection<'_> {
-    ghost use Rattle.wasm_base.specs.Texts.{raw_framed};
+    ghost use Rattle.wasm_base.specs.Encodings.{raw_sized};
 
     ghost id_of = { λ s. s.id };
 
     ghost Items = { List ℕ };
 
-    ghost format = { frame any_bytes };
+    ghost format = { size_prefixed any_bytes };
 
     ghost says = { λ s bytes. bytes ≡ s.bytes.now };
 
@@ -100,7 +100,7 @@ impl Section for RawSection<'_> {
         self.id
     }
 
-    ghost framed = { λ s bytes fits says. raw_framed s.bytes.now bytes fits says };
+    ghost sized = { λ s bytes encodable says. raw_sized s.bytes.now bytes encodable says };
 
-    ghost reads_back = { λ s promised. promised };
+    ghost decodes_back = { λ s promised. promised };
 }

@@ -13,7 +13,7 @@ fn encode_both<S: Encode, T: Encode, A: Allocator>(
     second: &T,
     sink: &mut Vec<u8, A>,
 ) -> R<()>
-    ensures { Appends (S.text first.now ++ T.text second.now) (S.fits first.now × T.fits second.now) sink.old sink.new result }
+    ensures { Appends (S.encoding first.now ++ T.encoding second.now) (S.encodable first.now × T.encodable second.now) sink.old sink.new result }
 {
     let start = sink.len();
     first.encode(sink)?;
@@ -26,9 +26,9 @@ fn encode_both<S: Encode, T: Encode, A: Allocator>(
 
 /// Encodes one value, and then the other.
 impl<S: Encode, T: Encode> Encode for (S, T) {
-    ghost text = { λ p. S.text p.0 ++ T.text p.1 };
+    ghost encoding = { λ p. S.encoding p.0 ++ T.encoding p.1 };
 
-    ghost fits = { λ p. S.fits p.0 × T.fits p.1 };
+    ghost encodable = { λ p. S.encodable p.0 × T.encodable p.1 };
 
     #[inline]
     fn encode<A: Allocator>(&self, sink: &mut Vec<u8, A>) -> R<()> {
@@ -38,9 +38,9 @@ impl<S: Encode, T: Encode> Encode for (S, T) {
 
 /// Encodes three values in order.
 impl<S: Encode, T: Encode, U: Encode> Encode for (S, T, U) {
-    ghost text = { λ p. S.text p.0 ++ (T.text p.1 ++ U.text p.2) };
+    ghost encoding = { λ p. S.encoding p.0 ++ (T.encoding p.1 ++ U.encoding p.2) };
 
-    ghost fits = { λ p. S.fits p.0 × T.fits p.1 × U.fits p.2 };
+    ghost encodable = { λ p. S.encodable p.0 × T.encodable p.1 × U.encodable p.2 };
 
     #[inline]
     fn encode<A: Allocator>(&self, sink: &mut Vec<u8, A>) -> R<()> {

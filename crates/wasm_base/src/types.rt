@@ -1,6 +1,6 @@
 // Heap types, reference types and value types.
 ghost use Rattle.std.specs.Prelude.{◌≡◌, ◌∷◌, [], ⊤};
-ghost use Rattle.wasm_base.specs.Types.{abstract_code, heap_text, ref_text, val_text};
+ghost use Rattle.wasm_base.specs.Types.{abstract_code, heap_encoding, ref_encoding, val_encoding};
 
 use crate::encode::Encode;
 use crate::refused::R;
@@ -94,9 +94,9 @@ impl AbstractHeapType {
 
 /// Encodes the type as one byte.
 impl Encode for AbstractHeapType {
-    ghost text = { λ ty. abstract_code ty ∷ [] };
+    ghost encoding = { λ ty. abstract_code ty ∷ [] };
 
-    ghost fits = { λ _. ⊤ };
+    ghost encodable = { λ _. ⊤ };
 
     #[inline]
     fn encode<A: Allocator>(&self, sink: &mut Vec<u8, A>) -> R<()> {
@@ -107,9 +107,9 @@ impl Encode for AbstractHeapType {
 /// Encodes an abstract type as its byte, after a prefix byte if it is shared. An index is encoded
 /// as a signed number, and an exact type as a prefix byte and its index.
 impl Encode for HeapType {
-    ghost text = { heap_text };
+    ghost encoding = { heap_encoding };
 
-    ghost fits = { λ _. ⊤ };
+    ghost encodable = { λ _. ⊤ };
 
     #[inline]
     fn encode<A: Allocator>(&self, sink: &mut Vec<u8, A>) -> R<()> {
@@ -124,9 +124,9 @@ impl Encode for HeapType {
 
 /// Encodes `FUNCREF` and `EXTERNREF` as one byte, and all others as a byte and the heap type.
 impl Encode for RefType {
-    ghost text = { ref_text };
+    ghost encoding = { ref_encoding };
 
-    ghost fits = { λ _. ⊤ };
+    ghost encodable = { λ _. ⊤ };
 
     #[inline]
     fn encode<A: Allocator>(&self, sink: &mut Vec<u8, A>) -> R<()> {
@@ -154,9 +154,9 @@ impl Encode for RefType {
 
 /// Encodes a number or vector type as one byte, and a reference as its reference type.
 impl Encode for ValType {
-    ghost text = { val_text };
+    ghost encoding = { val_encoding };
 
-    ghost fits = { λ _. ⊤ };
+    ghost encodable = { λ _. ⊤ };
 
     #[inline(always)]
     fn encode<A: Allocator>(&self, sink: &mut Vec<u8, A>) -> R<()> {

@@ -1,7 +1,7 @@
 // Vectors: a count, and that many members.
 ghost use Rattle.wasm_base.specs.Iterators.{HasKnownLength, AppendsVec};
 ghost use Rattle.std.specs.Prelude.{◌<◌, length};
-ghost use Rattle.wasm_base.specs.Texts.{longest, vec_text, VecFits};
+ghost use Rattle.wasm_base.specs.Encodings.{longest, vec_encoding, IsEncodableVec};
 
 use crate::encode::Encode;
 use crate::once::{EncodeOnce, vec_of};
@@ -10,9 +10,9 @@ use std::alloc::Allocator;
 
 /// Encodes the members as a vector.
 impl<T: Encode> Encode for &[T] {
-    ghost text = { λ s. vec_text T.text s.now };
+    ghost encoding = { λ s. vec_encoding T.encoding s.now };
 
-    ghost fits = { λ s. VecFits T.fits s.now };
+    ghost encodable = { λ s. IsEncodableVec T.encodable s.now };
 
     ghost overlong = { λ s. longest < length s.now };
 
@@ -39,7 +39,7 @@ pub fn encode_vec<T: Encode + Drop, V: IntoIterator<Item = T>, A: Allocator>(
 where
     V::IntoIter: ExactSizeIterator + Drop,
     requires { HasKnownLength V.into_iter_gives V.IntoIter.can_next V.IntoIter.next_gives V.IntoIter.remaining elements }
-    ensures { AppendsVec V.into_iter_gives V.IntoIter.next_gives V.IntoIter.remaining T.fits T.text elements sink.old sink.new result }
+    ensures { AppendsVec V.into_iter_gives V.IntoIter.next_gives V.IntoIter.remaining T.encodable T.encoding elements sink.old sink.new result }
 {
     vec_of(elements)?.encode_once(sink)
 }

@@ -1,10 +1,10 @@
 -- This file defines the results of workloads that encode.
 use Rattle.std.specs.Prelude.{◌≡◌, ℕ, ◌+◌, ◌*◌, ◌<◌, ◌≤◌, ◌∷◌, [], List, ◌++◌, length, drop, map, Result, IfOk, OnErr, if◌then◌else◌, ◌⊎◌, nat_le}
 use Rattle.wasm_base.specs.Formats.{header}
-use Rattle.wasm_base.specs.Numbers.{unsigned_text}
-use Rattle.wasm_base.specs.Pieces.{joined, section_text}
-use Rattle.wasm_custom.specs.Customs.{named_text, subsection_text}
-use Rattle.wasm_custom.specs.Lists.{list_text}
+use Rattle.wasm_base.specs.Numbers.{unsigned_encoding}
+use Rattle.wasm_base.specs.Pieces.{joined, section_encoding}
+use Rattle.wasm_custom.specs.Customs.{named_encoding, subsection_encoding}
+use Rattle.wasm_custom.specs.Lists.{list_encoding}
 use Rattle.wasm_custom.specs.Names.{name_name}
 use Rattle.wasm_bench.specs.declared.answers.TheConstants.{NO_ANSWER}
 use Rattle.wasm_bench.specs.declared.answers.Fault.{Fault}
@@ -20,19 +20,19 @@ pub record Gives (bytes old new : List ℕ) (n : ℕ) : Type 0 where
   pub copied : new ≡ written bytes old
 
 -- The result of each phase for a section of this id and encoding, whose entries have these bytes.
-pub record HasAnswer (id : ℕ) (content text : List ℕ) (phase : ℕ) (old new : List ℕ) (n : ℕ) : Type 0 where
+pub record HasAnswer (id : ℕ) (content encoding : List ℕ) (phase : ℕ) (old new : List ℕ) (n : ℕ) : Type 0 where
   pub built : phase ≡ 0 → (n ≡ length content) × (new ≡ old)
-  pub appended : phase ≡ 1 → Gives (id ∷ text) old new n
-  pub finished : phase ≡ 2 → Gives (header ++ (id ∷ text)) old new n
+  pub appended : phase ≡ 1 → Gives (id ∷ encoding) old new n
+  pub finished : phase ≡ 2 → Gives (header ++ (id ∷ encoding)) old new n
   pub known : phase ≤ 2
 
 -- The same for a section of counted entries.
 abbrev pub HasCounted : ℕ → List (List ℕ) → ℕ → List ℕ → List ℕ → ℕ → Type 0
-HasCounted id pieces phase old new n = HasAnswer id (joined pieces) (section_text pieces) phase old new n
+HasCounted id pieces phase old new n = HasAnswer id (joined pieces) (section_encoding pieces) phase old new n
 
 -- The workload returns the result of the section, or an error and writes nothing.
-pub record Answers (id : ℕ) (content text : List ℕ) (phase : ℕ) (old new : List ℕ) (result : Result ℕ Fault) : Type 0 where
-  pub ok : IfOk result (λ n. HasAnswer id content text phase old new n)
+pub record Answers (id : ℕ) (content encoding : List ℕ) (phase : ℕ) (old new : List ℕ) (result : Result ℕ Fault) : Type 0 where
+  pub ok : IfOk result (λ n. HasAnswer id content encoding phase old new n)
   pub err : OnErr result (new ≡ old)
 
 -- The workload has no result and writes nothing, or has this result.
@@ -41,7 +41,7 @@ Outcome old new n Answer = ((n ≡ NO_ANSWER) × (new ≡ old)) ⊎ Answer
 
 -- The result of a function section with these type indices.
 abbrev pub FunctionsAnswer : List ℕ → ℕ → List ℕ → List ℕ → ℕ → Type 0
-FunctionsAnswer types phase old new n = HasCounted 3 (map unsigned_text types) phase old new n
+FunctionsAnswer types phase old new n = HasCounted 3 (map unsigned_encoding types) phase old new n
 
 -- The result of a section of this id with this number of entries.
 pub record CountedAnswer (id count phase : ℕ) (old new : List ℕ) (n : ℕ) : Type 0 where
@@ -65,4 +65,4 @@ pub record DataAnswer (bytes segment phase : ℕ) (old new : List ℕ) (n : ℕ)
 pub record NamesAnswer (count phase : ℕ) (old new : List ℕ) (n : ℕ) : Type 0 where
   pub names : List (List ℕ)
   pub counted : length names ≡ count
-  pub has : HasAnswer 0 (joined (subsection_text 1 (list_text names) ∷ [])) (named_text name_name (joined (subsection_text 1 (list_text names) ∷ []))) phase old new n
+  pub has : HasAnswer 0 (joined (subsection_encoding 1 (list_encoding names) ∷ [])) (named_encoding name_name (joined (subsection_encoding 1 (list_encoding names) ∷ []))) phase old new n

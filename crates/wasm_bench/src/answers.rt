@@ -37,8 +37,8 @@ fn copied(bytes: &[u8], out: &mut [u8]) -> u64
 {
     let count = bytes.len();
     if count <= out.len() {
-        let (room, _) = out.split_at_mut(count);
-        room.copy_from_slice(bytes);
+        let (spare, _) = out.split_at_mut(count);
+        spare.copy_from_slice(bytes);
     }
     count as u64
 }
@@ -108,7 +108,7 @@ pub(crate) fn answer<S: Entries>(
     phase: u32,
     out: &mut [u8],
 ) -> Result<u64, Fault>
-    ensures answers { Answers (S.id_of section.now) (S.content section.now) (S.text section.now) phase out.old out.new result }
+    ensures answers { Answers (S.id_of section.now) (S.content section.now) (S.encoding section.now) phase out.old out.new result }
     ensures wrong { IfErr result (λ fault. fault ≡ faults.WrongInput → 2 < phase) }
 {
     match phase {

@@ -89,9 +89,9 @@ fn constant_call(sink: &mut Sink<'_>, code: u32, words: &mut Words<'_>) -> Resul
 {
     match code {
         codes::I32_CONST => Ok(sink.i32_const(words.next()?.cast_signed())?),
-        codes::I64_CONST => Ok(sink.i64_const(words.wide()?.cast_signed())?),
+        codes::I64_CONST => Ok(sink.i64_const(words.padded()?.cast_signed())?),
         codes::F32_CONST => Ok(sink.f32_const(Ieee32::new(words.next()?))?),
-        codes::F64_CONST => Ok(sink.f64_const(Ieee64::new(words.wide()?))?),
+        codes::F64_CONST => Ok(sink.f64_const(Ieee64::new(words.padded()?))?),
         codes::V128_CONST => Ok(sink.v128_const(i128::from(words.next()?))?),
         codes::REF_FUNC => Ok(sink.ref_func(words.next()?)?),
         _ => plain_call(sink, code, words),

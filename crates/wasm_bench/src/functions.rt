@@ -1,6 +1,6 @@
 // The workload of the function section.
 ghost use Rattle.std.specs.Prelude.{◌≡◌, IfOk, OnErr, map};
-ghost use Rattle.wasm_base.specs.Numbers.{unsigned_text};
+ghost use Rattle.wasm_base.specs.Numbers.{unsigned_encoding};
 ghost use Rattle.wasm_bench.specs.Answers.{FunctionsAnswer, Outcome};
 
 use crate::answers::{Fault, answer, number};
@@ -10,7 +10,7 @@ use wasm_sections::FunctionSection;
 
 /// Returns a section of functions of these types.
 fn build(alloc: Global, types: &[u32]) -> R<FunctionSection>
-    ensures { IfOk result (λ section. section ≡ map unsigned_text types.now) }
+    ensures { IfOk result (λ section. section ≡ map unsigned_encoding types.now) }
 {
     let mut section = FunctionSection::new(alloc);
     for &type_index in types {

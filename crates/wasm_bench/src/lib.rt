@@ -15,7 +15,7 @@ mod kinds;
 mod line;
 mod name_section;
 mod names;
-mod reading;
+mod decoding;
 mod types;
 mod values;
 mod words;

@@ -16,7 +16,7 @@ impl<'a> Names<'a> {
         ensures err { OnErr result (IsUtf8 bytes.now → ⊥) }
     {
         match str::from_utf8(bytes) {
-            Ok(text) => Ok(Names { rest: text }),
+            Ok(encoding) => Ok(Names { rest: encoding }),
             Err(_) => Err(Fault::WrongInput),
         }
     }

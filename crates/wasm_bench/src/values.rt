@@ -68,9 +68,9 @@ fn vector<'a>(low: u32) -> Instruction<'a> {
 fn constant<'a>(code: u32, words: &mut Words<'a>) -> Result<Instruction<'a>, Fault> {
     match code {
         codes::I32_CONST => Ok(Instruction::I32Const(words.next()?.cast_signed())),
-        codes::I64_CONST => Ok(Instruction::I64Const(words.wide()?.cast_signed())),
+        codes::I64_CONST => Ok(Instruction::I64Const(words.padded()?.cast_signed())),
         codes::F32_CONST => Ok(Instruction::F32Const(Ieee32::new(words.next()?))),
-        codes::F64_CONST => Ok(Instruction::F64Const(Ieee64::new(words.wide()?))),
+        codes::F64_CONST => Ok(Instruction::F64Const(Ieee64::new(words.padded()?))),
         codes::V128_CONST => Ok(vector(words.next()?)),
         codes::REF_FUNC => Ok(Instruction::RefFunc(words.next()?)),
         _ => plain(code, words),

@@ -38,7 +38,7 @@ impl<'a> Words<'a> {
     }
 
     /// Returns a number of 64 bits: the low word, and the high one.
-    pub(crate) fn wide(&mut self) -> Result<u64, Fault>
+    pub(crate) fn padded(&mut self) -> Result<u64, Fault>
         ensures ok { IfOk result (λ n. (low : ℕ) × (high : ℕ) × (self.old.rest.now ≡ low ∷ high ∷ self.new.rest.now) × (n ≡ low + 2 ^ 32 * high)) }
         ensures err { OnErr result (length self.old.rest.now < 2) }
     {

@@ -5,9 +5,9 @@ use Rattle.std.specs.List.{AllByRecursion, flat_map}
 use Rattle.std.proofs.lemmas.List.{length-append, drop_at, drop_more}
 use Rattle.std.proofs.lemmas.Bool.{le-ltb, lt-ltb}
 use Rattle.std.proofs.lemmas.List.Elements.{All-from_recursion}
-use Rattle.wasm_base.specs.Numbers.{AreGroups, wide}
+use Rattle.wasm_base.specs.Numbers.{AreGroups, padded}
 use Rattle.wasm_base.specs.Formats.{header, name}
-use Rattle.wasm_base.specs.Reading.{Reads}
+use Rattle.wasm_base.specs.Decoding.{Decodes}
 use Rattle.wasm_reader.specs.Outlines.{Section, IsSection, IsNameOf, IsOutline, AreOutlines, HasOutline, bytes_of}
 use Rattle.wasm_reader.specs.declared.outlines.Outlined.{Outlined}
 use Rattle.wasm_c.specs.Outlining.{continued, behind_number, name_of, IsNamed}
@@ -35,33 +35,33 @@ groups_length (b ∷ []) rest h = ap suc (continued_last b rest h)
 groups_length (b ∷ c ∷ bs) rest h = ap suc (continued_more b (c ∷ bs ++ rest) h.0 ∙ groups_length (c ∷ bs) rest h.2)
 
 -- A name that decodes at the front of a payload decodes at the payload's offset in the module.
-named : (bytes front payload after : List ℕ) (offset : ℕ) (n rest : List ℕ) → bytes ≡ front ++ (payload ++ after) → length front ≡ offset → Reads name wide payload n rest
-    → (rest : List ℕ) × Reads name wide (drop offset bytes) n rest × (behind_number bytes offset + length n + length rest ≡ length bytes)
+named : (bytes front payload after : List ℕ) (offset : ℕ) (n rest : List ℕ) → bytes ≡ front ++ (payload ++ after) → length front ≡ offset → Decodes name padded payload n rest
+    → (rest : List ℕ) × Decodes name padded (drop offset bytes) n rest × (behind_number bytes offset + length n + length rest ≡ length bytes)
 named bytes front payload after offset n rest e o h =
-    let f = h.spelled.0 in
+    let f = h.encodes.0 in
     let here : drop offset bytes ≡ payload ++ after = ap (λ z. drop offset z) e ∙ drop_at front (payload ++ after) offset o in
     let split : payload ++ after ≡ h.front ++ (rest ++ after) = ap (λ z. z ++ after) h.split ∙ append_assoc h.front rest after in
     let text : drop offset bytes ≡ f.front ++ (f.content ++ (rest ++ after)) = here ∙ split ∙ ap (λ z. z ++ (rest ++ after)) f.joined ∙ append_assoc f.front f.content (rest ++ after) in
     let number : suc (continued (drop offset bytes)) ≡ length f.front = ap (λ z. suc (continued z)) text ∙ groups_length f.front (f.content ++ (rest ++ after)) f.size.groups in (
       rest ++ after,
-      record { front = h.front; split = here ∙ split; spelled = h.spelled },
-      omega (arith, number, o, ap length e, length-append front (payload ++ after), ap length (sym here ∙ text), length-append f.front (f.content ++ (rest ++ after)), length-append f.content (rest ++ after), ap length f.spelled),
+      record { front = h.front; split = here ∙ split; encodes = h.encodes },
+      omega (arith, number, o, ap length e, length-append front (payload ++ after), ap length (sym here ∙ text), length-append f.front (f.content ++ (rest ++ after)), length-append f.content (rest ++ after), ap length f.encodes),
     )
 
 -- The same for an optional name.
 given : (bytes front payload after : List ℕ) (offset id : ℕ) (n : Option (List ℕ)) → bytes ≡ front ++ (payload ++ after) → length front ≡ offset → IsNameOf id payload n
-    → IfSome n (λ n. (rest : List ℕ) × Reads name wide (drop offset bytes) n rest × (behind_number bytes offset + length n + length rest ≡ length bytes))
+    → IfSome n (λ n. (rest : List ℕ) × Decodes name padded (drop offset bytes) n rest × (behind_number bytes offset + length n + length rest ≡ length bytes))
 given bytes front payload after offset id None e o i = tt
 given bytes front payload after offset id (Some n) e o i = named bytes front payload after offset n i.1 e o i.2
 
 -- The same for a line.
 line_named : (bytes front after : List ℕ) (s : Section) (l : Outlined) → bytes ≡ front ++ (bytes_of s ++ after) → IsSection s → IsOutline (length front) s l → IsNamed bytes l
 line_named bytes front after s l e h o =
-    let f = h.holds in
+    let f = h.contains in
     let joined : bytes ≡ (front ++ (s.id ∷ f.front)) ++ (s.payload ++ after) =
-    e ∙ ap (λ z. front ++ ((s.id ∷ z) ++ after)) (f.joined ∙ ap (λ z. f.front ++ z) f.spelled) ∙ ap (λ z. front ++ (s.id ∷ z)) (append_assoc f.front s.payload after)
+    e ∙ ap (λ z. front ++ ((s.id ∷ z) ++ after)) (f.joined ∙ ap (λ z. f.front ++ z) f.encodes) ∙ ap (λ z. front ++ (s.id ∷ z)) (append_assoc f.front s.payload after)
     ∙ sym (append_assoc front (s.id ∷ f.front) (s.payload ++ after)) in
-    let placed : length (front ++ (s.id ∷ f.front)) ≡ l.offset = omega (arith, o.offset, length-append front (s.id ∷ f.front), ap length f.joined, ap length f.spelled, length-append f.front f.content) in
+    let placed : length (front ++ (s.id ∷ f.front)) ≡ l.offset = omega (arith, o.offset, length-append front (s.id ∷ f.front), ap length f.joined, ap length f.encodes, length-append f.front f.content) in
     given bytes (front ++ (s.id ∷ f.front)) s.payload after l.offset s.id (name_of l) joined placed (subst (λ z. IsNameOf s.id s.payload z) (sym o.name) h.named)
 
 lines_named : (front : List ℕ) (ss : List Section) (ls : List Outlined) → AllByRecursion IsSection ss → AreOutlines (length front) ss ls → AllByRecursion (IsNamed (front ++ flat_map bytes_of ss)) ls

@@ -1,7 +1,7 @@
 -- This file defines the result of `dz_assemble`.
 use Rattle.std.specs.Prelude.{◌≡◌, ℕ, List, ◌++◌, All, IsUtf8, length, drop, if◌then◌else◌, ◌⊎◌, nat_le}
 use Rattle.wasm_base.specs.Formats.{wasm_module}
-use Rattle.wasm_base.specs.Reading.{ReadsWhole}
+use Rattle.wasm_base.specs.Decoding.{DecodesWhole}
 use Rattle.wasm_tool.specs.Lines.{lines_of}
 use Rattle.wasm_tool.specs.Recipe.{IsGood, recipe_module, entries_of, sections_of}
 use Rattle.wasm_tool.specs.Steps.{Explains}
@@ -37,7 +37,7 @@ pub record Assembled (recipe old new : List ℕ) (line cause n : ℕ) : Type 0 w
   pub utf8 : IsUtf8 recipe
   pub good : All IsGood (lines_of recipe)
   pub gives : Gives (module_of recipe) old new n
-  pub read : ReadsWhole wasm_module (module_of recipe) (sections_of (entries_of (lines_of recipe)))
+  pub read : DecodesWhole wasm_module (module_of recipe) (sections_of (entries_of (lines_of recipe)))
   pub no_line : line ≡ 0
   pub no_cause : cause ≡ 0
 

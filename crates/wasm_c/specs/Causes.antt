@@ -15,10 +15,10 @@ recipe_texts = codes "unknown command" ∷ codes "bad number" ∷ codes "bad hex
 
 -- The text of a number, counted from 1.
 abbrev pub text_numbered : List (List ℕ) → ℕ → Option (List ℕ)
-text_numbered texts zero = None
-text_numbered texts (suc n) = slice_get texts n
+text_numbered encodings zero = None
+text_numbered encodings (suc n) = slice_get encodings n
 
 -- The call returns the text, or writes nothing if there is none.
-abbrev pub Tells : Option (List ℕ) → List ℕ → List ℕ → ℕ → Type 0
-Tells None old new n = (n ≡ NO_ANSWER) × (new ≡ old)
-Tells (Some text) old new n = Gives text old new n
+abbrev pub Determines : Option (List ℕ) → List ℕ → List ℕ → ℕ → Type 0
+Determines None old new n = (n ≡ NO_ANSWER) × (new ≡ old)
+Determines (Some text) old new n = Gives text old new n

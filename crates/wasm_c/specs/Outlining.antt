@@ -1,9 +1,9 @@
 -- This file defines the result of `dz_outline`.
 use Rattle.std.specs.Prelude.{◌≡◌, ◌≢◌, ℕ, ◌+◌, List, [], ◌∷◌, length, drop, map, suc, Option, Some, None, option_map, ◌⊎◌, All, IfSome, if◌then◌else◌, nat_lt}
 use Rattle.wasm_base.specs.Formats.{name, wasm_module}
-use Rattle.wasm_base.specs.Going.{FillsNothing}
-use Rattle.wasm_base.specs.Numbers.{wide}
-use Rattle.wasm_base.specs.Reading.{Reads}
+use Rattle.wasm_base.specs.Continuing.{RejectsWhole}
+use Rattle.wasm_base.specs.Numbers.{padded}
+use Rattle.wasm_base.specs.Decoding.{Decodes}
 use Rattle.wasm_reader_base.specs.declared.fault.ReadFault.{ReadFault}
 use Rattle.wasm_reader_base.specs.declared.fault.ReadFault.TheVariants.{Memory}
 use Rattle.wasm_reader.specs.Outlines.{HasOutline, EndsAt}
@@ -50,7 +50,7 @@ section_of module_bytes l = record {
 -- The name of a line decodes at the offset of its payload. The bytes of the name begin at the
 -- offset that the call reports.
 abbrev pub IsNamed : List ℕ → Outlined → Type 0
-IsNamed module_bytes l = IfSome (name_of l) (λ n. (rest : List ℕ) × Reads name wide (drop l.offset module_bytes) n rest × (behind_number module_bytes l.offset + length n + length rest ≡ length module_bytes))
+IsNamed module_bytes l = IfSome (name_of l) (λ n. (rest : List ℕ) × Decodes name padded (drop l.offset module_bytes) n rest × (behind_number module_bytes l.offset + length n + length rest ≡ length module_bytes))
 
 -- The bytes are a module of sections that the lines describe, and the call returns these.
 pub record Outlines (module_bytes : List ℕ) (old new : List DzOutlined) (place cause n : ℕ) : Type 0 where
@@ -69,7 +69,7 @@ pub record Refuses (module_bytes : List ℕ) (old new : List DzOutlined) (place 
   pub fault : ReadFault
   pub numbered : cause ≡ fault_number fault
   pub ends : fault ≢ Memory → EndsAt module_bytes place
-  pub no_module : fault ≢ Memory → FillsNothing wasm_module module_bytes
+  pub no_module : fault ≢ Memory → RejectsWhole wasm_module module_bytes
 
 -- The result of a call with a module: an error or an outline.
 abbrev pub Outcome : List ℕ → List DzOutlined → List DzOutlined → ℕ → ℕ → ℕ → Type 0

@@ -1,7 +1,7 @@
 -- This file defines the result of `dz_shorten`.
 use Rattle.std.specs.Prelude.{◌≡◌, ◌≢◌, ℕ, List, [], Some, None, ◌⊎◌}
-use Rattle.wasm_base.specs.Numbers.{wide}
-use Rattle.wasm_base.specs.Reading.{ReadsNothing}
+use Rattle.wasm_base.specs.Numbers.{padded}
+use Rattle.wasm_base.specs.Decoding.{Rejects}
 use Rattle.wasm_reader_base.specs.declared.fault.ReadFault.{ReadFault}
 use Rattle.wasm_reader_base.specs.declared.fault.ReadFault.TheVariants.{Memory}
 use Rattle.wasm_reader.specs.Kinds.{kind_numbered}
@@ -25,7 +25,7 @@ pub record Shortened (number : ℕ) (bytes old new : List ℕ) (taken cause n : 
 abbrev pub IsWhy : ℕ → List ℕ → ℕ → Type 0
 IsWhy number bytes cause =
     ((cause ≡ 9) × (kind_numbered number ≡ None))
-    ⊎ ((kind : SectionKind) × (fault : ReadFault) × (kind_numbered number ≡ Some kind) × (cause ≡ fault_number fault) × (fault ≢ Memory → ReadsNothing (section kind) wide bytes))
+    ⊎ ((kind : SectionKind) × (fault : ReadFault) × (kind_numbered number ≡ Some kind) × (cause ≡ fault_number fault) × (fault ≢ Memory → Rejects (section kind) padded bytes))
 
 -- The call returns no section, and writes nothing.
 pub record Refuses (number : ℕ) (bytes old new : List ℕ) (taken cause n : ℕ) : Type 0 where

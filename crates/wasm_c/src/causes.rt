@@ -1,6 +1,6 @@
 // Messages of causes, for C.
 ghost use Rattle.std.specs.Prelude.{◌≡◌, option_map, string_bytes};
-ghost use Rattle.wasm_c.specs.Causes.{fault_texts, recipe_texts, text_numbered, Tells};
+ghost use Rattle.wasm_c.specs.Causes.{fault_texts, recipe_texts, text_numbered, Determines};
 
 use crate::NO_ANSWER;
 use crate::recipes::copied;
@@ -46,7 +46,7 @@ fn recipe_text(cause: u32) -> Option<&'static str>
 /// Returns its length in bytes, or [`NO_ANSWER`] for any other number.
 #[unsafe(no_mangle)]
 pub extern "C" fn dz_cause(cause: u32, out: &mut [u8]) -> u64
-    ensures { Tells (text_numbered fault_texts cause) out.old out.new result }
+    ensures { Determines (text_numbered fault_texts cause) out.old out.new result }
 {
     match fault_text(cause) {
         Some(text) => copied(text.as_bytes(), out),
@@ -58,7 +58,7 @@ pub extern "C" fn dz_cause(cause: u32, out: &mut [u8]) -> u64
 /// without a terminating NUL. Returns its length in bytes, or [`NO_ANSWER`] for any other number.
 #[unsafe(no_mangle)]
 pub extern "C" fn dz_recipe_cause(cause: u32, out: &mut [u8]) -> u64
-    ensures { Tells (text_numbered recipe_texts cause) out.old out.new result }
+    ensures { Determines (text_numbered recipe_texts cause) out.old out.new result }
 {
     match recipe_text(cause) {
         Some(text) => copied(text.as_bytes(), out),

@@ -10,7 +10,7 @@ mod causes;
 mod listing;
 mod outlining;
 mod recipes;
-mod shortest;
+mod minimal;
 #[cfg(test)]
 mod tests;
 mod whole;

@@ -4,7 +4,7 @@ use crate::causes::{dz_cause, dz_recipe_cause};
 use crate::listing::{DzSection, dz_list, number_of as fault_number};
 use crate::outlining::{DzOutlined, dz_outline};
 use crate::recipes::{dz_assemble, number_of as cause_number};
-use crate::shortest::dz_shorten;
+use crate::minimal::dz_shorten;
 use crate::whole::dz_shorten_module;
 use std::alloc::Global;
 use std::process::Abort;
@@ -103,16 +103,16 @@ fn check_text(
 }
 
 #[test]
-fn shortest_texts(rt: HostRuntime) {
+fn minimal_encodings(rt: HostRuntime) {
     let alloc = rt.alloc();
-    let padded: &[u8] = &[0x86, 0x00, 0x01, 0x85, 0x80, 0x80, 0x80, 0x00, 0x99];
-    check_text(&rt, alloc, 5, padded, &mut [9; 4], (3, 8, 0), &[2, 1, 5, 9]);
-    check_text(&rt, alloc, 5, padded, &mut [9; 2], (3, 8, 0), &[9; 2]);
+    let padded_of: &[u8] = &[0x86, 0x00, 0x01, 0x85, 0x80, 0x80, 0x80, 0x00, 0x99];
+    check_text(&rt, alloc, 5, padded_of, &mut [9; 4], (3, 8, 0), &[2, 1, 5, 9]);
+    check_text(&rt, alloc, 5, padded_of, &mut [9; 2], (3, 8, 0), &[9; 2]);
     check_text(
         &rt,
         alloc,
         21,
-        padded,
+        padded_of,
         &mut [9; 8],
         (7, 8, 0),
         &[6, 1, 0x85, 0x80, 0x80, 0x80, 0, 9],
@@ -132,12 +132,12 @@ fn shortest_texts(rt: HostRuntime) {
 #[test]
 fn no_section_stands(rt: HostRuntime) {
     let alloc = rt.alloc();
-    let padded: &[u8] = &[0x86, 0x00, 0x01, 0x85, 0x80, 0x80, 0x80, 0x00, 0x99];
+    let padded_of: &[u8] = &[0x86, 0x00, 0x01, 0x85, 0x80, 0x80, 0x80, 0x00, 0x99];
     check_text(
         &rt,
         alloc,
         5,
-        &padded[..7],
+        &padded_of[..7],
         &mut [9; 3],
         (NO_ANSWER, 0, 1),
         &[9; 3],
@@ -155,7 +155,7 @@ fn no_section_stands(rt: HostRuntime) {
         &rt,
         alloc,
         u32::MAX,
-        padded,
+        padded_of,
         &mut [9; 3],
         (NO_ANSWER, 0, 9),
         &[9; 3],
@@ -268,7 +268,7 @@ const PADDED: &[u8] = b"\0asm\x01\0\0\0\x03\x86\0\x01\x85\x80\x80\x80\0\x03\x01\
 const SYMBOLS: &[u8] = b"\0asm\x01\0\0\0\x0A\x84\0\x01\x02\0\x0B\0\x08\x07linking";
 
 #[test]
-fn shortest_modules(rt: HostRuntime) {
+fn minimal_modules(rt: HostRuntime) {
     let alloc = rt.alloc();
     let short = b"\0asm\x01\0\0\0\x03\x02\x01\x05\x03\x01\x07\x09";
     check_whole(&rt, alloc, PADDED, 0, &mut [9; 16], (15, 1, 0, 0), short);

@@ -3,44 +3,44 @@
 use Rattle.std.proofs.Common.{◌≡◌, ◌≢◌, ℕ, List, [], ◌∷◌, ◌++◌, length, false, arith, Ok, Option, refl, sym, ap, subst, ◌∙◌, ◌<◌, append_assoc, append-nil}
 use Rattle.std.specs.Iterator.{Count, Drains, size}
 use Rattle.std.specs.declared.vec.Vec.{Vec}
-use Rattle.wasm_base.specs.Numbers.{Mode, shortest, wide}
-use Rattle.wasm_base.specs.Formats.{u32, frame, pair, members, vec}
-use Rattle.wasm_base.specs.Reading.{UniqueReading, UniqueWholeReading}
-use Rattle.wasm_base.specs.Calls.{ReadsBack}
+use Rattle.wasm_base.specs.Numbers.{Mode, minimal, padded}
+use Rattle.wasm_base.specs.Formats.{u32, size_prefixed, pair, members, vec}
+use Rattle.wasm_base.specs.Decoding.{Unambiguous, UnambiguousWhole}
+use Rattle.wasm_base.specs.Calls.{DecodesBack}
 use Rattle.wasm_base.specs.Iterators.{AppendsVec}
-use Rattle.wasm_base.specs.Texts.{longest, frame_text, FrameFits}
-use Rattle.wasm_base.specs.Types.{val_type, val_text}
-use Rattle.wasm_base.proofs.FormatLaws.{mapped_whole, pair_unique, pair_whole, vec_unique, frame_unique, members_go_on}
-use Rattle.wasm_base.proofs.NumberLaws.{u32_unique}
-use Rattle.wasm_base.proofs.NumberTexts.{groups_text-last}
-use Rattle.wasm_base.proofs.TypeLaws.{val_unique, val-texts}
-use Rattle.wasm_base.proofs.TextLaws.{reads_alone, frame_spelled, u32_spelled, vec_spelled}
+use Rattle.wasm_base.specs.Encodings.{longest, size_prefixed_encoding, HasEncodableSize}
+use Rattle.wasm_base.specs.Types.{val_type, val_encoding}
+use Rattle.wasm_base.proofs.FormatLaws.{mapped_whole, pair_unambiguous, pair_whole, vec_unambiguous, size_prefixed_unambiguous, members_go_on}
+use Rattle.wasm_base.proofs.NumberLaws.{u32_unambiguous}
+use Rattle.wasm_base.proofs.NumberEncodings.{groups_encoding-last}
+use Rattle.wasm_base.proofs.TypeLaws.{val_unambiguous, val-encodings}
+use Rattle.wasm_base.proofs.EncodingLaws.{decodes_uniquely, size_prefixed_encodes, u32_encodes, vec_encodes}
 use Rattle.wasm_insn.specs.declared.instruction.Instruction.{Instruction}
 use Rattle.wasm_insn.specs.Plain.{Plain, instruction}
 use Rattle.wasm_insn.specs.Table.{table}
-use Rattle.wasm_insn.specs.Instructions.{instruction_text, IsPlainInstruction}
-use Rattle.wasm_insn.proofs.InstructionLaws.{alone, any_begins, lists_whole}
+use Rattle.wasm_insn.specs.Instructions.{instruction_encoding, IsWellFormedInstruction}
+use Rattle.wasm_insn.proofs.InstructionLaws.{unique, any_begins, lists_whole}
 use Rattle.wasm_code.specs.Expressions.{normal_row}
-use Rattle.wasm_code.specs.Bodies.{Run, run_text, locals_text, IsRun, Body, body_of, body, IsPlainBody, IsWideBody, and_then, Grows, GrowsBy, HasLocals, BeginsWithRuns}
-use Rattle.wasm_code.specs.Laws.{GoesOnWith, HasOffsets, FindsAdded}
-use Rattle.wasm_code.proofs.ExpressionLaws.{members_join, members_one, normal_spelled}
+use Rattle.wasm_code.specs.Bodies.{Run, run_encoding, locals_encoding, IsRun, Body, body_of, body, IsWellFormedBody, IsPaddedBody, and_then, Grows, GrowsBy, HasLocals, BeginsWithRuns}
+use Rattle.wasm_code.specs.Laws.{ContinuesWith, HasOffsets, FindsAdded}
+use Rattle.wasm_code.proofs.ExpressionLaws.{members_join, members_one, normal_encodes}
 
 -- ---- unambiguous
 
-pub runs_unique : UniqueReading (vec (pair u32 val_type))
-runs_unique = vec_unique (pair_unique u32_unique val_unique)
+pub runs_unambiguous : Unambiguous (vec (pair u32 val_type))
+runs_unambiguous = vec_unambiguous (pair_unambiguous u32_unambiguous val_unambiguous)
 
-pub body_whole : UniqueWholeReading body
+pub body_whole : UnambiguousWhole body
 body_whole =
     mapped_whole body_of (λ x y e. ap (λ b. (b.runs, b.code)) e)
-    (pair_whole runs_unique lists_whole)
+    (pair_whole runs_unambiguous lists_whole)
 
-pub frame_body_unique : UniqueReading (frame body)
-frame_body_unique = frame_unique body_whole
+pub size_prefixed_body_unambiguous : Unambiguous (size_prefixed body)
+size_prefixed_body_unambiguous = size_prefixed_unambiguous body_whole
 
 -- A raw body that encodes a body decodes to it alone, after its size prefix.
-pub body_reads : (bytes : List ℕ) → FrameFits bytes → ReadsBack (frame body) (IsPlainBody bytes) (frame_text bytes)
-body_reads bytes fits = record { for_each = λ x h. reads_alone {F = frame body} frame_body_unique (frame_spelled body bytes x fits h.spelled) }
+pub body_decodes : (bytes : List ℕ) → HasEncodableSize bytes → DecodesBack (size_prefixed body) (IsWellFormedBody bytes) (size_prefixed_encoding bytes)
+body_decodes bytes encodable = record { for_each = λ x h. decodes_uniquely {F = size_prefixed body} size_prefixed_body_unambiguous (size_prefixed_encodes body bytes x encodable h.encodes) }
 
 -- ---- bodies that grow
 
@@ -60,46 +60,46 @@ grown mode more old x is h g =
       },
     )
 
-pub grows : {A : Type 0} (i : Instruction A) (old new : List ℕ) → new ≡ old ++ instruction_text i → Grows i old new
+pub grows : {A : Type 0} (i : Instruction A) (old new : List ℕ) → new ≡ old ++ instruction_encoding i → Grows i old new
 grows i old new e = record {
-  text = e;
+  encoding = e;
   plain = λ h x held.
-      subst (λ z. IsPlainBody z (and_then x (normal_row i ∷ []))) (sym e)
-      (record { spelled = grown shortest (instruction_text i) old x (normal_row i ∷ []) held.spelled (members_one (instruction table) shortest (instruction_text i) (normal_row i) (normal_spelled i h)) });
+      subst (λ z. IsWellFormedBody z (and_then x (normal_row i ∷ []))) (sym e)
+      (record { encodes = grown minimal (instruction_encoding i) old x (normal_row i ∷ []) held.encodes (members_one (instruction table) minimal (instruction_encoding i) (normal_row i) (normal_encodes i h)) });
 }
 
 pub grows_by : (more old new : List ℕ) → new ≡ old ++ more → GrowsBy more old new
-grows_by more old new e = record { bytes = e; plain = λ x is held spelled. subst (λ z. IsPlainBody z (and_then x is)) (sym e) (record { spelled = grown shortest more old x is held.spelled spelled }) }
+grows_by more old new e = record { bytes = e; plain = λ x is held encodes. subst (λ z. IsWellFormedBody z (and_then x is)) (sym e) (record { encodes = grown minimal more old x is held.encodes encodes }) }
 
 -- A minimal encoding of a body is a possibly padded one.
-pub body_wider : (bytes : List ℕ) (x : Body) → IsPlainBody bytes x → IsWideBody bytes x
-body_wider bytes x plain = record { spelled = body_whole.spellings.wider shortest wide tt bytes x plain.spelled }
+pub body_included : (bytes : List ℕ) (x : Body) → IsWellFormedBody bytes x → IsPaddedBody bytes x
+body_included bytes x plain = record { encodes = body_whole.encodings.included minimal padded tt bytes x plain.encodes }
 
-pub grows_wide : (old more : List ℕ) (x : Body) (is : List Plain) → IsWideBody old x → members (instruction table) wide more is → IsWideBody (old ++ more) (and_then x is)
-grows_wide old more x is h g = record { spelled = grown wide more old x is h.spelled g }
+pub grows_padded : (old more : List ℕ) (x : Body) (is : List Plain) → IsPaddedBody old x → members (instruction table) padded more is → IsPaddedBody (old ++ more) (and_then x is)
+grows_padded old more x is h g = record { encodes = grown padded more old x is h.encodes g }
 
-pub grows_by_instruction : {A : Type 0} (i : Instruction A) (old : List ℕ) (x : Body) → IsPlainInstruction i → IsWideBody old x → IsWideBody (old ++ instruction_text i) (and_then x (normal_row i ∷ []))
+pub grows_by_instruction : {A : Type 0} (i : Instruction A) (old : List ℕ) (x : Body) → IsWellFormedInstruction i → IsPaddedBody old x → IsPaddedBody (old ++ instruction_encoding i) (and_then x (normal_row i ∷ []))
 grows_by_instruction i old x plain h =
-    grows_wide old (instruction_text i) x (normal_row i ∷ []) h
-    (members_one (instruction table) wide (instruction_text i) (normal_row i) (alone.spellings.wider shortest wide tt (instruction_text i) (normal_row i) (normal_spelled i plain)))
+    grows_padded old (instruction_encoding i) x (normal_row i ∷ []) h
+    (members_one (instruction table) padded (instruction_encoding i) (normal_row i) (unique.encodings.included minimal padded tt (instruction_encoding i) (normal_row i) (normal_encodes i plain)))
 
 -- ---- locals
 
-pub run_spelled : (run : Run) → IsRun run → pair u32 val_type shortest (run_text run) run
-run_spelled run h = record { front = _; back = val_text run.1; joined = refl; first = u32_spelled run.0 h.0; second = val-texts.spelled run.1 h.1 }
+pub run_encodes : (run : Run) → IsRun run → pair u32 val_type minimal (run_encoding run) run
+run_encodes run h = record { front = _; back = val_encoding run.1; joined = refl; first = u32_encodes run.0 h.0; second = val-encodings.encodes run.1 h.1 }
 
-pub has_locals : (runs : List Run) (bytes : List ℕ) → bytes ≡ locals_text runs → HasLocals runs bytes
+pub has_locals : (runs : List Run) (bytes : List ℕ) → bytes ≡ locals_encoding runs → HasLocals runs bytes
 has_locals runs bytes e = record {
-  text = e;
+  encoding = e;
   plain = λ count are. record {
-    spelled = (
+    encodes = (
       (runs, []),
       refl,
       record {
         front = bytes;
         back = [];
         joined = sym (append-nil bytes);
-        first = subst (λ z. vec (pair u32 val_type) shortest z runs) (sym e) (vec_spelled (pair u32 val_type) IsRun run_text run_spelled runs (record { count = count; members = are }));
+        first = subst (λ z. vec (pair u32 val_type) minimal z runs) (sym e) (vec_encodes (pair u32 val_type) IsRun run_encoding run_encodes runs (record { count = count; members = are }));
         second = refl;
       },
     );
@@ -109,46 +109,46 @@ has_locals runs bytes e = record {
 -- ---- the next instruction
 
 -- The instructions of a longer body continue where those of the shorter one end.
-goes_on : (front more : List ℕ) (x y : Body) → body shortest front x → body shortest (front ++ more) y → (next : List Plain) × (y ≡ and_then x next) × members (instruction table) shortest more next
-goes_on front more x y h g =
+continues : (front more : List ℕ) (x y : Body) → body minimal front x → body minimal (front ++ more) y → (next : List Plain) × (y ≡ and_then x next) × members (instruction table) minimal more next
+continues front more x y h g =
     let a = h.2 in
     let b = g.2 in
-    let r = runs_unique.alone shortest a.front b.front (a.back ++ more) b.back h.0.0 g.0.0 a.first b.first (sym (append_assoc a.front a.back more) ∙ ap (λ z. z ++ more) (sym a.joined) ∙ b.joined) in
-    let m = members_go_on (λ b. Unit {0}) any_begins alone shortest a.back more h.0.1 g.0.1 a.second (subst (λ z. members (instruction table) shortest z g.0.1) (sym r.2) b.second) in
+    let r = runs_unambiguous.unique minimal a.front b.front (a.back ++ more) b.back h.0.0 g.0.0 a.first b.first (sym (append_assoc a.front a.back more) ∙ ap (λ z. z ++ more) (sym a.joined) ∙ b.joined) in
+    let m = members_go_on (λ b. Unit {0}) any_begins unique minimal a.back more h.0.1 g.0.1 a.second (subst (λ z. members (instruction table) minimal z g.0.1) (sym r.2) b.second) in
     let runs : y.runs ≡ x.runs = ap (λ z. z.runs) (sym g.1) ∙ sym r.0 ∙ ap (λ z. z.runs) h.1 in
     let code : y.code ≡ x.code ++ m.0 = ap (λ z. z.code) (sym g.1) ∙ m.1 ∙ ap (λ z. z.code ++ m.0) h.1 in
     (m.0, λ i. record { runs = runs i; code = code i }, m.2)
 
 pub offsets : HasOffsets
-offsets = record { begins = λ front more x y h g longer. let on = goes_on front more x y h g in first more x y longer on.0 on.1 on.2 }
+offsets = record { begins = λ front more x y h g longer. let on = continues front more x y h g in first more x y longer on.0 on.1 on.2 }
   where
-    first : (more : List ℕ) (x y : Body) → more ≢ [] → (next : List Plain) → y ≡ and_then x next → members (instruction table) shortest more next → (i : Plain) × GoesOnWith more x y i
+    first : (more : List ℕ) (x y : Body) → more ≢ [] → (next : List Plain) → y ≡ and_then x next → members (instruction table) minimal more next → (i : Plain) × ContinuesWith more x y i
     first more x y longer [] e g = absurd (longer g)
-    first more x y longer (i ∷ is) e g = (i, record { others = is; same = e; spelled = g })
+    first more x y longer (i ∷ is) e g = (i, record { others = is; same = e; encodes = g })
 
 pub finds_added : {A : Type 0} (i : Instruction A) → FindsAdded i
 finds_added i = record {
-  begins = λ front rest x y plain h g. let on = goes_on front (instruction_text i ++ rest) x y h g in first rest x y plain on.0 on.1 on.2;
+  begins = λ front rest x y plain h g. let on = continues front (instruction_encoding i ++ rest) x y h g in first rest x y plain on.0 on.1 on.2;
 }
   where
-    first : (rest : List ℕ) (x y : Body) → IsPlainInstruction i → (next : List Plain) → y ≡ and_then x next → members (instruction table) shortest (instruction_text i ++ rest) next → GoesOnWith (instruction_text i ++ rest) x y (normal_row i)
+    first : (rest : List ℕ) (x y : Body) → IsWellFormedInstruction i → (next : List Plain) → y ≡ and_then x next → members (instruction table) minimal (instruction_encoding i ++ rest) next → ContinuesWith (instruction_encoding i ++ rest) x y (normal_row i)
     first rest x y plain [] e g =
-        let b = any_begins shortest (instruction_text i) (normal_row i) (normal_spelled i plain) in
+        let b = any_begins minimal (instruction_encoding i) (normal_row i) (normal_encodes i plain) in
         absurd (cc (ap (λ z. z ++ rest) (sym b.2) ∙ g))
     first rest x y plain (j ∷ js) e g =
-        let same = alone.alone shortest (instruction_text i) g.0 rest g.1 (normal_row i) j (normal_spelled i plain) g.3 g.2 in
+        let same = unique.unique minimal (instruction_encoding i) g.0 rest g.1 (normal_row i) j (normal_encodes i plain) g.3 g.2 in
         let is : j ≡ normal_row i = sym same.0 in
-        record { others = js; same = subst (λ z. y ≡ and_then x (z ∷ js)) is e; spelled = subst (λ z. members (instruction table) shortest (instruction_text i ++ rest) (z ∷ js)) is g }
+        record { others = js; same = subst (λ z. y ≡ and_then x (z ∷ js)) is e; encodes = subst (λ z. members (instruction table) minimal (instruction_encoding i ++ rest) (z ∷ js)) is g }
 
 -- ---- calls
 
 -- The items of an iterator of known length are encoded as the runs.
-pub runs_given : {U S A : Type 0} (becomes : U → S → Type 0) (gives : S → Option Run → S → Type 0) (remaining : S → Count) (Fits : Run → Type 0) (elements : U) (it : S) (old new : Vec ℕ A) → becomes elements it → old.items ≡ []
-    → AppendsVec (λ a b. b ≡ a) gives remaining Fits run_text it old new (Ok (tt {0})) → BeginsWithRuns becomes gives remaining elements (Ok new.items)
-runs_given becomes gives remaining Fits elements it old new made e h =
+pub runs_given : {U S A : Type 0} (becomes : U → S → Type 0) (gives : S → Option Run → S → Type 0) (remaining : S → Count) (Encodable : Run → Type 0) (elements : U) (it : S) (old new : Vec ℕ A) → becomes elements it → old.items ≡ []
+    → AppendsVec (λ a b. b ≡ a) gives remaining Encodable run_encoding it old new (Ok (tt {0})) → BeginsWithRuns becomes gives remaining elements (Ok new.items)
+runs_given becomes gives remaining Encodable elements it old new made e h =
     let given = h.ok in
     record {
-      ok = (it, given.1, made, subst (λ i. Drains gives i given.1) given.2 given.3, given.4.count, has_locals given.1 new.items (given.5 ∙ ap (λ z. z ++ locals_text given.1) e));
+      ok = (it, given.1, made, subst (λ i. Drains gives i given.1) given.2 given.3, given.4.count, has_locals given.1 new.items (given.5 ∙ ap (λ z. z ++ locals_encoding given.1) e));
       too_long = λ told is. absurd (cc is);
       too_many = λ many. absurd (cc (h.too_many (λ i same. subst (λ j. longest < size (remaining j)) (sym same) (many it made))));
     }
@@ -158,5 +158,5 @@ pub ruleset offset = (offsets, finds_added)
 -- ---- no locals
 
 pub no_locals : (runs : List Run) (bytes : List ℕ) → length runs ≡ 0 → HasLocals runs bytes → bytes ≡ 0x00 ∷ []
-no_locals [] bytes l h = h.text ∙ ap (λ z. z ++ []) (groups_text-last false 0x80 0 (omega arith))
+no_locals [] bytes l h = h.encoding ∙ ap (λ z. z ++ []) (groups_encoding-last false 0x80 0 (omega arith))
 no_locals (run ∷ runs) bytes l h = absurd (omega (arith, l))

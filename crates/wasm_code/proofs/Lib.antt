@@ -3,8 +3,8 @@ pub mod RefFuncLaws
 pub mod RunLaws
 pub mod BodyLaws
 pub mod CodeLaws
-pub mod CodeTexts
+pub mod CodeEncodings
 pub mod Calls
-pub mod NothingLaws
+pub mod RejectionLaws
 pub mod Drained
 pub mod SameTypes

@@ -9,7 +9,7 @@ use Rattle.wasm_base.specs.declared.refused.Refused.TheVariants.{TooLong}
 use Rattle.wasm_base.specs.declared.types.ValType.{ValType}
 use Rattle.wasm_base.proofs.FormatLaws.{same_pair}
 use Rattle.wasm_base.proofs.Yielded.{All-last}
-use Rattle.wasm_code.specs.Bodies.{Run, expand, IsRuns, IsCounted, RunsFit, AreRunsOf, MoreRuns, IsFull, HasLocals, GathersRuns, BeginsWithRuns, BeginsWithTypes}
+use Rattle.wasm_code.specs.Bodies.{Run, expand, IsRuns, IsCounted, AreEncodableRuns, AreRunsOf, MoreRuns, IsFull, HasLocals, GathersRuns, BeginsWithRuns, BeginsWithTypes}
 use Rattle.wasm_code.specs.Laws.{HaveOneExpansion}
 
 count_low : (p : Run) (xs : List Run) → IsRuns (p ∷ xs) → 1 ≤ p.0
@@ -42,16 +42,16 @@ same_count p q xs ys h g t e l =
     let joined : replicate p.0 p.1 ++ expand xs ≡ replicate q.0 p.1 ++ expand ys = subst (λ z. replicate p.0 p.1 ++ expand xs ≡ replicate q.0 z ++ expand ys) (sym t) e in
     clash p xs (q.0 - p.0) (expand ys) h (omega (arith, l)) (longer p.0 q.0 p.1 (expand xs) (expand ys) l joined)
 
-pub unique : (xs ys : List Run) → IsRuns xs → IsRuns ys → expand xs ≡ expand ys → xs ≡ ys
-unique [] [] h g e = refl
-unique [] (q ∷ ys) h g e = let same : [] ≡ q.1 ∷ (replicate (q.0 - 1) q.1 ++ expand ys) = e ∙ begins q.0 q.1 (expand ys) (count_low q ys g) in absurd (cc same)
-unique (p ∷ xs) [] h g e = let same : [] ≡ p.1 ∷ (replicate (p.0 - 1) p.1 ++ expand xs) = sym e ∙ begins p.0 p.1 (expand xs) (count_low p xs h) in absurd (cc same)
-unique (p ∷ xs) (q ∷ ys) h g e =
+pub unambiguous : (xs ys : List Run) → IsRuns xs → IsRuns ys → expand xs ≡ expand ys → xs ≡ ys
+unambiguous [] [] h g e = refl
+unambiguous [] (q ∷ ys) h g e = let same : [] ≡ q.1 ∷ (replicate (q.0 - 1) q.1 ++ expand ys) = e ∙ begins q.0 q.1 (expand ys) (count_low q ys g) in absurd (cc same)
+unambiguous (p ∷ xs) [] h g e = let same : [] ≡ p.1 ∷ (replicate (p.0 - 1) p.1 ++ expand xs) = sym e ∙ begins p.0 p.1 (expand xs) (count_low p xs h) in absurd (cc same)
+unambiguous (p ∷ xs) (q ∷ ys) h g e =
     let heads : p.1 ∷ (replicate (p.0 - 1) p.1 ++ expand xs) ≡ q.1 ∷ (replicate (q.0 - 1) q.1 ++ expand ys) = sym (begins p.0 p.1 (expand xs) (count_low p xs h)) ∙ e ∙ begins q.0 q.1 (expand ys) (count_low q ys g) in
     let type : p.1 ≡ q.1 = cc heads in
     let count : p.0 ≡ q.0 = go type (cases_lt p.0 q.0) (cases_lt q.0 p.0) in
     let tails : expand xs ≡ expand ys = append_cancel_left (replicate p.0 p.1) (expand xs) (expand ys) (e ∙ ap₂ (λ n t. replicate n t ++ expand ys) (sym count) (sym type)) in
-    ap₂ ◌∷◌ (same_pair p q count type) (unique xs ys (runs_tail p xs h) (runs_tail q ys g) tails)
+    ap₂ ◌∷◌ (same_pair p q count type) (unambiguous xs ys (runs_tail p xs h) (runs_tail q ys g) tails)
   where
     go : p.1 ≡ q.1 → (p.0 < q.0) ⊎ (q.0 ≤ p.0) → (q.0 < p.0) ⊎ (p.0 ≤ q.0) → p.0 ≡ q.0
     go t (inl l) m = absurd (same_count p q xs ys h g t e l)
@@ -59,7 +59,7 @@ unique (p ∷ xs) (q ∷ ys) h g e =
     go t (inr l) (inr m) = omega (arith, l, m)
 
 pub one_expansion : (xs ys : List Run) → HaveOneExpansion xs ys
-one_expansion xs ys = record { same = unique xs ys }
+one_expansion xs ys = record { same = unambiguous xs ys }
 
 -- ---- one more local
 
@@ -109,20 +109,20 @@ first_run u old new before after = record {
 -- ---- all locals
 
 pub are_runs_of : (types : List ValType) (runs : List Run) → IsRuns runs → expand runs ≡ types → AreRunsOf types runs
-are_runs_of types runs are e = record { are_runs = are; expanded = e; only = λ others h g. unique others runs h are (g ∙ sym e) }
+are_runs_of types runs are e = record { are_runs = are; expanded = e; only = λ others h g. unambiguous others runs h are (g ∙ sym e) }
 
 -- If the last run is full, no runs of the types and one more of its type fit.
-overfull : (t : ValType) (old : List Run) (types : List ValType) → IsRuns old → expand old ≡ types → ((runs : List Run) → AreRunsOf (types ++ t ∷ []) runs → RunsFit runs) → IsFull t old → ⊥
-overfull t old types are e fits full =
+overfull : (t : ValType) (old : List Run) (types : List ValType) → IsRuns old → expand old ≡ types → ((runs : List Run) → AreRunsOf (types ++ t ∷ []) runs → AreEncodableRuns runs) → IsFull t old → ⊥
+overfull t old types are e encodable full =
     let new : List Run = full.others ++ (full.count + 1, t) ∷ [] in
     let more = longer_run full.others full.count (full.count + 1) t old new full.last refl refl in
-    let all = fits new (are_runs_of (types ++ t ∷ []) new (more.runs are) (more.expanded ∙ ap (λ z. z ++ t ∷ []) e)) in
+    let all = encodable new (are_runs_of (types ++ t ∷ []) new (more.runs are) (more.expanded ∙ ap (λ z. z ++ t ∷ []) e)) in
     omega (arith, full.full, All-last IsCounted full.others (full.count + 1, t) all.counts)
 
 -- A call that adds a local therefore fails for another reason.
-pub not_full : (result : Result (Unit {0}) Refused) (t : ValType) (old : List Run) (types : List ValType) → IsRuns old → expand old ≡ types → ((runs : List Run) → AreRunsOf (types ++ t ∷ []) runs → RunsFit runs)
+pub not_full : (result : Result (Unit {0}) Refused) (t : ValType) (old : List Run) (types : List ValType) → IsRuns old → expand old ≡ types → ((runs : List Run) → AreRunsOf (types ++ t ∷ []) runs → AreEncodableRuns runs)
     → (result ≡ Err TooLong → IsFull t old) → result ≢ Err TooLong
-not_full result t old types are e fits full is = overfull t old types are e fits (full is)
+not_full result t old types are e encodable full is = overfull t old types are e encodable (full is)
 
 -- ---- calls
 
@@ -136,8 +136,8 @@ types_given becomes gives vec_becomes vec_gives remaining elements given runs (E
     let left = all.3.1 in
     record {
       ok = tt;
-      too_long = λ fits.
-          let fit = fits all.0 left.0 all.1 runs.items all.2 left.1 all.4 in
+      too_long = λ encodable.
+          let fit = encodable all.0 left.0 all.1 runs.items all.2 left.1 all.4 in
           g.too_long (λ it b. omega (arith, told it b, fit.count));
     }
 types_given becomes gives vec_becomes vec_gives remaining elements given runs (Ok bytes) items told h g =
@@ -155,5 +155,5 @@ types_given becomes gives vec_becomes vec_gives remaining elements given runs (O
         record { count = omega (arith, begun.4, ap length same); counts = all.5 },
         subst (λ rs. HasLocals rs bytes) same begun.5,
       );
-      too_long = λ fits is. absurd (cc is);
+      too_long = λ encodable is. absurd (cc is);
     }

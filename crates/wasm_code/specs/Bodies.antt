@@ -4,17 +4,17 @@ use Rattle.std.specs.Prelude.{◌≡◌, ◌≢◌, ℕ, ◌^◌, ◌<◌, ◌�
 use Rattle.std.specs.Iterator.{Count, Drains, Yields, size}
 use Rattle.std.specs.List.{All}
 use Rattle.std.specs.declared.vec.Vec.{Vec}
-use Rattle.wasm_base.specs.Numbers.{shortest, wide, unsigned_text}
+use Rattle.wasm_base.specs.Numbers.{minimal, padded, unsigned_encoding}
 use Rattle.wasm_base.specs.Formats.{Format, u32, mapped, pair, members, vec}
-use Rattle.wasm_base.specs.Texts.{longest, vec_text}
-use Rattle.wasm_base.specs.Types.{val_text, val_type, IsVal}
+use Rattle.wasm_base.specs.Encodings.{longest, vec_encoding}
+use Rattle.wasm_base.specs.Types.{val_encoding, val_type, IsVal}
 use Rattle.wasm_base.specs.declared.types.ValType.{ValType}
 use Rattle.wasm_base.specs.declared.refused.Refused.{Refused}
 use Rattle.wasm_base.specs.declared.refused.Refused.TheVariants.{TooLong}
 use Rattle.wasm_insn.specs.declared.instruction.Instruction.{Instruction}
 use Rattle.wasm_insn.specs.Plain.{Plain, instruction}
 use Rattle.wasm_insn.specs.Table.{table}
-use Rattle.wasm_insn.specs.Instructions.{instruction_text, InstructionFits, IsPlainInstruction}
+use Rattle.wasm_insn.specs.Instructions.{instruction_encoding, IsEncodableInstruction, IsWellFormedInstruction}
 use Rattle.wasm_code.specs.Expressions.{normal_row}
 
 -- ---- locals
@@ -24,12 +24,12 @@ abbrev pub Run : Type 0
 Run = ℕ × ValType
 
 -- The encoding of a run: its count and its type.
-abbrev pub run_text : Run → List ℕ
-run_text run = unsigned_text run.0 ++ val_text run.1
+abbrev pub run_encoding : Run → List ℕ
+run_encoding run = unsigned_encoding run.0 ++ val_encoding run.1
 
 -- The encoding of the locals of a body: the vector of its runs.
-abbrev pub locals_text : List Run → List ℕ
-locals_text runs = vec_text run_text runs
+abbrev pub locals_encoding : List Run → List ℕ
+locals_encoding runs = vec_encoding run_encoding runs
 
 -- The numbers of the run are below 2^32, as in every run that code builds.
 abbrev pub IsRun : Run → Type 0
@@ -51,7 +51,7 @@ abbrev pub IsCounted : Run → Type 0
 IsCounted run = run.0 ≤ longest
 
 -- The number of runs, and the count of each, are at most 2^32 - 1.
-pub record RunsFit (runs : List Run) : Type 0 where
+pub record AreEncodableRuns (runs : List Run) : Type 0 where
   pub count : length runs ≤ longest
   pub counts : All IsCounted runs
 
@@ -90,12 +90,12 @@ abbrev pub body : Format Body
 body = mapped body_of (pair (vec (pair u32 val_type)) (members (instruction table)))
 
 -- The raw body is the minimal encoding of this body.
-pub record IsPlainBody (bytes : List ℕ) (x : Body) : Type 0 where
-  pub spelled : body shortest bytes x
+pub record IsWellFormedBody (bytes : List ℕ) (x : Body) : Type 0 where
+  pub encodes : body minimal bytes x
 
 -- The raw body is a possibly padded encoding of this body.
-pub record IsWideBody (bytes : List ℕ) (x : Body) : Type 0 where
-  pub spelled : body wide bytes x
+pub record IsPaddedBody (bytes : List ℕ) (x : Body) : Type 0 where
+  pub encodes : body padded bytes x
 
 -- A body with more instructions after its own.
 abbrev pub and_then : Body → List Plain → Body
@@ -104,14 +104,14 @@ and_then x more = record { runs = x.runs; code = x.code ++ more }
 -- The bytes gain the encoding of `i`. If `i` is well-formed and the old bytes minimally encode a
 -- body, the new bytes encode it with the normal form of `i` appended.
 pub record Grows {A : Type 0} (i : Instruction A) (old new : List ℕ) : Type 0 where
-  pub text : new ≡ old ++ instruction_text i
-  pub plain : IsPlainInstruction i → (x : Body) → IsPlainBody old x → IsPlainBody new (and_then x (normal_row i ∷ []))
+  pub encoding : new ≡ old ++ instruction_encoding i
+  pub plain : IsWellFormedInstruction i → (x : Body) → IsWellFormedBody old x → IsWellFormedBody new (and_then x (normal_row i ∷ []))
 
 -- The bytes gain `more`. If the old bytes minimally encode a body and `more` minimally encodes
 -- instructions, the new bytes encode the body with these appended.
 pub record GrowsBy (more old new : List ℕ) : Type 0 where
   pub bytes : new ≡ old ++ more
-  pub plain : (x : Body) (is : List Plain) → IsPlainBody old x → members (instruction table) shortest more is → IsPlainBody new (and_then x is)
+  pub plain : (x : Body) (is : List Plain) → IsWellFormedBody old x → members (instruction table) minimal more is → IsWellFormedBody new (and_then x is)
 
 -- ---- calls
 
@@ -119,14 +119,14 @@ pub record GrowsBy (more old new : List ℕ) : Type 0 where
 pub record AddsInstruction {A : Type 0} (i : Instruction A) (old new : List ℕ) (result : Result (Unit {0}) Refused) : Type 0 where
   pub ok : OnOk result (Grows i old new)
   pub err : OnErr result (new ≡ old)
-  pub fitted : OnOk result (InstructionFits i)
-  pub too_long : InstructionFits i → result ≢ Err TooLong
+  pub was_encodable : OnOk result (IsEncodableInstruction i)
+  pub too_long : IsEncodableInstruction i → result ≢ Err TooLong
 
 -- The raw body has these runs and no instructions. If the runs are in range and at most 2^32 - 1,
 -- it is the minimal encoding of that body.
 pub record HasLocals (runs : List Run) (bytes : List ℕ) : Type 0 where
-  pub text : bytes ≡ locals_text runs
-  pub plain : length runs ≤ longest → All IsRun runs → IsPlainBody bytes (record { runs = runs; code = [] })
+  pub encoding : bytes ≡ locals_encoding runs
+  pub plain : length runs ≤ longest → All IsRun runs → IsWellFormedBody bytes (record { runs = runs; code = [] })
 
 -- The new function has the runs that the iterator yields. More than 2^32 - 1 runs give `TooLong`.
 pub record BeginsWithRuns {U S : Type 0} (becomes : U → S → Type 0) (gives : S → Option Run → S → Type 0) (remaining : S → Count) (elements : U) (result : Result (List ℕ) Refused) : Type 0 where
@@ -138,10 +138,10 @@ pub record BeginsWithRuns {U S : Type 0} (becomes : U → S → Type 0) (gives :
 -- fit, the call never returns `TooLong`.
 pub record GathersRuns {U S A : Type 0} (becomes : U → S → Type 0) (gives : S → Option ValType → S → Type 0) (elements : U) (result : Result (Vec Run A) Refused) : Type 0 where
   pub ok : IfOk result (λ runs. (it : S) × (types : List ValType) × becomes elements it × Drains gives it types × AreRunsOf types runs.items × All IsCounted runs.items)
-  pub too_long : ((it left : S) (types : List ValType) (runs : List Run) → becomes elements it → Yields gives it types left → AreRunsOf types runs → RunsFit runs) → result ≢ Err TooLong
+  pub too_long : ((it left : S) (types : List ValType) (runs : List Run) → becomes elements it → Yields gives it types left → AreRunsOf types runs → AreEncodableRuns runs) → result ≢ Err TooLong
 
 -- The new function has the canonical runs of the types that the iterator yields. If the runs of the
 -- types fit, the call never returns `TooLong`.
 pub record BeginsWithTypes {U S : Type 0} (becomes : U → S → Type 0) (gives : S → Option ValType → S → Type 0) (elements : U) (result : Result (List ℕ) Refused) : Type 0 where
-  pub ok : IfOk result (λ bytes. (it : S) × (types : List ValType) × becomes elements it × Drains gives it types × (runs : List Run) × AreRunsOf types runs × RunsFit runs × HasLocals runs bytes)
-  pub too_long : ((it left : S) (types : List ValType) (runs : List Run) → becomes elements it → Yields gives it types left → AreRunsOf types runs → RunsFit runs) → result ≢ Err TooLong
+  pub ok : IfOk result (λ bytes. (it : S) × (types : List ValType) × becomes elements it × Drains gives it types × (runs : List Run) × AreRunsOf types runs × AreEncodableRuns runs × HasLocals runs bytes)
+  pub too_long : ((it left : S) (types : List ValType) (runs : List Run) → becomes elements it → Yields gives it types left → AreRunsOf types runs → AreEncodableRuns runs) → result ≢ Err TooLong

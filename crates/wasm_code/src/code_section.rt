@@ -2,16 +2,16 @@
 ghost use Rattle.std.specs.Prelude.{◌≡◌, ◌≢◌, ℕ, List, [], length, IfOk, IsTrue, ◌↔◌, slice_get};
 ghost use Rattle.std.specs.Option.{option_copied};
 ghost use Rattle.wasm_base.specs.Calls.{Adds};
-ghost use Rattle.wasm_base.specs.Pieces.{joined, section_text, SectionFits, IsOverlong};
-ghost use Rattle.wasm_base.specs.Texts.{frame_text, FrameFits};
+ghost use Rattle.wasm_base.specs.Pieces.{joined, section_encoding, IsEncodableSection, IsOverlong};
+ghost use Rattle.wasm_base.specs.Encodings.{size_prefixed_encoding, HasEncodableSize};
 ghost use Rattle.wasm_base.specs.declared.refused.Refused.TheVariants.{TooLong};
 ghost use Rattle.wasm_code.specs.Bodies.{Body};
-ghost use Rattle.wasm_code.specs.Code.{code_section, SpellsBodies, ReadsCode};
+ghost use Rattle.wasm_code.specs.Code.{code_section, EncodesBodies, DecodesCode};
 
 use crate::function::Function;
 use std::alloc::{Allocator, Global};
 use std::marker::Model;
-use wasm_base::{Counted, Encode, Pieces, R, Section, SectionId, encode_frame};
+use wasm_base::{Counted, Encode, Pieces, R, Section, SectionId, encode_size_prefixed};
 
 /// The code section: the bodies of a module's functions, modelled as the bytes of each entry. An
 /// entry is a raw body with its size prefix.
@@ -45,13 +45,13 @@ pub(crate) struct RawBody<'a> {
 }
 
 impl Encode for RawBody<'_> {
-    ghost text = { λ body. frame_text body.bytes.now };
+    ghost encoding = { λ body. size_prefixed_encoding body.bytes.now };
 
-    ghost fits = { λ body. FrameFits body.bytes.now };
+    ghost encodable = { λ body. HasEncodableSize body.bytes.now };
 
     #[inline]
     fn encode<A: Allocator>(&self, sink: &mut Vec<u8, A>) -> R<()> {
-        encode_frame(sink, self.bytes)
+        encode_size_prefixed(sink, self.bytes)
     }
 }
 
@@ -86,14 +86,14 @@ impl<A: Allocator> CodeSection<A> {
 
     /// Adds a function body.
     pub fn function<B: Allocator>(&mut self, function: &Function<B>) -> R<()>
-        ensures { Adds (frame_text function.now) (FrameFits function.now) self.old self.new result }
+        ensures { Adds (size_prefixed_encoding function.now) (HasEncodableSize function.now) self.old self.new result }
     {
         self.pieces.add_encoded(function)
     }
 
     /// Adds a raw body, as `Function::into_raw_body` returns it.
     pub fn raw(&mut self, body: &[u8]) -> R<()>
-        ensures { Adds (frame_text body.now) (FrameFits body.now) self.old self.new result }
+        ensures { Adds (size_prefixed_encoding body.now) (HasEncodableSize body.now) self.old self.new result }
     {
         self.pieces.add_encoded(&RawBody { bytes: body })
     }
@@ -122,13 +122,13 @@ impl<A: Allocator + Copy> CodeSection<A> {
 
 /// Encodes the size prefix, the number of bodies, and the bodies, each with its size prefix.
 impl<A: Allocator> Encode for CodeSection<A> {
-    ghost text = { section_text };
+    ghost encoding = { section_encoding };
 
-    ghost fits = { SectionFits };
+    ghost encodable = { IsEncodableSection };
 
     ghost overlong = { IsOverlong };
 
-    ghost reading = { λ section. ReadsCode section (section_text section) };
+    ghost decoding = { λ section. DecodesCode section (section_encoding section) };
 
     fn encode<B: Allocator>(&self, sink: &mut Vec<u8, B>) -> R<()> {
         self.pieces.encode(sink)
@@ -136,7 +136,7 @@ impl<A: Allocator> Encode for CodeSection<A> {
 }
 
 impl<A: Allocator> Section for CodeSection<A> {
-    ghost use Rattle.wasm_base.specs.Pieces.{SectionPayload, section_framed};
+    ghost use Rattle.wasm_base.specs.Pieces.{SectionPayload, section_sized};
     ghost use Rattle.wasm_base.specs.SectionId.{number_of};
     ghost use Rattle.wasm_base.specs.declared.section_id.SectionId.TheVariants as ids;
 
@@ -146,7 +146,7 @@ impl<A: Allocator> Section for CodeSection<A> {
 
     ghost format = { code_section };
 
-    ghost says = { SpellsBodies };
+    ghost says = { EncodesBodies };
 
     ghost payload = { SectionPayload };
 
@@ -154,9 +154,9 @@ impl<A: Allocator> Section for CodeSection<A> {
         SectionId::Code.into()
     }
 
-    ghost framed = { section_framed };
+    ghost sized = { section_sized };
 
-    ghost reads_back = { λ section promised. promised.bodies };
+    ghost decodes_back = { λ section promised. promised.bodies };
 }
 
 impl<A: Allocator, B: Allocator> Counted<Function<B>> for CodeSection<A> {
@@ -164,9 +164,9 @@ impl<A: Allocator, B: Allocator> Counted<Function<B>> for CodeSection<A> {
 
     ghost pieces = { λ section. section };
 
-    ghost item_text = { frame_text };
+    ghost item_encoding = { size_prefixed_encoding };
 
-    ghost item_fits = { FrameFits };
+    ghost item_encodable = { HasEncodableSize };
 
     fn add(&mut self, item: &Function<B>) -> R<()> {
         self.function(item)

@@ -1,10 +1,10 @@
 // Constant expressions: the initializers of globals, tables and segments.
 ghost use Rattle.std.specs.Prelude.{◌≡◌, ◌≢◌, ◌<◌, ◌≤◌, ◌^◌, ℕ, List, [], ◌++◌, IfOk, IfSome, ⊤};
 ghost use Rattle.std.specs.Iterator.{Drains, IsFinite};
-ghost use Rattle.wasm_base.specs.Calls.{ReadsBack};
+ghost use Rattle.wasm_base.specs.Calls.{DecodesBack};
 ghost use Rattle.wasm_base.specs.declared.refused.Refused.TheVariants.{TooLong};
-ghost use Rattle.wasm_base.specs.Texts.{optional_text};
-ghost use Rattle.wasm_code.specs.Expressions.{expression, expression_text, StoresInstructions, instruction_of, first_text, Stores, StoresGiven, AppendsEach, IsRefFunc};
+ghost use Rattle.wasm_base.specs.Encodings.{optional_encoding};
+ghost use Rattle.wasm_code.specs.Expressions.{expression, expression_encoding, StoresInstructions, instruction_of, first_encoding, Stores, StoresGiven, AppendsEach, IsRefFunc};
 
 use crate::first::First;
 use crate::function::append_all;
@@ -33,7 +33,7 @@ pub struct ConstExpr<A: Allocator = Global> {
 impl<A: Allocator> Model for ConstExpr<A> {
     ghost Value = { List ℕ };
 
-    ghost view = { λ e. optional_text first_text e.first ++ e.bytes.items };
+    ghost view = { λ e. optional_encoding first_encoding e.first ++ e.bytes.items };
 }
 
 /// The length of `V128Const` in bytes.
@@ -354,7 +354,7 @@ fn encode_each<T: Encode + Drop, I: IntoIterator<Item = T>, A: Allocator>(
 where
     I::IntoIter: Drop,
     requires { (it : I.IntoIter) → I.into_iter_gives elements it → I.IntoIter.can_next it × IsFinite (I.IntoIter.remaining it) }
-    ensures { AppendsEach I.into_iter_gives I.IntoIter.next_gives T.fits T.text elements sink.old.items sink.new.items result }
+    ensures { AppendsEach I.into_iter_gives I.IntoIter.next_gives T.encodable T.encoding elements sink.old.items sink.new.items result }
 {
     for element in elements {
         element.encode(sink)?;
@@ -382,9 +382,9 @@ pub(crate) struct Stored<'a>(pub(crate) &'a [u8]);
 
 /// Encodes the bytes as they are.
 impl Encode for Stored<'_> {
-    ghost text = { λ stored. stored.0.now };
+    ghost encoding = { λ stored. stored.0.now };
 
-    ghost fits = { λ _. ⊤ };
+    ghost encodable = { λ _. ⊤ };
 
     #[inline]
     fn encode<A: Allocator>(&self, sink: &mut Vec<u8, A>) -> R<()> {
@@ -398,13 +398,13 @@ pub(crate) const END: u8 = 0x0B;
 
 /// Encodes the stored bytes, and `End`.
 impl<A: Allocator> Encode for ConstExpr<A> {
-    ghost text = { expression_text };
+    ghost encoding = { expression_encoding };
 
-    ghost fits = { λ _. ⊤ };
+    ghost encodable = { λ _. ⊤ };
 
-    ghost reading = { λ e. ReadsBack expression (StoresInstructions e) (expression_text e) };
+    ghost decoding = { λ e. DecodesBack expression (StoresInstructions e) (expression_encoding e) };
 
-    #[tactic(auto, using(crate::proofs::ExpressionLaws::expression_reads))]
+    #[tactic(auto, using(crate::proofs::ExpressionLaws::expression_decodes))]
     #[inline]
     fn encode<B: Allocator>(&self, sink: &mut Vec<u8, B>) -> R<()> {
         (Optional(self.first), Stored(&self.bytes), END).encode(sink)

@@ -1,6 +1,6 @@
 // The first instruction of a constant expression, kept as a value.
 ghost use Rattle.std.specs.Prelude.{◌≡◌, ◌<◌, ◌^◌, IfSome, ⊤};
-ghost use Rattle.wasm_code.specs.Expressions.{first_text, index_of};
+ghost use Rattle.wasm_code.specs.Expressions.{first_encoding, index_of};
 
 use std::alloc::Allocator;
 use wasm_base::{Encode, HeapType, R};
@@ -34,9 +34,9 @@ impl First {
 
 /// Encodes the instruction.
 impl Encode for First {
-    ghost text = { first_text };
+    ghost encoding = { first_encoding };
 
-    ghost fits = { λ _. ⊤ };
+    ghost encodable = { λ _. ⊤ };
 
     #[inline]
     fn encode<A: Allocator>(&self, sink: &mut Vec<u8, A>) -> R<()> {

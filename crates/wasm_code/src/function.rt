@@ -1,17 +1,17 @@
 // Function bodies: locals and instructions.
 ghost use Rattle.std.specs.Prelude.{◌≡◌, ◌≢◌, ◌++◌, ℕ, List, length, OnOk, OnErr, IfOk};
 ghost use Rattle.std.specs.Iterator.{Drains, IsFinite};
-ghost use Rattle.wasm_base.specs.Calls.{ReadsBack};
-ghost use Rattle.wasm_base.specs.Formats.{frame};
+ghost use Rattle.wasm_base.specs.Calls.{DecodesBack};
+ghost use Rattle.wasm_base.specs.Formats.{size_prefixed};
 ghost use Rattle.wasm_base.specs.Iterators.{HasKnownLength};
-ghost use Rattle.wasm_base.specs.Texts.{frame_text, FrameFits};
+ghost use Rattle.wasm_base.specs.Encodings.{size_prefixed_encoding, HasEncodableSize};
 ghost use Rattle.wasm_base.specs.declared.refused.Refused.TheVariants.{TooLong};
-ghost use Rattle.wasm_code.specs.Bodies.{body, IsPlainBody, GrowsBy, AddsInstruction, BeginsWithRuns, BeginsWithTypes};
+ghost use Rattle.wasm_code.specs.Bodies.{body, IsWellFormedBody, GrowsBy, AddsInstruction, BeginsWithRuns, BeginsWithTypes};
 
 use crate::locals::runs_of;
 use std::alloc::{Allocator, Global};
 use std::marker::Model;
-use wasm_base::{Encode, R, Refused, ValType, encode_frame, encode_vec};
+use wasm_base::{Encode, R, Refused, ValType, encode_size_prefixed, encode_vec};
 use wasm_insn::{Buffer, Instruction, InstructionSink};
 
 /// A function, modelled as its raw body: the runs of its locals, and its instructions.
@@ -204,13 +204,13 @@ where
 
 /// Encodes the raw body with its size prefix.
 impl<A: Allocator> Encode for Function<A> {
-    ghost text = { frame_text };
+    ghost encoding = { size_prefixed_encoding };
 
-    ghost fits = { FrameFits };
+    ghost encodable = { HasEncodableSize };
 
-    ghost reading = { λ f. ReadsBack (frame body) (IsPlainBody f) (frame_text f) };
+    ghost decoding = { λ f. DecodesBack (size_prefixed body) (IsWellFormedBody f) (size_prefixed_encoding f) };
 
     fn encode<B: Allocator>(&self, sink: &mut Vec<u8, B>) -> R<()> {
-        encode_frame(sink, &self.bytes)
+        encode_size_prefixed(sink, &self.bytes)
     }
 }

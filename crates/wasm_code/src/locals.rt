@@ -26,7 +26,7 @@ where
 }
 
 /// Returns `true` if a local of the type `ty` extends a run of the type `last`.
-fn goes_on(last: ValType, ty: ValType) -> bool
+fn continues(last: ValType, ty: ValType) -> bool
     ensures { IsTrue result ↔ (last ≡ ty) }
 {
     last == ty
@@ -44,7 +44,7 @@ fn add_local<A: Allocator>(runs: &mut Vec<(u32, ValType), A>, ty: ValType) -> R<
         runs.push((1, ty))?;
         return Ok(());
     };
-    if goes_on(last, ty) {
+    if continues(last, ty) {
         let Some(more) = count.checked_add(1) else {
             return Err(Refused::TooLong);
         };

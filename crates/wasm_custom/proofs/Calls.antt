@@ -17,47 +17,47 @@ use Rattle.std.specs.List.{All, AllByRecursion}
 use Rattle.std.specs.Prelude.{OnOk}
 use Rattle.std.specs.declared.array.IntoIter.{IntoIter}
 use Rattle.std.specs.declared.vec.Vec.{Vec}
-use Rattle.wasm_base.specs.Reading.{UniqueWholeReading}
-use Rattle.wasm_base.specs.Calls.{Appends, ReadsOneMore, ReadsBack, ReadsBackBoth}
-use Rattle.wasm_base.specs.Entries.{HoldsWide}
-use Rattle.wasm_base.specs.Formats.{Format, frame, name, pair, any_bytes, custom}
-use Rattle.wasm_base.specs.Laws.{FitsUnsigned}
-use Rattle.wasm_base.specs.Modules.{SectionReading, reading_of, wide_reading_of, ReadsSections, GainsReading}
-use Rattle.wasm_base.specs.Numbers.{wide, unsigned_text}
-use Rattle.wasm_base.specs.Texts.{IsFrameOf, longest, frame_text, FrameFits, vec_text, VecFits}
+use Rattle.wasm_base.specs.Decoding.{UnambiguousWhole}
+use Rattle.wasm_base.specs.Calls.{Appends, DecodesOneMore, DecodesBack, DecodesBackBoth}
+use Rattle.wasm_base.specs.Entries.{ContainsPadded}
+use Rattle.wasm_base.specs.Formats.{Format, size_prefixed, name, pair, any_bytes, custom}
+use Rattle.wasm_base.specs.Laws.{IsUnsignedInRange}
+use Rattle.wasm_base.specs.Modules.{SectionDecoding, decoding_of, padded_decoding_of, DecodesSections, GainsDecoding}
+use Rattle.wasm_base.specs.Numbers.{padded, unsigned_encoding}
+use Rattle.wasm_base.specs.Encodings.{IsSizePrefixed, longest, size_prefixed_encoding, HasEncodableSize, vec_encoding, IsEncodableVec}
 use Rattle.wasm_base.specs.declared.refused.Refused.{Refused}
-use Rattle.wasm_base.proofs.Calls.{gains_section, gains_section_wide, adds_raw_wide, new_section, adds_item}
+use Rattle.wasm_base.proofs.Calls.{gains_section, gains_section_padded, adds_raw_padded, new_section, adds_item}
 use Rattle.wasm_base.proofs.KnownLengths.{array_items, copied_items}
-use Rattle.wasm_base.proofs.BaseLaws.{custom_unique}
-use Rattle.wasm_base.proofs.Payloads.{payload-reads, custom-payload}
+use Rattle.wasm_base.proofs.BaseLaws.{custom_unambiguous}
+use Rattle.wasm_base.proofs.Payloads.{payload-decodes, custom-payload}
 use Rattle.wasm_custom.specs.Adding.{AddsList, AddsTwoLists}
-use Rattle.wasm_custom.specs.CoreDumps.{modules_name, instances_name, marked_text, core_name, SaysProcess, marked_name, Instance, instance, HoldsModules, HoldsInstances, modules_payload, instances_payload, core_payload}
+use Rattle.wasm_custom.specs.CoreDumps.{modules_name, instances_name, marked_encoding, core_name, SaysProcess, marked_name, Instance, instance, ContainsModules, ContainsInstances, modules_payload, instances_payload, core_payload}
 use Rattle.wasm_custom.specs.CoreStacks.{StackFrame, stack_name, SaysStack, stack_payload}
-use Rattle.wasm_custom.specs.CoreValues.{value_text, IsValue}
-use Rattle.wasm_custom.specs.Customs.{named_payload, named_text, NamedFits, NamedPayload, named_framed, subsection_text}
-use Rattle.wasm_custom.specs.Entries.{entries_text}
-use Rattle.wasm_custom.specs.Hints.{hints_name, Hints, hint_text, IsHint, hints, HoldsHints, hints_payload}
-use Rattle.wasm_custom.specs.Linking.{linking_name, version, LinkItem, Symbols, Target, link, HoldsLinks, linking_payload}
-use Rattle.wasm_custom.specs.Lists.{list_text, IsListOf}
-use Rattle.wasm_custom.specs.Names.{name_name, Naming, Inside, NameItem, Module, Map, Indirect, Other, name_map, indirect_map, subsection, of_map, of_indirect, of_other, name_kind_of, AreNamings, AreInsides, HoldsNames, name_payload}
-use Rattle.wasm_custom.specs.Producers.{producers_name, Producer, Field, field, AreProducers, HoldsFields, producers_payload}
-use Rattle.wasm_custom.specs.Symbols.{Symbol, symbol_text, IsGivenSymbol, IsAsFlagged, IsSymbol, AreSymbols}
+use Rattle.wasm_custom.specs.CoreValues.{value_encoding, IsValue}
+use Rattle.wasm_custom.specs.Customs.{named_payload, named_encoding, IsEncodableNamed, NamedPayload, named_sized, subsection_encoding}
+use Rattle.wasm_custom.specs.Entries.{entries_encoding}
+use Rattle.wasm_custom.specs.Hints.{hints_name, Hints, hint_encoding, IsHint, hints, ContainsHints, hints_payload}
+use Rattle.wasm_custom.specs.Linking.{linking_name, version, LinkItem, Symbols, Target, link, ContainsLinks, linking_payload}
+use Rattle.wasm_custom.specs.Lists.{list_encoding, IsListOf}
+use Rattle.wasm_custom.specs.Names.{name_name, Naming, Inside, NameItem, Module, Map, Indirect, Other, name_map, indirect_map, subsection, of_map, of_indirect, of_other, name_kind_of, AreNamings, AreInsides, ContainsNames, name_payload}
+use Rattle.wasm_custom.specs.Producers.{producers_name, Producer, Field, field, AreProducers, ContainsFields, producers_payload}
+use Rattle.wasm_custom.specs.Symbols.{Symbol, symbol_encoding, IsGivenSymbol, IsAsFlagged, IsSymbol, AreSymbols}
 use Rattle.wasm_custom.specs.declared.core_values.CoreDumpValue.{CoreDumpValue}
 use Rattle.wasm_custom.specs.declared.hints.BranchHint.{BranchHint}
 use Rattle.wasm_custom.proofs.CustomLaws.{custom_back}
 use Rattle.wasm_custom.proofs.ListLaws.{lists_none, lists_more, list_vector}
-use Rattle.wasm_custom.proofs.NameLaws.{names_wide, names_inside_wide, subsection_unique, names_section}
-use Rattle.wasm_custom.proofs.CoreDumpLaws.{marked_unique, core_whole, core_unique, modules_section, instance_unique, instances_section}
-use Rattle.wasm_custom.proofs.CoreStackLaws.{value_unique, stack_frame_unique, stack_frame_laws, stack_whole, stack_unique}
-use Rattle.wasm_custom.proofs.HintLaws.{hints_unique, hints_section}
-use Rattle.wasm_custom.proofs.LinkLaws.{link_unique, linking_section}
-use Rattle.wasm_custom.proofs.ProducerLaws.{field_unique, producers_section}
-use Rattle.wasm_custom.proofs.SymbolLaws.{symbol_unique}
+use Rattle.wasm_custom.proofs.NameLaws.{names_padded, names_inside_padded, subsection_unambiguous, names_section}
+use Rattle.wasm_custom.proofs.CoreDumpLaws.{marked_unambiguous, core_whole, core_unambiguous, modules_section, instance_unambiguous, instances_section}
+use Rattle.wasm_custom.proofs.CoreStackLaws.{value_unambiguous, stack_frame_unambiguous, stack_frame_laws, stack_whole, stack_unambiguous}
+use Rattle.wasm_custom.proofs.HintLaws.{hints_unambiguous, hints_section}
+use Rattle.wasm_custom.proofs.LinkLaws.{link_unambiguous, linking_section}
+use Rattle.wasm_custom.proofs.ProducerLaws.{field_unambiguous, producers_section}
+use Rattle.wasm_custom.proofs.SymbolLaws.{symbol_unambiguous}
 
 -- ---- lists
 
-new_list : {X : Type 0} {text : X → List ℕ} {Is : X → Type 0} {entries : List (List ℕ)} → entries ≡ [] → IsListOf text Is entries []
-new_list {text = text} {Is = Is} e = subst (λ ps. IsListOf text Is ps []) (sym e) lists_none
+new_list : {X : Type 0} {encoding : X → List ℕ} {Is : X → Type 0} {entries : List (List ℕ)} → entries ≡ [] → IsListOf encoding Is entries []
+new_list {encoding = encoding} {Is = Is} e = subst (λ ps. IsListOf encoding Is ps []) (sym e) lists_none
 
 pub new_map : {entries : List (List ℕ)} → entries ≡ [] → AreNamings entries []
 new_map e = new_list e
@@ -72,79 +72,79 @@ pub new_field : {entries : List (List ℕ)} → entries ≡ [] → AreProducers 
 new_field e = new_list e
 
 -- The list gains a member, whose encoding the call has added.
-adds_member : {X : Type 0} {text : X → List ℕ} {Is : X → Type 0} {old new : List (List ℕ)} {xs : List X} → IsListOf text Is old xs → (x : X) → new ≡ old ++ text x ∷ [] → length old < longest → Is x → IsListOf text Is new (xs ++ x ∷ [])
-adds_member {text = text} {Is = Is} {xs = xs} before x e room is = subst (λ ps. IsListOf text Is ps (xs ++ x ∷ [])) (sym e) (lists_more x before room refl is)
+adds_member : {X : Type 0} {encoding : X → List ℕ} {Is : X → Type 0} {old new : List (List ℕ)} {xs : List X} → IsListOf encoding Is old xs → (x : X) → new ≡ old ++ encoding x ∷ [] → length old < longest → Is x → IsListOf encoding Is new (xs ++ x ∷ [])
+adds_member {encoding = encoding} {Is = Is} {xs = xs} before x e spare is = subst (λ ps. IsListOf encoding Is ps (xs ++ x ∷ [])) (sym e) (lists_more x before spare refl is)
 
 -- The map gains a name, whose length the call has checked.
-pub adds_name : {old new : List (List ℕ)} {names : List Naming} → AreNamings old names → (naming : Naming) → new ≡ old ++ (unsigned_text naming.0 ++ frame_text naming.1) ∷ [] → length old < longest → FrameFits naming.1
+pub adds_name : {old new : List (List ℕ)} {names : List Naming} → AreNamings old names → (naming : Naming) → new ≡ old ++ (unsigned_encoding naming.0 ++ size_prefixed_encoding naming.1) ∷ [] → length old < longest → HasEncodableSize naming.1
     → naming.0 < 2 ^ 32 → IsUtf8 naming.1 → AreNamings new (names ++ naming ∷ [])
-adds_name before naming e room fits range utf8 = adds_member before naming e room (range, (utf8, fits))
+adds_name before naming e spare encodable range utf8 = adds_member before naming e spare (range, (utf8, encodable))
 
 -- The indirect map gains an index with the names of a map.
-pub adds_inside : {old new entries : List (List ℕ)} {insides : List Inside} {names : List Naming} → AreInsides old insides → (index : ℕ) → AreNamings entries names → new ≡ old ++ (unsigned_text index ++ list_text entries) ∷ [] → length old < longest
+pub adds_inside : {old new entries : List (List ℕ)} {insides : List Inside} {names : List Naming} → AreInsides old insides → (index : ℕ) → AreNamings entries names → new ≡ old ++ (unsigned_encoding index ++ list_encoding entries) ∷ [] → length old < longest
     → index < 2 ^ 32 → AreInsides new (insides ++ (index, names) ∷ [])
-adds_inside {old = old} {names = names} before index held e room range =
-    adds_member before (index, names) (e ∙ ap (λ s. old ++ (unsigned_text index ++ s) ∷ []) (list_vector held)) room (range, held.fits)
+adds_inside {old = old} {names = names} before index held e spare range =
+    adds_member before (index, names) (e ∙ ap (λ s. old ++ (unsigned_encoding index ++ s) ∷ []) (list_vector held)) spare (range, held.encodable)
 
 -- The table gains a symbol.
-pub adds_symbol : {old new : List (List ℕ)} {symbols : List Symbol} → AreSymbols old symbols → (symbol : Symbol) → new ≡ old ++ symbol_text symbol ∷ [] → length old < longest → IsGivenSymbol symbol → AreSymbols new (symbols ++ symbol ∷ [])
-adds_symbol before symbol e room given = adds_member before symbol e room given
+pub adds_symbol : {old new : List (List ℕ)} {symbols : List Symbol} → AreSymbols old symbols → (symbol : Symbol) → new ≡ old ++ symbol_encoding symbol ∷ [] → length old < longest → IsGivenSymbol symbol → AreSymbols new (symbols ++ symbol ∷ [])
+adds_symbol before symbol e spare given = adds_member before symbol e spare given
 
 -- The field gains a value, whose lengths the call has checked.
-pub adds_value : {old new : List (List ℕ)} {values : List Producer} → AreProducers old values → (value : Producer) → new ≡ old ++ (frame_text value.0 ++ frame_text value.1) ∷ [] → length old < longest → FrameFits value.0 × FrameFits value.1
+pub adds_value : {old new : List (List ℕ)} {values : List Producer} → AreProducers old values → (value : Producer) → new ≡ old ++ (size_prefixed_encoding value.0 ++ size_prefixed_encoding value.1) ∷ [] → length old < longest → HasEncodableSize value.0 × HasEncodableSize value.1
     → IsUtf8 value.0 → IsUtf8 value.1 → AreProducers new (values ++ value ∷ [])
-adds_value before value e room fits name version = adds_member before value e room ((name, fits.0), (version, fits.1))
+adds_value before value e spare encodable name version = adds_member before value e spare ((name, encodable.0), (version, encodable.1))
 
 -- ---- new sections
 
-pub new_names : {entries : List (List ℕ)} → entries ≡ [] → HoldsNames entries []
+pub new_names : {entries : List (List ℕ)} → entries ≡ [] → ContainsNames entries []
 new_names e = new_section e
 
-pub new_linking : {entries : List (List ℕ)} → entries ≡ [] → HoldsLinks entries []
+pub new_linking : {entries : List (List ℕ)} → entries ≡ [] → ContainsLinks entries []
 new_linking e = new_section e
 
-pub new_producers : {entries : List (List ℕ)} → entries ≡ [] → HoldsFields entries []
+pub new_producers : {entries : List (List ℕ)} → entries ≡ [] → ContainsFields entries []
 new_producers e = new_section e
 
-pub new_hints : {entries : List (List ℕ)} → entries ≡ [] → HoldsHints entries []
+pub new_hints : {entries : List (List ℕ)} → entries ≡ [] → ContainsHints entries []
 new_hints e = new_section e
 
-pub new_modules : {entries : List (List ℕ)} → entries ≡ [] → HoldsModules entries []
+pub new_modules : {entries : List (List ℕ)} → entries ≡ [] → ContainsModules entries []
 new_modules e = new_section e
 
-pub new_instances : {entries : List (List ℕ)} → entries ≡ [] → HoldsInstances entries []
+pub new_instances : {entries : List (List ℕ)} → entries ≡ [] → ContainsInstances entries []
 new_instances e = new_section e
 
 -- ---- one more item
 
 -- The section gains the name of the module.
-pub adds_module_name : {old new : List (List ℕ)} {items : List NameItem} → HoldsNames old items → (n : List ℕ) → new ≡ old ++ subsection_text 0 (frame_text n) ∷ [] → IsUtf8 n → HoldsNames new (items ++ Module n ∷ [])
+pub adds_module_name : {old new : List (List ℕ)} {items : List NameItem} → ContainsNames old items → (n : List ℕ) → new ≡ old ++ subsection_encoding 0 (size_prefixed_encoding n) ∷ [] → IsUtf8 n → ContainsNames new (items ++ Module n ∷ [])
 adds_module_name before n e utf8 = adds_item before (Module n) e utf8
 
 -- The section gains the names of a map. That the id is of a name map is `refl`.
-pub adds_names : {old new entries : List (List ℕ)} {items : List NameItem} {names : List Naming} → HoldsNames old items → (id : ℕ) → AreNamings entries names → new ≡ old ++ subsection_text id (list_text entries) ∷ []
-    → name_kind_of id ≡ of_map → HoldsNames new (items ++ Map id names ∷ [])
+pub adds_names : {old new entries : List (List ℕ)} {items : List NameItem} {names : List Naming} → ContainsNames old items → (id : ℕ) → AreNamings entries names → new ≡ old ++ subsection_encoding id (list_encoding entries) ∷ []
+    → name_kind_of id ≡ of_map → ContainsNames new (items ++ Map id names ∷ [])
 adds_names {old = old} {names = names} before id held e kind =
-    adds_item before (Map id names) (e ∙ ap (λ s. old ++ subsection_text id s ∷ []) (list_vector held)) (kind, held.fits)
+    adds_item before (Map id names) (e ∙ ap (λ s. old ++ subsection_encoding id s ∷ []) (list_vector held)) (kind, held.encodable)
 
 -- The section gains the names of an indirect map.
-pub adds_names_inside : {old new entries : List (List ℕ)} {items : List NameItem} {insides : List Inside} → HoldsNames old items → (id : ℕ) → AreInsides entries insides → new ≡ old ++ subsection_text id (list_text entries) ∷ []
-    → name_kind_of id ≡ of_indirect → HoldsNames new (items ++ Indirect id insides ∷ [])
+pub adds_names_inside : {old new entries : List (List ℕ)} {items : List NameItem} {insides : List Inside} → ContainsNames old items → (id : ℕ) → AreInsides entries insides → new ≡ old ++ subsection_encoding id (list_encoding entries) ∷ []
+    → name_kind_of id ≡ of_indirect → ContainsNames new (items ++ Indirect id insides ∷ [])
 adds_names_inside {old = old} {insides = insides} before id held e kind =
-    adds_item before (Indirect id insides) (e ∙ ap (λ s. old ++ subsection_text id s ∷ []) (list_vector held)) (kind, held.fits)
+    adds_item before (Indirect id insides) (e ∙ ap (λ s. old ++ subsection_encoding id s ∷ []) (list_vector held)) (kind, held.encodable)
 
 -- The section gains the bytes of a subsection that no call names.
-pub adds_other_names : {old new : List (List ℕ)} {items : List NameItem} → HoldsNames old items → (id : ℕ) (content : List ℕ) → new ≡ old ++ subsection_text id content ∷ [] → name_kind_of id ≡ of_other → HoldsNames new (items ++ Other id content ∷ [])
+pub adds_other_names : {old new : List (List ℕ)} {items : List NameItem} → ContainsNames old items → (id : ℕ) (content : List ℕ) → new ≡ old ++ subsection_encoding id content ∷ [] → name_kind_of id ≡ of_other → ContainsNames new (items ++ Other id content ∷ [])
 adds_other_names before id content e kind = adds_item before (Other id content) e kind
 
 -- The section gains name maps that raw bytes encode, possibly padded, and indirect ones.
-pub adds_raw_names : {old new : List (List ℕ)} {items : List NameItem} → HoldsWide subsection old items → (id : ℕ) (content : List ℕ) (names : List Naming) → new ≡ old ++ subsection_text id content ∷ [] → FrameFits content × Unit {0} → name_kind_of id ≡ of_map
-    → name_map wide content names → HoldsWide subsection new (items ++ Map id names ∷ [])
-adds_raw_names before id content names e fits kind spelled = adds_raw_wide names_section.held_wide before (Map id names) e (names_wide id content names kind fits.0 spelled)
+pub adds_raw_names : {old new : List (List ℕ)} {items : List NameItem} → ContainsPadded subsection old items → (id : ℕ) (content : List ℕ) (names : List Naming) → new ≡ old ++ subsection_encoding id content ∷ [] → HasEncodableSize content × Unit {0} → name_kind_of id ≡ of_map
+    → name_map padded content names → ContainsPadded subsection new (items ++ Map id names ∷ [])
+adds_raw_names before id content names e encodable kind encodes = adds_raw_padded names_section.held_padded before (Map id names) e (names_padded id content names kind encodable.0 encodes)
 
-pub adds_raw_names_inside : {old new : List (List ℕ)} {items : List NameItem} → HoldsWide subsection old items → (id : ℕ) (content : List ℕ) (insides : List Inside) → new ≡ old ++ subsection_text id content ∷ [] → FrameFits content × Unit {0} → name_kind_of id ≡ of_indirect
-    → indirect_map wide content insides → HoldsWide subsection new (items ++ Indirect id insides ∷ [])
-adds_raw_names_inside before id content insides e fits kind spelled = adds_raw_wide names_section.held_wide before (Indirect id insides) e (names_inside_wide id content insides kind fits.0 spelled)
+pub adds_raw_names_inside : {old new : List (List ℕ)} {items : List NameItem} → ContainsPadded subsection old items → (id : ℕ) (content : List ℕ) (insides : List Inside) → new ≡ old ++ subsection_encoding id content ∷ [] → HasEncodableSize content × Unit {0} → name_kind_of id ≡ of_indirect
+    → indirect_map padded content insides → ContainsPadded subsection new (items ++ Indirect id insides ∷ [])
+adds_raw_names_inside before id content insides e encodable kind encodes = adds_raw_padded names_section.held_padded before (Indirect id insides) e (names_inside_padded id content insides kind encodable.0 encodes)
 
 all_symbols : (symbols : List Symbol) → All IsGivenSymbol symbols → AllByRecursion IsAsFlagged symbols → All IsSymbol symbols
 all_symbols symbols given flagged = λ k d l. (given k d l, all_of symbols flagged k d l)
@@ -154,25 +154,25 @@ all_symbols symbols given flagged = λ k d l. (given k d l, all_of symbols flagg
     all_of (x ∷ xs) h = All-cons IsAsFlagged x xs h.0 (all_of xs h.1)
 
 -- The section gains the symbols of a table, each of which is as its flags say.
-pub adds_symbols : {old new entries : List (List ℕ)} {items : List LinkItem} {symbols : List Symbol} → HoldsLinks old items → AreSymbols entries symbols → new ≡ old ++ subsection_text 8 (list_text entries) ∷ []
-    → AllByRecursion IsAsFlagged symbols → HoldsLinks new (items ++ Symbols symbols ∷ [])
+pub adds_symbols : {old new entries : List (List ℕ)} {items : List LinkItem} {symbols : List Symbol} → ContainsLinks old items → AreSymbols entries symbols → new ≡ old ++ subsection_encoding 8 (list_encoding entries) ∷ []
+    → AllByRecursion IsAsFlagged symbols → ContainsLinks new (items ++ Symbols symbols ∷ [])
 adds_symbols {old = old} {symbols = symbols} before held e flagged =
-    adds_item before (Symbols symbols) (e ∙ ap (λ s. old ++ subsection_text 8 s ∷ []) (list_vector held))
-    (record { count = held.fits.count; members = all_symbols symbols held.fits.members flagged })
+    adds_item before (Symbols symbols) (e ∙ ap (λ s. old ++ subsection_encoding 8 s ∷ []) (list_vector held))
+    (record { count = held.encodable.count; members = all_symbols symbols held.encodable.members flagged })
 
 -- The section gains the architecture of the target.
-pub adds_target : {old new : List (List ℕ)} {items : List LinkItem} → HoldsLinks old items → (n : List ℕ) → new ≡ old ++ subsection_text 9 (frame_text n) ∷ [] → IsUtf8 n → HoldsLinks new (items ++ Target n ∷ [])
+pub adds_target : {old new : List (List ℕ)} {items : List LinkItem} → ContainsLinks old items → (n : List ℕ) → new ≡ old ++ subsection_encoding 9 (size_prefixed_encoding n) ∷ [] → IsUtf8 n → ContainsLinks new (items ++ Target n ∷ [])
 adds_target before n e utf8 = adds_item before (Target n) e utf8
 
 -- The section gains a field of producers, whose name's length the call has checked.
-pub adds_field : {old new entries : List (List ℕ)} {items : List Field} {values : List Producer} → HoldsFields old items → (n : List ℕ) → AreProducers entries values → new ≡ old ++ (frame_text n ++ list_text entries) ∷ [] → FrameFits n × Unit {0} → IsUtf8 n
-    → HoldsFields new (items ++ (n, values) ∷ [])
-adds_field {old = old} {values = values} before n held e fits utf8 =
-    adds_item before (n, values) (e ∙ ap (λ s. old ++ (frame_text n ++ s) ∷ []) (list_vector held)) ((utf8, fits.0), held.fits)
+pub adds_field : {old new entries : List (List ℕ)} {items : List Field} {values : List Producer} → ContainsFields old items → (n : List ℕ) → AreProducers entries values → new ≡ old ++ (size_prefixed_encoding n ++ list_encoding entries) ∷ [] → HasEncodableSize n × Unit {0} → IsUtf8 n
+    → ContainsFields new (items ++ (n, values) ∷ [])
+adds_field {old = old} {values = values} before n held e encodable utf8 =
+    adds_item before (n, values) (e ∙ ap (λ s. old ++ (size_prefixed_encoding n ++ s) ∷ []) (list_vector held)) ((utf8, encodable.0), held.encodable)
 
 -- The section gains a module of a core dump, whose name's length the call has checked.
-pub adds_core_module : {old new : List (List ℕ)} {items : List (List ℕ)} → HoldsModules old items → (n : List ℕ) → new ≡ old ++ marked_text n ∷ [] → Unit {0} × FrameFits n → IsUtf8 n → HoldsModules new (items ++ n ∷ [])
-adds_core_module before n e fits utf8 = adds_item before n e (utf8, fits.1)
+pub adds_core_module : {old new : List (List ℕ)} {items : List (List ℕ)} → ContainsModules old items → (n : List ℕ) → new ≡ old ++ marked_encoding n ∷ [] → Unit {0} × HasEncodableSize n → IsUtf8 n → ContainsModules new (items ++ n ∷ [])
+adds_core_module before n e encodable utf8 = adds_item before n e (utf8, encodable.1)
 
 -- ---- items of iterators
 
@@ -200,8 +200,8 @@ pub vec_gives : {U X Z : Type 0} {becomes : U → VecIter X Z → Type 0} {eleme
     → GivesItems becomes (into_iter_steps {X = X} {Z = Z}) elements items
 vec_gives items are = record { given = λ it xs made drained. sym (map-id xs) ∙ items_from_drains xs (drained.1.0, drained.1.1, λ w. (drained.0, drained.1.2)) (YieldsList-from_vec items (are it made).0 (are it made).1) }
 
-list_fits : {X : Type 0} (P : X → Type 0) {given xs : List X} → given ≡ xs → VecFits (λ x. Unit {0}) given → AllByRecursion P xs → VecFits P xs
-list_fits {X} P {xs = xs} e fits are = record { count = subst (λ l. length l ≤ longest) e fits.count; members = all_of xs are }
+list_encodable : {X : Type 0} (P : X → Type 0) {given xs : List X} → given ≡ xs → IsEncodableVec (λ x. Unit {0}) given → AllByRecursion P xs → IsEncodableVec P xs
+list_encodable {X} P {xs = xs} e encodable are = record { count = subst (λ l. length l ≤ longest) e encodable.count; members = all_of xs are }
   where
     all_of : (xs : List X) → AllByRecursion P xs → All P xs
     all_of [] h = All-nil P
@@ -209,41 +209,41 @@ list_fits {X} P {xs = xs} e fits are = record { count = subst (λ l. length l �
 
 -- The section gains a function's hints that an iterator yields. For an array the last premise is
 -- `array_gives hs`.
-pub adds_hints_of : {U S : Type 0} {becomes : U → S → Type 0} {gives : S → Option BranchHint → S → Type 0} {remaining : S → Count} {elements : U} {old new : List (List ℕ)} {items : List Hints} → HoldsHints old items → (index : ℕ)
-    → AddsList becomes gives remaining elements (λ h. Unit {0}) (λ xs. unsigned_text index ++ vec_text hint_text xs) old new (Ok (tt {0})) → (hs : List BranchHint) → GivesItems becomes gives elements hs → index < 2 ^ 32 → AllByRecursion IsHint hs
-    → HoldsHints new (items ++ (index, hs) ∷ [])
+pub adds_hints_of : {U S : Type 0} {becomes : U → S → Type 0} {gives : S → Option BranchHint → S → Type 0} {remaining : S → Count} {elements : U} {old new : List (List ℕ)} {items : List Hints} → ContainsHints old items → (index : ℕ)
+    → AddsList becomes gives remaining elements (λ h. Unit {0}) (λ xs. unsigned_encoding index ++ vec_encoding hint_encoding xs) old new (Ok (tt {0})) → (hs : List BranchHint) → GivesItems becomes gives elements hs → index < 2 ^ 32 → AllByRecursion IsHint hs
+    → ContainsHints new (items ++ (index, hs) ∷ [])
 adds_hints_of {old = old} before index added hs are range plain =
     let given = added.ok in
     let same = are.given given.0 given.1 given.2 given.3 in
-    adds_item before (index, hs) (given.5 ∙ ap (λ xs. old ++ (unsigned_text index ++ vec_text hint_text xs) ∷ []) same) (range, list_fits IsHint same given.4 plain)
+    adds_item before (index, hs) (given.5 ∙ ap (λ xs. old ++ (unsigned_encoding index ++ vec_encoding hint_encoding xs) ∷ []) same) (range, list_encodable IsHint same given.4 plain)
 
 -- The same for the hints of an array.
-pub adds_hints : {n : ℕ} {remaining : IntoIter BranchHint n → Count} {hs : List BranchHint} {old new : List (List ℕ)} {items : List Hints} → HoldsHints old items → (index : ℕ)
-    → AddsList becomes array_steps remaining hs (λ h. Unit {0}) (λ xs. unsigned_text index ++ vec_text hint_text xs) old new (Ok (tt {0})) → index < 2 ^ 32 → AllByRecursion IsHint hs → HoldsHints new (items ++ (index, hs) ∷ [])
+pub adds_hints : {n : ℕ} {remaining : IntoIter BranchHint n → Count} {hs : List BranchHint} {old new : List (List ℕ)} {items : List Hints} → ContainsHints old items → (index : ℕ)
+    → AddsList becomes array_steps remaining hs (λ h. Unit {0}) (λ xs. unsigned_encoding index ++ vec_encoding hint_encoding xs) old new (Ok (tt {0})) → index < 2 ^ 32 → AllByRecursion IsHint hs → ContainsHints new (items ++ (index, hs) ∷ [])
 adds_hints {hs = hs} before index added range plain = adds_hints_of before index added hs (array_gives hs) range plain
 
 -- The section gains an instance of a core dump, whose memories and globals iterators yield.
 pub adds_instance_of : {U S V R : Type 0} {becomes : U → S → Type 0} {gives : S → Option ℕ → S → Type 0} {remaining : S → Count} {first : U} {turns : V → R → Type 0} {hands : R → Option ℕ → R → Type 0} {left : R → Count} {second : V}
-    {old new : List (List ℕ)} {items : List Instance} → HoldsInstances old items → (i : Instance)
-    → AddsTwoLists becomes gives remaining first turns hands left second (λ x. Unit {0}) (λ x. Unit {0}) (λ xs ys. (0x00 ∷ unsigned_text i.module_index) ++ (vec_text unsigned_text xs ++ vec_text unsigned_text ys)) old new (Ok (tt {0}))
-    → GivesItems becomes gives first i.memories → GivesItems turns hands second i.globals → i.module_index < 2 ^ 32 → AllByRecursion (FitsUnsigned 32) i.memories → AllByRecursion (FitsUnsigned 32) i.globals → HoldsInstances new (items ++ i ∷ [])
+    {old new : List (List ℕ)} {items : List Instance} → ContainsInstances old items → (i : Instance)
+    → AddsTwoLists becomes gives remaining first turns hands left second (λ x. Unit {0}) (λ x. Unit {0}) (λ xs ys. (0x00 ∷ unsigned_encoding i.module_index) ++ (vec_encoding unsigned_encoding xs ++ vec_encoding unsigned_encoding ys)) old new (Ok (tt {0}))
+    → GivesItems becomes gives first i.memories → GivesItems turns hands second i.globals → i.module_index < 2 ^ 32 → AllByRecursion (IsUnsignedInRange 32) i.memories → AllByRecursion (IsUnsignedInRange 32) i.globals → ContainsInstances new (items ++ i ∷ [])
 adds_instance_of {old = old} before i added are others range memories globals =
     let given = added.ok in
     let same = are.given given.0 given.1 given.4 given.5 in
     let alike = others.given given.2 given.3 given.7 given.8 in
     adds_item before i
-    (given.10 ∙ ap₂ (λ xs ys. old ++ ((0x00 ∷ unsigned_text i.module_index) ++ (vec_text unsigned_text xs ++ vec_text unsigned_text ys)) ∷ []) same alike)
-    (record { module_index = range; memories = list_fits (FitsUnsigned 32) same given.6 memories; globals = list_fits (FitsUnsigned 32) alike given.9 globals })
+    (given.10 ∙ ap₂ (λ xs ys. old ++ ((0x00 ∷ unsigned_encoding i.module_index) ++ (vec_encoding unsigned_encoding xs ++ vec_encoding unsigned_encoding ys)) ∷ []) same alike)
+    (record { module_index = range; memories = list_encodable (IsUnsignedInRange 32) same given.6 memories; globals = list_encodable (IsUnsignedInRange 32) alike given.9 globals })
 
 -- The same for memories and globals of arrays.
-pub adds_instance : {n m : ℕ} {remaining : IntoIter ℕ n → Count} {left : IntoIter ℕ m → Count} {old new : List (List ℕ)} {items : List Instance} → HoldsInstances old items → (i : Instance)
-    → AddsTwoLists becomes array_steps remaining i.memories becomes array_steps left i.globals (λ x. Unit {0}) (λ x. Unit {0}) (λ xs ys. (0x00 ∷ unsigned_text i.module_index) ++ (vec_text unsigned_text xs ++ vec_text unsigned_text ys)) old new (Ok (tt {0}))
-    → i.module_index < 2 ^ 32 → AllByRecursion (FitsUnsigned 32) i.memories → AllByRecursion (FitsUnsigned 32) i.globals → HoldsInstances new (items ++ i ∷ [])
+pub adds_instance : {n m : ℕ} {remaining : IntoIter ℕ n → Count} {left : IntoIter ℕ m → Count} {old new : List (List ℕ)} {items : List Instance} → ContainsInstances old items → (i : Instance)
+    → AddsTwoLists becomes array_steps remaining i.memories becomes array_steps left i.globals (λ x. Unit {0}) (λ x. Unit {0}) (λ xs ys. (0x00 ∷ unsigned_encoding i.module_index) ++ (vec_encoding unsigned_encoding xs ++ vec_encoding unsigned_encoding ys)) old new (Ok (tt {0}))
+    → i.module_index < 2 ^ 32 → AllByRecursion (IsUnsignedInRange 32) i.memories → AllByRecursion (IsUnsignedInRange 32) i.globals → ContainsInstances new (items ++ i ∷ [])
 adds_instance before i added range memories globals = adds_instance_of before i added (array_gives i.memories) (array_gives i.globals) range memories globals
 
 -- ---- stacks
 
-pub new_stack : {n : List ℕ} {stack : List ℕ × List (List ℕ)} → stack ≡ (marked_text n, []) → IsUtf8 n → SaysStack stack.0 stack.1 (n, [])
+pub new_stack : {n : List ℕ} {stack : List ℕ × List (List ℕ)} → stack ≡ (marked_encoding n, []) → IsUtf8 n → SaysStack stack.0 stack.1 (n, [])
 new_stack e utf8 = (utf8, ap (λ s. s.0) e, new_section (ap (λ s. s.1) e))
 
 -- The stack gains a frame, whose numbers are in range, and whose locals and part of the stack
@@ -251,7 +251,7 @@ new_stack e utf8 = (utf8, ap (λ s. s.0) e, new_section (ap (λ s. s.1) e))
 pub adds_frame_of : {U S V R : Type 0} {becomes : U → S → Type 0} {gives : S → Option CoreDumpValue → S → Type 0} {remaining : S → Count} {first : U} {turns : V → R → Type 0} {hands : R → Option CoreDumpValue → R → Type 0} {left : R → Count} {second : V}
     {old new : List ℕ × List (List ℕ)} {thread : List ℕ} {frames : List StackFrame} → SaysStack old.0 old.1 (thread, frames) → (f : StackFrame)
     → AddsTwoLists becomes gives remaining first turns hands left second (λ x. Unit {0}) (λ x. Unit {0})
-    (λ xs ys. (0x00 ∷ (unsigned_text f.instance ++ (unsigned_text f.function ++ unsigned_text f.offset))) ++ (vec_text value_text xs ++ vec_text value_text ys)) old.1 new.1 (Ok (tt {0}))
+    (λ xs ys. (0x00 ∷ (unsigned_encoding f.instance ++ (unsigned_encoding f.function ++ unsigned_encoding f.offset))) ++ (vec_encoding value_encoding xs ++ vec_encoding value_encoding ys)) old.1 new.1 (Ok (tt {0}))
     → new.0 ≡ old.0 → GivesItems becomes gives first f.locals → GivesItems turns hands second f.stack → f.instance < 2 ^ 32 → f.function < 2 ^ 32 → f.offset < 2 ^ 32 → AllByRecursion IsValue f.locals → AllByRecursion IsValue f.stack
     → SaysStack new.0 new.1 (thread, frames ++ f ∷ [])
 adds_frame_of {old = old} before f added thread are others instance function offset locals stack =
@@ -261,97 +261,97 @@ adds_frame_of {old = old} before f added thread are others instance function off
       before.0,
       thread ∙ before.1,
       adds_item before.2 f
-          (given.10 ∙ ap₂ (λ xs ys. old.1 ++ ((0x00 ∷ (unsigned_text f.instance ++ (unsigned_text f.function ++ unsigned_text f.offset))) ++ (vec_text value_text xs ++ vec_text value_text ys)) ∷ []) same alike)
-          (record { instance = instance; function = function; offset = offset; locals = list_fits IsValue same given.6 locals; stack = list_fits IsValue alike given.9 stack }),
+          (given.10 ∙ ap₂ (λ xs ys. old.1 ++ ((0x00 ∷ (unsigned_encoding f.instance ++ (unsigned_encoding f.function ++ unsigned_encoding f.offset))) ++ (vec_encoding value_encoding xs ++ vec_encoding value_encoding ys)) ∷ []) same alike)
+          (record { instance = instance; function = function; offset = offset; locals = list_encodable IsValue same given.6 locals; stack = list_encodable IsValue alike given.9 stack }),
     )
 
 -- The same for locals and stacks of arrays.
 pub adds_frame : {n m : ℕ} {remaining : IntoIter CoreDumpValue n → Count} {left : IntoIter CoreDumpValue m → Count} {old new : List ℕ × List (List ℕ)} {thread : List ℕ} {frames : List StackFrame} → SaysStack old.0 old.1 (thread, frames) → (f : StackFrame)
     → AddsTwoLists becomes array_steps remaining f.locals becomes array_steps left f.stack (λ x. Unit {0}) (λ x. Unit {0})
-    (λ xs ys. (0x00 ∷ (unsigned_text f.instance ++ (unsigned_text f.function ++ unsigned_text f.offset))) ++ (vec_text value_text xs ++ vec_text value_text ys)) old.1 new.1 (Ok (tt {0}))
+    (λ xs ys. (0x00 ∷ (unsigned_encoding f.instance ++ (unsigned_encoding f.function ++ unsigned_encoding f.offset))) ++ (vec_encoding value_encoding xs ++ vec_encoding value_encoding ys)) old.1 new.1 (Ok (tt {0}))
     → new.0 ≡ old.0 → f.instance < 2 ^ 32 → f.function < 2 ^ 32 → f.offset < 2 ^ 32 → AllByRecursion IsValue f.locals → AllByRecursion IsValue f.stack → SaysStack new.0 new.1 (thread, frames ++ f ∷ [])
 adds_frame before f added thread instance function offset locals stack = adds_frame_of before f added thread (array_gives f.locals) (array_gives f.stack) instance function offset locals stack
 
 -- ---- a module and one more section
 
-gains_custom : {X : Type 0} {F : Format X} {Says : X → Type 0} {readings : List SectionReading} {id : ℕ} {old new n : List ℕ} {x : X} → UniqueWholeReading (named_payload n F) → ReadsSections readings old → (content : List ℕ)
-    → ReadsOneMore (NamedPayload n content) id old new → NamedFits n content → ReadsBack (frame (named_payload n F)) Says (named_text n content) → Says x → ReadsSections (readings ++ reading_of id (named_payload n F) x ∷ []) new
-gains_custom {F = F} {n = n} {x = x} whole before content more fits reads says =
-    gains_section {F = named_payload n F} before more (payload-reads whole) (named_text n content) (frame_text n ++ content) refl (named_framed n content (frame_text n ++ content) fits refl) x (reads.for_each x says)
+gains_custom : {X : Type 0} {F : Format X} {Says : X → Type 0} {decodings : List SectionDecoding} {id : ℕ} {old new n : List ℕ} {x : X} → UnambiguousWhole (named_payload n F) → DecodesSections decodings old → (content : List ℕ)
+    → DecodesOneMore (NamedPayload n content) id old new → IsEncodableNamed n content → DecodesBack (size_prefixed (named_payload n F)) Says (named_encoding n content) → Says x → DecodesSections (decodings ++ decoding_of id (named_payload n F) x ∷ []) new
+gains_custom {F = F} {n = n} {x = x} whole before content more encodable decodes says =
+    gains_section {F = named_payload n F} before more (payload-decodes whole) (named_encoding n content) (size_prefixed_encoding n ++ content) refl (named_sized n content (size_prefixed_encoding n ++ content) encodable refl) x (decodes.for_each x says)
 
-pub gains_names : {readings : List SectionReading} {id : ℕ} {old new : List ℕ} {entries : List (List ℕ)} {items : List NameItem} → ReadsSections readings old
-    → ReadsOneMore (NamedPayload name_name (entries_text [] false entries)) id old new → NamedFits name_name (entries_text [] false entries) → ReadsBackBoth (frame name_payload) (HoldsNames entries) (HoldsWide subsection entries) (named_text name_name (entries_text [] false entries))
-    → HoldsNames entries items → ReadsSections (readings ++ reading_of id name_payload items ∷ []) new
-gains_names before more fits reads holds = gains_custom names_section.whole before _ more fits reads.plain holds
+pub gains_names : {decodings : List SectionDecoding} {id : ℕ} {old new : List ℕ} {entries : List (List ℕ)} {items : List NameItem} → DecodesSections decodings old
+    → DecodesOneMore (NamedPayload name_name (entries_encoding [] false entries)) id old new → IsEncodableNamed name_name (entries_encoding [] false entries) → DecodesBackBoth (size_prefixed name_payload) (ContainsNames entries) (ContainsPadded subsection entries) (named_encoding name_name (entries_encoding [] false entries))
+    → ContainsNames entries items → DecodesSections (decodings ++ decoding_of id name_payload items ∷ []) new
+gains_names before more encodable decodes contains = gains_custom names_section.whole before _ more encodable decodes.plain contains
 
-pub gains_names_wide : {readings : List SectionReading} {id : ℕ} {old new : List ℕ} {entries : List (List ℕ)} {items : List NameItem} → ReadsSections readings old
-    → ReadsOneMore (NamedPayload name_name (entries_text [] false entries)) id old new → NamedFits name_name (entries_text [] false entries) → ReadsBackBoth (frame name_payload) (HoldsNames entries) (HoldsWide subsection entries) (named_text name_name (entries_text [] false entries))
-    → HoldsWide subsection entries items → ReadsSections (readings ++ wide_reading_of id name_payload items ∷ []) new
-gains_names_wide {entries = entries} {items = items} before more fits reads holds =
-    let content = entries_text [] false entries in
-    gains_section_wide {F = name_payload} before more (named_text name_name content) (frame_text name_name ++ content) refl (named_framed name_name content (frame_text name_name ++ content) fits refl) items (reads.wide.for_each items holds)
+pub gains_names_padded : {decodings : List SectionDecoding} {id : ℕ} {old new : List ℕ} {entries : List (List ℕ)} {items : List NameItem} → DecodesSections decodings old
+    → DecodesOneMore (NamedPayload name_name (entries_encoding [] false entries)) id old new → IsEncodableNamed name_name (entries_encoding [] false entries) → DecodesBackBoth (size_prefixed name_payload) (ContainsNames entries) (ContainsPadded subsection entries) (named_encoding name_name (entries_encoding [] false entries))
+    → ContainsPadded subsection entries items → DecodesSections (decodings ++ padded_decoding_of id name_payload items ∷ []) new
+gains_names_padded {entries = entries} {items = items} before more encodable decodes contains =
+    let content = entries_encoding [] false entries in
+    gains_section_padded {F = name_payload} before more (named_encoding name_name content) (size_prefixed_encoding name_name ++ content) refl (named_sized name_name content (size_prefixed_encoding name_name ++ content) encodable refl) items (decodes.padded.for_each items contains)
 
-pub gains_linking : {readings : List SectionReading} {id : ℕ} {old new : List ℕ} {entries : List (List ℕ)} {items : List LinkItem} → ReadsSections readings old
-    → ReadsOneMore (NamedPayload linking_name (entries_text (version ∷ []) false entries)) id old new → NamedFits linking_name (entries_text (version ∷ []) false entries) → ReadsBackBoth (frame linking_payload) (HoldsLinks entries) (HoldsWide link entries) (named_text linking_name (entries_text (version ∷ []) false entries))
-    → HoldsLinks entries items → ReadsSections (readings ++ reading_of id linking_payload items ∷ []) new
-gains_linking before more fits reads holds = gains_custom linking_section.whole before _ more fits reads.plain holds
+pub gains_linking : {decodings : List SectionDecoding} {id : ℕ} {old new : List ℕ} {entries : List (List ℕ)} {items : List LinkItem} → DecodesSections decodings old
+    → DecodesOneMore (NamedPayload linking_name (entries_encoding (version ∷ []) false entries)) id old new → IsEncodableNamed linking_name (entries_encoding (version ∷ []) false entries) → DecodesBackBoth (size_prefixed linking_payload) (ContainsLinks entries) (ContainsPadded link entries) (named_encoding linking_name (entries_encoding (version ∷ []) false entries))
+    → ContainsLinks entries items → DecodesSections (decodings ++ decoding_of id linking_payload items ∷ []) new
+gains_linking before more encodable decodes contains = gains_custom linking_section.whole before _ more encodable decodes.plain contains
 
-pub gains_producers : {readings : List SectionReading} {id : ℕ} {old new : List ℕ} {entries : List (List ℕ)} {items : List Field} → ReadsSections readings old
-    → ReadsOneMore (NamedPayload producers_name (entries_text [] true entries)) id old new → NamedFits producers_name (entries_text [] true entries) → ReadsBackBoth (frame producers_payload) (HoldsFields entries) (HoldsWide field entries) (named_text producers_name (entries_text [] true entries))
-    → HoldsFields entries items → ReadsSections (readings ++ reading_of id producers_payload items ∷ []) new
-gains_producers before more fits reads holds = gains_custom producers_section.whole before _ more fits reads.plain holds
+pub gains_producers : {decodings : List SectionDecoding} {id : ℕ} {old new : List ℕ} {entries : List (List ℕ)} {items : List Field} → DecodesSections decodings old
+    → DecodesOneMore (NamedPayload producers_name (entries_encoding [] true entries)) id old new → IsEncodableNamed producers_name (entries_encoding [] true entries) → DecodesBackBoth (size_prefixed producers_payload) (ContainsFields entries) (ContainsPadded field entries) (named_encoding producers_name (entries_encoding [] true entries))
+    → ContainsFields entries items → DecodesSections (decodings ++ decoding_of id producers_payload items ∷ []) new
+gains_producers before more encodable decodes contains = gains_custom producers_section.whole before _ more encodable decodes.plain contains
 
-pub gains_hints : {readings : List SectionReading} {id : ℕ} {old new : List ℕ} {entries : List (List ℕ)} {items : List Hints} → ReadsSections readings old
-    → ReadsOneMore (NamedPayload hints_name (entries_text [] true entries)) id old new → NamedFits hints_name (entries_text [] true entries) → ReadsBackBoth (frame hints_payload) (HoldsHints entries) (HoldsWide hints entries) (named_text hints_name (entries_text [] true entries))
-    → HoldsHints entries items → ReadsSections (readings ++ reading_of id hints_payload items ∷ []) new
-gains_hints before more fits reads holds = gains_custom hints_section.whole before _ more fits reads.plain holds
+pub gains_hints : {decodings : List SectionDecoding} {id : ℕ} {old new : List ℕ} {entries : List (List ℕ)} {items : List Hints} → DecodesSections decodings old
+    → DecodesOneMore (NamedPayload hints_name (entries_encoding [] true entries)) id old new → IsEncodableNamed hints_name (entries_encoding [] true entries) → DecodesBackBoth (size_prefixed hints_payload) (ContainsHints entries) (ContainsPadded hints entries) (named_encoding hints_name (entries_encoding [] true entries))
+    → ContainsHints entries items → DecodesSections (decodings ++ decoding_of id hints_payload items ∷ []) new
+gains_hints before more encodable decodes contains = gains_custom hints_section.whole before _ more encodable decodes.plain contains
 
-pub gains_modules : {readings : List SectionReading} {id : ℕ} {old new : List ℕ} {entries : List (List ℕ)} {items : List (List ℕ)} → ReadsSections readings old
-    → ReadsOneMore (NamedPayload modules_name (entries_text [] true entries)) id old new → NamedFits modules_name (entries_text [] true entries) → ReadsBackBoth (frame modules_payload) (HoldsModules entries) (HoldsWide marked_name entries) (named_text modules_name (entries_text [] true entries))
-    → HoldsModules entries items → ReadsSections (readings ++ reading_of id modules_payload items ∷ []) new
-gains_modules before more fits reads holds = gains_custom modules_section.whole before _ more fits reads.plain holds
+pub gains_modules : {decodings : List SectionDecoding} {id : ℕ} {old new : List ℕ} {entries : List (List ℕ)} {items : List (List ℕ)} → DecodesSections decodings old
+    → DecodesOneMore (NamedPayload modules_name (entries_encoding [] true entries)) id old new → IsEncodableNamed modules_name (entries_encoding [] true entries) → DecodesBackBoth (size_prefixed modules_payload) (ContainsModules entries) (ContainsPadded marked_name entries) (named_encoding modules_name (entries_encoding [] true entries))
+    → ContainsModules entries items → DecodesSections (decodings ++ decoding_of id modules_payload items ∷ []) new
+gains_modules before more encodable decodes contains = gains_custom modules_section.whole before _ more encodable decodes.plain contains
 
-pub gains_instances : {readings : List SectionReading} {id : ℕ} {old new : List ℕ} {entries : List (List ℕ)} {items : List Instance} → ReadsSections readings old
-    → ReadsOneMore (NamedPayload instances_name (entries_text [] true entries)) id old new → NamedFits instances_name (entries_text [] true entries) → ReadsBackBoth (frame instances_payload) (HoldsInstances entries) (HoldsWide instance entries) (named_text instances_name (entries_text [] true entries))
-    → HoldsInstances entries items → ReadsSections (readings ++ reading_of id instances_payload items ∷ []) new
-gains_instances before more fits reads holds = gains_custom instances_section.whole before _ more fits reads.plain holds
+pub gains_instances : {decodings : List SectionDecoding} {id : ℕ} {old new : List ℕ} {entries : List (List ℕ)} {items : List Instance} → DecodesSections decodings old
+    → DecodesOneMore (NamedPayload instances_name (entries_encoding [] true entries)) id old new → IsEncodableNamed instances_name (entries_encoding [] true entries) → DecodesBackBoth (size_prefixed instances_payload) (ContainsInstances entries) (ContainsPadded instance entries) (named_encoding instances_name (entries_encoding [] true entries))
+    → ContainsInstances entries items → DecodesSections (decodings ++ decoding_of id instances_payload items ∷ []) new
+gains_instances before more encodable decodes contains = gains_custom instances_section.whole before _ more encodable decodes.plain contains
 
 -- The module gains the process of a core dump, of the name that is the argument.
-pub gains_process : {readings : List SectionReading} {id : ℕ} {old new content : List ℕ} → ReadsSections readings old → ReadsOneMore (NamedPayload core_name content) id old new → NamedFits core_name content
-    → ReadsBack (frame core_payload) (SaysProcess content) (named_text core_name content) → (n : List ℕ) → content ≡ marked_text n → IsUtf8 n → ReadsSections (readings ++ reading_of id core_payload n ∷ []) new
-gains_process before more fits reads n e utf8 = gains_custom core_whole before _ more fits reads (utf8, e)
+pub gains_process : {decodings : List SectionDecoding} {id : ℕ} {old new content : List ℕ} → DecodesSections decodings old → DecodesOneMore (NamedPayload core_name content) id old new → IsEncodableNamed core_name content
+    → DecodesBack (size_prefixed core_payload) (SaysProcess content) (named_encoding core_name content) → (n : List ℕ) → content ≡ marked_encoding n → IsUtf8 n → DecodesSections (decodings ++ decoding_of id core_payload n ∷ []) new
+gains_process before more encodable decodes n e utf8 = gains_custom core_whole before _ more encodable decodes (utf8, e)
 
 -- The module gains the stack of a thread.
-pub gains_stack : {readings : List SectionReading} {id : ℕ} {old new n : List ℕ} {stack : List ℕ × List (List ℕ)} {frames : List StackFrame} → ReadsSections readings old
-    → ReadsOneMore (NamedPayload stack_name (entries_text stack.0 true stack.1)) id old new → NamedFits stack_name (entries_text stack.0 true stack.1)
-    → ReadsBack (frame stack_payload) (SaysStack stack.0 stack.1) (named_text stack_name (entries_text stack.0 true stack.1)) → SaysStack stack.0 stack.1 (n, frames) → ReadsSections (readings ++ reading_of id stack_payload (n, frames) ∷ []) new
-gains_stack before more fits reads says = gains_custom stack_whole before _ more fits reads says
+pub gains_stack : {decodings : List SectionDecoding} {id : ℕ} {old new n : List ℕ} {stack : List ℕ × List (List ℕ)} {frames : List StackFrame} → DecodesSections decodings old
+    → DecodesOneMore (NamedPayload stack_name (entries_encoding stack.0 true stack.1)) id old new → IsEncodableNamed stack_name (entries_encoding stack.0 true stack.1)
+    → DecodesBack (size_prefixed stack_payload) (SaysStack stack.0 stack.1) (named_encoding stack_name (entries_encoding stack.0 true stack.1)) → SaysStack stack.0 stack.1 (n, frames) → DecodesSections (decodings ++ decoding_of id stack_payload (n, frames) ∷ []) new
+gains_stack before more encodable decodes says = gains_custom stack_whole before _ more encodable decodes says
 
 -- The module gains a custom section of a name and data.
-pub gains_given : {readings : List SectionReading} {id : ℕ} {old new n content : List ℕ} → ReadsSections readings old → ReadsOneMore (NamedPayload n content) id old new → NamedFits n content
-    → ReadsBack custom (λ said. IsUtf8 n × (said ≡ (n, content))) (named_text n content) → IsUtf8 n → ReadsSections (readings ++ reading_of id (pair name any_bytes) (n, content) ∷ []) new
-gains_given {n = n} {content = content} before more fits reads utf8 =
-    gains_section {F = pair name any_bytes} before more custom-payload (named_text n content) (frame_text n ++ content) refl (named_framed n content (frame_text n ++ content) fits refl) (n, content) (reads.for_each (n, content) (utf8, refl))
+pub gains_given : {decodings : List SectionDecoding} {id : ℕ} {old new n content : List ℕ} → DecodesSections decodings old → DecodesOneMore (NamedPayload n content) id old new → IsEncodableNamed n content
+    → DecodesBack custom (λ said. IsUtf8 n × (said ≡ (n, content))) (named_encoding n content) → IsUtf8 n → DecodesSections (decodings ++ decoding_of id (pair name any_bytes) (n, content) ∷ []) new
+gains_given {n = n} {content = content} before more encodable decodes utf8 =
+    gains_section {F = pair name any_bytes} before more custom-payload (named_encoding n content) (size_prefixed_encoding n ++ content) refl (named_sized n content (size_prefixed_encoding n ++ content) encodable refl) (n, content) (decodes.for_each (n, content) (utf8, refl))
 
 -- The module gains raw bytes that are the encoding of a custom section of a name and data.
-pub gains_given_raw : {readings : List SectionReading} {id : ℕ} {bytes old new : List ℕ} → ReadsSections readings old → ReadsOneMore (IsFrameOf bytes) id old new → (n content : List ℕ) → bytes ≡ named_text n content → NamedFits n content → IsUtf8 n
-    → ReadsSections (readings ++ reading_of id (pair name any_bytes) (n, content) ∷ []) new
-gains_given_raw {id = id} {old = old} {new = new} before more n content e fits utf8 =
-    let framed = named_framed n content (frame_text n ++ content) fits refl in
-    gains_section {F = pair name any_bytes} before (subst (λ b. ReadsOneMore (IsFrameOf b) id old new) e more) custom-payload (named_text n content) (frame_text n ++ content) framed framed (n, content)
-    ((custom_back n content fits).for_each (n, content) (utf8, refl))
+pub gains_given_raw : {decodings : List SectionDecoding} {id : ℕ} {bytes old new : List ℕ} → DecodesSections decodings old → DecodesOneMore (IsSizePrefixed bytes) id old new → (n content : List ℕ) → bytes ≡ named_encoding n content → IsEncodableNamed n content → IsUtf8 n
+    → DecodesSections (decodings ++ decoding_of id (pair name any_bytes) (n, content) ∷ []) new
+gains_given_raw {id = id} {old = old} {new = new} before more n content e encodable utf8 =
+    let sized = named_sized n content (size_prefixed_encoding n ++ content) encodable refl in
+    gains_section {F = pair name any_bytes} before (subst (λ b. DecodesOneMore (IsSizePrefixed b) id old new) e more) custom-payload (named_encoding n content) (size_prefixed_encoding n ++ content) sized sized (n, content)
+    ((custom_back n content encodable).for_each (n, content) (utf8, refl))
 
 -- A buffer gains a custom section.
-pub encodes_custom : {A X : Type 0} (F : Format X) (Says : X → Type 0) {text : List ℕ} {fits : Type 0} {old new : Vec ℕ A} {result : Result (Unit {0}) Refused} {x : X}
-    → Appends text fits old new result → OnOk result (ReadsBack F Says text) → Says x → OnOk result (GainsReading F x old.items new.items)
-encodes_custom F Says {text = text} {result = Ok u} {x = x} appends reads says = record { text = text; added = appends.ok; alone = reads.for_each x says }
-encodes_custom F Says {result = Err e} appends reads says = tt
+pub encodes_custom : {A X : Type 0} (F : Format X) (Says : X → Type 0) {encoding : List ℕ} {encodable : Type 0} {old new : Vec ℕ A} {result : Result (Unit {0}) Refused} {x : X}
+    → Appends encoding encodable old new result → OnOk result (DecodesBack F Says encoding) → Says x → OnOk result (GainsDecoding F x old.items new.items)
+encodes_custom F Says {encoding = encoding} {result = Ok u} {x = x} appends decodes says = record { encoding = encoding; added = appends.ok; unique = decodes.for_each x says }
+encodes_custom F Says {result = Err e} appends decodes says = tt
 
 -- A buffer gains a custom section of entries.
-pub encodes_entries : {A X : Type 0} (F : Format X) (Says SaysWide : X → Type 0) {text : List ℕ} {fits : Type 0} {old new : Vec ℕ A} {result : Result (Unit {0}) Refused} {x : X}
-    → Appends text fits old new result → OnOk result (ReadsBackBoth F Says SaysWide text) → Says x → OnOk result (GainsReading F x old.items new.items)
-encodes_entries F Says SaysWide {text = text} {result = Ok u} {x = x} appends reads says = record { text = text; added = appends.ok; alone = reads.plain.for_each x says }
-encodes_entries F Says SaysWide {result = Err e} appends reads says = tt
+pub encodes_entries : {A X : Type 0} (F : Format X) (Says SaysPadded : X → Type 0) {encoding : List ℕ} {encodable : Type 0} {old new : Vec ℕ A} {result : Result (Unit {0}) Refused} {x : X}
+    → Appends encoding encodable old new result → OnOk result (DecodesBackBoth F Says SaysPadded encoding) → Says x → OnOk result (GainsDecoding F x old.items new.items)
+encodes_entries F Says SaysPadded {encoding = encoding} {result = Ok u} {x = x} appends decodes says = record { encoding = encoding; added = appends.ok; unique = decodes.plain.for_each x says }
+encodes_entries F Says SaysPadded {result = Err e} appends decodes says = tt
 
 -- ---- rules by which the laws of this crate are proved
 
@@ -359,7 +359,7 @@ encodes_entries F Says SaysWide {result = Err e} appends reads says = tt
 pub ruleset sections = (names_section, linking_section, producers_section, hints_section, modules_section, instances_section)
 
 -- The other unambiguous formats: sections without entries, and the entries of sections.
-pub ruleset parts = (core_unique, stack_unique, custom_unique, subsection_unique, link_unique, symbol_unique, field_unique, hints_unique, marked_unique, instance_unique, stack_frame_unique, value_unique, stack_frame_laws)
+pub ruleset parts = (core_unambiguous, stack_unambiguous, custom_unambiguous, subsection_unambiguous, link_unambiguous, symbol_unambiguous, field_unambiguous, hints_unambiguous, marked_unambiguous, instance_unambiguous, stack_frame_unambiguous, value_unambiguous, stack_frame_laws)
 
 -- The payloads of the other sections.
-pub ruleset payloads = (payload-reads, core_whole, stack_whole, custom-payload)
+pub ruleset payloads = (payload-decodes, core_whole, stack_whole, custom-payload)

@@ -1,104 +1,104 @@
 -- This file proves that a custom section of items decodes to these alone.
 use Rattle.std.proofs.Common.{◌≡◌, ℕ, ◌≤◌, List, ◌++◌, length, map, Bool, IsUtf8, true, false, refl, sym, subst, arith, length-append, [], append-nil}
 use Rattle.std.specs.List.{AllZip}
-use Rattle.wasm_base.specs.Calls.{ReadsBack, ReadsBackWide, ReadsBackBoth}
-use Rattle.wasm_base.specs.Entries.{Kind, entry_text, HoldsItems, HoldsWide, ItemLaws}
+use Rattle.wasm_base.specs.Calls.{DecodesBack, DecodesBackPadded, DecodesBackBoth}
+use Rattle.wasm_base.specs.Entries.{Kind, entry_encoding, ContainsItems, ContainsPadded, ItemLaws}
 use Rattle.wasm_base.specs.Formats.{Format, fixed, vec}
-use Rattle.wasm_base.specs.Numbers.{Mode, shortest, wide, IsOfBuilders}
+use Rattle.wasm_base.specs.Numbers.{Mode, minimal, padded, IsOfBuilders}
 use Rattle.wasm_base.specs.Pieces.{joined}
-use Rattle.wasm_base.specs.Reading.{UniqueReading, UniqueWholeReading, BeginsWith}
-use Rattle.wasm_base.specs.Texts.{longest, frame_text, FrameFits}
-use Rattle.wasm_base.proofs.EntryLaws.{entries_spelled, pieces_spelled}
-use Rattle.wasm_base.proofs.FormatLaws.{fixed_unique, vec_unique, members_whole, whole_from_alone, mapped_whole, pair_whole}
-use Rattle.wasm_base.proofs.TextLaws.{spelled_in, reads_alone, reads_alone_wide, joined_spelled, vec_of_pieces}
-use Rattle.wasm_custom.specs.Customs.{named_section, named_text, NamedFits, named_payload}
-use Rattle.wasm_custom.specs.Entries.{count_text, entries_text, listing, entries, counted_payload, FrameLaws}
-use Rattle.wasm_custom.proofs.CustomLaws.{named_encoded, named_fits, named_unique, named_spelled, data_fits, named_appended}
-use Rattle.wasm_base.proofs.BaseLaws.{name_unique}
+use Rattle.wasm_base.specs.Decoding.{Unambiguous, UnambiguousWhole, BeginsWith}
+use Rattle.wasm_base.specs.Encodings.{longest, size_prefixed_encoding, HasEncodableSize}
+use Rattle.wasm_base.proofs.EntryLaws.{entries_encodes, pieces_encodes}
+use Rattle.wasm_base.proofs.FormatLaws.{fixed_unambiguous, vec_unambiguous, members_whole, whole_from_unique, mapped_whole, pair_whole}
+use Rattle.wasm_base.proofs.EncodingLaws.{encodes_in, decodes_uniquely, decodes_uniquely_padded, joined_encodes, vec_of_pieces}
+use Rattle.wasm_custom.specs.Customs.{named_section, named_encoding, IsEncodableNamed, named_payload}
+use Rattle.wasm_custom.specs.Entries.{count_encoding, entries_encoding, listing, entries, counted_payload, CustomLayoutLaws}
+use Rattle.wasm_custom.proofs.CustomLaws.{named_encoded, named_encodable, named_unambiguous, named_encodes, data_encodable, named_appended}
+use Rattle.wasm_base.proofs.BaseLaws.{name_unambiguous}
 use Rattle.wasm_base.proofs.AfterLaws.{after_whole}
-use Rattle.wasm_base.proofs.SectionLaws.{SectionLaws, framed_laws}
-use Rattle.wasm_reader_base.specs.Shortest.{AppendsShortest, HasEncoding}
-use Rattle.wasm_reader_base.proofs.Encodings.{tagged_encoded}
-use Rattle.wasm_reader_base.proofs.ShortTexts.{text_appended, tagged_appended}
+use Rattle.wasm_base.proofs.SectionLaws.{SectionLaws, sized_laws}
+use Rattle.wasm_reader_base.specs.Minimal.{AppendsMinimal, HasEncoding}
+use Rattle.wasm_reader_base.proofs.DecodedValues.{tagged_encoded}
+use Rattle.wasm_reader_base.proofs.MinimalEncodings.{encoding_appended, tagged_appended}
 
-listing_whole : {Item : Type 0} (counted : Bool) {F : Format Item} → (counted ≡ false → BeginsWith (λ b. Unit {0}) F) → UniqueReading F → UniqueWholeReading (listing counted F)
-listing_whole true begins f = whole_from_alone (vec_unique f)
+listing_whole : {Item : Type 0} (counted : Bool) {F : Format Item} → (counted ≡ false → BeginsWith (λ b. Unit {0}) F) → Unambiguous F → UnambiguousWhole (listing counted F)
+listing_whole true begins f = whole_from_unique (vec_unambiguous f)
 listing_whole false begins f = members_whole (λ b. Unit {0}) (begins refl) f
 
-pub entries_whole : {Item : Type 0} {front : Format (Unit {0})} (counted : Bool) {F : Format Item} → UniqueReading front → (counted ≡ false → BeginsWith (λ b. Unit {0}) F) → UniqueReading F → UniqueWholeReading (entries front counted F)
+pub entries_whole : {Item : Type 0} {front : Format (Unit {0})} (counted : Bool) {F : Format Item} → Unambiguous front → (counted ≡ false → BeginsWith (λ b. Unit {0}) F) → Unambiguous F → UnambiguousWhole (entries front counted F)
 entries_whole counted first begins f = mapped_whole (λ p. p.1) (λ x y e. λ i. (tt, e i)) (pair_whole first (listing_whole counted begins f))
 
-pub listing_spelled : {Item : Type 0} (mode : Mode) (counted : Bool) (F : Format Item) (pieces : List (List ℕ)) (items : List Item) → length pieces ≤ longest → AllZip (F mode) pieces items → listing counted F mode (count_text counted (length pieces) ++ joined pieces) items
-listing_spelled mode true F pieces items few h = vec_of_pieces mode F pieces items few h
-listing_spelled mode false F pieces items few h = joined_spelled mode F pieces items h
+pub listing_encodes : {Item : Type 0} (mode : Mode) (counted : Bool) (F : Format Item) (pieces : List (List ℕ)) (items : List Item) → length pieces ≤ longest → AllZip (F mode) pieces items → listing counted F mode (count_encoding counted (length pieces) ++ joined pieces) items
+listing_encodes mode true F pieces items few h = vec_of_pieces mode F pieces items few h
+listing_encodes mode false F pieces items few h = joined_encodes mode F pieces items h
 
-pub same_fits : (n front m first : List ℕ) (counted other : Bool) (pieces ps : List (List ℕ)) → m ≡ n → first ≡ front → other ≡ counted → ps ≡ pieces → NamedFits m (entries_text first other ps) → NamedFits n (entries_text front counted pieces)
-same_fits n front m first counted other pieces ps e f g h fits =
-    subst (λ z. NamedFits n (entries_text front counted z)) h
-    (subst (λ z. NamedFits n (entries_text front z ps)) g (subst (λ z. NamedFits n (entries_text z other ps)) f (subst (λ z. NamedFits z (entries_text first other ps)) e fits)))
+pub same_encodable : (n front m first : List ℕ) (counted other : Bool) (pieces ps : List (List ℕ)) → m ≡ n → first ≡ front → other ≡ counted → ps ≡ pieces → IsEncodableNamed m (entries_encoding first other ps) → IsEncodableNamed n (entries_encoding front counted pieces)
+same_encodable n front m first counted other pieces ps e f g h encodable =
+    subst (λ z. IsEncodableNamed n (entries_encoding front counted z)) h
+    (subst (λ z. IsEncodableNamed n (entries_encoding front z ps)) g (subst (λ z. IsEncodableNamed n (entries_encoding z other ps)) f (subst (λ z. IsEncodableNamed z (entries_encoding first other ps)) e encodable)))
 
 module _ {Record Item : Type 0} (kind : Kind Record Item) (n front : List ℕ) (front_format : Format (Unit {0})) (counted : Bool)
-    (laws : ItemLaws kind) (more : FrameLaws kind.format n front front_format counted) where
-  section_spelled : (mode : Mode) → IsOfBuilders mode → (pieces : List (List ℕ)) (items : List Item) → length pieces ≤ longest → NamedFits n (entries_text front counted pieces) → AllZip (kind.format mode) pieces items
-      → named_section n (entries front_format counted kind.format) mode (named_text n (entries_text front counted pieces)) items
-  section_spelled mode of pieces items few fits h =
-      let back = count_text counted (length pieces) ++ joined pieces in
-      let first = spelled_in {F = front_format} more.front_alone more.front_spelled mode of in
+    (laws : ItemLaws kind) (more : CustomLayoutLaws kind.format n front front_format counted) where
+  section_encodes : (mode : Mode) → IsOfBuilders mode → (pieces : List (List ℕ)) (items : List Item) → length pieces ≤ longest → IsEncodableNamed n (entries_encoding front counted pieces) → AllZip (kind.format mode) pieces items
+      → named_section n (entries front_format counted kind.format) mode (named_encoding n (entries_encoding front counted pieces)) items
+  section_encodes mode of pieces items few encodable h =
+      let back = count_encoding counted (length pieces) ++ joined pieces in
+      let first = encodes_in {F = front_format} more.front_unique more.front_encodes mode of in
       let listed : entries front_format counted kind.format mode (front ++ back) items =
-      ((tt, items), refl, record { front = front; back = back; joined = refl; first = first; second = listing_spelled mode counted kind.format pieces items few h }) in
-      named_spelled mode of n (entries front_format counted kind.format) (entries_text front counted pieces) items more.name_utf8 fits listed
+      ((tt, items), refl, record { front = front; back = back; joined = refl; first = first; second = listing_encodes mode counted kind.format pieces items few h }) in
+      named_encodes mode of n (entries front_format counted kind.format) (entries_encoding front counted pieces) items more.name_utf8 encodable listed
 
   -- The entries are no longer than the section.
-  content_fits : (pieces : List (List ℕ)) → NamedFits n (entries_text front counted pieces) → length (joined pieces) ≤ longest
-  content_fits pieces fits = omega (arith, data_fits n (entries_text front counted pieces) fits, length-append front (count_text counted (length pieces) ++ joined pieces), length-append (count_text counted (length pieces)) (joined pieces))
+  content_encodable : (pieces : List (List ℕ)) → IsEncodableNamed n (entries_encoding front counted pieces) → length (joined pieces) ≤ longest
+  content_encodable pieces encodable = omega (arith, data_encodable n (entries_encoding front counted pieces) encodable, length-append front (count_encoding counted (length pieces) ++ joined pieces), length-append (count_encoding counted (length pieces)) (joined pieces))
 
-  section_unique : UniqueReading (named_section n (entries front_format counted kind.format))
-  section_unique = named_unique n (entries_whole counted more.front_alone more.begins laws.alone)
+  section_unambiguous : Unambiguous (named_section n (entries front_format counted kind.format))
+  section_unambiguous = named_unambiguous n (entries_whole counted more.front_unique more.begins laws.unique)
 
-  entries_alone : (pieces : List (List ℕ)) → length pieces ≤ longest → NamedFits n (entries_text front counted pieces)
-      → ReadsBack (named_section n (entries front_format counted kind.format)) (HoldsItems kind pieces) (named_text n (entries_text front counted pieces))
-  entries_alone pieces few fits = record {
-    for_each = λ items holds.
-        let held = map (entry_text kind.text) holds.entries in
-        reads_alone {F = named_section n (entries front_format counted kind.format)} section_unique
-        (section_spelled shortest tt pieces items few fits
-        (subst (λ ps. AllZip (kind.format shortest) ps items) (sym holds.held)
-        (entries_spelled kind laws holds.entries items (subst (λ ps. length (joined ps) ≤ longest) holds.held (content_fits pieces fits)) holds.meant)));
+  entries_unique : (pieces : List (List ℕ)) → length pieces ≤ longest → IsEncodableNamed n (entries_encoding front counted pieces)
+      → DecodesBack (named_section n (entries front_format counted kind.format)) (ContainsItems kind pieces) (named_encoding n (entries_encoding front counted pieces))
+  entries_unique pieces few encodable = record {
+    for_each = λ items contains.
+        let held = map (entry_encoding kind.encoding) contains.entries in
+        decodes_uniquely {F = named_section n (entries front_format counted kind.format)} section_unambiguous
+        (section_encodes minimal tt pieces items few encodable
+        (subst (λ ps. AllZip (kind.format minimal) ps items) (sym contains.held)
+        (entries_encodes kind laws contains.entries items (subst (λ ps. length (joined ps) ≤ longest) contains.held (content_encodable pieces encodable)) contains.meant)));
   }
 
-  entries_alone_wide : (pieces : List (List ℕ)) → length pieces ≤ longest → NamedFits n (entries_text front counted pieces)
-      → ReadsBackWide (named_section n (entries front_format counted kind.format)) (HoldsWide kind.format pieces) (named_text n (entries_text front counted pieces))
-  entries_alone_wide pieces few fits = record {
-    for_each = λ items holds.
-        reads_alone_wide {F = named_section n (entries front_format counted kind.format)} section_unique
-        (section_spelled wide tt pieces items few fits (pieces_spelled kind.format pieces items (content_fits pieces fits) holds.spelled));
+  entries_unique_padded : (pieces : List (List ℕ)) → length pieces ≤ longest → IsEncodableNamed n (entries_encoding front counted pieces)
+      → DecodesBackPadded (named_section n (entries front_format counted kind.format)) (ContainsPadded kind.format pieces) (named_encoding n (entries_encoding front counted pieces))
+  entries_unique_padded pieces few encodable = record {
+    for_each = λ items contains.
+        decodes_uniquely_padded {F = named_section n (entries front_format counted kind.format)} section_unambiguous
+        (section_encodes padded tt pieces items few encodable (pieces_encodes kind.format pieces items (content_encodable pieces encodable) contains.encodes));
   }
 
-  pub entries_back : (pieces : List (List ℕ)) → length pieces ≤ longest → NamedFits n (entries_text front counted pieces)
-      → ReadsBackBoth (named_section n (entries front_format counted kind.format)) (HoldsItems kind pieces) (HoldsWide kind.format pieces) (named_text n (entries_text front counted pieces))
-  entries_back pieces few fits = record { plain = entries_alone pieces few fits; wide = entries_alone_wide pieces few fits }
+  pub entries_back : (pieces : List (List ℕ)) → length pieces ≤ longest → IsEncodableNamed n (entries_encoding front counted pieces)
+      → DecodesBackBoth (named_section n (entries front_format counted kind.format)) (ContainsItems kind pieces) (ContainsPadded kind.format pieces) (named_encoding n (entries_encoding front counted pieces))
+  entries_back pieces few encodable = record { plain = entries_unique pieces few encodable; padded = entries_unique_padded pieces few encodable }
 
 -- A section of counted items right after its name has the laws of its front.
-pub counted_frame : {Item : Type 0} {F : Format Item} {n : List ℕ} → IsUtf8 n → FrameLaws F n [] (fixed [] (tt {0})) true
-counted_frame utf8 = record { name_utf8 = utf8; front_alone = fixed_unique [] (tt {0}); front_spelled = (refl, refl); begins = λ e. absurd (cc e) }
+pub counted_layout : {Item : Type 0} {F : Format Item} {n : List ℕ} → IsUtf8 n → CustomLayoutLaws F n [] (fixed [] (tt {0})) true
+counted_layout utf8 = record { name_utf8 = utf8; front_unique = fixed_unambiguous [] (tt {0}); front_encodes = (refl, refl); begins = λ e. absurd (cc e) }
 
 -- The laws of the sections of a kind whose records are well-formed with padding exactly if they are
 -- without.
-pub entries_laws : {Record Item : Type 0} {kind : Kind Record Item} {n front : List ℕ} {front_format : Format (Unit {0})} {counted : Bool} → ItemLaws kind → FrameLaws kind.format n front front_format counted
-    → ((given : Record) → kind.IsPlain given → kind.IsPlainWide given) → ((given : Record) → kind.IsPlainWide given → kind.IsPlain given) → SectionLaws kind (named_payload n (entries front_format counted kind.format))
-entries_laws {n = n} {counted = counted} laws more wider plain = framed_laws laws wider (after_whole n name_unique (entries_whole counted more.front_alone more.begins laws.alone)) plain
+pub entries_laws : {Record Item : Type 0} {kind : Kind Record Item} {n front : List ℕ} {front_format : Format (Unit {0})} {counted : Bool} → ItemLaws kind → CustomLayoutLaws kind.format n front front_format counted
+    → ((given : Record) → kind.IsWellFormed given → kind.IsWellFormedPadded given) → ((given : Record) → kind.IsWellFormedPadded given → kind.IsWellFormed given) → SectionLaws kind (named_payload n (entries front_format counted kind.format))
+entries_laws {n = n} {counted = counted} laws more included plain = sized_laws laws included (after_whole n name_unambiguous (entries_whole counted more.front_unique more.begins laws.unique)) plain
 
 -- The minimal encoding of a section of items right after its name is the name, then that of the
 -- items.
-pub items_appended : {X : Type 0} (n : List ℕ) {old middle new : List ℕ} (counted : Bool) (F : Format X) (xs : List X) → FrameFits n → middle ≡ old ++ frame_text n → AppendsShortest (listing counted F) xs middle new
-    → AppendsShortest (named_payload n (entries (fixed [] (tt {0})) counted F)) xs old new
-items_appended n {middle = middle} counted F xs fits e a =
-    let none = text_appended (fixed [] (tt {0})) tt [] middle middle (λ s h. (refl, refl)) (sym (append-nil middle)) in
-    named_appended n (entries (fixed [] (tt {0})) counted F) xs fits e (tagged_appended (fixed [] (tt {0})) (λ u. listing counted F) (λ s z h. refl) none a)
+pub items_appended : {X : Type 0} (n : List ℕ) {old middle new : List ℕ} (counted : Bool) (F : Format X) (xs : List X) → HasEncodableSize n → middle ≡ old ++ size_prefixed_encoding n → AppendsMinimal (listing counted F) xs middle new
+    → AppendsMinimal (named_payload n (entries (fixed [] (tt {0})) counted F)) xs old new
+items_appended n {middle = middle} counted F xs encodable e a =
+    let none = encoding_appended (fixed [] (tt {0})) tt [] middle middle (λ s h. (refl, refl)) (sym (append-nil middle)) in
+    named_appended n (entries (fixed [] (tt {0})) counted F) xs encodable e (tagged_appended (fixed [] (tt {0})) (λ u. listing counted F) (λ s z h. refl) none a)
 
 -- The same for counted items, with the name that is an argument of the call.
-pub counted_appended : {X : Type 0} {n told old middle new : List ℕ} → told ≡ n → (F : Format X) (xs : List X) → FrameFits told → middle ≡ old ++ frame_text told → AppendsShortest (vec F) xs middle new → AppendsShortest (counted_payload n F) xs old new
-counted_appended {told = told} {old = old} {new = new} called F xs fits e a = subst (λ z. AppendsShortest (counted_payload z F) xs old new) called (items_appended told true F xs fits e a)
+pub counted_appended : {X : Type 0} {n known old middle new : List ℕ} → known ≡ n → (F : Format X) (xs : List X) → HasEncodableSize known → middle ≡ old ++ size_prefixed_encoding known → AppendsMinimal (vec F) xs middle new → AppendsMinimal (counted_payload n F) xs old new
+counted_appended {known = known} {old = old} {new = new} called F xs encodable e a = subst (λ z. AppendsMinimal (counted_payload z F) xs old new) called (items_appended known true F xs encodable e a)
 
 pub items_encoded : {X : Type 0} (n : List ℕ) (counted : Bool) (F : Format X) (xs : List X) → HasEncoding (named_payload n (entries (fixed [] (tt {0})) counted F)) xs → HasEncoding (listing counted F) xs
 items_encoded n counted F xs h =
@@ -108,5 +108,5 @@ pub counted_encoded : {X : Type 0} (n : List ℕ) (F : Format X) (xs : List X) �
 counted_encoded n F xs h = items_encoded n true F xs h
 
 -- The name that is an argument of the call fits.
-pub counted_name_fits : {X : Type 0} (n told : List ℕ) (F : Format X) (xs : List X) → told ≡ n → HasEncoding (counted_payload n F) xs → FrameFits told
-counted_name_fits n told F xs e h = subst FrameFits (sym e) (named_fits n (entries (fixed [] (tt {0})) true F) xs h)
+pub counted_name_encodable : {X : Type 0} (n known : List ℕ) (F : Format X) (xs : List X) → known ≡ n → HasEncoding (counted_payload n F) xs → HasEncodableSize known
+counted_name_encodable n known F xs e h = subst HasEncodableSize (sym e) (named_encodable n (entries (fixed [] (tt {0})) true F) xs h)

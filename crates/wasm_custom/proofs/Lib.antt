@@ -9,7 +9,7 @@ pub mod ProducerLaws
 pub mod HintLaws
 pub mod CoreDumpLaws
 pub mod CoreStackLaws
-pub mod NothingLaws
+pub mod RejectionLaws
 pub mod Calls
-pub mod ReadMarked
-pub mod ReadNamed
+pub mod DecodeMarked
+pub mod DecodeNamed

@@ -5,63 +5,63 @@ use Rattle.std.specs.Prelude.{IfSome}
 use Rattle.std.proofs.lemmas.List.{length-map, map-append}
 use Rattle.std.proofs.lemmas.List.Elements.{All-nil, All-push}
 use Rattle.std.specs.List.{flat_map}
-use Rattle.wasm_base.specs.Numbers.{unsigned_text}
+use Rattle.wasm_base.specs.Numbers.{unsigned_encoding}
 use Rattle.wasm_base.specs.Pieces.{joined}
-use Rattle.wasm_base.specs.Texts.{longest, vec_text, frame_text, FrameFits, optional_text}
-use Rattle.wasm_base.specs.Laws.{NameFits}
-use Rattle.wasm_custom.specs.Lists.{list_text, IsListOf, HoldsList, IsTextOf, IsVectorOf, ListMore, given_name}
-use Rattle.wasm_custom.specs.Names.{naming_text, IsNaming, inside_text, IsInside}
+use Rattle.wasm_base.specs.Encodings.{longest, vec_encoding, size_prefixed_encoding, HasEncodableSize, optional_encoding}
+use Rattle.wasm_base.specs.Laws.{IsEncodableName}
+use Rattle.wasm_custom.specs.Lists.{list_encoding, IsListOf, ContainsList, IsEncodingOf, IsVectorOf, ListMore, given_name}
+use Rattle.wasm_custom.specs.Names.{naming_encoding, IsNaming, inside_encoding, IsInside}
 
 -- ---- one more member
 
-module _ {X : Type 0} {text : X → List ℕ} {Is : X → Type 0} where
-  pub lists_none : IsListOf text Is [] []
-  lists_none = record { held = refl; fits = record { count = omega arith; members = All-nil Is } }
+module _ {X : Type 0} {encoding : X → List ℕ} {Is : X → Type 0} where
+  pub lists_none : IsListOf encoding Is [] []
+  lists_none = record { held = refl; encodable = record { count = omega arith; members = All-nil Is } }
 
-  pub lists_more : {pieces : List (List ℕ)} {xs : List X} {piece : List ℕ} (x : X) → IsListOf text Is pieces xs → length pieces < longest → piece ≡ text x → Is x → IsListOf text Is (pieces ++ piece ∷ []) (xs ++ x ∷ [])
-  lists_more {pieces = pieces} {xs = xs} x h room e is = record {
-    held = ap₂ (λ a b. a ++ b ∷ []) h.held e ∙ sym (map-append text xs (x ∷ []));
-    fits = record { count = omega (arith, room, ap length h.held, length-map xs text, length-append xs (x ∷ [])); members = All-push Is xs x h.fits.members is };
+  pub lists_more : {pieces : List (List ℕ)} {xs : List X} {piece : List ℕ} (x : X) → IsListOf encoding Is pieces xs → length pieces < longest → piece ≡ encoding x → Is x → IsListOf encoding Is (pieces ++ piece ∷ []) (xs ++ x ∷ [])
+  lists_more {pieces = pieces} {xs = xs} x h spare e is = record {
+    held = ap₂ (λ a b. a ++ b ∷ []) h.held e ∙ sym (map-append encoding xs (x ∷ []));
+    encodable = record { count = omega (arith, spare, ap length h.held, length-map xs encoding, length-append xs (x ∷ [])); members = All-push Is xs x h.encodable.members is };
   }
 
-  pub holds_none : HoldsList text Is []
-  holds_none = record { list = []; is = lists_none }
+  pub contains_none : ContainsList encoding Is []
+  contains_none = record { list = []; is = lists_none }
 
-  pub holds_one_more : {old : List (List ℕ)} {piece : List ℕ} → HoldsList text Is old → length old < longest → IsTextOf text Is piece → HoldsList text Is (old ++ piece ∷ [])
-  holds_one_more h room p = record { list = h.list ++ p.member ∷ []; is = lists_more p.member h.is room p.is p.fits }
+  pub contains_one_more : {old : List (List ℕ)} {piece : List ℕ} → ContainsList encoding Is old → length old < longest → IsEncodingOf encoding Is piece → ContainsList encoding Is (old ++ piece ∷ [])
+  contains_one_more h spare p = record { list = h.list ++ p.member ∷ []; is = lists_more p.member h.is spare p.is p.encodable }
 
-  pub holds_same : {old new : List (List ℕ)} → new ≡ old → HoldsList text Is old → HoldsList text Is new
-  holds_same e h = subst (λ ps. HoldsList text Is ps) (sym e) h
+  pub contains_same : {old new : List (List ℕ)} → new ≡ old → ContainsList encoding Is old → ContainsList encoding Is new
+  contains_same e h = subst (λ ps. ContainsList encoding Is ps) (sym e) h
 
-pub list_more : {X : Type 0} (text : X → List ℕ) (Is : X → Type 0) → ListMore text Is
-list_more text Is = record { none = lists_none; given = λ pieces xs x h room is. lists_more x h room refl is }
+pub list_more : {X : Type 0} (encoding : X → List ℕ) (Is : X → Type 0) → ListMore encoding Is
+list_more encoding Is = record { none = lists_none; given = λ pieces xs x h spare is. lists_more x h spare refl is }
 
 -- ---- encodings
 
-joined-map : {X : Type 0} (text : X → List ℕ) (xs : List X) → joined (map text xs) ≡ flat_map text xs
-joined-map text [] = refl
-joined-map text (x ∷ xs) = ap (λ s. text x ++ s) (joined-map text xs)
+joined-map : {X : Type 0} (encoding : X → List ℕ) (xs : List X) → joined (map encoding xs) ≡ flat_map encoding xs
+joined-map encoding [] = refl
+joined-map encoding (x ∷ xs) = ap (λ s. encoding x ++ s) (joined-map encoding xs)
 
-of_members : {X : Type 0} (text : X → List ℕ) (xs : List X) → list_text (map text xs) ≡ vec_text text xs
-unfolding list_text
-of_members text xs = ap₂ ◌++◌ (ap unsigned_text (length-map xs text)) (joined-map text xs)
+of_members : {X : Type 0} (encoding : X → List ℕ) (xs : List X) → list_encoding (map encoding xs) ≡ vec_encoding encoding xs
+unfolding list_encoding
+of_members encoding xs = ap₂ ◌++◌ (ap unsigned_encoding (length-map xs encoding)) (joined-map encoding xs)
 
-pub list_vector : {X : Type 0} {text : X → List ℕ} {Is : X → Type 0} {pieces : List (List ℕ)} {xs : List X} → IsListOf text Is pieces xs → list_text pieces ≡ vec_text text xs
-list_vector {text = text} {xs = xs} h = ap list_text h.held ∙ of_members text xs
+pub list_vector : {X : Type 0} {encoding : X → List ℕ} {Is : X → Type 0} {pieces : List (List ℕ)} {xs : List X} → IsListOf encoding Is pieces xs → list_encoding pieces ≡ vec_encoding encoding xs
+list_vector {encoding = encoding} {xs = xs} h = ap list_encoding h.held ∙ of_members encoding xs
 
-pub is_vector : {X : Type 0} (text : X → List ℕ) (Is : X → Type 0) → IsVectorOf text Is
-is_vector text Is = record { is = λ pieces xs h. list_vector h }
+pub is_vector : {X : Type 0} (encoding : X → List ℕ) (Is : X → Type 0) → IsVectorOf encoding Is
+is_vector encoding Is = record { is = λ pieces xs h. list_vector h }
 
 -- The encoding of an index with its names.
-pub names_inside : (index : ℕ) (pieces : List (List ℕ)) → index < 2 ^ 32 → HoldsList naming_text IsNaming pieces → IsTextOf inside_text IsInside (unsigned_text index ++ list_text pieces)
-names_inside index pieces range h = record { member = (index, h.list); is = ap (λ s. unsigned_text index ++ s) (list_vector h.is); fits = (range, h.is.fits) }
+pub names_inside : (index : ℕ) (pieces : List (List ℕ)) → index < 2 ^ 32 → ContainsList naming_encoding IsNaming pieces → IsEncodingOf inside_encoding IsInside (unsigned_encoding index ++ list_encoding pieces)
+names_inside index pieces range h = record { member = (index, h.list); is = ap (λ s. unsigned_encoding index ++ s) (list_vector h.is); encodable = (range, h.is.encodable) }
 
 -- ---- an optional name
 
-pub named_text_of : (name : Option (Bor (List ℕ))) → optional_text (λ n. frame_text n.now) name ≡ optional_text frame_text (given_name name)
-named_text_of None = refl
-named_text_of (Some n) = refl
+pub named_encoding_of : (name : Option (Bor (List ℕ))) → optional_encoding (λ n. size_prefixed_encoding n.now) name ≡ optional_encoding size_prefixed_encoding (given_name name)
+named_encoding_of None = refl
+named_encoding_of (Some n) = refl
 
-pub name_fits : (name : Option (Bor (List ℕ))) → IfSome name (λ n. IsUtf8 n.now) → IfSome name (λ n. FrameFits n.now) → IfSome (given_name name) NameFits
-name_fits None utf8 fits = tt
-name_fits (Some n) utf8 fits = (utf8, fits)
+pub name_encodable : (name : Option (Bor (List ℕ))) → IfSome name (λ n. IsUtf8 n.now) → IfSome name (λ n. HasEncodableSize n.now) → IfSome (given_name name) IsEncodableName
+name_encodable None utf8 encodable = tt
+name_encodable (Some n) utf8 encodable = (utf8, encodable)

@@ -2,38 +2,38 @@
 use Rattle.std.proofs.Common.{◌≡◌, ℕ, List, [], length, Bool, true, false, cond, eqb, refl, sym, ap, subst, ◌∙◌, arith, length-append, ◌∷◌, ◌++◌, take, drop}
 use Rattle.std.proofs.lemmas.Bool.{eqb-true}
 use Rattle.wasm_base.specs.Entries.{ItemLaws}
-use Rattle.wasm_base.specs.Formats.{u32, any_bytes, name, pair, fixed, Format, byte, just, frame, mapped, members}
-use Rattle.wasm_base.specs.Numbers.{Mode, shortest, wide, unsigned_text}
-use Rattle.wasm_base.specs.Reading.{HasSpellings, UniqueReading, Reads, ReadsNothing}
-use Rattle.wasm_base.specs.Texts.{frame_text, FrameFits, vec_text, VecFits}
-use Rattle.wasm_base.proofs.BaseLaws.{name_unique}
-use Rattle.wasm_base.proofs.FormatLaws.{TellsTag, mapped_unique, mapped_whole, pair_unique, vec_unique, frame_unique, whole_from_alone, byte_unique, any_bytes_whole, tagged_unique, fixed_unique}
-use Rattle.wasm_base.proofs.NumberLaws.{u32_unique}
-use Rattle.wasm_base.proofs.TextLaws.{tagged_spelled, u32_spelled, name_spelled, vec_spelled, frame_in, frame_spelled}
-use Rattle.wasm_custom.specs.Customs.{subsection_text}
-use Rattle.wasm_custom.specs.Entries.{FrameLaws}
-use Rattle.wasm_custom.specs.Names.{Naming, Inside, naming_text, inside_text, IsNaming, IsInside, naming, name_map, indirect_map, NameItem, Module, Map, Indirect, Other, NameKind, of_module, of_map, of_indirect, of_other, is_one_of, map_ids, indirect_ids, name_kind_of, after_id, subsection, name_text, IsName, name_name, name_items, inside, id_of, held_by, name_payload}
+use Rattle.wasm_base.specs.Formats.{u32, any_bytes, name, pair, fixed, Format, byte, just, size_prefixed, mapped, members}
+use Rattle.wasm_base.specs.Numbers.{Mode, minimal, padded, unsigned_encoding}
+use Rattle.wasm_base.specs.Decoding.{HasEncodings, Unambiguous, Decodes, Rejects}
+use Rattle.wasm_base.specs.Encodings.{size_prefixed_encoding, HasEncodableSize, vec_encoding, IsEncodableVec}
+use Rattle.wasm_base.proofs.BaseLaws.{name_unambiguous}
+use Rattle.wasm_base.proofs.FormatLaws.{DeterminesTag, mapped_unambiguous, mapped_whole, pair_unambiguous, vec_unambiguous, size_prefixed_unambiguous, whole_from_unique, byte_unambiguous, any_bytes_whole, tagged_unambiguous, fixed_unambiguous}
+use Rattle.wasm_base.proofs.NumberLaws.{u32_unambiguous}
+use Rattle.wasm_base.proofs.EncodingLaws.{tagged_encodes, u32_encodes, name_encodes, vec_encodes, size_prefixed_in, size_prefixed_encodes}
+use Rattle.wasm_custom.specs.Customs.{subsection_encoding}
+use Rattle.wasm_custom.specs.Entries.{CustomLayoutLaws}
+use Rattle.wasm_custom.specs.Names.{Naming, Inside, naming_encoding, inside_encoding, IsNaming, IsInside, naming, name_map, indirect_map, NameItem, Module, Map, Indirect, Other, NameKind, of_module, of_map, of_indirect, of_other, is_one_of, map_ids, indirect_ids, name_kind_of, after_id, subsection, name_encoding, IsName, name_name, name_items, inside, id_of, held_by, name_payload}
 use Rattle.wasm_base.proofs.Calls.{ascii}
-use Rattle.wasm_base.proofs.PartLaws.{pair_spelled, tagged_begins}
-use Rattle.wasm_custom.proofs.CustomLaws.{content_fits}
-use Rattle.wasm_base.specs.Going.{FillsNothing}
-use Rattle.wasm_base.proofs.Tags.{tagged_reads, tagged_none, tagged_nothing}
-use Rattle.wasm_reader_base.proofs.ReadFrames.{filled_reads, filled_none, filled_nothing}
-use Rattle.wasm_custom.proofs.ReadNamed.{named_none, items_fill, no_items}
-use Rattle.wasm_reader_base.specs.Shortest.{AppendsShortest, HasEncoding}
-use Rattle.wasm_reader_base.proofs.Encodings.{tagged_encoded, mapped_encoded, content_encoded, behind_fits}
-use Rattle.wasm_reader_base.proofs.ShortTexts.{text_appended, tagged_appended, mapped_appended, frame_appended}
+use Rattle.wasm_base.proofs.PartLaws.{pair_encodes, tagged_begins}
+use Rattle.wasm_custom.proofs.CustomLaws.{content_encodable}
+use Rattle.wasm_base.specs.Continuing.{RejectsWhole}
+use Rattle.wasm_base.proofs.Tags.{tagged_decodes, tagged_none, tagged_rejects}
+use Rattle.wasm_reader_base.proofs.DecodeSizePrefixed.{filled_decodes, filled_none, filled_rejects}
+use Rattle.wasm_custom.proofs.DecodeNamed.{named_none, items_fill, no_items}
+use Rattle.wasm_reader_base.specs.Minimal.{AppendsMinimal, HasEncoding}
+use Rattle.wasm_reader_base.proofs.DecodedValues.{tagged_encoded, mapped_encoded, content_encoded, behind_encodable}
+use Rattle.wasm_reader_base.proofs.MinimalEncodings.{encoding_appended, tagged_appended, mapped_appended, size_prefixed_appended}
 use Rattle.wasm_base.proofs.SectionLaws.{SectionLaws}
 use Rattle.wasm_custom.proofs.EntriesLaws.{entries_laws, items_appended, items_encoded}
 
-pub naming_unique : UniqueReading naming
-naming_unique = pair_unique u32_unique name_unique
+pub naming_unambiguous : Unambiguous naming
+naming_unambiguous = pair_unambiguous u32_unambiguous name_unambiguous
 
-pub map_unique : UniqueReading name_map
-map_unique = vec_unique naming_unique
+pub map_unambiguous : Unambiguous name_map
+map_unambiguous = vec_unambiguous naming_unambiguous
 
-pub indirect_unique : UniqueReading indirect_map
-indirect_unique = vec_unique (pair_unique u32_unique map_unique)
+pub indirect_unambiguous : Unambiguous indirect_map
+indirect_unambiguous = vec_unambiguous (pair_unambiguous u32_unambiguous map_unambiguous)
 
 -- ---- subsections
 
@@ -49,7 +49,7 @@ is_zero id e = go (eqb id 0) refl e
     go true t e = eqb-true id 0 t
     go false t e = absurd (not_module (is_one_of map_ids id) (is_one_of indirect_ids id) e)
 
-pub tells : TellsTag (λ id. after_id (name_kind_of id) id) id_of
+pub tells : DeterminesTag (λ id. after_id (name_kind_of id) id) id_of
 tells mode id s x h = go (name_kind_of id) refl h
   where
     go : (k : NameKind) → name_kind_of id ≡ k → after_id k id mode s x → id ≡ id_of x
@@ -58,65 +58,65 @@ tells mode id s x h = go (name_kind_of id) refl h
     go of_indirect e h = ap id_of h.1
     go of_other e h = ap id_of h.1
 
-after_id_unique : (k : NameKind) (id : ℕ) → UniqueReading (after_id k id)
-after_id_unique of_module id = mapped_unique Module (λ x y e. cc) (frame_unique (whole_from_alone name_unique))
-after_id_unique of_map id = mapped_unique (Map id) (λ x y e. cc) (frame_unique (whole_from_alone map_unique))
-after_id_unique of_indirect id = mapped_unique (Indirect id) (λ x y e. cc) (frame_unique (whole_from_alone indirect_unique))
-after_id_unique of_other id = mapped_unique (Other id) (λ x y e. cc) (frame_unique any_bytes_whole)
+after_id_unambiguous : (k : NameKind) (id : ℕ) → Unambiguous (after_id k id)
+after_id_unambiguous of_module id = mapped_unambiguous Module (λ x y e. cc) (size_prefixed_unambiguous (whole_from_unique name_unambiguous))
+after_id_unambiguous of_map id = mapped_unambiguous (Map id) (λ x y e. cc) (size_prefixed_unambiguous (whole_from_unique map_unambiguous))
+after_id_unambiguous of_indirect id = mapped_unambiguous (Indirect id) (λ x y e. cc) (size_prefixed_unambiguous (whole_from_unique indirect_unambiguous))
+after_id_unambiguous of_other id = mapped_unambiguous (Other id) (λ x y e. cc) (size_prefixed_unambiguous any_bytes_whole)
 
-pub subsection_unique : UniqueReading subsection
-subsection_unique = tagged_unique id_of tells byte_unique (λ id. after_id_unique (name_kind_of id) id)
+pub subsection_unambiguous : Unambiguous subsection
+subsection_unambiguous = tagged_unambiguous id_of tells byte_unambiguous (λ id. after_id_unambiguous (name_kind_of id) id)
 
 -- ---- encodings
 
-naming_spelled : (n : Naming) → IsNaming n → naming shortest (naming_text n) n
-naming_spelled n plain = pair_spelled u32 name (unsigned_text n.0) (frame_text n.1) n.0 n.1 (u32_spelled n.0 plain.0) (name_spelled n.1 plain.1.0 plain.1.1)
+naming_encodes : (n : Naming) → IsNaming n → naming minimal (naming_encoding n) n
+naming_encodes n plain = pair_encodes u32 name (unsigned_encoding n.0) (size_prefixed_encoding n.1) n.0 n.1 (u32_encodes n.0 plain.0) (name_encodes n.1 plain.1.0 plain.1.1)
 
-map_spelled : (names : List Naming) → VecFits IsNaming names → name_map shortest (vec_text naming_text names) names
-map_spelled names plain = vec_spelled naming IsNaming naming_text naming_spelled names plain
+map_encodes : (names : List Naming) → IsEncodableVec IsNaming names → name_map minimal (vec_encoding naming_encoding names) names
+map_encodes names plain = vec_encodes naming IsNaming naming_encoding naming_encodes names plain
 
-inside_spelled : (i : Inside) → IsInside i → pair u32 name_map shortest (inside_text i) i
-inside_spelled i plain = pair_spelled u32 name_map (unsigned_text i.0) (vec_text naming_text i.1) i.0 i.1 (u32_spelled i.0 plain.0) (map_spelled i.1 plain.1)
+inside_encodes : (i : Inside) → IsInside i → pair u32 name_map minimal (inside_encoding i) i
+inside_encodes i plain = pair_encodes u32 name_map (unsigned_encoding i.0) (vec_encoding naming_encoding i.1) i.0 i.1 (u32_encodes i.0 plain.0) (map_encodes i.1 plain.1)
 
-indirect_spelled : (names : List Inside) → VecFits IsInside names → indirect_map shortest (vec_text inside_text names) names
-indirect_spelled names plain = vec_spelled (pair u32 name_map) IsInside inside_text inside_spelled names plain
+indirect_encodes : (names : List Inside) → IsEncodableVec IsInside names → indirect_map minimal (vec_encoding inside_encoding names) names
+indirect_encodes names plain = vec_encodes (pair u32 name_map) IsInside inside_encoding inside_encodes names plain
 
 -- A subsection whose id has this kind of content.
-of_kind : (mode : Mode) (k : NameKind) (id : ℕ) (content : List ℕ) (x : NameItem) → name_kind_of id ≡ k → after_id k id mode (frame_text content) x → subsection mode (subsection_text id content) x
-of_kind mode k id content x e h = tagged_spelled {G = λ id. after_id (name_kind_of id) id} mode id (frame_text content) x (subst (λ k. after_id k id mode (frame_text content) x) (sym e) h)
+of_kind : (mode : Mode) (k : NameKind) (id : ℕ) (content : List ℕ) (x : NameItem) → name_kind_of id ≡ k → after_id k id mode (size_prefixed_encoding content) x → subsection mode (subsection_encoding id content) x
+of_kind mode k id content x e h = tagged_encodes {G = λ id. after_id (name_kind_of id) id} mode id (size_prefixed_encoding content) x (subst (λ k. after_id k id mode (size_prefixed_encoding content) x) (sym e) h)
 
-name_item_spelled : (x : NameItem) → IsName x → FrameFits (name_text x) → subsection shortest (name_text x) x
-name_item_spelled (Module n) plain fits =
-    let inside = content_fits 0 (frame_text n) fits in
-    of_kind shortest of_module 0 (frame_text n) (Module n) refl
-    (n, refl, frame_spelled name (frame_text n) n inside (name_spelled n plain (omega (arith, inside, length-append (unsigned_text (length n)) n))))
-name_item_spelled (Map id names) plain fits =
-    of_kind shortest of_map id (vec_text naming_text names) (Map id names) plain.0 (names, refl, frame_spelled name_map (vec_text naming_text names) names (content_fits id _ fits) (map_spelled names plain.1))
-name_item_spelled (Indirect id names) plain fits =
-    of_kind shortest of_indirect id (vec_text inside_text names) (Indirect id names) plain.0 (names, refl, frame_spelled indirect_map (vec_text inside_text names) names (content_fits id _ fits) (indirect_spelled names plain.1))
-name_item_spelled (Other id content) plain fits =
-    of_kind shortest of_other id content (Other id content) plain (content, refl, frame_spelled any_bytes content content (content_fits id content fits) refl)
+name_item_encodes : (x : NameItem) → IsName x → HasEncodableSize (name_encoding x) → subsection minimal (name_encoding x) x
+name_item_encodes (Module n) plain encodable =
+    let inside = content_encodable 0 (size_prefixed_encoding n) encodable in
+    of_kind minimal of_module 0 (size_prefixed_encoding n) (Module n) refl
+    (n, refl, size_prefixed_encodes name (size_prefixed_encoding n) n inside (name_encodes n plain (omega (arith, inside, length-append (unsigned_encoding (length n)) n))))
+name_item_encodes (Map id names) plain encodable =
+    of_kind minimal of_map id (vec_encoding naming_encoding names) (Map id names) plain.0 (names, refl, size_prefixed_encodes name_map (vec_encoding naming_encoding names) names (content_encodable id _ encodable) (map_encodes names plain.1))
+name_item_encodes (Indirect id names) plain encodable =
+    of_kind minimal of_indirect id (vec_encoding inside_encoding names) (Indirect id names) plain.0 (names, refl, size_prefixed_encodes indirect_map (vec_encoding inside_encoding names) names (content_encodable id _ encodable) (indirect_encodes names plain.1))
+name_item_encodes (Other id content) plain encodable =
+    of_kind minimal of_other id content (Other id content) plain (content, refl, size_prefixed_encodes any_bytes content content (content_encodable id content encodable) refl)
 
 pub name_laws : ItemLaws name_items
-name_laws = record { alone = subsection_unique; spelled = name_item_spelled }
+name_laws = record { unique = subsection_unambiguous; encodes = name_item_encodes }
 
 -- For padded LEB128: a subsection with raw content that encodes a name map.
-pub names_wide : (id : ℕ) (content : List ℕ) (names : List Naming) → name_kind_of id ≡ of_map → FrameFits content → name_map wide content names → subsection wide (subsection_text id content) (Map id names)
-names_wide id content names kind fits h = of_kind wide of_map id content (Map id names) kind (names, refl, frame_in wide name_map content names fits h)
+pub names_padded : (id : ℕ) (content : List ℕ) (names : List Naming) → name_kind_of id ≡ of_map → HasEncodableSize content → name_map padded content names → subsection padded (subsection_encoding id content) (Map id names)
+names_padded id content names kind encodable h = of_kind padded of_map id content (Map id names) kind (names, refl, size_prefixed_in padded name_map content names encodable h)
 
-pub names_inside_wide : (id : ℕ) (content : List ℕ) (insides : List Inside) → name_kind_of id ≡ of_indirect → FrameFits content → indirect_map wide content insides → subsection wide (subsection_text id content) (Indirect id insides)
-names_inside_wide id content insides kind fits h = of_kind wide of_indirect id content (Indirect id insides) kind (insides, refl, frame_in wide indirect_map content insides fits h)
+pub names_inside_padded : (id : ℕ) (content : List ℕ) (insides : List Inside) → name_kind_of id ≡ of_indirect → HasEncodableSize content → indirect_map padded content insides → subsection padded (subsection_encoding id content) (Indirect id insides)
+names_inside_padded id content insides kind encodable h = of_kind padded of_indirect id content (Indirect id insides) kind (insides, refl, size_prefixed_in padded indirect_map content insides encodable h)
 
-pub name_frame : FrameLaws subsection name_name [] (fixed [] (tt {0})) false
-name_frame = record {
+pub name_layout : CustomLayoutLaws subsection name_name [] (fixed [] (tt {0})) false
+name_layout = record {
   name_utf8 = ascii {bytes = name_name} refl;
-  front_alone = fixed_unique [] (tt {0});
-  front_spelled = (refl, refl);
+  front_unique = fixed_unambiguous [] (tt {0});
+  front_encodes = (refl, refl);
   begins = λ e. tagged_begins;
 }
 
 pub names_section : SectionLaws name_items name_payload
-names_section = entries_laws name_laws name_frame (λ given plain. plain) (λ given plain. plain)
+names_section = entries_laws name_laws name_layout (λ given plain. plain) (λ given plain. plain)
 
 -- ---- decoding names
 
@@ -124,87 +124,87 @@ names_section = entries_laws name_laws name_frame (λ given plain. plain) (λ gi
 
 -- The image of a size-prefixed value decodes as the size-prefixed image.
 module _ {X Y : Type 0} (f : X → Y) (F : Format X) {bytes rest : List ℕ} {y : Y} where
-  image_of_frame : Reads (frame (mapped f F)) wide bytes y rest → Reads (mapped f (frame F)) wide bytes y rest
-  image_of_frame h =
-      let s = h.spelled in
-      record { front = h.front; split = h.split; spelled = (s.spelled.0, s.spelled.1, record { front = s.front; content = s.content; joined = s.joined; size = s.size; spelled = s.spelled.2 }) }
+  image_of_size_prefixed : Decodes (size_prefixed (mapped f F)) padded bytes y rest → Decodes (mapped f (size_prefixed F)) padded bytes y rest
+  image_of_size_prefixed h =
+      let s = h.encodes in
+      record { front = h.front; split = h.split; encodes = (s.encodes.0, s.encodes.1, record { front = s.front; content = s.content; joined = s.joined; size = s.size; encodes = s.encodes.2 }) }
 
-  frame_of_image : Reads (mapped f (frame F)) wide bytes y rest → Reads (frame (mapped f F)) wide bytes y rest
-  frame_of_image h =
-      let s = h.spelled.2 in
-      record { front = h.front; split = h.split; spelled = record { front = s.front; content = s.content; joined = s.joined; size = s.size; spelled = (h.spelled.0, h.spelled.1, s.spelled) } }
+  size_prefixed_of_image : Decodes (mapped f (size_prefixed F)) padded bytes y rest → Decodes (size_prefixed (mapped f F)) padded bytes y rest
+  size_prefixed_of_image h =
+      let s = h.encodes.2 in
+      record { front = h.front; split = h.split; encodes = record { front = s.front; content = s.content; joined = s.joined; size = s.size; encodes = (h.encodes.0, h.encodes.1, s.encodes) } }
 
-image_nothing : {X Y : Type 0} (f : X → Y) {F : Format X} {bytes : List ℕ} → FillsNothing F bytes → FillsNothing (mapped f F) bytes
-image_nothing f n = record { none = λ y h. n.none h.0 h.2 }
+image_rejects : {X Y : Type 0} (f : X → Y) {F : Format X} {bytes : List ℕ} → RejectsWhole F bytes → RejectsWhole (mapped f F) bytes
+image_rejects f n = record { none = λ y h. n.none h.0 h.2 }
 
 -- ---- the content of a subsection
 
-pub module_fills : (bytes : List ℕ) (id : ℕ) (n : List ℕ) → name wide bytes n → inside of_module id wide bytes (Module n)
+pub module_fills : (bytes : List ℕ) (id : ℕ) (n : List ℕ) → name padded bytes n → inside of_module id padded bytes (Module n)
 module_fills bytes id n h = (n, refl, h)
 
-pub no_module : (bytes : List ℕ) (id : ℕ) → FillsNothing name bytes → FillsNothing (inside of_module id) bytes
-no_module bytes id n = image_nothing Module n
+pub no_module : (bytes : List ℕ) (id : ℕ) → RejectsWhole name bytes → RejectsWhole (inside of_module id) bytes
+no_module bytes id n = image_rejects Module n
 
-pub map_fills : (bytes : List ℕ) (id : ℕ) (names : List Naming) → name_map wide bytes names → inside of_map id wide bytes (Map id names)
+pub map_fills : (bytes : List ℕ) (id : ℕ) (names : List Naming) → name_map padded bytes names → inside of_map id padded bytes (Map id names)
 map_fills bytes id names h = (names, refl, h)
 
-pub no_map : (bytes : List ℕ) (id : ℕ) → FillsNothing name_map bytes → FillsNothing (inside of_map id) bytes
-no_map bytes id n = image_nothing (Map id) n
+pub no_map : (bytes : List ℕ) (id : ℕ) → RejectsWhole name_map bytes → RejectsWhole (inside of_map id) bytes
+no_map bytes id n = image_rejects (Map id) n
 
-pub indirect_fills : (bytes : List ℕ) (id : ℕ) (maps : List Inside) → indirect_map wide bytes maps → inside of_indirect id wide bytes (Indirect id maps)
+pub indirect_fills : (bytes : List ℕ) (id : ℕ) (maps : List Inside) → indirect_map padded bytes maps → inside of_indirect id padded bytes (Indirect id maps)
 indirect_fills bytes id maps h = (maps, refl, h)
 
-pub no_indirect : (bytes : List ℕ) (id : ℕ) → FillsNothing indirect_map bytes → FillsNothing (inside of_indirect id) bytes
-no_indirect bytes id n = image_nothing (Indirect id) n
+pub no_indirect : (bytes : List ℕ) (id : ℕ) → RejectsWhole indirect_map bytes → RejectsWhole (inside of_indirect id) bytes
+no_indirect bytes id n = image_rejects (Indirect id) n
 
-pub other_fills : (bytes : List ℕ) (id : ℕ) → inside of_other id wide bytes (Other id bytes)
+pub other_fills : (bytes : List ℕ) (id : ℕ) → inside of_other id padded bytes (Other id bytes)
 other_fills bytes id = (bytes, refl, refl)
 
 pub ruleset kind_steps = (module_fills, no_module, map_fills, no_map, indirect_fills, no_indirect, other_fills)
 
 -- ---- subsections
 
-behind_reads : (k : NameKind) (id : ℕ) (bytes rest : List ℕ) (x : NameItem) → Reads (frame (inside k id)) wide bytes x rest → Reads (after_id k id) wide bytes x rest
-behind_reads of_module id bytes rest x h = image_of_frame Module name h
-behind_reads of_map id bytes rest x h = image_of_frame (Map id) name_map h
-behind_reads of_indirect id bytes rest x h = image_of_frame (Indirect id) indirect_map h
-behind_reads of_other id bytes rest x h = image_of_frame (Other id) any_bytes h
+behind_decodes : (k : NameKind) (id : ℕ) (bytes rest : List ℕ) (x : NameItem) → Decodes (size_prefixed (inside k id)) padded bytes x rest → Decodes (after_id k id) padded bytes x rest
+behind_decodes of_module id bytes rest x h = image_of_size_prefixed Module name h
+behind_decodes of_map id bytes rest x h = image_of_size_prefixed (Map id) name_map h
+behind_decodes of_indirect id bytes rest x h = image_of_size_prefixed (Indirect id) indirect_map h
+behind_decodes of_other id bytes rest x h = image_of_size_prefixed (Other id) any_bytes h
 
-reads_behind : (k : NameKind) (id : ℕ) (bytes rest : List ℕ) (x : NameItem) → Reads (after_id k id) wide bytes x rest → Reads (frame (inside k id)) wide bytes x rest
-reads_behind of_module id bytes rest x h = frame_of_image Module name h
-reads_behind of_map id bytes rest x h = frame_of_image (Map id) name_map h
-reads_behind of_indirect id bytes rest x h = frame_of_image (Indirect id) indirect_map h
-reads_behind of_other id bytes rest x h = frame_of_image (Other id) any_bytes h
+decodes_behind : (k : NameKind) (id : ℕ) (bytes rest : List ℕ) (x : NameItem) → Decodes (after_id k id) padded bytes x rest → Decodes (size_prefixed (inside k id)) padded bytes x rest
+decodes_behind of_module id bytes rest x h = size_prefixed_of_image Module name h
+decodes_behind of_map id bytes rest x h = size_prefixed_of_image (Map id) name_map h
+decodes_behind of_indirect id bytes rest x h = size_prefixed_of_image (Indirect id) indirect_map h
+decodes_behind of_other id bytes rest x h = size_prefixed_of_image (Other id) any_bytes h
 
-nothing_behind : (k : NameKind) (id : ℕ) (bytes : List ℕ) → ReadsNothing (frame (inside k id)) wide bytes → ReadsNothing (after_id k id) wide bytes
-nothing_behind k id bytes n = record { none = λ x rest h. n.none x rest (reads_behind k id bytes rest x h) }
+nothing_behind : (k : NameKind) (id : ℕ) (bytes : List ℕ) → Rejects (size_prefixed (inside k id)) padded bytes → Rejects (after_id k id) padded bytes
+nothing_behind k id bytes n = record { none = λ x rest h. n.none x rest (decodes_behind k id bytes rest x h) }
 
 abbrev behind : ℕ → Format NameItem
 behind id = after_id (name_kind_of id) id
 
-pub subsection_reads : (bytes rest content last : List ℕ) (id : ℕ) (k : NameKind) (x : NameItem) → Reads byte wide bytes id rest → Reads (frame any_bytes) wide rest content last → k ≡ name_kind_of id → inside k id wide content x → Reads subsection wide bytes x last
-subsection_reads bytes rest content last id k x h g e s =
-    tagged_reads {G = behind} h (subst (λ k. Reads (after_id k id) wide rest x last) e (behind_reads k id rest last x (filled_reads (inside k id) rest content last x g s)))
+pub subsection_decodes : (bytes rest content last : List ℕ) (id : ℕ) (k : NameKind) (x : NameItem) → Decodes byte padded bytes id rest → Decodes (size_prefixed any_bytes) padded rest content last → k ≡ name_kind_of id → inside k id padded content x → Decodes subsection padded bytes x last
+subsection_decodes bytes rest content last id k x h g e s =
+    tagged_decodes {G = behind} h (subst (λ k. Decodes (after_id k id) padded rest x last) e (behind_decodes k id rest last x (filled_decodes (inside k id) rest content last x g s)))
 
-pub subsection_none : (bytes : List ℕ) → ReadsNothing byte wide bytes → ReadsNothing subsection wide bytes
+pub subsection_none : (bytes : List ℕ) → Rejects byte padded bytes → Rejects subsection padded bytes
 subsection_none bytes n = tagged_none byte behind bytes n
 
-pub subsection_no_frame : (bytes rest : List ℕ) (id : ℕ) → Reads byte wide bytes id rest → ReadsNothing (frame any_bytes) wide rest → ReadsNothing subsection wide bytes
-subsection_no_frame bytes rest id h n = tagged_nothing {G = behind} byte_unique h (nothing_behind (name_kind_of id) id rest (filled_none (inside (name_kind_of id) id) rest n))
+pub subsection_not_size_prefixed : (bytes rest : List ℕ) (id : ℕ) → Decodes byte padded bytes id rest → Rejects (size_prefixed any_bytes) padded rest → Rejects subsection padded bytes
+subsection_not_size_prefixed bytes rest id h n = tagged_rejects {G = behind} byte_unambiguous h (nothing_behind (name_kind_of id) id rest (filled_none (inside (name_kind_of id) id) rest n))
 
-pub subsection_nothing : (bytes rest content last : List ℕ) (id : ℕ) (k : NameKind) → Reads byte wide bytes id rest → Reads (frame any_bytes) wide rest content last → k ≡ name_kind_of id → FillsNothing (inside k id) content → ReadsNothing subsection wide bytes
-subsection_nothing bytes rest content last id k h g e n =
-    tagged_nothing {G = behind} byte_unique h (subst (λ k. ReadsNothing (after_id k id) wide rest) e (nothing_behind k id rest (filled_nothing (inside k id) rest content last g n)))
+pub subsection_rejects : (bytes rest content last : List ℕ) (id : ℕ) (k : NameKind) → Decodes byte padded bytes id rest → Decodes (size_prefixed any_bytes) padded rest content last → k ≡ name_kind_of id → RejectsWhole (inside k id) content → Rejects subsection padded bytes
+subsection_rejects bytes rest content last id k h g e n =
+    tagged_rejects {G = behind} byte_unambiguous h (subst (λ k. Rejects (after_id k id) padded rest) e (nothing_behind k id rest (filled_rejects (inside k id) rest content last g n)))
 
 -- ---- sections
 
-pub names_fill : (bytes rest : List ℕ) (items : List NameItem) → Reads (just name_name name) wide bytes tt rest → members subsection wide rest items → name_payload wide bytes items
+pub names_fill : (bytes rest : List ℕ) (items : List NameItem) → Decodes (just name_name name) padded bytes tt rest → members subsection padded rest items → name_payload padded bytes items
 names_fill bytes rest items h g = items_fill name_name false subsection bytes rest items h g
 
-pub names_none : (bytes : List ℕ) → ReadsNothing (just name_name name) wide bytes → FillsNothing name_payload bytes
+pub names_none : (bytes : List ℕ) → Rejects (just name_name name) padded bytes → RejectsWhole name_payload bytes
 names_none bytes n = named_none name_name _ bytes n
 
-pub no_names : (bytes rest : List ℕ) → Reads (just name_name name) wide bytes tt rest → FillsNothing (members subsection) rest → FillsNothing name_payload bytes
+pub no_names : (bytes rest : List ℕ) → Decodes (just name_name name) padded bytes tt rest → RejectsWhole (members subsection) rest → RejectsWhole name_payload bytes
 no_names bytes rest h n = no_items name_name false subsection bytes rest h n
 
 pub ruleset name_steps = (names_fill, names_none, no_names)
@@ -213,73 +213,73 @@ pub ruleset name_steps = (names_fill, names_none, no_names)
 
 -- ---- the content of a subsection
 
-pub module_appended : (n old new : List ℕ) → AppendsShortest name n old new → AppendsShortest (inside of_module 0) (Module n) old new
+pub module_appended : (n old new : List ℕ) → AppendsMinimal name n old new → AppendsMinimal (inside of_module 0) (Module n) old new
 module_appended n old new a = mapped_appended Module name n old new (λ z k. cc k) a
 
-pub map_appended : (id : ℕ) (names : List Naming) (old new : List ℕ) → AppendsShortest name_map names old new → AppendsShortest (inside of_map id) (Map id names) old new
+pub map_appended : (id : ℕ) (names : List Naming) (old new : List ℕ) → AppendsMinimal name_map names old new → AppendsMinimal (inside of_map id) (Map id names) old new
 map_appended id names old new a = mapped_appended (Map id) name_map names old new (λ z k. cc k) a
 
-pub indirect_appended : (id : ℕ) (maps : List Inside) (old new : List ℕ) → AppendsShortest indirect_map maps old new → AppendsShortest (inside of_indirect id) (Indirect id maps) old new
+pub indirect_appended : (id : ℕ) (maps : List Inside) (old new : List ℕ) → AppendsMinimal indirect_map maps old new → AppendsMinimal (inside of_indirect id) (Indirect id maps) old new
 indirect_appended id maps old new a = mapped_appended (Indirect id) indirect_map maps old new (λ z k. cc k) a
 
-pub other_appended : (id : ℕ) (bytes old new : List ℕ) → new ≡ old ++ bytes → AppendsShortest (inside of_other id) (Other id bytes) old new
-other_appended id bytes old new e = mapped_appended (Other id) any_bytes bytes old new (λ z k. cc k) (text_appended any_bytes bytes bytes old new (λ s h. refl) e)
+pub other_appended : (id : ℕ) (bytes old new : List ℕ) → new ≡ old ++ bytes → AppendsMinimal (inside of_other id) (Other id bytes) old new
+other_appended id bytes old new e = mapped_appended (Other id) any_bytes bytes old new (λ z k. cc k) (encoding_appended any_bytes bytes bytes old new (λ s h. refl) e)
 
 -- ---- subsections
 
-held_told : (k : NameKind) (id : ℕ) (s : List ℕ) (x : NameItem) → after_id k id wide s x → held_by x ≡ k
+held_told : (k : NameKind) (id : ℕ) (s : List ℕ) (x : NameItem) → after_id k id padded s x → held_by x ≡ k
 held_told of_module id s x h = sym (ap held_by h.1)
 held_told of_map id s x h = sym (ap held_by h.1)
 held_told of_indirect id s x h = sym (ap held_by h.1)
 held_told of_other id s x h = sym (ap held_by h.1)
 
-id_told : (x : NameItem) (s : List ℕ) (id : ℕ) → after_id (name_kind_of id) id wide s x → id ≡ id_of x
-id_told (Module n) s id h = tells wide id s (Module n) h
-id_told (Map i names) s id h = tells wide id s (Map i names) h
-id_told (Indirect i maps) s id h = tells wide id s (Indirect i maps) h
-id_told (Other i bytes) s id h = tells wide id s (Other i bytes) h
+id_told : (x : NameItem) (s : List ℕ) (id : ℕ) → after_id (name_kind_of id) id padded s x → id ≡ id_of x
+id_told (Module n) s id h = tells padded id s (Module n) h
+id_told (Map i names) s id h = tells padded id s (Map i names) h
+id_told (Indirect i maps) s id h = tells padded id s (Indirect i maps) h
+id_told (Other i bytes) s id h = tells padded id s (Other i bytes) h
 
 -- The image of a size-prefixed value is encoded as the size-prefixed image.
 module _ {X : Type 0} (f : X → NameItem) (F : Format X) {mode : Mode} {s : List ℕ} {x : NameItem} where
-  spelled_image : frame (mapped f F) mode s x → mapped f (frame F) mode s x
-  spelled_image h = (h.spelled.0, h.spelled.1, record { front = h.front; content = h.content; joined = h.joined; size = h.size; spelled = h.spelled.2 })
+  encodes_image : size_prefixed (mapped f F) mode s x → mapped f (size_prefixed F) mode s x
+  encodes_image h = (h.encodes.0, h.encodes.1, record { front = h.front; content = h.content; joined = h.joined; size = h.size; encodes = h.encodes.2 })
 
-  spelled_frame : mapped f (frame F) mode s x → frame (mapped f F) mode s x
-  spelled_frame h = record { front = h.2.front; content = h.2.content; joined = h.2.joined; size = h.2.size; spelled = (h.0, h.1, h.2.spelled) }
+  encodes_size_prefixed : mapped f (size_prefixed F) mode s x → size_prefixed (mapped f F) mode s x
+  encodes_size_prefixed h = record { front = h.2.front; content = h.2.content; joined = h.2.joined; size = h.2.size; encodes = (h.0, h.1, h.2.encodes) }
 
-framed : (k : NameKind) (id : ℕ) {mode : Mode} {s : List ℕ} {x : NameItem} → after_id k id mode s x → frame (inside k id) mode s x
-framed of_module id h = spelled_frame Module name h
-framed of_map id h = spelled_frame (Map id) name_map h
-framed of_indirect id h = spelled_frame (Indirect id) indirect_map h
-framed of_other id h = spelled_frame (Other id) any_bytes h
+sized : (k : NameKind) (id : ℕ) {mode : Mode} {s : List ℕ} {x : NameItem} → after_id k id mode s x → size_prefixed (inside k id) mode s x
+sized of_module id h = encodes_size_prefixed Module name h
+sized of_map id h = encodes_size_prefixed (Map id) name_map h
+sized of_indirect id h = encodes_size_prefixed (Indirect id) indirect_map h
+sized of_other id h = encodes_size_prefixed (Other id) any_bytes h
 
-behind_content : (k : NameKind) (id : ℕ) {mode : Mode} {s : List ℕ} {x : NameItem} → frame (inside k id) mode s x → after_id k id mode s x
-behind_content of_module id h = spelled_image Module name h
-behind_content of_map id h = spelled_image (Map id) name_map h
-behind_content of_indirect id h = spelled_image (Indirect id) indirect_map h
-behind_content of_other id h = spelled_image (Other id) any_bytes h
+behind_content : (k : NameKind) (id : ℕ) {mode : Mode} {s : List ℕ} {x : NameItem} → size_prefixed (inside k id) mode s x → after_id k id mode s x
+behind_content of_module id h = encodes_image Module name h
+behind_content of_map id h = encodes_image (Map id) name_map h
+behind_content of_indirect id h = encodes_image (Indirect id) indirect_map h
+behind_content of_other id h = encodes_image (Other id) any_bytes h
 
-after_appended : (x : NameItem) (old new : List ℕ) → AppendsShortest (frame (inside (held_by x) (id_of x))) x old new → AppendsShortest (after_id (name_kind_of (id_of x)) (id_of x)) x old new
+after_appended : (x : NameItem) (old new : List ℕ) → AppendsMinimal (size_prefixed (inside (held_by x) (id_of x))) x old new → AppendsMinimal (after_id (name_kind_of (id_of x)) (id_of x)) x old new
 after_appended x old new a = record {
-  text = a.text;
+  encoding = a.encoding;
   appended = a.appended;
-  spelled = λ s h.
+  encodes = λ s h.
       let id = id_of x in
       let is = held_told (name_kind_of id) id s x h in
-      let given = subst (λ k. after_id k id wide s x) (sym is) h in
-      subst (λ k. after_id k id shortest a.text x) is (behind_content (held_by x) id (a.spelled s (framed (held_by x) id given)));
+      let given = subst (λ k. after_id k id padded s x) (sym is) h in
+      subst (λ k. after_id k id minimal a.encoding x) is (behind_content (held_by x) id (a.encodes s (sized (held_by x) id given)));
 }
 
-pub subsection_appended : (x : NameItem) (start : ℕ) (old front middle new : List ℕ) → front ≡ old ++ id_of x ∷ [] → start ≡ length front → AppendsShortest (inside (held_by x) (id_of x)) x front middle → FrameFits (drop start middle)
-    → new ≡ take start middle ++ frame_text (drop start middle) → AppendsShortest subsection x old new
-subsection_appended x start old front middle new e l a fits is =
-    tagged_appended byte (λ id. after_id (name_kind_of id) id) (λ s z h. id_told x s z h) (text_appended byte (id_of x) (id_of x ∷ []) old front (λ s h. refl) e)
-    (after_appended x front new (frame_appended (inside (held_by x) (id_of x)) x start front middle new l a fits is))
+pub subsection_appended : (x : NameItem) (start : ℕ) (old front middle new : List ℕ) → front ≡ old ++ id_of x ∷ [] → start ≡ length front → AppendsMinimal (inside (held_by x) (id_of x)) x front middle → HasEncodableSize (drop start middle)
+    → new ≡ take start middle ++ size_prefixed_encoding (drop start middle) → AppendsMinimal subsection x old new
+subsection_appended x start old front middle new e l a encodable is =
+    tagged_appended byte (λ id. after_id (name_kind_of id) id) (λ s z h. id_told x s z h) (encoding_appended byte (id_of x) (id_of x ∷ []) old front (λ s h. refl) e)
+    (after_appended x front new (size_prefixed_appended (inside (held_by x) (id_of x)) x start front middle new l a encodable is))
 
 -- ---- sections
 
-pub names_appended : (xs : List NameItem) (old middle new : List ℕ) → FrameFits name_name → middle ≡ old ++ frame_text name_name → AppendsShortest (members subsection) xs middle new → AppendsShortest name_payload xs old new
-names_appended xs old middle new fits e a = items_appended name_name false subsection xs fits e a
+pub names_appended : (xs : List NameItem) (old middle new : List ℕ) → HasEncodableSize name_name → middle ≡ old ++ size_prefixed_encoding name_name → AppendsMinimal (members subsection) xs middle new → AppendsMinimal name_payload xs old new
+names_appended xs old middle new encodable e a = items_appended name_name false subsection xs encodable e a
 
 -- ---- parts that have encodings
 
@@ -292,23 +292,23 @@ map_encoded id names h = mapped_encoded (Map id) name_map names (λ z k. cc k) h
 pub indirect_encoded : (id : ℕ) (maps : List Inside) → HasEncoding (inside of_indirect id) (Indirect id maps) → HasEncoding indirect_map maps
 indirect_encoded id maps h = mapped_encoded (Indirect id) indirect_map maps (λ z k. cc k) h
 
-framed_encoded : (x : NameItem) → HasEncoding subsection x → HasEncoding (frame (inside (held_by x) (id_of x))) x
-framed_encoded x h =
+sized_encoded : (x : NameItem) → HasEncoding subsection x → HasEncoding (size_prefixed (inside (held_by x) (id_of x))) x
+sized_encoded x h =
     let id = id_of x in
     let behind = tagged_encoded byte (λ b. after_id (name_kind_of b) b) id x (λ s z k. id_told x s z k) h in
-    record { bytes = behind.bytes; decoded = framed (held_by x) id (subst (λ k. after_id k id wide behind.bytes x) (sym (held_told (name_kind_of id) id behind.bytes x behind.decoded)) behind.decoded) }
+    record { bytes = behind.bytes; decoded = sized (held_by x) id (subst (λ k. after_id k id padded behind.bytes x) (sym (held_told (name_kind_of id) id behind.bytes x behind.decoded)) behind.decoded) }
 
 pub held_encoded : (x : NameItem) → HasEncoding subsection x → HasEncoding (inside (held_by x) (id_of x)) x
-held_encoded x h = content_encoded (inside (held_by x) (id_of x)) x (framed_encoded x h)
+held_encoded x h = content_encoded (inside (held_by x) (id_of x)) x (sized_encoded x h)
 
-inside_spellings : (k : NameKind) (id : ℕ) → HasSpellings (inside k id)
-inside_spellings of_module id = (mapped_unique Module (λ x y e. cc) name_unique).spellings
-inside_spellings of_map id = (mapped_unique (Map id) (λ x y e. cc) map_unique).spellings
-inside_spellings of_indirect id = (mapped_unique (Indirect id) (λ x y e. cc) indirect_unique).spellings
-inside_spellings of_other id = (mapped_whole (Other id) (λ x y e. cc) any_bytes_whole).spellings
+inside_encodings : (k : NameKind) (id : ℕ) → HasEncodings (inside k id)
+inside_encodings of_module id = (mapped_unambiguous Module (λ x y e. cc) name_unambiguous).encodings
+inside_encodings of_map id = (mapped_unambiguous (Map id) (λ x y e. cc) map_unambiguous).encodings
+inside_encodings of_indirect id = (mapped_unambiguous (Indirect id) (λ x y e. cc) indirect_unambiguous).encodings
+inside_encodings of_other id = (mapped_whole (Other id) (λ x y e. cc) any_bytes_whole).encodings
 
-pub held_fits : (x : NameItem) (start : ℕ) (old new : List ℕ) → start ≡ length old → AppendsShortest (inside (held_by x) (id_of x)) x old new → HasEncoding subsection x → FrameFits (drop start new)
-held_fits x start old new e a h = behind_fits (inside (held_by x) (id_of x)) x start old new (inside_spellings (held_by x) (id_of x)) e a (framed_encoded x h)
+pub held_encodable : (x : NameItem) (start : ℕ) (old new : List ℕ) → start ≡ length old → AppendsMinimal (inside (held_by x) (id_of x)) x old new → HasEncoding subsection x → HasEncodableSize (drop start new)
+held_encodable x start old new e a h = behind_encodable (inside (held_by x) (id_of x)) x start old new (inside_encodings (held_by x) (id_of x)) e a (sized_encoded x h)
 
 pub names_encoded : (xs : List NameItem) → HasEncoding name_payload xs → HasEncoding (members subsection) xs
 names_encoded xs h = items_encoded name_name false subsection xs h

@@ -2,20 +2,20 @@
 -- formats. Tool conventions, Coredump.
 use Rattle.std.specs.Prelude.{◌≡◌, ℕ, ◌^◌, ◌<◌, List, [], ◌∷◌, ◌++◌, IsUtf8, codes}
 use Rattle.std.specs.declared.vec.Vec.{Vec}
-use Rattle.wasm_base.specs.Entries.{Kind, HoldsItems}
+use Rattle.wasm_base.specs.Entries.{Kind, ContainsItems}
 use Rattle.wasm_base.specs.Formats.{Format, u32, name, mapped, pair, prefixed, vec}
-use Rattle.wasm_base.specs.Laws.{FitsUnsigned, NameFits}
-use Rattle.wasm_base.specs.Numbers.{unsigned_text}
-use Rattle.wasm_base.specs.Texts.{frame_text, vec_text, VecFits}
-use Rattle.wasm_base.specs.Modules.{SectionReading}
-use Rattle.wasm_custom.specs.Customs.{named_section, named_payload, reading_as}
+use Rattle.wasm_base.specs.Laws.{IsUnsignedInRange, IsEncodableName}
+use Rattle.wasm_base.specs.Numbers.{unsigned_encoding}
+use Rattle.wasm_base.specs.Encodings.{size_prefixed_encoding, vec_encoding, IsEncodableVec}
+use Rattle.wasm_base.specs.Modules.{SectionDecoding}
+use Rattle.wasm_custom.specs.Customs.{named_section, named_payload, decoding_as}
 use Rattle.wasm_custom.specs.Entries.{counted_payload}
 
 -- ---- names of processes, modules and threads
 
 -- The encoding of such a name: the byte 00, then the name.
-abbrev pub marked_text : List ℕ → List ℕ
-marked_text n = 0x00 ∷ frame_text n
+abbrev pub marked_encoding : List ℕ → List ℕ
+marked_encoding n = 0x00 ∷ size_prefixed_encoding n
 
 -- The name of a process, a module or a thread: the byte 00, then a name.
 abbrev pub marked_name : Format (List ℕ)
@@ -31,15 +31,15 @@ core_section = named_section core_name marked_name
 
 -- The payload is the byte 00 and this name of the process, which is UTF-8.
 abbrev pub SaysProcess : List ℕ → List ℕ → Type 0
-SaysProcess content n = IsUtf8 n × (content ≡ marked_text n)
+SaysProcess content n = IsUtf8 n × (content ≡ marked_encoding n)
 
 -- The name is well-formed: UTF-8 of at most 2^32 - 1 bytes.
 abbrev pub IsModule : List ℕ → Type 0
-IsModule = NameFits
+IsModule = IsEncodableName
 
 -- The kind of modules of a core dump.
 abbrev pub module_items : Kind (List ℕ) (List ℕ)
-module_items = record { text = marked_text; IsPlain = IsModule; IsPlainWide = IsModule; normal_form = λ n. n; format = marked_name }
+module_items = record { encoding = marked_encoding; IsWellFormed = IsModule; IsWellFormedPadded = IsModule; normal_form = λ n. n; format = marked_name }
 
 -- The section name `coremodules`.
 abbrev pub modules_name : List ℕ
@@ -55,15 +55,15 @@ pub record Instance : Type 0 where
 
 -- The encoding of an instance: the byte 00, the index of its module, and the vectors of its
 -- memories and globals.
-abbrev pub instance_text : Instance → List ℕ
-instance_text i = (0x00 ∷ unsigned_text i.module_index) ++ (vec_text unsigned_text i.memories ++ vec_text unsigned_text i.globals)
+abbrev pub instance_encoding : Instance → List ℕ
+instance_encoding i = (0x00 ∷ unsigned_encoding i.module_index) ++ (vec_encoding unsigned_encoding i.memories ++ vec_encoding unsigned_encoding i.globals)
 
 -- The instance is well-formed: its numbers are in range, and its lists have at most 2^32 - 1
 -- members.
 pub record IsInstance (i : Instance) : Type 0 where
   pub module_index : i.module_index < 2 ^ 32
-  pub memories : VecFits (FitsUnsigned 32) i.memories
-  pub globals : VecFits (FitsUnsigned 32) i.globals
+  pub memories : IsEncodableVec (IsUnsignedInRange 32) i.memories
+  pub globals : IsEncodableVec (IsUnsignedInRange 32) i.globals
 
 -- The instance of this module, these memories and these globals.
 abbrev pub instance_of : ℕ × (List ℕ × List ℕ) → Instance
@@ -75,7 +75,7 @@ instance = mapped instance_of (prefixed (0x00 ∷ []) (pair u32 (pair (vec u32) 
 
 -- The kind of instances of a core dump.
 abbrev pub instance_items : Kind Instance Instance
-instance_items = record { text = instance_text; IsPlain = IsInstance; IsPlainWide = IsInstance; normal_form = λ instance. instance; format = instance }
+instance_items = record { encoding = instance_encoding; IsWellFormed = IsInstance; IsWellFormedPadded = IsInstance; normal_form = λ instance. instance; format = instance }
 
 -- The section name `coreinstances`.
 abbrev pub instances_name : List ℕ
@@ -84,12 +84,12 @@ instances_name = codes "coreinstances"
 -- ---- sections of a core dump
 
 -- The pieces encode these module names.
-abbrev pub HoldsModules : List (List ℕ) → List (List ℕ) → Type 0
-HoldsModules = HoldsItems module_items
+abbrev pub ContainsModules : List (List ℕ) → List (List ℕ) → Type 0
+ContainsModules = ContainsItems module_items
 
 -- The pieces encode these instances.
-abbrev pub HoldsInstances : List (List ℕ) → List Instance → Type 0
-HoldsInstances = HoldsItems instance_items
+abbrev pub ContainsInstances : List (List ℕ) → List Instance → Type 0
+ContainsInstances = ContainsItems instance_items
 
 -- The payload of the section of the process: the section name, the byte 00 and the name of the
 -- process.
@@ -106,16 +106,16 @@ abbrev pub instances_payload : Format (List Instance)
 instances_payload = counted_payload instances_name instance
 
 -- The section that decodes to the process of this name.
-abbrev pub core_reading : List ℕ → SectionReading
-core_reading n = reading_as core_payload n
+abbrev pub core_decoding : List ℕ → SectionDecoding
+core_decoding n = decoding_as core_payload n
 
 -- The section that decodes to the modules of these names.
-abbrev pub modules_reading : List (List ℕ) → SectionReading
-modules_reading names = reading_as modules_payload names
+abbrev pub modules_decoding : List (List ℕ) → SectionDecoding
+modules_decoding names = decoding_as modules_payload names
 
 -- The section that decodes to these instances.
-abbrev pub instances_reading : List Instance → SectionReading
-instances_reading instances = reading_as instances_payload instances
+abbrev pub instances_decoding : List Instance → SectionDecoding
+instances_decoding instances = decoding_as instances_payload instances
 
 -- ---- decoded instances
 

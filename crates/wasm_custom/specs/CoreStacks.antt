@@ -1,14 +1,14 @@
 -- This file defines the stacks of a core dump, their encoding and their format. Tool conventions,
 -- Coredump.
 use Rattle.std.specs.Prelude.{◌≡◌, ℕ, ◌^◌, ◌<◌, List, [], ◌∷◌, ◌++◌, IsUtf8, codes}
-use Rattle.wasm_base.specs.Entries.{Kind, HoldsItems}
+use Rattle.wasm_base.specs.Entries.{Kind, ContainsItems}
 use Rattle.wasm_base.specs.Formats.{Format, u32, mapped, pair, prefixed, vec}
-use Rattle.wasm_base.specs.Numbers.{unsigned_text}
-use Rattle.wasm_base.specs.Texts.{vec_text, VecFits}
-use Rattle.wasm_base.specs.Modules.{SectionReading}
-use Rattle.wasm_custom.specs.CoreDumps.{marked_text, marked_name}
-use Rattle.wasm_custom.specs.CoreValues.{value_text, IsValue, value}
-use Rattle.wasm_custom.specs.Customs.{named_section, named_payload, reading_as}
+use Rattle.wasm_base.specs.Numbers.{unsigned_encoding}
+use Rattle.wasm_base.specs.Encodings.{vec_encoding, IsEncodableVec}
+use Rattle.wasm_base.specs.Modules.{SectionDecoding}
+use Rattle.wasm_custom.specs.CoreDumps.{marked_encoding, marked_name}
+use Rattle.wasm_custom.specs.CoreValues.{value_encoding, IsValue, value}
+use Rattle.wasm_custom.specs.Customs.{named_section, named_payload, decoding_as}
 use Rattle.wasm_custom.specs.declared.core_values.CoreDumpValue.{CoreDumpValue}
 use Rattle.wasm_custom.specs.declared.core_stack.CoreFrame.{CoreFrame}
 
@@ -23,7 +23,7 @@ pub record StackFrame : Type 0 where
 -- The encoding of a stack frame: the byte 00, its code location, and the vectors of its locals and
 -- of its part of the stack.
 abbrev pub frame_entry : StackFrame → List ℕ
-frame_entry f = (0x00 ∷ (unsigned_text f.instance ++ (unsigned_text f.function ++ unsigned_text f.offset))) ++ (vec_text value_text f.locals ++ vec_text value_text f.stack)
+frame_entry f = (0x00 ∷ (unsigned_encoding f.instance ++ (unsigned_encoding f.function ++ unsigned_encoding f.offset))) ++ (vec_encoding value_encoding f.locals ++ vec_encoding value_encoding f.stack)
 
 -- The stack frame is well-formed: its numbers and values are in range, and its lists have at most
 -- 2^32 - 1 members.
@@ -31,15 +31,15 @@ pub record IsFrame (f : StackFrame) : Type 0 where
   pub instance : f.instance < 2 ^ 32
   pub function : f.function < 2 ^ 32
   pub offset : f.offset < 2 ^ 32
-  pub locals : VecFits IsValue f.locals
-  pub stack : VecFits IsValue f.stack
+  pub locals : IsEncodableVec IsValue f.locals
+  pub stack : IsEncodableVec IsValue f.stack
 
 -- A code location: the instance, the function, and the offset in the function.
-abbrev pub Place : Type 0
-Place = ℕ × (ℕ × ℕ)
+abbrev pub CodeLocation : Type 0
+CodeLocation = ℕ × (ℕ × ℕ)
 
 -- The stack frame at this location, with these locals and this part of the stack.
-abbrev pub stack_frame_of : Place × (List CoreDumpValue × List CoreDumpValue) → StackFrame
+abbrev pub stack_frame_of : CodeLocation × (List CoreDumpValue × List CoreDumpValue) → StackFrame
 stack_frame_of p = record { instance = p.0.0; function = p.0.1.0; offset = p.0.1.1; locals = p.1.0; stack = p.1.1 }
 
 -- A stack frame: the byte 00, its code location, and the vectors of its locals and of its part of
@@ -49,7 +49,7 @@ stack_frame = mapped stack_frame_of (pair (prefixed (0x00 ∷ []) (pair u32 (pai
 
 -- The kind of stack frames.
 abbrev pub frame_items : Kind StackFrame StackFrame
-frame_items = record { text = frame_entry; IsPlain = IsFrame; IsPlainWide = IsFrame; normal_form = λ frame. frame; format = stack_frame }
+frame_items = record { encoding = frame_entry; IsWellFormed = IsFrame; IsWellFormedPadded = IsFrame; normal_form = λ frame. frame; format = stack_frame }
 
 -- The section name `corestack`.
 abbrev pub stack_name : List ℕ
@@ -62,7 +62,7 @@ stack_section = named_section stack_name (pair marked_name (vec stack_frame))
 -- The front is the byte 00 and this name of the thread, which is UTF-8, and the pieces encode these
 -- frames.
 abbrev pub SaysStack : List ℕ → List (List ℕ) → List ℕ × List StackFrame → Type 0
-SaysStack front frames said = IsUtf8 said.0 × (front ≡ marked_text said.0) × HoldsItems frame_items frames said.1
+SaysStack front frames said = IsUtf8 said.0 × (front ≡ marked_encoding said.0) × ContainsItems frame_items frames said.1
 
 -- ---- the section of a stack
 
@@ -72,8 +72,8 @@ abbrev pub stack_payload : Format (List ℕ × List StackFrame)
 stack_payload = named_payload stack_name (pair marked_name (vec stack_frame))
 
 -- The section that decodes to the stack of the thread of this name, with these frames.
-abbrev pub stack_reading : List ℕ → List StackFrame → SectionReading
-stack_reading n frames = reading_as stack_payload (n, frames)
+abbrev pub stack_decoding : List ℕ → List StackFrame → SectionDecoding
+stack_decoding n frames = decoding_as stack_payload (n, frames)
 
 -- ---- decoded frames
 

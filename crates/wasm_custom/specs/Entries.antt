@@ -1,18 +1,18 @@
 -- This file defines custom sections that are a list of entries.
 use Rattle.std.specs.Prelude.{◌≡◌, ℕ, List, [], ◌++◌, length, Bool, true, false, cond, IsUtf8}
 use Rattle.wasm_base.specs.Formats.{Format, fixed, tagged, vec, members, when}
-use Rattle.wasm_base.specs.Numbers.{shortest, unsigned_text}
+use Rattle.wasm_base.specs.Numbers.{minimal, unsigned_encoding}
 use Rattle.wasm_base.specs.Pieces.{joined}
-use Rattle.wasm_base.specs.Reading.{UniqueReading, BeginsWith}
+use Rattle.wasm_base.specs.Decoding.{Unambiguous, BeginsWith}
 use Rattle.wasm_custom.specs.Customs.{named_payload}
 
 -- The count, if the entries are counted.
-abbrev pub count_text : Bool → ℕ → List ℕ
-count_text counted n = cond counted (unsigned_text n) []
+abbrev pub count_encoding : Bool → ℕ → List ℕ
+count_encoding counted n = cond counted (unsigned_encoding n) []
 
 -- The data of a section: a front, the number of entries if they are counted, and the entries.
-abbrev pub entries_text : List ℕ → Bool → List (List ℕ) → List ℕ
-entries_text front counted pieces = front ++ (count_text counted (length pieces) ++ joined pieces)
+abbrev pub entries_encoding : List ℕ → Bool → List (List ℕ) → List ℕ
+entries_encoding front counted pieces = front ++ (count_encoding counted (length pieces) ++ joined pieces)
 
 -- The items: a vector if they are counted, or one after another up to the last byte.
 abbrev pub listing : {Item : Type 0} → Bool → Format Item → Format (List Item)
@@ -28,8 +28,8 @@ counted_payload n F = named_payload n (entries (fixed [] (tt {0})) true F)
 
 -- The laws of a kind of custom section, in addition to those of its items. Its name is UTF-8, and
 -- its front is encoded in an unambiguous format. If items are not counted, none of them is empty.
-pub record FrameLaws {Item : Type 0} (F : Format Item) (name front : List ℕ) (front_format : Format (Unit {0})) (counted : Bool) : Type 0 where
+pub record CustomLayoutLaws {Item : Type 0} (F : Format Item) (name front : List ℕ) (front_format : Format (Unit {0})) (counted : Bool) : Type 0 where
   pub name_utf8 : IsUtf8 name
-  pub front_alone : UniqueReading front_format
-  pub front_spelled : front_format shortest front (tt {0})
+  pub front_unique : Unambiguous front_format
+  pub front_encodes : front_format minimal front (tt {0})
   pub begins : counted ≡ false → BeginsWith (λ b. Unit {0}) F

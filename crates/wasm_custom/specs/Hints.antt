@@ -2,18 +2,18 @@
 -- `metadata.code.branch_hint`.
 use Rattle.std.specs.Prelude.{ℕ, ◌^◌, ◌<◌, List, [], ◌∷◌, ◌++◌, codes}
 use Rattle.std.specs.declared.vec.Vec.{Vec}
-use Rattle.wasm_base.specs.Entries.{Kind, HoldsItems}
+use Rattle.wasm_base.specs.Entries.{Kind, ContainsItems}
 use Rattle.wasm_base.specs.Formats.{Format, u32, byte, mapped, pair, prefixed, such, vec}
-use Rattle.wasm_base.specs.Numbers.{unsigned_text}
-use Rattle.wasm_base.specs.Texts.{vec_text, VecFits}
-use Rattle.wasm_base.specs.Modules.{SectionReading}
-use Rattle.wasm_custom.specs.Customs.{reading_as}
+use Rattle.wasm_base.specs.Numbers.{unsigned_encoding}
+use Rattle.wasm_base.specs.Encodings.{vec_encoding, IsEncodableVec}
+use Rattle.wasm_base.specs.Modules.{SectionDecoding}
+use Rattle.wasm_custom.specs.Customs.{decoding_as}
 use Rattle.wasm_custom.specs.Entries.{counted_payload}
 use Rattle.wasm_custom.specs.declared.hints.BranchHint.{BranchHint}
 
 -- The encoding of a branch hint: the offset of the branch, the size 01 of the value, and the value.
-abbrev pub hint_text : BranchHint → List ℕ
-hint_text h = unsigned_text h.branch_func_offset ++ (0x01 ∷ unsigned_text h.branch_hint_value)
+abbrev pub hint_encoding : BranchHint → List ℕ
+hint_encoding h = unsigned_encoding h.branch_func_offset ++ (0x01 ∷ unsigned_encoding h.branch_hint_value)
 
 -- The branch hint is well-formed: its offset is below 2^32, and its value is below 128, so that it
 -- has one byte.
@@ -26,13 +26,13 @@ abbrev pub Hints : Type 0
 Hints = ℕ × List BranchHint
 
 -- The encoding of a function's hints: its index, and their vector.
-abbrev pub hints_text : Hints → List ℕ
-hints_text h = unsigned_text h.0 ++ vec_text hint_text h.1
+abbrev pub hints_encoding : Hints → List ℕ
+hints_encoding h = unsigned_encoding h.0 ++ vec_encoding hint_encoding h.1
 
 -- The function's hints are well-formed: its index is below 2^32, and its hints are well-formed and
 -- at most 2^32 - 1.
 abbrev pub AreHints : Hints → Type 0
-AreHints h = (h.0 < 2 ^ 32) × VecFits IsHint h.1
+AreHints h = (h.0 < 2 ^ 32) × IsEncodableVec IsHint h.1
 
 -- The branch hint of this offset and this value.
 abbrev pub hint_of : ℕ × ℕ → BranchHint
@@ -48,7 +48,7 @@ hints = pair u32 (vec hint)
 
 -- The kind of functions with their branch hints.
 abbrev pub hint_items : Kind Hints Hints
-hint_items = record { text = hints_text; IsPlain = AreHints; IsPlainWide = AreHints; normal_form = λ hints. hints; format = hints }
+hint_items = record { encoding = hints_encoding; IsWellFormed = AreHints; IsWellFormedPadded = AreHints; normal_form = λ hints. hints; format = hints }
 
 -- The section name `metadata.code.branch_hint`.
 abbrev pub hints_name : List ℕ
@@ -57,16 +57,16 @@ hints_name = codes "metadata.code.branch_hint"
 -- ---- the section of branch hints
 
 -- The pieces encode these functions with their hints.
-abbrev pub HoldsHints : List (List ℕ) → List Hints → Type 0
-HoldsHints = HoldsItems hint_items
+abbrev pub ContainsHints : List (List ℕ) → List Hints → Type 0
+ContainsHints = ContainsItems hint_items
 
 -- The payload of the section: its name, and a vector of functions with their hints.
 abbrev pub hints_payload : Format (List Hints)
 hints_payload = counted_payload hints_name hints
 
 -- The section that decodes to the branch hints of these functions.
-abbrev pub hints_reading : List Hints → SectionReading
-hints_reading functions = reading_as hints_payload functions
+abbrev pub hints_decoding : List Hints → SectionDecoding
+hints_decoding functions = decoding_as hints_payload functions
 
 -- ---- decoded hints
 

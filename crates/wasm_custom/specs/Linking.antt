@@ -1,12 +1,12 @@
 -- This file defines the linking section, its encoding and its format. Tool conventions, Linking,
 -- Linking Metadata Section.
 use Rattle.std.specs.Prelude.{ℕ, List, [], ◌∷◌, IsUtf8, codes, map, false}
-use Rattle.wasm_base.specs.Entries.{Kind, HoldsItems}
-use Rattle.wasm_base.specs.Formats.{Format, byte, name, impossible, mapped, tagged, choice, vec, frame, u32, just}
-use Rattle.wasm_base.specs.Texts.{frame_text, vec_text, VecFits}
-use Rattle.wasm_base.specs.Modules.{SectionReading}
-use Rattle.wasm_custom.specs.Customs.{subsection_text, named_payload, reading_as}
-use Rattle.wasm_custom.specs.Symbols.{Symbol, symbol_text, IsSymbol, symbol, symbol_view}
+use Rattle.wasm_base.specs.Entries.{Kind, ContainsItems}
+use Rattle.wasm_base.specs.Formats.{Format, byte, name, impossible, mapped, tagged, choice, vec, size_prefixed, u32, just}
+use Rattle.wasm_base.specs.Encodings.{size_prefixed_encoding, vec_encoding, IsEncodableVec}
+use Rattle.wasm_base.specs.Modules.{SectionDecoding}
+use Rattle.wasm_custom.specs.Customs.{subsection_encoding, named_payload, decoding_as}
+use Rattle.wasm_custom.specs.Symbols.{Symbol, symbol_encoding, IsSymbol, symbol, symbol_view}
 use Rattle.wasm_custom.specs.Entries.{entries}
 use Rattle.wasm_custom.specs.declared.linking.LinkItem as read
 use Rattle.wasm_custom.specs.declared.linking.LinkItem.TheVariants as items
@@ -19,20 +19,20 @@ pub data LinkItem : Type 0 where
 
 -- The encoding of a subsection: 8 and a size-prefixed symbol table, or 9 and the size-prefixed name
 -- of an architecture.
-abbrev pub link_text : LinkItem → List ℕ
-link_text (Symbols symbols) = subsection_text 8 (vec_text symbol_text symbols)
-link_text (Target n) = subsection_text 9 (frame_text n)
+abbrev pub link_encoding : LinkItem → List ℕ
+link_encoding (Symbols symbols) = subsection_encoding 8 (vec_encoding symbol_encoding symbols)
+link_encoding (Target n) = subsection_encoding 9 (size_prefixed_encoding n)
 
 -- The subsection is well-formed: its symbols are well-formed and at most 2^32 - 1, or its name is
 -- UTF-8.
 abbrev pub IsLink : LinkItem → Type 0
-IsLink (Symbols symbols) = VecFits IsSymbol symbols
+IsLink (Symbols symbols) = IsEncodableVec IsSymbol symbols
 IsLink (Target n) = IsUtf8 n
 
 -- The formats of a subsection by its id: a symbol table after 8, the name of an architecture after
 -- 9.
 abbrev pub link_tags : List (ℕ × Format LinkItem)
-link_tags = (8, mapped Symbols (frame (vec symbol))) ∷ (9, mapped Target (frame name)) ∷ []
+link_tags = (8, mapped Symbols (size_prefixed (vec symbol))) ∷ (9, mapped Target (size_prefixed name)) ∷ []
 
 -- A subsection: an id, then its size-prefixed content.
 abbrev pub link : Format LinkItem
@@ -40,7 +40,7 @@ link = tagged byte (choice link_tags (λ b. impossible))
 
 -- The kind of subsections of a linking section.
 abbrev pub link_items : Kind LinkItem LinkItem
-link_items = record { text = link_text; IsPlain = IsLink; IsPlainWide = IsLink; normal_form = λ item. item; format = link }
+link_items = record { encoding = link_encoding; IsWellFormed = IsLink; IsWellFormedPadded = IsLink; normal_form = λ item. item; format = link }
 
 -- The section name `linking`.
 abbrev pub linking_name : List ℕ
@@ -53,16 +53,16 @@ version = 2
 -- ---- the linking section
 
 -- The pieces encode these subsections.
-abbrev pub HoldsLinks : List (List ℕ) → List LinkItem → Type 0
-HoldsLinks = HoldsItems link_items
+abbrev pub ContainsLinks : List (List ℕ) → List LinkItem → Type 0
+ContainsLinks = ContainsItems link_items
 
 -- The payload of a linking section: its name, the version and its subsections.
 abbrev pub linking_payload : Format (List LinkItem)
 linking_payload = named_payload linking_name (entries (just version u32) false link)
 
 -- The linking section that decodes to these subsections.
-abbrev pub linking_reading : List LinkItem → SectionReading
-linking_reading subsections = reading_as linking_payload subsections
+abbrev pub linking_decoding : List LinkItem → SectionDecoding
+linking_decoding subsections = decoding_as linking_payload subsections
 
 -- ---- decoded subsections
 

@@ -1,51 +1,51 @@
 -- This file defines lists that are one argument of a call, as name maps and symbol tables are.
 use Rattle.std.specs.Prelude.{◌≡◌, ℕ, ◌<◌, List, [], ◌∷◌, ◌++◌, length, map, Option, Some, None, ⊤}
 use Rattle.std.specs.Borrow.{Bor}
-use Rattle.wasm_base.specs.Numbers.{unsigned_text}
+use Rattle.wasm_base.specs.Numbers.{unsigned_encoding}
 use Rattle.wasm_base.specs.Pieces.{joined}
-use Rattle.wasm_base.specs.Texts.{longest, vec_text, VecFits, FrameFits}
-use Rattle.wasm_custom.specs.Customs.{subsection_text}
+use Rattle.wasm_base.specs.Encodings.{longest, vec_encoding, IsEncodableVec, HasEncodableSize}
+use Rattle.wasm_custom.specs.Customs.{subsection_encoding}
 
 -- The encoding of a list's entries: their count and the entries.
-unfoldable pub list_text : List (List ℕ) → List ℕ
-list_text pieces = unsigned_text (length pieces) ++ joined pieces
+unfoldable pub list_encoding : List (List ℕ) → List ℕ
+list_encoding pieces = unsigned_encoding (length pieces) ++ joined pieces
 
 -- The encoding of a list: the vector of its entries, by itself or as a subsection of this id.
-abbrev pub listed_text : Option ℕ → List (List ℕ) → List ℕ
-listed_text None pieces = list_text pieces
-listed_text (Some id) pieces = subsection_text id (list_text pieces)
+abbrev pub listed_encoding : Option ℕ → List (List ℕ) → List ℕ
+listed_encoding None pieces = list_encoding pieces
+listed_encoding (Some id) pieces = subsection_encoding id (list_encoding pieces)
 
 -- The size of a subsection is at most 2^32 - 1. A list by itself always fits.
-abbrev pub ListedFits : Option ℕ → List (List ℕ) → Type 0
-ListedFits None pieces = ⊤
-ListedFits (Some id) pieces = FrameFits (list_text pieces) × ⊤
+abbrev pub IsEncodableList : Option ℕ → List (List ℕ) → Type 0
+IsEncodableList None pieces = ⊤
+IsEncodableList (Some id) pieces = HasEncodableSize (list_encoding pieces) × ⊤
 
 -- The pieces are the encodings of these members, one each. There are at most 2^32 - 1 members, and
 -- each has the property.
-pub record IsListOf {X : Type 0} (text : X → List ℕ) (Is : X → Type 0) (pieces : List (List ℕ)) (xs : List X) : Type 0 where
-  pub held : pieces ≡ map text xs
-  pub fits : VecFits Is xs
+pub record IsListOf {X : Type 0} (encoding : X → List ℕ) (Is : X → Type 0) (pieces : List (List ℕ)) (xs : List X) : Type 0 where
+  pub held : pieces ≡ map encoding xs
+  pub encodable : IsEncodableVec Is xs
 
 -- The pieces are the encodings of some members with the property.
-pub record HoldsList {X : Type 0} (text : X → List ℕ) (Is : X → Type 0) (pieces : List (List ℕ)) : Type 0 where
+pub record ContainsList {X : Type 0} (encoding : X → List ℕ) (Is : X → Type 0) (pieces : List (List ℕ)) : Type 0 where
   pub list : List X
-  pub is : IsListOf text Is pieces list
+  pub is : IsListOf encoding Is pieces list
 
 -- The bytes are the encoding of some member with the property.
-pub record IsTextOf {X : Type 0} (text : X → List ℕ) (Is : X → Type 0) (piece : List ℕ) : Type 0 where
+pub record IsEncodingOf {X : Type 0} (encoding : X → List ℕ) (Is : X → Type 0) (piece : List ℕ) : Type 0 where
   pub member : X
-  pub is : piece ≡ text member
-  pub fits : Is member
+  pub is : piece ≡ encoding member
+  pub encodable : Is member
 
 -- The encoding of a list that holds members is the vector of these members.
-pub record IsVectorOf {X : Type 0} (text : X → List ℕ) (Is : X → Type 0) : Type 0 where
-  pub is : (pieces : List (List ℕ)) (xs : List X) → IsListOf text Is pieces xs → list_text pieces ≡ vec_text text xs
+pub record IsVectorOf {X : Type 0} (encoding : X → List ℕ) (Is : X → Type 0) : Type 0 where
+  pub is : (pieces : List (List ℕ)) (xs : List X) → IsListOf encoding Is pieces xs → list_encoding pieces ≡ vec_encoding encoding xs
 
 -- A list without entries holds no members. An entry that is the encoding of a member adds this
 -- member, if the list is not full.
-pub record ListMore {X : Type 0} (text : X → List ℕ) (Is : X → Type 0) : Type 0 where
-  pub none : IsListOf text Is [] []
-  pub given : (pieces : List (List ℕ)) (xs : List X) (x : X) → IsListOf text Is pieces xs → length pieces < longest → Is x → IsListOf text Is (pieces ++ text x ∷ []) (xs ++ x ∷ [])
+pub record ListMore {X : Type 0} (encoding : X → List ℕ) (Is : X → Type 0) : Type 0 where
+  pub none : IsListOf encoding Is [] []
+  pub given : (pieces : List (List ℕ)) (xs : List X) (x : X) → IsListOf encoding Is pieces xs → length pieces < longest → Is x → IsListOf encoding Is (pieces ++ encoding x ∷ []) (xs ++ x ∷ [])
 
 -- The bytes of an optional name.
 abbrev pub given_name : Option (Bor (List ℕ)) → Option (List ℕ)

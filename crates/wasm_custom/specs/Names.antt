@@ -3,13 +3,13 @@
 use Rattle.std.specs.Prelude.{◌≡◌, ℕ, ◌^◌, ◌<◌, List, [], ◌∷◌, ◌++◌, Bool, true, false, cond, ◌==◌, IsUtf8, codes, map}
 use Rattle.std.specs.Borrow.{Bor}
 use Rattle.std.specs.declared.vec.Vec.{Vec}
-use Rattle.wasm_base.specs.Entries.{Kind, HoldsItems}
-use Rattle.wasm_base.specs.Formats.{Format, u32, byte, any_bytes, name, mapped, pair, tagged, vec, frame, fixed}
-use Rattle.wasm_base.specs.Laws.{NameFits}
-use Rattle.wasm_base.specs.Numbers.{unsigned_text}
-use Rattle.wasm_base.specs.Texts.{frame_text, vec_text, VecFits}
-use Rattle.wasm_base.specs.Modules.{SectionReading}
-use Rattle.wasm_custom.specs.Customs.{subsection_text, named_payload, reading_as}
+use Rattle.wasm_base.specs.Entries.{Kind, ContainsItems}
+use Rattle.wasm_base.specs.Formats.{Format, u32, byte, any_bytes, name, mapped, pair, tagged, vec, size_prefixed, fixed}
+use Rattle.wasm_base.specs.Laws.{IsEncodableName}
+use Rattle.wasm_base.specs.Numbers.{unsigned_encoding}
+use Rattle.wasm_base.specs.Encodings.{size_prefixed_encoding, vec_encoding, IsEncodableVec}
+use Rattle.wasm_base.specs.Modules.{SectionDecoding}
+use Rattle.wasm_custom.specs.Customs.{subsection_encoding, named_payload, decoding_as}
 use Rattle.wasm_custom.specs.Entries.{entries}
 use Rattle.wasm_custom.specs.Lists.{IsListOf}
 use Rattle.wasm_custom.specs.declared.names.NameItem as read
@@ -26,22 +26,22 @@ abbrev pub Inside : Type 0
 Inside = ℕ × List Naming
 
 -- The encoding of a name association: the index, and the name.
-abbrev pub naming_text : Naming → List ℕ
-naming_text n = unsigned_text n.0 ++ frame_text n.1
+abbrev pub naming_encoding : Naming → List ℕ
+naming_encoding n = unsigned_encoding n.0 ++ size_prefixed_encoding n.1
 
 -- The encoding of an indirect name association: the index, and a name map.
-abbrev pub inside_text : Inside → List ℕ
-inside_text i = unsigned_text i.0 ++ vec_text naming_text i.1
+abbrev pub inside_encoding : Inside → List ℕ
+inside_encoding i = unsigned_encoding i.0 ++ vec_encoding naming_encoding i.1
 
 -- The name association is well-formed: its index is below 2^32, and its name is UTF-8 of at most
 -- 2^32 - 1 bytes.
 abbrev pub IsNaming : Naming → Type 0
-IsNaming n = (n.0 < 2 ^ 32) × NameFits n.1
+IsNaming n = (n.0 < 2 ^ 32) × IsEncodableName n.1
 
 -- The indirect name association is well-formed: its index is below 2^32, and its names are
 -- well-formed and at most 2^32 - 1.
 abbrev pub IsInside : Inside → Type 0
-IsInside i = (i.0 < 2 ^ 32) × VecFits IsNaming i.1
+IsInside i = (i.0 < 2 ^ 32) × IsEncodableVec IsNaming i.1
 
 -- A name association: an index and a name.
 abbrev pub naming : Format Naming
@@ -93,10 +93,10 @@ name_kind_of id = cond (id == 0) of_module (cond (is_one_of map_ids id) of_map (
 
 -- The format of the bytes after the id of a subsection with this kind of content.
 abbrev pub after_id : NameKind → ℕ → Format NameItem
-after_id of_module id = mapped Module (frame name)
-after_id of_map id = mapped (Map id) (frame name_map)
-after_id of_indirect id = mapped (Indirect id) (frame indirect_map)
-after_id of_other id = mapped (Other id) (frame any_bytes)
+after_id of_module id = mapped Module (size_prefixed name)
+after_id of_map id = mapped (Map id) (size_prefixed name_map)
+after_id of_indirect id = mapped (Indirect id) (size_prefixed indirect_map)
+after_id of_other id = mapped (Other id) (size_prefixed any_bytes)
 
 -- A subsection: an id, then its size-prefixed content.
 abbrev pub subsection : Format NameItem
@@ -105,23 +105,23 @@ subsection = tagged byte (λ id. after_id (name_kind_of id) id)
 -- ---- encodings
 
 -- The encoding of a subsection: its id, then its size-prefixed content.
-abbrev pub name_text : NameItem → List ℕ
-name_text (Module n) = subsection_text 0 (frame_text n)
-name_text (Map id names) = subsection_text id (vec_text naming_text names)
-name_text (Indirect id names) = subsection_text id (vec_text inside_text names)
-name_text (Other id content) = subsection_text id content
+abbrev pub name_encoding : NameItem → List ℕ
+name_encoding (Module n) = subsection_encoding 0 (size_prefixed_encoding n)
+name_encoding (Map id names) = subsection_encoding id (vec_encoding naming_encoding names)
+name_encoding (Indirect id names) = subsection_encoding id (vec_encoding inside_encoding names)
+name_encoding (Other id content) = subsection_encoding id content
 
 -- The subsection is well-formed: its id is one of its kind of content, names are UTF-8, indices are
 -- below 2^32, and name maps fit.
 abbrev pub IsName : NameItem → Type 0
 IsName (Module n) = IsUtf8 n
-IsName (Map id names) = (name_kind_of id ≡ of_map) × VecFits IsNaming names
-IsName (Indirect id names) = (name_kind_of id ≡ of_indirect) × VecFits IsInside names
+IsName (Map id names) = (name_kind_of id ≡ of_map) × IsEncodableVec IsNaming names
+IsName (Indirect id names) = (name_kind_of id ≡ of_indirect) × IsEncodableVec IsInside names
 IsName (Other id content) = name_kind_of id ≡ of_other
 
 -- The kind of subsections of a name section.
 abbrev pub name_items : Kind NameItem NameItem
-name_items = record { text = name_text; IsPlain = IsName; IsPlainWide = IsName; normal_form = λ item. item; format = subsection }
+name_items = record { encoding = name_encoding; IsWellFormed = IsName; IsWellFormedPadded = IsName; normal_form = λ item. item; format = subsection }
 
 -- The section name `name`.
 abbrev pub name_name : List ℕ
@@ -131,23 +131,23 @@ name_name = codes "name"
 
 -- The pieces are the encodings of these name associations.
 abbrev pub AreNamings : List (List ℕ) → List Naming → Type 0
-AreNamings = IsListOf naming_text IsNaming
+AreNamings = IsListOf naming_encoding IsNaming
 
 -- The pieces are the encodings of these indices with their name maps.
 abbrev pub AreInsides : List (List ℕ) → List Inside → Type 0
-AreInsides = IsListOf inside_text IsInside
+AreInsides = IsListOf inside_encoding IsInside
 
 -- The pieces encode these subsections.
-abbrev pub HoldsNames : List (List ℕ) → List NameItem → Type 0
-HoldsNames = HoldsItems name_items
+abbrev pub ContainsNames : List (List ℕ) → List NameItem → Type 0
+ContainsNames = ContainsItems name_items
 
 -- The payload of a name section: its name, and its subsections.
 abbrev pub name_payload : Format (List NameItem)
 name_payload = named_payload name_name (entries (fixed [] (tt {0})) false subsection)
 
 -- The name section that decodes to these subsections.
-abbrev pub name_reading : List NameItem → SectionReading
-name_reading subsections = reading_as name_payload subsections
+abbrev pub name_decoding : List NameItem → SectionDecoding
+name_decoding subsections = decoding_as name_payload subsections
 
 -- ---- decoded subsections
 

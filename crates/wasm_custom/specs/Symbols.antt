@@ -2,11 +2,11 @@
 -- conventions, Linking, Linking Metadata Section.
 use Rattle.std.specs.Prelude.{◌≡◌, ℕ, ◌^◌, ◌<◌, List, [], ◌∷◌, ◌++◌, Bool, false, not, cond, Option, IfSome, option_map}
 use Rattle.wasm_base.specs.Formats.{Format, u32, byte, name, impossible, mapped, pair, tagged, choice, optional, is_given}
-use Rattle.wasm_base.specs.Laws.{NameFits}
-use Rattle.wasm_base.specs.Numbers.{unsigned_text}
-use Rattle.wasm_base.specs.Texts.{frame_text, optional_text}
+use Rattle.wasm_base.specs.Laws.{IsEncodableName}
+use Rattle.wasm_base.specs.Numbers.{unsigned_encoding}
+use Rattle.wasm_base.specs.Encodings.{size_prefixed_encoding, optional_encoding}
 use Rattle.wasm_custom.specs.Lists.{IsListOf}
-use Rattle.wasm_immediates.specs.PlainImmediates.{bit}
+use Rattle.wasm_immediates.specs.ImmediateFormats.{bit}
 use Rattle.wasm_custom.specs.declared.symbols.DataSymbolDefinition.{DataSymbolDefinition}
 use Rattle.wasm_custom.specs.declared.symbols.SymbolKind.{SymbolKind}
 use Rattle.wasm_custom.specs.declared.symbols.SymbolKind.TheVariants.{Function, Global, Table}
@@ -35,22 +35,22 @@ abbrev pub has_definition : ℕ → Bool
 has_definition flags = not (bit 4 flags)
 
 -- The encoding of a data definition: the index of a data segment, an offset in it, and a size.
-abbrev pub definition_text : DataSymbolDefinition → List ℕ
-definition_text d = unsigned_text d.index ++ (unsigned_text d.offset ++ unsigned_text d.size)
+abbrev pub definition_encoding : DataSymbolDefinition → List ℕ
+definition_encoding d = unsigned_encoding d.index ++ (unsigned_encoding d.offset ++ unsigned_encoding d.size)
 
 -- The encoding of a symbol with an index: its kind, flags and index, and the bytes of its name, if
 -- any.
-abbrev pub indexed_text : SymbolKind → ℕ → ℕ → List ℕ → List ℕ
-indexed_text kind flags index named = kind_code kind ∷ (unsigned_text flags ++ (unsigned_text index ++ named))
+abbrev pub indexed_encoding : SymbolKind → ℕ → ℕ → List ℕ → List ℕ
+indexed_encoding kind flags index named = kind_code kind ∷ (unsigned_encoding flags ++ (unsigned_encoding index ++ named))
 
 -- The encoding of a data symbol: 01, its flags, its name, and the bytes of its definition, if any.
-abbrev pub of_data_text : ℕ → List ℕ → List ℕ → List ℕ
-of_data_text flags n defined = 0x01 ∷ (unsigned_text flags ++ (frame_text n ++ defined))
+abbrev pub of_data_encoding : ℕ → List ℕ → List ℕ → List ℕ
+of_data_encoding flags n defined = 0x01 ∷ (unsigned_encoding flags ++ (size_prefixed_encoding n ++ defined))
 
 -- The encoding of a symbol, with its name or definition if it has one.
-abbrev pub symbol_text : Symbol → List ℕ
-symbol_text (indexed kind flags index n) = indexed_text kind flags index (optional_text frame_text n)
-symbol_text (of_data flags n d) = of_data_text flags n (optional_text definition_text d)
+abbrev pub symbol_encoding : Symbol → List ℕ
+symbol_encoding (indexed kind flags index n) = indexed_encoding kind flags index (optional_encoding size_prefixed_encoding n)
+symbol_encoding (of_data flags n d) = of_data_encoding flags n (optional_encoding definition_encoding d)
 
 -- The numbers of the definition are below 2^32.
 pub record IsDefinition (d : DataSymbolDefinition) : Type 0 where
@@ -60,8 +60,8 @@ pub record IsDefinition (d : DataSymbolDefinition) : Type 0 where
 
 -- The numbers are in range, and a name is UTF-8 of at most 2^32 - 1 bytes.
 abbrev pub IsGivenSymbol : Symbol → Type 0
-IsGivenSymbol (indexed kind flags index n) = (flags < 2 ^ 32) × (index < 2 ^ 32) × IfSome n NameFits
-IsGivenSymbol (of_data flags n d) = (flags < 2 ^ 32) × NameFits n × IfSome d IsDefinition
+IsGivenSymbol (indexed kind flags index n) = (flags < 2 ^ 32) × (index < 2 ^ 32) × IfSome n IsEncodableName
+IsGivenSymbol (of_data flags n d) = (flags < 2 ^ 32) × IsEncodableName n × IfSome d IsDefinition
 
 -- The name, or for data the definition, is there exactly if the flags say so.
 abbrev pub IsAsFlagged : Symbol → Type 0
@@ -108,7 +108,7 @@ symbol = tagged byte (choice symbol_tags (λ b. impossible))
 
 -- The pieces are the encodings of these symbols.
 abbrev pub AreSymbols : List (List ℕ) → List Symbol → Type 0
-AreSymbols = IsListOf symbol_text IsGivenSymbol
+AreSymbols = IsListOf symbol_encoding IsGivenSymbol
 
 -- ---- decoded symbols
 

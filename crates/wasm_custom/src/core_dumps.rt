@@ -1,22 +1,22 @@
 // Core dump sections: the process, its modules and its instances.
 ghost use Rattle.std.specs.Prelude.{◌≡◌, ◌≢◌, ℕ, List, [], ◌∷◌, ◌++◌, IfOk, true, ⊤, IfErr, Err, OnOk, OnErr, map};
-ghost use Rattle.wasm_base.specs.Calls.{Adds, ReadsBack};
-ghost use Rattle.wasm_base.specs.Cow.{items_of, text_of};
+ghost use Rattle.wasm_base.specs.Calls.{Adds, DecodesBack};
+ghost use Rattle.wasm_base.specs.Cow.{items_of, encoding_of};
 ghost use Rattle.wasm_base.specs.Formats.{fixed};
-ghost use Rattle.wasm_base.specs.Going.{FillsNothing};
+ghost use Rattle.wasm_base.specs.Continuing.{RejectsWhole};
 ghost use Rattle.wasm_base.specs.Iterators.{HasKnownLength};
-ghost use Rattle.wasm_base.specs.Numbers.{unsigned_text, wide};
-ghost use Rattle.wasm_base.specs.Reading.{UniqueReading};
-ghost use Rattle.wasm_base.specs.Texts.{FrameFits, vec_text};
+ghost use Rattle.wasm_base.specs.Numbers.{unsigned_encoding, padded};
+ghost use Rattle.wasm_base.specs.Decoding.{Unambiguous};
+ghost use Rattle.wasm_base.specs.Encodings.{HasEncodableSize, vec_encoding};
 ghost use Rattle.wasm_base.specs.declared.refused.Refused.TheVariants.{TooLong};
 ghost use Rattle.wasm_custom.specs.Adding.{AddsTwoLists};
-ghost use Rattle.wasm_custom.specs.CoreDumps.{instance_items, module_items, marked_text, core_name, core_section, SaysProcess, marked_name, modules_name, Instance, instance, instances_name, instance_view, core_payload, modules_payload, instances_payload};
-ghost use Rattle.wasm_custom.specs.Customs.{named_text, NamedFits};
-ghost use Rattle.wasm_custom.specs.Entries.{entries_text};
-ghost use Rattle.wasm_reader_base.specs.Shortest.{AppendsShortest, IsFrontOf, HasEncoding};
+ghost use Rattle.wasm_custom.specs.CoreDumps.{instance_items, module_items, marked_encoding, core_name, core_section, SaysProcess, marked_name, modules_name, Instance, instance, instances_name, instance_view, core_payload, modules_payload, instances_payload};
+ghost use Rattle.wasm_custom.specs.Customs.{named_encoding, IsEncodableNamed};
+ghost use Rattle.wasm_custom.specs.Entries.{entries_encoding};
+ghost use Rattle.wasm_reader_base.specs.Minimal.{AppendsMinimal, IsFrontOf, HasEncoding};
 ghost use Rattle.wasm_reader_base.specs.declared.fault.ReadFault.TheVariants.{Memory};
 
-use crate::counted::{ItemsAs, ReadsItems, append_counted, read_counted};
+use crate::counted::{ItemsAs, DecodesItems, append_counted, read_counted};
 use crate::custom_section::{CustomSection, begin_custom};
 use crate::entries::{CustomEntries, CustomKind};
 use crate::marked::{MarkedName, read_marked};
@@ -51,9 +51,9 @@ impl<A: Allocator> Model for CoreDumpSection<A> {
 impl<A: Allocator> CoreDumpSection<A> {
     /// Returns the section of the process of this name.
     pub fn new(alloc: A, name: &str) -> R<Self>
-        ensures is { IfOk result (λ s. s ≡ marked_text name.now) }
-        ensures fitted { IfOk result (λ _. FrameFits name.now) }
-        ensures too_long { FrameFits name.now → result ≢ Err TooLong }
+        ensures is { IfOk result (λ s. s ≡ marked_encoding name.now) }
+        ensures was_encodable { IfOk result (λ _. HasEncodableSize name.now) }
+        ensures too_long { HasEncodableSize name.now → result ≢ Err TooLong }
     {
         let mut data = Vec::new(alloc);
         (0x00u8, name).encode(&mut data)?;
@@ -75,13 +75,13 @@ impl<A: Allocator> CoreDumpSection<A> {
 
 /// Encodes the size prefix, the name of the section, and the data.
 impl<A: Allocator> Encode for CoreDumpSection<A> {
-    ghost text = { λ s. named_text core_name s };
+    ghost encoding = { λ s. named_encoding core_name s };
 
-    ghost fits = { λ s. NamedFits core_name s };
+    ghost encodable = { λ s. IsEncodableNamed core_name s };
 
-    ghost reading = { λ s. ReadsBack core_section (SaysProcess s) (named_text core_name s) };
+    ghost decoding = { λ s. DecodesBack core_section (SaysProcess s) (named_encoding core_name s) };
 
-    #[tactic(auto, unfolding(crate::specs::Customs::named_text))]
+    #[tactic(auto, unfolding(crate::specs::Customs::named_encoding))]
     fn encode<B: Allocator>(&self, sink: &mut Vec<u8, B>) -> R<()> {
         let data = self.data.as_slice();
         begin_custom(sink, "core", data.len())?;
@@ -94,7 +94,7 @@ impl<A: Allocator> Section for CoreDumpSection<A> {
     ghost use Rattle.wasm_base.specs.SectionId.{number_of};
     ghost use Rattle.wasm_base.specs.declared.section_id.SectionId.TheVariants as ids;
     ghost use Rattle.wasm_custom.specs.CoreDumps.{core_name, core_section, SaysProcess};
-    ghost use Rattle.wasm_custom.specs.Customs.{NamedPayload, named_framed};
+    ghost use Rattle.wasm_custom.specs.Customs.{NamedPayload, named_sized};
 
     ghost id_of = { λ _. number_of ids.Custom };
 
@@ -110,9 +110,9 @@ impl<A: Allocator> Section for CoreDumpSection<A> {
         SectionId::Custom.into()
     }
 
-    ghost framed = { λ s bytes fits pays. named_framed core_name s bytes fits pays };
+    ghost sized = { λ s bytes encodable pays. named_sized core_name s bytes encodable pays };
 
-    ghost reads_back = { λ s promised. promised };
+    ghost decodes_back = { λ s promised. promised };
 }
 
 /// The `coremodules` section: the modules of the process, by their names.
@@ -160,21 +160,21 @@ impl CustomKind for ModuleItems {
         true
     }
 
-    #[tactic(auto, using(crate::proofs::CoreDumpLaws::module_frame))]
-    fn frame_laws() {}
+    #[tactic(auto, using(crate::proofs::CoreDumpLaws::module_layout))]
+    fn layout_laws() {}
 }
 
 impl<A: Allocator> CoreDumpModulesSection<A> {
     /// Adds a module.
     pub fn module(&mut self, name: &str) -> R<()>
-        ensures { Adds (marked_text name.now) (⊤ × FrameFits name.now) self.old self.new result }
+        ensures { Adds (marked_encoding name.now) (⊤ × HasEncodableSize name.now) self.old self.new result }
     {
         self.add_record(&(0x00u8, name))
     }
 
     /// Returns the section as a custom section, with its data in memory of their own.
     pub fn as_custom<B: Allocator>(&self, alloc: B) -> R<CustomSection<'_, B>>
-        ensures same { IfOk result (λ s. (text_of s.name ≡ modules_name) × (items_of s.bytes ≡ entries_text [] true self.now)) }
+        ensures same { IfOk result (λ s. (encoding_of s.name ≡ modules_name) × (items_of s.bytes ≡ entries_encoding [] true self.now)) }
         ensures memory { result ≢ Err TooLong }
     {
         self.owned(alloc)
@@ -226,8 +226,8 @@ impl CustomKind for InstanceItems {
         true
     }
 
-    #[tactic(auto, using(crate::proofs::CoreDumpLaws::instance_frame))]
-    fn frame_laws() {}
+    #[tactic(auto, using(crate::proofs::CoreDumpLaws::instance_layout))]
+    fn layout_laws() {}
 }
 
 impl<A: Allocator> CoreDumpInstancesSection<A> {
@@ -245,7 +245,7 @@ impl<A: Allocator> CoreDumpInstancesSection<A> {
         requires memories { HasKnownLength M.into_iter_gives M.IntoIter.can_next M.IntoIter.next_gives M.IntoIter.remaining memories }
         requires globals { HasKnownLength G.into_iter_gives G.IntoIter.can_next G.IntoIter.next_gives G.IntoIter.remaining globals }
         ensures { AddsTwoLists M.into_iter_gives M.IntoIter.next_gives M.IntoIter.remaining memories G.into_iter_gives G.IntoIter.next_gives G.IntoIter.remaining globals (λ _. ⊤) (λ _. ⊤)
-            (λ xs ys. (0x00 ∷ unsigned_text module_index) ++ (vec_text unsigned_text xs ++ vec_text unsigned_text ys)) self.old self.new result }
+            (λ xs ys. (0x00 ∷ unsigned_encoding module_index) ++ (vec_encoding unsigned_encoding xs ++ vec_encoding unsigned_encoding ys)) self.old self.new result }
     {
         let memories = vec_of(memories)?;
         let globals = vec_of(globals)?;
@@ -254,7 +254,7 @@ impl<A: Allocator> CoreDumpInstancesSection<A> {
 
     /// Returns the section as a custom section, with its data in memory of their own.
     pub fn as_custom<B: Allocator>(&self, alloc: B) -> R<CustomSection<'_, B>>
-        ensures same { IfOk result (λ s. (text_of s.name ≡ instances_name) × (items_of s.bytes ≡ entries_text [] true self.now)) }
+        ensures same { IfOk result (λ s. (encoding_of s.name ≡ instances_name) × (items_of s.bytes ≡ entries_encoding [] true self.now)) }
         ensures memory { result ≢ Err TooLong }
     {
         self.owned(alloc)
@@ -271,8 +271,8 @@ pub fn read_process<'a, A: Allocator + Copy>(
     bytes: &'a [u8],
     alloc: A,
 ) -> Result<&'a str, ReadFault>
-    ensures found { IfOk result (λ x. core_payload wide bytes.now x.now) }
-    ensures none { IfErr result (λ e. e ≢ Memory → FillsNothing core_payload bytes.now) }
+    ensures found { IfOk result (λ x. core_payload padded bytes.now x.now) }
+    ensures none { IfErr result (λ e. e ≢ Memory → RejectsWhole core_payload bytes.now) }
 {
     let rest = after_name("core", bytes, alloc)?;
     let MarkedName(name) = read_whole::<'a, MarkedName<'a>, A>(rest, alloc)?;
@@ -286,17 +286,17 @@ impl<'a> ItemsAs<&'a str> for ModuleItems {
 
     ghost view = { λ name. name.now };
 
-    #[tactic(auto, using(crate::proofs::CoreDumpLaws::marked_unique))]
-    fn alone()
-        ensures { UniqueReading marked_name }
+    #[tactic(auto, using(crate::proofs::CoreDumpLaws::marked_unambiguous))]
+    fn unique()
+        ensures { Unambiguous marked_name }
     {}
 
-    fn append_item<B: Allocator>(item: &&'a str, out: &mut Vec<u8, B>) -> R<()> {
-        append_marked(item, out)
+    fn append_item<B: Allocator>(item: &&'a str, sink: &mut Vec<u8, B>) -> R<()> {
+        append_marked(item, sink)
     }
 }
 
-impl<'a, A: Allocator + Copy> ReadsItems<'a, &'a str, A> for ModuleItems {
+impl<'a, A: Allocator + Copy> DecodesItems<'a, &'a str, A> for ModuleItems {
     fn read_item(bytes: &'a [u8], alloc: A) -> Result<(&'a str, &'a [u8]), ReadFault> {
         let (MarkedName(name), rest) = <MarkedName<'a> as Readable<'a, A>>::read(bytes, alloc)?;
         Ok((name, rest))
@@ -312,8 +312,8 @@ pub fn read_modules<'a, A: Allocator + Copy>(
     bytes: &'a [u8],
     alloc: A,
 ) -> Result<Vec<&'a str, A>, ReadFault>
-    ensures found { IfOk result (λ x. modules_payload wide bytes.now (map (λ name. name.now) x.items)) }
-    ensures none { IfErr result (λ e. e ≢ Memory → FillsNothing modules_payload bytes.now) }
+    ensures found { IfOk result (λ x. modules_payload padded bytes.now (map (λ name. name.now) x.items)) }
+    ensures none { IfErr result (λ e. e ≢ Memory → RejectsWhole modules_payload bytes.now) }
 {
     read_counted::<'a, ModuleItems, &'a str, A>(bytes, alloc)
 }
@@ -325,23 +325,23 @@ impl<A: Allocator> ItemsAs<(u32, Vec<u32, A>, Vec<u32, A>)> for InstanceItems {
 
     ghost view = { instance_view };
 
-    #[tactic(auto, using(crate::proofs::CoreDumpLaws::instance_unique))]
-    fn alone() {}
+    #[tactic(auto, using(crate::proofs::CoreDumpLaws::instance_unambiguous))]
+    fn unique() {}
 
     #[tactic(auto, using(crate::proofs::CoreDumpLaws::instance_appended, crate::proofs::CoreDumpLaws::memories_encoded, crate::proofs::CoreDumpLaws::globals_encoded))]
     fn append_item<B: Allocator>(
         item: &(u32, Vec<u32, A>, Vec<u32, A>),
-        out: &mut Vec<u8, B>,
+        sink: &mut Vec<u8, B>,
     ) -> R<()> {
         let (index, memories, globals) = item;
-        0x00u8.encode(out)?;
-        index.write_minimal(out)?;
-        memories.write_minimal(out)?;
-        globals.write_minimal(out)
+        0x00u8.encode(sink)?;
+        index.write_minimal(sink)?;
+        memories.write_minimal(sink)?;
+        globals.write_minimal(sink)
     }
 }
 
-impl<'a, A: Allocator + Copy> ReadsItems<'a, (u32, Vec<u32, A>, Vec<u32, A>), A> for InstanceItems {
+impl<'a, A: Allocator + Copy> DecodesItems<'a, (u32, Vec<u32, A>, Vec<u32, A>), A> for InstanceItems {
     #[tactic(auto, using(crate::proofs::CoreDumpLaws::instance_steps))]
     fn read_item(
         bytes: &'a [u8],
@@ -366,69 +366,69 @@ pub fn read_instances<'a, A: Allocator + Copy>(
     bytes: &'a [u8],
     alloc: A,
 ) -> Result<Vec<(u32, Vec<u32, A>, Vec<u32, A>), A>, ReadFault>
-    ensures found { IfOk result (λ x. instances_payload wide bytes.now (map instance_view x.items)) }
-    ensures none { IfErr result (λ e. e ≢ Memory → FillsNothing instances_payload bytes.now) }
+    ensures found { IfOk result (λ x. instances_payload padded bytes.now (map instance_view x.items)) }
+    ensures none { IfErr result (λ e. e ≢ Memory → RejectsWhole instances_payload bytes.now) }
 {
     read_counted::<'a, InstanceItems, (u32, Vec<u32, A>, Vec<u32, A>), A>(bytes, alloc)
 }
 
 /// Appends the byte 00 and a name.
 #[tactic(auto, using(crate::proofs::CoreDumpLaws::marked_appended, crate::proofs::CoreDumpLaws::marked_encoded))]
-pub(crate) fn append_marked<B: Allocator>(name: &str, out: &mut Vec<u8, B>) -> R<()>
-    ensures ok { OnOk result (AppendsShortest marked_name name.now out.old.items out.new.items) }
-    ensures front { IsFrontOf out.old.items out.new.items }
+pub(crate) fn append_marked<B: Allocator>(name: &str, sink: &mut Vec<u8, B>) -> R<()>
+    ensures ok { OnOk result (AppendsMinimal marked_name name.now sink.old.items sink.new.items) }
+    ensures front { IsFrontOf sink.old.items sink.new.items }
     ensures too_long { HasEncoding marked_name name.now → result ≢ Err TooLong }
 {
-    0x00u8.encode(out)?;
-    name.write_minimal(out)
+    0x00u8.encode(sink)?;
+    name.write_minimal(sink)
 }
 
 /// Writes the bytes that [`append_process`] appends. After an error, part of them may follow the
 /// old bytes.
 #[tactic(auto, using(crate::proofs::CoreDumpLaws::process_appended, crate::proofs::CoreDumpLaws::process_encoded))]
-fn write_process<B: Allocator>(name: &str, out: &mut Vec<u8, B>) -> R<()>
-    ensures ok { OnOk result (AppendsShortest core_payload name.now out.old.items out.new.items) }
-    ensures front { IsFrontOf out.old.items out.new.items }
+fn write_process<B: Allocator>(name: &str, sink: &mut Vec<u8, B>) -> R<()>
+    ensures ok { OnOk result (AppendsMinimal core_payload name.now sink.old.items sink.new.items) }
+    ensures front { IsFrontOf sink.old.items sink.new.items }
     ensures too_long { HasEncoding core_payload name.now → result ≢ Err TooLong }
 {
-    "core".encode(out)?;
-    append_marked(name, out)
+    "core".encode(sink)?;
+    append_marked(name, sink)
 }
 
 /// Appends the minimal encoding of the payload of the section of this process. On an error, the
 /// sink is unchanged.
-pub fn append_process<B: Allocator>(name: &str, out: &mut Vec<u8, B>) -> R<()>
-    ensures ok { OnOk result (AppendsShortest core_payload name.now out.old.items out.new.items) }
-    ensures err { OnErr result (out.new.items ≡ out.old.items) }
+pub fn append_process<B: Allocator>(name: &str, sink: &mut Vec<u8, B>) -> R<()>
+    ensures ok { OnOk result (AppendsMinimal core_payload name.now sink.old.items sink.new.items) }
+    ensures err { OnErr result (sink.new.items ≡ sink.old.items) }
     ensures too_long { HasEncoding core_payload name.now → result ≢ Err TooLong }
 {
-    let start = out.len();
-    let written = write_process(name, out);
+    let start = sink.len();
+    let written = write_process(name, sink);
     if written.is_err() {
-        out.truncate(start);
+        sink.truncate(start);
     }
     written
 }
 
 /// Appends the minimal encoding of the payload of a section of these modules. On an error, the sink
 /// is unchanged.
-pub fn append_modules<B: Allocator>(names: &[&str], out: &mut Vec<u8, B>) -> R<()>
-    ensures ok { OnOk result (AppendsShortest modules_payload (map (λ n. n.now) names.now) out.old.items out.new.items) }
-    ensures err { OnErr result (out.new.items ≡ out.old.items) }
+pub fn append_modules<B: Allocator>(names: &[&str], sink: &mut Vec<u8, B>) -> R<()>
+    ensures ok { OnOk result (AppendsMinimal modules_payload (map (λ n. n.now) names.now) sink.old.items sink.new.items) }
+    ensures err { OnErr result (sink.new.items ≡ sink.old.items) }
     ensures too_long { HasEncoding modules_payload (map (λ n. n.now) names.now) → result ≢ Err TooLong }
 {
-    append_counted::<ModuleItems, &str, _>(names, out)
+    append_counted::<ModuleItems, &str, _>(names, sink)
 }
 
 /// Appends the minimal encoding of the payload of a section of these instances. On an error, the
 /// sink is unchanged.
 pub fn append_instances<A: Allocator, B: Allocator>(
     instances: &[(u32, Vec<u32, A>, Vec<u32, A>)],
-    out: &mut Vec<u8, B>,
+    sink: &mut Vec<u8, B>,
 ) -> R<()>
-    ensures ok { OnOk result (AppendsShortest instances_payload (map instance_view instances.now) out.old.items out.new.items) }
-    ensures err { OnErr result (out.new.items ≡ out.old.items) }
+    ensures ok { OnOk result (AppendsMinimal instances_payload (map instance_view instances.now) sink.old.items sink.new.items) }
+    ensures err { OnErr result (sink.new.items ≡ sink.old.items) }
     ensures too_long { HasEncoding instances_payload (map instance_view instances.now) → result ≢ Err TooLong }
 {
-    append_counted::<InstanceItems, (u32, Vec<u32, A>, Vec<u32, A>), _>(instances, out)
+    append_counted::<InstanceItems, (u32, Vec<u32, A>, Vec<u32, A>), _>(instances, sink)
 }

@@ -1,19 +1,19 @@
 // The stack section of a core dump: its builder, its reader and its minimizer.
 ghost use Rattle.std.specs.Prelude.{◌≡◌, ◌≢◌, ℕ, List, [], ◌∷◌, ◌++◌, IfOk, true, ⊤, IfErr, Err, OnOk, OnErr, map};
-ghost use Rattle.wasm_base.specs.Calls.{ReadsBack};
-ghost use Rattle.wasm_base.specs.Cow.{items_of, text_of};
-ghost use Rattle.wasm_base.specs.Going.{FillsNothing};
+ghost use Rattle.wasm_base.specs.Calls.{DecodesBack};
+ghost use Rattle.wasm_base.specs.Cow.{items_of, encoding_of};
+ghost use Rattle.wasm_base.specs.Continuing.{RejectsWhole};
 ghost use Rattle.wasm_base.specs.Iterators.{HasKnownLength};
-ghost use Rattle.wasm_base.specs.Numbers.{unsigned_text, wide};
-ghost use Rattle.wasm_base.specs.Texts.{FrameFits, vec_text};
+ghost use Rattle.wasm_base.specs.Numbers.{unsigned_encoding, padded};
+ghost use Rattle.wasm_base.specs.Encodings.{HasEncodableSize, vec_encoding};
 ghost use Rattle.wasm_base.specs.declared.refused.Refused.TheVariants.{TooLong};
 ghost use Rattle.wasm_custom.specs.Adding.{AddsTwoLists};
-ghost use Rattle.wasm_custom.specs.CoreDumps.{marked_text};
+ghost use Rattle.wasm_custom.specs.CoreDumps.{marked_encoding};
 ghost use Rattle.wasm_custom.specs.CoreStacks.{stack_name, stack_section, SaysStack, StackFrame, stack_frame, stack_frame_view, stack_payload};
-ghost use Rattle.wasm_custom.specs.CoreValues.{value_text};
-ghost use Rattle.wasm_custom.specs.Customs.{named_text, NamedFits};
-ghost use Rattle.wasm_custom.specs.Entries.{entries_text};
-ghost use Rattle.wasm_reader_base.specs.Shortest.{AppendsShortest, IsFrontOf, HasEncoding};
+ghost use Rattle.wasm_custom.specs.CoreValues.{value_encoding};
+ghost use Rattle.wasm_custom.specs.Customs.{named_encoding, IsEncodableNamed};
+ghost use Rattle.wasm_custom.specs.Entries.{entries_encoding};
+ghost use Rattle.wasm_reader_base.specs.Minimal.{AppendsMinimal, IsFrontOf, HasEncoding};
 ghost use Rattle.wasm_reader_base.specs.declared.fault.ReadFault.TheVariants.{Memory};
 
 use crate::core_dumps::append_marked;
@@ -25,7 +25,7 @@ use crate::named::after_name;
 use std::alloc::{Allocator, Global};
 use std::marker::Model;
 use wasm_base::{CowSlice, CowStr, Encode, Pieces, R, Section, SectionId, vec_of};
-use wasm_reader_base::{ReadFault, Readable, Shorten, Spelled, read_whole};
+use wasm_reader_base::{ReadFault, Readable, Shorten, Layout, read_whole};
 
 /// The `corestack` section of a thread, modelled as the bytes before its stack frames and the bytes
 /// of each frame. The former are the byte 00 and the name of the thread.
@@ -54,9 +54,9 @@ impl<A: Allocator> Model for CoreDumpStackSection<A> {
 impl<A: Allocator + Copy> CoreDumpStackSection<A> {
     /// Returns the stack of the thread of this name, without frames.
     pub fn new(alloc: A, thread_name: &str) -> R<Self>
-        ensures is { IfOk result (λ s. s ≡ (marked_text thread_name.now, [])) }
-        ensures fitted { IfOk result (λ _. FrameFits thread_name.now) }
-        ensures too_long { FrameFits thread_name.now → result ≢ Err TooLong }
+        ensures is { IfOk result (λ s. s ≡ (marked_encoding thread_name.now, [])) }
+        ensures was_encodable { IfOk result (λ _. HasEncodableSize thread_name.now) }
+        ensures too_long { HasEncodableSize thread_name.now → result ≢ Err TooLong }
     {
         let mut front = Vec::new(alloc);
         (0x00u8, thread_name).encode(&mut front)?;
@@ -92,7 +92,7 @@ impl<A: Allocator> CoreDumpStackSection<A> {
         requires locals { HasKnownLength L.into_iter_gives L.IntoIter.can_next L.IntoIter.next_gives L.IntoIter.remaining locals }
         requires stack { HasKnownLength S.into_iter_gives S.IntoIter.can_next S.IntoIter.next_gives S.IntoIter.remaining stack }
         ensures adds { AddsTwoLists L.into_iter_gives L.IntoIter.next_gives L.IntoIter.remaining locals S.into_iter_gives S.IntoIter.next_gives S.IntoIter.remaining stack (λ _. ⊤) (λ _. ⊤)
-            (λ xs ys. (0x00 ∷ (unsigned_text instanceidx ++ (unsigned_text funcidx ++ unsigned_text codeoffset))) ++ (vec_text value_text xs ++ vec_text value_text ys)) self.old.1 self.new.1 result }
+            (λ xs ys. (0x00 ∷ (unsigned_encoding instanceidx ++ (unsigned_encoding funcidx ++ unsigned_encoding codeoffset))) ++ (vec_encoding value_encoding xs ++ vec_encoding value_encoding ys)) self.old.1 self.new.1 result }
         ensures same_thread { self.new.0 ≡ self.old.0 }
     {
         let locals = vec_of(locals)?;
@@ -103,7 +103,7 @@ impl<A: Allocator> CoreDumpStackSection<A> {
 
     /// Returns the section as a custom section, with its data in memory of their own.
     pub fn as_custom<B: Allocator>(&self, alloc: B) -> R<CustomSection<'_, B>>
-        ensures same { IfOk result (λ s. (text_of s.name ≡ stack_name) × (items_of s.bytes ≡ entries_text self.now.0 true self.now.1)) }
+        ensures same { IfOk result (λ s. (encoding_of s.name ≡ stack_name) × (items_of s.bytes ≡ entries_encoding self.now.0 true self.now.1)) }
         ensures memory { result ≢ Err TooLong }
     {
         let data = data_of(alloc, &self.front, true, &self.frames)?;
@@ -117,11 +117,11 @@ impl<A: Allocator> CoreDumpStackSection<A> {
 /// Encodes the size prefix, the name of the section, and the data: the name of the thread, the
 /// number of frames, and the frames.
 impl<A: Allocator> Encode for CoreDumpStackSection<A> {
-    ghost text = { λ s. named_text stack_name (entries_text s.0 true s.1) };
+    ghost encoding = { λ s. named_encoding stack_name (entries_encoding s.0 true s.1) };
 
-    ghost fits = { λ s. NamedFits stack_name (entries_text s.0 true s.1) };
+    ghost encodable = { λ s. IsEncodableNamed stack_name (entries_encoding s.0 true s.1) };
 
-    ghost reading = { λ s. ReadsBack stack_section (SaysStack s.0 s.1) (named_text stack_name (entries_text s.0 true s.1)) };
+    ghost decoding = { λ s. DecodesBack stack_section (SaysStack s.0 s.1) (named_encoding stack_name (entries_encoding s.0 true s.1)) };
 
     fn encode<B: Allocator>(&self, sink: &mut Vec<u8, B>) -> R<()> {
         encode_entries(sink, "corestack", &self.front, true, &self.frames)
@@ -133,7 +133,7 @@ impl<A: Allocator> Section for CoreDumpStackSection<A> {
     ghost use Rattle.wasm_base.specs.declared.section_id.SectionId.TheVariants as ids;
     ghost use Rattle.wasm_custom.specs.CoreStacks.{StackFrame, stack_name, stack_section, SaysStack};
     ghost use Rattle.wasm_custom.specs.Customs.{NamedPayload, named_framed};
-    ghost use Rattle.wasm_custom.specs.Entries.{entries_text};
+    ghost use Rattle.wasm_custom.specs.Entries.{entries_encoding};
 
     ghost id_of = { λ _. number_of ids.Custom };
 
@@ -143,15 +143,15 @@ impl<A: Allocator> Section for CoreDumpStackSection<A> {
 
     ghost says = { λ s. SaysStack s.0 s.1 };
 
-    ghost payload = { λ s. NamedPayload stack_name (entries_text s.0 true s.1) };
+    ghost payload = { λ s. NamedPayload stack_name (entries_encoding s.0 true s.1) };
 
     fn id(&self) -> u8 {
         SectionId::Custom.into()
     }
 
-    ghost framed = { λ s bytes fits pays. named_framed stack_name (entries_text s.0 true s.1) bytes fits pays };
+    ghost framed = { λ s bytes encodable pays. named_framed stack_name (entries_encoding s.0 true s.1) bytes encodable pays };
 
-    ghost reads_back = { λ s promised. promised };
+    ghost decodes_back = { λ s promised. promised };
 }
 
 /// A decoded frame of a stack.
@@ -165,14 +165,14 @@ pub struct CoreFrame<A: Allocator = Global> {
     pub stack: Vec<CoreDumpValue, A>,
 }
 
-impl<A: Allocator> Spelled for CoreFrame<A> {
+impl<A: Allocator> Layout for CoreFrame<A> {
     ghost Value = { StackFrame };
 
     ghost format = { stack_frame };
 
     ghost view = { stack_frame_view };
 
-    #[tactic(auto, using(crate::proofs::CoreStackLaws::stack_frame_unique))]
+    #[tactic(auto, using(crate::proofs::CoreStackLaws::stack_frame_unambiguous))]
     fn laws() {}
 }
 
@@ -205,8 +205,8 @@ pub fn read_stack<'a, A: Allocator + Copy>(
     bytes: &'a [u8],
     alloc: A,
 ) -> Result<(&'a str, Vec<CoreFrame<A>, A>), ReadFault>
-    ensures found { IfOk result (λ x. stack_payload wide bytes.now (x.0.now, map stack_frame_view x.1.items)) }
-    ensures none { IfErr result (λ e. e ≢ Memory → FillsNothing stack_payload bytes.now) }
+    ensures found { IfOk result (λ x. stack_payload padded bytes.now (x.0.now, map stack_frame_view x.1.items)) }
+    ensures none { IfErr result (λ e. e ≢ Memory → RejectsWhole stack_payload bytes.now) }
 {
     let rest = after_name("corestack", bytes, alloc)?;
     let (thread, rest) = read_marked::<'a, &'a str, A>(0x00, rest, alloc)?;
@@ -215,14 +215,14 @@ pub fn read_stack<'a, A: Allocator + Copy>(
 }
 
 impl<A: Allocator> Shorten for CoreFrame<A> {
-    #[tactic(auto, using(crate::proofs::CoreStackLaws::frame_appended, crate::proofs::CoreStackLaws::locals_fit, crate::proofs::CoreStackLaws::stack_fits))]
-    fn write_minimal<B: Allocator>(&self, out: &mut Vec<u8, B>) -> R<()> {
-        0x00u8.encode(out)?;
-        self.instanceidx.write_minimal(out)?;
-        self.funcidx.write_minimal(out)?;
-        self.codeoffset.write_minimal(out)?;
-        self.locals.as_slice().encode(out)?;
-        self.stack.as_slice().encode(out)
+    #[tactic(auto, using(crate::proofs::CoreStackLaws::frame_appended, crate::proofs::CoreStackLaws::locals_encodable, crate::proofs::CoreStackLaws::stack_encodable))]
+    fn write_minimal<B: Allocator>(&self, sink: &mut Vec<u8, B>) -> R<()> {
+        0x00u8.encode(sink)?;
+        self.instanceidx.write_minimal(sink)?;
+        self.funcidx.write_minimal(sink)?;
+        self.codeoffset.write_minimal(sink)?;
+        self.locals.as_slice().encode(sink)?;
+        self.stack.as_slice().encode(sink)
     }
 }
 
@@ -232,15 +232,15 @@ impl<A: Allocator> Shorten for CoreFrame<A> {
 fn write_stack<A: Allocator, B: Allocator>(
     thread: &str,
     frames: &Vec<CoreFrame<A>, A>,
-    out: &mut Vec<u8, B>,
+    sink: &mut Vec<u8, B>,
 ) -> R<()>
-    ensures ok { OnOk result (AppendsShortest stack_payload (thread.now, map stack_frame_view frames.now.items) out.old.items out.new.items) }
-    ensures front { IsFrontOf out.old.items out.new.items }
+    ensures ok { OnOk result (AppendsMinimal stack_payload (thread.now, map stack_frame_view frames.now.items) sink.old.items sink.new.items) }
+    ensures front { IsFrontOf sink.old.items sink.new.items }
     ensures too_long { HasEncoding stack_payload (thread.now, map stack_frame_view frames.now.items) → result ≢ Err TooLong }
 {
-    "corestack".encode(out)?;
-    append_marked(thread, out)?;
-    frames.write_minimal(out)
+    "corestack".encode(sink)?;
+    append_marked(thread, sink)?;
+    frames.write_minimal(sink)
 }
 
 /// Appends the minimal encoding of the payload of the section of this stack. On an error, the sink
@@ -248,16 +248,16 @@ fn write_stack<A: Allocator, B: Allocator>(
 pub fn append_stack<A: Allocator, B: Allocator>(
     thread: &str,
     frames: &Vec<CoreFrame<A>, A>,
-    out: &mut Vec<u8, B>,
+    sink: &mut Vec<u8, B>,
 ) -> R<()>
-    ensures ok { OnOk result (AppendsShortest stack_payload (thread.now, map stack_frame_view frames.now.items) out.old.items out.new.items) }
-    ensures err { OnErr result (out.new.items ≡ out.old.items) }
+    ensures ok { OnOk result (AppendsMinimal stack_payload (thread.now, map stack_frame_view frames.now.items) sink.old.items sink.new.items) }
+    ensures err { OnErr result (sink.new.items ≡ sink.old.items) }
     ensures too_long { HasEncoding stack_payload (thread.now, map stack_frame_view frames.now.items) → result ≢ Err TooLong }
 {
-    let start = out.len();
-    let written = write_stack(thread, frames, out);
+    let start = sink.len();
+    let written = write_stack(thread, frames, sink);
     if written.is_err() {
-        out.truncate(start);
+        sink.truncate(start);
     }
     written
 }

@@ -1,12 +1,12 @@
 // The values of locals and stacks in a core dump.
 ghost use Rattle.std.specs.Prelude.{⊤};
-ghost use Rattle.wasm_custom.specs.CoreValues.{value_text, value as value_format};
+ghost use Rattle.wasm_custom.specs.CoreValues.{value_encoding, value as value_format};
 ghost use Rattle.wasm_custom.specs.declared.core_values.CoreDumpValue.{CoreDumpValue as ValueModel};
 
 use std::alloc::Allocator;
 use wasm_base::{Encode, R};
 use wasm_immediates::{Ieee32, Ieee64};
-use wasm_reader_base::{ReadFault, Readable, Spelled};
+use wasm_reader_base::{ReadFault, Readable, Layout};
 
 /// A value of a local or of the stack, or none if it was optimized away.
 #[derive(Clone, Copy, Debug)]
@@ -20,9 +20,9 @@ pub enum CoreDumpValue {
 
 /// Encodes a byte for the type, and the value.
 impl Encode for CoreDumpValue {
-    ghost text = { value_text };
+    ghost encoding = { value_encoding };
 
-    ghost fits = { λ _. ⊤ };
+    ghost encodable = { λ _. ⊤ };
 
     fn encode<A: Allocator>(&self, sink: &mut Vec<u8, A>) -> R<()> {
         match *self {
@@ -35,14 +35,14 @@ impl Encode for CoreDumpValue {
     }
 }
 
-impl Spelled for CoreDumpValue {
+impl Layout for CoreDumpValue {
     ghost Value = { ValueModel };
 
     ghost format = { value_format };
 
     ghost view = { λ value. value };
 
-    #[tactic(auto, using(crate::proofs::CoreStackLaws::value_unique))]
+    #[tactic(auto, using(crate::proofs::CoreStackLaws::value_unambiguous))]
     fn laws() {}
 }
 

@@ -1,12 +1,12 @@
 // Readers and minimizers of custom sections of counted items.
 ghost use Rattle.std.specs.Prelude.{◌≡◌, ◌≢◌, ℕ, List, IfOk, IfErr, Err, OnOk, OnErr, map};
 ghost use Rattle.wasm_base.specs.Formats.{vec};
-ghost use Rattle.wasm_base.specs.Going.{FillsNothing};
-ghost use Rattle.wasm_base.specs.Numbers.{Mode, wide};
-ghost use Rattle.wasm_base.specs.Reading.{UniqueReading, Reads, ReadsNothing};
+ghost use Rattle.wasm_base.specs.Continuing.{RejectsWhole};
+ghost use Rattle.wasm_base.specs.Numbers.{Mode, padded};
+ghost use Rattle.wasm_base.specs.Decoding.{Unambiguous, Decodes, Rejects};
 ghost use Rattle.wasm_custom.specs.Entries.{counted_payload};
 ghost use Rattle.wasm_base.specs.declared.refused.Refused.TheVariants.{TooLong};
-ghost use Rattle.wasm_reader_base.specs.Shortest.{AppendsShortest, IsFrontOf, HasEncoding};
+ghost use Rattle.wasm_reader_base.specs.Minimal.{AppendsMinimal, IsFrontOf, HasEncoding};
 ghost use Rattle.wasm_reader_base.specs.declared.fault.ReadFault.TheVariants.{Memory};
 
 use crate::entries::CustomKind;
@@ -27,39 +27,39 @@ pub(crate) trait ItemsAs<T>: CustomKind {
 
     /// Proves that the format is unambiguous: one item decodes from the front, whatever follows.
     /// The function does nothing.
-    fn alone()
-        ensures { UniqueReading format };
+    fn unique()
+        ensures { Unambiguous format };
 
     /// Appends the minimal encoding of the item, if any bytes decode to it. After an error, part of
     /// the encoding may follow the old bytes.
-    fn append_item<B: Allocator>(item: &T, out: &mut Vec<u8, B>) -> R<()>
-        ensures ok { OnOk result (AppendsShortest format (view item.now) out.old.items out.new.items) }
-        ensures front { IsFrontOf out.old.items out.new.items }
+    fn append_item<B: Allocator>(item: &T, sink: &mut Vec<u8, B>) -> R<()>
+        ensures ok { OnOk result (AppendsMinimal format (view item.now) sink.old.items sink.new.items) }
+        ensures front { IsFrontOf sink.old.items sink.new.items }
         ensures too_long { HasEncoding format (view item.now) → result ≢ Err TooLong };
 }
 
 /// A kind whose items decode to a `T`.
-pub(crate) trait ReadsItems<'a, T: Drop, A: Allocator + Copy>: ItemsAs<T> {
+pub(crate) trait DecodesItems<'a, T: Drop, A: Allocator + Copy>: ItemsAs<T> {
     /// Decodes the item at the front, padded numbers included, and returns it with the remaining
     /// bytes.
     fn read_item(bytes: &'a [u8], alloc: A) -> Result<(T, &'a [u8]), ReadFault>
-        ensures found { IfOk result (λ x. Reads Self.format wide bytes.now (Self.view x.0) x.1.now) }
-        ensures none { IfErr result (λ e. e ≢ Memory → ReadsNothing Self.format wide bytes.now) };
+        ensures found { IfOk result (λ x. Decodes Self.format padded bytes.now (Self.view x.0) x.1.now) }
+        ensures none { IfErr result (λ e. e ≢ Memory → Rejects Self.format padded bytes.now) };
 }
 
 /// Decodes a count and that many items, and returns them with the remaining bytes. Memory grows
 /// with the items that decode, and is not allocated by the count.
-#[tactic(auto, using(wasm_reader_base::proofs::ReadVectors::vec_steps))]
-fn read_items<'a, K: ReadsItems<'a, T, A>, T: Drop, A: Allocator + Copy>(
+#[tactic(auto, using(wasm_reader_base::proofs::DecodeVectors::vec_steps))]
+fn read_items<'a, K: DecodesItems<'a, T, A>, T: Drop, A: Allocator + Copy>(
     bytes: &'a [u8],
     alloc: A,
 ) -> Result<(Vec<T, A>, &'a [u8]), ReadFault>
-    ensures found { IfOk result (λ x. Reads (vec K.format) wide bytes.now (map K.view x.0.items) x.1.now) }
-    ensures none { IfErr result (λ e. e ≢ Memory → ReadsNothing (vec K.format) wide bytes.now) }
+    ensures found { IfOk result (λ x. Decodes (vec K.format) padded bytes.now (map K.view x.0.items) x.1.now) }
+    ensures none { IfErr result (λ e. e ≢ Memory → Rejects (vec K.format) padded bytes.now) }
 {
     let (count, mut rest) = <u32 as Readable<'a, A>>::read(bytes, alloc)?;
     let mut items = Vec::new(alloc);
-    K::alone();
+    K::unique();
     for _taken in 0..count {
         let (item, after) = K::read_item(rest, alloc)?;
         items.push(item)?;
@@ -69,14 +69,14 @@ fn read_items<'a, K: ReadsItems<'a, T, A>, T: Drop, A: Allocator + Copy>(
 }
 
 /// Decodes the payload of a section of this kind, including its name.
-pub(crate) fn read_counted<'a, K: ReadsItems<'a, T, A>, T: Drop, A: Allocator + Copy>(
+pub(crate) fn read_counted<'a, K: DecodesItems<'a, T, A>, T: Drop, A: Allocator + Copy>(
     bytes: &'a [u8],
     alloc: A,
 ) -> Result<Vec<T, A>, ReadFault>
-    ensures found { IfOk result (λ x. counted_payload K.name K.format wide bytes.now (map K.view x.items)) }
-    ensures none { IfErr result (λ e. e ≢ Memory → FillsNothing (counted_payload K.name K.format) bytes.now) }
+    ensures found { IfOk result (λ x. counted_payload K.name K.format padded bytes.now (map K.view x.items)) }
+    ensures none { IfErr result (λ e. e ≢ Memory → RejectsWhole (counted_payload K.name K.format) bytes.now) }
 {
-    K::alone();
+    K::unique();
     let rest = after_name(K::name(), bytes, alloc)?;
     let (items, left) = read_items::<'a, K, T, A>(rest, alloc)?;
     if left.is_empty() {
@@ -87,45 +87,45 @@ pub(crate) fn read_counted<'a, K: ReadsItems<'a, T, A>, T: Drop, A: Allocator + 
 }
 
 /// Appends a count and the items.
-#[tactic(auto, using(wasm_reader_base::proofs::ShortTexts::members_start))]
-fn append_items<K: ItemsAs<T>, T, B: Allocator>(items: &[T], out: &mut Vec<u8, B>) -> R<()>
-    ensures ok { OnOk result (AppendsShortest (vec K.format) (map K.view items.now) out.old.items out.new.items) }
-    ensures front { IsFrontOf out.old.items out.new.items }
+#[tactic(auto, using(wasm_reader_base::proofs::MinimalEncodings::members_start))]
+fn append_items<K: ItemsAs<T>, T, B: Allocator>(items: &[T], sink: &mut Vec<u8, B>) -> R<()>
+    ensures ok { OnOk result (AppendsMinimal (vec K.format) (map K.view items.now) sink.old.items sink.new.items) }
+    ensures front { IsFrontOf sink.old.items sink.new.items }
     ensures too_long { HasEncoding (vec K.format) (map K.view items.now) → result ≢ Err TooLong }
 {
-    items.len().encode(out)?;
+    items.len().encode(sink)?;
     for item in items {
-        K::append_item(item, out)?;
+        K::append_item(item, sink)?;
     }
     Ok(())
 }
 
 /// Writes the bytes that [`append_counted`] appends. After an error, part of them may follow the
 /// old bytes.
-#[tactic(auto, using(crate::proofs::EntriesLaws::counted_encoded, crate::proofs::EntriesLaws::counted_name_fits))]
-fn write_counted<K: ItemsAs<T>, T, B: Allocator>(items: &[T], out: &mut Vec<u8, B>) -> R<()>
-    ensures ok { OnOk result (AppendsShortest (counted_payload K.name K.format) (map K.view items.now) out.old.items out.new.items) }
-    ensures front { IsFrontOf out.old.items out.new.items }
+#[tactic(auto, using(crate::proofs::EntriesLaws::counted_encoded, crate::proofs::EntriesLaws::counted_name_encodable))]
+fn write_counted<K: ItemsAs<T>, T, B: Allocator>(items: &[T], sink: &mut Vec<u8, B>) -> R<()>
+    ensures ok { OnOk result (AppendsMinimal (counted_payload K.name K.format) (map K.view items.now) sink.old.items sink.new.items) }
+    ensures front { IsFrontOf sink.old.items sink.new.items }
     ensures too_long { HasEncoding (counted_payload K.name K.format) (map K.view items.now) → result ≢ Err TooLong }
 {
-    K::name().encode(out)?;
-    append_items::<K, T, _>(items, out)
+    K::name().encode(sink)?;
+    append_items::<K, T, _>(items, sink)
 }
 
 /// Appends the minimal encoding of the payload of a section of the kind, which has these items. On
 /// an error, the sink is unchanged.
 pub(crate) fn append_counted<K: ItemsAs<T>, T, B: Allocator>(
     items: &[T],
-    out: &mut Vec<u8, B>,
+    sink: &mut Vec<u8, B>,
 ) -> R<()>
-    ensures ok { OnOk result (AppendsShortest (counted_payload K.name K.format) (map K.view items.now) out.old.items out.new.items) }
-    ensures err { OnErr result (out.new.items ≡ out.old.items) }
+    ensures ok { OnOk result (AppendsMinimal (counted_payload K.name K.format) (map K.view items.now) sink.old.items sink.new.items) }
+    ensures err { OnErr result (sink.new.items ≡ sink.old.items) }
     ensures too_long { HasEncoding (counted_payload K.name K.format) (map K.view items.now) → result ≢ Err TooLong }
 {
-    let start = out.len();
-    let written = write_counted::<K, T, _>(items, out);
+    let start = sink.len();
+    let written = write_counted::<K, T, _>(items, sink);
     if written.is_err() {
-        out.truncate(start);
+        sink.truncate(start);
     }
     written
 }

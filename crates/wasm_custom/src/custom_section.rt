@@ -1,30 +1,30 @@
 // Custom sections: a name, and data up to the end of the payload.
 ghost use Rattle.std.specs.Prelude.{◌≡◌, ◌≢◌, ℕ, ◌+◌, ◌<◌, ◌≤◌, List, ◌++◌, length, vec_len, vec_capacity, OnOk, OnErr, IfOk, IsOk, IsUtf8};
-ghost use Rattle.wasm_base.specs.Calls.{ReadsBack};
-ghost use Rattle.wasm_base.specs.Cow.{items_of, text_of};
+ghost use Rattle.wasm_base.specs.Calls.{DecodesBack};
+ghost use Rattle.wasm_base.specs.Cow.{items_of, encoding_of};
 ghost use Rattle.wasm_base.specs.Formats.{custom};
-ghost use Rattle.wasm_base.specs.Numbers.{unsigned_text};
-ghost use Rattle.wasm_base.specs.Texts.{longest, frame_text};
-ghost use Rattle.wasm_custom.specs.Customs.{named_text, NamedFits};
+ghost use Rattle.wasm_base.specs.Numbers.{unsigned_encoding};
+ghost use Rattle.wasm_base.specs.Encodings.{longest, size_prefixed_encoding};
+ghost use Rattle.wasm_custom.specs.Customs.{named_encoding, IsEncodableNamed};
 
 use std::alloc::{Allocator, Global};
 use wasm_base::{
-    CowSlice, CowStr, Encode, R, Refused, Section, SectionId, begin_frame, encoding_size,
+    CowSlice, CowStr, Encode, R, Refused, Section, SectionId, begin_size_prefixed, encoding_size,
 };
 
 /// Appends the size prefix and the name of a custom section, and reserves spare capacity for `size`
 /// bytes of data that the caller appends next.
 pub(crate) fn begin_custom<A: Allocator>(sink: &mut Vec<u8, A>, name: &str, size: usize) -> R<()>
-    ensures ok { OnOk result (sink.new.items ≡ sink.old.items ++ (unsigned_text (length (frame_text name.now) + size) ++ frame_text name.now)) }
-    ensures made_room { OnOk result (vec_len sink.new + size ≤ vec_capacity sink.new) }
+    ensures ok { OnOk result (sink.new.items ≡ sink.old.items ++ (unsigned_encoding (length (size_prefixed_encoding name.now) + size) ++ size_prefixed_encoding name.now)) }
+    ensures reserved { OnOk result (vec_len sink.new + size ≤ vec_capacity sink.new) }
     ensures err { OnErr result (sink.new.items ≡ sink.old.items) }
 
-    ensures fitted { OnOk result (length (frame_text name.now) + size ≤ longest) }
-    ensures too_long { length (frame_text name.now) + size ≤ longest → result ≢ Err Refused.TooLong }
-    ensures too_many { longest < length (frame_text name.now) + size → result ≡ Err Refused.TooLong }
+    ensures was_encodable { OnOk result (length (size_prefixed_encoding name.now) + size ≤ longest) }
+    ensures too_long { length (size_prefixed_encoding name.now) + size ≤ longest → result ≢ Err Refused.TooLong }
+    ensures too_many { longest < length (size_prefixed_encoding name.now) + size → result ≡ Err Refused.TooLong }
 
-    ensures room { length (frame_text name.now) + size ≤ longest
-        → vec_len sink.old + (length (unsigned_text (length (frame_text name.now) + size)) + (length (frame_text name.now) + size)) ≤ vec_capacity sink.old
+    ensures spare { length (size_prefixed_encoding name.now) + size ≤ longest
+        → vec_len sink.old + (length (unsigned_encoding (length (size_prefixed_encoding name.now) + size)) + (length (size_prefixed_encoding name.now) + size)) ≤ vec_capacity sink.old
         → IsOk result }
     ensures capacity { vec_capacity sink.old ≤ vec_capacity sink.new }
 {
@@ -35,7 +35,7 @@ pub(crate) fn begin_custom<A: Allocator>(sink: &mut Vec<u8, A>, name: &str, size
     let Ok(total) = u32::try_from(named.saturating_add(size as u64)) else {
         return Err(Refused::TooLong);
     };
-    begin_frame(sink, total as usize)?;
+    begin_size_prefixed(sink, total as usize)?;
     name.encode(sink).unwrap();
     Ok(())
 }
@@ -59,7 +59,7 @@ pub struct CustomSection<'a, A: Allocator = Global> {
 impl<'a, A: Allocator + Copy> CustomSection<'a, A> {
     /// Returns the same name and data, and copies owned ones into memory of their own.
     pub fn clone(&self) -> R<Self>
-        ensures same { IfOk result (λ s. (text_of s.name ≡ text_of self.now.name) × (items_of s.bytes ≡ items_of self.now.bytes)) }
+        ensures same { IfOk result (λ s. (encoding_of s.name ≡ encoding_of self.now.name) × (items_of s.bytes ≡ items_of self.now.bytes)) }
         ensures memory { result ≢ Err Refused.TooLong }
     {
         Ok(CustomSection {
@@ -94,15 +94,15 @@ impl<A: Allocator> Eq for CustomSection<'_, A> {
 
 /// Encodes the size prefix, the name and the data.
 impl<A: Allocator> Encode for CustomSection<'_, A> {
-    ghost text = { λ s. named_text (text_of s.name) (items_of s.bytes) };
+    ghost encoding = { λ s. named_encoding (encoding_of s.name) (items_of s.bytes) };
 
-    ghost fits = { λ s. NamedFits (text_of s.name) (items_of s.bytes) };
+    ghost encodable = { λ s. IsEncodableNamed (encoding_of s.name) (items_of s.bytes) };
 
-    ghost overlong = { λ s. longest < length (frame_text (text_of s.name)) + length (items_of s.bytes) };
+    ghost overlong = { λ s. longest < length (size_prefixed_encoding (encoding_of s.name)) + length (items_of s.bytes) };
 
-    ghost reading = { λ s. ReadsBack custom (λ said. IsUtf8 (text_of s.name) × (said ≡ (text_of s.name, items_of s.bytes))) (named_text (text_of s.name) (items_of s.bytes)) };
+    ghost decoding = { λ s. DecodesBack custom (λ said. IsUtf8 (encoding_of s.name) × (said ≡ (encoding_of s.name, items_of s.bytes))) (named_encoding (encoding_of s.name) (items_of s.bytes)) };
 
-    #[tactic(auto, unfolding(crate::specs::Customs::named_text))]
+    #[tactic(auto, unfolding(crate::specs::Customs::named_encoding))]
     fn encode<B: Allocator>(&self, sink: &mut Vec<u8, B>) -> R<()> {
         let bytes = self.bytes.as_slice();
         begin_custom(sink, self.name.as_str(), bytes.len())?;
@@ -113,11 +113,11 @@ impl<A: Allocator> Encode for CustomSection<'_, A> {
 
 impl<A: Allocator> Section for CustomSection<'_, A> {
     ghost use Rattle.std.specs.Prelude.{IsUtf8};
-    ghost use Rattle.wasm_base.specs.Cow.{items_of, text_of};
+    ghost use Rattle.wasm_base.specs.Cow.{items_of, encoding_of};
     ghost use Rattle.wasm_base.specs.Formats.{custom};
     ghost use Rattle.wasm_base.specs.SectionId.{number_of};
     ghost use Rattle.wasm_base.specs.declared.section_id.SectionId.TheVariants as ids;
-    ghost use Rattle.wasm_custom.specs.Customs.{NamedPayload, named_framed};
+    ghost use Rattle.wasm_custom.specs.Customs.{NamedPayload, named_sized};
 
     ghost id_of = { λ _. number_of ids.Custom };
 
@@ -125,15 +125,15 @@ impl<A: Allocator> Section for CustomSection<'_, A> {
 
     ghost format = { custom };
 
-    ghost says = { λ s said. IsUtf8 (text_of s.name) × (said ≡ (text_of s.name, items_of s.bytes)) };
+    ghost says = { λ s said. IsUtf8 (encoding_of s.name) × (said ≡ (encoding_of s.name, items_of s.bytes)) };
 
-    ghost payload = { λ s. NamedPayload (text_of s.name) (items_of s.bytes) };
+    ghost payload = { λ s. NamedPayload (encoding_of s.name) (items_of s.bytes) };
 
     fn id(&self) -> u8 {
         SectionId::Custom.into()
     }
 
-    ghost framed = { λ s bytes fits pays. named_framed (text_of s.name) (items_of s.bytes) bytes fits pays };
+    ghost sized = { λ s bytes encodable pays. named_sized (encoding_of s.name) (items_of s.bytes) bytes encodable pays };
 
-    ghost reads_back = { λ s promised. promised };
+    ghost decodes_back = { λ s promised. promised };
 }

@@ -1,15 +1,15 @@
 // The builder of all custom sections of entries.
 ghost use Rattle.std.specs.Prelude.{◌≡◌, ◌≢◌, ℕ, ◌+◌, ◌<◌, ◌≤◌, List, [], length, Bool, Err, IfOk, IsTrue, ◌↔◌, ⊤};
-ghost use Rattle.wasm_base.specs.Calls.{Adds, Appends, ReadsBackBoth};
-ghost use Rattle.wasm_base.specs.Cow.{items_of, text_of};
-ghost use Rattle.wasm_base.specs.Entries.{HoldsItems, HoldsWide};
+ghost use Rattle.wasm_base.specs.Calls.{Adds, Appends, DecodesBackBoth};
+ghost use Rattle.wasm_base.specs.Cow.{items_of, encoding_of};
+ghost use Rattle.wasm_base.specs.Entries.{ContainsItems, ContainsPadded};
 ghost use Rattle.wasm_base.specs.Numbers.{Mode};
 ghost use Rattle.wasm_base.specs.Once.{AddsOnce};
 ghost use Rattle.wasm_base.specs.Pieces.{joined};
-ghost use Rattle.wasm_base.specs.Texts.{longest, frame_text};
+ghost use Rattle.wasm_base.specs.Encodings.{longest, size_prefixed_encoding};
 ghost use Rattle.wasm_base.specs.declared.refused.Refused.TheVariants.{TooLong};
-ghost use Rattle.wasm_custom.specs.Customs.{named_section, named_text, NamedFits};
-ghost use Rattle.wasm_custom.specs.Entries.{count_text, entries_text, entries, FrameLaws};
+ghost use Rattle.wasm_custom.specs.Customs.{named_section, named_encoding, IsEncodableNamed};
+ghost use Rattle.wasm_custom.specs.Entries.{count_encoding, entries_encoding, entries, CustomLayoutLaws};
 
 use crate::custom_section::{CustomSection, begin_custom};
 use std::alloc::{Allocator, Global};
@@ -46,8 +46,8 @@ pub trait CustomKind: Kind {
 
     /// Proves three laws: the name is UTF-8, the bytes before the entries encode a value of an
     /// unambiguous format, and uncounted items are never empty. The function does nothing.
-    fn frame_laws()
-        ensures { FrameLaws Self.kind.format name front front_format counted };
+    fn layout_laws()
+        ensures { CustomLayoutLaws Self.kind.format name front front_format counted };
 }
 
 /// A custom section of entries of the kind `K`, modelled as the bytes of each entry.
@@ -85,7 +85,7 @@ impl<K, A: Allocator> CustomEntries<K, A> {
 
     /// Adds the encoding of the record as an entry.
     pub(crate) fn add_record<T: Encode>(&mut self, given: &T) -> R<()>
-        ensures { Adds (T.text given.now) (T.fits given.now) self.old self.new result }
+        ensures { Adds (T.encoding given.now) (T.encodable given.now) self.old self.new result }
     {
         self.pieces.add_encoded(given)
     }
@@ -93,7 +93,7 @@ impl<K, A: Allocator> CustomEntries<K, A> {
     /// Adds an encoding of the item as an entry, and consumes the item.
     pub(crate) fn add_once<T: EncodeOnce + Drop>(&mut self, item: T) -> R<()>
         requires { T.lawful item }
-        ensures { AddsOnce (T.gives item) (T.fits item) self.old self.new result }
+        ensures { AddsOnce (T.gives item) (T.encodable item) self.old self.new result }
     {
         self.pieces.add_once(item)
     }
@@ -132,7 +132,7 @@ impl<K, A: Allocator + Copy> CustomEntries<K, A> {
 impl<K: CustomKind, A: Allocator> CustomEntries<K, A> {
     /// Returns the section as a custom section, with its data in memory of their own.
     pub(crate) fn owned<B: Allocator>(&self, alloc: B) -> R<CustomSection<'_, B>>
-        ensures same { IfOk result (λ s. (text_of s.name ≡ K.name) × (items_of s.bytes ≡ entries_text K.front K.counted self.now)) }
+        ensures same { IfOk result (λ s. (encoding_of s.name ≡ K.name) × (items_of s.bytes ≡ entries_encoding K.front K.counted self.now)) }
         ensures memory { result ≢ Err TooLong }
     {
         let data = data_of(alloc, K::front(), K::counted(), &self.pieces)?;
@@ -153,7 +153,7 @@ struct Count {
 impl Count {
     /// Returns the length of its encoding, in bytes.
     fn size(self) -> usize
-        ensures is { result ≡ length (count_text self.counted self.number) }
+        ensures is { result ≡ length (count_encoding self.counted self.number) }
         ensures small { result ≤ 5 }
     {
         if self.counted {
@@ -166,9 +166,9 @@ impl Count {
 
 /// Encodes the number, or nothing.
 impl Encode for Count {
-    ghost text = { λ c. count_text c.counted c.number };
+    ghost encoding = { λ c. count_encoding c.counted c.number };
 
-    ghost fits = { λ _. ⊤ };
+    ghost encodable = { λ _. ⊤ };
 
     fn encode<A: Allocator>(&self, sink: &mut Vec<u8, A>) -> R<()> {
         if self.counted {
@@ -182,8 +182,8 @@ impl Encode for Count {
 /// Returns the length of the data in bytes if a size prefix can represent it, and a number above
 /// 4294967295 otherwise.
 fn data_size<B: Allocator>(front: &[u8], count: Count, pieces: &Pieces<B>) -> usize
-    ensures told { result ≤ longest → result ≡ length front.now + (length (count_text count.counted count.number) + length (joined pieces.now)) }
-    ensures small { length front.now + (length (count_text count.counted count.number) + length (joined pieces.now)) ≤ longest → result ≡ length front.now + (length (count_text count.counted count.number) + length (joined pieces.now)) }
+    ensures known { result ≤ longest → result ≡ length front.now + (length (count_encoding count.counted count.number) + length (joined pieces.now)) }
+    ensures small { length front.now + (length (count_encoding count.counted count.number) + length (joined pieces.now)) ≤ longest → result ≡ length front.now + (length (count_encoding count.counted count.number) + length (joined pieces.now)) }
 {
     front
         .len()
@@ -193,7 +193,7 @@ fn data_size<B: Allocator>(front: &[u8], count: Count, pieces: &Pieces<B>) -> us
 
 /// Appends a custom section without its id: the size prefix, the name, the bytes `front`, the
 /// number of entries if they are counted, and the entries.
-#[tactic(auto, unfolding(crate::specs::Customs::named_text))]
+#[tactic(auto, unfolding(crate::specs::Customs::named_encoding))]
 pub(crate) fn encode_entries<A: Allocator, B: Allocator>(
     sink: &mut Vec<u8, A>,
     name: &str,
@@ -201,9 +201,9 @@ pub(crate) fn encode_entries<A: Allocator, B: Allocator>(
     counted: bool,
     pieces: &Pieces<B>,
 ) -> R<()>
-    ensures appends { Appends (named_text name.now (entries_text front.now counted pieces.now)) (NamedFits name.now (entries_text front.now counted pieces.now)) sink.old sink.new result }
+    ensures appends { Appends (named_encoding name.now (entries_encoding front.now counted pieces.now)) (IsEncodableNamed name.now (entries_encoding front.now counted pieces.now)) sink.old sink.new result }
     ensures few { length pieces.now ≤ longest }
-    ensures too_many { longest < length (frame_text name.now) + length (entries_text front.now counted pieces.now) → result ≡ Err TooLong }
+    ensures too_many { longest < length (size_prefixed_encoding name.now) + length (entries_encoding front.now counted pieces.now) → result ≡ Err TooLong }
 {
     let count = Count {
         counted,
@@ -224,7 +224,7 @@ pub(crate) fn data_of<A: Allocator, B: Allocator>(
     counted: bool,
     pieces: &Pieces<B>,
 ) -> R<Vec<u8, A>>
-    ensures same { IfOk result (λ v. v.items ≡ entries_text front.now counted pieces.now) }
+    ensures same { IfOk result (λ v. v.items ≡ entries_encoding front.now counted pieces.now) }
     ensures memory { result ≢ Err TooLong }
 {
     let count = Count {
@@ -239,27 +239,27 @@ pub(crate) fn data_of<A: Allocator, B: Allocator>(
 
 /// Encodes the size prefix, the name and the data.
 impl<K: CustomKind, A: Allocator> Encode for CustomEntries<K, A> {
-    ghost text = { λ section. named_text K.name (entries_text K.front K.counted section) };
+    ghost encoding = { λ section. named_encoding K.name (entries_encoding K.front K.counted section) };
 
-    ghost fits = { λ section. NamedFits K.name (entries_text K.front K.counted section) };
+    ghost encodable = { λ section. IsEncodableNamed K.name (entries_encoding K.front K.counted section) };
 
-    ghost overlong = { λ section. longest < length (frame_text K.name) + length (entries_text K.front K.counted section) };
+    ghost overlong = { λ section. longest < length (size_prefixed_encoding K.name) + length (entries_encoding K.front K.counted section) };
 
-    ghost reading = { λ section. ReadsBackBoth (named_section K.name (entries K.front_format K.counted K.kind.format)) (HoldsItems K.kind section) (HoldsWide K.kind.format section) (named_text K.name (entries_text K.front K.counted section)) };
+    ghost decoding = { λ section. DecodesBackBoth (named_section K.name (entries K.front_format K.counted K.kind.format)) (ContainsItems K.kind section) (ContainsPadded K.kind.format section) (named_encoding K.name (entries_encoding K.front K.counted section)) };
 
     fn encode<B: Allocator>(&self, sink: &mut Vec<u8, B>) -> R<()> {
         K::laws();
-        K::frame_laws();
+        K::layout_laws();
         encode_entries(sink, K::name(), K::front(), K::counted(), &self.pieces)
     }
 }
 
 impl<K: CustomKind, A: Allocator> Section for CustomEntries<K, A> {
-    ghost use Rattle.wasm_base.specs.Entries.{HoldsItems};
+    ghost use Rattle.wasm_base.specs.Entries.{ContainsItems};
     ghost use Rattle.wasm_base.specs.SectionId.{number_of};
     ghost use Rattle.wasm_base.specs.declared.section_id.SectionId.TheVariants as ids;
-    ghost use Rattle.wasm_custom.specs.Customs.{named_section, NamedPayload, named_framed};
-    ghost use Rattle.wasm_custom.specs.Entries.{entries_text, entries};
+    ghost use Rattle.wasm_custom.specs.Customs.{named_section, NamedPayload, named_sized};
+    ghost use Rattle.wasm_custom.specs.Entries.{entries_encoding, entries};
 
     ghost id_of = { λ _. number_of ids.Custom };
 
@@ -267,15 +267,15 @@ impl<K: CustomKind, A: Allocator> Section for CustomEntries<K, A> {
 
     ghost format = { named_section K.name (entries K.front_format K.counted K.kind.format) };
 
-    ghost says = { HoldsItems K.kind };
+    ghost says = { ContainsItems K.kind };
 
-    ghost payload = { λ section. NamedPayload K.name (entries_text K.front K.counted section) };
+    ghost payload = { λ section. NamedPayload K.name (entries_encoding K.front K.counted section) };
 
     fn id(&self) -> u8 {
         SectionId::Custom.into()
     }
 
-    ghost framed = { λ section bytes fits pays. named_framed K.name (entries_text K.front K.counted section) bytes fits pays };
+    ghost sized = { λ section bytes encodable pays. named_sized K.name (entries_encoding K.front K.counted section) bytes encodable pays };
 
-    ghost reads_back = { λ section promised. promised.plain };
+    ghost decodes_back = { λ section promised. promised.plain };
 }

@@ -1,23 +1,23 @@
 // The branch hint section: its builder, its reader and its minimizer.
 ghost use Rattle.std.specs.Prelude.{◌≡◌, [], ◌++◌, true, ⊤, ◌≢◌, ◌<◌, ℕ, IfOk, IfErr, Err, OnOk, OnErr, map};
 ghost use Rattle.wasm_base.specs.Formats.{fixed, byte, such};
-ghost use Rattle.wasm_base.specs.Going.{FillsNothing};
+ghost use Rattle.wasm_base.specs.Continuing.{RejectsWhole};
 ghost use Rattle.wasm_base.specs.Iterators.{HasKnownLength};
-ghost use Rattle.wasm_base.specs.Numbers.{unsigned_text, wide};
-ghost use Rattle.wasm_base.specs.Texts.{vec_text};
+ghost use Rattle.wasm_base.specs.Numbers.{unsigned_encoding, padded};
+ghost use Rattle.wasm_base.specs.Encodings.{vec_encoding};
 ghost use Rattle.wasm_custom.specs.Adding.{AddsList};
-ghost use Rattle.wasm_custom.specs.Hints.{hint_items, hint_text, Hints, hints, hints_name, hint, hints_view, hints_payload};
+ghost use Rattle.wasm_custom.specs.Hints.{hint_items, hint_encoding, Hints, hints, hints_name, hint, hints_view, hints_payload};
 ghost use Rattle.wasm_custom.specs.declared.hints.BranchHint.{BranchHint as HintModel};
 ghost use Rattle.wasm_base.specs.declared.refused.Refused.TheVariants.{TooLong};
-ghost use Rattle.wasm_reader_base.specs.Shortest.{AppendsShortest, HasEncoding};
+ghost use Rattle.wasm_reader_base.specs.Minimal.{AppendsMinimal, HasEncoding};
 ghost use Rattle.wasm_reader_base.specs.declared.fault.ReadFault.TheVariants.{Memory};
 
-use crate::counted::{ItemsAs, ReadsItems, append_counted, read_counted};
+use crate::counted::{ItemsAs, DecodesItems, append_counted, read_counted};
 use crate::entries::{CustomEntries, CustomKind};
 use crate::marked::read_marked;
 use std::alloc::{Allocator, Global};
 use wasm_base::{Encode, Kind, R, vec_of};
-use wasm_reader_base::{ReadFault, Readable, Shorten, Spelled};
+use wasm_reader_base::{ReadFault, Readable, Shorten, Layout};
 
 /// The branch hint section: which branches are likely to be taken, as a list of hints for each
 /// function. It belongs before the code section.
@@ -47,9 +47,9 @@ pub struct BranchHint {
 
 /// Encodes the offset, a length of 1, and the value.
 impl Encode for BranchHint {
-    ghost text = { hint_text };
+    ghost encoding = { hint_encoding };
 
-    ghost fits = { λ _. ⊤ };
+    ghost encodable = { λ _. ⊤ };
 
     fn encode<A: Allocator>(&self, sink: &mut Vec<u8, A>) -> R<()> {
         (self.branch_func_offset, 0x01u8, self.branch_hint_value).encode(sink)
@@ -88,8 +88,8 @@ impl CustomKind for HintItems {
         true
     }
 
-    #[tactic(auto, using(crate::proofs::HintLaws::hint_frame))]
-    fn frame_laws() {}
+    #[tactic(auto, using(crate::proofs::HintLaws::hint_layout))]
+    fn layout_laws() {}
 }
 
 impl<A: Allocator> BranchHints<A> {
@@ -103,7 +103,7 @@ impl<A: Allocator> BranchHints<A> {
     where
         H::IntoIter: ExactSizeIterator + Drop,
         requires { HasKnownLength H.into_iter_gives H.IntoIter.can_next H.IntoIter.next_gives H.IntoIter.remaining hints }
-        ensures { AddsList H.into_iter_gives H.IntoIter.next_gives H.IntoIter.remaining hints (λ _. ⊤) (λ items. unsigned_text func ++ vec_text hint_text items) self.old self.new result }
+        ensures { AddsList H.into_iter_gives H.IntoIter.next_gives H.IntoIter.remaining hints (λ _. ⊤) (λ items. unsigned_encoding func ++ vec_encoding hint_encoding items) self.old self.new result }
     {
         let hints = vec_of(hints)?;
         self.add_once((func, hints))
@@ -114,7 +114,7 @@ impl<A: Allocator> BranchHints<A> {
 #[derive(Clone, Copy, Debug)]
 struct HintValue(u8);
 
-impl Spelled for HintValue {
+impl Layout for HintValue {
     ghost Value = { ℕ };
 
     ghost format = { such (λ b. b < 128) byte };
@@ -135,14 +135,14 @@ impl<'a, A: Allocator + Copy> Readable<'a, A> for HintValue {
     }
 }
 
-impl Spelled for BranchHint {
+impl Layout for BranchHint {
     ghost Value = { HintModel };
 
     ghost format = { hint };
 
     ghost view = { λ hint. hint };
 
-    #[tactic(auto, using(crate::proofs::HintLaws::hint_unique))]
+    #[tactic(auto, using(crate::proofs::HintLaws::hint_unambiguous))]
     fn laws() {}
 }
 
@@ -166,18 +166,18 @@ impl<A: Allocator> ItemsAs<(u32, Vec<BranchHint, A>)> for HintItems {
 
     ghost view = { hints_view };
 
-    #[tactic(auto, using(crate::proofs::HintLaws::hints_unique))]
-    fn alone() {}
+    #[tactic(auto, using(crate::proofs::HintLaws::hints_unambiguous))]
+    fn unique() {}
 
-    #[tactic(auto, using(crate::proofs::HintLaws::function_appended, crate::proofs::HintLaws::of_branches_fit))]
-    fn append_item<B: Allocator>(item: &(u32, Vec<BranchHint, A>), out: &mut Vec<u8, B>) -> R<()> {
+    #[tactic(auto, using(crate::proofs::HintLaws::function_appended, crate::proofs::HintLaws::of_branches_encodable))]
+    fn append_item<B: Allocator>(item: &(u32, Vec<BranchHint, A>), sink: &mut Vec<u8, B>) -> R<()> {
         let (func, of_branches) = item;
-        func.write_minimal(out)?;
-        of_branches.as_slice().encode(out)
+        func.write_minimal(sink)?;
+        of_branches.as_slice().encode(sink)
     }
 }
 
-impl<'a, A: Allocator + Copy> ReadsItems<'a, (u32, Vec<BranchHint, A>), A> for HintItems {
+impl<'a, A: Allocator + Copy> DecodesItems<'a, (u32, Vec<BranchHint, A>), A> for HintItems {
     fn read_item(
         bytes: &'a [u8],
         alloc: A,
@@ -196,8 +196,8 @@ pub fn read_hints<'a, A: Allocator + Copy>(
     bytes: &'a [u8],
     alloc: A,
 ) -> Result<Vec<(u32, Vec<BranchHint, A>), A>, ReadFault>
-    ensures found { IfOk result (λ x. hints_payload wide bytes.now (map hints_view x.items)) }
-    ensures none { IfErr result (λ e. e ≢ Memory → FillsNothing hints_payload bytes.now) }
+    ensures found { IfOk result (λ x. hints_payload padded bytes.now (map hints_view x.items)) }
+    ensures none { IfErr result (λ e. e ≢ Memory → RejectsWhole hints_payload bytes.now) }
 {
     read_counted::<'a, HintItems, (u32, Vec<BranchHint, A>), A>(bytes, alloc)
 }
@@ -206,11 +206,11 @@ pub fn read_hints<'a, A: Allocator + Copy>(
 /// is unchanged.
 pub fn append_hints<A: Allocator, B: Allocator>(
     functions: &[(u32, Vec<BranchHint, A>)],
-    out: &mut Vec<u8, B>,
+    sink: &mut Vec<u8, B>,
 ) -> R<()>
-    ensures ok { OnOk result (AppendsShortest hints_payload (map hints_view functions.now) out.old.items out.new.items) }
-    ensures err { OnErr result (out.new.items ≡ out.old.items) }
+    ensures ok { OnOk result (AppendsMinimal hints_payload (map hints_view functions.now) sink.old.items sink.new.items) }
+    ensures err { OnErr result (sink.new.items ≡ sink.old.items) }
     ensures too_long { HasEncoding hints_payload (map hints_view functions.now) → result ≢ Err TooLong }
 {
-    append_counted::<HintItems, (u32, Vec<BranchHint, A>), _>(functions, out)
+    append_counted::<HintItems, (u32, Vec<BranchHint, A>), _>(functions, sink)
 }

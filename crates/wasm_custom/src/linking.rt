@@ -2,15 +2,15 @@
 ghost use Rattle.std.specs.Prelude.{◌≡◌, [], ◌∷◌, false, ⊤, ◌≢◌, IfOk, IfErr, Err, OnOk, OnErr, map};
 ghost use Rattle.wasm_base.specs.Calls.{Adds};
 ghost use Rattle.wasm_base.specs.Formats.{u32 as u32_format, just};
-ghost use Rattle.wasm_base.specs.Going.{FillsNothing};
-ghost use Rattle.wasm_base.specs.Numbers.{wide};
-ghost use Rattle.wasm_base.specs.Reading.{UniqueReading, Reads, ReadsNothing};
-ghost use Rattle.wasm_base.specs.Texts.{frame_text, FrameFits};
-ghost use Rattle.wasm_custom.specs.Customs.{subsection_text};
+ghost use Rattle.wasm_base.specs.Continuing.{RejectsWhole};
+ghost use Rattle.wasm_base.specs.Numbers.{padded};
+ghost use Rattle.wasm_base.specs.Decoding.{Unambiguous, Decodes, Rejects};
+ghost use Rattle.wasm_base.specs.Encodings.{size_prefixed_encoding, HasEncodableSize};
+ghost use Rattle.wasm_custom.specs.Customs.{subsection_encoding};
 ghost use Rattle.wasm_custom.specs.Linking.{link_items, LinkItem as LinkModel, link, linking_name, version, link_view, linking_payload};
-ghost use Rattle.wasm_custom.specs.Lists.{list_text};
+ghost use Rattle.wasm_custom.specs.Lists.{list_encoding};
 ghost use Rattle.wasm_base.specs.declared.refused.Refused.TheVariants.{TooLong};
-ghost use Rattle.wasm_reader_base.specs.Shortest.{AppendsShortest, IsFrontOf, HasEncoding};
+ghost use Rattle.wasm_reader_base.specs.Minimal.{AppendsMinimal, IsFrontOf, HasEncoding};
 ghost use Rattle.wasm_reader_base.specs.declared.fault.ReadFault.TheVariants.{Memory};
 
 use crate::entries::{CustomEntries, CustomKind};
@@ -20,7 +20,7 @@ use crate::symbols::{Symbol, SymbolTable};
 use std::alloc::{Allocator, Global};
 use wasm_base::{Encode, Kind, R};
 use wasm_reader_base::{
-    Framed, ReadFault, Readable, Shorten, Spelled, append_all, frame_since, read_to_end, read_whole,
+    SizePrefixed, ReadFault, Readable, Shorten, Layout, append_all, prefix_size_since, read_to_end, read_whole,
 };
 
 /// The linking section: the symbols and target of a module for a linker, in version 2 of the
@@ -71,21 +71,21 @@ impl CustomKind for LinkingItems {
         false
     }
 
-    #[tactic(auto, using(crate::proofs::LinkLaws::link_frame))]
-    fn frame_laws() {}
+    #[tactic(auto, using(crate::proofs::LinkLaws::link_layout))]
+    fn layout_laws() {}
 }
 
 impl<A: Allocator> LinkingSection<A> {
     /// Adds the symbols.
     pub fn symbol_table<B: Allocator>(&mut self, symbols: &SymbolTable<B>) -> R<()>
-        ensures { Adds (subsection_text 8 (list_text symbols.now)) (FrameFits (list_text symbols.now) × ⊤) self.old self.new result }
+        ensures { Adds (subsection_encoding 8 (list_encoding symbols.now)) (HasEncodableSize (list_encoding symbols.now) × ⊤) self.old self.new result }
     {
         self.add_record(symbols)
     }
 
     /// Adds the architecture of the target.
     pub fn target_arch(&mut self, name: &str) -> R<()>
-        ensures { Adds (subsection_text 9 (frame_text name.now)) (FrameFits (frame_text name.now) × FrameFits name.now) self.old self.new result }
+        ensures { Adds (subsection_encoding 9 (size_prefixed_encoding name.now)) (HasEncodableSize (size_prefixed_encoding name.now) × HasEncodableSize name.now) self.old self.new result }
     {
         self.add_record(&Subsection {
             id: 9,
@@ -105,16 +105,16 @@ pub enum LinkItem<'a, A: Allocator = Global> {
     Arch(&'a str),
 }
 
-impl<'a, A: Allocator> Spelled for LinkItem<'a, A> {
+impl<'a, A: Allocator> Layout for LinkItem<'a, A> {
     ghost Value = { LinkModel };
 
     ghost format = { link };
 
     ghost view = { link_view };
 
-    #[tactic(auto, using(crate::proofs::LinkLaws::link_unique))]
+    #[tactic(auto, using(crate::proofs::LinkLaws::link_unambiguous))]
     fn laws()
-        ensures { UniqueReading link }
+        ensures { Unambiguous link }
     {}
 }
 
@@ -129,7 +129,7 @@ impl<'a, A: Allocator + Copy + 'a> Readable<'a, A> for LinkItem<'a, A> {
                 Ok((LinkItem::Symbols(symbols), rest))
             }
             9 => {
-                let (Framed(name), rest) = <Framed<&'a str> as Readable<'a, A>>::read(rest, alloc)?;
+                let (SizePrefixed(name), rest) = <SizePrefixed<&'a str> as Readable<'a, A>>::read(rest, alloc)?;
                 Ok((LinkItem::Arch(name), rest))
             }
             _ => Err(ReadFault::UnknownTag),
@@ -140,11 +140,11 @@ impl<'a, A: Allocator + Copy + 'a> Readable<'a, A> for LinkItem<'a, A> {
 /// Skips the version, and returns the remaining bytes.
 #[tactic(auto, using(crate::proofs::LinkLaws::version_steps))]
 fn after_version<'a, A: Allocator + Copy>(bytes: &'a [u8], alloc: A) -> Result<&'a [u8], ReadFault>
-    ensures found { IfOk result (λ rest. Reads (just version u32_format) wide bytes.now tt rest.now) }
-    ensures none { IfErr result (λ e. e ≢ Memory → ReadsNothing (just version u32_format) wide bytes.now) }
+    ensures found { IfOk result (λ rest. Decodes (just version u32_format) padded bytes.now tt rest.now) }
+    ensures none { IfErr result (λ e. e ≢ Memory → Rejects (just version u32_format) padded bytes.now) }
 {
-    let (told, rest) = <u32 as Readable<'a, A>>::read(bytes, alloc)?;
-    if told == VERSION {
+    let (known, rest) = <u32 as Readable<'a, A>>::read(bytes, alloc)?;
+    if known == VERSION {
         Ok(rest)
     } else {
         Err(ReadFault::UnknownTag)
@@ -161,8 +161,8 @@ pub fn read_links<'a, A: Allocator + Copy + 'a>(
     bytes: &'a [u8],
     alloc: A,
 ) -> Result<Vec<LinkItem<'a, A>, A>, ReadFault>
-    ensures found { IfOk result (λ x. linking_payload wide bytes.now (map link_view x.items)) }
-    ensures none { IfErr result (λ e. e ≢ Memory → FillsNothing linking_payload bytes.now) }
+    ensures found { IfOk result (λ x. linking_payload padded bytes.now (map link_view x.items)) }
+    ensures none { IfErr result (λ e. e ≢ Memory → RejectsWhole linking_payload bytes.now) }
 {
     let rest = after_name("linking", bytes, alloc)?;
     let rest = after_version(rest, alloc)?;
@@ -171,18 +171,18 @@ pub fn read_links<'a, A: Allocator + Copy + 'a>(
 }
 
 impl<'a, A: Allocator> Shorten for LinkItem<'a, A> {
-    #[tactic(auto, using(crate::proofs::LinkLaws::symbols_appended, crate::proofs::LinkLaws::arch_appended, crate::proofs::LinkLaws::symbols_encoded, crate::proofs::LinkLaws::symbols_fit, crate::proofs::LinkLaws::arch_encoded))]
-    fn write_minimal<B: Allocator>(&self, out: &mut Vec<u8, B>) -> R<()> {
+    #[tactic(auto, using(crate::proofs::LinkLaws::symbols_appended, crate::proofs::LinkLaws::arch_appended, crate::proofs::LinkLaws::symbols_encoded, crate::proofs::LinkLaws::symbols_encodable, crate::proofs::LinkLaws::arch_encoded))]
+    fn write_minimal<B: Allocator>(&self, sink: &mut Vec<u8, B>) -> R<()> {
         match self {
             LinkItem::Symbols(symbols) => {
-                8u8.encode(out)?;
-                let start = out.len();
-                symbols.write_minimal(out)?;
-                frame_since(out, start)
+                8u8.encode(sink)?;
+                let start = sink.len();
+                symbols.write_minimal(sink)?;
+                prefix_size_since(sink, start)
             }
             LinkItem::Arch(name) => {
-                9u8.encode(out)?;
-                Framed(*name).write_minimal(out)
+                9u8.encode(sink)?;
+                SizePrefixed(*name).write_minimal(sink)
             }
         }
     }
@@ -191,30 +191,30 @@ impl<'a, A: Allocator> Shorten for LinkItem<'a, A> {
 /// Writes the bytes that [`append_links`] appends. After an error, part of them may follow the old
 /// bytes.
 #[tactic(auto, using(crate::proofs::LinkLaws::links_appended, crate::proofs::LinkLaws::links_encoded))]
-fn write_links<A: Allocator, B: Allocator>(items: &[LinkItem<'_, A>], out: &mut Vec<u8, B>) -> R<()>
-    ensures ok { OnOk result (AppendsShortest linking_payload (map link_view items.now) out.old.items out.new.items) }
-    ensures front { IsFrontOf out.old.items out.new.items }
+fn write_links<A: Allocator, B: Allocator>(items: &[LinkItem<'_, A>], sink: &mut Vec<u8, B>) -> R<()>
+    ensures ok { OnOk result (AppendsMinimal linking_payload (map link_view items.now) sink.old.items sink.new.items) }
+    ensures front { IsFrontOf sink.old.items sink.new.items }
     ensures too_long { HasEncoding linking_payload (map link_view items.now) → result ≢ Err TooLong }
 {
-    "linking".encode(out)?;
-    VERSION.encode(out)?;
-    append_all(items, out)
+    "linking".encode(sink)?;
+    VERSION.encode(sink)?;
+    append_all(items, sink)
 }
 
 /// Appends the minimal encoding of the payload of a linking section of these subsections. On an
 /// error, the sink is unchanged.
 pub fn append_links<A: Allocator, B: Allocator>(
     items: &[LinkItem<'_, A>],
-    out: &mut Vec<u8, B>,
+    sink: &mut Vec<u8, B>,
 ) -> R<()>
-    ensures ok { OnOk result (AppendsShortest linking_payload (map link_view items.now) out.old.items out.new.items) }
-    ensures err { OnErr result (out.new.items ≡ out.old.items) }
+    ensures ok { OnOk result (AppendsMinimal linking_payload (map link_view items.now) sink.old.items sink.new.items) }
+    ensures err { OnErr result (sink.new.items ≡ sink.old.items) }
     ensures too_long { HasEncoding linking_payload (map link_view items.now) → result ≢ Err TooLong }
 {
-    let start = out.len();
-    let written = write_links(items, out);
+    let start = sink.len();
+    let written = write_links(items, sink);
     if written.is_err() {
-        out.truncate(start);
+        sink.truncate(start);
     }
     written
 }

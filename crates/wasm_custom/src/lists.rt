@@ -2,7 +2,7 @@
 ghost use Rattle.std.specs.Prelude.{◌≡◌, ◌≢◌, ℕ, List, [], length, IfOk, IsTrue, ◌↔◌, ⊤, Option};
 ghost use Rattle.wasm_base.specs.Calls.{Adds};
 ghost use Rattle.wasm_base.specs.declared.refused.Refused.TheVariants.{TooLong};
-ghost use Rattle.wasm_custom.specs.Lists.{list_text, listed_text, ListedFits, HoldsList, IsTextOf};
+ghost use Rattle.wasm_custom.specs.Lists.{list_encoding, listed_encoding, IsEncodableList, ContainsList, IsEncodingOf};
 
 use crate::subsections::{Content, Subsection};
 use std::alloc::{Allocator, Global};
@@ -14,8 +14,8 @@ pub trait ListKind {
     /// The argument of an adding call.
     ghost Member: { Type 0 };
 
-    /// `member_text`: the encoding of a member.
-    ghost member_text: { Member → List ℕ };
+    /// `member_encoding`: the encoding of a member.
+    ghost member_encoding: { Member → List ℕ };
 
     /// A property of each member that is added.
     ghost is_member: { Member → Type 0 };
@@ -47,7 +47,7 @@ impl<K: ListKind, A: Allocator> Model for CountedList<K, A> {
 
     ghost view = { λ l. l.pieces };
 
-    ghost invariant = { λ l. HoldsList K.member_text K.is_member l.pieces };
+    ghost invariant = { λ l. ContainsList K.member_encoding K.is_member l.pieces };
 }
 
 impl<K: ListKind, A: Allocator> CountedList<K, A> {
@@ -67,16 +67,16 @@ impl<K: ListKind, A: Allocator> CountedList<K, A> {
 
     /// Adds the encoding of the record as an entry.
     pub(crate) fn add_record<T: Encode>(&mut self, given: &T) -> R<()>
-        requires { T.fits given.now → IsTextOf K.member_text K.is_member (T.text given.now) }
-        ensures { Adds (T.text given.now) (T.fits given.now) self.old self.new result }
+        requires { T.encodable given.now → IsEncodingOf K.member_encoding K.is_member (T.encoding given.now) }
+        ensures { Adds (T.encoding given.now) (T.encodable given.now) self.old self.new result }
     {
         self.pieces.add_encoded(given)?;
         Ok(())
     }
 
     /// Proves that the entries are the encodings of a list of members. The function does nothing.
-    pub fn holds(&self)
-        ensures { HoldsList K.member_text K.is_member self.now }
+    pub fn contains(&self)
+        ensures { ContainsList K.member_encoding K.is_member self.now }
     {
         let _ = self.pieces.len();
     }
@@ -110,11 +110,11 @@ impl<K: ListKind, A: Allocator + Copy> CountedList<K, A> {
 pub(crate) struct Entries<'a, K: ListKind, A: Allocator>(pub &'a CountedList<K, A>);
 
 impl<K: ListKind, A: Allocator> Encode for Entries<'_, K, A> {
-    ghost text = { λ entries. list_text entries.0.now };
+    ghost encoding = { λ entries. list_encoding entries.0.now };
 
-    ghost fits = { λ _. ⊤ };
+    ghost encodable = { λ _. ⊤ };
 
-    #[tactic(auto, unfolding(crate::specs::Lists::list_text))]
+    #[tactic(auto, unfolding(crate::specs::Lists::list_encoding))]
     fn encode<B: Allocator>(&self, sink: &mut Vec<u8, B>) -> R<()> {
         let list = self.0;
         let count = list.pieces.len();
@@ -126,7 +126,7 @@ impl<K: ListKind, A: Allocator> Encode for Entries<'_, K, A> {
 }
 
 impl<K: ListKind, A: Allocator> Content for Entries<'_, K, A> {
-    #[tactic(auto, unfolding(crate::specs::Lists::list_text))]
+    #[tactic(auto, unfolding(crate::specs::Lists::list_encoding))]
     fn size(&self) -> usize {
         let list = self.0;
         encoding_size(list.pieces.len()).saturating_add(list.pieces.raw_len())
@@ -135,9 +135,9 @@ impl<K: ListKind, A: Allocator> Content for Entries<'_, K, A> {
 
 /// Encodes the vector of the entries: alone, or in the subsection of the kind.
 impl<K: ListKind, A: Allocator> Encode for CountedList<K, A> {
-    ghost text = { listed_text K.subsection };
+    ghost encoding = { listed_encoding K.subsection };
 
-    ghost fits = { ListedFits K.subsection };
+    ghost encodable = { IsEncodableList K.subsection };
 
     fn encode<B: Allocator>(&self, sink: &mut Vec<u8, B>) -> R<()> {
         let entries = Entries(self);

@@ -1,23 +1,23 @@
 // Values after a fixed byte.
 ghost use Rattle.std.specs.Prelude.{◌≢◌, ◌∷◌, [], List, ℕ, IfOk, IfErr};
 ghost use Rattle.wasm_base.specs.Formats.{prefixed};
-ghost use Rattle.wasm_base.specs.Numbers.{wide};
-ghost use Rattle.wasm_base.specs.Reading.{UniqueReading, Reads, ReadsNothing};
+ghost use Rattle.wasm_base.specs.Numbers.{padded};
+ghost use Rattle.wasm_base.specs.Decoding.{Unambiguous, Decodes, Rejects};
 ghost use Rattle.wasm_custom.specs.CoreDumps.{marked_name};
 ghost use Rattle.wasm_reader_base.specs.declared.fault.ReadFault.TheVariants.{Memory};
 
 use std::alloc::Allocator;
-use wasm_reader_base::{ReadFault, Readable, Spelled};
+use wasm_reader_base::{ReadFault, Readable, Layout};
 
 /// Decodes the byte `mark` and the value after it, and returns the value with the remaining bytes.
-#[tactic(auto, using(crate::proofs::ReadMarked::marked_steps))]
+#[tactic(auto, using(crate::proofs::DecodeMarked::marked_steps))]
 pub(crate) fn read_marked<'a, T: Readable<'a, A>, A: Allocator + Copy>(
     mark: u8,
     bytes: &'a [u8],
     alloc: A,
 ) -> Result<(T, &'a [u8]), ReadFault>
-    ensures found { IfOk result (λ x. Reads (prefixed (mark ∷ []) T.format) wide bytes.now (T.view x.0) x.1.now) }
-    ensures none { IfErr result (λ e. e ≢ Memory → ReadsNothing (prefixed (mark ∷ []) T.format) wide bytes.now) }
+    ensures found { IfOk result (λ x. Decodes (prefixed (mark ∷ []) T.format) padded bytes.now (T.view x.0) x.1.now) }
+    ensures none { IfErr result (λ e. e ≢ Memory → Rejects (prefixed (mark ∷ []) T.format) padded bytes.now) }
 {
     let (first, rest) = <u8 as Readable<'a, A>>::read(bytes, alloc)?;
     if first != mark {
@@ -31,16 +31,16 @@ pub(crate) fn read_marked<'a, T: Readable<'a, A>, A: Allocator + Copy>(
 #[derive(Clone, Copy, Debug)]
 pub(crate) struct MarkedName<'a>(pub &'a str);
 
-impl<'a> Spelled for MarkedName<'a> {
+impl<'a> Layout for MarkedName<'a> {
     ghost Value = { List ℕ };
 
     ghost format = { marked_name };
 
     ghost view = { λ m. m.0.now };
 
-    #[tactic(auto, using(crate::proofs::CoreDumpLaws::marked_unique))]
+    #[tactic(auto, using(crate::proofs::CoreDumpLaws::marked_unambiguous))]
     fn laws()
-        ensures { UniqueReading marked_name }
+        ensures { Unambiguous marked_name }
     {}
 }
 

@@ -1,18 +1,18 @@
 // The name section: its builder, its reader and its minimizer.
 ghost use Rattle.std.specs.Prelude.{None, ◌≡◌, ◌++◌, [], false, ⊤, ◌≢◌, IfOk, IfErr, Err, OnOk, OnErr, map};
 ghost use Rattle.wasm_base.specs.Calls.{Adds};
-ghost use Rattle.wasm_base.specs.Cow.{items_of, text_of};
+ghost use Rattle.wasm_base.specs.Cow.{items_of, encoding_of};
 ghost use Rattle.wasm_base.specs.Formats.{fixed, u32};
-ghost use Rattle.wasm_base.specs.Going.{FillsNothing};
-ghost use Rattle.wasm_base.specs.Numbers.{unsigned_text, wide};
+ghost use Rattle.wasm_base.specs.Continuing.{RejectsWhole};
+ghost use Rattle.wasm_base.specs.Numbers.{unsigned_encoding, padded};
 ghost use Rattle.wasm_base.specs.Pieces.{joined};
-ghost use Rattle.wasm_base.specs.Reading.{UniqueReading};
-ghost use Rattle.wasm_base.specs.Texts.{frame_text, FrameFits};
-ghost use Rattle.wasm_custom.specs.Customs.{subsection_text};
-ghost use Rattle.wasm_custom.specs.Lists.{list_text};
-ghost use Rattle.wasm_custom.specs.Names.{name_items, Naming, naming_text, IsNaming, Inside, inside_text, IsInside, NameItem as NameModel, subsection, name_name, name_kind_of as kind_of_id, kind_as, inside, held_by, id_of, name_item_view, name_payload};
+ghost use Rattle.wasm_base.specs.Decoding.{Unambiguous};
+ghost use Rattle.wasm_base.specs.Encodings.{size_prefixed_encoding, HasEncodableSize};
+ghost use Rattle.wasm_custom.specs.Customs.{subsection_encoding};
+ghost use Rattle.wasm_custom.specs.Lists.{list_encoding};
+ghost use Rattle.wasm_custom.specs.Names.{name_items, Naming, naming_encoding, IsNaming, Inside, inside_encoding, IsInside, NameItem as NameModel, subsection, name_name, name_kind_of as kind_of_id, kind_as, inside, held_by, id_of, name_item_view, name_payload};
 ghost use Rattle.wasm_base.specs.declared.refused.Refused.TheVariants.{TooLong};
-ghost use Rattle.wasm_reader_base.specs.Shortest.{AppendsShortest, IsFrontOf, HasEncoding};
+ghost use Rattle.wasm_reader_base.specs.Minimal.{AppendsMinimal, IsFrontOf, HasEncoding};
 ghost use Rattle.wasm_reader_base.specs.declared.fault.ReadFault.TheVariants.{Memory};
 
 use crate::custom_section::CustomSection;
@@ -23,7 +23,7 @@ use crate::subsections::{RawContent, Subsection};
 use std::alloc::{Allocator, Global};
 use wasm_base::{CowSlice, CowStr, Encode, Kind, Lent, R};
 use wasm_reader_base::{
-    ReadFault, Readable, Shorten, Spelled, append_all, frame_since, read_to_end, read_whole,
+    ReadFault, Readable, Shorten, Layout, append_all, prefix_size_since, read_to_end, read_whole,
 };
 
 /// A name map: indices and their names. The calls check neither their order nor whether an index is
@@ -37,7 +37,7 @@ pub struct NameMembers;
 impl ListKind for NameMembers {
     ghost Member = { Naming };
 
-    ghost member_text = { naming_text };
+    ghost member_encoding = { naming_encoding };
 
     ghost is_member = { IsNaming };
 
@@ -51,7 +51,7 @@ impl ListKind for NameMembers {
 impl<A: Allocator> NameMap<A> {
     /// Adds the name of this index.
     pub fn append(&mut self, index: u32, name: &str) -> R<()>
-        ensures { Adds (unsigned_text index ++ frame_text name.now) (FrameFits name.now) self.old self.new result }
+        ensures { Adds (unsigned_encoding index ++ size_prefixed_encoding name.now) (HasEncodableSize name.now) self.old self.new result }
     {
         self.add_record(&(index, name))
     }
@@ -68,7 +68,7 @@ pub struct IndirectMembers;
 impl ListKind for IndirectMembers {
     ghost Member = { Inside };
 
-    ghost member_text = { inside_text };
+    ghost member_encoding = { inside_encoding };
 
     ghost is_member = { IsInside };
 
@@ -82,9 +82,9 @@ impl ListKind for IndirectMembers {
 impl<A: Allocator> IndirectNameMap<A> {
     /// Adds the names of the items in this index.
     pub fn append<B: Allocator>(&mut self, index: u32, names: &NameMap<B>) -> R<()>
-        ensures { Adds (unsigned_text index ++ list_text names.now) ⊤ self.old self.new result }
+        ensures { Adds (unsigned_encoding index ++ list_encoding names.now) ⊤ self.old self.new result }
     {
-        names.holds();
+        names.contains();
         self.add_record(&(index, Lent(names)))
     }
 }
@@ -138,14 +138,14 @@ impl CustomKind for NameItems {
         false
     }
 
-    #[tactic(auto, using(crate::proofs::NameLaws::name_frame))]
-    fn frame_laws() {}
+    #[tactic(auto, using(crate::proofs::NameLaws::name_layout))]
+    fn layout_laws() {}
 }
 
 impl<A: Allocator> NameSection<A> {
     /// Adds a subsection with a name map.
     fn map<B: Allocator>(&mut self, id: u8, names: &NameMap<B>) -> R<()>
-        ensures { Adds (subsection_text id (list_text names.now)) (FrameFits (list_text names.now) × ⊤) self.old self.new result }
+        ensures { Adds (subsection_encoding id (list_encoding names.now)) (HasEncodableSize (list_encoding names.now) × ⊤) self.old self.new result }
     {
         let content = &Entries(names);
         self.add_record(&Subsection { id, content })
@@ -153,7 +153,7 @@ impl<A: Allocator> NameSection<A> {
 
     /// Adds a subsection with an indirect name map.
     fn indirect_map<B: Allocator>(&mut self, id: u8, names: &IndirectNameMap<B>) -> R<()>
-        ensures { Adds (subsection_text id (list_text names.now)) (FrameFits (list_text names.now) × ⊤) self.old self.new result }
+        ensures { Adds (subsection_encoding id (list_encoding names.now)) (HasEncodableSize (list_encoding names.now) × ⊤) self.old self.new result }
     {
         let content = &Entries(names);
         self.add_record(&Subsection { id, content })
@@ -161,7 +161,7 @@ impl<A: Allocator> NameSection<A> {
 
     /// Adds the name of the module.
     pub fn module(&mut self, name: &str) -> R<()>
-        ensures { Adds (subsection_text 0 (frame_text name.now)) (FrameFits (frame_text name.now) × FrameFits name.now) self.old self.new result }
+        ensures { Adds (subsection_encoding 0 (size_prefixed_encoding name.now)) (HasEncodableSize (size_prefixed_encoding name.now) × HasEncodableSize name.now) self.old self.new result }
     {
         self.add_record(&Subsection {
             id: 0,
@@ -171,98 +171,98 @@ impl<A: Allocator> NameSection<A> {
 
     /// Adds the names of functions.
     pub fn functions<B: Allocator>(&mut self, names: &NameMap<B>) -> R<()>
-        ensures { Adds (subsection_text 1 (list_text names.now)) (FrameFits (list_text names.now) × ⊤) self.old self.new result }
+        ensures { Adds (subsection_encoding 1 (list_encoding names.now)) (HasEncodableSize (list_encoding names.now) × ⊤) self.old self.new result }
     {
         self.map(1, names)
     }
 
     /// Adds the names of types.
     pub fn types<B: Allocator>(&mut self, names: &NameMap<B>) -> R<()>
-        ensures { Adds (subsection_text 4 (list_text names.now)) (FrameFits (list_text names.now) × ⊤) self.old self.new result }
+        ensures { Adds (subsection_encoding 4 (list_encoding names.now)) (HasEncodableSize (list_encoding names.now) × ⊤) self.old self.new result }
     {
         self.map(4, names)
     }
 
     /// Adds the names of tables.
     pub fn tables<B: Allocator>(&mut self, names: &NameMap<B>) -> R<()>
-        ensures { Adds (subsection_text 5 (list_text names.now)) (FrameFits (list_text names.now) × ⊤) self.old self.new result }
+        ensures { Adds (subsection_encoding 5 (list_encoding names.now)) (HasEncodableSize (list_encoding names.now) × ⊤) self.old self.new result }
     {
         self.map(5, names)
     }
 
     /// Adds the names of memories.
     pub fn memories<B: Allocator>(&mut self, names: &NameMap<B>) -> R<()>
-        ensures { Adds (subsection_text 6 (list_text names.now)) (FrameFits (list_text names.now) × ⊤) self.old self.new result }
+        ensures { Adds (subsection_encoding 6 (list_encoding names.now)) (HasEncodableSize (list_encoding names.now) × ⊤) self.old self.new result }
     {
         self.map(6, names)
     }
 
     /// Adds the names of globals.
     pub fn globals<B: Allocator>(&mut self, names: &NameMap<B>) -> R<()>
-        ensures { Adds (subsection_text 7 (list_text names.now)) (FrameFits (list_text names.now) × ⊤) self.old self.new result }
+        ensures { Adds (subsection_encoding 7 (list_encoding names.now)) (HasEncodableSize (list_encoding names.now) × ⊤) self.old self.new result }
     {
         self.map(7, names)
     }
 
     /// Adds the names of element segments.
     pub fn elements<B: Allocator>(&mut self, names: &NameMap<B>) -> R<()>
-        ensures { Adds (subsection_text 8 (list_text names.now)) (FrameFits (list_text names.now) × ⊤) self.old self.new result }
+        ensures { Adds (subsection_encoding 8 (list_encoding names.now)) (HasEncodableSize (list_encoding names.now) × ⊤) self.old self.new result }
     {
         self.map(8, names)
     }
 
     /// Adds the names of data segments.
     pub fn data<B: Allocator>(&mut self, names: &NameMap<B>) -> R<()>
-        ensures { Adds (subsection_text 9 (list_text names.now)) (FrameFits (list_text names.now) × ⊤) self.old self.new result }
+        ensures { Adds (subsection_encoding 9 (list_encoding names.now)) (HasEncodableSize (list_encoding names.now) × ⊤) self.old self.new result }
     {
         self.map(9, names)
     }
 
     /// Adds the names of tags. The same as `tags`.
     pub fn tag<B: Allocator>(&mut self, names: &NameMap<B>) -> R<()>
-        ensures { Adds (subsection_text 11 (list_text names.now)) (FrameFits (list_text names.now) × ⊤) self.old self.new result }
+        ensures { Adds (subsection_encoding 11 (list_encoding names.now)) (HasEncodableSize (list_encoding names.now) × ⊤) self.old self.new result }
     {
         self.tags(names)
     }
 
     /// Adds the names of tags.
     pub fn tags<B: Allocator>(&mut self, names: &NameMap<B>) -> R<()>
-        ensures { Adds (subsection_text 11 (list_text names.now)) (FrameFits (list_text names.now) × ⊤) self.old self.new result }
+        ensures { Adds (subsection_encoding 11 (list_encoding names.now)) (HasEncodableSize (list_encoding names.now) × ⊤) self.old self.new result }
     {
         self.map(11, names)
     }
 
     /// Adds the names of the locals of functions, including parameters.
     pub fn locals<B: Allocator>(&mut self, names: &IndirectNameMap<B>) -> R<()>
-        ensures { Adds (subsection_text 2 (list_text names.now)) (FrameFits (list_text names.now) × ⊤) self.old self.new result }
+        ensures { Adds (subsection_encoding 2 (list_encoding names.now)) (HasEncodableSize (list_encoding names.now) × ⊤) self.old self.new result }
     {
         self.indirect_map(2, names)
     }
 
     /// Adds the names of the labels of functions.
     pub fn labels<B: Allocator>(&mut self, names: &IndirectNameMap<B>) -> R<()>
-        ensures { Adds (subsection_text 3 (list_text names.now)) (FrameFits (list_text names.now) × ⊤) self.old self.new result }
+        ensures { Adds (subsection_encoding 3 (list_encoding names.now)) (HasEncodableSize (list_encoding names.now) × ⊤) self.old self.new result }
     {
         self.indirect_map(3, names)
     }
 
     /// Adds the names of the fields of types.
     pub fn fields<B: Allocator>(&mut self, names: &IndirectNameMap<B>) -> R<()>
-        ensures { Adds (subsection_text 10 (list_text names.now)) (FrameFits (list_text names.now) × ⊤) self.old self.new result }
+        ensures { Adds (subsection_encoding 10 (list_encoding names.now)) (HasEncodableSize (list_encoding names.now) × ⊤) self.old self.new result }
     {
         self.indirect_map(10, names)
     }
 
     /// Adds the names of the parameters of function types.
     pub fn parameters<B: Allocator>(&mut self, names: &IndirectNameMap<B>) -> R<()>
-        ensures { Adds (subsection_text 12 (list_text names.now)) (FrameFits (list_text names.now) × ⊤) self.old self.new result }
+        ensures { Adds (subsection_encoding 12 (list_encoding names.now)) (HasEncodableSize (list_encoding names.now) × ⊤) self.old self.new result }
     {
         self.indirect_map(12, names)
     }
 
     /// Adds the names of the parameters of tags.
     pub fn tag_parameters<B: Allocator>(&mut self, names: &IndirectNameMap<B>) -> R<()>
-        ensures { Adds (subsection_text 13 (list_text names.now)) (FrameFits (list_text names.now) × ⊤) self.old self.new result }
+        ensures { Adds (subsection_encoding 13 (list_encoding names.now)) (HasEncodableSize (list_encoding names.now) × ⊤) self.old self.new result }
     {
         self.indirect_map(13, names)
     }
@@ -270,7 +270,7 @@ impl<A: Allocator> NameSection<A> {
     /// Adds a subsection of this id, whose content is already encoded. The call does not check the
     /// content.
     pub fn raw(&mut self, id: u8, content: &[u8]) -> R<()>
-        ensures { Adds (subsection_text id content.now) (FrameFits content.now × ⊤) self.old self.new result }
+        ensures { Adds (subsection_encoding id content.now) (HasEncodableSize content.now × ⊤) self.old self.new result }
     {
         self.add_record(&Subsection {
             id,
@@ -280,7 +280,7 @@ impl<A: Allocator> NameSection<A> {
 
     /// Returns the section as a custom section that borrows the entries, and allocates nothing.
     pub fn as_custom(&self) -> CustomSection<'_>
-        ensures name { text_of result.name ≡ name_name }
+        ensures name { encoding_of result.name ≡ name_name }
         ensures bytes { items_of result.bytes ≡ joined self.now }
     {
         CustomSection {
@@ -342,8 +342,8 @@ fn fill_subsection<'a, A: Allocator + Copy + 'a>(
     bytes: &'a [u8],
     alloc: A,
 ) -> Result<NameItem<'a, A>, ReadFault>
-    ensures found { IfOk result (λ x. inside (kind_as kind) id wide bytes.now (name_item_view x)) }
-    ensures none { IfErr result (λ e. e ≢ Memory → FillsNothing (inside (kind_as kind) id) bytes.now) }
+    ensures found { IfOk result (λ x. inside (kind_as kind) id padded bytes.now (name_item_view x)) }
+    ensures none { IfErr result (λ e. e ≢ Memory → RejectsWhole (inside (kind_as kind) id) bytes.now) }
 {
     match kind {
         NameKind::Module => {
@@ -362,21 +362,21 @@ fn fill_subsection<'a, A: Allocator + Copy + 'a>(
     }
 }
 
-impl<'a, A: Allocator> Spelled for NameItem<'a, A> {
+impl<'a, A: Allocator> Layout for NameItem<'a, A> {
     ghost Value = { NameModel };
 
     ghost format = { subsection };
 
     ghost view = { name_item_view };
 
-    #[tactic(auto, using(crate::proofs::NameLaws::subsection_unique))]
+    #[tactic(auto, using(crate::proofs::NameLaws::subsection_unambiguous))]
     fn laws()
-        ensures { UniqueReading subsection }
+        ensures { Unambiguous subsection }
     {}
 }
 
 impl<'a, A: Allocator + Copy + 'a> Readable<'a, A> for NameItem<'a, A> {
-    #[tactic(auto, using(crate::proofs::NameLaws::subsection_reads))]
+    #[tactic(auto, using(crate::proofs::NameLaws::subsection_decodes))]
     fn read(bytes: &'a [u8], alloc: A) -> Result<(NameItem<'a, A>, &'a [u8]), ReadFault> {
         let (id, rest) = <u8 as Readable<'a, A>>::read(bytes, alloc)?;
         let (content, rest) = <&'a [u8] as Readable<'a, A>>::read(rest, alloc)?;
@@ -395,8 +395,8 @@ pub fn read_names<'a, A: Allocator + Copy + 'a>(
     bytes: &'a [u8],
     alloc: A,
 ) -> Result<Vec<NameItem<'a, A>, A>, ReadFault>
-    ensures found { IfOk result (λ x. name_payload wide bytes.now (map name_item_view x.items)) }
-    ensures none { IfErr result (λ e. e ≢ Memory → FillsNothing name_payload bytes.now) }
+    ensures found { IfOk result (λ x. name_payload padded bytes.now (map name_item_view x.items)) }
+    ensures none { IfErr result (λ e. e ≢ Memory → RejectsWhole name_payload bytes.now) }
 {
     let rest = after_name("name", bytes, alloc)?;
     let items = read_to_end::<'a, NameItem<'a, A>, A>(rest, alloc)?;
@@ -418,17 +418,17 @@ impl<'a, A: Allocator> NameItem<'a, A> {
 
     /// Appends the content of the subsection, without its size prefix.
     #[tactic(auto, using(crate::proofs::NameLaws::module_appended, crate::proofs::NameLaws::map_appended, crate::proofs::NameLaws::indirect_appended, crate::proofs::NameLaws::other_appended, crate::proofs::NameLaws::module_encoded, crate::proofs::NameLaws::map_encoded, crate::proofs::NameLaws::indirect_encoded))]
-    fn append_content<B: Allocator>(&self, out: &mut Vec<u8, B>) -> R<()>
-        ensures ok { OnOk result (AppendsShortest (inside (held_by (name_item_view self.now)) (id_of (name_item_view self.now))) (name_item_view self.now) out.old.items out.new.items) }
-        ensures front { IsFrontOf out.old.items out.new.items }
+    fn append_content<B: Allocator>(&self, sink: &mut Vec<u8, B>) -> R<()>
+        ensures ok { OnOk result (AppendsMinimal (inside (held_by (name_item_view self.now)) (id_of (name_item_view self.now))) (name_item_view self.now) sink.old.items sink.new.items) }
+        ensures front { IsFrontOf sink.old.items sink.new.items }
         ensures too_long { HasEncoding (inside (held_by (name_item_view self.now)) (id_of (name_item_view self.now))) (name_item_view self.now) → result ≢ Err TooLong }
     {
         match self {
-            NameItem::Module(name) => name.write_minimal(out),
-            NameItem::Map { names, .. } => names.write_minimal(out),
-            NameItem::Indirect { maps, .. } => maps.write_minimal(out),
+            NameItem::Module(name) => name.write_minimal(sink),
+            NameItem::Map { names, .. } => names.write_minimal(sink),
+            NameItem::Indirect { maps, .. } => maps.write_minimal(sink),
             NameItem::Other { bytes, .. } => {
-                out.extend_from_slice(bytes)?;
+                sink.extend_from_slice(bytes)?;
                 Ok(())
             }
         }
@@ -436,41 +436,41 @@ impl<'a, A: Allocator> NameItem<'a, A> {
 }
 
 impl<'a, A: Allocator> Shorten for NameItem<'a, A> {
-    #[tactic(auto, using(crate::proofs::NameLaws::subsection_appended, crate::proofs::NameLaws::held_encoded, crate::proofs::NameLaws::held_fits))]
-    fn write_minimal<B: Allocator>(&self, out: &mut Vec<u8, B>) -> R<()> {
-        self.id().encode(out)?;
-        let start = out.len();
-        self.append_content(out)?;
-        frame_since(out, start)
+    #[tactic(auto, using(crate::proofs::NameLaws::subsection_appended, crate::proofs::NameLaws::held_encoded, crate::proofs::NameLaws::held_encodable))]
+    fn write_minimal<B: Allocator>(&self, sink: &mut Vec<u8, B>) -> R<()> {
+        self.id().encode(sink)?;
+        let start = sink.len();
+        self.append_content(sink)?;
+        prefix_size_since(sink, start)
     }
 }
 
 /// Writes the bytes that [`append_names`] appends. After an error, part of them may follow the old
 /// bytes.
 #[tactic(auto, using(crate::proofs::NameLaws::names_appended, crate::proofs::NameLaws::names_encoded))]
-fn write_names<A: Allocator, B: Allocator>(items: &[NameItem<'_, A>], out: &mut Vec<u8, B>) -> R<()>
-    ensures ok { OnOk result (AppendsShortest name_payload (map name_item_view items.now) out.old.items out.new.items) }
-    ensures front { IsFrontOf out.old.items out.new.items }
+fn write_names<A: Allocator, B: Allocator>(items: &[NameItem<'_, A>], sink: &mut Vec<u8, B>) -> R<()>
+    ensures ok { OnOk result (AppendsMinimal name_payload (map name_item_view items.now) sink.old.items sink.new.items) }
+    ensures front { IsFrontOf sink.old.items sink.new.items }
     ensures too_long { HasEncoding name_payload (map name_item_view items.now) → result ≢ Err TooLong }
 {
-    "name".encode(out)?;
-    append_all(items, out)
+    "name".encode(sink)?;
+    append_all(items, sink)
 }
 
 /// Appends the minimal encoding of the payload of a name section of these subsections. On an error,
 /// the sink is unchanged.
 pub fn append_names<A: Allocator, B: Allocator>(
     items: &[NameItem<'_, A>],
-    out: &mut Vec<u8, B>,
+    sink: &mut Vec<u8, B>,
 ) -> R<()>
-    ensures ok { OnOk result (AppendsShortest name_payload (map name_item_view items.now) out.old.items out.new.items) }
-    ensures err { OnErr result (out.new.items ≡ out.old.items) }
+    ensures ok { OnOk result (AppendsMinimal name_payload (map name_item_view items.now) sink.old.items sink.new.items) }
+    ensures err { OnErr result (sink.new.items ≡ sink.old.items) }
     ensures too_long { HasEncoding name_payload (map name_item_view items.now) → result ≢ Err TooLong }
 {
-    let start = out.len();
-    let written = write_names(items, out);
+    let start = sink.len();
+    let written = write_names(items, sink);
     if written.is_err() {
-        out.truncate(start);
+        sink.truncate(start);
     }
     written
 }

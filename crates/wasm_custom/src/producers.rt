@@ -2,17 +2,17 @@
 ghost use Rattle.std.specs.Prelude.{None, ◌≡◌, ◌++◌, [], true, ⊤, ◌≢◌, IfOk, IfErr, Err, OnOk, OnErr, map};
 ghost use Rattle.wasm_base.specs.Calls.{Adds};
 ghost use Rattle.wasm_base.specs.Formats.{fixed};
-ghost use Rattle.wasm_base.specs.Going.{FillsNothing};
-ghost use Rattle.wasm_base.specs.Numbers.{wide};
-ghost use Rattle.wasm_base.specs.Reading.{UniqueReading};
-ghost use Rattle.wasm_base.specs.Texts.{frame_text, FrameFits};
-ghost use Rattle.wasm_custom.specs.Lists.{list_text};
-ghost use Rattle.wasm_custom.specs.Producers.{field_items, Producer, producer_text, IsProducer, Field, field, producers_name, field_view, producers_payload};
+ghost use Rattle.wasm_base.specs.Continuing.{RejectsWhole};
+ghost use Rattle.wasm_base.specs.Numbers.{padded};
+ghost use Rattle.wasm_base.specs.Decoding.{Unambiguous};
+ghost use Rattle.wasm_base.specs.Encodings.{size_prefixed_encoding, HasEncodableSize};
+ghost use Rattle.wasm_custom.specs.Lists.{list_encoding};
+ghost use Rattle.wasm_custom.specs.Producers.{field_items, Producer, producer_encoding, IsProducer, Field, field, producers_name, field_view, producers_payload};
 ghost use Rattle.wasm_base.specs.declared.refused.Refused.TheVariants.{TooLong};
-ghost use Rattle.wasm_reader_base.specs.Shortest.{AppendsShortest, HasEncoding};
+ghost use Rattle.wasm_reader_base.specs.Minimal.{AppendsMinimal, HasEncoding};
 ghost use Rattle.wasm_reader_base.specs.declared.fault.ReadFault.TheVariants.{Memory};
 
-use crate::counted::{ItemsAs, ReadsItems, append_counted, read_counted};
+use crate::counted::{ItemsAs, DecodesItems, append_counted, read_counted};
 use crate::entries::{CustomEntries, CustomKind};
 use crate::lists::{CountedList, ListKind};
 use std::alloc::{Allocator, Global};
@@ -29,7 +29,7 @@ pub struct ValueMembers;
 impl ListKind for ValueMembers {
     ghost Member = { Producer };
 
-    ghost member_text = { producer_text };
+    ghost member_encoding = { producer_encoding };
 
     ghost is_member = { IsProducer };
 
@@ -43,7 +43,7 @@ impl ListKind for ValueMembers {
 impl<A: Allocator> ProducersField<A> {
     /// Adds a value.
     pub fn value(&mut self, name: &str, version: &str) -> R<()>
-        ensures { Adds (frame_text name.now ++ frame_text version.now) (FrameFits name.now × FrameFits version.now) self.old self.new result }
+        ensures { Adds (size_prefixed_encoding name.now ++ size_prefixed_encoding version.now) (HasEncodableSize name.now × HasEncodableSize version.now) self.old self.new result }
     {
         self.add_record(&(name, version))
     }
@@ -96,14 +96,14 @@ impl CustomKind for ProducerItems {
         true
     }
 
-    #[tactic(auto, using(crate::proofs::ProducerLaws::producer_frame))]
-    fn frame_laws() {}
+    #[tactic(auto, using(crate::proofs::ProducerLaws::producer_layout))]
+    fn layout_laws() {}
 }
 
 impl<A: Allocator> ProducersSection<A> {
     /// Adds a field, such as `language`, `processed-by` or `sdk`.
     pub fn field<B: Allocator>(&mut self, name: &str, values: &ProducersField<B>) -> R<()>
-        ensures { Adds (frame_text name.now ++ list_text values.now) (FrameFits name.now × ⊤) self.old self.new result }
+        ensures { Adds (size_prefixed_encoding name.now ++ list_encoding values.now) (HasEncodableSize name.now × ⊤) self.old self.new result }
     {
         self.add_record(&(name, Lent(values)))
     }
@@ -116,20 +116,20 @@ impl<'a, A: Allocator> ItemsAs<(&'a str, Vec<(&'a str, &'a str), A>)> for Produc
 
     ghost view = { field_view };
 
-    #[tactic(auto, using(crate::proofs::ProducerLaws::field_unique))]
-    fn alone()
-        ensures { UniqueReading field }
+    #[tactic(auto, using(crate::proofs::ProducerLaws::field_unambiguous))]
+    fn unique()
+        ensures { Unambiguous field }
     {}
 
     fn append_item<B: Allocator>(
         item: &(&'a str, Vec<(&'a str, &'a str), A>),
-        out: &mut Vec<u8, B>,
+        sink: &mut Vec<u8, B>,
     ) -> R<()> {
-        item.write_minimal(out)
+        item.write_minimal(sink)
     }
 }
 
-impl<'a, A: Allocator + Copy + 'a> ReadsItems<'a, (&'a str, Vec<(&'a str, &'a str), A>), A>
+impl<'a, A: Allocator + Copy + 'a> DecodesItems<'a, (&'a str, Vec<(&'a str, &'a str), A>), A>
     for ProducerItems {
     fn read_item(
         bytes: &'a [u8],
@@ -149,8 +149,8 @@ pub fn read_producers<'a, A: Allocator + Copy + 'a>(
     bytes: &'a [u8],
     alloc: A,
 ) -> Result<Vec<(&'a str, Vec<(&'a str, &'a str), A>), A>, ReadFault>
-    ensures found { IfOk result (λ x. producers_payload wide bytes.now (map field_view x.items)) }
-    ensures none { IfErr result (λ e. e ≢ Memory → FillsNothing producers_payload bytes.now) }
+    ensures found { IfOk result (λ x. producers_payload padded bytes.now (map field_view x.items)) }
+    ensures none { IfErr result (λ e. e ≢ Memory → RejectsWhole producers_payload bytes.now) }
 {
     read_counted::<'a, ProducerItems, (&'a str, Vec<(&'a str, &'a str), A>), A>(bytes, alloc)
 }
@@ -159,11 +159,11 @@ pub fn read_producers<'a, A: Allocator + Copy + 'a>(
 /// the sink is unchanged.
 pub fn append_producers<'a, A: Allocator, B: Allocator>(
     fields: &Vec<(&'a str, Vec<(&'a str, &'a str), A>), A>,
-    out: &mut Vec<u8, B>,
+    sink: &mut Vec<u8, B>,
 ) -> R<()>
-    ensures ok { OnOk result (AppendsShortest producers_payload (map field_view fields.now.items) out.old.items out.new.items) }
-    ensures err { OnErr result (out.new.items ≡ out.old.items) }
+    ensures ok { OnOk result (AppendsMinimal producers_payload (map field_view fields.now.items) sink.old.items sink.new.items) }
+    ensures err { OnErr result (sink.new.items ≡ sink.old.items) }
     ensures too_long { HasEncoding producers_payload (map field_view fields.now.items) → result ≢ Err TooLong }
 {
-    append_counted::<ProducerItems, (&'a str, Vec<(&'a str, &'a str), A>), _>(fields, out)
+    append_counted::<ProducerItems, (&'a str, Vec<(&'a str, &'a str), A>), _>(fields, sink)
 }

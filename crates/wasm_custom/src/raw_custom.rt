@@ -1,8 +1,8 @@
 // Custom sections of raw bytes.
 ghost use Rattle.std.specs.Prelude.{ℕ, List, ⊤};
-ghost use Rattle.wasm_base.specs.Calls.{ReadsBackBoth};
+ghost use Rattle.wasm_base.specs.Calls.{DecodesBackBoth};
 ghost use Rattle.wasm_base.specs.Formats.{custom};
-ghost use Rattle.wasm_base.specs.Numbers.{shortest, wide};
+ghost use Rattle.wasm_base.specs.Numbers.{minimal, padded};
 
 use std::alloc::Allocator;
 use wasm_base::{Encode, R, Section, SectionId};
@@ -18,11 +18,11 @@ pub struct RawCustomSection<'a>(pub &'a [u8]);
 
 /// Encodes the bytes as they are.
 impl Encode for RawCustomSection<'_> {
-    ghost text = { λ s. s.0.now };
+    ghost encoding = { λ s. s.0.now };
 
-    ghost fits = { λ _. ⊤ };
+    ghost encodable = { λ _. ⊤ };
 
-    ghost reading = { λ s. ReadsBackBoth custom (custom shortest s.0.now) (custom wide s.0.now) s.0.now };
+    ghost decoding = { λ s. DecodesBackBoth custom (custom minimal s.0.now) (custom padded s.0.now) s.0.now };
 
     fn encode<A: Allocator>(&self, sink: &mut Vec<u8, A>) -> R<()> {
         sink.extend_from_slice(self.0)?;
@@ -33,9 +33,9 @@ impl Encode for RawCustomSection<'_> {
 /// The payload is the bytes after their size prefix.
 impl Section for RawCustomSection<'_> {
     ghost use Rattle.wasm_base.specs.Formats.{custom};
-    ghost use Rattle.wasm_base.specs.Numbers.{shortest};
+    ghost use Rattle.wasm_base.specs.Numbers.{minimal};
     ghost use Rattle.wasm_base.specs.SectionId.{number_of};
-    ghost use Rattle.wasm_base.specs.Texts.{IsFrameOf};
+    ghost use Rattle.wasm_base.specs.Encodings.{IsSizePrefixed};
     ghost use Rattle.wasm_base.specs.declared.section_id.SectionId.TheVariants as ids;
 
     ghost id_of = { λ _. number_of ids.Custom };
@@ -44,15 +44,15 @@ impl Section for RawCustomSection<'_> {
 
     ghost format = { custom };
 
-    ghost says = { λ s. custom shortest s.0.now };
+    ghost says = { λ s. custom minimal s.0.now };
 
-    ghost payload = { λ s. IsFrameOf s.0.now };
+    ghost payload = { λ s. IsSizePrefixed s.0.now };
 
     fn id(&self) -> u8 {
         SectionId::Custom.into()
     }
 
-    ghost framed = { λ s bytes fits pays. pays };
+    ghost sized = { λ s bytes encodable pays. pays };
 
-    ghost reads_back = { λ s promised. promised.plain };
+    ghost decodes_back = { λ s promised. promised.plain };
 }

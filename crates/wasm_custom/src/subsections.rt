@@ -1,21 +1,21 @@
 // Subsections: an id, and a size-prefixed content.
 ghost use Rattle.std.specs.Prelude.{◌≡◌, ◌≢◌, ◌+◌, ◌≤◌, length, vec_len, vec_capacity, Err, IsOk, ⊤};
 ghost use Rattle.wasm_base.specs.Calls.{Appends};
-ghost use Rattle.wasm_base.specs.Numbers.{unsigned_text};
-ghost use Rattle.wasm_base.specs.Texts.{longest, frame_text, FrameFits};
+ghost use Rattle.wasm_base.specs.Numbers.{unsigned_encoding};
+ghost use Rattle.wasm_base.specs.Encodings.{longest, size_prefixed_encoding, HasEncodableSize};
 ghost use Rattle.wasm_base.specs.declared.refused.Refused.TheVariants.{TooLong};
-ghost use Rattle.wasm_custom.specs.Customs.{subsection_text};
+ghost use Rattle.wasm_custom.specs.Customs.{subsection_encoding};
 
 use std::alloc::Allocator;
-use wasm_base::{Encode, R, begin_frame, encoding_size};
+use wasm_base::{Encode, R, begin_size_prefixed, encoding_size};
 
 /// The content of a subsection, whose size is known before it is encoded.
 pub(crate) trait Content: Encode {
     /// Returns the length of the encoding in bytes if a size prefix can represent it, and a number
     /// above 4294967295 otherwise.
     fn size(&self) -> usize
-        ensures told { result ≤ longest → result ≡ length (Self.text self.now) }
-        ensures small { length (Self.text self.now) ≤ longest → result ≡ length (Self.text self.now) };
+        ensures known { result ≤ longest → result ≡ length (Self.encoding self.now) }
+        ensures small { length (Self.encoding self.now) ≤ longest → result ≡ length (Self.encoding self.now) };
 }
 
 /// Encodes the name.
@@ -35,9 +35,9 @@ pub(crate) struct RawContent<'a>(pub &'a [u8]);
 
 /// Encodes the bytes as they are.
 impl Encode for RawContent<'_> {
-    ghost text = { λ s. s.0.now };
+    ghost encoding = { λ s. s.0.now };
 
-    ghost fits = { λ _. ⊤ };
+    ghost encodable = { λ _. ⊤ };
 
     fn encode<A: Allocator>(&self, sink: &mut Vec<u8, A>) -> R<()> {
         sink.extend_from_slice(self.0)?;
@@ -53,10 +53,10 @@ impl Content for RawContent<'_> {
 
 /// Appends the content with its size prefix.
 fn encode_content<T: Content, A: Allocator>(sink: &mut Vec<u8, A>, content: &T) -> R<()>
-    ensures { Appends (frame_text (T.text content.now)) (FrameFits (T.text content.now) × T.fits content.now) sink.old sink.new result }
+    ensures { Appends (size_prefixed_encoding (T.encoding content.now)) (HasEncodableSize (T.encoding content.now) × T.encodable content.now) sink.old sink.new result }
 {
     let start = sink.len();
-    begin_frame(sink, content.size())?;
+    begin_size_prefixed(sink, content.size())?;
     if let Err(refused) = content.encode(sink) {
         sink.truncate(start);
         return Err(refused);
@@ -69,8 +69,8 @@ fn encode_content<T: Content, A: Allocator>(sink: &mut Vec<u8, A>, content: &T) 
 fn reserve_subsection<A: Allocator>(sink: &mut Vec<u8, A>, size: usize) -> R<()>
     ensures same { sink.new.items ≡ sink.old.items }
     ensures memory { result ≢ Err TooLong }
-    ensures room { size ≤ longest
-        → vec_len sink.old + (1 + (length (unsigned_text size) + size)) ≤ vec_capacity sink.old
+    ensures spare { size ≤ longest
+        → vec_len sink.old + (1 + (length (unsigned_encoding size) + size)) ≤ vec_capacity sink.old
         → IsOk result }
     ensures capacity { vec_capacity sink.old ≤ vec_capacity sink.new }
 {
@@ -89,9 +89,9 @@ pub(crate) struct Subsection<'a, T> {
 
 /// Encodes the id, and the content with its size prefix.
 impl<T: Content> Encode for Subsection<'_, T> {
-    ghost text = { λ s. subsection_text s.id (T.text s.content.now) };
+    ghost encoding = { λ s. subsection_encoding s.id (T.encoding s.content.now) };
 
-    ghost fits = { λ s. FrameFits (T.text s.content.now) × T.fits s.content.now };
+    ghost encodable = { λ s. HasEncodableSize (T.encoding s.content.now) × T.encodable s.content.now };
 
     fn encode<A: Allocator>(&self, sink: &mut Vec<u8, A>) -> R<()> {
         reserve_subsection(sink, self.content.size())?;

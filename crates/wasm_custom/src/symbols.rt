@@ -2,21 +2,21 @@
 ghost use Rattle.std.specs.Prelude.{◌≡◌, ◌∷◌, [], IfSome, IsUtf8, ⊤, ◌≢◌, IfOk, IfErr, Err, OnOk, option_map, None, Some};
 ghost use Rattle.wasm_base.specs.Calls.{Adds};
 ghost use Rattle.wasm_base.specs.Formats.{name as name_format, optional};
-ghost use Rattle.wasm_base.specs.Numbers.{wide};
-ghost use Rattle.wasm_base.specs.Reading.{UniqueReading, Reads, ReadsNothing};
-ghost use Rattle.wasm_base.specs.Texts.{frame_text, FrameFits, optional_text};
-ghost use Rattle.wasm_custom.specs.Symbols.{kind_code, indexed_text, of_data_text, definition_text, Symbol as SymbolModel, symbol_text, IsDefinition, IsGivenSymbol, indexed, of_data, has_name as flags_name, has_definition as flags_definition, definition as definition_format, indexed_symbol, data_symbol, symbol, symbol_view};
+ghost use Rattle.wasm_base.specs.Numbers.{padded};
+ghost use Rattle.wasm_base.specs.Decoding.{Unambiguous, Decodes, Rejects};
+ghost use Rattle.wasm_base.specs.Encodings.{size_prefixed_encoding, HasEncodableSize, optional_encoding};
+ghost use Rattle.wasm_custom.specs.Symbols.{kind_code, indexed_encoding, of_data_encoding, definition_encoding, Symbol as SymbolModel, symbol_encoding, IsDefinition, IsGivenSymbol, indexed, of_data, has_name as flags_name, has_definition as flags_definition, definition as definition_format, indexed_symbol, data_symbol, symbol, symbol_view};
 ghost use Rattle.wasm_custom.specs.declared.symbols.DataSymbolDefinition.{DataSymbolDefinition as DefinitionModel};
 ghost use Rattle.wasm_custom.specs.declared.symbols.SymbolKind.TheVariants as kinds;
 ghost use Rattle.wasm_base.specs.declared.refused.Refused.TheVariants.{TooLong};
-ghost use Rattle.wasm_reader_base.specs.Shortest.{AppendsShortest, IsFrontOf, HasEncoding};
+ghost use Rattle.wasm_reader_base.specs.Minimal.{AppendsMinimal, IsFrontOf, HasEncoding};
 ghost use Rattle.wasm_reader_base.specs.declared.fault.ReadFault.TheVariants.{Memory};
 
 use crate::lists::{CountedList, ListKind};
 use std::alloc::{Allocator, Global};
 use wasm_base::laws::plain_name;
 use wasm_base::{Encode, Optional, R};
-use wasm_reader_base::{ReadFault, Readable, Shorten, Spelled, read_optional};
+use wasm_reader_base::{ReadFault, Readable, Shorten, Layout, read_optional};
 
 /// A symbol table: the symbols of a module, in the order in which they are added. It is encoded as
 /// subsection 8 of a linking section.
@@ -34,7 +34,7 @@ pub struct SymbolMembers;
 impl ListKind for SymbolMembers {
     ghost Member = { SymbolModel };
 
-    ghost member_text = { symbol_text };
+    ghost member_encoding = { symbol_encoding };
 
     ghost is_member = { IsGivenSymbol };
 
@@ -58,9 +58,9 @@ pub struct DataSymbolDefinition {
 
 /// Encodes the index, the offset and the size.
 impl Encode for DataSymbolDefinition {
-    ghost text = { definition_text };
+    ghost encoding = { definition_encoding };
 
-    ghost fits = { λ _. ⊤ };
+    ghost encodable = { λ _. ⊤ };
 
     fn encode<A: Allocator>(&self, sink: &mut Vec<u8, A>) -> R<()> {
         (self.index, self.offset, self.size).encode(sink)
@@ -77,9 +77,9 @@ pub enum SymbolKind {
 
 /// Encodes the kind as one byte.
 impl Encode for SymbolKind {
-    ghost text = { λ kind. kind_code kind ∷ [] };
+    ghost encoding = { λ kind. kind_code kind ∷ [] };
 
-    ghost fits = { λ _. ⊤ };
+    ghost encodable = { λ _. ⊤ };
 
     fn encode<A: Allocator>(&self, sink: &mut Vec<u8, A>) -> R<()> {
         (*self as u8).encode(sink)
@@ -143,7 +143,7 @@ const _: () = prove!(<SymbolTable>::WASM_SYM_NO_STRIP == 0x80);
 impl<A: Allocator> SymbolTable<A> {
     /// Adds a symbol with an index.
     fn indexed(&mut self, kind: SymbolKind, flags: u32, index: u32, name: Option<&str>) -> R<()>
-        ensures { Adds (indexed_text kind flags index (optional_text (λ n. frame_text n.now) name.entry)) (IfSome name.entry (λ n. FrameFits n.now)) self.old self.new result }
+        ensures { Adds (indexed_encoding kind flags index (optional_encoding (λ n. size_prefixed_encoding n.now) name.entry)) (IfSome name.entry (λ n. HasEncodableSize n.now)) self.old self.new result }
     {
         given_name(name);
         self.add_record(&((kind, flags), index, Optional(name)))
@@ -152,21 +152,21 @@ impl<A: Allocator> SymbolTable<A> {
     /// Adds a function. A function has a name if it is defined here, or if `flags` say that its
     /// name is explicit. The call does not check that `name` agrees.
     pub fn function(&mut self, flags: u32, index: u32, name: Option<&str>) -> R<()>
-        ensures { Adds (indexed_text kinds.Function flags index (optional_text (λ n. frame_text n.now) name.entry)) (IfSome name.entry (λ n. FrameFits n.now)) self.old self.new result }
+        ensures { Adds (indexed_encoding kinds.Function flags index (optional_encoding (λ n. size_prefixed_encoding n.now) name.entry)) (IfSome name.entry (λ n. HasEncodableSize n.now)) self.old self.new result }
     {
         self.indexed(SymbolKind::Function, flags, index, name)
     }
 
     /// Adds a global. It has a name in the same cases as in `function`.
     pub fn global(&mut self, flags: u32, index: u32, name: Option<&str>) -> R<()>
-        ensures { Adds (indexed_text kinds.Global flags index (optional_text (λ n. frame_text n.now) name.entry)) (IfSome name.entry (λ n. FrameFits n.now)) self.old self.new result }
+        ensures { Adds (indexed_encoding kinds.Global flags index (optional_encoding (λ n. size_prefixed_encoding n.now) name.entry)) (IfSome name.entry (λ n. HasEncodableSize n.now)) self.old self.new result }
     {
         self.indexed(SymbolKind::Global, flags, index, name)
     }
 
     /// Adds a table. It has a name in the same cases as in `function`.
     pub fn table(&mut self, flags: u32, index: u32, name: Option<&str>) -> R<()>
-        ensures { Adds (indexed_text kinds.Table flags index (optional_text (λ n. frame_text n.now) name.entry)) (IfSome name.entry (λ n. FrameFits n.now)) self.old self.new result }
+        ensures { Adds (indexed_encoding kinds.Table flags index (optional_encoding (λ n. size_prefixed_encoding n.now) name.entry)) (IfSome name.entry (λ n. HasEncodableSize n.now)) self.old self.new result }
     {
         self.indexed(SymbolKind::Table, flags, index, name)
     }
@@ -179,7 +179,7 @@ impl<A: Allocator> SymbolTable<A> {
         name: &str,
         definition: Option<DataSymbolDefinition>,
     ) -> R<()>
-        ensures { Adds (of_data_text flags name.now (optional_text definition_text definition)) (FrameFits name.now) self.old self.new result }
+        ensures { Adds (of_data_encoding flags name.now (optional_encoding definition_encoding definition)) (HasEncodableSize name.now) self.old self.new result }
     {
         given_definition(definition);
         self.add_record(&((0x01u8, flags), name, Optional(definition)))
@@ -230,14 +230,14 @@ fn has_definition(flags: u32) -> bool
 }
 
 /// Decodes a symbol with an index, after the byte of its kind.
-#[tactic(auto, using(crate::proofs::SymbolLaws::indexed_reads))]
+#[tactic(auto, using(crate::proofs::SymbolLaws::indexed_decodes))]
 fn read_indexed<'a, A: Allocator + Copy>(
     kind: SymbolKind,
     bytes: &'a [u8],
     alloc: A,
 ) -> Result<(Symbol<'a>, &'a [u8]), ReadFault>
-    ensures found { IfOk result (λ x. Reads (indexed_symbol kind) wide bytes.now (symbol_view x.0) x.1.now) }
-    ensures none { IfErr result (λ e. e ≢ Memory → ReadsNothing (indexed_symbol kind) wide bytes.now) }
+    ensures found { IfOk result (λ x. Decodes (indexed_symbol kind) padded bytes.now (symbol_view x.0) x.1.now) }
+    ensures none { IfErr result (λ e. e ≢ Memory → Rejects (indexed_symbol kind) padded bytes.now) }
 {
     let (flags, rest) = <u32 as Readable<'a, A>>::read(bytes, alloc)?;
     let (index, rest) = <u32 as Readable<'a, A>>::read(rest, alloc)?;
@@ -250,19 +250,19 @@ fn read_indexed<'a, A: Allocator + Copy>(
     Ok((symbol, rest))
 }
 
-impl Spelled for DataSymbolDefinition {
+impl Layout for DataSymbolDefinition {
     ghost Value = { DefinitionModel };
 
     ghost format = { definition_format };
 
     ghost view = { λ definition. definition };
 
-    #[tactic(auto, using(crate::proofs::SymbolLaws::definition_unique))]
+    #[tactic(auto, using(crate::proofs::SymbolLaws::definition_unambiguous))]
     fn laws() {}
 }
 
 impl<'a, A: Allocator + Copy> Readable<'a, A> for DataSymbolDefinition {
-    #[tactic(auto, using(crate::proofs::SymbolLaws::definition_reads))]
+    #[tactic(auto, using(crate::proofs::SymbolLaws::definition_decodes))]
     fn read(bytes: &'a [u8], alloc: A) -> Result<(DataSymbolDefinition, &'a [u8]), ReadFault> {
         let ((index, (offset, size)), rest) = <(u32, (u32, u32)) as Readable<'a, A>>::read(
             bytes, alloc,
@@ -283,8 +283,8 @@ fn read_definition<'a, A: Allocator + Copy>(
     bytes: &'a [u8],
     alloc: A,
 ) -> Result<(Option<DataSymbolDefinition>, &'a [u8]), ReadFault>
-    ensures found { IfOk result (λ x. Reads (optional given definition_format) wide bytes.now x.0 x.1.now) }
-    ensures none { IfErr result (λ e. e ≢ Memory → ReadsNothing (optional given definition_format) wide bytes.now) }
+    ensures found { IfOk result (λ x. Decodes (optional given definition_format) padded bytes.now x.0 x.1.now) }
+    ensures none { IfErr result (λ e. e ≢ Memory → Rejects (optional given definition_format) padded bytes.now) }
 {
     if given {
         let (definition, rest) = <DataSymbolDefinition as Readable<'a, A>>::read(bytes, alloc)?;
@@ -300,8 +300,8 @@ fn read_data<'a, A: Allocator + Copy>(
     bytes: &'a [u8],
     alloc: A,
 ) -> Result<(Symbol<'a>, &'a [u8]), ReadFault>
-    ensures found { IfOk result (λ x. Reads data_symbol wide bytes.now (symbol_view x.0) x.1.now) }
-    ensures none { IfErr result (λ e. e ≢ Memory → ReadsNothing data_symbol wide bytes.now) }
+    ensures found { IfOk result (λ x. Decodes data_symbol padded bytes.now (symbol_view x.0) x.1.now) }
+    ensures none { IfErr result (λ e. e ≢ Memory → Rejects data_symbol padded bytes.now) }
 {
     let (flags, rest) = <u32 as Readable<'a, A>>::read(bytes, alloc)?;
     let (name, rest) = <&'a str as Readable<'a, A>>::read(rest, alloc)?;
@@ -316,16 +316,16 @@ fn read_data<'a, A: Allocator + Copy>(
     ))
 }
 
-impl<'a> Spelled for Symbol<'a> {
+impl<'a> Layout for Symbol<'a> {
     ghost Value = { SymbolModel };
 
     ghost format = { symbol };
 
     ghost view = { symbol_view };
 
-    #[tactic(auto, using(crate::proofs::SymbolLaws::symbol_unique))]
+    #[tactic(auto, using(crate::proofs::SymbolLaws::symbol_unambiguous))]
     fn laws()
-        ensures { UniqueReading symbol }
+        ensures { Unambiguous symbol }
     {}
 }
 
@@ -357,13 +357,13 @@ impl<'a, A: Allocator + Copy> Readable<'a, A> for Symbol<'a> {
 
 /// Appends the name if the flags say that the encoding has one.
 #[tactic(auto, using(crate::proofs::SymbolLaws::name_appended, crate::proofs::SymbolLaws::no_name_appended, crate::proofs::SymbolLaws::name_encoded))]
-fn append_name<B: Allocator>(flags: u32, name: Option<&str>, out: &mut Vec<u8, B>) -> R<()>
-    ensures ok { OnOk result (AppendsShortest (optional (flags_name flags) name_format) (option_map (λ n. n.now) name.entry) out.old.items out.new.items) }
-    ensures front { IsFrontOf out.old.items out.new.items }
+fn append_name<B: Allocator>(flags: u32, name: Option<&str>, sink: &mut Vec<u8, B>) -> R<()>
+    ensures ok { OnOk result (AppendsMinimal (optional (flags_name flags) name_format) (option_map (λ n. n.now) name.entry) sink.old.items sink.new.items) }
+    ensures front { IsFrontOf sink.old.items sink.new.items }
     ensures too_long { HasEncoding (optional (flags_name flags) name_format) (option_map (λ n. n.now) name.entry) → result ≢ Err TooLong }
 {
     match name {
-        Some(name) => name.write_minimal(out),
+        Some(name) => name.write_minimal(sink),
         None => Ok(()),
     }
 }
@@ -375,16 +375,16 @@ fn append_indexed<B: Allocator>(
     flags: u32,
     index: u32,
     name: Option<&str>,
-    out: &mut Vec<u8, B>,
+    sink: &mut Vec<u8, B>,
 ) -> R<()>
-    ensures ok { OnOk result (AppendsShortest symbol (indexed kind flags index (option_map (λ n. n.now) name.entry)) out.old.items out.new.items) }
-    ensures front { IsFrontOf out.old.items out.new.items }
+    ensures ok { OnOk result (AppendsMinimal symbol (indexed kind flags index (option_map (λ n. n.now) name.entry)) sink.old.items sink.new.items) }
+    ensures front { IsFrontOf sink.old.items sink.new.items }
     ensures too_long { HasEncoding symbol (indexed kind flags index (option_map (λ n. n.now) name.entry)) → result ≢ Err TooLong }
 {
-    kind.encode(out)?;
-    flags.write_minimal(out)?;
-    index.write_minimal(out)?;
-    append_name(flags, name, out)
+    kind.encode(sink)?;
+    flags.write_minimal(sink)?;
+    index.write_minimal(sink)?;
+    append_name(flags, name, sink)
 }
 
 /// Appends the definition if the flags say that the encoding has one.
@@ -392,14 +392,14 @@ fn append_indexed<B: Allocator>(
 fn append_definition<B: Allocator>(
     flags: u32,
     definition: Option<DataSymbolDefinition>,
-    out: &mut Vec<u8, B>,
+    sink: &mut Vec<u8, B>,
 ) -> R<()>
-    ensures ok { OnOk result (AppendsShortest (optional (flags_definition flags) definition_format) definition out.old.items out.new.items) }
-    ensures front { IsFrontOf out.old.items out.new.items }
+    ensures ok { OnOk result (AppendsMinimal (optional (flags_definition flags) definition_format) definition sink.old.items sink.new.items) }
+    ensures front { IsFrontOf sink.old.items sink.new.items }
     ensures too_long { HasEncoding (optional (flags_definition flags) definition_format) definition → result ≢ Err TooLong }
 {
     match definition {
-        Some(definition) => definition.encode(out),
+        Some(definition) => definition.encode(sink),
         None => Ok(()),
     }
 }
@@ -410,35 +410,35 @@ fn append_data<B: Allocator>(
     flags: u32,
     name: &str,
     definition: Option<DataSymbolDefinition>,
-    out: &mut Vec<u8, B>,
+    sink: &mut Vec<u8, B>,
 ) -> R<()>
-    ensures ok { OnOk result (AppendsShortest symbol (of_data flags name.now definition) out.old.items out.new.items) }
-    ensures front { IsFrontOf out.old.items out.new.items }
+    ensures ok { OnOk result (AppendsMinimal symbol (of_data flags name.now definition) sink.old.items sink.new.items) }
+    ensures front { IsFrontOf sink.old.items sink.new.items }
     ensures too_long { HasEncoding symbol (of_data flags name.now definition) → result ≢ Err TooLong }
 {
-    0x01u8.encode(out)?;
-    flags.write_minimal(out)?;
-    name.write_minimal(out)?;
-    append_definition(flags, definition, out)
+    0x01u8.encode(sink)?;
+    flags.write_minimal(sink)?;
+    name.write_minimal(sink)?;
+    append_definition(flags, definition, sink)
 }
 
 impl<'a> Shorten for Symbol<'a> {
-    fn write_minimal<B: Allocator>(&self, out: &mut Vec<u8, B>) -> R<()> {
+    fn write_minimal<B: Allocator>(&self, sink: &mut Vec<u8, B>) -> R<()> {
         match *self {
             Symbol::Function { flags, index, name } => {
-                append_indexed(SymbolKind::Function, flags, index, name, out)
+                append_indexed(SymbolKind::Function, flags, index, name, sink)
             }
             Symbol::Global { flags, index, name } => {
-                append_indexed(SymbolKind::Global, flags, index, name, out)
+                append_indexed(SymbolKind::Global, flags, index, name, sink)
             }
             Symbol::Table { flags, index, name } => {
-                append_indexed(SymbolKind::Table, flags, index, name, out)
+                append_indexed(SymbolKind::Table, flags, index, name, sink)
             }
             Symbol::DataSymbol {
                 flags,
                 name,
                 definition,
-            } => append_data(flags, name, definition, out),
+            } => append_data(flags, name, definition, sink),
         }
     }
 }

@@ -1,3 +1,3 @@
 pub mod FixedBytes
 pub mod ImmediateLaws
-pub mod ImmediateTexts
+pub mod ImmediateEncodings

@@ -2,9 +2,9 @@
 -- and vectors.
 use Rattle.std.specs.Prelude.{ℕ, zero, suc, ◌-◌, ◌^◌, ℤ, pos, negsuc, List, [], ◌∷◌, ◌++◌, Option, Some, None, Bool, true, false}
 use Rattle.std.specs.Int.RustNames.{bit_or}
-use Rattle.wasm_base.specs.Numbers.{unsigned_text, signed_text}
-use Rattle.wasm_base.specs.Texts.{little_endian_text, optional_text}
-use Rattle.wasm_base.specs.Types.{val_text}
+use Rattle.wasm_base.specs.Numbers.{unsigned_encoding, signed_encoding}
+use Rattle.wasm_base.specs.Encodings.{little_endian_encoding, optional_encoding}
+use Rattle.wasm_base.specs.Types.{val_encoding}
 use Rattle.wasm_immediates.specs.declared.memory.Ordering.{Ordering}
 use Rattle.wasm_immediates.specs.declared.memory.Ordering.TheVariants.{AcqRel, SeqCst}
 use Rattle.wasm_immediates.specs.declared.memory.MemArgOrdering.{MemArgOrdering}
@@ -67,31 +67,31 @@ mem_flags m = bit_or (bit_or m.align (where_set (has_ordering m.ordering) 0x10))
 
 -- The encoding of a memory argument: flags, the index if it is encoded, the byte of the ordering if
 -- it is explicit, and the offset.
-abbrev pub mem_arg_text : MemArg → List ℕ
-mem_arg_text m =
-    unsigned_text (mem_flags m) ++ (optional_text unsigned_text (index_of m.target) ++ (optional_text (λ o. mem_ordering_code o ∷ []) m.ordering ++ unsigned_text m.offset))
+abbrev pub mem_arg_encoding : MemArg → List ℕ
+mem_arg_encoding m =
+    unsigned_encoding (mem_flags m) ++ (optional_encoding unsigned_encoding (index_of m.target) ++ (optional_encoding (λ o. mem_ordering_code o ∷ []) m.ordering ++ unsigned_encoding m.offset))
 
 -- ---- blocks, catches and handles
 
 -- The encoding of a block type: 40 without a result, a value type, or a type index as a signed
 -- number. Core specification, Binary Format, Instructions, Control Instructions.
-abbrev pub block_text : BlockType → List ℕ
-block_text blocks.Empty = 0x40 ∷ []
-block_text (blocks.Result ty) = val_text ty
-block_text (blocks.FunctionType index) = signed_text (pos index)
+abbrev pub block_encoding : BlockType → List ℕ
+block_encoding blocks.Empty = 0x40 ∷ []
+block_encoding (blocks.Result ty) = val_encoding ty
+block_encoding (blocks.FunctionType index) = signed_encoding (pos index)
 
 -- The encoding of a catch clause: a byte for its kind, its tag if it has one, and its label.
-abbrev pub catch_text : Catch → List ℕ
-catch_text (One tag label) = 0x00 ∷ (unsigned_text tag ++ unsigned_text label)
-catch_text (OneRef tag label) = 0x01 ∷ (unsigned_text tag ++ unsigned_text label)
-catch_text (All label) = 0x02 ∷ unsigned_text label
-catch_text (AllRef label) = 0x03 ∷ unsigned_text label
+abbrev pub catch_encoding : Catch → List ℕ
+catch_encoding (One tag label) = 0x00 ∷ (unsigned_encoding tag ++ unsigned_encoding label)
+catch_encoding (OneRef tag label) = 0x01 ∷ (unsigned_encoding tag ++ unsigned_encoding label)
+catch_encoding (All label) = 0x02 ∷ unsigned_encoding label
+catch_encoding (AllRef label) = 0x03 ∷ unsigned_encoding label
 
 -- The encoding of a handle clause: a byte for its kind, its tag, and its label if it has one. It is
 -- not in the core specification.
-abbrev pub handle_text : Handle → List ℕ
-handle_text (OnLabel tag label) = 0x00 ∷ (unsigned_text tag ++ unsigned_text label)
-handle_text (OnSwitch tag) = 0x01 ∷ unsigned_text tag
+abbrev pub handle_encoding : Handle → List ℕ
+handle_encoding (OnLabel tag label) = 0x00 ∷ (unsigned_encoding tag ++ unsigned_encoding label)
+handle_encoding (OnSwitch tag) = 0x01 ∷ unsigned_encoding tag
 
 -- ---- vectors of 128 bits
 
@@ -101,5 +101,5 @@ twos_complement bits (pos n) = n
 twos_complement bits (negsuc n) = 2 ^ bits - suc n
 
 -- The encoding of a vector: 16 little-endian bytes in two's complement.
-unfoldable pub vector_text : ℤ → List ℕ
-vector_text v = little_endian_text 16 (twos_complement 128 v)
+unfoldable pub vector_encoding : ℤ → List ℕ
+vector_encoding v = little_endian_encoding 16 (twos_complement 128 v)

@@ -1,2 +1,2 @@
 pub mod Immediates
-pub mod PlainImmediates
+pub mod ImmediateFormats

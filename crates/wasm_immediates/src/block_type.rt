@@ -1,6 +1,6 @@
 // The types of blocks.
 ghost use Rattle.std.specs.Prelude.{⊤};
-ghost use Rattle.wasm_immediates.specs.Immediates.{block_text};
+ghost use Rattle.wasm_immediates.specs.Immediates.{block_encoding};
 
 use std::alloc::Allocator;
 use wasm_base::{Encode, R, ValType};
@@ -18,9 +18,9 @@ pub enum BlockType {
 
 /// Encodes the empty type as 0x40, a result as its value type, and an index as a signed number.
 impl Encode for BlockType {
-    ghost text = { block_text };
+    ghost encoding = { block_encoding };
 
-    ghost fits = { λ _. ⊤ };
+    ghost encodable = { λ _. ⊤ };
 
     fn encode<A: Allocator>(&self, sink: &mut Vec<u8, A>) -> R<()> {
         match *self {

@@ -1,6 +1,6 @@
 // The clauses of instructions that handle exceptions and suspended stacks.
 ghost use Rattle.std.specs.Prelude.{⊤};
-ghost use Rattle.wasm_immediates.specs.Immediates.{catch_text, handle_text};
+ghost use Rattle.wasm_immediates.specs.Immediates.{catch_encoding, handle_encoding};
 
 use std::alloc::Allocator;
 use wasm_base::{Encode, R};
@@ -23,9 +23,9 @@ pub enum Handle {
 
 /// Encodes a clause as its kind in one byte, the tag if it has one, and the label.
 impl Encode for Catch {
-    ghost text = { catch_text };
+    ghost encoding = { catch_encoding };
 
-    ghost fits = { λ _. ⊤ };
+    ghost encodable = { λ _. ⊤ };
 
     fn encode<A: Allocator>(&self, sink: &mut Vec<u8, A>) -> R<()> {
         match *self {
@@ -39,9 +39,9 @@ impl Encode for Catch {
 
 /// Encodes a clause as its kind in one byte, the tag, and the label if it has one.
 impl Encode for Handle {
-    ghost text = { handle_text };
+    ghost encoding = { handle_encoding };
 
-    ghost fits = { λ _. ⊤ };
+    ghost encodable = { λ _. ⊤ };
 
     fn encode<A: Allocator>(&self, sink: &mut Vec<u8, A>) -> R<()> {
         match *self {

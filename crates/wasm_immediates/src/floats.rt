@@ -1,6 +1,6 @@
 // Floats, as their bits.
 ghost use Rattle.std.specs.Prelude.{◌≡◌, ⊤};
-ghost use Rattle.wasm_base.specs.Texts.{little_endian_text};
+ghost use Rattle.wasm_base.specs.Encodings.{little_endian_encoding};
 
 use std::alloc::Allocator;
 use wasm_base::{Encode, R};
@@ -29,9 +29,9 @@ impl Ieee32 {
 
 /// Encodes the bits in four bytes, little-endian.
 impl Encode for Ieee32 {
-    ghost text = { λ float. little_endian_text 4 float.bits };
+    ghost encoding = { λ float. little_endian_encoding 4 float.bits };
 
-    ghost fits = { λ _. ⊤ };
+    ghost encodable = { λ _. ⊤ };
 
     #[tactic(auto, using(crate::proofs::FixedBytes::four_bytes))]
     fn encode<A: Allocator>(&self, sink: &mut Vec<u8, A>) -> R<()> {
@@ -64,9 +64,9 @@ impl Ieee64 {
 
 /// Encodes the bits in eight bytes, little-endian.
 impl Encode for Ieee64 {
-    ghost text = { λ float. little_endian_text 8 float.bits };
+    ghost encoding = { λ float. little_endian_encoding 8 float.bits };
 
-    ghost fits = { λ _. ⊤ };
+    ghost encodable = { λ _. ⊤ };
 
     #[tactic(auto, using(crate::proofs::FixedBytes::eight_bytes))]
     fn encode<A: Allocator>(&self, sink: &mut Vec<u8, A>) -> R<()> {

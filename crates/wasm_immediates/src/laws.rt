@@ -1,14 +1,14 @@
 //! Laws about the formats of immediates, for all byte sequences: each function does nothing, and
 //! its clauses are the law.
 //!
-//! `UniqueReading F` says that the format `F` is unambiguous: at most one value decodes from the
+//! `Unambiguous F` says that the format `F` is unambiguous: at most one value decodes from the
 //! front of any bytes, with minimal and with padded numbers. A value has at most one minimal
-//! encoding. `HasTexts F fits text` says that `text` is the minimal encoding of each value that
+//! encoding. `HasMinimalEncodings F encodable encoding` says that `encoding` is the minimal encoding of each value that
 //! fits.
 ghost use Rattle.std.specs.Prelude.{⊤};
-ghost use Rattle.wasm_base.specs.Reading.{UniqueReading, HasTexts, IsUniqueWide};
-ghost use Rattle.wasm_immediates.specs.Immediates.{mem_arg_text, block_text, catch_text, handle_text, vector_text};
-ghost use Rattle.wasm_immediates.specs.PlainImmediates.{
+ghost use Rattle.wasm_base.specs.Decoding.{Unambiguous, HasMinimalEncodings, UnambiguousPadded};
+ghost use Rattle.wasm_immediates.specs.Immediates.{mem_arg_encoding, block_encoding, catch_encoding, handle_encoding, vector_encoding};
+ghost use Rattle.wasm_immediates.specs.ImmediateFormats.{
   mem_arg,
   block_type,
   catch,
@@ -16,45 +16,45 @@ ghost use Rattle.wasm_immediates.specs.PlainImmediates.{
   ordering_format,
   vector_format,
   IsNormalMemory,
-  IsPlainBlock,
-  IsPlainCatch,
-  IsPlainHandle,
+  IsWellFormedBlock,
+  IsWellFormedCatch,
+  IsWellFormedHandle,
   IsVector,
-  ordering_text,
-  ReadsMemoryArgument,
+  ordering_encoding,
+  DecodesMemoryArgument,
 };
 ghost use Rattle.wasm_immediates.specs.declared.memory.MemArg.{MemArg};
 
 /// The formats of immediates are unambiguous.
-#[tactic(auto, using(crate::proofs::ImmediateTexts::immediates))]
+#[tactic(auto, using(crate::proofs::ImmediateEncodings::immediates))]
 pub fn immediates()
-    ensures memory { UniqueReading mem_arg }
-    ensures block { UniqueReading block_type }
-    ensures catch { UniqueReading catch }
-    ensures handle { UniqueReading handle }
-    ensures ordering { UniqueReading ordering_format }
-    ensures vector { UniqueReading vector_format }
+    ensures memory { Unambiguous mem_arg }
+    ensures block { Unambiguous block_type }
+    ensures catch { Unambiguous catch }
+    ensures handle { Unambiguous handle }
+    ensures ordering { Unambiguous ordering_format }
+    ensures vector { Unambiguous vector_format }
 
-    ensures memory_texts { HasTexts mem_arg IsNormalMemory mem_arg_text }
-    ensures block_texts { HasTexts block_type IsPlainBlock block_text }
-    ensures catch_texts { HasTexts catch IsPlainCatch catch_text }
-    ensures handle_texts { HasTexts handle IsPlainHandle handle_text }
-    ensures ordering_texts { HasTexts ordering_format (λ o. ⊤) ordering_text }
-    ensures vector_texts { HasTexts vector_format IsVector vector_text }
+    ensures memory_encodings { HasMinimalEncodings mem_arg IsNormalMemory mem_arg_encoding }
+    ensures block_encodings { HasMinimalEncodings block_type IsWellFormedBlock block_encoding }
+    ensures catch_encodings { HasMinimalEncodings catch IsWellFormedCatch catch_encoding }
+    ensures handle_encodings { HasMinimalEncodings handle IsWellFormedHandle handle_encoding }
+    ensures ordering_encodings { HasMinimalEncodings ordering_format (λ o. ⊤) ordering_encoding }
+    ensures vector_encodings { HasMinimalEncodings vector_format IsVector vector_encoding }
 {}
 
 /// The encoding of a well-formed memory argument decodes to its normal form alone.
 pub fn memory_arguments()
-    ensures { (m : MemArg) → ReadsMemoryArgument m }
+    ensures { (m : MemArg) → DecodesMemoryArgument m }
 {}
 
 /// With padded numbers the formats are unambiguous too.
-#[tactic(auto, using(crate::proofs::ImmediateTexts::wide_immediates))]
-pub fn wide()
-    ensures memory { IsUniqueWide mem_arg }
-    ensures block { IsUniqueWide block_type }
-    ensures catch { IsUniqueWide catch }
-    ensures handle { IsUniqueWide handle }
-    ensures ordering { IsUniqueWide ordering_format }
-    ensures vector { IsUniqueWide vector_format }
+#[tactic(auto, using(crate::proofs::ImmediateEncodings::padded_immediates))]
+pub fn padded()
+    ensures memory { UnambiguousPadded mem_arg }
+    ensures block { UnambiguousPadded block_type }
+    ensures catch { UnambiguousPadded catch }
+    ensures handle { UnambiguousPadded handle }
+    ensures ordering { UnambiguousPadded ordering_format }
+    ensures vector { UnambiguousPadded vector_format }
 {}

@@ -1,7 +1,7 @@
 //! The immediates of instructions: floats, memory arguments, block types, and the clauses that
 //! handle exceptions and suspended stacks. `wasm_insn` exports all of them under its own name.
 //!
-//! `specs/Immediates.antt` defines the encoding of an immediate, and `specs/PlainImmediates.antt`
+//! `specs/Immediates.antt` defines the encoding of an immediate, and `specs/ImmediateFormats.antt`
 //! the formats.
 #![tactic(auto)]
 

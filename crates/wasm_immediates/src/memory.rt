@@ -1,8 +1,8 @@
 // Memory arguments: the immediates of instructions that access memory.
 ghost use Rattle.std.specs.Prelude.{◌≡◌, ◌+◌, ◌≤◌, ◌<◌, ◌++◌, ◌∷◌, [], vec_len, vec_capacity, ⊤};
 ghost use Rattle.wasm_base.specs.Calls.{Appends};
-ghost use Rattle.wasm_base.specs.Numbers.{unsigned_text};
-ghost use Rattle.wasm_immediates.specs.Immediates.{ordering_code, mem_ordering_code, index_of, mem_flags, mem_arg_text};
+ghost use Rattle.wasm_base.specs.Numbers.{unsigned_encoding};
+ghost use Rattle.wasm_immediates.specs.Immediates.{ordering_code, mem_ordering_code, index_of, mem_flags, mem_arg_encoding};
 ghost use Rattle.wasm_immediates.specs.declared.memory.MemArgTarget.TheVariants.{Memory};
 
 use std::alloc::Allocator;
@@ -72,9 +72,9 @@ impl MemArgTarget {
 
 /// Encodes the ordering as one byte.
 impl Encode for Ordering {
-    ghost text = { λ ordering. ordering_code ordering ∷ [] };
+    ghost encoding = { λ ordering. ordering_code ordering ∷ [] };
 
-    ghost fits = { λ _. ⊤ };
+    ghost encodable = { λ _. ⊤ };
 
     fn encode<A: Allocator>(&self, sink: &mut Vec<u8, A>) -> R<()> {
         (*self as u8).encode(sink)
@@ -83,9 +83,9 @@ impl Encode for Ordering {
 
 /// Encodes the ordering as one byte. `SeqCst` has the same byte for both kinds of access.
 impl Encode for MemArgOrdering {
-    ghost text = { λ ordering. mem_ordering_code ordering ∷ [] };
+    ghost encoding = { λ ordering. mem_ordering_code ordering ∷ [] };
 
-    ghost fits = { λ _. ⊤ };
+    ghost encodable = { λ _. ⊤ };
 
     fn encode<A: Allocator>(&self, sink: &mut Vec<u8, A>) -> R<()> {
         let byte: u8 = match *self {
@@ -116,7 +116,7 @@ impl MemArg {
     /// Appends all fields for which the flags have a bit.
     #[inline(never)]
     fn encode_all<A: Allocator>(&self, sink: &mut Vec<u8, A>) -> R<()>
-        ensures { Appends (mem_arg_text self.now) ⊤ sink.old sink.new result }
+        ensures { Appends (mem_arg_encoding self.now) ⊤ sink.old sink.new result }
     {
         let flags = self.flags();
         match (self.target.index(), self.ordering) {
@@ -131,9 +131,9 @@ impl MemArg {
 /// Encodes the flags, the index and the ordering if their flags are set, and the offset. Most
 /// arguments have memory 0 and no ordering; the others are encoded out of line.
 impl Encode for MemArg {
-    ghost text = { mem_arg_text };
+    ghost encoding = { mem_arg_encoding };
 
-    ghost fits = { λ _. ⊤ };
+    ghost encodable = { λ _. ⊤ };
 
     #[inline]
     fn encode<A: Allocator>(&self, sink: &mut Vec<u8, A>) -> R<()> {
@@ -148,7 +148,7 @@ impl Encode for MemArg {
 /// spare capacity.
 #[inline]
 fn encode_plain<A: Allocator>(flags: u32, offset: u64, sink: &mut Vec<u8, A>) -> R<()>
-    ensures { Appends (unsigned_text flags ++ unsigned_text offset) ⊤ sink.old sink.new result }
+    ensures { Appends (unsigned_encoding flags ++ unsigned_encoding offset) ⊤ sink.old sink.new result }
 {
     if flags < 0x80 && offset < 0x80 && sink.capacity() - sink.len() >= 2 {
         put_two_bytes(flags as u8, offset as u8, sink);
@@ -158,12 +158,12 @@ fn encode_plain<A: Allocator>(flags: u32, offset: u64, sink: &mut Vec<u8, A>) ->
 }
 
 /// Appends two numbers of one byte each into spare capacity of the sink, which holds them.
-#[tactic(auto, using(crate::proofs::ImmediateTexts::one_byte))]
+#[tactic(auto, using(crate::proofs::ImmediateEncodings::one_byte))]
 #[inline]
 fn put_two_bytes<A: Allocator>(first: u8, second: u8, sink: &mut Vec<u8, A>)
     requires small { first < 0x80 × second < 0x80 }
-    requires room { vec_len sink.old + 2 ≤ vec_capacity sink.old }
-    ensures items { sink.new.items ≡ sink.old.items ++ (unsigned_text first ++ unsigned_text second) }
+    requires spare { vec_len sink.old + 2 ≤ vec_capacity sink.old }
+    ensures items { sink.new.items ≡ sink.old.items ++ (unsigned_encoding first ++ unsigned_encoding second) }
     ensures capacity { vec_capacity sink.new ≡ vec_capacity sink.old }
 {
     sink.push_reserved(first);

@@ -110,17 +110,17 @@ fields_of i = with_arguments (row_of i).arguments
 -- ---- its index in the table
 
 -- The number of rows before the first one of the opcode.
-abbrev place_in : Table → Op → ℕ
-place_in [] op = 0
-place_in (row ∷ rows) op = cond (same_op row.0 op) 0 (suc (place_in rows op))
+abbrev position_in : Table → Op → ℕ
+position_in [] op = 0
+position_in (row ∷ rows) op = cond (same_op row.0 op) 0 (suc (position_in rows op))
 
 -- The index of the instruction's row. Two rows have the opcode 1C.
-abbrev place_of : {A : Type 0} → Instruction A → ℕ
-place_of (cases.TypedSelectMulti a) = suc (place_in table (Byte 0x1C))
-place_of i = place_in table (row_of i).op
+abbrev position_of : {A : Type 0} → Instruction A → ℕ
+position_of (cases.TypedSelectMulti a) = suc (position_in table (Byte 0x1C))
+position_of i = position_in table (row_of i).op
 
 abbrev Stands : {A : Type 0} → Instruction A → Type 0
-Stands i = slice_get (all_cases (fields_of i)) (place_of i) ≡ Some i
+Stands i = slice_get (all_cases (fields_of i)) (position_of i) ≡ Some i
 
 numeric_stands : {A : Type 0} (i : Numeric) → Stands {A = A} (cases.Numeric i)
 unfolding table
@@ -169,4 +169,4 @@ found (y ∷ xs) zero x e = (0, omega arith, cc e)
 found (y ∷ xs) (suc k) x e = let h = found xs k x e in (suc h.0, omega (arith, h.1), h.2)
 
 pub is_case : {A : Type 0} (i : Instruction A) → IsCase i
-is_case i = record { fields = fields_of i; stands = found (all_cases (fields_of i)) (place_of i) i (stands i) }
+is_case i = record { fields = fields_of i; stands = found (all_cases (fields_of i)) (position_of i) i (stands i) }

@@ -2,27 +2,27 @@
 use Rattle.std.proofs.Common.{◌≡◌, ℕ, ◌^◌, ◌<◌, List, [], ◌∷◌, ◌++◌, Bool, true, false, Some, ◌&&◌, refl, sym, ap, ◌∙◌, append-nil}
 use Rattle.std.specs.List.{AllByRecursion}
 use Rattle.std.proofs.lemmas.Bool.{and_parts}
-use Rattle.wasm_base.specs.Numbers.{Mode, shortest}
+use Rattle.wasm_base.specs.Numbers.{Mode, minimal}
 use Rattle.wasm_base.specs.Formats.{members}
-use Rattle.wasm_base.specs.Reading.{UniqueReading, UniqueWholeReading, HasTexts, IsUniqueWide, IsUniqueWholeWide, BeginsWith}
-use Rattle.wasm_base.specs.Texts.{VecFits}
-use Rattle.wasm_base.proofs.BaseLaws.{unique_wide, unique_whole_wide}
+use Rattle.wasm_base.specs.Decoding.{Unambiguous, UnambiguousWhole, HasMinimalEncodings, UnambiguousPadded, UnambiguousWholePadded, BeginsWith}
+use Rattle.wasm_base.specs.Encodings.{IsEncodableVec}
+use Rattle.wasm_base.proofs.BaseLaws.{unambiguous_padded, unambiguous_whole_padded}
 use Rattle.wasm_base.proofs.FormatLaws.{members_whole}
-use Rattle.wasm_base.proofs.TextLaws.{tagged_spelled}
+use Rattle.wasm_base.proofs.EncodingLaws.{tagged_encodes}
 use Rattle.wasm_insn.specs.declared.op.Op.{Op}
 use Rattle.wasm_insn.specs.declared.op.Op.TheVariants.{Byte, Prefixed}
 use Rattle.wasm_insn.specs.declared.op.Shape.{Shape}
 use Rattle.wasm_insn.specs.declared.op.Shape.TheVariants.{Bt}
 use Rattle.wasm_insn.specs.declared.part.Part.{Part}
 use Rattle.wasm_insn.specs.declared.instruction.Instruction.{Instruction}
-use Rattle.wasm_insn.specs.Opcodes.{op_text}
+use Rattle.wasm_insn.specs.Opcodes.{op_encoding}
 use Rattle.wasm_insn.specs.Parts.{parts_of}
-use Rattle.wasm_insn.specs.Plain.{Plain, part, arguments, Table, is_prefix, shape_of, IsOpcode, IsPlain, opcode, instruction}
+use Rattle.wasm_insn.specs.Plain.{Plain, part, arguments, Table, is_prefix, shape_of, IsOpcode, IsWellFormed, opcode, instruction}
 use Rattle.wasm_insn.specs.Table.{table, IsTableOp, IsOpcodeTable, BeginsNoOther}
-use Rattle.wasm_insn.specs.Instructions.{row_of, IsPlainInstruction, ReadsInstruction, HaveOneText}
+use Rattle.wasm_insn.specs.Instructions.{row_of, IsWellFormedInstruction, DecodesInstruction, HaveOneEncoding}
 use Rattle.wasm_insn.specs.Arguments.{Argument, labels, unsigned}
-use Rattle.wasm_insn.specs.Sink.{br_table_text}
-use Rattle.wasm_insn.proofs.PlainLaws.{opcode_unique, opcode_spelled, instruction_unique, plain_spelled, plain_unique, same_text, wide-opcode}
+use Rattle.wasm_insn.specs.Sink.{br_table_encoding}
+use Rattle.wasm_insn.proofs.PlainLaws.{opcode_unambiguous, opcode_encodes, instruction_unambiguous, plain_encodes, plain_unambiguous, same_encoding, padded-opcode}
 use Rattle.wasm_insn.proofs.TableRows.{is_op, op_is, instruction_row}
 use Rattle.wasm_insn.proofs.TableRuns.{byte_shape}
 
@@ -47,48 +47,48 @@ as_opcode (Prefixed p n) h = h
 pub apart : BeginsNoOther
 apart = record {
   for_each = λ a b x y h g e.
-      (opcode_unique.alone shortest (op_text a) (op_text b) x y a b (opcode_spelled a (as_opcode a h)) (opcode_spelled b (as_opcode b g)) e).0;
+      (opcode_unambiguous.unique minimal (op_encoding a) (op_encoding b) x y a b (opcode_encodes a (as_opcode a h)) (opcode_encodes b (as_opcode b g)) e).0;
 }
 
-pub opcode-texts : HasTexts opcode IsOpcode op_text
-opcode-texts = record { spelled = opcode_spelled }
+pub opcode-encodings : HasMinimalEncodings opcode IsOpcode op_encoding
+opcode-encodings = record { encodes = opcode_encodes }
 
-pub ruleset opcodes = (opcode-texts, table-is, apart, opcode_unique)
+pub ruleset opcodes = (opcode-encodings, table-is, apart, opcode_unambiguous)
 
 -- ---- instructions
 
-is_plain : {A : Type 0} (i : Instruction A) → IsPlainInstruction i → IsPlain table (row_of i)
+is_plain : {A : Type 0} (i : Instruction A) → IsWellFormedInstruction i → IsWellFormed table (row_of i)
 is_plain i h =
     let row = instruction_row i in
     record { shape = row.shape; opcode = as_opcode (row_of i).op row.op; row = row.row; parts = row.parts; arguments = h }
 
-pub reads : {A : Type 0} (i : Instruction A) → ReadsInstruction i
-reads i = record { alone = λ h. plain_unique table (row_of i) (is_plain i h) }
+pub decodes : {A : Type 0} (i : Instruction A) → DecodesInstruction i
+decodes i = record { unique = λ h. plain_unambiguous table (row_of i) (is_plain i h) }
 
-pub one_text : {A : Type 0} (i j : Instruction A) → HaveOneText i j
-one_text i j = record { exactly = λ h g. same_text table (row_of i) (row_of j) (is_plain i h) (is_plain j g) }
+pub one_encoding : {A : Type 0} (i j : Instruction A) → HaveOneEncoding i j
+one_encoding i j = record { exactly = λ h g. same_encoding table (row_of i) (row_of j) (is_plain i h) (is_plain j g) }
 
 abbrev br_table_row : List ℕ → ℕ → Plain
 br_table_row ls default = record { op = Byte 0x0E; arguments = labels ls ∷ unsigned default ∷ [] }
 
 -- The encoding of `br_table` encodes its row if its labels are in range and fit.
-pub br_table_spelled : (ls : List ℕ) (default : ℕ) → VecFits (λ n. n < 2 ^ 32) ls → default < 2 ^ 32 → instruction table shortest (br_table_text ls default) (br_table_row ls default)
-br_table_spelled ls default fits range = plain_spelled table (br_table_row ls default) (record { shape = Bt; opcode = refl; row = byte_shape 0x0E; parts = refl; arguments = (fits, (range, tt)) })
+pub br_table_encodes : (ls : List ℕ) (default : ℕ) → IsEncodableVec (λ n. n < 2 ^ 32) ls → default < 2 ^ 32 → instruction table minimal (br_table_encoding ls default) (br_table_row ls default)
+br_table_encodes ls default encodable range = plain_encodes table (br_table_row ls default) (record { shape = Bt; opcode = refl; row = byte_shape 0x0E; parts = refl; arguments = (encodable, (range, tt)) })
 
-pub alone : UniqueReading (instruction table)
-alone = instruction_unique table
+pub unique : Unambiguous (instruction table)
+unique = instruction_unambiguous table
 
 -- An instruction with a one-byte opcode encodes its immediates, minimally or padded.
-pub byte_spelled : (mode : Mode) (b : ℕ) (bytes : List ℕ) (shape : Shape) (xs : List Argument) → is_prefix b ≡ false → shape_of table (Byte b) ≡ Some shape → arguments (parts_of shape) mode bytes xs
+pub byte_encodes : (mode : Mode) (b : ℕ) (bytes : List ℕ) (shape : Shape) (xs : List Argument) → is_prefix b ≡ false → shape_of table (Byte b) ≡ Some shape → arguments (parts_of shape) mode bytes xs
     → instruction table mode (b ∷ bytes) (record { op = Byte b; arguments = xs })
-byte_spelled mode b bytes shape xs other row spelled =
-    ((Byte b, xs), refl, record { front = b ∷ []; back = bytes; joined = refl; first = tagged_spelled mode b [] (Byte b) (rw other (refl, refl)); second = rw row spelled })
+byte_encodes mode b bytes shape xs other row encodes =
+    ((Byte b, xs), refl, record { front = b ∷ []; back = bytes; joined = refl; first = tagged_encodes mode b [] (Byte b) (rw other (refl, refl)); second = rw row encodes })
 
 pub one_argument : (mode : Mode) (p : Part) (bytes : List ℕ) (x : Argument) → part p mode bytes x → arguments (p ∷ []) mode bytes (x ∷ [])
 one_argument mode p bytes x h = ((x, []), refl, record { front = bytes; back = []; joined = sym (append-nil bytes); first = h; second = (refl, refl) })
 
-pub wide-instruction : IsUniqueWide (instruction table)
-wide-instruction = unique_wide alone
+pub padded-instruction : UnambiguousPadded (instruction table)
+padded-instruction = unambiguous_padded unique
 
 -- The encoding of an instruction is not empty.
 pub any_begins : BeginsWith (λ b. Unit {0}) (instruction table)
@@ -96,12 +96,12 @@ any_begins mode s i h =
     let op = h.2.first in
     (op.0.0, op.2.back ++ h.2.back, h.2.joined ∙ ap (λ z. z ++ h.2.back) (op.2.joined ∙ ap (λ z. z ++ op.2.back) op.2.first), tt)
 
-pub lists_whole : UniqueWholeReading (members (instruction table))
-lists_whole = members_whole (λ b. Unit {0}) any_begins alone
+pub lists_whole : UnambiguousWhole (members (instruction table))
+lists_whole = members_whole (λ b. Unit {0}) any_begins unique
 
 pub ruleset lists = (lists_whole)
 
-pub wide-lists : IsUniqueWholeWide (members (instruction table))
-wide-lists = unique_whole_wide lists_whole
+pub padded-lists : UnambiguousWholePadded (members (instruction table))
+padded-lists = unambiguous_whole_padded lists_whole
 
-pub ruleset wide = (wide-lists, wide-opcode, wide-instruction)
+pub ruleset padded = (padded-lists, padded-opcode, padded-instruction)

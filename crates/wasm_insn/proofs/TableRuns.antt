@@ -16,8 +16,8 @@ or_else None y = y
 or_else (Some x) y = Some x
 
 -- Opcodes made of numbers are equal exactly if their numbers are.
-abbrev TellsNumber : (ℕ → Op) → Type 0
-TellsNumber op = (a b : ℕ) → same_op (op a) (op b) ≡ eqb a b
+abbrev DeterminesNumber : (ℕ → Op) → Type 0
+DeterminesNumber op = (a b : ℕ) → same_op (op a) (op b) ≡ eqb a b
 
 -- None of the opcodes made of numbers is this one.
 abbrev IsNever : (ℕ → Op) → Op → Type 0
@@ -28,7 +28,7 @@ IsNever op other = (a : ℕ) → same_op (op a) other ≡ false
 abbrev rows_up : (ℕ → Op) → Shape → ℕ → ℕ → Table
 rows_up op s k m = map (λ n. (op n, s)) (count_up k m)
 
-inside : (op : ℕ → Op) (s : Shape) (rest : Table) (n k m : ℕ) → TellsNumber op → m ≤ n → n < m + k → shape_of (rows_up op s k m ++ rest) (op n) ≡ Some s
+inside : (op : ℕ → Op) (s : Shape) (rest : Table) (n k m : ℕ) → DeterminesNumber op → m ≤ n → n < m + k → shape_of (rows_up op s k m ++ rest) (op n) ≡ Some s
 inside op s rest n zero m tells low high = absurd (omega arith)
 inside op s rest n (suc k) m tells low high = go (eqb m n) refl (λ e. inside op s rest n k (m + 1) tells (omega (arith, low, eqb-false m n e)) (omega (arith, high)))
   where
@@ -36,7 +36,7 @@ inside op s rest n (suc k) m tells low high = go (eqb m n) refl (λ e. inside op
     go true e further = rw (tells m n, e) refl
     go false e further = rw (tells m n, e) (further e)
 
-outside : (op : ℕ → Op) (s : Shape) (rest : Table) (n k m : ℕ) → TellsNumber op → (n < m) ⊎ (m + k ≤ n) → shape_of (rows_up op s k m ++ rest) (op n) ≡ shape_of rest (op n)
+outside : (op : ℕ → Op) (s : Shape) (rest : Table) (n k m : ℕ) → DeterminesNumber op → (n < m) ⊎ (m + k ≤ n) → shape_of (rows_up op s k m ++ rest) (op n) ≡ shape_of rest (op n)
 outside op s rest n zero m tells out = refl
 outside op s rest n (suc k) m tells out = rw (tells m n, differs out) (outside op s rest n k (m + 1) tells (next out))
   where
@@ -50,7 +50,7 @@ outside op s rest n (suc k) m tells out = rw (tells m n, differs out) (outside o
 
 -- ---- the rows of some runs
 
-among : (op : ℕ → Op) (rest : Table) (n : ℕ) → TellsNumber op → (runs : List Run) → shape_of (flat_map (rows_of op) runs ++ rest) (op n) ≡ or_else (shape_in runs n) (shape_of rest (op n))
+among : (op : ℕ → Op) (rest : Table) (n : ℕ) → DeterminesNumber op → (runs : List Run) → shape_of (flat_map (rows_of op) runs ++ rest) (op n) ≡ or_else (shape_in runs n) (shape_of rest (op n))
 among op rest n tells [] = refl
 among op rest n tells (r ∷ runs) = regrouped ∙ go (has_number n r) refl (among op rest n tells runs)
   where
@@ -75,12 +75,12 @@ never_up op s rest other zero m never = refl
 never_up op s rest other (suc k) m never = rw (never m) (never_up op s rest other k (m + 1) never)
 
 -- The lookup skips rows whose opcodes are never this one.
-passed : (op : ℕ → Op) (rest : Table) (other : Op) → IsNever op other → (runs : List Run) → shape_of (flat_map (rows_of op) runs ++ rest) other ≡ shape_of rest other
-passed op rest other never [] = refl
-passed op rest other never (r ∷ runs) =
+skipped : (op : ℕ → Op) (rest : Table) (other : Op) → IsNever op other → (runs : List Run) → shape_of (flat_map (rows_of op) runs ++ rest) other ≡ shape_of rest other
+skipped op rest other never [] = refl
+skipped op rest other never (r ∷ runs) =
     ap (λ t. shape_of t other) (append_assoc (rows_of op r) (flat_map (rows_of op) runs) rest)
     ∙ never_up op r.2 (flat_map (rows_of op) runs ++ rest) other (r.1 + 1 - r.0) r.0 never
-    ∙ passed op rest other never runs
+    ∙ skipped op rest other never runs
 
 or_else-None : (x : Option Shape) → or_else x None ≡ x
 or_else-None None = refl
@@ -101,26 +101,26 @@ from_fc fc fd fe = flat_map (rows_of (Prefixed 0xFC)) fc ++ from_fd fd fe
 abbrev from_fb : (fb fc fd fe : List Run) → Table
 from_fb fb fc fd fe = flat_map (rows_of (Prefixed 0xFB)) fb ++ from_fc fc fd fe
 
-tells_after : (p : ℕ) → TellsNumber (Prefixed p)
-tells_after p a b = rw (eq-eqb p p refl) refl
+determines_after : (p : ℕ) → DeterminesNumber (Prefixed p)
+determines_after p a b = rw (eq-eqb p p refl) refl
 
 other_prefix : (p q n : ℕ) → eqb p q ≡ false → IsNever (Prefixed p) (Prefixed q n)
 other_prefix p q n e a = rw e refl
 
 past_fe : (fe : List Run) (other : Op) → IsNever (Prefixed 0xFE) other → shape_of (from_fe fe) other ≡ None
-past_fe fe other never = passed (Prefixed 0xFE) [] other never fe
+past_fe fe other never = skipped (Prefixed 0xFE) [] other never fe
 
 past_fd : (fd fe : List Run) (other : Op) → IsNever (Prefixed 0xFD) other → IsNever (Prefixed 0xFE) other → shape_of (from_fd fd fe) other ≡ None
-past_fd fd fe other d e = passed (Prefixed 0xFD) (from_fe fe) other d fd ∙ past_fe fe other e
+past_fd fd fe other d e = skipped (Prefixed 0xFD) (from_fe fe) other d fd ∙ past_fe fe other e
 
 past_fc : (fc fd fe : List Run) (other : Op) → IsNever (Prefixed 0xFC) other → IsNever (Prefixed 0xFD) other → IsNever (Prefixed 0xFE) other → shape_of (from_fc fc fd fe) other ≡ None
-past_fc fc fd fe other c d e = passed (Prefixed 0xFC) (from_fd fd fe) other c fc ∙ past_fd fd fe other d e
+past_fc fc fd fe other c d e = skipped (Prefixed 0xFC) (from_fd fd fe) other c fc ∙ past_fd fd fe other d e
 
 past_fb : (fb fc fd fe : List Run) (other : Op) → IsNever (Prefixed 0xFB) other → IsNever (Prefixed 0xFC) other → IsNever (Prefixed 0xFD) other → IsNever (Prefixed 0xFE) other → shape_of (from_fb fb fc fd fe) other ≡ None
-past_fb fb fc fd fe other b c d e = passed (Prefixed 0xFB) (from_fc fc fd fe) other b fb ∙ past_fc fc fd fe other c d e
+past_fb fb fc fd fe other b c d e = skipped (Prefixed 0xFB) (from_fc fc fd fe) other b fb ∙ past_fc fc fd fe other c d e
 
 -- The shape by the runs, if no row after them has the opcode.
-only_among : (op : ℕ → Op) (rest : Table) (n : ℕ) → TellsNumber op → (runs : List Run) → shape_of rest (op n) ≡ None → shape_of (flat_map (rows_of op) runs ++ rest) (op n) ≡ shape_in runs n
+only_among : (op : ℕ → Op) (rest : Table) (n : ℕ) → DeterminesNumber op → (runs : List Run) → shape_of rest (op n) ≡ None → shape_of (flat_map (rows_of op) runs ++ rest) (op n) ≡ shape_in runs n
 only_among op rest n tells runs none = among op rest n tells runs ∙ ap (or_else (shape_in runs n)) none ∙ or_else-None (shape_in runs n)
 
 bytes_among : (bytes fb fc fd fe : List Run) (n : ℕ) → shape_of (table_of bytes fb fc fd fe) (Byte n) ≡ shape_in bytes n
@@ -128,33 +128,33 @@ bytes_among bytes fb fc fd fe n = only_among Byte (from_fb fb fc fd fe) n (λ a 
 
 fb_among : (bytes fb fc fd fe : List Run) (n : ℕ) → shape_of (table_of bytes fb fc fd fe) (Prefixed 0xFB n) ≡ shape_in fb n
 fb_among bytes fb fc fd fe n =
-    passed Byte (from_fb fb fc fd fe) (Prefixed 0xFB n) (λ a. refl) bytes
-    ∙ only_among (Prefixed 0xFB) (from_fc fc fd fe) n (tells_after 0xFB) fb (past_fc fc fd fe (Prefixed 0xFB n) (λ a. refl) (λ a. refl) (λ a. refl))
+    skipped Byte (from_fb fb fc fd fe) (Prefixed 0xFB n) (λ a. refl) bytes
+    ∙ only_among (Prefixed 0xFB) (from_fc fc fd fe) n (determines_after 0xFB) fb (past_fc fc fd fe (Prefixed 0xFB n) (λ a. refl) (λ a. refl) (λ a. refl))
 
 fc_among : (bytes fb fc fd fe : List Run) (n : ℕ) → shape_of (table_of bytes fb fc fd fe) (Prefixed 0xFC n) ≡ shape_in fc n
 fc_among bytes fb fc fd fe n =
-    passed Byte (from_fb fb fc fd fe) (Prefixed 0xFC n) (λ a. refl) bytes
-    ∙ passed (Prefixed 0xFB) (from_fc fc fd fe) (Prefixed 0xFC n) (λ a. refl) fb
-    ∙ only_among (Prefixed 0xFC) (from_fd fd fe) n (tells_after 0xFC) fc (past_fd fd fe (Prefixed 0xFC n) (λ a. refl) (λ a. refl))
+    skipped Byte (from_fb fb fc fd fe) (Prefixed 0xFC n) (λ a. refl) bytes
+    ∙ skipped (Prefixed 0xFB) (from_fc fc fd fe) (Prefixed 0xFC n) (λ a. refl) fb
+    ∙ only_among (Prefixed 0xFC) (from_fd fd fe) n (determines_after 0xFC) fc (past_fd fd fe (Prefixed 0xFC n) (λ a. refl) (λ a. refl))
 
 fd_among : (bytes fb fc fd fe : List Run) (n : ℕ) → shape_of (table_of bytes fb fc fd fe) (Prefixed 0xFD n) ≡ shape_in fd n
 fd_among bytes fb fc fd fe n =
-    passed Byte (from_fb fb fc fd fe) (Prefixed 0xFD n) (λ a. refl) bytes
-    ∙ passed (Prefixed 0xFB) (from_fc fc fd fe) (Prefixed 0xFD n) (λ a. refl) fb
-    ∙ passed (Prefixed 0xFC) (from_fd fd fe) (Prefixed 0xFD n) (λ a. refl) fc
-    ∙ only_among (Prefixed 0xFD) (from_fe fe) n (tells_after 0xFD) fd (past_fe fe (Prefixed 0xFD n) (λ a. refl))
+    skipped Byte (from_fb fb fc fd fe) (Prefixed 0xFD n) (λ a. refl) bytes
+    ∙ skipped (Prefixed 0xFB) (from_fc fc fd fe) (Prefixed 0xFD n) (λ a. refl) fb
+    ∙ skipped (Prefixed 0xFC) (from_fd fd fe) (Prefixed 0xFD n) (λ a. refl) fc
+    ∙ only_among (Prefixed 0xFD) (from_fe fe) n (determines_after 0xFD) fd (past_fe fe (Prefixed 0xFD n) (λ a. refl))
 
 fe_among : (bytes fb fc fd fe : List Run) (n : ℕ) → shape_of (table_of bytes fb fc fd fe) (Prefixed 0xFE n) ≡ shape_in fe n
 fe_among bytes fb fc fd fe n =
-    passed Byte (from_fb fb fc fd fe) (Prefixed 0xFE n) (λ a. refl) bytes
-    ∙ passed (Prefixed 0xFB) (from_fc fc fd fe) (Prefixed 0xFE n) (λ a. refl) fb
-    ∙ passed (Prefixed 0xFC) (from_fd fd fe) (Prefixed 0xFE n) (λ a. refl) fc
-    ∙ passed (Prefixed 0xFD) (from_fe fe) (Prefixed 0xFE n) (λ a. refl) fd
-    ∙ only_among (Prefixed 0xFE) [] n (tells_after 0xFE) fe refl
+    skipped Byte (from_fb fb fc fd fe) (Prefixed 0xFE n) (λ a. refl) bytes
+    ∙ skipped (Prefixed 0xFB) (from_fc fc fd fe) (Prefixed 0xFE n) (λ a. refl) fb
+    ∙ skipped (Prefixed 0xFC) (from_fd fd fe) (Prefixed 0xFE n) (λ a. refl) fc
+    ∙ skipped (Prefixed 0xFD) (from_fe fe) (Prefixed 0xFE n) (λ a. refl) fd
+    ∙ only_among (Prefixed 0xFE) [] n (determines_after 0xFE) fe refl
 
 no_prefix_among : (bytes fb fc fd fe : List Run) (p n : ℕ) → p ≢ 0xFB → p ≢ 0xFC → p ≢ 0xFD → p ≢ 0xFE → shape_of (table_of bytes fb fc fd fe) (Prefixed p n) ≡ None
 no_prefix_among bytes fb fc fd fe p n b c d e =
-    passed Byte (from_fb fb fc fd fe) (Prefixed p n) (λ a. refl) bytes
+    skipped Byte (from_fb fb fc fd fe) (Prefixed p n) (λ a. refl) bytes
     ∙ past_fb fb fc fd fe (Prefixed p n) (never 0xFB b) (never 0xFC c) (never 0xFD d) (never 0xFE e)
   where
     never : (q : ℕ) → p ≢ q → IsNever (Prefixed q) (Prefixed p n)

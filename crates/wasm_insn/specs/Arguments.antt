@@ -1,8 +1,8 @@
 -- This file defines the immediates of an instruction and their encodings.
 use Rattle.std.specs.Prelude.{ℕ, ℤ, List, [], ◌∷◌, ◌++◌, ⊤}
-use Rattle.wasm_base.specs.Numbers.{unsigned_text, signed_text}
-use Rattle.wasm_base.specs.Texts.{vec_text, VecFits, little_endian_text}
-use Rattle.wasm_base.specs.Types.{heap_text, val_text}
+use Rattle.wasm_base.specs.Numbers.{unsigned_encoding, signed_encoding}
+use Rattle.wasm_base.specs.Encodings.{vec_encoding, IsEncodableVec, little_endian_encoding}
+use Rattle.wasm_base.specs.Types.{heap_encoding, val_encoding}
 use Rattle.wasm_base.specs.declared.types.HeapType.{HeapType}
 use Rattle.wasm_base.specs.declared.types.ValType.{ValType}
 use Rattle.wasm_immediates.specs.declared.floats.Ieee32.{Ieee32}
@@ -12,7 +12,7 @@ use Rattle.wasm_immediates.specs.declared.memory.MemArg.{MemArg}
 use Rattle.wasm_immediates.specs.declared.block_type.BlockType.{BlockType}
 use Rattle.wasm_immediates.specs.declared.control.Catch.{Catch}
 use Rattle.wasm_immediates.specs.declared.control.Handle.{Handle}
-use Rattle.wasm_immediates.specs.Immediates.{ordering_code, mem_arg_text, block_text, catch_text, handle_text, vector_text}
+use Rattle.wasm_immediates.specs.Immediates.{ordering_code, mem_arg_encoding, block_encoding, catch_encoding, handle_encoding, vector_encoding}
 use Rattle.wasm_insn.specs.declared.part.Part.TheVariants as parts
 use Rattle.wasm_insn.specs.declared.part.Part.{Part}
 
@@ -57,39 +57,39 @@ part_of (handles hs) = parts.Handles
 part_of (flag n) = parts.Flag
 
 -- The encoding of an immediate.
-abbrev pub argument_text : Argument → List ℕ
-argument_text (unsigned n) = unsigned_text n
-argument_text (signed32 v) = signed_text v
-argument_text (signed64 v) = signed_text v
-argument_text (float32 float) = little_endian_text 4 float.bits
-argument_text (float64 float) = little_endian_text 8 float.bits
-argument_text (vector v) = vector_text v
-argument_text (memory m) = mem_arg_text m
-argument_text (lane n) = n ∷ []
-argument_text (lanes ns) = ns
-argument_text (block type) = block_text type
-argument_text (heap type) = heap_text type
-argument_text (ordering o) = ordering_code o ∷ []
-argument_text (labels ns) = vec_text unsigned_text ns
-argument_text (catches cs) = vec_text catch_text cs
-argument_text (types ts) = vec_text val_text ts
-argument_text (handles hs) = vec_text handle_text hs
-argument_text (flag n) = n ∷ []
+abbrev pub argument_encoding : Argument → List ℕ
+argument_encoding (unsigned n) = unsigned_encoding n
+argument_encoding (signed32 v) = signed_encoding v
+argument_encoding (signed64 v) = signed_encoding v
+argument_encoding (float32 float) = little_endian_encoding 4 float.bits
+argument_encoding (float64 float) = little_endian_encoding 8 float.bits
+argument_encoding (vector v) = vector_encoding v
+argument_encoding (memory m) = mem_arg_encoding m
+argument_encoding (lane n) = n ∷ []
+argument_encoding (lanes ns) = ns
+argument_encoding (block type) = block_encoding type
+argument_encoding (heap type) = heap_encoding type
+argument_encoding (ordering o) = ordering_code o ∷ []
+argument_encoding (labels ns) = vec_encoding unsigned_encoding ns
+argument_encoding (catches cs) = vec_encoding catch_encoding cs
+argument_encoding (types ts) = vec_encoding val_encoding ts
+argument_encoding (handles hs) = vec_encoding handle_encoding hs
+argument_encoding (flag n) = n ∷ []
 
 -- The encodings of the immediates, one after another.
-abbrev pub arguments_text : List Argument → List ℕ
-arguments_text [] = []
-arguments_text (x ∷ xs) = argument_text x ++ arguments_text xs
+abbrev pub arguments_encoding : List Argument → List ℕ
+arguments_encoding [] = []
+arguments_encoding (x ∷ xs) = argument_encoding x ++ arguments_encoding xs
 
 -- A list among the immediates has at most 2^32 - 1 members.
-abbrev pub argument_fits : Argument → Type 0
-argument_fits (labels ns) = VecFits (λ n. ⊤) ns
-argument_fits (catches cs) = VecFits (λ c. ⊤) cs
-argument_fits (types ts) = VecFits (λ t. ⊤) ts
-argument_fits (handles hs) = VecFits (λ h. ⊤) hs
-argument_fits _ = ⊤
+abbrev pub argument_encodable : Argument → Type 0
+argument_encodable (labels ns) = IsEncodableVec (λ n. ⊤) ns
+argument_encodable (catches cs) = IsEncodableVec (λ c. ⊤) cs
+argument_encodable (types ts) = IsEncodableVec (λ t. ⊤) ts
+argument_encodable (handles hs) = IsEncodableVec (λ h. ⊤) hs
+argument_encodable _ = ⊤
 
 -- Each list among the immediates has at most 2^32 - 1 members.
-abbrev pub arguments_fit : List Argument → Type 0
-arguments_fit [] = ⊤
-arguments_fit (x ∷ xs) = argument_fits x × arguments_fit xs
+abbrev pub arguments_encodable : List Argument → Type 0
+arguments_encodable [] = ⊤
+arguments_encodable (x ∷ xs) = argument_encodable x × arguments_encodable xs

@@ -1,14 +1,14 @@
 -- This file defines the opcode and immediates of every instruction, and the encoding of
 -- instructions. Core specification, Binary Format, Instructions.
 use Rattle.std.specs.Prelude.{◌≡◌, ◌↔◌, ℕ, ◌+◌, ◌*◌, List, [], ◌∷◌, Bool, true, false}
-use Rattle.wasm_base.specs.Reading.{ReadsAlone}
+use Rattle.wasm_base.specs.Decoding.{DecodesUniquely}
 use Rattle.wasm_insn.specs.declared.instruction.Instruction.{Instruction}
 use Rattle.wasm_insn.specs.declared.instruction.Instruction.TheVariants.{Unreachable, Nop, Block, Loop, If, Else, Try, Catch, Throw, Rethrow, ThrowRef, End, Br, BrIf, BrTable, Return, Call, CallIndirect, ReturnCall, ReturnCallIndirect, CallRef, ReturnCallRef, Delegate, CatchAll, Drop, Select, TypedSelect, TypedSelectMulti, TryTable, LocalGet, LocalSet, LocalTee, GlobalGet, GlobalSet, TableGet, TableSet, I32Load, I64Load, F32Load, F64Load, I32Load8S, I32Load8U, I32Load16S, I32Load16U, I64Load8S, I64Load8U, I64Load16S, I64Load16U, I64Load32S, I64Load32U, I32Store, I64Store, F32Store, F64Store, I32Store8, I32Store16, I64Store8, I64Store16, I64Store32, MemorySize, MemoryGrow, I32Const, I64Const, F32Const, F64Const, RefNull, RefIsNull, RefFunc, RefEq, RefAsNonNull, BrOnNull, BrOnNonNull, ContNew, ContBind, Suspend, Resume, ResumeThrow, ResumeThrowRef, Switch, StructNew, StructNewDefault, StructGet, StructGetS, StructGetU, StructSet, ArrayNew, ArrayNewDefault, ArrayNewFixed, ArrayNewData, ArrayNewElem, ArrayGet, ArrayGetS, ArrayGetU, ArraySet, ArrayFill, ArrayCopy, ArrayInitData, ArrayInitElem, RefTestNonNull, RefTestNullable, RefCastNonNull, RefCastNullable, BrOnCast, BrOnCastFail, StructNewDesc, StructNewDefaultDesc, RefGetDesc, RefCastDescEqNonNull, RefCastDescEqNullable, BrOnCastDescEq, BrOnCastDescEqFail, MemoryInit, DataDrop, MemoryCopy, MemoryFill, TableInit, ElemDrop, TableCopy, TableGrow, TableSize, TableFill, MemoryDiscard, Numeric, Aggregate, PrefixedNumeric, Vector, VectorImmediate, Atomic}
 use Rattle.wasm_insn.specs.declared.op.Op.TheVariants.{Byte, Prefixed}
 use Rattle.wasm_base.specs.declared.types.RefType.{RefType}
 use Rattle.wasm_base.specs.Cow.{items_of}
-use Rattle.wasm_insn.specs.Arguments.{arguments_fit, unsigned, signed32, signed64, float32, float64, memory, block, heap, labels, catches, types, handles, flag}
-use Rattle.wasm_insn.specs.Plain.{Plain, plain_text, normal, instruction, ArePlain, HaveSmallAlignments}
+use Rattle.wasm_insn.specs.Arguments.{arguments_encodable, unsigned, signed32, signed64, float32, float64, memory, block, heap, labels, catches, types, handles, flag}
+use Rattle.wasm_insn.specs.Plain.{Plain, plain_encoding, normal, instruction, AreWellFormed, HaveSmallAlignments}
 use Rattle.wasm_insn.specs.Table.{table}
 use Rattle.wasm_insn.specs.Numeric.{numeric_number}
 use Rattle.wasm_insn.specs.Aggregate.{aggregate_number}
@@ -158,30 +158,30 @@ row_of (VectorImmediate i) = vector_immediate_row i
 row_of (Atomic i) = atomic_row i
 
 -- The encoding of an instruction: its opcode, then its immediates.
-abbrev pub instruction_text : {A : Type 0} → Instruction A → List ℕ
-instruction_text i = plain_text (row_of i)
+abbrev pub instruction_encoding : {A : Type 0} → Instruction A → List ℕ
+instruction_encoding i = plain_encoding (row_of i)
 
 -- Each list in the instruction has at most 2^32 - 1 members.
-abbrev pub InstructionFits : {A : Type 0} → Instruction A → Type 0
-InstructionFits i = arguments_fit (row_of i).arguments
+abbrev pub IsEncodableInstruction : {A : Type 0} → Instruction A → Type 0
+IsEncodableInstruction i = arguments_encodable (row_of i).arguments
 
 -- The instruction is well-formed: alignments are below 16, lists fit, and numbers are in range.
 -- Lists and numbers of every instruction that code builds are so.
-abbrev pub IsPlainInstruction : {A : Type 0} → Instruction A → Type 0
-IsPlainInstruction i = ArePlain (row_of i).arguments
+abbrev pub IsWellFormedInstruction : {A : Type 0} → Instruction A → Type 0
+IsWellFormedInstruction i = AreWellFormed (row_of i).arguments
 
 -- The alignments of the instruction's memory arguments are below 16.
 abbrev pub HasSmallAlignments : {A : Type 0} → Instruction A → Type 0
 HasSmallAlignments i = HaveSmallAlignments (row_of i).arguments
 
 -- If its alignments are below 16 and its lists fit, the instruction is well-formed.
-pub record IsPlainWhereAligned {A : Type 0} (i : Instruction A) : Type 0 where
-  pub plain : HasSmallAlignments i → InstructionFits i → IsPlainInstruction i
+pub record IsWellFormedWhereAligned {A : Type 0} (i : Instruction A) : Type 0 where
+  pub plain : HasSmallAlignments i → IsEncodableInstruction i → IsWellFormedInstruction i
 
 -- The encoding of a well-formed instruction decodes to its normal form alone.
-pub record ReadsInstruction {A : Type 0} (i : Instruction A) : Type 0 where
-  pub alone : IsPlainInstruction i → ReadsAlone (instruction table) (instruction_text i) (normal (row_of i))
+pub record DecodesInstruction {A : Type 0} (i : Instruction A) : Type 0 where
+  pub unique : IsWellFormedInstruction i → DecodesUniquely (instruction table) (instruction_encoding i) (normal (row_of i))
 
 -- Two well-formed instructions have the same encoding exactly if they have the same normal form.
-pub record HaveOneText {A : Type 0} (i j : Instruction A) : Type 0 where
-  pub exactly : IsPlainInstruction i → IsPlainInstruction j → (instruction_text i ≡ instruction_text j) ↔ (normal (row_of i) ≡ normal (row_of j))
+pub record HaveOneEncoding {A : Type 0} (i j : Instruction A) : Type 0 where
+  pub exactly : IsWellFormedInstruction i → IsWellFormedInstruction j → (instruction_encoding i ≡ instruction_encoding j) ↔ (normal (row_of i) ≡ normal (row_of j))

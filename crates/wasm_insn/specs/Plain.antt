@@ -3,18 +3,18 @@
 use Rattle.std.specs.Prelude.{◌≡◌, ℕ, map, ◌++◌, ◌^◌, ◌<◌, List, [], ◌∷◌, length, Bool, true, false, ◌==◌, ◌&&◌, cond, nat_le, Option, Some, None, ⊤}
 use Rattle.std.specs.List.{AllByRecursion}
 use Rattle.wasm_base.specs.Formats.{Format, u32, s32, s64, byte, raw_bytes, little_endian, fixed, impossible, mapped, such, when, tagged, pair, Then, vec}
-use Rattle.wasm_base.specs.Laws.{FitsSigned32, FitsSigned64}
-use Rattle.wasm_base.specs.Texts.{VecFits}
+use Rattle.wasm_base.specs.Laws.{IsSigned32InRange, IsSigned64InRange}
+use Rattle.wasm_base.specs.Encodings.{IsEncodableVec}
 use Rattle.wasm_base.specs.Types.{heap_type, val_type, IsHeap, IsVal}
-use Rattle.wasm_immediates.specs.PlainImmediates.{normal_memory, IsPlainMemory, IsPlainBlock, IsPlainCatch, IsPlainHandle, IsVector, ordering_format, vector_format, block_type, mem_arg, catch, handle}
+use Rattle.wasm_immediates.specs.ImmediateFormats.{normal_memory, IsWellFormedMemory, IsWellFormedBlock, IsWellFormedCatch, IsWellFormedHandle, IsVector, ordering_format, vector_format, block_type, mem_arg, catch, handle}
 use Rattle.wasm_insn.specs.declared.op.Op.{Op}
 use Rattle.wasm_insn.specs.declared.op.Op.TheVariants.{Byte, Prefixed}
 use Rattle.wasm_insn.specs.declared.op.Shape.{Shape}
-use Rattle.wasm_insn.specs.Opcodes.{op_text}
+use Rattle.wasm_insn.specs.Opcodes.{op_encoding}
 use Rattle.wasm_insn.specs.declared.part.Part.TheVariants as parts
 use Rattle.wasm_insn.specs.declared.part.Part.{Part}
 use Rattle.wasm_insn.specs.Parts.{parts_of}
-use Rattle.wasm_insn.specs.Arguments.{Argument, unsigned, signed32, signed64, float32, float64, vector, memory, lane, lanes, block, heap, ordering, labels, catches, types, handles, flag, part_of, arguments_text}
+use Rattle.wasm_insn.specs.Arguments.{Argument, unsigned, signed32, signed64, float32, float64, vector, memory, lane, lanes, block, heap, ordering, labels, catches, types, handles, flag, part_of, arguments_encoding}
 
 -- ---- normal form
 
@@ -41,28 +41,28 @@ normal i = record { op = i.op; arguments = normal_arguments i.arguments }
 
 -- The immediate is well-formed: numbers are in the range of their type, alignments below 16 and
 -- flags of a cast below 4. Lists have at most 2^32 - 1 members, and there are 16 lanes.
-abbrev pub IsPlainArgument : Argument → Type 0
-IsPlainArgument (unsigned n) = n < 2 ^ 32
-IsPlainArgument (signed32 v) = FitsSigned32 v
-IsPlainArgument (signed64 v) = FitsSigned64 v
-IsPlainArgument (float32 float) = float.bits < 2 ^ 32
-IsPlainArgument (float64 float) = float.bits < 2 ^ 64
-IsPlainArgument (vector v) = IsVector v
-IsPlainArgument (memory m) = IsPlainMemory m
-IsPlainArgument (lane n) = ⊤
-IsPlainArgument (lanes ns) = length ns ≡ 16
-IsPlainArgument (block type) = IsPlainBlock type
-IsPlainArgument (heap type) = IsHeap type
-IsPlainArgument (ordering o) = ⊤
-IsPlainArgument (labels ns) = VecFits (λ n. n < 2 ^ 32) ns
-IsPlainArgument (catches cs) = VecFits IsPlainCatch cs
-IsPlainArgument (types ts) = VecFits IsVal ts
-IsPlainArgument (handles hs) = VecFits IsPlainHandle hs
-IsPlainArgument (flag n) = n < 4
+abbrev pub IsWellFormedArgument : Argument → Type 0
+IsWellFormedArgument (unsigned n) = n < 2 ^ 32
+IsWellFormedArgument (signed32 v) = IsSigned32InRange v
+IsWellFormedArgument (signed64 v) = IsSigned64InRange v
+IsWellFormedArgument (float32 float) = float.bits < 2 ^ 32
+IsWellFormedArgument (float64 float) = float.bits < 2 ^ 64
+IsWellFormedArgument (vector v) = IsVector v
+IsWellFormedArgument (memory m) = IsWellFormedMemory m
+IsWellFormedArgument (lane n) = ⊤
+IsWellFormedArgument (lanes ns) = length ns ≡ 16
+IsWellFormedArgument (block type) = IsWellFormedBlock type
+IsWellFormedArgument (heap type) = IsHeap type
+IsWellFormedArgument (ordering o) = ⊤
+IsWellFormedArgument (labels ns) = IsEncodableVec (λ n. n < 2 ^ 32) ns
+IsWellFormedArgument (catches cs) = IsEncodableVec IsWellFormedCatch cs
+IsWellFormedArgument (types ts) = IsEncodableVec IsVal ts
+IsWellFormedArgument (handles hs) = IsEncodableVec IsWellFormedHandle hs
+IsWellFormedArgument (flag n) = n < 4
 
 -- Each immediate is well-formed.
-abbrev pub ArePlain : List Argument → Type 0
-ArePlain = AllByRecursion IsPlainArgument
+abbrev pub AreWellFormed : List Argument → Type 0
+AreWellFormed = AllByRecursion IsWellFormedArgument
 
 -- The alignment of a memory argument is below 16.
 abbrev pub HasSmallAlignment : Argument → Type 0
@@ -164,13 +164,13 @@ instruction table = mapped plain_of (Then opcode (λ op. arguments_after (shape_
 
 -- The instruction is well-formed: its opcode is in the table, and it has a well-formed immediate
 -- for each of its shape.
-pub record IsPlain (table : Table) (i : Plain) : Type 0 where
+pub record IsWellFormed (table : Table) (i : Plain) : Type 0 where
   pub shape : Shape
   pub opcode : IsOpcode i.op
   pub row : shape_of table i.op ≡ Some shape
   pub parts : map part_of i.arguments ≡ parts_of shape
-  pub arguments : ArePlain i.arguments
+  pub arguments : AreWellFormed i.arguments
 
 -- The encoding of an instruction: its opcode, then its immediates.
-abbrev pub plain_text : Plain → List ℕ
-plain_text i = op_text i.op ++ arguments_text i.arguments
+abbrev pub plain_encoding : Plain → List ℕ
+plain_encoding i = op_encoding i.op ++ arguments_encoding i.arguments

@@ -9,7 +9,7 @@ use Rattle.wasm_insn.specs.declared.op.Op.TheVariants.{Byte, Prefixed}
 use Rattle.wasm_insn.specs.declared.op.Shape.{Shape}
 use Rattle.wasm_insn.specs.declared.op.Shape.TheVariants.{Nothing, U, Uu, M, Ml, L, B, H, O, Ou, Ouu, C32, C64, F32, F64, V, Ls, Bt, Tt, Ts, K, Uh, Uuh}
 use Rattle.wasm_insn.specs.declared.table.Run.{Run}
-use Rattle.wasm_insn.specs.Opcodes.{op_text}
+use Rattle.wasm_insn.specs.Opcodes.{op_encoding}
 use Rattle.wasm_insn.specs.Parts.{parts_of}
 use Rattle.wasm_insn.specs.Arguments.{part_of}
 use Rattle.wasm_insn.specs.Plain.{Table, Plain, same_op, is_prefix, shape_of}
@@ -207,7 +207,7 @@ pub record IsOpcodeTable (rows : Table) : Type 0 where
 
 -- The opcodes are prefix-free: if two encodings begin the same bytes, they are of the same opcode.
 pub record BeginsNoOther : Type 0 where
-  pub for_each : (a b : Op) (x y : List ℕ) → IsTableOp a → IsTableOp b → op_text a ++ x ≡ op_text b ++ y → a ≡ b
+  pub for_each : (a b : Op) (x y : List ℕ) → IsTableOp a → IsTableOp b → op_encoding a ++ x ≡ op_encoding b ++ y → a ≡ b
 
 -- The opcode is in the table, and the instruction has an immediate for each of its shape.
 pub record IsRow (rows : Table) (i : Plain) : Type 0 where

@@ -1,7 +1,7 @@
 // Atomic instructions: those after the prefix FE.
 ghost use Rattle.std.specs.Prelude.{◌≡◌};
 ghost use Rattle.wasm_base.specs.Calls.{Appends};
-ghost use Rattle.wasm_insn.specs.Arguments.{arguments_text, arguments_fit};
+ghost use Rattle.wasm_insn.specs.Arguments.{arguments_encoding, arguments_encodable};
 ghost use Rattle.wasm_insn.specs.Atomic.{atomic_row};
 
 use crate::instruction::Instruction;
@@ -350,7 +350,7 @@ impl Atomic {
 
     /// Appends the immediates.
     pub(crate) fn encode_arguments<A: Allocator>(self, sink: &mut Vec<u8, A>) -> R<()>
-        ensures { Appends (arguments_text (atomic_row self).arguments) (arguments_fit (atomic_row self).arguments) sink.old sink.new result }
+        ensures { Appends (arguments_encoding (atomic_row self).arguments) (arguments_encodable (atomic_row self).arguments) sink.old sink.new result }
     {
         match self {
             Atomic::MemoryAtomicNotify(a)

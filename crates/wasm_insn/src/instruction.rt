@@ -1,12 +1,12 @@
 // The type of all instructions, and its encoding.
 ghost use Rattle.std.specs.Prelude.{◌≡◌, ◌≢◌, ◌++◌, ◌∷◌, [], ⊤, IfOk};
 ghost use Rattle.wasm_base.specs.Calls.{Appends};
-ghost use Rattle.wasm_base.specs.Numbers.{unsigned_text};
-ghost use Rattle.wasm_base.specs.Texts.{vec_text, VecFits};
-ghost use Rattle.wasm_base.specs.Types.{heap_text};
-ghost use Rattle.wasm_immediates.specs.Immediates.{block_text, catch_text, handle_text};
-ghost use Rattle.wasm_insn.specs.Arguments.{arguments_text, arguments_fit};
-ghost use Rattle.wasm_insn.specs.Instructions.{row_of, instruction_text, InstructionFits, ReadsInstruction, cast_flag_of};
+ghost use Rattle.wasm_base.specs.Numbers.{unsigned_encoding};
+ghost use Rattle.wasm_base.specs.Encodings.{vec_encoding, IsEncodableVec};
+ghost use Rattle.wasm_base.specs.Types.{heap_encoding};
+ghost use Rattle.wasm_immediates.specs.Immediates.{block_encoding, catch_encoding, handle_encoding};
+ghost use Rattle.wasm_insn.specs.Arguments.{arguments_encoding, arguments_encodable};
+ghost use Rattle.wasm_insn.specs.Instructions.{row_of, instruction_encoding, IsEncodableInstruction, DecodesInstruction, cast_flag_of};
 
 use crate::aggregate::Aggregate;
 use crate::atomic::Atomic;
@@ -256,7 +256,7 @@ fn cast_flag(from: RefType, to: RefType) -> u8
 /// Appends the labels of a branch table, and the default label.
 #[inline(never)]
 fn encode_labels<A: Allocator>(labels: &[u32], default: u32, sink: &mut Vec<u8, A>) -> R<()>
-    ensures { Appends (vec_text unsigned_text labels.now ++ unsigned_text default) (VecFits (λ _. ⊤) labels.now × ⊤) sink.old sink.new result }
+    ensures { Appends (vec_encoding unsigned_encoding labels.now ++ unsigned_encoding default) (IsEncodableVec (λ _. ⊤) labels.now × ⊤) sink.old sink.new result }
 {
     (labels, default).encode(sink)
 }
@@ -268,7 +268,7 @@ fn encode_try_table<A: Allocator>(
     catches: &[Catch],
     sink: &mut Vec<u8, A>,
 ) -> R<()>
-    ensures { Appends (block_text block_type ++ vec_text catch_text catches.now) (⊤ × VecFits (λ _. ⊤) catches.now) sink.old sink.new result }
+    ensures { Appends (block_encoding block_type ++ vec_encoding catch_encoding catches.now) (⊤ × IsEncodableVec (λ _. ⊤) catches.now) sink.old sink.new result }
 {
     (block_type, catches).encode(sink)
 }
@@ -276,7 +276,7 @@ fn encode_try_table<A: Allocator>(
 /// Appends the index of a type, and handle clauses.
 #[inline(never)]
 fn encode_resume<A: Allocator>(index: u32, handles: &[Handle], sink: &mut Vec<u8, A>) -> R<()>
-    ensures { Appends (unsigned_text index ++ vec_text handle_text handles.now) (⊤ × VecFits (λ _. ⊤) handles.now) sink.old sink.new result }
+    ensures { Appends (unsigned_encoding index ++ vec_encoding handle_encoding handles.now) (⊤ × IsEncodableVec (λ _. ⊤) handles.now) sink.old sink.new result }
 {
     (index, handles).encode(sink)
 }
@@ -289,7 +289,7 @@ fn encode_resume_throw<A: Allocator>(
     handles: &[Handle],
     sink: &mut Vec<u8, A>,
 ) -> R<()>
-    ensures { Appends (unsigned_text index ++ (unsigned_text tag ++ vec_text handle_text handles.now)) (⊤ × ⊤ × VecFits (λ _. ⊤) handles.now) sink.old sink.new result }
+    ensures { Appends (unsigned_encoding index ++ (unsigned_encoding tag ++ vec_encoding handle_encoding handles.now)) (⊤ × ⊤ × IsEncodableVec (λ _. ⊤) handles.now) sink.old sink.new result }
 {
     (index, tag, handles).encode(sink)
 }
@@ -297,7 +297,7 @@ fn encode_resume_throw<A: Allocator>(
 /// Appends the flags, the label, and the two heap types of a cast.
 #[inline(never)]
 fn encode_cast<A: Allocator>(label: u32, from: RefType, to: RefType, sink: &mut Vec<u8, A>) -> R<()>
-    ensures { Appends (cast_flag_of from to ∷ [] ++ (unsigned_text label ++ (heap_text from.heap_type ++ heap_text to.heap_type))) (⊤ × ⊤ × (⊤ × ⊤)) sink.old sink.new result }
+    ensures { Appends (cast_flag_of from to ∷ [] ++ (unsigned_encoding label ++ (heap_encoding from.heap_type ++ heap_encoding to.heap_type))) (⊤ × ⊤ × (⊤ × ⊤)) sink.old sink.new result }
 {
     (cast_flag(from, to), label, (from.heap_type, to.heap_type)).encode(sink)
 }
@@ -441,7 +441,7 @@ impl<'a, A: Allocator> Instruction<'a, A> {
 
     /// Appends the immediates.
     fn encode_arguments<B: Allocator>(&self, sink: &mut Vec<u8, B>) -> R<()>
-        ensures { Appends (arguments_text (row_of self.now).arguments) (arguments_fit (row_of self.now).arguments) sink.old sink.new result }
+        ensures { Appends (arguments_encoding (row_of self.now).arguments) (arguments_encodable (row_of self.now).arguments) sink.old sink.new result }
     {
         match self {
             Instruction::Block(a)
@@ -995,13 +995,13 @@ impl<'a, A: Allocator + Copy> Instruction<'a, A> {
 
 /// Encodes the opcode, and then the immediates.
 impl<'a, A: Allocator> Encode for Instruction<'a, A> {
-    ghost text = { instruction_text };
+    ghost encoding = { instruction_encoding };
 
-    ghost fits = { InstructionFits };
+    ghost encodable = { IsEncodableInstruction };
 
-    ghost reading = { ReadsInstruction };
+    ghost decoding = { DecodesInstruction };
 
-    #[tactic(auto, using(crate::proofs::InstructionLaws::reads))]
+    #[tactic(auto, using(crate::proofs::InstructionLaws::decodes))]
     fn encode<B: Allocator>(&self, sink: &mut Vec<u8, B>) -> R<()> {
         let start = sink.len();
         self.op().encode(sink)?;

@@ -1,18 +1,18 @@
 //! Laws about opcodes and instructions, for all byte sequences: each function does nothing, and its
 //! clauses are the law.
 //!
-//! `UniqueReading F` says that the format `F` is unambiguous: at most one value decodes from the
+//! `Unambiguous F` says that the format `F` is unambiguous: at most one value decodes from the
 //! front of any bytes, with minimal and with padded numbers. A value has at most one minimal
-//! encoding. `UniqueWholeReading F` says the same of a format that occupies all of the bytes.
-//! `HasTexts F fits text` says that `text` is the minimal encoding of each value that fits.
+//! encoding. `UnambiguousWhole F` says the same of a format that occupies all of the bytes.
+//! `HasMinimalEncodings F encodable encoding` says that `encoding` is the minimal encoding of each value that fits.
 ghost use Rattle.std.specs.Prelude.{All};
 ghost use Rattle.wasm_base.specs.Formats.{members};
-ghost use Rattle.wasm_base.specs.Reading.{UniqueReading, UniqueWholeReading, HasTexts, IsUniqueWide, IsUniqueWholeWide};
+ghost use Rattle.wasm_base.specs.Decoding.{Unambiguous, UnambiguousWhole, HasMinimalEncodings, UnambiguousPadded, UnambiguousWholePadded};
 ghost use Rattle.wasm_insn.specs.Cases.{Given, all_cases, AreRows, IsCase};
-ghost use Rattle.wasm_insn.specs.Opcodes.{op_text};
+ghost use Rattle.wasm_insn.specs.Opcodes.{op_encoding};
 ghost use Rattle.wasm_insn.specs.Plain.{opcode, instruction, IsOpcode};
 ghost use Rattle.wasm_insn.specs.Table.{table, IsOpcodeTable, BeginsNoOther, IsRow};
-ghost use Rattle.wasm_insn.specs.Instructions.{row_of, ReadsInstruction, HaveOneText, IsPlainWhereAligned};
+ghost use Rattle.wasm_insn.specs.Instructions.{row_of, DecodesInstruction, HaveOneEncoding, IsWellFormedWhereAligned};
 ghost use Rattle.wasm_insn.specs.declared.instruction.Instruction.{Instruction};
 
 use crate::instruction::Instruction;
@@ -23,8 +23,8 @@ use std::alloc::Allocator;
 /// of neighbours shares an opcode. No opcode's bytes are a prefix of another's.
 #[tactic(auto, using(crate::proofs::InstructionLaws::opcodes))]
 pub fn opcodes()
-    ensures alone { UniqueReading opcode }
-    ensures texts { HasTexts opcode IsOpcode op_text }
+    ensures unique { Unambiguous opcode }
+    ensures encodings { HasMinimalEncodings opcode IsOpcode op_encoding }
     ensures table { IsOpcodeTable table }
     ensures apart { BeginsNoOther }
 {}
@@ -47,36 +47,36 @@ pub fn cases<A: Allocator>()
 /// instruction decodes to its normal form alone. Two well-formed instructions have the same
 /// encoding exactly if they have the same normal form.
 pub fn instructions<A: Allocator>()
-    ensures alone { UniqueReading (instruction table) }
-    ensures plain { (i : Instruction A) → ReadsInstruction i }
-    ensures one_text { (i j : Instruction A) → HaveOneText i j }
+    ensures unique { Unambiguous (instruction table) }
+    ensures plain { (i : Instruction A) → DecodesInstruction i }
+    ensures one_encoding { (i j : Instruction A) → HaveOneEncoding i j }
 {}
 
 /// With padded numbers the formats are unambiguous too.
-#[tactic(auto, using(crate::proofs::InstructionLaws::wide))]
-pub fn wide()
-    ensures opcode { IsUniqueWide opcode }
-    ensures instruction { IsUniqueWide (instruction table) }
-    ensures list { IsUniqueWholeWide (members (instruction table)) }
+#[tactic(auto, using(crate::proofs::InstructionLaws::padded))]
+pub fn padded()
+    ensures opcode { UnambiguousPadded opcode }
+    ensures instruction { UnambiguousPadded (instruction table) }
+    ensures list { UnambiguousWholePadded (members (instruction table)) }
 {}
 
 /// Lists of instructions that occupy all of the bytes are unambiguous.
 #[tactic(auto, using(crate::proofs::InstructionLaws::lists))]
 pub fn lists()
-    ensures { UniqueWholeReading (members (instruction table)) }
+    ensures { UnambiguousWhole (members (instruction table)) }
 {}
 
 /// An instruction is well-formed if its alignments are below 16 and its lists can be counted. A
 /// call that encodes it has promised the latter.
 pub fn plain_instruction<A: Allocator>(instruction: &Instruction<'_, A>)
-    ensures { IsPlainWhereAligned instruction.now }
+    ensures { IsWellFormedWhereAligned instruction.now }
 {
     arguments_ranged(instruction);
 }
 
 /// The same holds for each instruction of a list.
 pub fn plain_instructions<A: Allocator>(instructions: &[Instruction<'_, A>])
-    ensures { All IsPlainWhereAligned instructions.now }
+    ensures { All IsWellFormedWhereAligned instructions.now }
 {
     for instruction in instructions {
         plain_instruction(instruction);

@@ -1,6 +1,6 @@
 // Opcodes, and the shapes of their immediates.
 ghost use Rattle.std.specs.Prelude.{⊤};
-ghost use Rattle.wasm_insn.specs.Opcodes.{op_text};
+ghost use Rattle.wasm_insn.specs.Opcodes.{op_encoding};
 
 use std::alloc::Allocator;
 use wasm_base::{Encode, R};
@@ -64,9 +64,9 @@ pub enum Shape {
 
 /// Encodes the byte, or the prefix and the number.
 impl Encode for Op {
-    ghost text = { op_text };
+    ghost encoding = { op_encoding };
 
-    ghost fits = { λ _. ⊤ };
+    ghost encodable = { λ _. ⊤ };
 
     #[inline(always)]
     fn encode<A: Allocator>(&self, sink: &mut Vec<u8, A>) -> R<()> {

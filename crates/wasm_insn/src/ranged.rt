@@ -1,13 +1,13 @@
 // Range facts from types: each function does nothing, and promises that the numbers in an
 // instruction are in range.
 ghost use Rattle.std.specs.Prelude.{◌<◌, ◌^◌, ◌∷◌, [], All};
-ghost use Rattle.wasm_base.specs.Laws.{FitsSigned32, FitsSigned64};
+ghost use Rattle.wasm_base.specs.Laws.{IsSigned32InRange, IsSigned64InRange};
 ghost use Rattle.wasm_base.specs.Types.{IsHeap, IsVal};
-ghost use Rattle.wasm_immediates.specs.PlainImmediates.{IsPlainMemory, IsPlainBlock, IsPlainCatch, IsPlainHandle};
+ghost use Rattle.wasm_immediates.specs.ImmediateFormats.{IsWellFormedMemory, IsWellFormedBlock, IsWellFormedCatch, IsWellFormedHandle};
 ghost use Rattle.wasm_insn.specs.Arguments.{unsigned, heap, flag};
 ghost use Rattle.wasm_insn.specs.Atomic.{atomic_row};
-ghost use Rattle.wasm_insn.specs.Instructions.{row_of, cast_flag_of, IsPlainWhereAligned};
-ghost use Rattle.wasm_insn.specs.Plain.{ArePlain, HaveSmallAlignments};
+ghost use Rattle.wasm_insn.specs.Instructions.{row_of, cast_flag_of, IsWellFormedWhereAligned};
+ghost use Rattle.wasm_insn.specs.Plain.{AreWellFormed, HaveSmallAlignments};
 ghost use Rattle.wasm_insn.specs.VectorImmediate.{vector_immediate_row};
 
 use crate::atomic::Atomic;
@@ -34,13 +34,13 @@ impl Ranged for u32 {
 }
 
 impl Ranged for i32 {
-    ghost in_range = { FitsSigned32 };
+    ghost in_range = { IsSigned32InRange };
 
     fn ranged(self) {}
 }
 
 impl Ranged for i64 {
-    ghost in_range = { FitsSigned64 };
+    ghost in_range = { IsSigned64InRange };
 
     fn ranged(self) {}
 }
@@ -70,38 +70,38 @@ impl Ranged for ValType {
 }
 
 impl Ranged for BlockType {
-    ghost in_range = { IsPlainBlock };
+    ghost in_range = { IsWellFormedBlock };
 
     fn ranged(self) {}
 }
 
 impl Ranged for Catch {
-    ghost in_range = { IsPlainCatch };
+    ghost in_range = { IsWellFormedCatch };
 
     fn ranged(self) {}
 }
 
 impl Ranged for Handle {
-    ghost in_range = { IsPlainHandle };
+    ghost in_range = { IsWellFormedHandle };
 
     fn ranged(self) {}
 }
 
 /// All numbers but the alignment are in the range of their types.
 impl Ranged for MemArg {
-    ghost in_range = { λ m. m.align < 16 → IsPlainMemory m };
+    ghost in_range = { λ m. m.align < 16 → IsWellFormedMemory m };
 
     fn ranged(self) {}
 }
 
 impl Ranged for VectorImmediate {
-    ghost in_range = { λ i. HaveSmallAlignments (vector_immediate_row i).arguments → ArePlain (vector_immediate_row i).arguments };
+    ghost in_range = { λ i. HaveSmallAlignments (vector_immediate_row i).arguments → AreWellFormed (vector_immediate_row i).arguments };
 
     fn ranged(self) {}
 }
 
 impl Ranged for Atomic {
-    ghost in_range = { λ i. HaveSmallAlignments (atomic_row i).arguments → ArePlain (atomic_row i).arguments };
+    ghost in_range = { λ i. HaveSmallAlignments (atomic_row i).arguments → AreWellFormed (atomic_row i).arguments };
 
     fn ranged(self) {
         match self {
@@ -343,7 +343,7 @@ fn each_ranged<T: Ranged>(items: &[T])
 /// Proves that the immediates of a cast are in range.
 #[tactic(auto, using(crate::proofs::PlainLaws::cast_flag_below))]
 fn cast_ranged(label: u32, from: RefType, to: RefType)
-    ensures { ArePlain (flag (cast_flag_of from to) ∷ unsigned label ∷ heap from.heap_type ∷ heap to.heap_type ∷ []) }
+    ensures { AreWellFormed (flag (cast_flag_of from to) ∷ unsigned label ∷ heap from.heap_type ∷ heap to.heap_type ∷ []) }
 {
     from.heap_type.ranged();
     to.heap_type.ranged();
@@ -351,7 +351,7 @@ fn cast_ranged(label: u32, from: RefType, to: RefType)
 
 /// Proves that the immediates of an instruction are in range, if its alignments are.
 pub(crate) fn arguments_ranged<A: Allocator>(instruction: &Instruction<'_, A>)
-    ensures { IsPlainWhereAligned instruction.now }
+    ensures { IsWellFormedWhereAligned instruction.now }
 {
     match instruction {
         Instruction::Block(a) | Instruction::Loop(a) | Instruction::If(a) | Instruction::Try(a) =>

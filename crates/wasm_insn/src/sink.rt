@@ -1,7 +1,7 @@
 // The instruction sink: a method for each common instruction, which appends it to a buffer.
 ghost use Rattle.std.specs.Prelude.{◌≡◌, ℕ, ◌+◌, ◌≤◌, List, length, vec_len, vec_capacity, ⊤};
 ghost use Rattle.wasm_base.specs.Iterators.{HasKnownLength};
-ghost use Rattle.wasm_insn.specs.Opcodes.{op_text};
+ghost use Rattle.wasm_insn.specs.Opcodes.{op_encoding};
 ghost use Rattle.wasm_insn.specs.Sink.{Writes, WritesVec, WritesInstruction, WritesLabels};
 
 use crate::instruction::Instruction;
@@ -18,13 +18,13 @@ pub trait Buffer {
     /// `written`: the bytes in the buffer.
     ghost written: { Self → List ℕ };
 
-    /// `has_room`: the buffer has spare capacity for this many bytes. A buffer may leave this
+    /// `has_spare_capacity`: the buffer has spare capacity for this many bytes. A buffer may leave this
     /// unspecified.
-    ghost has_room: { Self → ℕ → Type 0 } = { λ _ _. ⊥ };
+    ghost has_spare_capacity: { Self → ℕ → Type 0 } = { λ _ _. ⊥ };
 
     /// Appends the encoding of the value. On an error, the bytes are unchanged.
     fn append<E: Encode>(&mut self, value: &E) -> R<()>
-        ensures { Writes (E.text value.now) (E.fits value.now) (has_room self.old (length (E.text value.now))) (written self.old) (written self.new) result };
+        ensures { Writes (E.encoding value.now) (E.encodable value.now) (has_spare_capacity self.old (length (E.encoding value.now))) (written self.old) (written self.new) result };
 
     /// Appends a value, the elements as a vector, and another value. On an error, the bytes are
     /// unchanged. If the length that the elements report exceeds 4294967295, the call returns
@@ -38,14 +38,14 @@ pub trait Buffer {
     where
         V::IntoIter: ExactSizeIterator + Drop,
         requires { HasKnownLength V.into_iter_gives V.IntoIter.can_next V.IntoIter.next_gives V.IntoIter.remaining elements }
-        ensures { WritesVec V.into_iter_gives V.IntoIter.next_gives V.IntoIter.remaining T.fits T.text elements (S.fits before.now × U.fits after.now) (S.text before.now) (U.text after.now) (written self.old) (written self.new) result };
+        ensures { WritesVec V.into_iter_gives V.IntoIter.next_gives V.IntoIter.remaining T.encodable T.encoding elements (S.encodable before.now × U.encodable after.now) (S.encoding before.now) (U.encoding after.now) (written self.old) (written self.new) result };
 }
 
 /// Appends to the vector itself.
 impl<A: Allocator> Buffer for Vec<u8, A> {
     ghost written = { λ bytes. bytes.items };
 
-    ghost has_room = { λ bytes n. vec_len bytes + n ≤ vec_capacity bytes };
+    ghost has_spare_capacity = { λ bytes n. vec_len bytes + n ≤ vec_capacity bytes };
 
     fn append<E: Encode>(&mut self, value: &E) -> R<()> {
         value.encode(self)
@@ -101,7 +101,7 @@ impl<'a, B: Buffer> InstructionSink<'a, B> {
     /// Appends one encoded instruction. Each call but `br_table` uses it.
     fn emit<E: Encode>(&mut self, value: &E) -> R<()>
         ensures same_reference { self.new.sink.ghost_name ≡ self.old.sink.ghost_name }
-        ensures writes { Writes (E.text value.now) (E.fits value.now) (B.has_room self.old.sink.now (length (E.text value.now))) (B.written self.old.sink.now) (B.written self.new.sink.now) result }
+        ensures writes { Writes (E.encoding value.now) (E.encodable value.now) (B.has_spare_capacity self.old.sink.now (length (E.encoding value.now))) (B.written self.old.sink.now) (B.written self.new.sink.now) result }
     {
         self.sink.append(value)
     }
@@ -109,7 +109,7 @@ impl<'a, B: Buffer> InstructionSink<'a, B> {
     /// Appends an opcode.
     pub fn op(&mut self, op: Op) -> R<()>
         ensures same_reference { self.new.sink.ghost_name ≡ self.old.sink.ghost_name }
-        ensures writes { Writes (op_text op) ⊤ (B.has_room self.old.sink.now (length (op_text op))) (B.written self.old.sink.now) (B.written self.new.sink.now) result }
+        ensures writes { Writes (op_encoding op) ⊤ (B.has_spare_capacity self.old.sink.now (length (op_encoding op))) (B.written self.old.sink.now) (B.written self.new.sink.now) result }
     {
         self.emit(&op)
     }
@@ -117,7 +117,7 @@ impl<'a, B: Buffer> InstructionSink<'a, B> {
     /// Appends the encoding of `Unreachable`.
     pub fn unreachable(&mut self) -> R<()>
         ensures same_reference { self.new.sink.ghost_name ≡ self.old.sink.ghost_name }
-        ensures writes { WritesInstruction B.written B.has_room Instruction.Unreachable self.old.sink.now self.new.sink.now result }
+        ensures writes { WritesInstruction B.written B.has_spare_capacity Instruction.Unreachable self.old.sink.now self.new.sink.now result }
     {
         self.emit(&0x00u8)
     }
@@ -125,7 +125,7 @@ impl<'a, B: Buffer> InstructionSink<'a, B> {
     /// Appends the encoding of `Nop`.
     pub fn nop(&mut self) -> R<()>
         ensures same_reference { self.new.sink.ghost_name ≡ self.old.sink.ghost_name }
-        ensures writes { WritesInstruction B.written B.has_room Instruction.Nop self.old.sink.now self.new.sink.now result }
+        ensures writes { WritesInstruction B.written B.has_spare_capacity Instruction.Nop self.old.sink.now self.new.sink.now result }
     {
         self.emit(&0x01u8)
     }
@@ -133,7 +133,7 @@ impl<'a, B: Buffer> InstructionSink<'a, B> {
     /// Appends the encoding of `Block`.
     pub fn block(&mut self, block_type: BlockType) -> R<()>
         ensures same_reference { self.new.sink.ghost_name ≡ self.old.sink.ghost_name }
-        ensures writes { WritesInstruction B.written B.has_room (Instruction.Block block_type) self.old.sink.now self.new.sink.now result }
+        ensures writes { WritesInstruction B.written B.has_spare_capacity (Instruction.Block block_type) self.old.sink.now self.new.sink.now result }
     {
         self.emit(&(0x02u8, block_type))
     }
@@ -141,7 +141,7 @@ impl<'a, B: Buffer> InstructionSink<'a, B> {
     /// Appends the encoding of `Loop`.
     pub fn loop_(&mut self, block_type: BlockType) -> R<()>
         ensures same_reference { self.new.sink.ghost_name ≡ self.old.sink.ghost_name }
-        ensures writes { WritesInstruction B.written B.has_room (Instruction.Loop block_type) self.old.sink.now self.new.sink.now result }
+        ensures writes { WritesInstruction B.written B.has_spare_capacity (Instruction.Loop block_type) self.old.sink.now self.new.sink.now result }
     {
         self.emit(&(0x03u8, block_type))
     }
@@ -149,7 +149,7 @@ impl<'a, B: Buffer> InstructionSink<'a, B> {
     /// Appends the encoding of `If`.
     pub fn if_(&mut self, block_type: BlockType) -> R<()>
         ensures same_reference { self.new.sink.ghost_name ≡ self.old.sink.ghost_name }
-        ensures writes { WritesInstruction B.written B.has_room (Instruction.If block_type) self.old.sink.now self.new.sink.now result }
+        ensures writes { WritesInstruction B.written B.has_spare_capacity (Instruction.If block_type) self.old.sink.now self.new.sink.now result }
     {
         self.emit(&(0x04u8, block_type))
     }
@@ -157,7 +157,7 @@ impl<'a, B: Buffer> InstructionSink<'a, B> {
     /// Appends the encoding of `Else`.
     pub fn else_(&mut self) -> R<()>
         ensures same_reference { self.new.sink.ghost_name ≡ self.old.sink.ghost_name }
-        ensures writes { WritesInstruction B.written B.has_room Instruction.Else self.old.sink.now self.new.sink.now result }
+        ensures writes { WritesInstruction B.written B.has_spare_capacity Instruction.Else self.old.sink.now self.new.sink.now result }
     {
         self.emit(&0x05u8)
     }
@@ -165,7 +165,7 @@ impl<'a, B: Buffer> InstructionSink<'a, B> {
     /// Appends the encoding of `End`.
     pub fn end(&mut self) -> R<()>
         ensures same_reference { self.new.sink.ghost_name ≡ self.old.sink.ghost_name }
-        ensures writes { WritesInstruction B.written B.has_room Instruction.End self.old.sink.now self.new.sink.now result }
+        ensures writes { WritesInstruction B.written B.has_spare_capacity Instruction.End self.old.sink.now self.new.sink.now result }
     {
         self.emit(&0x0Bu8)
     }
@@ -173,7 +173,7 @@ impl<'a, B: Buffer> InstructionSink<'a, B> {
     /// Appends the encoding of `Br`.
     pub fn br(&mut self, label: u32) -> R<()>
         ensures same_reference { self.new.sink.ghost_name ≡ self.old.sink.ghost_name }
-        ensures writes { WritesInstruction B.written B.has_room (Instruction.Br label) self.old.sink.now self.new.sink.now result }
+        ensures writes { WritesInstruction B.written B.has_spare_capacity (Instruction.Br label) self.old.sink.now self.new.sink.now result }
     {
         self.emit(&(0x0Cu8, label))
     }
@@ -181,7 +181,7 @@ impl<'a, B: Buffer> InstructionSink<'a, B> {
     /// Appends the encoding of `BrIf`.
     pub fn br_if(&mut self, label: u32) -> R<()>
         ensures same_reference { self.new.sink.ghost_name ≡ self.old.sink.ghost_name }
-        ensures writes { WritesInstruction B.written B.has_room (Instruction.BrIf label) self.old.sink.now self.new.sink.now result }
+        ensures writes { WritesInstruction B.written B.has_spare_capacity (Instruction.BrIf label) self.old.sink.now self.new.sink.now result }
     {
         self.emit(&(0x0Du8, label))
     }
@@ -200,7 +200,7 @@ impl<'a, B: Buffer> InstructionSink<'a, B> {
     /// Appends the encoding of `Return`.
     pub fn return_(&mut self) -> R<()>
         ensures same_reference { self.new.sink.ghost_name ≡ self.old.sink.ghost_name }
-        ensures writes { WritesInstruction B.written B.has_room Instruction.Return self.old.sink.now self.new.sink.now result }
+        ensures writes { WritesInstruction B.written B.has_spare_capacity Instruction.Return self.old.sink.now self.new.sink.now result }
     {
         self.emit(&0x0Fu8)
     }
@@ -208,7 +208,7 @@ impl<'a, B: Buffer> InstructionSink<'a, B> {
     /// Appends the encoding of `Call`.
     pub fn call(&mut self, function_index: u32) -> R<()>
         ensures same_reference { self.new.sink.ghost_name ≡ self.old.sink.ghost_name }
-        ensures writes { WritesInstruction B.written B.has_room (Instruction.Call function_index) self.old.sink.now self.new.sink.now result }
+        ensures writes { WritesInstruction B.written B.has_spare_capacity (Instruction.Call function_index) self.old.sink.now self.new.sink.now result }
     {
         self.emit(&(0x10u8, function_index))
     }
@@ -216,7 +216,7 @@ impl<'a, B: Buffer> InstructionSink<'a, B> {
     /// Appends the encoding of `CallIndirect`.
     pub fn call_indirect(&mut self, table_index: u32, type_index: u32) -> R<()>
         ensures same_reference { self.new.sink.ghost_name ≡ self.old.sink.ghost_name }
-        ensures writes { WritesInstruction B.written B.has_room (Instruction.CallIndirect type_index table_index) self.old.sink.now self.new.sink.now result }
+        ensures writes { WritesInstruction B.written B.has_spare_capacity (Instruction.CallIndirect type_index table_index) self.old.sink.now self.new.sink.now result }
     {
         self.emit(&(0x11u8, type_index, table_index))
     }
@@ -224,7 +224,7 @@ impl<'a, B: Buffer> InstructionSink<'a, B> {
     /// Appends the encoding of `Drop`.
     pub fn drop_(&mut self) -> R<()>
         ensures same_reference { self.new.sink.ghost_name ≡ self.old.sink.ghost_name }
-        ensures writes { WritesInstruction B.written B.has_room Instruction.Drop self.old.sink.now self.new.sink.now result }
+        ensures writes { WritesInstruction B.written B.has_spare_capacity Instruction.Drop self.old.sink.now self.new.sink.now result }
     {
         self.emit(&0x1Au8)
     }
@@ -232,7 +232,7 @@ impl<'a, B: Buffer> InstructionSink<'a, B> {
     /// Appends the encoding of `Select`.
     pub fn select(&mut self) -> R<()>
         ensures same_reference { self.new.sink.ghost_name ≡ self.old.sink.ghost_name }
-        ensures writes { WritesInstruction B.written B.has_room Instruction.Select self.old.sink.now self.new.sink.now result }
+        ensures writes { WritesInstruction B.written B.has_spare_capacity Instruction.Select self.old.sink.now self.new.sink.now result }
     {
         self.emit(&0x1Bu8)
     }
@@ -240,7 +240,7 @@ impl<'a, B: Buffer> InstructionSink<'a, B> {
     /// Appends the encoding of `TypedSelect`.
     pub fn typed_select(&mut self, ty: ValType) -> R<()>
         ensures same_reference { self.new.sink.ghost_name ≡ self.old.sink.ghost_name }
-        ensures writes { WritesInstruction B.written B.has_room (Instruction.TypedSelect ty) self.old.sink.now self.new.sink.now result }
+        ensures writes { WritesInstruction B.written B.has_spare_capacity (Instruction.TypedSelect ty) self.old.sink.now self.new.sink.now result }
     {
         self.emit(&(0x1Cu8, slice::from_ref(&ty)))
     }
@@ -248,7 +248,7 @@ impl<'a, B: Buffer> InstructionSink<'a, B> {
     /// Appends the encoding of `TypedSelectMulti`.
     pub fn typed_select_multi(&mut self, types: &[ValType]) -> R<()>
         ensures same_reference { self.new.sink.ghost_name ≡ self.old.sink.ghost_name }
-        ensures writes { WritesInstruction B.written B.has_room (Instruction.TypedSelectMulti (CowSlice.Borrowed types.entry)) self.old.sink.now self.new.sink.now result }
+        ensures writes { WritesInstruction B.written B.has_spare_capacity (Instruction.TypedSelectMulti (CowSlice.Borrowed types.entry)) self.old.sink.now self.new.sink.now result }
     {
         self.emit(&(0x1Cu8, types))
     }
@@ -256,7 +256,7 @@ impl<'a, B: Buffer> InstructionSink<'a, B> {
     /// Appends the encoding of `LocalGet`.
     pub fn local_get(&mut self, index: u32) -> R<()>
         ensures same_reference { self.new.sink.ghost_name ≡ self.old.sink.ghost_name }
-        ensures writes { WritesInstruction B.written B.has_room (Instruction.LocalGet index) self.old.sink.now self.new.sink.now result }
+        ensures writes { WritesInstruction B.written B.has_spare_capacity (Instruction.LocalGet index) self.old.sink.now self.new.sink.now result }
     {
         self.emit(&(0x20u8, index))
     }
@@ -264,7 +264,7 @@ impl<'a, B: Buffer> InstructionSink<'a, B> {
     /// Appends the encoding of `LocalSet`.
     pub fn local_set(&mut self, index: u32) -> R<()>
         ensures same_reference { self.new.sink.ghost_name ≡ self.old.sink.ghost_name }
-        ensures writes { WritesInstruction B.written B.has_room (Instruction.LocalSet index) self.old.sink.now self.new.sink.now result }
+        ensures writes { WritesInstruction B.written B.has_spare_capacity (Instruction.LocalSet index) self.old.sink.now self.new.sink.now result }
     {
         self.emit(&(0x21u8, index))
     }
@@ -272,7 +272,7 @@ impl<'a, B: Buffer> InstructionSink<'a, B> {
     /// Appends the encoding of `LocalTee`.
     pub fn local_tee(&mut self, index: u32) -> R<()>
         ensures same_reference { self.new.sink.ghost_name ≡ self.old.sink.ghost_name }
-        ensures writes { WritesInstruction B.written B.has_room (Instruction.LocalTee index) self.old.sink.now self.new.sink.now result }
+        ensures writes { WritesInstruction B.written B.has_spare_capacity (Instruction.LocalTee index) self.old.sink.now self.new.sink.now result }
     {
         self.emit(&(0x22u8, index))
     }
@@ -280,7 +280,7 @@ impl<'a, B: Buffer> InstructionSink<'a, B> {
     /// Appends the encoding of `GlobalGet`.
     pub fn global_get(&mut self, index: u32) -> R<()>
         ensures same_reference { self.new.sink.ghost_name ≡ self.old.sink.ghost_name }
-        ensures writes { WritesInstruction B.written B.has_room (Instruction.GlobalGet index) self.old.sink.now self.new.sink.now result }
+        ensures writes { WritesInstruction B.written B.has_spare_capacity (Instruction.GlobalGet index) self.old.sink.now self.new.sink.now result }
     {
         self.emit(&(0x23u8, index))
     }
@@ -288,7 +288,7 @@ impl<'a, B: Buffer> InstructionSink<'a, B> {
     /// Appends the encoding of `GlobalSet`.
     pub fn global_set(&mut self, index: u32) -> R<()>
         ensures same_reference { self.new.sink.ghost_name ≡ self.old.sink.ghost_name }
-        ensures writes { WritesInstruction B.written B.has_room (Instruction.GlobalSet index) self.old.sink.now self.new.sink.now result }
+        ensures writes { WritesInstruction B.written B.has_spare_capacity (Instruction.GlobalSet index) self.old.sink.now self.new.sink.now result }
     {
         self.emit(&(0x24u8, index))
     }
@@ -296,7 +296,7 @@ impl<'a, B: Buffer> InstructionSink<'a, B> {
     /// Appends the encoding of `I32Load`.
     pub fn i32_load(&mut self, memarg: MemArg) -> R<()>
         ensures same_reference { self.new.sink.ghost_name ≡ self.old.sink.ghost_name }
-        ensures writes { WritesInstruction B.written B.has_room (Instruction.I32Load memarg) self.old.sink.now self.new.sink.now result }
+        ensures writes { WritesInstruction B.written B.has_spare_capacity (Instruction.I32Load memarg) self.old.sink.now self.new.sink.now result }
     {
         self.emit(&(0x28u8, memarg))
     }
@@ -304,7 +304,7 @@ impl<'a, B: Buffer> InstructionSink<'a, B> {
     /// Appends the encoding of `I32Store`.
     pub fn i32_store(&mut self, memarg: MemArg) -> R<()>
         ensures same_reference { self.new.sink.ghost_name ≡ self.old.sink.ghost_name }
-        ensures writes { WritesInstruction B.written B.has_room (Instruction.I32Store memarg) self.old.sink.now self.new.sink.now result }
+        ensures writes { WritesInstruction B.written B.has_spare_capacity (Instruction.I32Store memarg) self.old.sink.now self.new.sink.now result }
     {
         self.emit(&(0x36u8, memarg))
     }
@@ -312,7 +312,7 @@ impl<'a, B: Buffer> InstructionSink<'a, B> {
     /// Appends the encoding of `MemorySize`.
     pub fn memory_size(&mut self, memory: u32) -> R<()>
         ensures same_reference { self.new.sink.ghost_name ≡ self.old.sink.ghost_name }
-        ensures writes { WritesInstruction B.written B.has_room (Instruction.MemorySize memory) self.old.sink.now self.new.sink.now result }
+        ensures writes { WritesInstruction B.written B.has_spare_capacity (Instruction.MemorySize memory) self.old.sink.now self.new.sink.now result }
     {
         self.emit(&(0x3Fu8, memory))
     }
@@ -320,7 +320,7 @@ impl<'a, B: Buffer> InstructionSink<'a, B> {
     /// Appends the encoding of `MemoryGrow`.
     pub fn memory_grow(&mut self, memory: u32) -> R<()>
         ensures same_reference { self.new.sink.ghost_name ≡ self.old.sink.ghost_name }
-        ensures writes { WritesInstruction B.written B.has_room (Instruction.MemoryGrow memory) self.old.sink.now self.new.sink.now result }
+        ensures writes { WritesInstruction B.written B.has_spare_capacity (Instruction.MemoryGrow memory) self.old.sink.now self.new.sink.now result }
     {
         self.emit(&(0x40u8, memory))
     }
@@ -328,7 +328,7 @@ impl<'a, B: Buffer> InstructionSink<'a, B> {
     /// Appends the encoding of `I32Const`.
     pub fn i32_const(&mut self, value: i32) -> R<()>
         ensures same_reference { self.new.sink.ghost_name ≡ self.old.sink.ghost_name }
-        ensures writes { WritesInstruction B.written B.has_room (Instruction.I32Const value) self.old.sink.now self.new.sink.now result }
+        ensures writes { WritesInstruction B.written B.has_spare_capacity (Instruction.I32Const value) self.old.sink.now self.new.sink.now result }
     {
         self.emit(&(0x41u8, value))
     }
@@ -336,7 +336,7 @@ impl<'a, B: Buffer> InstructionSink<'a, B> {
     /// Appends the encoding of `I64Const`.
     pub fn i64_const(&mut self, value: i64) -> R<()>
         ensures same_reference { self.new.sink.ghost_name ≡ self.old.sink.ghost_name }
-        ensures writes { WritesInstruction B.written B.has_room (Instruction.I64Const value) self.old.sink.now self.new.sink.now result }
+        ensures writes { WritesInstruction B.written B.has_spare_capacity (Instruction.I64Const value) self.old.sink.now self.new.sink.now result }
     {
         self.emit(&(0x42u8, value))
     }
@@ -344,7 +344,7 @@ impl<'a, B: Buffer> InstructionSink<'a, B> {
     /// Appends the encoding of `F32Const`.
     pub fn f32_const(&mut self, value: Ieee32) -> R<()>
         ensures same_reference { self.new.sink.ghost_name ≡ self.old.sink.ghost_name }
-        ensures writes { WritesInstruction B.written B.has_room (Instruction.F32Const value) self.old.sink.now self.new.sink.now result }
+        ensures writes { WritesInstruction B.written B.has_spare_capacity (Instruction.F32Const value) self.old.sink.now self.new.sink.now result }
     {
         self.emit(&(0x43u8, value))
     }
@@ -352,7 +352,7 @@ impl<'a, B: Buffer> InstructionSink<'a, B> {
     /// Appends the encoding of `F64Const`.
     pub fn f64_const(&mut self, value: Ieee64) -> R<()>
         ensures same_reference { self.new.sink.ghost_name ≡ self.old.sink.ghost_name }
-        ensures writes { WritesInstruction B.written B.has_room (Instruction.F64Const value) self.old.sink.now self.new.sink.now result }
+        ensures writes { WritesInstruction B.written B.has_spare_capacity (Instruction.F64Const value) self.old.sink.now self.new.sink.now result }
     {
         self.emit(&(0x44u8, value))
     }
@@ -360,7 +360,7 @@ impl<'a, B: Buffer> InstructionSink<'a, B> {
     /// Appends the encoding of `V128Const`.
     pub fn v128_const(&mut self, value: i128) -> R<()>
         ensures same_reference { self.new.sink.ghost_name ≡ self.old.sink.ghost_name }
-        ensures writes { WritesInstruction B.written B.has_room (Instruction.VectorImmediate (VectorImmediate.V128Const value)) self.old.sink.now self.new.sink.now result }
+        ensures writes { WritesInstruction B.written B.has_spare_capacity (Instruction.VectorImmediate (VectorImmediate.V128Const value)) self.old.sink.now self.new.sink.now result }
     {
         self.emit(&(0xFDu8, 12u32, vector_bytes(value)))
     }
@@ -368,7 +368,7 @@ impl<'a, B: Buffer> InstructionSink<'a, B> {
     /// Appends the encoding of `I32Eqz`.
     pub fn i32_eqz(&mut self) -> R<()>
         ensures same_reference { self.new.sink.ghost_name ≡ self.old.sink.ghost_name }
-        ensures writes { WritesInstruction B.written B.has_room (Instruction.Numeric Numeric.I32Eqz) self.old.sink.now self.new.sink.now result }
+        ensures writes { WritesInstruction B.written B.has_spare_capacity (Instruction.Numeric Numeric.I32Eqz) self.old.sink.now self.new.sink.now result }
     {
         self.emit(&0x45u8)
     }
@@ -376,7 +376,7 @@ impl<'a, B: Buffer> InstructionSink<'a, B> {
     /// Appends the encoding of `I32Add`.
     pub fn i32_add(&mut self) -> R<()>
         ensures same_reference { self.new.sink.ghost_name ≡ self.old.sink.ghost_name }
-        ensures writes { WritesInstruction B.written B.has_room (Instruction.Numeric Numeric.I32Add) self.old.sink.now self.new.sink.now result }
+        ensures writes { WritesInstruction B.written B.has_spare_capacity (Instruction.Numeric Numeric.I32Add) self.old.sink.now self.new.sink.now result }
     {
         self.emit(&0x6Au8)
     }
@@ -384,7 +384,7 @@ impl<'a, B: Buffer> InstructionSink<'a, B> {
     /// Appends the encoding of `I32Sub`.
     pub fn i32_sub(&mut self) -> R<()>
         ensures same_reference { self.new.sink.ghost_name ≡ self.old.sink.ghost_name }
-        ensures writes { WritesInstruction B.written B.has_room (Instruction.Numeric Numeric.I32Sub) self.old.sink.now self.new.sink.now result }
+        ensures writes { WritesInstruction B.written B.has_spare_capacity (Instruction.Numeric Numeric.I32Sub) self.old.sink.now self.new.sink.now result }
     {
         self.emit(&0x6Bu8)
     }
@@ -392,7 +392,7 @@ impl<'a, B: Buffer> InstructionSink<'a, B> {
     /// Appends the encoding of `I32Mul`.
     pub fn i32_mul(&mut self) -> R<()>
         ensures same_reference { self.new.sink.ghost_name ≡ self.old.sink.ghost_name }
-        ensures writes { WritesInstruction B.written B.has_room (Instruction.Numeric Numeric.I32Mul) self.old.sink.now self.new.sink.now result }
+        ensures writes { WritesInstruction B.written B.has_spare_capacity (Instruction.Numeric Numeric.I32Mul) self.old.sink.now self.new.sink.now result }
     {
         self.emit(&0x6Cu8)
     }
@@ -400,7 +400,7 @@ impl<'a, B: Buffer> InstructionSink<'a, B> {
     /// Appends the encoding of `I64Add`.
     pub fn i64_add(&mut self) -> R<()>
         ensures same_reference { self.new.sink.ghost_name ≡ self.old.sink.ghost_name }
-        ensures writes { WritesInstruction B.written B.has_room (Instruction.Numeric Numeric.I64Add) self.old.sink.now self.new.sink.now result }
+        ensures writes { WritesInstruction B.written B.has_spare_capacity (Instruction.Numeric Numeric.I64Add) self.old.sink.now self.new.sink.now result }
     {
         self.emit(&0x7Cu8)
     }
@@ -408,7 +408,7 @@ impl<'a, B: Buffer> InstructionSink<'a, B> {
     /// Appends the encoding of `I64Sub`.
     pub fn i64_sub(&mut self) -> R<()>
         ensures same_reference { self.new.sink.ghost_name ≡ self.old.sink.ghost_name }
-        ensures writes { WritesInstruction B.written B.has_room (Instruction.Numeric Numeric.I64Sub) self.old.sink.now self.new.sink.now result }
+        ensures writes { WritesInstruction B.written B.has_spare_capacity (Instruction.Numeric Numeric.I64Sub) self.old.sink.now self.new.sink.now result }
     {
         self.emit(&0x7Du8)
     }
@@ -416,7 +416,7 @@ impl<'a, B: Buffer> InstructionSink<'a, B> {
     /// Appends the encoding of `I64Mul`.
     pub fn i64_mul(&mut self) -> R<()>
         ensures same_reference { self.new.sink.ghost_name ≡ self.old.sink.ghost_name }
-        ensures writes { WritesInstruction B.written B.has_room (Instruction.Numeric Numeric.I64Mul) self.old.sink.now self.new.sink.now result }
+        ensures writes { WritesInstruction B.written B.has_spare_capacity (Instruction.Numeric Numeric.I64Mul) self.old.sink.now self.new.sink.now result }
     {
         self.emit(&0x7Eu8)
     }
@@ -424,7 +424,7 @@ impl<'a, B: Buffer> InstructionSink<'a, B> {
     /// Appends the encoding of `RefNull`.
     pub fn ref_null(&mut self, ty: HeapType) -> R<()>
         ensures same_reference { self.new.sink.ghost_name ≡ self.old.sink.ghost_name }
-        ensures writes { WritesInstruction B.written B.has_room (Instruction.RefNull ty) self.old.sink.now self.new.sink.now result }
+        ensures writes { WritesInstruction B.written B.has_spare_capacity (Instruction.RefNull ty) self.old.sink.now self.new.sink.now result }
     {
         self.emit(&(0xD0u8, ty))
     }
@@ -432,7 +432,7 @@ impl<'a, B: Buffer> InstructionSink<'a, B> {
     /// Appends the encoding of `RefIsNull`.
     pub fn ref_is_null(&mut self) -> R<()>
         ensures same_reference { self.new.sink.ghost_name ≡ self.old.sink.ghost_name }
-        ensures writes { WritesInstruction B.written B.has_room Instruction.RefIsNull self.old.sink.now self.new.sink.now result }
+        ensures writes { WritesInstruction B.written B.has_spare_capacity Instruction.RefIsNull self.old.sink.now self.new.sink.now result }
     {
         self.emit(&0xD1u8)
     }
@@ -440,7 +440,7 @@ impl<'a, B: Buffer> InstructionSink<'a, B> {
     /// Appends the encoding of `RefFunc`.
     pub fn ref_func(&mut self, function_index: u32) -> R<()>
         ensures same_reference { self.new.sink.ghost_name ≡ self.old.sink.ghost_name }
-        ensures writes { WritesInstruction B.written B.has_room (Instruction.RefFunc function_index) self.old.sink.now self.new.sink.now result }
+        ensures writes { WritesInstruction B.written B.has_spare_capacity (Instruction.RefFunc function_index) self.old.sink.now self.new.sink.now result }
     {
         self.emit(&(0xD2u8, function_index))
     }

@@ -1,8 +1,8 @@
 // Vector instructions with immediates: those after the prefix FD.
 ghost use Rattle.std.specs.Prelude.{◌≡◌};
 ghost use Rattle.wasm_base.specs.Calls.{Appends};
-ghost use Rattle.wasm_immediates.specs.Immediates.{vector_text};
-ghost use Rattle.wasm_insn.specs.Arguments.{arguments_text, arguments_fit};
+ghost use Rattle.wasm_immediates.specs.Immediates.{vector_encoding};
+ghost use Rattle.wasm_insn.specs.Arguments.{arguments_encoding, arguments_encodable};
 ghost use Rattle.wasm_insn.specs.VectorImmediate.{vector_immediate_row};
 
 use crate::op::Op;
@@ -13,7 +13,7 @@ use wasm_immediates::{Lane, MemArg};
 /// Returns the bytes of a vector, little-endian.
 #[tactic(auto, using(wasm_immediates::proofs::FixedBytes::vector_bytes))]
 pub(crate) fn vector_bytes(value: i128) -> [u8; 16]
-    ensures { result ≡ vector_text value }
+    ensures { result ≡ vector_encoding value }
 {
     value.to_le_bytes()
 }
@@ -110,7 +110,7 @@ impl VectorImmediate {
 
     /// Appends the immediates.
     pub(crate) fn encode_arguments<A: Allocator>(self, sink: &mut Vec<u8, A>) -> R<()>
-        ensures { Appends (arguments_text (vector_immediate_row self).arguments) (arguments_fit (vector_immediate_row self).arguments) sink.old sink.new result }
+        ensures { Appends (arguments_encoding (vector_immediate_row self).arguments) (arguments_encodable (vector_immediate_row self).arguments) sink.old sink.new result }
     {
         match self {
             VectorImmediate::V128Load(a)

@@ -64,7 +64,7 @@ holder_next P ws w None false number h e d = all_append (λ v. P v → ⊥) ws (
 
 -- The result for a class of offsets, for one more section.
 pub found_more : (target : Target) (ws : List Rewrite) (w : Rewrite) (old new : Found) (is_such is_moved is_changed is_level : Bool) (number : ℕ) → HasFound target ws old → length ws + 1 ≡ number → Decides is_such (IsInto target w) → AreMoved is_moved target w.section.id is_changed is_level
-    → IsChange is_changed w.section w.text → Decides is_level (size_before ws ≡ size_after ws) → new.holder ≡ first_of old.holder is_such number → new.is_moved ≡ (old.is_moved || is_moved) → HasFound target (ws ++ w ∷ []) new
+    → IsChange is_changed w.section w.encoding → Decides is_level (size_before ws ≡ size_after ws) → new.holder ≡ first_of old.holder is_such number → new.is_moved ≡ (old.is_moved || is_moved) → HasFound target (ws ++ w ∷ []) new
 found_more target ws w old new is_such is_moved is_changed is_level number h e i m c l f g = record {
   holder = subst (λ z. IsFirst (IsInto target) (ws ++ w ∷ []) z) (sym f) (holder_next (IsInto target) ws w old.holder is_such number h.holder e i);
   moved = subst (λ z. MatchBool z (StayInModule target (ws ++ w ∷ []) → ⊥) (StayInModule target (ws ++ w ∷ []))) (sym g)

@@ -2,31 +2,31 @@
 -- and names.
 use Rattle.std.proofs.Common.{◌≡◌, ℕ, List, [], ◌++◌, map, length, refl, sym, ap, subst, ◌∙◌, ◌≢◌, ◌∷◌, Bool, true, false, if◌then◌else◌, cond, Option, Some, Result, Ok, Err, IfOk}
 use Rattle.std.proofs.lemmas.List.{map-id}
-use Rattle.wasm_base.specs.Numbers.{shortest, wide}
-use Rattle.wasm_base.specs.Formats.{u32, name, any_bytes, pair, vec, frame, Format, mapped}
-use Rattle.wasm_base.specs.Reading.{UniqueWholeReading, Reads, ReadsNothing}
-use Rattle.wasm_base.specs.Texts.{vec_text, VecFits}
-use Rattle.wasm_base.proofs.BaseLaws.{name_unique}
-use Rattle.wasm_base.proofs.FormatLaws.{vec_unique, whole_from_alone, mapped_whole, pair_whole, any_bytes_whole}
-use Rattle.wasm_base.proofs.NumberLaws.{u32_unique}
-use Rattle.wasm_base.proofs.ReadingSteps.{reads_same}
+use Rattle.wasm_base.specs.Numbers.{minimal, padded}
+use Rattle.wasm_base.specs.Formats.{u32, name, any_bytes, pair, vec, size_prefixed, Format, mapped}
+use Rattle.wasm_base.specs.Decoding.{UnambiguousWhole, Decodes, Rejects}
+use Rattle.wasm_base.specs.Encodings.{vec_encoding, IsEncodableVec}
+use Rattle.wasm_base.proofs.BaseLaws.{name_unambiguous}
+use Rattle.wasm_base.proofs.FormatLaws.{vec_unambiguous, whole_from_unique, mapped_whole, pair_whole, any_bytes_whole}
+use Rattle.wasm_base.proofs.NumberLaws.{u32_unambiguous}
+use Rattle.wasm_base.proofs.DecodingSteps.{decodes_same}
 use Rattle.wasm_code.specs.Bodies.{body}
-use Rattle.wasm_code.proofs.BodyLaws.{frame_body_unique}
+use Rattle.wasm_code.proofs.BodyLaws.{size_prefixed_body_unambiguous}
 use Rattle.wasm_sections.specs.DataSegments.{data_item}
 use Rattle.wasm_sections.specs.Elements.{element}
 use Rattle.wasm_sections.specs.Globals.{global_item}
 use Rattle.wasm_sections.specs.Imports.{import_format}
 use Rattle.wasm_sections.specs.Tables.{table_item}
 use Rattle.wasm_types.specs.RecTypes.{type_item}
-use Rattle.wasm_sections.specs.Exports.{ExportFits, export_text, item_of, export}
-use Rattle.wasm_sections.specs.Memories.{memory_text, memory_type}
-use Rattle.wasm_sections.specs.Tags.{tag_text, tag_type}
+use Rattle.wasm_sections.specs.Exports.{IsEncodableExport, export_encoding, item_of, export}
+use Rattle.wasm_sections.specs.Memories.{memory_encoding, memory_type}
+use Rattle.wasm_sections.specs.Tags.{tag_encoding, tag_type}
 use Rattle.wasm_sections.specs.declared.export.Export.{Export}
 use Rattle.wasm_sections.specs.declared.memory.MemoryType.{MemoryType}
 use Rattle.wasm_sections.specs.declared.tag.TagType.{TagType}
 use Rattle.wasm_sections.proofs.ExportLaws.{export_short, exports_section}
-use Rattle.wasm_sections.proofs.MemoryLaws.{memory_spelled, memory_is, memories_section}
-use Rattle.wasm_sections.proofs.TagLaws.{tag_spelled, tag_is, tags_section}
+use Rattle.wasm_sections.proofs.MemoryLaws.{memory_encodes, memory_is, memories_section}
+use Rattle.wasm_sections.proofs.TagLaws.{tag_encodes, tag_is, tags_section}
 use Rattle.wasm_sections.proofs.DataLaws.{segments_section}
 use Rattle.wasm_sections.proofs.ElementLaws.{elements_section}
 use Rattle.wasm_sections.proofs.GlobalLaws.{globals_section}
@@ -45,13 +45,13 @@ use Rattle.wasm_custom.proofs.HintLaws.{hints_section}
 use Rattle.wasm_custom.proofs.LinkLaws.{linking_section}
 use Rattle.wasm_custom.proofs.NameLaws.{names_section}
 use Rattle.wasm_custom.proofs.ProducerLaws.{producers_section}
-use Rattle.wasm_reader_base.specs.Shortest.{AppendsShortest}
+use Rattle.wasm_reader_base.specs.Minimal.{AppendsMinimal}
 use Rattle.wasm_reader_base.specs.declared.fault.ReadFault.{ReadFault}
-use Rattle.wasm_reader_base.proofs.ShortTexts.{text_appended, pair_appended, mapped_appended, records_appended}
+use Rattle.wasm_reader_base.proofs.MinimalEncodings.{encoding_appended, pair_appended, mapped_appended, records_appended}
 use Rattle.wasm_reader.specs.Kinds.{Contents, Bodies, Segments, DataCount, Elements, Exports, Functions, Globals, Imports, Memories, Start, Tables, Tags, Types, Names, Linking, Producers, Hints, Core, CoreModules, CoreInstances, CoreStack, Custom, Raw, content, kind_in, number_in, kind_among, known_kinds, kind_of_id, kind_among_names, known_names, kind_named}
 use Rattle.wasm_reader.specs.declared.kinds.SectionKind.{SectionKind}
 use Rattle.wasm_reader.specs.declared.kinds.SectionKind.TheVariants as kinds
-use Rattle.wasm_base.specs.Going.{FillsNothing}
+use Rattle.wasm_base.specs.Continuing.{RejectsWhole}
 use Rattle.wasm_reader.specs.Outlines.{count_in}
 use Rattle.std.specs.Str.{bytes_eq}
 use Rattle.wasm_custom.specs.Customs.{named_payload}
@@ -62,26 +62,26 @@ use Rattle.wasm_types.proofs.TypeLaws.{types_section}
 
 -- The buffer gains the minimal encoding of these items, as one value of the format of their kind.
 abbrev pub AppendsItems : Contents → List ℕ → List ℕ → Type 0
-AppendsItems (Bodies x) old new = AppendsShortest (vec (frame body)) x old new
-AppendsItems (Segments x) old new = AppendsShortest (vec data_item) x old new
-AppendsItems (DataCount x) old new = AppendsShortest u32 x old new
-AppendsItems (Elements x) old new = AppendsShortest (vec element) x old new
-AppendsItems (Globals x) old new = AppendsShortest (vec global_item) x old new
-AppendsItems (Imports x) old new = AppendsShortest (vec import_format) x old new
-AppendsItems (Start x) old new = AppendsShortest u32 x old new
-AppendsItems (Tables x) old new = AppendsShortest (vec table_item) x old new
-AppendsItems (Names x) old new = AppendsShortest name_payload x old new
-AppendsItems (Linking x) old new = AppendsShortest linking_payload x old new
-AppendsItems (Producers x) old new = AppendsShortest producers_payload x old new
-AppendsItems (Hints x) old new = AppendsShortest hints_payload x old new
-AppendsItems (Core x) old new = AppendsShortest core_payload x old new
-AppendsItems (CoreModules x) old new = AppendsShortest modules_payload x old new
-AppendsItems (CoreInstances x) old new = AppendsShortest instances_payload x old new
-AppendsItems (CoreStack x) old new = AppendsShortest stack_payload x old new
-AppendsItems (Types x) old new = AppendsShortest (vec type_item) x old new
+AppendsItems (Bodies x) old new = AppendsMinimal (vec (size_prefixed body)) x old new
+AppendsItems (Segments x) old new = AppendsMinimal (vec data_item) x old new
+AppendsItems (DataCount x) old new = AppendsMinimal u32 x old new
+AppendsItems (Elements x) old new = AppendsMinimal (vec element) x old new
+AppendsItems (Globals x) old new = AppendsMinimal (vec global_item) x old new
+AppendsItems (Imports x) old new = AppendsMinimal (vec import_format) x old new
+AppendsItems (Start x) old new = AppendsMinimal u32 x old new
+AppendsItems (Tables x) old new = AppendsMinimal (vec table_item) x old new
+AppendsItems (Names x) old new = AppendsMinimal name_payload x old new
+AppendsItems (Linking x) old new = AppendsMinimal linking_payload x old new
+AppendsItems (Producers x) old new = AppendsMinimal producers_payload x old new
+AppendsItems (Hints x) old new = AppendsMinimal hints_payload x old new
+AppendsItems (Core x) old new = AppendsMinimal core_payload x old new
+AppendsItems (CoreModules x) old new = AppendsMinimal modules_payload x old new
+AppendsItems (CoreInstances x) old new = AppendsMinimal instances_payload x old new
+AppendsItems (CoreStack x) old new = AppendsMinimal stack_payload x old new
+AppendsItems (Types x) old new = AppendsMinimal (vec type_item) x old new
 AppendsItems x old new = ⊥
 
-pub items_appended : (x : Contents) (old new : List ℕ) → AppendsItems x old new → AppendsShortest (content (kind_in x)) x old new
+pub items_appended : (x : Contents) (old new : List ℕ) → AppendsItems x old new → AppendsMinimal (content (kind_in x)) x old new
 items_appended (Bodies x) old new a = mapped_appended Bodies _ x old new (λ z e. cc e) a
 items_appended (Segments x) old new a = mapped_appended Segments _ x old new (λ z e. cc e) a
 items_appended (DataCount x) old new a = mapped_appended DataCount _ x old new (λ z e. cc e) a
@@ -106,43 +106,43 @@ items_appended (Custom x) old new a = absurd a
 items_appended (Raw x) old new a = absurd a
 items_appended (Types x) old new a = mapped_appended Types _ x old new (λ z e. cc e) a
 
-pub exports_appended : (es : List Export) (old new : List ℕ) → VecFits ExportFits es → new ≡ old ++ vec_text export_text es → AppendsShortest (content kinds.Exports) (Exports (map item_of es)) old new
-exports_appended es old new fits e = mapped_appended Exports (vec export) (map item_of es) old new (λ z k. cc k) (records_appended export item_of export_text ExportFits es old new export_short fits e)
+pub exports_appended : (es : List Export) (old new : List ℕ) → IsEncodableVec IsEncodableExport es → new ≡ old ++ vec_encoding export_encoding es → AppendsMinimal (content kinds.Exports) (Exports (map item_of es)) old new
+exports_appended es old new encodable e = mapped_appended Exports (vec export) (map item_of es) old new (λ z k. cc k) (records_appended export item_of export_encoding IsEncodableExport es old new export_short encodable e)
 
-pub functions_appended : (ns : List ℕ) (old new : List ℕ) → AppendsShortest (vec u32) (map (λ n. n) ns) old new → AppendsShortest (content kinds.Functions) (Functions ns) old new
-functions_appended ns old new a = mapped_appended Functions (vec u32) ns old new (λ z e. cc e) (subst (λ z. AppendsShortest (vec u32) z old new) (map-id ns) a)
+pub functions_appended : (ns : List ℕ) (old new : List ℕ) → AppendsMinimal (vec u32) (map (λ n. n) ns) old new → AppendsMinimal (content kinds.Functions) (Functions ns) old new
+functions_appended ns old new a = mapped_appended Functions (vec u32) ns old new (λ z e. cc e) (subst (λ z. AppendsMinimal (vec u32) z old new) (map-id ns) a)
 
-pub memories_appended : (ms : List MemoryType) (old new : List ℕ) → VecFits (λ m. Unit {0}) ms → new ≡ old ++ vec_text memory_text ms → AppendsShortest (content kinds.Memories) (Memories ms) old new
-memories_appended ms old new fits e =
+pub memories_appended : (ms : List MemoryType) (old new : List ℕ) → IsEncodableVec (λ m. Unit {0}) ms → new ≡ old ++ vec_encoding memory_encoding ms → AppendsMinimal (content kinds.Memories) (Memories ms) old new
+memories_appended ms old new encodable e =
     mapped_appended Memories (vec memory_type) ms old new (λ z k. cc k)
-    (subst (λ z. AppendsShortest (vec memory_type) z old new) (map-id ms) (records_appended memory_type (λ m. m) memory_text (λ m. Unit {0}) ms old new (λ m f s h. memory_spelled m (memory_is wide s m h)) fits e))
+    (subst (λ z. AppendsMinimal (vec memory_type) z old new) (map-id ms) (records_appended memory_type (λ m. m) memory_encoding (λ m. Unit {0}) ms old new (λ m f s h. memory_encodes m (memory_is padded s m h)) encodable e))
 
-pub tags_appended : (ts : List TagType) (old new : List ℕ) → VecFits (λ t. Unit {0}) ts → new ≡ old ++ vec_text tag_text ts → AppendsShortest (content kinds.Tags) (Tags ts) old new
-tags_appended ts old new fits e =
+pub tags_appended : (ts : List TagType) (old new : List ℕ) → IsEncodableVec (λ t. Unit {0}) ts → new ≡ old ++ vec_encoding tag_encoding ts → AppendsMinimal (content kinds.Tags) (Tags ts) old new
+tags_appended ts old new encodable e =
     mapped_appended Tags (vec tag_type) ts old new (λ z k. cc k)
-    (subst (λ z. AppendsShortest (vec tag_type) z old new) (map-id ts) (records_appended tag_type (λ t. t) tag_text (λ t. Unit {0}) ts old new (λ t f s h. tag_spelled t (tag_is wide s t h)) fits e))
+    (subst (λ z. AppendsMinimal (vec tag_type) z old new) (map-id ts) (records_appended tag_type (λ t. t) tag_encoding (λ t. Unit {0}) ts old new (λ t f s h. tag_encodes t (tag_is padded s t h)) encodable e))
 
-pub custom_appended : (n bytes old middle new : List ℕ) → AppendsShortest name n old middle → new ≡ middle ++ bytes → AppendsShortest (content kinds.Custom) (Custom (n, bytes)) old new
-custom_appended n bytes old middle new a e = mapped_appended Custom (pair name any_bytes) (n, bytes) old new (λ z k. cc k) (pair_appended name any_bytes a (text_appended any_bytes bytes bytes middle new (λ s h. refl) e))
+pub custom_appended : (n bytes old middle new : List ℕ) → AppendsMinimal name n old middle → new ≡ middle ++ bytes → AppendsMinimal (content kinds.Custom) (Custom (n, bytes)) old new
+custom_appended n bytes old middle new a e = mapped_appended Custom (pair name any_bytes) (n, bytes) old new (λ z k. cc k) (pair_appended name any_bytes a (encoding_appended any_bytes bytes bytes middle new (λ s h. refl) e))
 
-pub raw_appended : (bytes old new : List ℕ) → new ≡ old ++ bytes → AppendsShortest (content kinds.Raw) (Raw bytes) old new
-raw_appended bytes old new e = mapped_appended Raw any_bytes bytes old new (λ z k. cc k) (text_appended any_bytes bytes bytes old new (λ s h. refl) e)
+pub raw_appended : (bytes old new : List ℕ) → new ≡ old ++ bytes → AppendsMinimal (content kinds.Raw) (Raw bytes) old new
+raw_appended bytes old new e = mapped_appended Raw any_bytes bytes old new (λ z k. cc k) (encoding_appended any_bytes bytes bytes old new (λ s h. refl) e)
 
 pub ruleset contents = (items_appended, exports_appended, functions_appended, memories_appended, tags_appended, custom_appended, raw_appended)
 
 -- ---- unambiguous
 
-pub content_whole : (kind : SectionKind) → UniqueWholeReading (content kind)
-content_whole kinds.Bodies = mapped_whole Bodies (λ x y e. cc) (whole_from_alone (vec_unique frame_body_unique))
+pub content_whole : (kind : SectionKind) → UnambiguousWhole (content kind)
+content_whole kinds.Bodies = mapped_whole Bodies (λ x y e. cc) (whole_from_unique (vec_unambiguous size_prefixed_body_unambiguous))
 content_whole kinds.Segments = mapped_whole Segments (λ x y e. cc) segments_section.whole
-content_whole kinds.DataCount = mapped_whole DataCount (λ x y e. cc) (whole_from_alone u32_unique)
+content_whole kinds.DataCount = mapped_whole DataCount (λ x y e. cc) (whole_from_unique u32_unambiguous)
 content_whole kinds.Elements = mapped_whole Elements (λ x y e. cc) elements_section.whole
 content_whole kinds.Exports = mapped_whole Exports (λ x y e. cc) exports_section.whole
 content_whole kinds.Functions = mapped_whole Functions (λ x y e. cc) functions_section.whole
 content_whole kinds.Globals = mapped_whole Globals (λ x y e. cc) globals_section.whole
 content_whole kinds.Imports = mapped_whole Imports (λ x y e. cc) imports_section.whole
 content_whole kinds.Memories = mapped_whole Memories (λ x y e. cc) memories_section.whole
-content_whole kinds.Start = mapped_whole Start (λ x y e. cc) (whole_from_alone u32_unique)
+content_whole kinds.Start = mapped_whole Start (λ x y e. cc) (whole_from_unique u32_unambiguous)
 content_whole kinds.Tables = mapped_whole Tables (λ x y e. cc) tables_section.whole
 content_whole kinds.Tags = mapped_whole Tags (λ x y e. cc) tags_section.whole
 content_whole kinds.Names = mapped_whole Names (λ x y e. cc) names_section.whole
@@ -153,12 +153,12 @@ content_whole kinds.Core = mapped_whole Core (λ x y e. cc) core_whole
 content_whole kinds.CoreModules = mapped_whole CoreModules (λ x y e. cc) modules_section.whole
 content_whole kinds.CoreInstances = mapped_whole CoreInstances (λ x y e. cc) instances_section.whole
 content_whole kinds.CoreStack = mapped_whole CoreStack (λ x y e. cc) stack_whole
-content_whole kinds.Custom = mapped_whole Custom (λ x y e. cc) (pair_whole name_unique any_bytes_whole)
+content_whole kinds.Custom = mapped_whole Custom (λ x y e. cc) (pair_whole name_unambiguous any_bytes_whole)
 content_whole kinds.Raw = mapped_whole Raw (λ x y e. cc) any_bytes_whole
 content_whole kinds.Types = mapped_whole Types (λ x y e. cc) types_section.whole
 
 -- The content that a kind decodes to is of that kind.
-pub kind_is : (kind : SectionKind) (s : List ℕ) (x : Contents) → content kind wide s x → kind_in x ≡ kind
+pub kind_is : (kind : SectionKind) (s : List ℕ) (x : Contents) → content kind padded s x → kind_in x ≡ kind
 kind_is kinds.Bodies s x h = sym (ap kind_in h.1)
 kind_is kinds.Segments s x h = sym (ap kind_in h.1)
 kind_is kinds.DataCount s x h = sym (ap kind_in h.1)
@@ -187,85 +187,85 @@ kind_is kinds.Types s x h = sym (ap kind_in h.1)
 
 -- If `F` decodes the whole bytes, a section of the kind decodes to the image by `f`. If `F` decodes
 -- nothing, neither does the kind.
-abbrev pub ReadsAs : {X : Type 0} → (X → Contents) → Format X → SectionKind → Type 0
-ReadsAs {X} f F k = (kind : SectionKind) (bytes : List ℕ) → kind ≡ k → (FillsNothing F bytes → FillsNothing (content kind) bytes) × ((x : X) → F wide bytes x → content kind wide bytes (f x))
+abbrev pub DecodesAs : {X : Type 0} → (X → Contents) → Format X → SectionKind → Type 0
+DecodesAs {X} f F k = (kind : SectionKind) (bytes : List ℕ) → kind ≡ k → (RejectsWhole F bytes → RejectsWhole (content kind) bytes) × ((x : X) → F padded bytes x → content kind padded bytes (f x))
 
-read_as : {X : Type 0} (f : X → Contents) {F : Format X} {k : SectionKind} → content k ≡ mapped f F → ReadsAs f F k
-read_as f {F} is kind bytes e =
+decodes_as : {X : Type 0} (f : X → Contents) {F : Format X} {k : SectionKind} → content k ≡ mapped f F → DecodesAs f F k
+decodes_as f {F} is kind bytes e =
     let same : mapped f F ≡ content kind = sym (ap content e ∙ is) in
-    (λ n. subst (λ G. FillsNothing G bytes) same (record { none = λ y h. n.none h.0 h.2 }), λ x h. subst (λ G. G wide bytes (f x)) same (x, refl, h))
+    (λ n. subst (λ G. RejectsWhole G bytes) same (record { none = λ y h. n.none h.0 h.2 }), λ x h. subst (λ G. G padded bytes (f x)) same (x, refl, h))
 
-pub bodies_read : ReadsAs Bodies (vec (frame body)) kinds.Bodies
-bodies_read = read_as Bodies refl
+pub bodies_read : DecodesAs Bodies (vec (size_prefixed body)) kinds.Bodies
+bodies_read = decodes_as Bodies refl
 
-pub segments_read : ReadsAs Segments (vec data_item) kinds.Segments
-segments_read = read_as Segments refl
+pub segments_read : DecodesAs Segments (vec data_item) kinds.Segments
+segments_read = decodes_as Segments refl
 
-pub data_count_read : ReadsAs DataCount u32 kinds.DataCount
-data_count_read = read_as DataCount refl
+pub data_count_read : DecodesAs DataCount u32 kinds.DataCount
+data_count_read = decodes_as DataCount refl
 
-pub elements_read : ReadsAs Elements (vec element) kinds.Elements
-elements_read = read_as Elements refl
+pub elements_read : DecodesAs Elements (vec element) kinds.Elements
+elements_read = decodes_as Elements refl
 
-pub exports_read : ReadsAs Exports (vec export) kinds.Exports
-exports_read = read_as Exports refl
+pub exports_read : DecodesAs Exports (vec export) kinds.Exports
+exports_read = decodes_as Exports refl
 
-pub functions_read : ReadsAs Functions (vec u32) kinds.Functions
-functions_read = read_as Functions refl
+pub functions_read : DecodesAs Functions (vec u32) kinds.Functions
+functions_read = decodes_as Functions refl
 
-pub globals_read : ReadsAs Globals (vec global_item) kinds.Globals
-globals_read = read_as Globals refl
+pub globals_read : DecodesAs Globals (vec global_item) kinds.Globals
+globals_read = decodes_as Globals refl
 
-pub imports_read : ReadsAs Imports (vec import_format) kinds.Imports
-imports_read = read_as Imports refl
+pub imports_read : DecodesAs Imports (vec import_format) kinds.Imports
+imports_read = decodes_as Imports refl
 
-pub memories_read : ReadsAs Memories (vec memory_type) kinds.Memories
-memories_read = read_as Memories refl
+pub memories_read : DecodesAs Memories (vec memory_type) kinds.Memories
+memories_read = decodes_as Memories refl
 
-pub start_read : ReadsAs Start u32 kinds.Start
-start_read = read_as Start refl
+pub start_read : DecodesAs Start u32 kinds.Start
+start_read = decodes_as Start refl
 
-pub tables_read : ReadsAs Tables (vec table_item) kinds.Tables
-tables_read = read_as Tables refl
+pub tables_read : DecodesAs Tables (vec table_item) kinds.Tables
+tables_read = decodes_as Tables refl
 
-pub tags_read : ReadsAs Tags (vec tag_type) kinds.Tags
-tags_read = read_as Tags refl
+pub tags_read : DecodesAs Tags (vec tag_type) kinds.Tags
+tags_read = decodes_as Tags refl
 
-pub names_read : ReadsAs Names name_payload kinds.Names
-names_read = read_as Names refl
+pub names_read : DecodesAs Names name_payload kinds.Names
+names_read = decodes_as Names refl
 
-pub linking_read : ReadsAs Linking linking_payload kinds.Linking
-linking_read = read_as Linking refl
+pub linking_read : DecodesAs Linking linking_payload kinds.Linking
+linking_read = decodes_as Linking refl
 
-pub producers_read : ReadsAs Producers producers_payload kinds.Producers
-producers_read = read_as Producers refl
+pub producers_read : DecodesAs Producers producers_payload kinds.Producers
+producers_read = decodes_as Producers refl
 
-pub hints_read : ReadsAs Hints hints_payload kinds.Hints
-hints_read = read_as Hints refl
+pub hints_read : DecodesAs Hints hints_payload kinds.Hints
+hints_read = decodes_as Hints refl
 
-pub core_read : ReadsAs Core core_payload kinds.Core
-core_read = read_as Core refl
+pub core_read : DecodesAs Core core_payload kinds.Core
+core_read = decodes_as Core refl
 
-pub core_modules_read : ReadsAs CoreModules modules_payload kinds.CoreModules
-core_modules_read = read_as CoreModules refl
+pub core_modules_read : DecodesAs CoreModules modules_payload kinds.CoreModules
+core_modules_read = decodes_as CoreModules refl
 
-pub core_instances_read : ReadsAs CoreInstances instances_payload kinds.CoreInstances
-core_instances_read = read_as CoreInstances refl
+pub core_instances_read : DecodesAs CoreInstances instances_payload kinds.CoreInstances
+core_instances_read = decodes_as CoreInstances refl
 
-pub core_stack_read : ReadsAs CoreStack stack_payload kinds.CoreStack
-core_stack_read = read_as CoreStack refl
+pub core_stack_read : DecodesAs CoreStack stack_payload kinds.CoreStack
+core_stack_read = decodes_as CoreStack refl
 
-pub types_read : ReadsAs Types (vec type_item) kinds.Types
-types_read = read_as Types refl
+pub types_read : DecodesAs Types (vec type_item) kinds.Types
+types_read = decodes_as Types refl
 
-pub custom_read : (kind : SectionKind) (bytes : List ℕ) → kind ≡ kinds.Custom → (ReadsNothing name wide bytes → FillsNothing (content kind) bytes) × ((text rest : List ℕ) → Reads name wide bytes text rest → content kind wide bytes (Custom (text, rest)))
+pub custom_read : (kind : SectionKind) (bytes : List ℕ) → kind ≡ kinds.Custom → (Rejects name padded bytes → RejectsWhole (content kind) bytes) × ((encoding rest : List ℕ) → Decodes name padded bytes encoding rest → content kind padded bytes (Custom (encoding, rest)))
 custom_read kind bytes e =
-    let all = read_as Custom {F = pair name any_bytes} refl kind bytes e in (
-      λ n. all.0 (record { none = λ y s. n.none y.0 s.back (record { front = s.front; split = s.joined; spelled = s.first }) }),
-      λ text rest h. all.1 (text, rest) (record { front = h.front; back = rest; joined = h.split; first = h.spelled; second = refl }),
+    let all = decodes_as Custom {F = pair name any_bytes} refl kind bytes e in (
+      λ n. all.0 (record { none = λ y s. n.none y.0 s.back (record { front = s.front; split = s.joined; encodes = s.first }) }),
+      λ encoding rest h. all.1 (encoding, rest) (record { front = h.front; back = rest; joined = h.split; first = h.encodes; second = refl }),
     )
 
-pub raw_read : (bytes : List ℕ) → content kinds.Raw wide bytes (Raw bytes)
+pub raw_read : (bytes : List ℕ) → content kinds.Raw padded bytes (Raw bytes)
 raw_read bytes = (bytes, refl, refl)
 
 pub ruleset content_steps = (bodies_read, segments_read, data_count_read, elements_read, exports_read, functions_read, globals_read, imports_read, memories_read, start_read, tables_read, tags_read, names_read, linking_read, producers_read, hints_read, core_read, core_modules_read, core_instances_read, core_stack_read, types_read, custom_read, raw_read)
@@ -291,19 +291,19 @@ for_if P false p q = q
 
 -- The minimal encoding of a section begins with the same name as any of its encodings.
 abbrev pub KeepsName : List ℕ → SectionKind → Type 0
-KeepsName n kind = (s t rest : List ℕ) (x : Contents) → content kind wide s x → content kind shortest t x → Reads name wide s n rest → (last : List ℕ) × Reads name wide t n last
+KeepsName n kind = (s t rest : List ℕ) (x : Contents) → content kind padded s x → content kind minimal t x → Decodes name padded s n rest → (last : List ℕ) × Decodes name padded t n last
 
-named_front : {X : Type 0} (m : List ℕ) (F : Format X) (s t rest n : List ℕ) (x y : X) → named_payload m F wide s x → named_payload m F shortest t y → Reads name wide s n rest → (last : List ℕ) × Reads name wide t n last
+named_front : {X : Type 0} (m : List ℕ) (F : Format X) (s t rest n : List ℕ) (x y : X) → named_payload m F padded s x → named_payload m F minimal t y → Decodes name padded s n rest → (last : List ℕ) × Decodes name padded t n last
 named_front m F s t rest n x y h g r =
     let a = h.2 in
     let b = g.2 in
-    let same : n ≡ m = (reads_same name_unique r (record { front = a.front; split = a.joined; spelled = a.first })).0 in
-    (b.back, subst (λ z. Reads name wide t z b.back) (sym same) (record { front = b.front; split = b.joined; spelled = name_unique.spellings.wider shortest wide tt b.front m b.first }))
+    let same : n ≡ m = (decodes_same name_unambiguous r (record { front = a.front; split = a.joined; encodes = a.first })).0 in
+    (b.back, subst (λ z. Decodes name padded t z b.back) (sym same) (record { front = b.front; split = b.joined; encodes = name_unambiguous.encodings.included minimal padded tt b.front m b.first }))
 
 named_kept : {X : Type 0} (f : X → Contents) (m : List ℕ) {F : Format X} (kind : SectionKind) → content kind ≡ mapped f (named_payload m F) → (n : List ℕ) → KeepsName n kind
 named_kept f m {F} kind is n s t rest x h g r =
-    let a = subst (λ G. G wide s x) is h in
-    let b = subst (λ G. G shortest t x) is g in
+    let a = subst (λ G. G padded s x) is h in
+    let b = subst (λ G. G minimal t x) is g in
     named_front m F s t rest n a.0 b.0 a.2 b.2 r
 
 names_kept : (n : List ℕ) → KeepsName n kinds.Names
@@ -334,9 +334,9 @@ custom_kept : (n : List ℕ) → KeepsName n kinds.Custom
 custom_kept n s t rest x h g r =
     let a = h.2 in
     let b = g.2 in
-    let same : n ≡ h.0.0 = (reads_same name_unique r (record { front = a.front; split = a.joined; spelled = a.first })).0 in
+    let same : n ≡ h.0.0 = (decodes_same name_unambiguous r (record { front = a.front; split = a.joined; encodes = a.first })).0 in
     let told : h.0 ≡ g.0 = cc (h.1 ∙ sym g.1) in
-    (b.back, subst (λ z. Reads name wide t z b.back) (sym (same ∙ ap (λ z. z.0) told)) (record { front = b.front; split = b.joined; spelled = name_unique.spellings.wider shortest wide tt b.front g.0.0 b.first }))
+    (b.back, subst (λ z. Decodes name padded t z b.back) (sym (same ∙ ap (λ z. z.0) told)) (record { front = b.front; split = b.joined; encodes = name_unambiguous.encodings.included minimal padded tt b.front g.0.0 b.first }))
 
 -- Each of the kinds keeps each name.
 abbrev AllKeepNames : List (List ℕ × SectionKind) → Type 0
@@ -355,13 +355,13 @@ keeps_name = kept_among known_names (names_kept, (linking_kept, (producers_kept,
 -- If the bytes are a vector of `F`, a section of the kind has as many items, which are the image by
 -- `f`.
 abbrev pub CountsAs : {X : Type 0} → (List X → Contents) → Format X → SectionKind → Type 0
-CountsAs {X} f F k = (kind : SectionKind) (bytes : List ℕ) (r : Result (Option ℕ) ReadFault) → kind ≡ k → IfOk r (λ n. (xs : List X) × vec F wide bytes xs × (n ≡ Some (length xs))) → IfOk r (λ n. (x : Contents) × content kind wide bytes x × (n ≡ number_in x))
+CountsAs {X} f F k = (kind : SectionKind) (bytes : List ℕ) (r : Result (Option ℕ) ReadFault) → kind ≡ k → IfOk r (λ n. (xs : List X) × vec F padded bytes xs × (n ≡ Some (length xs))) → IfOk r (λ n. (x : Contents) × content kind padded bytes x × (n ≡ number_in x))
 
-count_as : {X : Type 0} (f : List X → Contents) {F : Format X} {k : SectionKind} → ReadsAs f (vec F) k → ((xs : List X) → Some (length xs) ≡ number_in (f xs)) → CountsAs f F k
-count_as f reads numbered kind bytes (Ok n) e h = (f h.0, (reads kind bytes e).1 h.0 h.1, h.2 ∙ numbered h.0)
-count_as f reads numbered kind bytes (Err z) e h = tt
+count_as : {X : Type 0} (f : List X → Contents) {F : Format X} {k : SectionKind} → DecodesAs f (vec F) k → ((xs : List X) → Some (length xs) ≡ number_in (f xs)) → CountsAs f F k
+count_as f decodes numbered kind bytes (Ok n) e h = (f h.0, (decodes kind bytes e).1 h.0 h.1, h.2 ∙ numbered h.0)
+count_as f decodes numbered kind bytes (Err z) e h = tt
 
-pub bodies_counted : CountsAs Bodies (frame body) kinds.Bodies
+pub bodies_counted : CountsAs Bodies (size_prefixed body) kinds.Bodies
 bodies_counted = count_as Bodies bodies_read (λ xs. refl)
 
 pub segments_counted : CountsAs Segments data_item kinds.Segments
@@ -394,7 +394,7 @@ tags_counted = count_as Tags tags_read (λ xs. refl)
 pub ruleset number_steps = (bodies_counted, segments_counted, elements_counted, exports_counted, functions_counted, globals_counted, imports_counted, memories_counted, tables_counted, tags_counted)
 
 -- Every kind but types has as many items in an outline as in a list.
-pub counted_alike : (kind : SectionKind) (payload : List ℕ) (x : Contents) → kind ≢ kinds.Types → content kind wide payload x → count_in x ≡ number_in x
+pub counted_alike : (kind : SectionKind) (payload : List ℕ) (x : Contents) → kind ≢ kinds.Types → content kind padded payload x → count_in x ≡ number_in x
 counted_alike kinds.Types payload x other h = absurd (other refl)
 counted_alike kinds.Bodies payload x other h = ap count_in (sym h.1) ∙ ap number_in h.1
 counted_alike kinds.Segments payload x other h = ap count_in (sym h.1) ∙ ap number_in h.1

@@ -3,10 +3,10 @@ pub mod Counting
 pub mod KeptOffsets
 pub mod KindLaws
 pub mod ModuleLaws
-pub mod ReadModules
-pub mod ReadOutlines
-pub mod ReadSections
-pub mod ShortAgain
-pub mod ShortBodies
-pub mod ShortModules
-pub mod ShortSections
+pub mod DecodeModules
+pub mod DecodeOutlines
+pub mod DecodeSections
+pub mod MinimalAgain
+pub mod MinimalBodies
+pub mod MinimalModules
+pub mod MinimalSections

@@ -2,7 +2,7 @@
 use Rattle.std.specs.Prelude.{ℕ, List, [], ◌∷◌, length, map, Option, Some, None, cond, ◌==◌, if◌then◌else◌}
 use Rattle.std.specs.List.{slice_get}
 use Rattle.std.specs.Str.{bytes_eq}
-use Rattle.wasm_base.specs.Formats.{Format, u32, name, any_bytes, mapped, pair, vec, frame}
+use Rattle.wasm_base.specs.Formats.{Format, u32, name, any_bytes, mapped, pair, vec, size_prefixed}
 use Rattle.wasm_base.specs.SectionId.{number_of}
 use Rattle.wasm_base.specs.declared.section_id.SectionId.TheVariants as ids
 use Rattle.wasm_code.specs.Bodies.{Body, body}
@@ -63,7 +63,7 @@ pub data Contents : Type 0 where
 
 -- The format of the payload of a section of this kind.
 abbrev pub content : SectionKind → Format Contents
-content kinds.Bodies = mapped Bodies (vec (frame body))
+content kinds.Bodies = mapped Bodies (vec (size_prefixed body))
 content kinds.Segments = mapped Segments (vec data_item)
 content kinds.DataCount = mapped DataCount u32
 content kinds.Elements = mapped Elements (vec element)

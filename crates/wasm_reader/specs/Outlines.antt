@@ -2,9 +2,9 @@
 -- decodes by its kind or not.
 use Rattle.std.specs.Prelude.{◌≡◌, ◌≢◌, ℕ, zero, suc, ◌+◌, List, [], ◌∷◌, ◌++◌, length, Option, Some, None, option_map}
 use Rattle.std.specs.List.{AllByRecursion, flat_map}
-use Rattle.wasm_base.specs.Numbers.{wide}
-use Rattle.wasm_base.specs.Formats.{any_bytes, any_section, fixed, frame, header, name, wasm_module}
-use Rattle.wasm_base.specs.Reading.{Reads, ReadsNothing}
+use Rattle.wasm_base.specs.Numbers.{padded}
+use Rattle.wasm_base.specs.Formats.{any_bytes, any_section, fixed, size_prefixed, header, name, wasm_module}
+use Rattle.wasm_base.specs.Decoding.{Decodes, Rejects}
 use Rattle.wasm_base.specs.SectionId.{number_of}
 use Rattle.wasm_base.specs.declared.section_id.SectionId.TheVariants as ids
 use Rattle.wasm_reader.specs.Kinds.{kind_among, known_kinds, kind_named, number_in, Contents, Types, content}
@@ -19,27 +19,27 @@ use Rattle.wasm_reader.specs.declared.standing.Standing.{Standing}
 -- custom section that has one.
 pub record Section : Type 0 where
   pub id : ℕ
-  pub framed : List ℕ
+  pub sized : List ℕ
   pub payload : List ℕ
   pub name : Option (List ℕ)
 
 -- The view of a section, without its location in memory.
 abbrev pub section_of : Standing → Section
-section_of s = record { id = s.id; framed = s.framed.now; payload = s.payload.now; name = option_map (λ n. n.now) s.name }
+section_of s = record { id = s.id; sized = s.sized.now; payload = s.payload.now; name = option_map (λ n. n.now) s.name }
 
 -- The bytes of a section.
 abbrev pub bytes_of : Section → List ℕ
-bytes_of s = s.id ∷ s.framed
+bytes_of s = s.id ∷ s.sized
 
 -- The name of a section: that at the front of a custom section's payload. There is none if no name
 -- decodes there, or if the id is not 0.
 abbrev pub IsNameOf : ℕ → List ℕ → Option (List ℕ) → Type 0
-IsNameOf id payload (Some n) = (id ≡ number_of ids.Custom) × (rest : List ℕ) × Reads name wide payload n rest
-IsNameOf id payload None = id ≡ number_of ids.Custom → ReadsNothing name wide payload
+IsNameOf id payload (Some n) = (id ≡ number_of ids.Custom) × (rest : List ℕ) × Decodes name padded payload n rest
+IsNameOf id payload None = id ≡ number_of ids.Custom → Rejects name padded payload
 
 -- The bytes after the id are this payload with its size prefix, and the payload has this name.
 pub record IsSection (s : Section) : Type 0 where
-  pub holds : frame any_bytes wide s.framed s.payload
+  pub contains : size_prefixed any_bytes padded s.sized s.payload
   pub named : IsNameOf s.id s.payload s.name
 
 -- The bytes are the header and these sections.
@@ -69,23 +69,23 @@ count_in x = number_in x
 -- The payload decodes to this number of items of the kind. There is no number if it does not
 -- decode, or if its items are not counted.
 abbrev pub IsCount : SectionKind → List ℕ → Option ℕ → Type 0
-IsCount kind payload (Some n) = (x : Contents) × content kind wide payload x × (count_in x ≡ Some n)
-IsCount kind payload None = (x : Contents) → content kind wide payload x → count_in x ≡ None
+IsCount kind payload (Some n) = (x : Contents) × content kind padded payload x × (count_in x ≡ Some n)
+IsCount kind payload None = (x : Contents) → content kind padded payload x → count_in x ≡ None
 
 -- The line describes a section whose id is at this offset.
-pub record IsOutline (place : ℕ) (s : Section) (line : Outlined) : Type 0 where
+pub record IsOutline (section_start : ℕ) (s : Section) (line : Outlined) : Type 0 where
   pub id : line.id ≡ s.id
-  pub offset : line.offset + length s.payload ≡ place + length (bytes_of s)
+  pub offset : line.offset + length s.payload ≡ section_start + length (bytes_of s)
   pub size : line.size ≡ length s.payload
   pub items : IsCount (section_kind_of s) s.payload line.items
   pub name : option_map (λ n. n.now) line.name ≡ s.name
 
 -- The lines describe the sections, the first of which begins at this offset.
 abbrev pub AreOutlines : ℕ → List Section → List Outlined → Type 0
-AreOutlines place [] [] = Unit {0}
-AreOutlines place (s ∷ ss) (l ∷ ls) = IsOutline place s l × AreOutlines (place + length (bytes_of s)) ss ls
-AreOutlines place [] (l ∷ ls) = ⊥
-AreOutlines place (s ∷ ss) [] = ⊥
+AreOutlines section_start [] [] = Unit {0}
+AreOutlines section_start (s ∷ ss) (l ∷ ls) = IsOutline section_start s l × AreOutlines (section_start + length (bytes_of s)) ss ls
+AreOutlines section_start [] (l ∷ ls) = ⊥
+AreOutlines section_start (s ∷ ss) [] = ⊥
 
 -- The bytes are a module of sections that the lines describe.
 pub record HasOutline (bytes : List ℕ) (lines : List Outlined) : Type 0 where
@@ -100,13 +100,13 @@ pub record HasOutline (bytes : List ℕ) (lines : List Outlined) : Type 0 where
 pub record EndsBehind (bytes : List ℕ) (number : ℕ) : Type 0 where
   pub sections : List (ℕ × List ℕ)
   pub rest : List ℕ
-  pub read : Reads wasm_module wide bytes sections rest
+  pub read : Decodes wasm_module padded bytes sections rest
   pub counted : length sections ≡ number
   pub more : rest ≢ []
-  pub none : ReadsNothing any_section wide rest
+  pub none : Rejects any_section padded rest
 
 -- Number 0: the bytes do not begin with the header. Other numbers, counted from 1: the section of
 -- this number is the first that is malformed, whatever its payload.
 abbrev pub EndsAt : List ℕ → ℕ → Type 0
-EndsAt bytes zero = ReadsNothing (fixed header (tt {0})) wide bytes
+EndsAt bytes zero = Rejects (fixed header (tt {0})) padded bytes
 EndsAt bytes (suc number) = EndsBehind bytes number

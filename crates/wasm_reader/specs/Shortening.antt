@@ -3,10 +3,10 @@
 use Rattle.std.specs.Prelude.{◌≡◌, ◌≢◌, ◌⊎◌, ◌||◌, ℕ, ◌+◌, ◌≤◌, List, [], ◌∷◌, ◌++◌, length, map, codes, nat_eq, min, Bool, true, false, if◌then◌else◌, Decides, MatchBool, Option, Some, None, is_some}
 use Rattle.std.specs.List.{AllByRecursion, flat_map, starts_with}
 use Rattle.std.specs.Str.{bytes_eq}
-use Rattle.wasm_base.specs.Numbers.{wide}
+use Rattle.wasm_base.specs.Numbers.{padded}
 use Rattle.wasm_base.specs.Formats.{any_section, header, members, wasm_module}
-use Rattle.wasm_base.specs.Going.{FillsNothing}
-use Rattle.wasm_base.specs.Reading.{Reads, ReadsNothing}
+use Rattle.wasm_base.specs.Continuing.{RejectsWhole}
+use Rattle.wasm_base.specs.Decoding.{Decodes, Rejects}
 use Rattle.wasm_base.specs.SectionId.{number_of}
 use Rattle.wasm_base.specs.declared.section_id.SectionId.TheVariants as ids
 use Rattle.wasm_custom.specs.Linking.{linking_name}
@@ -14,7 +14,7 @@ use Rattle.wasm_reader.specs.Outlines.{Section, bytes_of, section_kind_of, IsSec
 use Rattle.wasm_reader.specs.Sections.{section, Shortens}
 use Rattle.wasm_reader.specs.declared.whole.Found.{Found}
 use Rattle.wasm_reader.specs.declared.whole.How.{How}
-use Rattle.wasm_reader.specs.declared.whole.How.TheVariants.{Shortest, Kept, LeftOut}
+use Rattle.wasm_reader.specs.declared.whole.How.TheVariants.{Minimal, Kept, LeftOut}
 use Rattle.wasm_reader.specs.declared.whole.ModuleFault.{ModuleFault}
 use Rattle.wasm_reader.specs.declared.whole.ModuleFault.TheVariants as faults
 use Rattle.wasm_reader.specs.declared.whole.Offsets.{Offsets}
@@ -22,7 +22,7 @@ use Rattle.wasm_reader.specs.declared.whole.Offsets.TheVariants.{Refuse, LeaveOu
 use Rattle.wasm_reader.specs.declared.whole.Tally.{Tally}
 use Rattle.wasm_reader.specs.declared.whole.Target.{Target}
 use Rattle.wasm_reader.specs.declared.whole.Target.TheVariants.{CodeAndData, Relocated, Module}
-pub use Rattle.wasm_reader_base.specs.Shortest.{IsFrontOf}
+pub use Rattle.wasm_reader_base.specs.Minimal.{IsFrontOf}
 use Rattle.wasm_reader_base.specs.declared.fault.ReadFault.TheVariants.{Memory}
 
 -- ---- custom sections that hold offsets
@@ -53,8 +53,8 @@ target_of (Some n) = target_named n
 target_of None = None
 
 -- Whether a section holds offsets, by its name.
-abbrev pub holds_offsets : Option (List ℕ) → Bool
-holds_offsets n = is_some (target_of n)
+abbrev pub contains_offsets : Option (List ℕ) → Bool
+contains_offsets n = is_some (target_of n)
 
 -- Such offsets count from the front of a section of this id.
 abbrev pub IsLedInto : Target → ℕ → Type 0
@@ -74,40 +74,40 @@ IsPlaced Module id = id ≡ number_of ids.Code
 pub record Rewrite : Type 0 where
   pub section : Section
   pub how : How
-  pub text : List ℕ
+  pub encoding : List ℕ
 
 -- The bytes are the minimal encoding of the section; or its bytes unchanged, since they do not
 -- decode by its kind. A section that is left out has none.
-abbrev pub IsTextFor : How → Section → List ℕ → Type 0
-IsTextFor Shortest s text = Shortens (section_kind_of s) s.framed (length s.framed) [] text
-IsTextFor Kept s text = (text ≡ s.framed) × ReadsNothing (section (section_kind_of s)) wide s.framed
-IsTextFor LeftOut s text = ⊥
+abbrev pub IsEncodingFor : How → Section → List ℕ → Type 0
+IsEncodingFor Minimal s encoding = Shortens (section_kind_of s) s.sized (length s.sized) [] encoding
+IsEncodingFor Kept s encoding = (encoding ≡ s.sized) × Rejects (section (section_kind_of s)) padded s.sized
+IsEncodingFor LeftOut s encoding = ⊥
 
 -- The section is encoded in this way. It is left out exactly if it holds offsets and such sections
 -- are to be left out.
 abbrev pub IsWritten : Offsets → How → Section → List ℕ → Type 0
-IsWritten offsets Shortest s text = IsTextFor Shortest s text × (offsets ≡ LeaveOut → holds_offsets s.name ≡ false)
-IsWritten offsets Kept s text = IsTextFor Kept s text × (offsets ≡ LeaveOut → holds_offsets s.name ≡ false)
-IsWritten offsets LeftOut s text = (text ≡ []) × (offsets ≡ LeaveOut) × (holds_offsets s.name ≡ true)
+IsWritten offsets Minimal s encoding = IsEncodingFor Minimal s encoding × (offsets ≡ LeaveOut → contains_offsets s.name ≡ false)
+IsWritten offsets Kept s encoding = IsEncodingFor Kept s encoding × (offsets ≡ LeaveOut → contains_offsets s.name ≡ false)
+IsWritten offsets LeftOut s encoding = (encoding ≡ []) × (offsets ≡ LeaveOut) × (contains_offsets s.name ≡ true)
 
 -- The rewrite of a section is as `IsWritten` says.
 abbrev pub IsRewrite : Offsets → Rewrite → Type 0
-IsRewrite offsets w = IsWritten offsets w.how w.section w.text
+IsRewrite offsets w = IsWritten offsets w.how w.section w.encoding
 
 -- An id and bytes, unless the section is left out.
 abbrev pub written_as : How → ℕ → List ℕ → List ℕ
-written_as LeftOut id text = []
-written_as Shortest id text = id ∷ text
-written_as Kept id text = id ∷ text
+written_as LeftOut id encoding = []
+written_as Minimal id encoding = id ∷ encoding
+written_as Kept id encoding = id ∷ encoding
 
 -- The bytes that the output has for a section.
 abbrev pub written : Rewrite → List ℕ
-written w = written_as w.how w.section.id w.text
+written w = written_as w.how w.section.id w.encoding
 
 -- 1 if the section is kept unchanged, and 0 otherwise.
 abbrev pub keeps : How → ℕ
 keeps Kept = 1
-keeps Shortest = 0
+keeps Minimal = 0
 keeps LeftOut = 0
 
 -- The number of sections that are kept unchanged.
@@ -123,7 +123,7 @@ id_written w = written_as w.how w.section.id []
 -- offsets expect it. It is unchanged if they count from its front, and keeps its offset if they
 -- count from the front of the module.
 abbrev pub Stays : Target → ℕ → ℕ → Rewrite → Type 0
-Stays target from to w = (IsLedInto target w.section.id → w.text ≡ w.section.framed) × (IsPlaced target w.section.id → from ≡ to)
+Stays target from to w = (IsLedInto target w.section.id → w.encoding ≡ w.section.sized) × (IsPlaced target w.section.id → from ≡ to)
 
 -- All of these sections stay, one after another, from these offsets on.
 abbrev pub AllStay : Target → ℕ → ℕ → List Rewrite → Type 0
@@ -151,12 +151,12 @@ pub record ShortensModule (offsets : Offsets) (bytes : List ℕ) (kept : ℕ) (o
   pub each : AllByRecursion (IsRewrite offsets) rewrites
   pub counted : kept ≡ count_kept rewrites
   pub fitting : offsets ≡ Refuse → AllByRecursion (KeepsOffsets rewrites) rewrites
-  pub text : List ℕ
-  pub is : text ≡ header ++ flat_map written rewrites
-  pub appended : new ≡ old ++ text
-  pub shorter : length text ≤ length bytes
+  pub encoding : List ℕ
+  pub is : encoding ≡ header ++ flat_map written rewrites
+  pub appended : new ≡ old ++ encoding
+  pub shorter : length encoding ≤ length bytes
   pub sections : List (ℕ × List ℕ)
-  pub read : wasm_module wide text sections
+  pub read : wasm_module padded encoding sections
   pub same_ids : map (λ s. s.0) sections ≡ flat_map id_written rewrites
 
 -- The section of this number, counted from 1, is the first whose offsets are lost if each section
@@ -175,27 +175,27 @@ pub record LosesOffsets (bytes : List ℕ) (number : ℕ) : Type 0 where
 -- whatever its payload, and the bytes are not a module. Or the section of this number loses its
 -- offsets. `Memory` means nothing about the bytes.
 abbrev pub Explains : Offsets → List ℕ → ModuleFault → Type 0
-Explains offsets bytes (faults.Section number fault) = fault ≢ Memory → EndsAt bytes number × FillsNothing wasm_module bytes
+Explains offsets bytes (faults.Section number fault) = fault ≢ Memory → EndsAt bytes number × RejectsWhole wasm_module bytes
 Explains offsets bytes (faults.Offsets number) = (offsets ≡ Refuse) × LosesOffsets bytes number
 
 -- ---- intermediate steps
 
 -- Whether the bytes differ from the section's size-prefixed payload.
 abbrev pub IsChange : Bool → Section → List ℕ → Type 0
-IsChange is_changed s text = MatchBool is_changed (text ≢ s.framed) (text ≡ s.framed)
+IsChange is_changed s encoding = MatchBool is_changed (encoding ≢ s.sized) (encoding ≡ s.sized)
 
 -- The buffer gains the output for the section.
 pub record GainsSection (offsets : Offsets) (s : Section) (how : How) (is_changed : Bool) (old new : List ℕ) : Type 0 where
-  pub text : List ℕ
-  pub written : IsWritten offsets how s text
-  pub changed : IsChange is_changed s text
-  pub appended : new ≡ old ++ written_as how s.id text
+  pub encoding : List ℕ
+  pub written : IsWritten offsets how s encoding
+  pub changed : IsChange is_changed s encoding
+  pub appended : new ≡ old ++ written_as how s.id encoding
 
 -- Whether a section of this id does not stay for such offsets, given whether it changes and whether
 -- its offset stays the same.
 abbrev pub AreMoved : Bool → Target → ℕ → Bool → Bool → Type 0
 AreMoved is_moved target id is_changed is_level =
-    (w : Rewrite) (from to : ℕ) → id ≡ w.section.id → IsChange is_changed w.section w.text → Decides is_level (from ≡ to) → MatchBool is_moved (Stays target from to w → ⊥) (Stays target from to w)
+    (w : Rewrite) (from to : ℕ) → id ≡ w.section.id → IsChange is_changed w.section w.encoding → Decides is_level (from ≡ to) → MatchBool is_moved (Stays target from to w → ⊥) (Stays target from to w)
 
 -- The number of bytes of the sections in the input, and in the output.
 abbrev pub size_before : List Rewrite → ℕ
@@ -222,8 +222,8 @@ pub record HasFound (target : Target) (rewrites : List Rewrite) (found : Found) 
 
 -- Whether a section is left out.
 abbrev pub leaves_out : Offsets → Bool → Bool
-leaves_out Refuse holds = false
-leaves_out LeaveOut holds = holds
+leaves_out Refuse contains = false
+leaves_out LeaveOut contains = contains
 
 -- The number that was found before, or else this number if the section has the property.
 abbrev pub first_of : Option ℕ → Bool → ℕ → Option ℕ
@@ -273,10 +273,10 @@ pub record Rewrites (offsets : Offsets) (bytes rest old new : List ℕ) (tally :
 pub record StopsAfter (bytes : List ℕ) (number : ℕ) : Type 0 where
   pub sections : List (ℕ × List ℕ)
   pub rest : List ℕ
-  pub read : Reads (members any_section) wide bytes sections rest
+  pub read : Decodes (members any_section) padded bytes sections rest
   pub counted : length sections + 1 ≡ number
   pub more : rest ≢ []
-  pub none : ReadsNothing any_section wide rest
+  pub none : Rejects any_section padded rest
 
 -- ---- laws
 
@@ -287,5 +287,5 @@ IsMemory (faults.Offsets number) = ⊥
 
 -- A minimized module can be minimized again, unless memory is refused, and becomes the same bytes.
 pub record IsIdempotent : Type 0 where
-  pub again : (offsets : Offsets) (bytes old other text next : List ℕ) (kept more : ℕ) → ShortensModule offsets bytes kept old (old ++ text) → ShortensModule offsets text more other (other ++ next) → next ≡ text
-  pub accepted : (offsets : Offsets) (bytes old text : List ℕ) (kept : ℕ) (fault : ModuleFault) → ShortensModule offsets bytes kept old (old ++ text) → Explains offsets text fault → IsMemory fault
+  pub again : (offsets : Offsets) (bytes old other encoding next : List ℕ) (kept more : ℕ) → ShortensModule offsets bytes kept old (old ++ encoding) → ShortensModule offsets encoding more other (other ++ next) → next ≡ encoding
+  pub accepted : (offsets : Offsets) (bytes old encoding : List ℕ) (kept : ℕ) (fault : ModuleFault) → ShortensModule offsets bytes kept old (old ++ encoding) → Explains offsets encoding fault → IsMemory fault

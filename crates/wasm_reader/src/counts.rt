@@ -1,22 +1,22 @@
 // Counts the items of a section without keeping them.
 ghost use Rattle.std.specs.Prelude.{◌≡◌, ◌≢◌, List, length, Some, IfOk, IfErr};
 ghost use Rattle.wasm_base.specs.Formats.{vec};
-ghost use Rattle.wasm_base.specs.Going.{FillsNothing};
-ghost use Rattle.wasm_base.specs.Numbers.{wide};
+ghost use Rattle.wasm_base.specs.Continuing.{RejectsWhole};
+ghost use Rattle.wasm_base.specs.Numbers.{padded};
 ghost use Rattle.wasm_reader_base.specs.declared.fault.ReadFault.TheVariants.{Memory};
 
 use std::alloc::Allocator;
-use wasm_reader_base::{Passed, ReadFault, pass_many};
+use wasm_reader_base::{Skip, ReadFault, skip_many};
 
 /// Skips the members of a vector that occupies all of the bytes, and returns their number.
-pub(crate) fn count_passed<'a, P: Passed<'a, A>, A: Allocator + Copy>(
+pub(crate) fn count_skipped<'a, P: Skip<'a, A>, A: Allocator + Copy>(
     bytes: &'a [u8],
     alloc: A,
 ) -> Result<Option<u32>, ReadFault>
-    ensures found { IfOk result (λ count. (xs : List P.Value) × vec P.format wide bytes.now xs × (count ≡ Some (length xs))) }
-    ensures none { IfErr result (λ e. e ≢ Memory → FillsNothing (vec P.format) bytes.now) }
+    ensures found { IfOk result (λ count. (xs : List P.Value) × vec P.format padded bytes.now xs × (count ≡ Some (length xs))) }
+    ensures none { IfErr result (λ e. e ≢ Memory → RejectsWhole (vec P.format) bytes.now) }
 {
-    let (count, rest) = pass_many::<'a, P, A>(bytes, alloc)?;
+    let (count, rest) = skip_many::<'a, P, A>(bytes, alloc)?;
     P::laws();
     P::laws();
     if rest.is_empty() {

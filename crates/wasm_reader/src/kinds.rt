@@ -1,12 +1,12 @@
 // Kinds of sections: the reader and the minimizer of each.
 ghost use Rattle.std.specs.Prelude.{◌≡◌, ◌≢◌, IfOk, IfErr, OnOk};
-ghost use Rattle.wasm_base.specs.Going.{FillsNothing};
-ghost use Rattle.wasm_base.specs.Numbers.{wide};
-ghost use Rattle.wasm_reader_base.specs.Shortest.{AppendsShortest};
+ghost use Rattle.wasm_base.specs.Continuing.{RejectsWhole};
+ghost use Rattle.wasm_base.specs.Numbers.{padded};
+ghost use Rattle.wasm_reader_base.specs.Minimal.{AppendsMinimal};
 ghost use Rattle.wasm_reader_base.specs.declared.fault.ReadFault.TheVariants.{Memory};
 ghost use Rattle.wasm_reader.specs.Kinds.{Contents, content, contents_of, kind_in, kind_named, kind_numbered, kind_of_id as kind_among_ids, number_in};
 
-use crate::counts::count_passed;
+use crate::counts::count_skipped;
 use std::alloc::{Allocator, Global};
 use wasm_base::{Encode, R};
 use wasm_custom::{
@@ -17,7 +17,7 @@ use wasm_custom::{
 use wasm_reader_base::{Dropped, ReadFault, Readable, Shorten, read_whole};
 use wasm_reader_insn::Body;
 use wasm_sections::{
-    ElementItem, Export, GlobalItem, Imports, MemoryType, PassedImports, Segment, TableItem,
+    ElementItem, Export, GlobalItem, Imports, MemoryType, SkippedImports, Segment, TableItem,
     TagType, append_imports, read_imports, read_segments,
 };
 use wasm_types::{TypeEntry, append_types, read_types};
@@ -189,8 +189,8 @@ pub(crate) fn read_content<'a, A: Allocator + Copy + 'a>(
     bytes: &'a [u8],
     alloc: A,
 ) -> Result<Items<'a, A>, ReadFault>
-    ensures found { IfOk result (λ x. content kind wide bytes.now (contents_of x)) }
-    ensures none { IfErr result (λ e. e ≢ Memory → FillsNothing (content kind) bytes.now) }
+    ensures found { IfOk result (λ x. content kind padded bytes.now (contents_of x)) }
+    ensures none { IfErr result (λ e. e ≢ Memory → RejectsWhole (content kind) bytes.now) }
 {
     match kind {
         SectionKind::Bodies => {
@@ -293,20 +293,20 @@ pub(crate) fn read_number<'a, A: Allocator + Copy>(
     bytes: &'a [u8],
     alloc: A,
 ) -> Result<Option<u32>, ReadFault>
-    ensures found { IfOk result (λ number. (x : Contents) × content kind wide bytes.now x × (number ≡ number_in x)) }
-    ensures none { IfErr result (λ e. e ≢ Memory → FillsNothing (content kind) bytes.now) }
+    ensures found { IfOk result (λ number. (x : Contents) × content kind padded bytes.now x × (number ≡ number_in x)) }
+    ensures none { IfErr result (λ e. e ≢ Memory → RejectsWhole (content kind) bytes.now) }
 {
     match kind {
-        SectionKind::Bodies => count_passed::<'a, Body<A>, A>(bytes, alloc),
-        SectionKind::Segments => count_passed::<'a, Segment<'a, A>, A>(bytes, alloc),
-        SectionKind::Elements => count_passed::<'a, ElementItem<A>, A>(bytes, alloc),
-        SectionKind::Exports => count_passed::<'a, Dropped<Export<'a>>, A>(bytes, alloc),
-        SectionKind::Functions => count_passed::<'a, Dropped<u32>, A>(bytes, alloc),
-        SectionKind::Globals => count_passed::<'a, GlobalItem<A>, A>(bytes, alloc),
-        SectionKind::Imports => count_passed::<'a, PassedImports, A>(bytes, alloc),
-        SectionKind::Memories => count_passed::<'a, Dropped<MemoryType>, A>(bytes, alloc),
-        SectionKind::Tables => count_passed::<'a, TableItem<A>, A>(bytes, alloc),
-        SectionKind::Tags => count_passed::<'a, Dropped<TagType>, A>(bytes, alloc),
+        SectionKind::Bodies => count_skipped::<'a, Body<A>, A>(bytes, alloc),
+        SectionKind::Segments => count_skipped::<'a, Segment<'a, A>, A>(bytes, alloc),
+        SectionKind::Elements => count_skipped::<'a, ElementItem<A>, A>(bytes, alloc),
+        SectionKind::Exports => count_skipped::<'a, Dropped<Export<'a>>, A>(bytes, alloc),
+        SectionKind::Functions => count_skipped::<'a, Dropped<u32>, A>(bytes, alloc),
+        SectionKind::Globals => count_skipped::<'a, GlobalItem<A>, A>(bytes, alloc),
+        SectionKind::Imports => count_skipped::<'a, SkippedImports, A>(bytes, alloc),
+        SectionKind::Memories => count_skipped::<'a, Dropped<MemoryType>, A>(bytes, alloc),
+        SectionKind::Tables => count_skipped::<'a, TableItem<A>, A>(bytes, alloc),
+        SectionKind::Tags => count_skipped::<'a, Dropped<TagType>, A>(bytes, alloc),
         SectionKind::DataCount | SectionKind::Start => {
             drop(read_content(kind, bytes, alloc)?);
             Ok(Some(1))
@@ -322,40 +322,40 @@ pub(crate) fn read_number<'a, A: Allocator + Copy>(
 #[tactic(auto, using(crate::proofs::KindLaws::contents))]
 pub(crate) fn append_content<A: Allocator, B: Allocator>(
     items: Items<'_, A>,
-    out: &mut Vec<u8, B>,
+    sink: &mut Vec<u8, B>,
 ) -> R<()>
-    ensures { OnOk result (AppendsShortest (content (kind_in (contents_of items.entry))) (contents_of items.entry) out.old.items out.new.items) }
+    ensures { OnOk result (AppendsMinimal (content (kind_in (contents_of items.entry))) (contents_of items.entry) sink.old.items sink.new.items) }
 {
     match items {
-        Items::Bodies(items) => items.write_minimal(out),
-        Items::Segments(items) => items.write_minimal(out),
-        Items::DataCount(count) => count.write_minimal(out),
-        Items::Elements(items) => items.write_minimal(out),
-        Items::Exports(items) => items.as_slice().encode(out),
-        Items::Functions(items) => items.write_minimal(out),
-        Items::Globals(items) => items.write_minimal(out),
-        Items::Imports(items) => append_imports(&items, out),
-        Items::Memories(items) => items.as_slice().encode(out),
-        Items::Start(index) => index.write_minimal(out),
-        Items::Tables(items) => items.write_minimal(out),
-        Items::Tags(items) => items.as_slice().encode(out),
-        Items::Names(items) => append_names(&items, out),
-        Items::Linking(items) => append_links(&items, out),
-        Items::Producers(items) => append_producers(&items, out),
-        Items::Hints(items) => append_hints(&items, out),
-        Items::Core(name) => append_process(name, out),
-        Items::CoreModules(items) => append_modules(&items, out),
-        Items::CoreInstances(items) => append_instances(&items, out),
-        Items::CoreStack { thread, frames } => append_stack(thread, &frames, out),
+        Items::Bodies(items) => items.write_minimal(sink),
+        Items::Segments(items) => items.write_minimal(sink),
+        Items::DataCount(count) => count.write_minimal(sink),
+        Items::Elements(items) => items.write_minimal(sink),
+        Items::Exports(items) => items.as_slice().encode(sink),
+        Items::Functions(items) => items.write_minimal(sink),
+        Items::Globals(items) => items.write_minimal(sink),
+        Items::Imports(items) => append_imports(&items, sink),
+        Items::Memories(items) => items.as_slice().encode(sink),
+        Items::Start(index) => index.write_minimal(sink),
+        Items::Tables(items) => items.write_minimal(sink),
+        Items::Tags(items) => items.as_slice().encode(sink),
+        Items::Names(items) => append_names(&items, sink),
+        Items::Linking(items) => append_links(&items, sink),
+        Items::Producers(items) => append_producers(&items, sink),
+        Items::Hints(items) => append_hints(&items, sink),
+        Items::Core(name) => append_process(name, sink),
+        Items::CoreModules(items) => append_modules(&items, sink),
+        Items::CoreInstances(items) => append_instances(&items, sink),
+        Items::CoreStack { thread, frames } => append_stack(thread, &frames, sink),
         Items::Custom { name, bytes } => {
-            name.write_minimal(out)?;
-            out.extend_from_slice(bytes)?;
+            name.write_minimal(sink)?;
+            sink.extend_from_slice(bytes)?;
             Ok(())
         }
         Items::Raw(bytes) => {
-            out.extend_from_slice(bytes)?;
+            sink.extend_from_slice(bytes)?;
             Ok(())
         }
-        Items::Types(items) => append_types(&items, out),
+        Items::Types(items) => append_types(&items, sink),
     }
 }

@@ -12,7 +12,7 @@ pub mod laws;
 mod modules;
 mod outlines;
 mod section;
-mod shortest;
+mod minimal;
 mod standing;
 mod whole;
 
@@ -20,7 +20,7 @@ pub use kinds::{Items, SectionKind};
 pub use modules::{Listed, list_module};
 pub use outlines::{Outlined, outline};
 pub use section::read_section;
-pub use shortest::shorten;
+pub use minimal::shorten;
 pub use wasm_custom::{CoreFrame, LinkItem, NameItem, Symbol};
 pub use wasm_reader_base::ReadFault;
 pub use wasm_reader_insn::{Arg, Body, Expression, Plain};

@@ -1,8 +1,8 @@
 // Lists the sections of a module.
 ghost use Rattle.std.specs.Prelude.{◌≡◌, ◌≢◌, ◌⊎◌, ◌++◌, ℕ, IfOk, IfErr};
 ghost use Rattle.wasm_base.specs.Formats.{fixed, header};
-ghost use Rattle.wasm_base.specs.Numbers.{wide};
-ghost use Rattle.wasm_base.specs.Reading.{Reads, ReadsNothing};
+ghost use Rattle.wasm_base.specs.Numbers.{padded};
+ghost use Rattle.wasm_base.specs.Decoding.{Decodes, Rejects};
 ghost use Rattle.wasm_reader_base.specs.declared.fault.ReadFault.TheVariants.{Ended, UnknownTag, Memory};
 ghost use Rattle.wasm_reader.specs.Kinds.{Contents};
 ghost use Rattle.wasm_reader.specs.Modules.{sized_section, line_of, HasLines, StopsAt};
@@ -26,10 +26,10 @@ pub struct Listed {
 }
 
 /// Decodes the header, and returns the remaining bytes.
-#[tactic(auto, using(crate::proofs::ReadModules::header_steps))]
+#[tactic(auto, using(crate::proofs::DecodeModules::header_steps))]
 pub(crate) fn read_header(bytes: &[u8]) -> Result<&[u8], ReadFault>
     ensures found { IfOk result (λ rest. bytes.now ≡ header ++ rest.now) }
-    ensures none { IfErr result (λ _. ReadsNothing (fixed header (tt {0})) wide bytes.now) }
+    ensures none { IfErr result (λ _. Rejects (fixed header (tt {0})) padded bytes.now) }
     ensures cause { IfErr result (λ e. (e ≡ Ended) ⊎ (e ≡ UnknownTag)) }
 {
     match bytes.split_first_chunk::<8>() {
@@ -45,18 +45,18 @@ pub(crate) fn read_header(bytes: &[u8]) -> Result<&[u8], ReadFault>
 }
 
 /// Returns the listing of the section at the front, and the remaining bytes.
-#[tactic(auto, using(crate::proofs::ReadModules::line_steps))]
+#[tactic(auto, using(crate::proofs::DecodeModules::line_steps))]
 fn read_line<'a, A: Allocator + Copy>(
     bytes: &'a [u8],
     alloc: A,
 ) -> Result<(Listed, &'a [u8]), ReadFault>
-    ensures found { IfOk result (λ x. (s : ℕ × (ℕ × Contents)) × Reads sized_section wide bytes.now s x.1.now × (x.0 ≡ line_of s)) }
-    ensures none { IfErr result (λ e. e ≢ Memory → ReadsNothing sized_section wide bytes.now) }
+    ensures found { IfOk result (λ x. (s : ℕ × (ℕ × Contents)) × Decodes sized_section padded bytes.now s x.1.now × (x.0 ≡ line_of s)) }
+    ensures none { IfErr result (λ e. e ≢ Memory → Rejects sized_section padded bytes.now) }
 {
     let (id, rest) = <u8 as Readable<'a, A>>::read(bytes, alloc)?;
-    let (framed, rest) = <&'a [u8] as Readable<'a, A>>::read(rest, alloc)?;
-    let items = read_number(kind_of_id(id), framed, alloc)?;
-    let size = framed.len() as u32;
+    let (sized, rest) = <&'a [u8] as Readable<'a, A>>::read(rest, alloc)?;
+    let items = read_number(kind_of_id(id), sized, alloc)?;
+    let size = sized.len() as u32;
     Ok((Listed { id, size, items }, rest))
 }
 

@@ -1,9 +1,9 @@
 // Outlines a module: lists its sections, whether their payloads decode or not.
 ghost use Rattle.std.specs.Prelude.{◌≡◌, ◌≢◌, ◌++◌, ◌+◌, ◌<◌, ◌^◌, length, None, IfOk, IfErr};
 ghost use Rattle.wasm_base.specs.Formats.{any_section, wasm_module};
-ghost use Rattle.wasm_base.specs.Going.{FillsNothing};
-ghost use Rattle.wasm_base.specs.Numbers.{wide};
-ghost use Rattle.wasm_base.specs.Reading.{ReadsNothing};
+ghost use Rattle.wasm_base.specs.Continuing.{RejectsWhole};
+ghost use Rattle.wasm_base.specs.Numbers.{padded};
+ghost use Rattle.wasm_base.specs.Decoding.{Rejects};
 ghost use Rattle.wasm_reader_base.specs.declared.fault.ReadFault.TheVariants.{Memory};
 ghost use Rattle.wasm_reader.specs.Outlines.{Section, section_of, bytes_of, section_kind_of, IsCount, IsSection, IsOutline, HasOutline, EndsAt};
 ghost use Rattle.wasm_reader.specs.declared.kinds.SectionKind.TheVariants as kinds;
@@ -32,7 +32,7 @@ pub struct Outlined<'a> {
 }
 
 /// Returns the number of entries in the payload of a type section.
-#[tactic(auto, using(crate::proofs::ReadOutlines::count_steps))]
+#[tactic(auto, using(crate::proofs::DecodeOutlines::count_steps))]
 fn count_entries<A: Allocator + Copy>(bytes: &[u8], alloc: A) -> Result<Option<u32>, ReadFault>
     ensures found { IfOk result (λ count. IsCount kinds.Types bytes.now count) }
     ensures none { IfErr result (λ e. e ≢ Memory → IsCount kinds.Types bytes.now None) }
@@ -43,7 +43,7 @@ fn count_entries<A: Allocator + Copy>(bytes: &[u8], alloc: A) -> Result<Option<u
 
 /// Returns the number of items of a section, if its payload decodes as its kind and the items are
 /// counted.
-#[tactic(auto, using(crate::proofs::ReadOutlines::count_steps))]
+#[tactic(auto, using(crate::proofs::DecodeOutlines::count_steps))]
 fn count<A: Allocator + Copy>(section: &Standing<'_>, alloc: A) -> Result<Option<u32>, ReadFault>
     ensures found { IfOk result (λ count. IsCount (section_kind_of (section_of section.now)) section.now.payload.now count) }
     ensures memory { IfErr result (λ e. e ≡ Memory) }
@@ -60,24 +60,24 @@ fn count<A: Allocator + Copy>(section: &Standing<'_>, alloc: A) -> Result<Option
     }
 }
 
-/// Returns the outline of the section at the front, which is at the offset `place`, and the
+/// Returns the outline of the section at the front, which is at the offset `section_start`, and the
 /// remaining bytes.
-#[tactic(auto, using(crate::proofs::ReadOutlines::line_steps))]
+#[tactic(auto, using(crate::proofs::DecodeOutlines::line_steps))]
 fn read_line<'a, A: Allocator + Copy>(
-    place: usize,
+    section_start: usize,
     bytes: &'a [u8],
     alloc: A,
 ) -> Result<(Outlined<'a>, &'a [u8]), ReadFault>
-    requires { place + length bytes.now < 2 ^ 64 }
-    ensures found { IfOk result (λ x. (s : Section) × IsSection s × (bytes.now ≡ bytes_of s ++ x.1.now) × IsOutline place s x.0) }
-    ensures none { IfErr result (λ e. e ≢ Memory → ReadsNothing any_section wide bytes.now) }
+    requires { section_start + length bytes.now < 2 ^ 64 }
+    ensures found { IfOk result (λ x. (s : Section) × IsSection s × (bytes.now ≡ bytes_of s ++ x.1.now) × IsOutline section_start s x.0) }
+    ensures none { IfErr result (λ e. e ≢ Memory → Rejects any_section padded bytes.now) }
 {
     let (section, after) = read_standing(bytes, alloc)?;
     let items = count(&section, alloc)?;
     let taken = bytes.len() - after.len();
     let line = Outlined {
         id: section.id,
-        offset: place + (taken - section.payload.len()),
+        offset: section_start + (taken - section.payload.len()),
         size: section.payload.len() as u32,
         items,
         name: section.name,
@@ -101,7 +101,7 @@ pub fn outline<'a, A: Allocator + Copy>(
 ) -> Result<Vec<Outlined<'a>, A>, (usize, ReadFault)>
     ensures found { IfOk result (λ lines. HasOutline bytes.now lines.items) }
     ensures none { IfErr result (λ e. e.1 ≢ Memory → EndsAt bytes.now e.0) }
-    ensures no_module { IfErr result (λ e. e.1 ≢ Memory → FillsNothing wasm_module bytes.now) }
+    ensures no_module { IfErr result (λ e. e.1 ≢ Memory → RejectsWhole wasm_module bytes.now) }
 {
     let mut rest = match read_header(bytes) {
         Ok(rest) => rest,

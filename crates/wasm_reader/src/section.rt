@@ -1,8 +1,8 @@
 // Decodes whole sections.
 ghost use Rattle.std.specs.Prelude.{◌≢◌, IfOk, IfErr};
-ghost use Rattle.wasm_base.specs.Going.{FillsNothing};
-ghost use Rattle.wasm_base.specs.Numbers.{wide};
-ghost use Rattle.wasm_base.specs.Reading.{ReadsNothing};
+ghost use Rattle.wasm_base.specs.Continuing.{RejectsWhole};
+ghost use Rattle.wasm_base.specs.Numbers.{padded};
+ghost use Rattle.wasm_base.specs.Decoding.{Rejects};
 ghost use Rattle.wasm_reader_base.specs.declared.fault.ReadFault.TheVariants.{Memory};
 ghost use Rattle.wasm_reader.specs.Kinds.{content, contents_of};
 ghost use Rattle.wasm_reader.specs.Sections.{section, Takes};
@@ -22,16 +22,16 @@ use wasm_reader_base::{ReadFault, Readable};
 /// # Errors
 ///
 /// Any error but `Memory` means that the bytes do not begin with such a section.
-#[tactic(auto, using(crate::proofs::ReadSections::section_steps))]
+#[tactic(auto, using(crate::proofs::DecodeSections::section_steps))]
 pub fn read_section<'a, A: Allocator + Copy + 'a>(
     alloc: A,
     kind: SectionKind,
     bytes: &'a [u8],
 ) -> Result<(Items<'a, A>, usize), ReadFault>
     ensures found { IfOk result (λ x. Takes kind bytes.now (contents_of x.0) x.1) }
-    ensures none { IfErr result (λ e. e ≢ Memory → ReadsNothing (section kind) wide bytes.now) }
+    ensures none { IfErr result (λ e. e ≢ Memory → Rejects (section kind) padded bytes.now) }
 {
-    let (framed, rest) = <&'a [u8] as Readable<'a, A>>::read(bytes, alloc)?;
-    let items = read_content(kind, framed, alloc)?;
+    let (sized, rest) = <&'a [u8] as Readable<'a, A>>::read(bytes, alloc)?;
+    let items = read_content(kind, sized, alloc)?;
     Ok((items, bytes.len() - rest.len()))
 }

@@ -1,8 +1,8 @@
 // Splits a module into its sections, without decoding their payloads.
 ghost use Rattle.std.specs.Prelude.{◌≡◌, ◌≢◌, ◌++◌, IfOk, IfErr, option_map};
 ghost use Rattle.wasm_base.specs.Formats.{any_section};
-ghost use Rattle.wasm_base.specs.Numbers.{wide};
-ghost use Rattle.wasm_base.specs.Reading.{ReadsNothing};
+ghost use Rattle.wasm_base.specs.Numbers.{padded};
+ghost use Rattle.wasm_base.specs.Decoding.{Rejects};
 ghost use Rattle.wasm_reader_base.specs.declared.fault.ReadFault.TheVariants.{Memory};
 ghost use Rattle.wasm_reader.specs.Kinds.{kind_named};
 ghost use Rattle.wasm_reader.specs.Outlines.{section_of, IsSection, IsNameOf, bytes_of, section_kind_of as kind_of_section};
@@ -16,7 +16,7 @@ use wasm_reader_base::{ReadFault, Readable};
 pub(crate) struct Standing<'a> {
     pub(crate) id: u8,
     /// The size prefix and the payload.
-    pub(crate) framed: &'a [u8],
+    pub(crate) sized: &'a [u8],
     /// The payload.
     pub(crate) payload: &'a [u8],
     /// The name of a custom section, if its payload begins with one.
@@ -57,23 +57,23 @@ fn read_name<'a, A: Allocator + Copy>(
 
 /// Splits off the section at the front, which begins with its id, and returns it with the remaining
 /// bytes.
-#[tactic(auto, using(crate::proofs::ReadOutlines::standing_steps))]
+#[tactic(auto, using(crate::proofs::DecodeOutlines::standing_steps))]
 pub(crate) fn read_standing<'a, A: Allocator + Copy>(
     bytes: &'a [u8],
     alloc: A,
 ) -> Result<(Standing<'a>, &'a [u8]), ReadFault>
     ensures found { IfOk result (λ x. IsSection (section_of x.0)) }
     ensures split { IfOk result (λ x. bytes.now ≡ bytes_of (section_of x.0) ++ x.1.now) }
-    ensures none { IfErr result (λ e. e ≢ Memory → ReadsNothing any_section wide bytes.now) }
+    ensures none { IfErr result (λ e. e ≢ Memory → Rejects any_section padded bytes.now) }
 {
     let (id, rest) = <u8 as Readable<'a, A>>::read(bytes, alloc)?;
     let (payload, after) = <&'a [u8] as Readable<'a, A>>::read(rest, alloc)?;
-    let framed = &rest[..rest.len() - after.len()];
+    let sized = &rest[..rest.len() - after.len()];
     let name = read_name(id, payload, alloc)?;
     Ok((
         Standing {
             id,
-            framed,
+            sized,
             payload,
             name,
         },

@@ -8,10 +8,10 @@ ghost use Rattle.wasm_reader.specs.Shortening.{
   names_code_offsets,
   target_named,
   target_of,
-  holds_offsets,
+  contains_offsets,
   IsLedInto,
   IsPlaced,
-  IsTextFor,
+  IsEncodingFor,
   GainsSection,
   keeps,
   first_of,
@@ -34,7 +34,7 @@ ghost use Rattle.wasm_reader.specs.Shortening.{
 };
 
 use crate::modules::{HEADER, read_header};
-use crate::shortest::shorten;
+use crate::minimal::shorten;
 use crate::standing::{Standing, read_standing};
 use std::alloc::{AllocError, Allocator};
 use wasm_reader_base::ReadFault;
@@ -84,7 +84,7 @@ pub(crate) enum Target {
 #[derive(Clone, Copy, PartialEq, Eq, Debug)]
 pub(crate) enum How {
     /// Its minimal encoding.
-    Shortest,
+    Minimal,
     /// Its unchanged bytes, which do not decode as its kind.
     Kept,
     /// Nothing: it holds offsets.
@@ -176,19 +176,19 @@ impl Standing<'_> {
 
 /// Appends the output for the section's size prefix and payload, unless the section is left out. On
 /// an error, the sink is unchanged.
-fn append_frame<A: Allocator + Copy>(
+fn append_size_prefixed<A: Allocator + Copy>(
     section: &Standing<'_>,
     sink: &mut Vec<u8, A>,
 ) -> Result<How, ReadFault>
     requires { IsSection (section_of section.now) }
-    ensures ok { IfOk result (λ how. (text : List ℕ) × IsTextFor how (section_of section.now) text × (sink.new.items ≡ sink.old.items ++ text)) }
+    ensures ok { IfOk result (λ how. (encoding : List ℕ) × IsEncodingFor how (section_of section.now) encoding × (sink.new.items ≡ sink.old.items ++ encoding)) }
     ensures err { OnErr result (sink.new.items ≡ sink.old.items) }
     ensures memory { IfErr result (λ e. e ≡ Memory) }
 {
-    match shorten(section.kind(), section.framed, sink) {
-        Ok(_) => Ok(How::Shortest),
+    match shorten(section.kind(), section.sized, sink) {
+        Ok(_) => Ok(How::Minimal),
         Err(ReadFault::Memory) => Err(ReadFault::Memory),
-        Err(_) => match sink.extend_from_slice(section.framed) {
+        Err(_) => match sink.extend_from_slice(section.sized) {
             Ok(()) => Ok(How::Kept),
             Err(_) => Err(ReadFault::Memory),
         },
@@ -197,7 +197,7 @@ fn append_frame<A: Allocator + Copy>(
 
 /// Returns `true` if the section is left out.
 fn is_left_out(section: &Standing<'_>, offsets: Offsets) -> bool
-    ensures { result ≡ leaves_out offsets (holds_offsets (section_of section.now).name) }
+    ensures { result ≡ leaves_out offsets (contains_offsets (section_of section.now).name) }
 {
     match offsets {
         Offsets::Refuse => false,
@@ -206,10 +206,10 @@ fn is_left_out(section: &Standing<'_>, offsets: Offsets) -> bool
 }
 
 /// Returns `true` if the output differs from the section's size prefix and payload.
-fn is_changed(section: &Standing<'_>, text: &[u8]) -> bool
-    ensures { IsChange result (section_of section.now) text.now }
+fn is_changed(section: &Standing<'_>, encoding: &[u8]) -> bool
+    ensures { IsChange result (section_of section.now) encoding.now }
 {
-    text != section.framed
+    encoding != section.sized
 }
 
 /// The output for a section, and whether it differs from the input.
@@ -239,7 +239,7 @@ fn append_section<A: Allocator + Copy>(
     }
     let start = sink.len();
     sink.push(section.id)?;
-    match append_frame(section, sink) {
+    match append_size_prefixed(section, sink) {
         Ok(how) => {
             let is_changed = is_changed(section, &sink[start + 1..]);
             Ok(Written { how, is_changed })
@@ -293,7 +293,7 @@ impl How {
     {
         match self {
             How::Kept => 1,
-            How::Shortest | How::LeftOut => 0,
+            How::Minimal | How::LeftOut => 0,
         }
     }
 }
@@ -330,7 +330,7 @@ impl Found {
         is_level: bool,
         number: usize,
     ) -> Found
-        ensures { (ws : List Rewrite) (w : Rewrite) → HasFound target ws self → length ws + 1 ≡ number → section_of section.now ≡ w.section → IsChange is_changed w.section w.text → Decides is_level (size_before ws ≡ size_after ws) → HasFound target (ws ++ w ∷ []) result }
+        ensures { (ws : List Rewrite) (w : Rewrite) → HasFound target ws self → length ws + 1 ≡ number → section_of section.now ≡ w.section → IsChange is_changed w.section w.encoding → Decides is_level (size_before ws ≡ size_after ws) → HasFound target (ws ++ w ∷ []) result }
     {
         let loses = target.loses(section.id, is_changed, is_level);
         Found {
@@ -352,7 +352,7 @@ impl Tally {
     /// before it.
     fn and(self, section: &Standing<'_>, written: Written, is_level: bool) -> Tally
         requires { self.sections + 1 < 2 ^ 64 × self.kept ≤ self.sections }
-        ensures tallied { (ws : List Rewrite) (w : Rewrite) → HasTally ws self → section_of section.now ≡ w.section → written.how ≡ w.how → IsChange written.is_changed w.section w.text → Decides is_level (size_before ws ≡ size_after ws) → HasTally (ws ++ w ∷ []) result }
+        ensures tallied { (ws : List Rewrite) (w : Rewrite) → HasTally ws self → section_of section.now ≡ w.section → written.how ≡ w.how → IsChange written.is_changed w.section w.encoding → Decides is_level (size_before ws ≡ size_after ws) → HasTally (ws ++ w ∷ []) result }
         ensures kept { result.kept ≤ result.sections }
     {
         let sections = self.sections + 1;
@@ -430,12 +430,12 @@ fn append_sections<A: Allocator + Copy>(
     }
 }
 
-/// Appends the header, with spare capacity for `room` bytes.
-fn begin_module<A: Allocator>(room: usize, sink: &mut Vec<u8, A>) -> Result<(), AllocError>
+/// Appends the header, with spare capacity for `spare` bytes.
+fn begin_module<A: Allocator>(spare: usize, sink: &mut Vec<u8, A>) -> Result<(), AllocError>
     ensures ok { OnOk result (sink.new.items ≡ sink.old.items ++ header) }
     ensures err { OnErr result (sink.new.items ≡ sink.old.items) }
 {
-    sink.reserve(room)?;
+    sink.reserve(spare)?;
     sink.extend_from_slice(&HEADER)
 }
 

@@ -1,26 +1,26 @@
 // Decoding of fixed-width bytes: one byte, floats, vectors of 128 bits and lanes.
 ghost use Rattle.std.specs.Prelude.{ℕ, List, ℤ};
 ghost use Rattle.wasm_base.specs.Formats.{byte, little_endian, raw_bytes};
-ghost use Rattle.wasm_immediates.specs.PlainImmediates.{vector_format};
+ghost use Rattle.wasm_immediates.specs.ImmediateFormats.{vector_format};
 
 use crate::fault::ReadFault;
-use crate::readable::{Readable, Spelled};
+use crate::readable::{Readable, Layout};
 use std::alloc::Allocator;
 use wasm_immediates::{Ieee32, Ieee64};
 
-impl Spelled for u8 {
+impl Layout for u8 {
     ghost Value = { ℕ };
 
     ghost format = { byte };
 
     ghost view = { λ b. b };
 
-    #[tactic(auto, using(wasm_base::proofs::FormatLaws::byte_unique))]
+    #[tactic(auto, using(wasm_base::proofs::FormatLaws::byte_unambiguous))]
     fn laws() {}
 }
 
 impl<'a, A: Allocator + Copy> Readable<'a, A> for u8 {
-    #[tactic(auto, using(wasm_base::proofs::ReadingSteps::steps))]
+    #[tactic(auto, using(wasm_base::proofs::DecodingSteps::steps))]
     #[inline]
     fn read(bytes: &'a [u8], _alloc: A) -> Result<(u8, &'a [u8]), ReadFault> {
         match bytes {
@@ -31,14 +31,14 @@ impl<'a, A: Allocator + Copy> Readable<'a, A> for u8 {
 }
 
 /// A float's four bytes, little-endian.
-impl Spelled for Ieee32 {
+impl Layout for Ieee32 {
     ghost Value = { ℕ };
 
     ghost format = { little_endian 4 };
 
     ghost view = { λ float. float.bits };
 
-    #[tactic(auto, using(wasm_base::proofs::BaseLaws::fixed_4_unique))]
+    #[tactic(auto, using(wasm_base::proofs::BaseLaws::fixed_4_unambiguous))]
     fn laws() {}
 }
 
@@ -52,14 +52,14 @@ impl<'a, A: Allocator + Copy> Readable<'a, A> for Ieee32 {
 }
 
 /// A float's eight bytes, little-endian.
-impl Spelled for Ieee64 {
+impl Layout for Ieee64 {
     ghost Value = { ℕ };
 
     ghost format = { little_endian 8 };
 
     ghost view = { λ float. float.bits };
 
-    #[tactic(auto, using(wasm_base::proofs::BaseLaws::fixed_8_unique))]
+    #[tactic(auto, using(wasm_base::proofs::BaseLaws::fixed_8_unambiguous))]
     fn laws() {}
 }
 
@@ -73,14 +73,14 @@ impl<'a, A: Allocator + Copy> Readable<'a, A> for Ieee64 {
 }
 
 /// A vector's sixteen bytes, little-endian, in two's complement.
-impl Spelled for i128 {
+impl Layout for i128 {
     ghost Value = { ℤ };
 
     ghost format = { vector_format };
 
     ghost view = { λ v. v };
 
-    #[tactic(auto, using(wasm_immediates::proofs::ImmediateLaws::vector_unique))]
+    #[tactic(auto, using(wasm_immediates::proofs::ImmediateLaws::vector_unambiguous))]
     fn laws() {}
 }
 
@@ -94,7 +94,7 @@ impl<'a, A: Allocator + Copy> Readable<'a, A> for i128 {
 }
 
 /// Sixteen lanes, one byte each.
-impl Spelled for [u8; 16] {
+impl Layout for [u8; 16] {
     ghost Value = { List ℕ };
 
     ghost format = { raw_bytes 16 };
@@ -105,7 +105,7 @@ impl Spelled for [u8; 16] {
 }
 
 impl<'a, A: Allocator + Copy> Readable<'a, A> for [u8; 16] {
-    #[tactic(auto, using(crate::proofs::ReadFixed::raw_steps))]
+    #[tactic(auto, using(crate::proofs::DecodeFixed::raw_steps))]
     fn read(bytes: &'a [u8], _alloc: A) -> Result<([u8; 16], &'a [u8]), ReadFault> {
         match bytes.split_first_chunk::<16>() {
             Some((front, rest)) => Ok((*front, rest)),

@@ -1,12 +1,12 @@
 // Size-prefixed values: a size, and exactly that many bytes.
 ghost use Rattle.std.specs.Prelude.{◌≡◌, ◌≢◌, ◌≤◌, ◌++◌, take, drop, vec_len, Err, OnOk, OnErr};
-ghost use Rattle.wasm_base.specs.Formats.{frame};
-ghost use Rattle.wasm_base.specs.Texts.{frame_text, FrameFits};
+ghost use Rattle.wasm_base.specs.Formats.{size_prefixed};
+ghost use Rattle.wasm_base.specs.Encodings.{size_prefixed_encoding, HasEncodableSize};
 ghost use Rattle.wasm_base.specs.declared.refused.Refused.TheVariants.{TooLong};
-ghost use Rattle.wasm_reader_base.specs.Shortest.{AppendsShortest, IsFrontOf, HasEncoding};
+ghost use Rattle.wasm_reader_base.specs.Minimal.{AppendsMinimal, IsFrontOf, HasEncoding};
 
 use crate::fault::ReadFault;
-use crate::readable::{Readable, Spelled};
+use crate::readable::{Readable, Layout};
 use crate::shorten::Shorten;
 use std::alloc::Allocator;
 use wasm_base::{Encode, R};
@@ -14,12 +14,12 @@ use wasm_base::{Encode, R};
 /// A size-prefixed value that occupies its payload to the last byte. Its own format determines its
 /// end too.
 #[derive(Debug, Drop)]
-pub struct Framed<T>(pub T);
+pub struct SizePrefixed<T>(pub T);
 
-impl<T: Spelled> Spelled for Framed<T> {
+impl<T: Layout> Layout for SizePrefixed<T> {
     ghost Value = { T.Value };
 
-    ghost format = { frame T.format };
+    ghost format = { size_prefixed T.format };
 
     ghost view = { λ f. T.view f.0 };
 
@@ -28,14 +28,14 @@ impl<T: Spelled> Spelled for Framed<T> {
     }
 }
 
-impl<'a, A: Allocator + Copy, T: Readable<'a, A>> Readable<'a, A> for Framed<T> {
-    #[tactic(auto, using(crate::proofs::ReadFrames::framed_steps))]
-    fn read(bytes: &'a [u8], alloc: A) -> Result<(Framed<T>, &'a [u8]), ReadFault> {
+impl<'a, A: Allocator + Copy, T: Readable<'a, A>> Readable<'a, A> for SizePrefixed<T> {
+    #[tactic(auto, using(crate::proofs::DecodeSizePrefixed::sized_steps))]
+    fn read(bytes: &'a [u8], alloc: A) -> Result<(SizePrefixed<T>, &'a [u8]), ReadFault> {
         let (content, rest) = <&'a [u8] as Readable<'a, A>>::read(bytes, alloc)?;
         let (value, left) = T::read(content, alloc)?;
         T::laws();
         if left.is_empty() {
-            Ok((Framed(value), rest))
+            Ok((SizePrefixed(value), rest))
         } else {
             Err(ReadFault::SizeMismatch)
         }
@@ -44,35 +44,35 @@ impl<'a, A: Allocator + Copy, T: Readable<'a, A>> Readable<'a, A> for Framed<T> 
 
 /// Inserts the size of the bytes from `start` on before them, so that they become a size prefix and
 /// its payload.
-pub fn frame_since<B: Allocator>(out: &mut Vec<u8, B>, start: usize) -> R<()>
-    requires { start ≤ vec_len out.old }
-    ensures framed { OnOk result (out.new.items ≡ take start out.old.items ++ frame_text (drop start out.old.items)) }
-    ensures fitted { OnOk result (FrameFits (drop start out.old.items)) }
-    ensures err { OnErr result (out.new.items ≡ out.old.items) }
-    ensures too_long { FrameFits (drop start out.old.items) → result ≢ Err TooLong }
+pub fn prefix_size_since<B: Allocator>(sink: &mut Vec<u8, B>, start: usize) -> R<()>
+    requires { start ≤ vec_len sink.old }
+    ensures sized { OnOk result (sink.new.items ≡ take start sink.old.items ++ size_prefixed_encoding (drop start sink.old.items)) }
+    ensures was_encodable { OnOk result (HasEncodableSize (drop start sink.old.items)) }
+    ensures err { OnErr result (sink.new.items ≡ sink.old.items) }
+    ensures too_long { HasEncodableSize (drop start sink.old.items) → result ≢ Err TooLong }
 {
-    let size = out.len() - start;
-    size.encode(out)?;
-    out[start..].rotate_left(size);
+    let size = sink.len() - start;
+    size.encode(sink)?;
+    sink[start..].rotate_left(size);
     Ok(())
 }
 
 /// Appends the minimal encoding of the value with its size prefix.
-#[tactic(auto, using(crate::proofs::ShortTexts::frame_appended, crate::proofs::Encodings::content_encoded, crate::proofs::Encodings::behind_fits))]
-fn append_framed<T: Shorten, B: Allocator>(value: &T, out: &mut Vec<u8, B>) -> R<()>
-    ensures ok { OnOk result (AppendsShortest (frame T.format) (T.view value.now) out.old.items out.new.items) }
-    ensures front { IsFrontOf out.old.items out.new.items }
-    ensures too_long { HasEncoding (frame T.format) (T.view value.now) → result ≢ Err TooLong }
+#[tactic(auto, using(crate::proofs::MinimalEncodings::size_prefixed_appended, crate::proofs::DecodedValues::content_encoded, crate::proofs::DecodedValues::behind_encodable))]
+fn append_payload<T: Shorten, B: Allocator>(value: &T, sink: &mut Vec<u8, B>) -> R<()>
+    ensures ok { OnOk result (AppendsMinimal (size_prefixed T.format) (T.view value.now) sink.old.items sink.new.items) }
+    ensures front { IsFrontOf sink.old.items sink.new.items }
+    ensures too_long { HasEncoding (size_prefixed T.format) (T.view value.now) → result ≢ Err TooLong }
 {
     T::laws();
-    let start = out.len();
-    value.write_minimal(out)?;
-    frame_since(out, start)
+    let start = sink.len();
+    value.write_minimal(sink)?;
+    prefix_size_since(sink, start)
 }
 
-impl<T: Shorten> Shorten for Framed<T> {
-    fn write_minimal<B: Allocator>(&self, out: &mut Vec<u8, B>) -> R<()> {
-        let Framed(value) = self;
-        append_framed(value, out)
+impl<T: Shorten> Shorten for SizePrefixed<T> {
+    fn write_minimal<B: Allocator>(&self, sink: &mut Vec<u8, B>) -> R<()> {
+        let SizePrefixed(value) = self;
+        append_payload(value, sink)
     }
 }

@@ -2,9 +2,9 @@
 // and `resume`.
 ghost use Rattle.std.specs.Prelude.{◌≡◌, ◌≢◌, ℕ, List, IfOk, IfErr, option_map};
 ghost use Rattle.wasm_base.specs.Formats.{optional};
-ghost use Rattle.wasm_base.specs.Numbers.{Mode, wide};
-ghost use Rattle.wasm_base.specs.Reading.{Reads, ReadsNothing};
-ghost use Rattle.wasm_immediates.specs.PlainImmediates.{ordering_format, mem_ordering, target_of, mem_arg, block_type, catch as catch_format, handle as handle_format};
+ghost use Rattle.wasm_base.specs.Numbers.{Mode, padded};
+ghost use Rattle.wasm_base.specs.Decoding.{Decodes, Rejects};
+ghost use Rattle.wasm_immediates.specs.ImmediateFormats.{ordering_format, mem_ordering, target_of, mem_arg, block_type, catch as catch_format, handle as handle_format};
 ghost use Rattle.wasm_immediates.specs.declared.memory.Ordering.{Ordering as OrderingModel};
 ghost use Rattle.wasm_immediates.specs.declared.memory.MemArgOrdering.{MemArgOrdering as MemOrderingModel};
 ghost use Rattle.wasm_immediates.specs.declared.memory.MemArg.{MemArg as MemArgModel};
@@ -16,24 +16,24 @@ ghost use Rattle.wasm_reader_base.specs.declared.fault.ReadFault.TheVariants.{Me
 use crate::fault::ReadFault;
 use crate::leb128::read_index;
 use crate::optional::read_optional;
-use crate::readable::{Readable, Spelled};
+use crate::readable::{Readable, Layout};
 use crate::types::read_val_after;
 use std::alloc::Allocator;
 use wasm_immediates::{BlockType, Catch, Handle, MemArg, MemArgOrdering, MemArgTarget, Ordering};
 
-impl Spelled for Ordering {
+impl Layout for Ordering {
     ghost Value = { OrderingModel };
 
     ghost format = { ordering_format };
 
     ghost view = { λ o. o };
 
-    #[tactic(auto, using(wasm_immediates::proofs::ImmediateLaws::ordering_unique))]
+    #[tactic(auto, using(wasm_immediates::proofs::ImmediateLaws::ordering_unambiguous))]
     fn laws() {}
 }
 
 impl<'a, A: Allocator + Copy> Readable<'a, A> for Ordering {
-    #[tactic(auto, using(crate::proofs::ReadImmediates::ordering_steps))]
+    #[tactic(auto, using(crate::proofs::DecodeImmediates::ordering_steps))]
     fn read(bytes: &'a [u8], alloc: A) -> Result<(Ordering, &'a [u8]), ReadFault> {
         let (byte, rest) = <u8 as Readable<'a, A>>::read(bytes, alloc)?;
         match byte {
@@ -44,19 +44,19 @@ impl<'a, A: Allocator + Copy> Readable<'a, A> for Ordering {
     }
 }
 
-impl Spelled for MemArgOrdering {
+impl Layout for MemArgOrdering {
     ghost Value = { MemOrderingModel };
 
     ghost format = { mem_ordering };
 
     ghost view = { λ o. o };
 
-    #[tactic(auto, using(wasm_immediates::proofs::ImmediateLaws::mem_ordering_unique))]
+    #[tactic(auto, using(wasm_immediates::proofs::ImmediateLaws::mem_ordering_unambiguous))]
     fn laws() {}
 }
 
 impl<'a, A: Allocator + Copy> Readable<'a, A> for MemArgOrdering {
-    #[tactic(auto, using(crate::proofs::ReadImmediates::mem_ordering_steps))]
+    #[tactic(auto, using(crate::proofs::DecodeImmediates::mem_ordering_steps))]
     fn read(bytes: &'a [u8], alloc: A) -> Result<(MemArgOrdering, &'a [u8]), ReadFault> {
         let (tag, rest) = <u8 as Readable<'a, A>>::read(bytes, alloc)?;
         match tag {
@@ -69,15 +69,15 @@ impl<'a, A: Allocator + Copy> Readable<'a, A> for MemArgOrdering {
 }
 
 /// Decodes the index of an array type, or of a memory other than 0, as the flags select.
-#[tactic(auto, using(crate::proofs::ReadImmediates::target_steps))]
+#[tactic(auto, using(crate::proofs::DecodeImmediates::target_steps))]
 fn read_target<'a, A: Allocator + Copy>(
     array: bool,
     other: bool,
     bytes: &'a [u8],
     alloc: A,
 ) -> Result<(MemArgTarget, &'a [u8]), ReadFault>
-    ensures found { IfOk result (λ x. Reads (target_of array other) wide bytes.now x.0 x.1.now) }
-    ensures none { IfErr result (λ e. e ≢ Memory → ReadsNothing (target_of array other) wide bytes.now) }
+    ensures found { IfOk result (λ x. Decodes (target_of array other) padded bytes.now x.0 x.1.now) }
+    ensures none { IfErr result (λ e. e ≢ Memory → Rejects (target_of array other) padded bytes.now) }
 {
     match (array, other) {
         (false, false) => Ok((MemArgTarget::Memory(0), bytes)),
@@ -98,13 +98,13 @@ fn read_target<'a, A: Allocator + Copy>(
 
 /// Decodes a memory argument with any flags. Out of line.
 #[inline(never)]
-#[tactic(auto, using(crate::proofs::ReadImmediates::memory_steps))]
+#[tactic(auto, using(crate::proofs::DecodeImmediates::memory_steps))]
 fn read_any_memory<'a, A: Allocator + Copy>(
     bytes: &'a [u8],
     alloc: A,
 ) -> Result<(MemArg, &'a [u8]), ReadFault>
-    ensures found { IfOk result (λ x. Reads mem_arg wide bytes.now x.0 x.1.now) }
-    ensures none { IfErr result (λ e. e ≢ Memory → ReadsNothing mem_arg wide bytes.now) }
+    ensures found { IfOk result (λ x. Decodes mem_arg padded bytes.now x.0 x.1.now) }
+    ensures none { IfErr result (λ e. e ≢ Memory → Rejects mem_arg padded bytes.now) }
 {
     let (flags, rest) = <u32 as Readable<'a, A>>::read(bytes, alloc)?;
     if flags >= 0x80 {
@@ -128,19 +128,19 @@ fn read_any_memory<'a, A: Allocator + Copy>(
     ))
 }
 
-impl Spelled for MemArg {
+impl Layout for MemArg {
     ghost Value = { MemArgModel };
 
     ghost format = { mem_arg };
 
     ghost view = { λ m. m };
 
-    #[tactic(auto, using(wasm_immediates::proofs::ImmediateLaws::mem_arg_unique))]
+    #[tactic(auto, using(wasm_immediates::proofs::ImmediateLaws::mem_arg_unambiguous))]
     fn laws() {}
 }
 
 impl<'a, A: Allocator + Copy> Readable<'a, A> for MemArg {
-    #[tactic(auto, using(crate::proofs::ReadImmediates::memory_steps))]
+    #[tactic(auto, using(crate::proofs::DecodeImmediates::memory_steps))]
     #[inline]
     fn read(bytes: &'a [u8], alloc: A) -> Result<(MemArg, &'a [u8]), ReadFault> {
         if let [flags, rest @ ..] = bytes {
@@ -161,13 +161,13 @@ impl<'a, A: Allocator + Copy> Readable<'a, A> for MemArg {
 
 /// Decodes a block type. Out of line, for those with a type.
 #[inline(never)]
-#[tactic(auto, using(crate::proofs::ReadImmediates::block_steps))]
+#[tactic(auto, using(crate::proofs::DecodeImmediates::block_steps))]
 fn read_any_block<'a, A: Allocator + Copy>(
     bytes: &'a [u8],
     alloc: A,
 ) -> Result<(BlockType, &'a [u8]), ReadFault>
-    ensures found { IfOk result (λ x. Reads block_type wide bytes.now x.0 x.1.now) }
-    ensures none { IfErr result (λ e. e ≢ Memory → ReadsNothing block_type wide bytes.now) }
+    ensures found { IfOk result (λ x. Decodes block_type padded bytes.now x.0 x.1.now) }
+    ensures none { IfErr result (λ e. e ≢ Memory → Rejects block_type padded bytes.now) }
 {
     let (tag, rest) = <u8 as Readable<'a, A>>::read(bytes, alloc)?;
     match tag {
@@ -183,19 +183,19 @@ fn read_any_block<'a, A: Allocator + Copy>(
     }
 }
 
-impl Spelled for BlockType {
+impl Layout for BlockType {
     ghost Value = { BlockModel };
 
     ghost format = { block_type };
 
     ghost view = { λ b. b };
 
-    #[tactic(auto, using(wasm_immediates::proofs::ImmediateLaws::block_unique))]
+    #[tactic(auto, using(wasm_immediates::proofs::ImmediateLaws::block_unambiguous))]
     fn laws() {}
 }
 
 impl<'a, A: Allocator + Copy> Readable<'a, A> for BlockType {
-    #[tactic(auto, using(crate::proofs::ReadImmediates::block_steps))]
+    #[tactic(auto, using(crate::proofs::DecodeImmediates::block_steps))]
     #[inline]
     fn read(bytes: &'a [u8], alloc: A) -> Result<(BlockType, &'a [u8]), ReadFault> {
         let (tag, rest) = <u8 as Readable<'a, A>>::read(bytes, alloc)?;
@@ -206,19 +206,19 @@ impl<'a, A: Allocator + Copy> Readable<'a, A> for BlockType {
     }
 }
 
-impl Spelled for Catch {
+impl Layout for Catch {
     ghost Value = { CatchModel };
 
     ghost format = { catch_format };
 
     ghost view = { λ c. c };
 
-    #[tactic(auto, using(wasm_immediates::proofs::ImmediateLaws::catch_unique))]
+    #[tactic(auto, using(wasm_immediates::proofs::ImmediateLaws::catch_unambiguous))]
     fn laws() {}
 }
 
 impl<'a, A: Allocator + Copy> Readable<'a, A> for Catch {
-    #[tactic(auto, using(crate::proofs::ReadImmediates::catch_steps))]
+    #[tactic(auto, using(crate::proofs::DecodeImmediates::catch_steps))]
     fn read(bytes: &'a [u8], alloc: A) -> Result<(Catch, &'a [u8]), ReadFault> {
         let (kind, rest) = <u8 as Readable<'a, A>>::read(bytes, alloc)?;
         match kind {
@@ -243,19 +243,19 @@ impl<'a, A: Allocator + Copy> Readable<'a, A> for Catch {
     }
 }
 
-impl Spelled for Handle {
+impl Layout for Handle {
     ghost Value = { HandleModel };
 
     ghost format = { handle_format };
 
     ghost view = { λ h. h };
 
-    #[tactic(auto, using(wasm_immediates::proofs::ImmediateLaws::handle_unique))]
+    #[tactic(auto, using(wasm_immediates::proofs::ImmediateLaws::handle_unambiguous))]
     fn laws() {}
 }
 
 impl<'a, A: Allocator + Copy> Readable<'a, A> for Handle {
-    #[tactic(auto, using(crate::proofs::ReadImmediates::handle_steps))]
+    #[tactic(auto, using(crate::proofs::DecodeImmediates::handle_steps))]
     fn read(bytes: &'a [u8], alloc: A) -> Result<(Handle, &'a [u8]), ReadFault> {
         let (kind, rest) = <u8 as Readable<'a, A>>::read(bytes, alloc)?;
         match kind {

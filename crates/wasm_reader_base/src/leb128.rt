@@ -2,12 +2,12 @@
 ghost use Rattle.std.specs.Prelude.{◌≡◌, ◌≢◌, ℕ, ◌<◌, ◌≤◌, ◌^◌, ℤ, IfOk, IfErr};
 ghost use Rattle.wasm_base.specs.Formats.{u32 as u32_format, u64 as u64_format, s32, s64, s33};
 ghost use Rattle.wasm_base.specs.Groups.{groups, HasGroups, signed_of};
-ghost use Rattle.wasm_base.specs.Numbers.{wide};
-ghost use Rattle.wasm_base.specs.Reading.{Reads, ReadsNothing};
+ghost use Rattle.wasm_base.specs.Numbers.{padded};
+ghost use Rattle.wasm_base.specs.Decoding.{Decodes, Rejects};
 ghost use Rattle.wasm_reader_base.specs.declared.fault.ReadFault.TheVariants.{Memory};
 
 use crate::fault::ReadFault;
-use crate::readable::{Readable, Spelled};
+use crate::readable::{Readable, Layout};
 use crate::shorten::Shorten;
 use std::alloc::Allocator;
 use wasm_base::{Encode, Groups, NoGroups, R, read_groups};
@@ -51,7 +51,7 @@ fn read_few_groups(bytes: &[u8]) -> Result<(FewGroups, &[u8]), NoGroups>
     ensures found { IfOk result (λ x. HasGroups 5 bytes.now x.0.sum x.0.power x.0.last x.1.now) }
     ensures power { IfOk result (λ x. x.0.power ≤ 2 ^ 35) }
     ensures below { IfOk result (λ x. x.0.sum < x.0.power) }
-    ensures none { IfErr result (λ _. ReadsNothing (groups 5) wide bytes.now) }
+    ensures none { IfErr result (λ _. Rejects (groups 5) padded bytes.now) }
 {
     let mut rest = bytes;
     let mut sum: u64 = 0;
@@ -90,10 +90,10 @@ fn signed_few(groups: FewGroups) -> i64
 
 /// Decodes an unsigned number of 32 bits. Out of line, for those of several bytes.
 #[inline(never)]
-#[tactic(auto, using(crate::proofs::ReadNumbers::u32_steps))]
+#[tactic(auto, using(crate::proofs::DecodeNumbers::u32_steps))]
 fn read_long_u32(bytes: &[u8]) -> Result<(u32, &[u8]), ReadFault>
-    ensures found { IfOk result (λ x. Reads u32_format wide bytes.now x.0 x.1.now) }
-    ensures none { IfErr result (λ e. e ≢ Memory → ReadsNothing u32_format wide bytes.now) }
+    ensures found { IfOk result (λ x. Decodes u32_format padded bytes.now x.0 x.1.now) }
+    ensures none { IfErr result (λ e. e ≢ Memory → Rejects u32_format padded bytes.now) }
 {
     let (groups, rest) = read_few_groups(bytes)?;
     if groups.sum < 1 << 32 {
@@ -105,10 +105,10 @@ fn read_long_u32(bytes: &[u8]) -> Result<(u32, &[u8]), ReadFault>
 
 /// Decodes an unsigned number of 64 bits. Out of line, for those of several bytes.
 #[inline(never)]
-#[tactic(auto, using(crate::proofs::ReadNumbers::u64_steps))]
+#[tactic(auto, using(crate::proofs::DecodeNumbers::u64_steps))]
 fn read_long_u64(bytes: &[u8]) -> Result<(u64, &[u8]), ReadFault>
-    ensures found { IfOk result (λ x. Reads u64_format wide bytes.now x.0 x.1.now) }
-    ensures none { IfErr result (λ e. e ≢ Memory → ReadsNothing u64_format wide bytes.now) }
+    ensures found { IfOk result (λ x. Decodes u64_format padded bytes.now x.0 x.1.now) }
+    ensures none { IfErr result (λ e. e ≢ Memory → Rejects u64_format padded bytes.now) }
 {
     if let Ok((groups, rest)) = read_few_groups(bytes) {
         return Ok((groups.sum, rest));
@@ -123,10 +123,10 @@ fn read_long_u64(bytes: &[u8]) -> Result<(u64, &[u8]), ReadFault>
 
 /// Decodes a signed number of 32 bits. Out of line, for those of several bytes.
 #[inline(never)]
-#[tactic(auto, using(crate::proofs::ReadNumbers::s32_steps))]
+#[tactic(auto, using(crate::proofs::DecodeNumbers::s32_steps))]
 fn read_long_i32(bytes: &[u8]) -> Result<(i32, &[u8]), ReadFault>
-    ensures found { IfOk result (λ x. Reads s32 wide bytes.now x.0 x.1.now) }
-    ensures none { IfErr result (λ e. e ≢ Memory → ReadsNothing s32 wide bytes.now) }
+    ensures found { IfOk result (λ x. Decodes s32 padded bytes.now x.0 x.1.now) }
+    ensures none { IfErr result (λ e. e ≢ Memory → Rejects s32 padded bytes.now) }
 {
     let (groups, rest) = read_few_groups(bytes)?;
     let value = signed_few(groups);
@@ -142,10 +142,10 @@ fn read_long_i32(bytes: &[u8]) -> Result<(i32, &[u8]), ReadFault>
 
 /// Decodes a signed number of 64 bits. Out of line, for those of several bytes.
 #[inline(never)]
-#[tactic(auto, using(crate::proofs::ReadNumbers::s64_steps))]
+#[tactic(auto, using(crate::proofs::DecodeNumbers::s64_steps))]
 fn read_long_i64(bytes: &[u8]) -> Result<(i64, &[u8]), ReadFault>
-    ensures found { IfOk result (λ x. Reads s64 wide bytes.now x.0 x.1.now) }
-    ensures none { IfErr result (λ e. e ≢ Memory → ReadsNothing s64 wide bytes.now) }
+    ensures found { IfOk result (λ x. Decodes s64 padded bytes.now x.0 x.1.now) }
+    ensures none { IfErr result (λ e. e ≢ Memory → Rejects s64 padded bytes.now) }
 {
     if let Ok((groups, rest)) = read_few_groups(bytes) {
         return Ok((signed_few(groups), rest));
@@ -162,19 +162,19 @@ fn read_long_i64(bytes: &[u8]) -> Result<(i64, &[u8]), ReadFault>
     }
 }
 
-impl Spelled for u32 {
+impl Layout for u32 {
     ghost Value = { ℕ };
 
     ghost format = { u32_format };
 
     ghost view = { λ n. n };
 
-    #[tactic(auto, using(wasm_base::proofs::NumberLaws::u32_unique))]
+    #[tactic(auto, using(wasm_base::proofs::NumberLaws::u32_unambiguous))]
     fn laws() {}
 }
 
 impl<'a, A: Allocator + Copy> Readable<'a, A> for u32 {
-    #[tactic(auto, using(crate::proofs::ReadNumbers::u32_steps))]
+    #[tactic(auto, using(crate::proofs::DecodeNumbers::u32_steps))]
     #[inline]
     fn read(bytes: &'a [u8], _alloc: A) -> Result<(u32, &'a [u8]), ReadFault> {
         if let [b, rest @ ..] = bytes {
@@ -186,19 +186,19 @@ impl<'a, A: Allocator + Copy> Readable<'a, A> for u32 {
     }
 }
 
-impl Spelled for u64 {
+impl Layout for u64 {
     ghost Value = { ℕ };
 
     ghost format = { u64_format };
 
     ghost view = { λ n. n };
 
-    #[tactic(auto, using(wasm_base::proofs::BaseLaws::u64_unique))]
+    #[tactic(auto, using(wasm_base::proofs::BaseLaws::u64_unambiguous))]
     fn laws() {}
 }
 
 impl<'a, A: Allocator + Copy> Readable<'a, A> for u64 {
-    #[tactic(auto, using(crate::proofs::ReadNumbers::u64_steps))]
+    #[tactic(auto, using(crate::proofs::DecodeNumbers::u64_steps))]
     #[inline]
     fn read(bytes: &'a [u8], _alloc: A) -> Result<(u64, &'a [u8]), ReadFault> {
         if let [b, rest @ ..] = bytes {
@@ -210,19 +210,19 @@ impl<'a, A: Allocator + Copy> Readable<'a, A> for u64 {
     }
 }
 
-impl Spelled for i32 {
+impl Layout for i32 {
     ghost Value = { ℤ };
 
     ghost format = { s32 };
 
     ghost view = { λ n. n };
 
-    #[tactic(auto, using(wasm_base::proofs::BaseLaws::s32_unique))]
+    #[tactic(auto, using(wasm_base::proofs::BaseLaws::s32_unambiguous))]
     fn laws() {}
 }
 
 impl<'a, A: Allocator + Copy> Readable<'a, A> for i32 {
-    #[tactic(auto, using(crate::proofs::ReadNumbers::s32_steps))]
+    #[tactic(auto, using(crate::proofs::DecodeNumbers::s32_steps))]
     #[inline]
     fn read(bytes: &'a [u8], _alloc: A) -> Result<(i32, &'a [u8]), ReadFault> {
         if let [b, rest @ ..] = bytes {
@@ -234,19 +234,19 @@ impl<'a, A: Allocator + Copy> Readable<'a, A> for i32 {
     }
 }
 
-impl Spelled for i64 {
+impl Layout for i64 {
     ghost Value = { ℤ };
 
     ghost format = { s64 };
 
     ghost view = { λ n. n };
 
-    #[tactic(auto, using(wasm_base::proofs::BaseLaws::s64_unique))]
+    #[tactic(auto, using(wasm_base::proofs::BaseLaws::s64_unambiguous))]
     fn laws() {}
 }
 
 impl<'a, A: Allocator + Copy> Readable<'a, A> for i64 {
-    #[tactic(auto, using(crate::proofs::ReadNumbers::s64_steps))]
+    #[tactic(auto, using(crate::proofs::DecodeNumbers::s64_steps))]
     #[inline]
     fn read(bytes: &'a [u8], _alloc: A) -> Result<(i64, &'a [u8]), ReadFault> {
         if let [b, rest @ ..] = bytes {
@@ -260,11 +260,11 @@ impl<'a, A: Allocator + Copy> Readable<'a, A> for i64 {
 
 /// Decodes an index, encoded as a signed number of 33 bits. Negative numbers encode types, whose
 /// known bytes the caller has already matched.
-#[tactic(auto, using(crate::proofs::ReadNumbers::index_steps))]
+#[tactic(auto, using(crate::proofs::DecodeNumbers::index_steps))]
 #[inline]
 pub(crate) fn read_index(bytes: &[u8]) -> Result<(u32, &[u8]), ReadFault>
-    ensures found { IfOk result (λ x. Reads s33 wide bytes.now x.0 x.1.now) }
-    ensures none { IfErr result (λ e. e ≢ Memory → ReadsNothing s33 wide bytes.now) }
+    ensures found { IfOk result (λ x. Decodes s33 padded bytes.now x.0 x.1.now) }
+    ensures none { IfErr result (λ e. e ≢ Memory → Rejects s33 padded bytes.now) }
 {
     let (groups, rest) = read_few_groups(bytes)?;
     if groups.last >= 0x40 {
@@ -278,8 +278,8 @@ pub(crate) fn read_index(bytes: &[u8]) -> Result<(u32, &[u8]), ReadFault>
 }
 
 impl Shorten for u32 {
-    #[tactic(auto, using(crate::proofs::ReadPlain::u32_appended))]
-    fn write_minimal<B: Allocator>(&self, out: &mut Vec<u8, B>) -> R<()> {
-        self.encode(out)
+    #[tactic(auto, using(crate::proofs::DecodePlain::u32_appended))]
+    fn write_minimal<B: Allocator>(&self, sink: &mut Vec<u8, B>) -> R<()> {
+        self.encode(sink)
     }
 }

@@ -4,8 +4,8 @@
 //!
 //! A type that can be decoded has [`Readable`]: numbers, fixed-width bytes, names, size-prefixed
 //! bytes, pairs, vectors, types and immediates in this crate, and instructions and items of
-//! sections in the crates above. [`Spelled`] defines its format. A type with [`Shorten`] can be
-//! written in its minimal encoding, and a type with [`Passed`] can be skipped without being kept.
+//! sections in the crates above. [`Layout`] defines its format. A type with [`Shorten`] can be
+//! written in its minimal encoding, and a type with [`Skip`] can be skipped without being kept.
 #![tactic(auto)]
 
 mod fault;
@@ -15,7 +15,7 @@ mod immediates;
 mod leb128;
 mod names;
 mod optional;
-mod passed;
+mod skip;
 mod readable;
 mod shorten;
 mod tuples;
@@ -24,10 +24,10 @@ mod vectors;
 mod whole;
 
 pub use fault::ReadFault;
-pub use frames::{Framed, frame_since};
+pub use frames::{SizePrefixed, prefix_size_since};
 pub use optional::read_optional;
-pub use passed::{Dropped, Passed, pass_many};
-pub use readable::{Readable, Spelled};
+pub use skip::{Dropped, Skip, skip_many};
+pub use readable::{Readable, Layout};
 pub use shorten::Shorten;
 pub use vectors::append_all;
 pub use whole::{read_to_end, read_whole};

@@ -1,30 +1,30 @@
 // Size-prefixed bytes and names, which are slices of the input.
 ghost use Rattle.std.specs.Prelude.{ℕ, List};
-ghost use Rattle.wasm_base.specs.Formats.{frame, any_bytes, name};
-ghost use Rattle.wasm_base.specs.Reading.{UniqueReading};
+ghost use Rattle.wasm_base.specs.Formats.{size_prefixed, any_bytes, name};
+ghost use Rattle.wasm_base.specs.Decoding.{Unambiguous};
 
 use crate::fault::ReadFault;
-use crate::readable::{Readable, Spelled};
+use crate::readable::{Readable, Layout};
 use crate::shorten::Shorten;
 use std::alloc::Allocator;
-use wasm_base::{Encode, R, encode_frame};
+use wasm_base::{Encode, R, encode_size_prefixed};
 
 /// The payload of size-prefixed bytes.
-impl<'a> Spelled for &'a [u8] {
+impl<'a> Layout for &'a [u8] {
     ghost Value = { List ℕ };
 
-    ghost format = { frame any_bytes };
+    ghost format = { size_prefixed any_bytes };
 
     ghost view = { λ b. b.now };
 
-    #[tactic(auto, using(wasm_base::proofs::BaseLaws::frame_bytes_unique))]
+    #[tactic(auto, using(wasm_base::proofs::BaseLaws::size_prefixed_bytes_unambiguous))]
     fn laws()
-        ensures { UniqueReading (frame any_bytes) }
+        ensures { Unambiguous (size_prefixed any_bytes) }
     {}
 }
 
 impl<'a, A: Allocator + Copy> Readable<'a, A> for &'a [u8] {
-    #[tactic(auto, using(crate::proofs::ReadFrames::frame_steps))]
+    #[tactic(auto, using(crate::proofs::DecodeSizePrefixed::size_prefixed_steps))]
     fn read(bytes: &'a [u8], alloc: A) -> Result<(&'a [u8], &'a [u8]), ReadFault> {
         let (size, rest) = <u32 as Readable<'a, A>>::read(bytes, alloc)?;
         if rest.len() < size as usize {
@@ -35,24 +35,24 @@ impl<'a, A: Allocator + Copy> Readable<'a, A> for &'a [u8] {
 }
 
 /// A name: a length, and that many bytes of UTF-8.
-impl<'a> Spelled for &'a str {
+impl<'a> Layout for &'a str {
     ghost Value = { List ℕ };
 
     ghost format = { name };
 
     ghost view = { λ s. s.now };
 
-    #[tactic(auto, using(wasm_base::proofs::BaseLaws::name_unique))]
+    #[tactic(auto, using(wasm_base::proofs::BaseLaws::name_unambiguous))]
     fn laws()
-        ensures { UniqueReading name }
+        ensures { Unambiguous name }
     {}
 }
 
 impl<'a, A: Allocator + Copy> Readable<'a, A> for &'a str {
-    #[tactic(auto, using(crate::proofs::ReadFrames::name_steps))]
+    #[tactic(auto, using(crate::proofs::DecodeSizePrefixed::name_steps))]
     fn read(bytes: &'a [u8], alloc: A) -> Result<(&'a str, &'a [u8]), ReadFault> {
-        let (text, rest) = <&'a [u8] as Readable<'a, A>>::read(bytes, alloc)?;
-        match str::from_utf8(text) {
+        let (encoding, rest) = <&'a [u8] as Readable<'a, A>>::read(bytes, alloc)?;
+        match str::from_utf8(encoding) {
             Ok(name) => Ok((name, rest)),
             Err(_) => Err(ReadFault::NotUtf8),
         }
@@ -60,15 +60,15 @@ impl<'a, A: Allocator + Copy> Readable<'a, A> for &'a str {
 }
 
 impl Shorten for &[u8] {
-    #[tactic(auto, using(crate::proofs::ReadPlain::bytes_appended, crate::proofs::Encodings::bytes_fit))]
-    fn write_minimal<B: Allocator>(&self, out: &mut Vec<u8, B>) -> R<()> {
-        encode_frame(out, self)
+    #[tactic(auto, using(crate::proofs::DecodePlain::bytes_appended, crate::proofs::DecodedValues::bytes_encodable))]
+    fn write_minimal<B: Allocator>(&self, sink: &mut Vec<u8, B>) -> R<()> {
+        encode_size_prefixed(sink, self)
     }
 }
 
 impl Shorten for &str {
-    #[tactic(auto, using(crate::proofs::ReadPlain::name_appended, crate::proofs::Encodings::name_fits))]
-    fn write_minimal<B: Allocator>(&self, out: &mut Vec<u8, B>) -> R<()> {
-        self.encode(out)
+    #[tactic(auto, using(crate::proofs::DecodePlain::name_appended, crate::proofs::DecodedValues::name_encodable))]
+    fn write_minimal<B: Allocator>(&self, sink: &mut Vec<u8, B>) -> R<()> {
+        self.encode(sink)
     }
 }

@@ -1,32 +1,32 @@
 // The trait `Shorten`: values that can be written in their minimal encoding.
 ghost use Rattle.std.specs.Prelude.{◌≡◌, ◌≢◌, Err, OnOk, OnErr};
 ghost use Rattle.wasm_base.specs.declared.refused.Refused.TheVariants.{TooLong};
-ghost use Rattle.wasm_reader_base.specs.Shortest.{AppendsShortest, IsFrontOf, HasEncoding};
+ghost use Rattle.wasm_reader_base.specs.Minimal.{AppendsMinimal, IsFrontOf, HasEncoding};
 
-use crate::readable::Spelled;
+use crate::readable::Layout;
 use std::alloc::Allocator;
 use wasm_base::R;
 
 /// A decoded value, or a component of one, that can be written in its minimal encoding.
-pub trait Shorten: Spelled {
+pub trait Shorten: Layout {
     /// Writes the minimal encoding of the value after the old bytes. An impl defines it, and
-    /// callers use [`append_shortest`](Shorten::append_shortest): after an error of this method,
+    /// callers use [`append_minimal`](Shorten::append_minimal): after an error of this method,
     /// part of the encoding may be in the sink.
-    fn write_minimal<B: Allocator>(&self, out: &mut Vec<u8, B>) -> R<()>
-        ensures ok { OnOk result (AppendsShortest Self.format (Self.view self.now) out.old.items out.new.items) }
-        ensures front { IsFrontOf out.old.items out.new.items }
+    fn write_minimal<B: Allocator>(&self, sink: &mut Vec<u8, B>) -> R<()>
+        ensures ok { OnOk result (AppendsMinimal Self.format (Self.view self.now) sink.old.items sink.new.items) }
+        ensures front { IsFrontOf sink.old.items sink.new.items }
         ensures too_long { HasEncoding Self.format (Self.view self.now) → result ≢ Err TooLong };
 
     /// Appends the minimal encoding of the value. On an error, the sink is unchanged.
-    fn append_shortest<B: Allocator>(&self, out: &mut Vec<u8, B>) -> R<()>
-        ensures ok { OnOk result (AppendsShortest Self.format (Self.view self.now) out.old.items out.new.items) }
-        ensures err { OnErr result (out.new.items ≡ out.old.items) }
+    fn append_minimal<B: Allocator>(&self, sink: &mut Vec<u8, B>) -> R<()>
+        ensures ok { OnOk result (AppendsMinimal Self.format (Self.view self.now) sink.old.items sink.new.items) }
+        ensures err { OnErr result (sink.new.items ≡ sink.old.items) }
         ensures too_long { HasEncoding Self.format (Self.view self.now) → result ≢ Err TooLong }
     {
-        let start = out.len();
-        let written = self.write_minimal(out);
+        let start = sink.len();
+        let written = self.write_minimal(sink);
         if written.is_err() {
-            out.truncate(start);
+            sink.truncate(start);
         }
         written
     }

@@ -2,13 +2,13 @@
 ghost use Rattle.wasm_base.specs.Formats.{pair};
 
 use crate::fault::ReadFault;
-use crate::readable::{Readable, Spelled};
+use crate::readable::{Readable, Layout};
 use crate::shorten::Shorten;
 use std::alloc::Allocator;
 use wasm_base::R;
 
 /// One value, and then another.
-impl<T: Spelled, U: Spelled> Spelled for (T, U) {
+impl<T: Layout, U: Layout> Layout for (T, U) {
     ghost Value = { T.Value × U.Value };
 
     ghost format = { pair T.format U.format };
@@ -22,7 +22,7 @@ impl<T: Spelled, U: Spelled> Spelled for (T, U) {
 }
 
 impl<'a, A: Allocator + Copy, T: Readable<'a, A>, U: Readable<'a, A>> Readable<'a, A> for (T, U) {
-    #[tactic(auto, using(wasm_base::proofs::ReadingSteps::steps))]
+    #[tactic(auto, using(wasm_base::proofs::DecodingSteps::steps))]
     #[inline]
     fn read(bytes: &'a [u8], alloc: A) -> Result<((T, U), &'a [u8]), ReadFault> {
         let (first, rest) = T::read(bytes, alloc)?;
@@ -33,9 +33,9 @@ impl<'a, A: Allocator + Copy, T: Readable<'a, A>, U: Readable<'a, A>> Readable<'
 }
 
 impl<T: Shorten, U: Shorten> Shorten for (T, U) {
-    #[tactic(auto, using(crate::proofs::ShortTexts::pair_appended, crate::proofs::Encodings::left_encoded, crate::proofs::Encodings::right_encoded))]
-    fn write_minimal<B: Allocator>(&self, out: &mut Vec<u8, B>) -> R<()> {
-        self.0.write_minimal(out)?;
-        self.1.write_minimal(out)
+    #[tactic(auto, using(crate::proofs::MinimalEncodings::pair_appended, crate::proofs::DecodedValues::left_encoded, crate::proofs::DecodedValues::right_encoded))]
+    fn write_minimal<B: Allocator>(&self, sink: &mut Vec<u8, B>) -> R<()> {
+        self.0.write_minimal(sink)?;
+        self.1.write_minimal(sink)
     }
 }

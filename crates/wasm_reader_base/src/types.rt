@@ -1,8 +1,8 @@
 // Decoding of heap types, reference types and value types.
 ghost use Rattle.std.specs.Prelude.{◌≡◌, ◌≢◌, ℕ, List, IfOk, IfErr, IsTrue, false, MatchOption};
 ghost use Rattle.wasm_base.specs.Formats.{choice, impossible};
-ghost use Rattle.wasm_base.specs.Numbers.{Mode, wide};
-ghost use Rattle.wasm_base.specs.Reading.{Reads, ReadsNothing};
+ghost use Rattle.wasm_base.specs.Numbers.{Mode, padded};
+ghost use Rattle.wasm_base.specs.Decoding.{Decodes, Rejects};
 ghost use Rattle.wasm_base.specs.Types.{abstract_code, abstract_type, heap_type, ref_tags, ref_type, val_tags, val_ref, val_type, HasNoByte};
 ghost use Rattle.wasm_base.specs.declared.types.AbstractHeapType.{AbstractHeapType as Abstract};
 ghost use Rattle.wasm_base.specs.declared.types.HeapType.{HeapType as Heap};
@@ -12,13 +12,13 @@ ghost use Rattle.wasm_reader_base.specs.declared.fault.ReadFault.TheVariants.{Me
 
 use crate::fault::ReadFault;
 use crate::leb128::read_index;
-use crate::readable::{Readable, Spelled};
+use crate::readable::{Readable, Layout};
 use crate::shorten::Shorten;
 use std::alloc::Allocator;
 use wasm_base::{AbstractHeapType, Encode, HeapType, R, RefType, ValType};
 
 /// Returns the abstract heap type of this byte.
-#[tactic(auto, using(crate::proofs::ReadTypes::abstract_steps))]
+#[tactic(auto, using(crate::proofs::DecodeTypes::abstract_steps))]
 fn abstract_of(byte: u8) -> Option<AbstractHeapType>
     ensures { MatchOption result ((ty : Abstract) → byte ≢ abstract_code ty) (λ ty. byte ≡ abstract_code ty) }
 {
@@ -41,19 +41,19 @@ fn abstract_of(byte: u8) -> Option<AbstractHeapType>
     }
 }
 
-impl Spelled for AbstractHeapType {
+impl Layout for AbstractHeapType {
     ghost Value = { Abstract };
 
     ghost format = { abstract_type };
 
     ghost view = { λ ty. ty };
 
-    #[tactic(auto, using(wasm_base::proofs::TypeLaws::abstract_unique))]
+    #[tactic(auto, using(wasm_base::proofs::TypeLaws::abstract_unambiguous))]
     fn laws() {}
 }
 
 impl<'a, A: Allocator + Copy> Readable<'a, A> for AbstractHeapType {
-    #[tactic(auto, using(crate::proofs::ReadTypes::abstract_type_steps))]
+    #[tactic(auto, using(crate::proofs::DecodeTypes::abstract_type_steps))]
     fn read(bytes: &'a [u8], alloc: A) -> Result<(AbstractHeapType, &'a [u8]), ReadFault> {
         let (byte, rest) = <u8 as Readable<'a, A>>::read(bytes, alloc)?;
         match abstract_of(byte) {
@@ -63,19 +63,19 @@ impl<'a, A: Allocator + Copy> Readable<'a, A> for AbstractHeapType {
     }
 }
 
-impl Spelled for HeapType {
+impl Layout for HeapType {
     ghost Value = { Heap };
 
     ghost format = { heap_type };
 
     ghost view = { λ heap. heap };
 
-    #[tactic(auto, using(wasm_base::proofs::TypeLaws::heap_unique))]
+    #[tactic(auto, using(wasm_base::proofs::TypeLaws::heap_unambiguous))]
     fn laws() {}
 }
 
 impl<'a, A: Allocator + Copy> Readable<'a, A> for HeapType {
-    #[tactic(auto, using(crate::proofs::ReadTypes::heap_steps))]
+    #[tactic(auto, using(crate::proofs::DecodeTypes::heap_steps))]
     fn read(bytes: &'a [u8], alloc: A) -> Result<(HeapType, &'a [u8]), ReadFault> {
         let (tag, rest) = <u8 as Readable<'a, A>>::read(bytes, alloc)?;
         match tag {
@@ -99,7 +99,7 @@ impl<'a, A: Allocator + Copy> Readable<'a, A> for HeapType {
 }
 
 /// Returns `true` if the nullable reference to the heap type has a one-byte encoding.
-#[tactic(auto, using(crate::proofs::ReadTypes::own_byte_steps))]
+#[tactic(auto, using(crate::proofs::DecodeTypes::own_byte_steps))]
 fn has_own_byte(heap: HeapType) -> bool
     ensures yes { IsTrue result → HasNoByte heap → ⊥ }
     ensures no { result ≡ false → HasNoByte heap }
@@ -114,14 +114,14 @@ fn has_own_byte(heap: HeapType) -> bool
 }
 
 /// Decodes a reference type after its first byte, `tag`.
-#[tactic(auto, using(crate::proofs::ReadTypes::ref_steps))]
+#[tactic(auto, using(crate::proofs::DecodeTypes::ref_steps))]
 fn read_ref_after<'a, A: Allocator + Copy>(
     tag: u8,
     bytes: &'a [u8],
     alloc: A,
 ) -> Result<(RefType, &'a [u8]), ReadFault>
-    ensures found { IfOk result (λ x. Reads (choice ref_tags (λ b. impossible) tag) wide bytes.now x.0 x.1.now) }
-    ensures none { IfErr result (λ e. e ≢ Memory → ReadsNothing (choice ref_tags (λ b. impossible) tag) wide bytes.now) }
+    ensures found { IfOk result (λ x. Decodes (choice ref_tags (λ b. impossible) tag) padded bytes.now x.0 x.1.now) }
+    ensures none { IfErr result (λ e. e ≢ Memory → Rejects (choice ref_tags (λ b. impossible) tag) padded bytes.now) }
 {
     match tag {
         0x70 => Ok((RefType::FUNCREF, bytes)),
@@ -153,19 +153,19 @@ fn read_ref_after<'a, A: Allocator + Copy>(
     }
 }
 
-impl Spelled for RefType {
+impl Layout for RefType {
     ghost Value = { Ref };
 
     ghost format = { ref_type };
 
     ghost view = { λ r. r };
 
-    #[tactic(auto, using(wasm_base::proofs::TypeLaws::ref_unique))]
+    #[tactic(auto, using(wasm_base::proofs::TypeLaws::ref_unambiguous))]
     fn laws() {}
 }
 
 impl<'a, A: Allocator + Copy> Readable<'a, A> for RefType {
-    #[tactic(auto, using(crate::proofs::ReadTypes::ref_type_steps))]
+    #[tactic(auto, using(crate::proofs::DecodeTypes::ref_type_steps))]
     fn read(bytes: &'a [u8], alloc: A) -> Result<(RefType, &'a [u8]), ReadFault> {
         let (tag, rest) = <u8 as Readable<'a, A>>::read(bytes, alloc)?;
         read_ref_after(tag, rest, alloc)
@@ -173,14 +173,14 @@ impl<'a, A: Allocator + Copy> Readable<'a, A> for RefType {
 }
 
 /// Decodes a value type after its first byte, `tag`.
-#[tactic(auto, using(crate::proofs::ReadTypes::val_steps))]
+#[tactic(auto, using(crate::proofs::DecodeTypes::val_steps))]
 pub fn read_val_after<'a, A: Allocator + Copy>(
     tag: u8,
     bytes: &'a [u8],
     alloc: A,
 ) -> Result<(ValType, &'a [u8]), ReadFault>
-    ensures found { IfOk result (λ x. Reads (choice val_tags val_ref tag) wide bytes.now x.0 x.1.now) }
-    ensures none { IfErr result (λ e. e ≢ Memory → ReadsNothing (choice val_tags val_ref tag) wide bytes.now) }
+    ensures found { IfOk result (λ x. Decodes (choice val_tags val_ref tag) padded bytes.now x.0 x.1.now) }
+    ensures none { IfErr result (λ e. e ≢ Memory → Rejects (choice val_tags val_ref tag) padded bytes.now) }
 {
     match tag {
         0x7F => Ok((ValType::I32, bytes)),
@@ -195,19 +195,19 @@ pub fn read_val_after<'a, A: Allocator + Copy>(
     }
 }
 
-impl Spelled for ValType {
+impl Layout for ValType {
     ghost Value = { Val };
 
     ghost format = { val_type };
 
     ghost view = { λ ty. ty };
 
-    #[tactic(auto, using(wasm_base::proofs::TypeLaws::val_unique))]
+    #[tactic(auto, using(wasm_base::proofs::TypeLaws::val_unambiguous))]
     fn laws() {}
 }
 
 impl<'a, A: Allocator + Copy> Readable<'a, A> for ValType {
-    #[tactic(auto, using(crate::proofs::ReadTypes::val_type_steps))]
+    #[tactic(auto, using(crate::proofs::DecodeTypes::val_type_steps))]
     fn read(bytes: &'a [u8], alloc: A) -> Result<(ValType, &'a [u8]), ReadFault> {
         let (tag, rest) = <u8 as Readable<'a, A>>::read(bytes, alloc)?;
         read_val_after(tag, rest, alloc)
@@ -215,8 +215,8 @@ impl<'a, A: Allocator + Copy> Readable<'a, A> for ValType {
 }
 
 impl Shorten for ValType {
-    #[tactic(auto, using(crate::proofs::ReadPlain::val_appended))]
-    fn write_minimal<B: Allocator>(&self, out: &mut Vec<u8, B>) -> R<()> {
-        self.encode(out)
+    #[tactic(auto, using(crate::proofs::DecodePlain::val_appended))]
+    fn write_minimal<B: Allocator>(&self, sink: &mut Vec<u8, B>) -> R<()> {
+        self.encode(sink)
     }
 }

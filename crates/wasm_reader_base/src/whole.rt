@@ -1,9 +1,9 @@
 // Decoding of values that occupy all of the bytes.
 ghost use Rattle.std.specs.Prelude.{◌≢◌, IfOk, IfErr, map};
 ghost use Rattle.wasm_base.specs.Formats.{members};
-ghost use Rattle.wasm_base.specs.Going.{FillsNothing};
-ghost use Rattle.wasm_base.specs.Numbers.{wide};
-ghost use Rattle.wasm_base.specs.Reading.{BeginsWith};
+ghost use Rattle.wasm_base.specs.Continuing.{RejectsWhole};
+ghost use Rattle.wasm_base.specs.Numbers.{padded};
+ghost use Rattle.wasm_base.specs.Decoding.{BeginsWith};
 ghost use Rattle.wasm_reader_base.specs.declared.fault.ReadFault.TheVariants.{Memory};
 
 use crate::fault::ReadFault;
@@ -15,13 +15,13 @@ use std::alloc::Allocator;
 /// # Errors
 ///
 /// Any error but `Memory` means that the bytes as a whole encode no such value.
-#[tactic(auto, using(crate::proofs::ReadWhole::whole_steps))]
+#[tactic(auto, using(crate::proofs::DecodeWhole::whole_steps))]
 pub fn read_whole<'a, T: Readable<'a, A>, A: Allocator + Copy>(
     bytes: &'a [u8],
     alloc: A,
 ) -> Result<T, ReadFault>
-    ensures found { IfOk result (λ x. T.format wide bytes.now (T.view x)) }
-    ensures none { IfErr result (λ e. e ≢ Memory → FillsNothing T.format bytes.now) }
+    ensures found { IfOk result (λ x. T.format padded bytes.now (T.view x)) }
+    ensures none { IfErr result (λ e. e ≢ Memory → RejectsWhole T.format bytes.now) }
 {
     let (value, left) = T::read(bytes, alloc)?;
     T::laws();
@@ -43,8 +43,8 @@ pub fn read_to_end<'a, T: Readable<'a, A>, A: Allocator + Copy>(
     alloc: A,
 ) -> Result<Vec<T, A>, ReadFault>
     requires { BeginsWith (λ b. Unit {0}) T.format }
-    ensures found { IfOk result (λ x. members T.format wide bytes.now (map T.view x.items)) }
-    ensures none { IfErr result (λ e. e ≢ Memory → FillsNothing (members T.format) bytes.now) }
+    ensures found { IfOk result (λ x. members T.format padded bytes.now (map T.view x.items)) }
+    ensures none { IfErr result (λ e. e ≢ Memory → RejectsWhole (members T.format) bytes.now) }
 {
     let mut items = Vec::new(alloc);
     let mut rest = bytes;

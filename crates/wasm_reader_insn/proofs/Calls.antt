@@ -2,14 +2,14 @@
 -- caller's proof cites.
 use Rattle.std.proofs.Common.{◌≡◌, ◌≢◌, ℕ, List, [], ◌∷◌, ◌++◌, Option, Some, IfSome, ap, subst}
 use Rattle.std.proofs.lemmas.List.{map-id}
-use Rattle.wasm_base.specs.Going.{FillsNothing}
-use Rattle.wasm_base.specs.Numbers.{wide}
+use Rattle.wasm_base.specs.Continuing.{RejectsWhole}
+use Rattle.wasm_base.specs.Numbers.{padded}
 use Rattle.wasm_base.specs.Formats.{members}
-use Rattle.wasm_base.specs.Reading.{Reads, ReadsNothing}
+use Rattle.wasm_base.specs.Decoding.{Decodes, Rejects}
 use Rattle.wasm_insn.specs.Plain.{Plain, instruction}
 use Rattle.wasm_insn.specs.Table.{table}
-use Rattle.wasm_insn.proofs.InstructionLaws.{alone, any_begins}
-use Rattle.wasm_reader_base.proofs.ReadWhole.{HasMembers, members_start, members_step, members_fail, members_done}
+use Rattle.wasm_insn.proofs.InstructionLaws.{unique, any_begins}
+use Rattle.wasm_reader_base.proofs.DecodeWhole.{HasMembers, members_start, members_step, members_fail, members_done}
 
 -- The reader has visited these instructions from `start` on, and `rest` remains.
 abbrev pub HasWalked : List ℕ → List Plain → List ℕ → Type 0
@@ -19,21 +19,21 @@ pub begun : (start : List ℕ) → HasWalked start [] start
 begun start = members_start (instruction table) (λ i. i) start
 
 -- If an instruction decodes from bytes, they are not empty.
-some_bytes : {bytes rest : List ℕ} {i : Plain} → Reads (instruction table) wide bytes i rest → bytes ≢ []
+some_bytes : {bytes rest : List ℕ} {i : Plain} → Decodes (instruction table) padded bytes i rest → bytes ≢ []
 some_bytes {rest = rest} {i = i} h e =
-    let b = any_begins wide h.front i h.spelled in
+    let b = any_begins padded h.front i h.encodes in
     absurd (cc (e, h.split, ap (λ z. z ++ rest) b.2))
 
 -- `next` returns an instruction.
-pub goes_on : {start rest after : List ℕ} {i : Plain} (seen : List Plain) → HasWalked start seen rest → Reads (instruction table) wide rest i after → HasWalked start (seen ++ i ∷ []) after
-goes_on {start = start} {rest = rest} {after = after} {i = i} seen walked h = members_step (instruction table) (λ i. i) start alone rest after seen i walked (some_bytes h) h
+pub continues : {start rest after : List ℕ} {i : Plain} (seen : List Plain) → HasWalked start seen rest → Decodes (instruction table) padded rest i after → HasWalked start (seen ++ i ∷ []) after
+continues {start = start} {rest = rest} {after = after} {i = i} seen walked h = members_step (instruction table) (λ i. i) start unique rest after seen i walked (some_bytes h) h
 
 -- `next` returns `None`.
-pub ended : {start rest : List ℕ} (seen : List Plain) → HasWalked start seen rest → rest ≡ [] → members (instruction table) wide start seen
-ended {start = start} {rest = rest} seen walked e = subst (λ xs. members (instruction table) wide start xs) (map-id seen) (members_done (instruction table) (λ i. i) start rest seen walked e)
+pub ended : {start rest : List ℕ} (seen : List Plain) → HasWalked start seen rest → rest ≡ [] → members (instruction table) padded start seen
+ended {start = start} {rest = rest} seen walked e = subst (λ xs. members (instruction table) padded start xs) (map-id seen) (members_done (instruction table) (λ i. i) start rest seen walked e)
 
 -- `next` returns an error other than `Memory`.
-pub stopped : {start rest : List ℕ} (seen : List Plain) → HasWalked start seen rest → rest ≢ [] → ReadsNothing (instruction table) wide rest → FillsNothing (members (instruction table)) start
+pub stopped : {start rest : List ℕ} (seen : List Plain) → HasWalked start seen rest → rest ≢ [] → Rejects (instruction table) padded rest → RejectsWhole (members (instruction table)) start
 stopped {start = start} {rest = rest} seen walked some none = members_fail (instruction table) (λ i. i) start rest seen walked some none
 
 -- A property of the result, if it is an instruction.

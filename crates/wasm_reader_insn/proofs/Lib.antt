@@ -1,8 +1,8 @@
 pub mod Calls
-pub mod PlaceLaws
-pub mod ReadArguments
-pub mod ReadInstructions
-pub mod ReadLists
-pub mod ReadPlain
-pub mod ShortLists
+pub mod OffsetSteps
+pub mod DecodeArguments
+pub mod DecodeInstructions
+pub mod DecodeLists
+pub mod DecodePlain
+pub mod MinimalLists
 pub mod WalkLaws

@@ -6,9 +6,9 @@ use Rattle.wasm_insn.specs.Arguments.{Argument}
 -- immediates of the last instruction.
 pub record Walking : Type 0 where
   pub bytes : List ℕ
-  pub place : ℕ
+  pub offset : ℕ
   pub arguments : List Argument
 
 -- The bytes from the reader's offset on.
 abbrev pub ahead : Walking → List ℕ
-ahead w = drop w.place w.bytes
+ahead w = drop w.offset w.bytes

@@ -1,15 +1,15 @@
 // Decoding and encoding of the arguments (immediates) of instructions.
 ghost use Rattle.std.specs.Prelude.{◌≡◌, ◌≢◌, ◌++◌, [], ◌∷◌, IfOk, IfErr, Err, OnOk, OnErr, map};
 ghost use Rattle.std.specs.List.{flat_map};
-ghost use Rattle.wasm_base.specs.Numbers.{wide};
-ghost use Rattle.wasm_base.specs.Reading.{Reads, ReadsNothing};
+ghost use Rattle.wasm_base.specs.Numbers.{padded};
+ghost use Rattle.wasm_base.specs.Decoding.{Decodes, Rejects};
 ghost use Rattle.wasm_base.specs.declared.refused.Refused.TheVariants.{TooLong};
 ghost use Rattle.wasm_insn.specs.Parts.{parts_of};
 ghost use Rattle.wasm_insn.specs.declared.part.Part.TheVariants as parts;
-ghost use Rattle.wasm_insn.specs.Arguments.{argument_text};
-ghost use Rattle.wasm_insn.specs.Plain.{part, arguments, IsPlainArgument, ArePlain};
+ghost use Rattle.wasm_insn.specs.Arguments.{argument_encoding};
+ghost use Rattle.wasm_insn.specs.Plain.{part, arguments, IsWellFormedArgument, AreWellFormed};
 ghost use Rattle.wasm_reader_insn.specs.Arguments.{argument_view};
-ghost use Rattle.wasm_reader_base.specs.Shortest.{IsFrontOf};
+ghost use Rattle.wasm_reader_base.specs.Minimal.{IsFrontOf};
 ghost use Rattle.wasm_reader_base.specs.declared.fault.ReadFault.TheVariants.{Memory};
 
 use std::alloc::{Allocator, Global};
@@ -49,13 +49,13 @@ pub enum Arg<A: Allocator = Global> {
 
 /// Decodes an unsigned number of 32 bits.
 #[inline(always)]
-#[tactic(auto, using(crate::proofs::ReadArguments::unsigned_part))]
+#[tactic(auto, using(crate::proofs::DecodeArguments::unsigned_part))]
 pub(crate) fn read_unsigned<'a, A: Allocator + Copy>(
     bytes: &'a [u8],
     alloc: A,
 ) -> Result<(Arg<A>, &'a [u8]), ReadFault>
-    ensures found { IfOk result (λ x. Reads (part parts.Unsigned) wide bytes.now (argument_view x.0) x.1.now) }
-    ensures none { IfErr result (λ e. e ≢ Memory → ReadsNothing (part parts.Unsigned) wide bytes.now) }
+    ensures found { IfOk result (λ x. Decodes (part parts.Unsigned) padded bytes.now (argument_view x.0) x.1.now) }
+    ensures none { IfErr result (λ e. e ≢ Memory → Rejects (part parts.Unsigned) padded bytes.now) }
 {
     let (value, rest) = <u32 as Readable<'a, A>>::read(bytes, alloc)?;
     Ok((Arg::U32(value), rest))
@@ -63,13 +63,13 @@ pub(crate) fn read_unsigned<'a, A: Allocator + Copy>(
 
 /// Decodes a signed number of 32 bits.
 #[inline(always)]
-#[tactic(auto, using(crate::proofs::ReadArguments::signed32_part))]
+#[tactic(auto, using(crate::proofs::DecodeArguments::signed32_part))]
 pub(crate) fn read_signed32<'a, A: Allocator + Copy>(
     bytes: &'a [u8],
     alloc: A,
 ) -> Result<(Arg<A>, &'a [u8]), ReadFault>
-    ensures found { IfOk result (λ x. Reads (part parts.Signed32) wide bytes.now (argument_view x.0) x.1.now) }
-    ensures none { IfErr result (λ e. e ≢ Memory → ReadsNothing (part parts.Signed32) wide bytes.now) }
+    ensures found { IfOk result (λ x. Decodes (part parts.Signed32) padded bytes.now (argument_view x.0) x.1.now) }
+    ensures none { IfErr result (λ e. e ≢ Memory → Rejects (part parts.Signed32) padded bytes.now) }
 {
     let (value, rest) = <i32 as Readable<'a, A>>::read(bytes, alloc)?;
     Ok((Arg::S32(value), rest))
@@ -77,13 +77,13 @@ pub(crate) fn read_signed32<'a, A: Allocator + Copy>(
 
 /// Decodes a signed number of 64 bits.
 #[inline(always)]
-#[tactic(auto, using(crate::proofs::ReadArguments::signed64_part))]
+#[tactic(auto, using(crate::proofs::DecodeArguments::signed64_part))]
 pub(crate) fn read_signed64<'a, A: Allocator + Copy>(
     bytes: &'a [u8],
     alloc: A,
 ) -> Result<(Arg<A>, &'a [u8]), ReadFault>
-    ensures found { IfOk result (λ x. Reads (part parts.Signed64) wide bytes.now (argument_view x.0) x.1.now) }
-    ensures none { IfErr result (λ e. e ≢ Memory → ReadsNothing (part parts.Signed64) wide bytes.now) }
+    ensures found { IfOk result (λ x. Decodes (part parts.Signed64) padded bytes.now (argument_view x.0) x.1.now) }
+    ensures none { IfErr result (λ e. e ≢ Memory → Rejects (part parts.Signed64) padded bytes.now) }
 {
     let (value, rest) = <i64 as Readable<'a, A>>::read(bytes, alloc)?;
     Ok((Arg::S64(value), rest))
@@ -91,13 +91,13 @@ pub(crate) fn read_signed64<'a, A: Allocator + Copy>(
 
 /// Decodes a float of 32 bits.
 #[inline(never)]
-#[tactic(auto, using(crate::proofs::ReadArguments::float32_part))]
+#[tactic(auto, using(crate::proofs::DecodeArguments::float32_part))]
 fn read_float32<'a, A: Allocator + Copy>(
     bytes: &'a [u8],
     alloc: A,
 ) -> Result<(Arg<A>, &'a [u8]), ReadFault>
-    ensures found { IfOk result (λ x. Reads (part parts.Float32) wide bytes.now (argument_view x.0) x.1.now) }
-    ensures none { IfErr result (λ e. e ≢ Memory → ReadsNothing (part parts.Float32) wide bytes.now) }
+    ensures found { IfOk result (λ x. Decodes (part parts.Float32) padded bytes.now (argument_view x.0) x.1.now) }
+    ensures none { IfErr result (λ e. e ≢ Memory → Rejects (part parts.Float32) padded bytes.now) }
 {
     let (value, rest) = <Ieee32 as Readable<'a, A>>::read(bytes, alloc)?;
     Ok((Arg::F32(value), rest))
@@ -105,13 +105,13 @@ fn read_float32<'a, A: Allocator + Copy>(
 
 /// Decodes a float of 64 bits.
 #[inline(never)]
-#[tactic(auto, using(crate::proofs::ReadArguments::float64_part))]
+#[tactic(auto, using(crate::proofs::DecodeArguments::float64_part))]
 fn read_float64<'a, A: Allocator + Copy>(
     bytes: &'a [u8],
     alloc: A,
 ) -> Result<(Arg<A>, &'a [u8]), ReadFault>
-    ensures found { IfOk result (λ x. Reads (part parts.Float64) wide bytes.now (argument_view x.0) x.1.now) }
-    ensures none { IfErr result (λ e. e ≢ Memory → ReadsNothing (part parts.Float64) wide bytes.now) }
+    ensures found { IfOk result (λ x. Decodes (part parts.Float64) padded bytes.now (argument_view x.0) x.1.now) }
+    ensures none { IfErr result (λ e. e ≢ Memory → Rejects (part parts.Float64) padded bytes.now) }
 {
     let (value, rest) = <Ieee64 as Readable<'a, A>>::read(bytes, alloc)?;
     Ok((Arg::F64(value), rest))
@@ -119,13 +119,13 @@ fn read_float64<'a, A: Allocator + Copy>(
 
 /// Decodes a vector of 128 bits.
 #[inline(never)]
-#[tactic(auto, using(crate::proofs::ReadArguments::vector_part))]
+#[tactic(auto, using(crate::proofs::DecodeArguments::vector_part))]
 fn read_vector<'a, A: Allocator + Copy>(
     bytes: &'a [u8],
     alloc: A,
 ) -> Result<(Arg<A>, &'a [u8]), ReadFault>
-    ensures found { IfOk result (λ x. Reads (part parts.Vector) wide bytes.now (argument_view x.0) x.1.now) }
-    ensures none { IfErr result (λ e. e ≢ Memory → ReadsNothing (part parts.Vector) wide bytes.now) }
+    ensures found { IfOk result (λ x. Decodes (part parts.Vector) padded bytes.now (argument_view x.0) x.1.now) }
+    ensures none { IfErr result (λ e. e ≢ Memory → Rejects (part parts.Vector) padded bytes.now) }
 {
     let (value, rest) = <i128 as Readable<'a, A>>::read(bytes, alloc)?;
     Ok((Arg::V128(value), rest))
@@ -133,26 +133,26 @@ fn read_vector<'a, A: Allocator + Copy>(
 
 /// Decodes a memory argument.
 #[inline(always)]
-#[tactic(auto, using(crate::proofs::ReadArguments::memory_part))]
+#[tactic(auto, using(crate::proofs::DecodeArguments::memory_part))]
 pub(crate) fn read_memory<'a, A: Allocator + Copy>(
     bytes: &'a [u8],
     alloc: A,
 ) -> Result<(Arg<A>, &'a [u8]), ReadFault>
-    ensures found { IfOk result (λ x. Reads (part parts.Memory) wide bytes.now (argument_view x.0) x.1.now) }
-    ensures none { IfErr result (λ e. e ≢ Memory → ReadsNothing (part parts.Memory) wide bytes.now) }
+    ensures found { IfOk result (λ x. Decodes (part parts.Memory) padded bytes.now (argument_view x.0) x.1.now) }
+    ensures none { IfErr result (λ e. e ≢ Memory → Rejects (part parts.Memory) padded bytes.now) }
 {
     let (value, rest) = <MemArg as Readable<'a, A>>::read(bytes, alloc)?;
     Ok((Arg::Mem(value), rest))
 }
 
 /// Decodes a lane.
-#[tactic(auto, using(crate::proofs::ReadArguments::lane_part))]
+#[tactic(auto, using(crate::proofs::DecodeArguments::lane_part))]
 fn read_lane<'a, A: Allocator + Copy>(
     bytes: &'a [u8],
     alloc: A,
 ) -> Result<(Arg<A>, &'a [u8]), ReadFault>
-    ensures found { IfOk result (λ x. Reads (part parts.Lane) wide bytes.now (argument_view x.0) x.1.now) }
-    ensures none { IfErr result (λ e. e ≢ Memory → ReadsNothing (part parts.Lane) wide bytes.now) }
+    ensures found { IfOk result (λ x. Decodes (part parts.Lane) padded bytes.now (argument_view x.0) x.1.now) }
+    ensures none { IfErr result (λ e. e ≢ Memory → Rejects (part parts.Lane) padded bytes.now) }
 {
     let (value, rest) = <u8 as Readable<'a, A>>::read(bytes, alloc)?;
     Ok((Arg::Lane(value), rest))
@@ -160,13 +160,13 @@ fn read_lane<'a, A: Allocator + Copy>(
 
 /// Decodes sixteen lanes.
 #[inline(never)]
-#[tactic(auto, using(crate::proofs::ReadArguments::lanes_part))]
+#[tactic(auto, using(crate::proofs::DecodeArguments::lanes_part))]
 fn read_lanes<'a, A: Allocator + Copy>(
     bytes: &'a [u8],
     alloc: A,
 ) -> Result<(Arg<A>, &'a [u8]), ReadFault>
-    ensures found { IfOk result (λ x. Reads (part parts.Lanes) wide bytes.now (argument_view x.0) x.1.now) }
-    ensures none { IfErr result (λ e. e ≢ Memory → ReadsNothing (part parts.Lanes) wide bytes.now) }
+    ensures found { IfOk result (λ x. Decodes (part parts.Lanes) padded bytes.now (argument_view x.0) x.1.now) }
+    ensures none { IfErr result (λ e. e ≢ Memory → Rejects (part parts.Lanes) padded bytes.now) }
 {
     let (value, rest) = <[u8; 16] as Readable<'a, A>>::read(bytes, alloc)?;
     Ok((Arg::Lanes(value), rest))
@@ -174,13 +174,13 @@ fn read_lanes<'a, A: Allocator + Copy>(
 
 /// Decodes a block type.
 #[inline(always)]
-#[tactic(auto, using(crate::proofs::ReadArguments::block_part))]
+#[tactic(auto, using(crate::proofs::DecodeArguments::block_part))]
 pub(crate) fn read_block<'a, A: Allocator + Copy>(
     bytes: &'a [u8],
     alloc: A,
 ) -> Result<(Arg<A>, &'a [u8]), ReadFault>
-    ensures found { IfOk result (λ x. Reads (part parts.Block) wide bytes.now (argument_view x.0) x.1.now) }
-    ensures none { IfErr result (λ e. e ≢ Memory → ReadsNothing (part parts.Block) wide bytes.now) }
+    ensures found { IfOk result (λ x. Decodes (part parts.Block) padded bytes.now (argument_view x.0) x.1.now) }
+    ensures none { IfErr result (λ e. e ≢ Memory → Rejects (part parts.Block) padded bytes.now) }
 {
     let (value, rest) = <BlockType as Readable<'a, A>>::read(bytes, alloc)?;
     Ok((Arg::Block(value), rest))
@@ -188,13 +188,13 @@ pub(crate) fn read_block<'a, A: Allocator + Copy>(
 
 /// Decodes a heap type.
 #[inline(never)]
-#[tactic(auto, using(crate::proofs::ReadArguments::heap_part))]
+#[tactic(auto, using(crate::proofs::DecodeArguments::heap_part))]
 fn read_heap<'a, A: Allocator + Copy>(
     bytes: &'a [u8],
     alloc: A,
 ) -> Result<(Arg<A>, &'a [u8]), ReadFault>
-    ensures found { IfOk result (λ x. Reads (part parts.Heap) wide bytes.now (argument_view x.0) x.1.now) }
-    ensures none { IfErr result (λ e. e ≢ Memory → ReadsNothing (part parts.Heap) wide bytes.now) }
+    ensures found { IfOk result (λ x. Decodes (part parts.Heap) padded bytes.now (argument_view x.0) x.1.now) }
+    ensures none { IfErr result (λ e. e ≢ Memory → Rejects (part parts.Heap) padded bytes.now) }
 {
     let (value, rest) = <HeapType as Readable<'a, A>>::read(bytes, alloc)?;
     Ok((Arg::Heap(value), rest))
@@ -202,13 +202,13 @@ fn read_heap<'a, A: Allocator + Copy>(
 
 /// Decodes an ordering.
 #[inline(never)]
-#[tactic(auto, using(crate::proofs::ReadArguments::ordering_part))]
+#[tactic(auto, using(crate::proofs::DecodeArguments::ordering_part))]
 fn read_ordering<'a, A: Allocator + Copy>(
     bytes: &'a [u8],
     alloc: A,
 ) -> Result<(Arg<A>, &'a [u8]), ReadFault>
-    ensures found { IfOk result (λ x. Reads (part parts.Ordering) wide bytes.now (argument_view x.0) x.1.now) }
-    ensures none { IfErr result (λ e. e ≢ Memory → ReadsNothing (part parts.Ordering) wide bytes.now) }
+    ensures found { IfOk result (λ x. Decodes (part parts.Ordering) padded bytes.now (argument_view x.0) x.1.now) }
+    ensures none { IfErr result (λ e. e ≢ Memory → Rejects (part parts.Ordering) padded bytes.now) }
 {
     let (value, rest) = <Ordering as Readable<'a, A>>::read(bytes, alloc)?;
     Ok((Arg::Order(value), rest))
@@ -216,13 +216,13 @@ fn read_ordering<'a, A: Allocator + Copy>(
 
 /// Decodes a vector of labels.
 #[inline(never)]
-#[tactic(auto, using(crate::proofs::ReadArguments::labels_part))]
+#[tactic(auto, using(crate::proofs::DecodeArguments::labels_part))]
 fn read_labels<'a, A: Allocator + Copy>(
     bytes: &'a [u8],
     alloc: A,
 ) -> Result<(Arg<A>, &'a [u8]), ReadFault>
-    ensures found { IfOk result (λ x. Reads (part parts.Labels) wide bytes.now (argument_view x.0) x.1.now) }
-    ensures none { IfErr result (λ e. e ≢ Memory → ReadsNothing (part parts.Labels) wide bytes.now) }
+    ensures found { IfOk result (λ x. Decodes (part parts.Labels) padded bytes.now (argument_view x.0) x.1.now) }
+    ensures none { IfErr result (λ e. e ≢ Memory → Rejects (part parts.Labels) padded bytes.now) }
 {
     let (value, rest) = <Vec<u32, A> as Readable<'a, A>>::read(bytes, alloc)?;
     Ok((Arg::Labels(value), rest))
@@ -230,13 +230,13 @@ fn read_labels<'a, A: Allocator + Copy>(
 
 /// Decodes a vector of catch clauses.
 #[inline(never)]
-#[tactic(auto, using(crate::proofs::ReadArguments::catches_part))]
+#[tactic(auto, using(crate::proofs::DecodeArguments::catches_part))]
 fn read_catches<'a, A: Allocator + Copy>(
     bytes: &'a [u8],
     alloc: A,
 ) -> Result<(Arg<A>, &'a [u8]), ReadFault>
-    ensures found { IfOk result (λ x. Reads (part parts.Catches) wide bytes.now (argument_view x.0) x.1.now) }
-    ensures none { IfErr result (λ e. e ≢ Memory → ReadsNothing (part parts.Catches) wide bytes.now) }
+    ensures found { IfOk result (λ x. Decodes (part parts.Catches) padded bytes.now (argument_view x.0) x.1.now) }
+    ensures none { IfErr result (λ e. e ≢ Memory → Rejects (part parts.Catches) padded bytes.now) }
 {
     let (value, rest) = <Vec<Catch, A> as Readable<'a, A>>::read(bytes, alloc)?;
     Ok((Arg::Catches(value), rest))
@@ -244,13 +244,13 @@ fn read_catches<'a, A: Allocator + Copy>(
 
 /// Decodes a vector of value types.
 #[inline(never)]
-#[tactic(auto, using(crate::proofs::ReadArguments::types_part))]
+#[tactic(auto, using(crate::proofs::DecodeArguments::types_part))]
 fn read_types<'a, A: Allocator + Copy>(
     bytes: &'a [u8],
     alloc: A,
 ) -> Result<(Arg<A>, &'a [u8]), ReadFault>
-    ensures found { IfOk result (λ x. Reads (part parts.Types) wide bytes.now (argument_view x.0) x.1.now) }
-    ensures none { IfErr result (λ e. e ≢ Memory → ReadsNothing (part parts.Types) wide bytes.now) }
+    ensures found { IfOk result (λ x. Decodes (part parts.Types) padded bytes.now (argument_view x.0) x.1.now) }
+    ensures none { IfErr result (λ e. e ≢ Memory → Rejects (part parts.Types) padded bytes.now) }
 {
     let (value, rest) = <Vec<ValType, A> as Readable<'a, A>>::read(bytes, alloc)?;
     Ok((Arg::Types(value), rest))
@@ -258,26 +258,26 @@ fn read_types<'a, A: Allocator + Copy>(
 
 /// Decodes a vector of handle clauses.
 #[inline(never)]
-#[tactic(auto, using(crate::proofs::ReadArguments::handles_part))]
+#[tactic(auto, using(crate::proofs::DecodeArguments::handles_part))]
 fn read_handles<'a, A: Allocator + Copy>(
     bytes: &'a [u8],
     alloc: A,
 ) -> Result<(Arg<A>, &'a [u8]), ReadFault>
-    ensures found { IfOk result (λ x. Reads (part parts.Handles) wide bytes.now (argument_view x.0) x.1.now) }
-    ensures none { IfErr result (λ e. e ≢ Memory → ReadsNothing (part parts.Handles) wide bytes.now) }
+    ensures found { IfOk result (λ x. Decodes (part parts.Handles) padded bytes.now (argument_view x.0) x.1.now) }
+    ensures none { IfErr result (λ e. e ≢ Memory → Rejects (part parts.Handles) padded bytes.now) }
 {
     let (value, rest) = <Vec<Handle, A> as Readable<'a, A>>::read(bytes, alloc)?;
     Ok((Arg::Handles(value), rest))
 }
 
 /// Decodes the flags of a cast.
-#[tactic(auto, using(crate::proofs::ReadArguments::flag_part))]
+#[tactic(auto, using(crate::proofs::DecodeArguments::flag_part))]
 fn read_flag<'a, A: Allocator + Copy>(
     bytes: &'a [u8],
     alloc: A,
 ) -> Result<(Arg<A>, &'a [u8]), ReadFault>
-    ensures found { IfOk result (λ x. Reads (part parts.Flag) wide bytes.now (argument_view x.0) x.1.now) }
-    ensures none { IfErr result (λ e. e ≢ Memory → ReadsNothing (part parts.Flag) wide bytes.now) }
+    ensures found { IfOk result (λ x. Decodes (part parts.Flag) padded bytes.now (argument_view x.0) x.1.now) }
+    ensures none { IfErr result (λ e. e ≢ Memory → Rejects (part parts.Flag) padded bytes.now) }
 {
     let (value, rest) = <u8 as Readable<'a, A>>::read(bytes, alloc)?;
     if value < 4 {
@@ -294,8 +294,8 @@ pub(crate) fn read_part<'a, A: Allocator + Copy>(
     bytes: &'a [u8],
     alloc: A,
 ) -> Result<(Arg<A>, &'a [u8]), ReadFault>
-    ensures found { IfOk result (λ x. Reads (part wanted) wide bytes.now (argument_view x.0) x.1.now) }
-    ensures none { IfErr result (λ e. e ≢ Memory → ReadsNothing (part wanted) wide bytes.now) }
+    ensures found { IfOk result (λ x. Decodes (part wanted) padded bytes.now (argument_view x.0) x.1.now) }
+    ensures none { IfErr result (λ e. e ≢ Memory → Rejects (part wanted) padded bytes.now) }
 {
     match wanted {
         Part::Unsigned => read_unsigned(bytes, alloc),
@@ -327,8 +327,8 @@ fn read_parts<'a, A: Allocator + Copy>(
     args: &mut Vec<Arg<A>, A>,
 ) -> Result<&'a [u8], ReadFault>
     requires { args.old.items ≡ [] }
-    ensures found { IfOk result (λ rest. Reads (arguments wanted.now) wide bytes.now (map argument_view args.new.items) rest.now) }
-    ensures none { IfErr result (λ e. e ≢ Memory → ReadsNothing (arguments wanted.now) wide bytes.now) }
+    ensures found { IfOk result (λ rest. Decodes (arguments wanted.now) padded bytes.now (map argument_view args.new.items) rest.now) }
+    ensures none { IfErr result (λ e. e ≢ Memory → Rejects (arguments wanted.now) padded bytes.now) }
 {
     let mut rest = bytes;
     for part in wanted {
@@ -342,14 +342,14 @@ fn read_parts<'a, A: Allocator + Copy>(
 /// Decodes the arguments of any shape, into a list of exactly their number. Out of line, for rare
 /// shapes.
 #[inline(never)]
-#[tactic(auto, using(crate::proofs::ReadArguments::shape_steps))]
+#[tactic(auto, using(crate::proofs::DecodeArguments::shape_steps))]
 fn read_any<'a, A: Allocator + Copy>(
     shape: Shape,
     bytes: &'a [u8],
     alloc: A,
 ) -> Result<(Vec<Arg<A>, A>, &'a [u8]), ReadFault>
-    ensures found { IfOk result (λ x. Reads (arguments (parts_of shape)) wide bytes.now (map argument_view x.0.items) x.1.now) }
-    ensures none { IfErr result (λ e. e ≢ Memory → ReadsNothing (arguments (parts_of shape)) wide bytes.now) }
+    ensures found { IfOk result (λ x. Decodes (arguments (parts_of shape)) padded bytes.now (map argument_view x.0.items) x.1.now) }
+    ensures none { IfErr result (λ e. e ≢ Memory → Rejects (arguments (parts_of shape)) padded bytes.now) }
 {
     let wanted = shape.parts();
     let mut args = Vec::with_capacity(alloc, wanted.len())?;
@@ -380,8 +380,8 @@ pub(crate) fn read_arguments<'a, A: Allocator + Copy>(
     bytes: &'a [u8],
     alloc: A,
 ) -> Result<(Vec<Arg<A>, A>, &'a [u8]), ReadFault>
-    ensures found { IfOk result (λ x. Reads (arguments (parts_of shape)) wide bytes.now (map argument_view x.0.items) x.1.now) }
-    ensures none { IfErr result (λ e. e ≢ Memory → ReadsNothing (arguments (parts_of shape)) wide bytes.now) }
+    ensures found { IfOk result (λ x. Decodes (arguments (parts_of shape)) padded bytes.now (map argument_view x.0.items) x.1.now) }
+    ensures none { IfErr result (λ e. e ≢ Memory → Rejects (arguments (parts_of shape)) padded bytes.now) }
 {
     match shape {
         Shape::Nothing => Ok((Vec::new(alloc), bytes)),
@@ -396,15 +396,15 @@ pub(crate) fn read_arguments<'a, A: Allocator + Copy>(
 
 /// Decodes the arguments of any shape into the memory of `args`. Out of line, for rare shapes.
 #[inline(never)]
-#[tactic(auto, using(crate::proofs::ReadArguments::shape_steps))]
+#[tactic(auto, using(crate::proofs::DecodeArguments::shape_steps))]
 fn read_any_into<'a, A: Allocator + Copy>(
     shape: Shape,
     bytes: &'a [u8],
     alloc: A,
     args: &mut Vec<Arg<A>, A>,
 ) -> Result<&'a [u8], ReadFault>
-    ensures found { IfOk result (λ rest. Reads (arguments (parts_of shape)) wide bytes.now (map argument_view args.new.items) rest.now) }
-    ensures none { IfErr result (λ e. e ≢ Memory → ReadsNothing (arguments (parts_of shape)) wide bytes.now) }
+    ensures found { IfOk result (λ rest. Decodes (arguments (parts_of shape)) padded bytes.now (map argument_view args.new.items) rest.now) }
+    ensures none { IfErr result (λ e. e ≢ Memory → Rejects (arguments (parts_of shape)) padded bytes.now) }
 {
     args.clear();
     read_parts(shape.parts(), bytes, alloc, args)
@@ -438,8 +438,8 @@ pub(crate) fn read_arguments_into<'a, A: Allocator + Copy>(
     alloc: A,
     args: &mut Vec<Arg<A>, A>,
 ) -> Result<&'a [u8], ReadFault>
-    ensures found { IfOk result (λ rest. Reads (arguments (parts_of shape)) wide bytes.now (map argument_view args.new.items) rest.now) }
-    ensures none { IfErr result (λ e. e ≢ Memory → ReadsNothing (arguments (parts_of shape)) wide bytes.now) }
+    ensures found { IfOk result (λ rest. Decodes (arguments (parts_of shape)) padded bytes.now (map argument_view args.new.items) rest.now) }
+    ensures none { IfErr result (λ e. e ≢ Memory → Rejects (arguments (parts_of shape)) padded bytes.now) }
 {
     match shape {
         Shape::Nothing => {
@@ -456,44 +456,44 @@ pub(crate) fn read_arguments_into<'a, A: Allocator + Copy>(
 }
 
 /// Appends the minimal encoding of the argument.
-#[tactic(auto, using(wasm_immediates::proofs::FixedBytes::vector_bytes, crate::proofs::ReadPlain::any_members))]
-fn append_argument<A: Allocator, B: Allocator>(arg: &Arg<A>, out: &mut Vec<u8, B>) -> R<()>
-    ensures ok { OnOk result (out.new.items ≡ out.old.items ++ argument_text (argument_view arg.now)) }
-    ensures err { OnErr result (out.new.items ≡ out.old.items) }
-    ensures too_long { IsPlainArgument (argument_view arg.now) → result ≢ Err TooLong }
+#[tactic(auto, using(wasm_immediates::proofs::FixedBytes::vector_bytes, crate::proofs::DecodePlain::any_members))]
+fn append_argument<A: Allocator, B: Allocator>(arg: &Arg<A>, sink: &mut Vec<u8, B>) -> R<()>
+    ensures ok { OnOk result (sink.new.items ≡ sink.old.items ++ argument_encoding (argument_view arg.now)) }
+    ensures err { OnErr result (sink.new.items ≡ sink.old.items) }
+    ensures too_long { IsWellFormedArgument (argument_view arg.now) → result ≢ Err TooLong }
 {
     match arg {
-        Arg::U32(n) => n.encode(out),
-        Arg::S32(n) => n.encode(out),
-        Arg::S64(n) => n.encode(out),
-        Arg::F32(float) => float.encode(out),
-        Arg::F64(float) => float.encode(out),
-        Arg::V128(vector) => vector.to_le_bytes().encode(out),
-        Arg::Mem(memory) => memory.encode(out),
-        Arg::Lane(lane) => lane.encode(out),
-        Arg::Lanes(lanes) => lanes.encode(out),
-        Arg::Block(block) => block.encode(out),
-        Arg::Heap(heap) => heap.encode(out),
-        Arg::Order(ordering) => ordering.encode(out),
-        Arg::Labels(labels) => labels.as_slice().encode(out),
-        Arg::Catches(catches) => catches.as_slice().encode(out),
-        Arg::Types(types) => types.as_slice().encode(out),
-        Arg::Handles(handles) => handles.as_slice().encode(out),
-        Arg::Flag(flag) => flag.encode(out),
+        Arg::U32(n) => n.encode(sink),
+        Arg::S32(n) => n.encode(sink),
+        Arg::S64(n) => n.encode(sink),
+        Arg::F32(float) => float.encode(sink),
+        Arg::F64(float) => float.encode(sink),
+        Arg::V128(vector) => vector.to_le_bytes().encode(sink),
+        Arg::Mem(memory) => memory.encode(sink),
+        Arg::Lane(lane) => lane.encode(sink),
+        Arg::Lanes(lanes) => lanes.encode(sink),
+        Arg::Block(block) => block.encode(sink),
+        Arg::Heap(heap) => heap.encode(sink),
+        Arg::Order(ordering) => ordering.encode(sink),
+        Arg::Labels(labels) => labels.as_slice().encode(sink),
+        Arg::Catches(catches) => catches.as_slice().encode(sink),
+        Arg::Types(types) => types.as_slice().encode(sink),
+        Arg::Handles(handles) => handles.as_slice().encode(sink),
+        Arg::Flag(flag) => flag.encode(sink),
     }
 }
 
 /// Appends the minimal encodings of the arguments.
 pub(crate) fn append_arguments<A: Allocator, B: Allocator>(
     args: &[Arg<A>],
-    out: &mut Vec<u8, B>,
+    sink: &mut Vec<u8, B>,
 ) -> R<()>
-    ensures ok { OnOk result (out.new.items ≡ out.old.items ++ flat_map (λ a. argument_text (argument_view a)) args.now) }
-    ensures front { IsFrontOf out.old.items out.new.items }
-    ensures too_long { ArePlain (map argument_view args.now) → result ≢ Err TooLong }
+    ensures ok { OnOk result (sink.new.items ≡ sink.old.items ++ flat_map (λ a. argument_encoding (argument_view a)) args.now) }
+    ensures front { IsFrontOf sink.old.items sink.new.items }
+    ensures too_long { AreWellFormed (map argument_view args.now) → result ≢ Err TooLong }
 {
     for arg in args {
-        append_argument(arg, out)?;
+        append_argument(arg, sink)?;
     }
     Ok(())
 }

@@ -1,13 +1,13 @@
 // Decoding and minimal encoding of instruction lists and function bodies.
 ghost use Rattle.std.specs.Prelude.{◌≡◌, ◌≢◌, IfOk, IfErr, Err, OnOk, OnErr, map};
-ghost use Rattle.wasm_base.specs.Formats.{members, frame};
-ghost use Rattle.wasm_base.specs.Going.{FillsNothing};
-ghost use Rattle.wasm_base.specs.Numbers.{wide};
+ghost use Rattle.wasm_base.specs.Formats.{members, size_prefixed};
+ghost use Rattle.wasm_base.specs.Continuing.{RejectsWhole};
+ghost use Rattle.wasm_base.specs.Numbers.{padded};
 ghost use Rattle.wasm_insn.specs.Plain.{instruction};
 ghost use Rattle.wasm_insn.specs.Table.{table};
 ghost use Rattle.wasm_code.specs.Bodies.{Body as BodyModel, body};
 ghost use Rattle.wasm_base.specs.declared.refused.Refused.TheVariants.{TooLong};
-ghost use Rattle.wasm_reader_base.specs.Shortest.{AppendsShortest, IsFrontOf, HasEncoding};
+ghost use Rattle.wasm_reader_base.specs.Minimal.{AppendsMinimal, IsFrontOf, HasEncoding};
 ghost use Rattle.wasm_reader_base.specs.declared.fault.ReadFault.TheVariants.{Memory};
 ghost use Rattle.wasm_reader_insn.specs.Arguments.{plain_view, body_view};
 
@@ -15,7 +15,7 @@ use crate::instruction::{Plain, append_instruction};
 use crate::walk::Instructions;
 use std::alloc::{Allocator, Global};
 use wasm_base::{R, ValType};
-use wasm_reader_base::{ReadFault, Readable, Shorten, Spelled, frame_since};
+use wasm_reader_base::{ReadFault, Readable, Shorten, Layout, prefix_size_since};
 
 /// The capacity of a new list allows for one instruction per this many bytes. The list grows if
 /// they are shorter.
@@ -30,8 +30,8 @@ pub fn read_code<'a, A: Allocator + Copy>(
     bytes: &'a [u8],
     alloc: A,
 ) -> Result<Vec<Plain<A>, A>, ReadFault>
-    ensures found { IfOk result (λ x. members (instruction table) wide bytes.now (map plain_view x.items)) }
-    ensures none { IfErr result (λ e. e ≢ Memory → FillsNothing (members (instruction table)) bytes.now) }
+    ensures found { IfOk result (λ x. members (instruction table) padded bytes.now (map plain_view x.items)) }
+    ensures none { IfErr result (λ e. e ≢ Memory → RejectsWhole (members (instruction table)) bytes.now) }
 {
     let mut items = Vec::with_capacity(alloc, bytes.len() / BYTES_OF_ONE)?;
     let mut rest = bytes;
@@ -46,17 +46,17 @@ pub fn read_code<'a, A: Allocator + Copy>(
 }
 
 /// Appends the minimal encodings of the instructions.
-#[tactic(auto, using(wasm_reader_base::proofs::ShortTexts::members_start))]
+#[tactic(auto, using(wasm_reader_base::proofs::MinimalEncodings::members_start))]
 pub(crate) fn append_code<A: Allocator, B: Allocator>(
     code: &[Plain<A>],
-    out: &mut Vec<u8, B>,
+    sink: &mut Vec<u8, B>,
 ) -> R<()>
-    ensures ok { OnOk result (AppendsShortest (members (instruction table)) (map plain_view code.now) out.old.items out.new.items) }
-    ensures front { IsFrontOf out.old.items out.new.items }
+    ensures ok { OnOk result (AppendsMinimal (members (instruction table)) (map plain_view code.now) sink.old.items sink.new.items) }
+    ensures front { IsFrontOf sink.old.items sink.new.items }
     ensures too_long { HasEncoding (members (instruction table)) (map plain_view code.now) → result ≢ Err TooLong }
 {
     for instruction in code {
-        instruction.write_minimal(out)?;
+        instruction.write_minimal(sink)?;
     }
     Ok(())
 }
@@ -74,10 +74,10 @@ pub struct Body<A: Allocator = Global> {
 /// # Errors
 ///
 /// Any error but `Memory` means that the bytes as a whole encode no body.
-#[tactic(auto, using(crate::proofs::ReadLists::body_steps))]
+#[tactic(auto, using(crate::proofs::DecodeLists::body_steps))]
 pub fn read_body<'a, A: Allocator + Copy>(bytes: &'a [u8], alloc: A) -> Result<Body<A>, ReadFault>
-    ensures found { IfOk result (λ x. body wide bytes.now (body_view x)) }
-    ensures none { IfErr result (λ e. e ≢ Memory → FillsNothing body bytes.now) }
+    ensures found { IfOk result (λ x. body padded bytes.now (body_view x)) }
+    ensures none { IfErr result (λ e. e ≢ Memory → RejectsWhole body bytes.now) }
 {
     let (runs, rest) = <Vec<(u32, ValType), A> as Readable<'a, A>>::read(bytes, alloc)?;
     let code = read_code(rest, alloc)?;
@@ -85,14 +85,14 @@ pub fn read_body<'a, A: Allocator + Copy>(bytes: &'a [u8], alloc: A) -> Result<B
 }
 
 /// A body with its size prefix, as in a code section.
-impl<A: Allocator> Spelled for Body<A> {
+impl<A: Allocator> Layout for Body<A> {
     ghost Value = { BodyModel };
 
-    ghost format = { frame body };
+    ghost format = { size_prefixed body };
 
     ghost view = { body_view };
 
-    #[tactic(auto, using(wasm_code::proofs::BodyLaws::frame_body_unique))]
+    #[tactic(auto, using(wasm_code::proofs::BodyLaws::size_prefixed_body_unambiguous))]
     fn laws() {}
 }
 
@@ -105,12 +105,12 @@ impl<'a, A: Allocator + Copy> Readable<'a, A> for Body<A> {
 }
 
 impl<A: Allocator> Shorten for Body<A> {
-    #[tactic(auto, using(crate::proofs::ShortLists::body_code_encoded))]
-    fn write_minimal<B: Allocator>(&self, out: &mut Vec<u8, B>) -> R<()> {
-        let start = out.len();
-        self.runs.write_minimal(out)?;
-        append_code(&self.code, out)?;
-        frame_since(out, start)
+    #[tactic(auto, using(crate::proofs::MinimalLists::body_code_encoded))]
+    fn write_minimal<B: Allocator>(&self, sink: &mut Vec<u8, B>) -> R<()> {
+        let start = sink.len();
+        self.runs.write_minimal(sink)?;
+        append_code(&self.code, sink)?;
+        prefix_size_since(sink, start)
     }
 }
 
@@ -119,19 +119,19 @@ impl<A: Allocator> Shorten for Body<A> {
 fn write_body<A: Allocator + Copy, B: Allocator>(
     bytes: &[u8],
     alloc: A,
-    out: &mut Vec<u8, B>,
+    sink: &mut Vec<u8, B>,
 ) -> Result<(), ReadFault>
-    ensures found { OnOk result ((x : BodyModel) × body wide bytes.now x × AppendsShortest (frame body) x out.old.items out.new.items) }
-    ensures none { IfErr result (λ e. e ≢ Memory → FillsNothing body bytes.now) }
-    ensures front { IsFrontOf out.old.items out.new.items }
+    ensures found { OnOk result ((x : BodyModel) × body padded bytes.now x × AppendsMinimal (size_prefixed body) x sink.old.items sink.new.items) }
+    ensures none { IfErr result (λ e. e ≢ Memory → RejectsWhole body bytes.now) }
+    ensures front { IsFrontOf sink.old.items sink.new.items }
 {
-    let start = out.len();
+    let start = sink.len();
     let (runs, mut instructions) = Instructions::of_body(bytes, alloc)?;
-    runs.write_minimal(out)?;
+    runs.write_minimal(sink)?;
     while let Some(step) = instructions.next()? {
-        append_instruction(step.op, instructions.args(), out)?;
+        append_instruction(step.op, instructions.args(), sink)?;
     }
-    frame_since(out, start)?;
+    prefix_size_since(sink, start)?;
     Ok(())
 }
 
@@ -150,16 +150,16 @@ fn write_body<A: Allocator + Copy, B: Allocator>(
 pub fn shorten_body<A: Allocator + Copy, B: Allocator>(
     bytes: &[u8],
     alloc: A,
-    out: &mut Vec<u8, B>,
+    sink: &mut Vec<u8, B>,
 ) -> Result<(), ReadFault>
-    ensures found { OnOk result ((x : BodyModel) × body wide bytes.now x × AppendsShortest (frame body) x out.old.items out.new.items) }
-    ensures none { IfErr result (λ e. e ≢ Memory → FillsNothing body bytes.now) }
-    ensures err { OnErr result (out.new.items ≡ out.old.items) }
+    ensures found { OnOk result ((x : BodyModel) × body padded bytes.now x × AppendsMinimal (size_prefixed body) x sink.old.items sink.new.items) }
+    ensures none { IfErr result (λ e. e ≢ Memory → RejectsWhole body bytes.now) }
+    ensures err { OnErr result (sink.new.items ≡ sink.old.items) }
 {
-    let start = out.len();
-    let written = write_body(bytes, alloc, out);
+    let start = sink.len();
+    let written = write_body(bytes, alloc, sink);
     if written.is_err() {
-        out.truncate(start);
+        sink.truncate(start);
     }
     written
 }

@@ -8,7 +8,7 @@ use crate::body::append_code;
 use crate::instruction::Plain;
 use std::alloc::{Allocator, Global};
 use wasm_base::R;
-use wasm_reader_base::{ReadFault, Readable, Shorten, Spelled};
+use wasm_reader_base::{ReadFault, Readable, Shorten, Layout};
 
 /// The opcode of `End`.
 pub(crate) const END: u8 = 0x0B;
@@ -17,14 +17,14 @@ pub(crate) const END: u8 = 0x0B;
 #[derive(Debug, Drop)]
 pub struct Expression<A: Allocator = Global>(pub Vec<Plain<A>, A>);
 
-impl<A: Allocator> Spelled for Expression<A> {
+impl<A: Allocator> Layout for Expression<A> {
     ghost Value = { List PlainInstruction };
 
     ghost format = { expression };
 
     ghost view = { λ e. map plain_view e.0.items };
 
-    #[tactic(auto, using(wasm_code::proofs::ExpressionLaws::expression_unique))]
+    #[tactic(auto, using(wasm_code::proofs::ExpressionLaws::expression_unambiguous))]
     fn laws() {}
 }
 
@@ -48,10 +48,10 @@ impl<'a, A: Allocator + Copy> Readable<'a, A> for Expression<A> {
 }
 
 impl<A: Allocator> Shorten for Expression<A> {
-    #[tactic(auto, using(crate::proofs::ShortLists::expression_appended, crate::proofs::ShortLists::code_encoded))]
-    fn write_minimal<B: Allocator>(&self, out: &mut Vec<u8, B>) -> R<()> {
-        append_code(&self.0, out)?;
-        out.push(END)?;
+    #[tactic(auto, using(crate::proofs::MinimalLists::expression_appended, crate::proofs::MinimalLists::code_encoded))]
+    fn write_minimal<B: Allocator>(&self, sink: &mut Vec<u8, B>) -> R<()> {
+        append_code(&self.0, sink)?;
+        sink.push(END)?;
         Ok(())
     }
 }

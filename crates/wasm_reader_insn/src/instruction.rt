@@ -1,13 +1,13 @@
 // Decoding and minimal encoding of one instruction: an opcode, and an argument for each immediate
 // of its shape.
 ghost use Rattle.std.specs.Prelude.{◌≡◌, ◌≢◌, IfOk, IfErr, Err, OnOk, map};
-ghost use Rattle.wasm_base.specs.Numbers.{wide};
-ghost use Rattle.wasm_base.specs.Reading.{Reads, ReadsNothing};
+ghost use Rattle.wasm_base.specs.Numbers.{padded};
+ghost use Rattle.wasm_base.specs.Decoding.{Decodes, Rejects};
 ghost use Rattle.wasm_insn.specs.Plain.{Plain as PlainInstruction, opcode, instruction};
 ghost use Rattle.wasm_insn.specs.Table.{table};
-ghost use Rattle.wasm_insn.proofs.PlainLaws.{opcode_unique};
+ghost use Rattle.wasm_insn.proofs.PlainLaws.{opcode_unambiguous};
 ghost use Rattle.wasm_base.specs.declared.refused.Refused.TheVariants.{TooLong};
-ghost use Rattle.wasm_reader_base.specs.Shortest.{AppendsShortest, IsFrontOf, HasEncoding};
+ghost use Rattle.wasm_reader_base.specs.Minimal.{AppendsMinimal, IsFrontOf, HasEncoding};
 ghost use Rattle.wasm_reader_base.specs.declared.fault.ReadFault.TheVariants.{Memory};
 ghost use Rattle.wasm_reader_insn.specs.Arguments.{argument_view, plain_view};
 
@@ -15,7 +15,7 @@ use crate::arguments::{Arg, append_arguments, read_arguments, read_arguments_int
 use std::alloc::{Allocator, Global};
 use wasm_base::{Encode, R};
 use wasm_insn::Op;
-use wasm_reader_base::{ReadFault, Readable, Shorten, Spelled};
+use wasm_reader_base::{ReadFault, Readable, Shorten, Layout};
 
 /// An instruction in normal form: its opcode, and an argument for each immediate of the opcode's
 /// shape.
@@ -26,14 +26,14 @@ pub struct Plain<A: Allocator = Global> {
 }
 
 /// Decodes the opcode at the front, and returns it with the remaining bytes.
-#[tactic(auto, using(crate::proofs::ReadInstructions::opcode_steps))]
+#[tactic(auto, using(crate::proofs::DecodeInstructions::opcode_steps))]
 #[inline]
 pub(crate) fn read_op<'a, A: Allocator + Copy>(
     bytes: &'a [u8],
     alloc: A,
 ) -> Result<(Op, &'a [u8]), ReadFault>
-    ensures found { IfOk result (λ x. Reads opcode wide bytes.now x.0 x.1.now) }
-    ensures none { IfErr result (λ e. e ≢ Memory → ReadsNothing opcode wide bytes.now) }
+    ensures found { IfOk result (λ x. Decodes opcode padded bytes.now x.0 x.1.now) }
+    ensures none { IfErr result (λ e. e ≢ Memory → Rejects opcode padded bytes.now) }
 {
     let (byte, rest) = <u8 as Readable<'a, A>>::read(bytes, alloc)?;
     if byte < 0xFB {
@@ -46,19 +46,19 @@ pub(crate) fn read_op<'a, A: Allocator + Copy>(
     Ok((Op::Prefixed(byte, number), rest))
 }
 
-impl<A: Allocator> Spelled for Plain<A> {
+impl<A: Allocator> Layout for Plain<A> {
     ghost Value = { PlainInstruction };
 
     ghost format = { instruction table };
 
     ghost view = { plain_view };
 
-    #[tactic(auto, using(wasm_insn::proofs::InstructionLaws::alone))]
+    #[tactic(auto, using(wasm_insn::proofs::InstructionLaws::unique))]
     fn laws() {}
 }
 
 impl<'a, A: Allocator + Copy> Readable<'a, A> for Plain<A> {
-    #[tactic(auto, using(crate::proofs::ReadInstructions::instruction_steps))]
+    #[tactic(auto, using(crate::proofs::DecodeInstructions::instruction_steps))]
     fn read(bytes: &'a [u8], alloc: A) -> Result<(Plain<A>, &'a [u8]), ReadFault> {
         let (op, rest) = read_op(bytes, alloc)?;
         let Some(shape) = op.shape() else {
@@ -71,14 +71,14 @@ impl<'a, A: Allocator + Copy> Readable<'a, A> for Plain<A> {
 
 /// Decodes the instruction at the front: returns its opcode and the remaining bytes, and replaces
 /// the content of `args` by its arguments.
-#[tactic(auto, using(crate::proofs::ReadInstructions::instruction_steps))]
+#[tactic(auto, using(crate::proofs::DecodeInstructions::instruction_steps))]
 pub(crate) fn read_instruction_into<'a, A: Allocator + Copy>(
     bytes: &'a [u8],
     alloc: A,
     args: &mut Vec<Arg<A>, A>,
 ) -> Result<(Op, &'a [u8]), ReadFault>
-    ensures found { IfOk result (λ x. Reads (instruction table) wide bytes.now (record { op = x.0; arguments = map argument_view args.new.items }) x.1.now) }
-    ensures none { IfErr result (λ e. e ≢ Memory → ReadsNothing (instruction table) wide bytes.now) }
+    ensures found { IfOk result (λ x. Decodes (instruction table) padded bytes.now (record { op = x.0; arguments = map argument_view args.new.items }) x.1.now) }
+    ensures none { IfErr result (λ e. e ≢ Memory → Rejects (instruction table) padded bytes.now) }
 {
     let (op, rest) = read_op(bytes, alloc)?;
     let Some(shape) = op.shape() else {
@@ -92,18 +92,18 @@ pub(crate) fn read_instruction_into<'a, A: Allocator + Copy>(
 pub(crate) fn append_instruction<A: Allocator, B: Allocator>(
     op: Op,
     args: &[Arg<A>],
-    out: &mut Vec<u8, B>,
+    sink: &mut Vec<u8, B>,
 ) -> R<()>
-    ensures ok { OnOk result (AppendsShortest (instruction table) (record { op = op; arguments = map argument_view args.now }) out.old.items out.new.items) }
-    ensures front { IsFrontOf out.old.items out.new.items }
+    ensures ok { OnOk result (AppendsMinimal (instruction table) (record { op = op; arguments = map argument_view args.now }) sink.old.items sink.new.items) }
+    ensures front { IsFrontOf sink.old.items sink.new.items }
     ensures too_long { HasEncoding (instruction table) (record { op = op; arguments = map argument_view args.now }) → result ≢ Err TooLong }
 {
-    op.encode(out)?;
-    append_arguments(args, out)
+    op.encode(sink)?;
+    append_arguments(args, sink)
 }
 
 impl<A: Allocator> Shorten for Plain<A> {
-    fn write_minimal<B: Allocator>(&self, out: &mut Vec<u8, B>) -> R<()> {
-        append_instruction(self.op, &self.args, out)
+    fn write_minimal<B: Allocator>(&self, sink: &mut Vec<u8, B>) -> R<()> {
+        append_instruction(self.op, &self.args, sink)
     }
 }

@@ -1,11 +1,11 @@
 //! A law about the offsets of instructions, for all byte sequences: the function does nothing, and
 //! its clause is the law.
-ghost use Rattle.wasm_reader_insn.specs.Laws.{HasPlaces};
+ghost use Rattle.wasm_reader_insn.specs.Laws.{OffsetLaws};
 
 /// The visitor of a body reports the offsets that `Function::byte_len` of `wasm_code` returned.
 /// After as many instructions as a raw body has, a visitor of a longer body that begins with it is
 /// at that raw body's length. It has then visited exactly that body.
-#[tactic(auto, using(crate::proofs::PlaceLaws::places))]
-pub fn places()
-    ensures { HasPlaces }
+#[tactic(auto, using(crate::proofs::OffsetSteps::offsets))]
+pub fn offsets()
+    ensures { OffsetLaws }
 {}

@@ -3,7 +3,7 @@
 //!
 //! [`Plain`] is an instruction, [`Expression`] a constant expression, [`Body`] a function body.
 //! [`Instructions`] visits the instructions of a body or an expression and keeps one at a time;
-//! [`laws`] states which offsets it reports. Through `Passed` of `wasm_reader_base`, bodies and
+//! [`laws`] states which offsets it reports. Through `Skip` of `wasm_reader_base`, bodies and
 //! expressions are skipped, and nothing is kept.
 #![tactic(auto)]
 
@@ -12,7 +12,7 @@ mod body;
 mod expression;
 mod instruction;
 pub mod laws;
-mod passed;
+mod skip;
 mod walk;
 
 pub use arguments::Arg;

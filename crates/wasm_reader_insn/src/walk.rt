@@ -1,9 +1,9 @@
 // A visitor of instructions, one at a time.
 ghost use Rattle.std.specs.Prelude.{◌≡◌, ◌≢◌, ◌≤◌, ◌<◌, ◌+◌, [], ◌∷◌, IfOk, IfErr, IfSome, None, drop, length, map};
 ghost use Rattle.wasm_base.specs.Formats.{u32, pair, such, vec};
-ghost use Rattle.wasm_base.specs.Going.{FillsNothing};
-ghost use Rattle.wasm_base.specs.Numbers.{wide};
-ghost use Rattle.wasm_base.specs.Reading.{Reads, ReadsNothing};
+ghost use Rattle.wasm_base.specs.Continuing.{RejectsWhole};
+ghost use Rattle.wasm_base.specs.Numbers.{padded};
+ghost use Rattle.wasm_base.specs.Decoding.{Decodes, Rejects};
 ghost use Rattle.wasm_base.specs.Types.{val_type};
 ghost use Rattle.wasm_insn.specs.Plain.{instruction};
 ghost use Rattle.wasm_insn.specs.Table.{table};
@@ -40,33 +40,33 @@ use wasm_reader_base::{ReadFault, Readable};
 #[derive(Debug, Drop)]
 pub struct Instructions<'a, A: Allocator = Global> {
     bytes: &'a [u8],
-    place: usize,
+    offset: usize,
     args: Vec<Arg<A>, A>,
 }
 
 impl<'a, A: Allocator> Model for Instructions<'a, A> {
     ghost Value = { Walking };
 
-    ghost view = { λ w. record { bytes = w.bytes.now; place = w.place; arguments = map argument_view w.args.items } };
+    ghost view = { λ w. record { bytes = w.bytes.now; offset = w.offset; arguments = map argument_view w.args.items } };
 
-    ghost invariant = { λ w. w.place ≤ length w.bytes.now };
+    ghost invariant = { λ w. w.offset ≤ length w.bytes.now };
 }
 
 /// A visited instruction: its offset in bytes, and its opcode.
 #[derive(Clone, Copy, PartialEq, Eq, Debug)]
 pub struct Step {
-    pub place: usize,
+    pub offset: usize,
     pub op: Op,
 }
 
 impl<'a, A: Allocator + Copy> Instructions<'a, A> {
     /// Returns a visitor that begins at the first byte, and allocates nothing.
     pub fn new(bytes: &'a [u8], alloc: A) -> Self
-        ensures { result ≡ record { bytes = bytes.now; place = 0; arguments = [] } }
+        ensures { result ≡ record { bytes = bytes.now; offset = 0; arguments = [] } }
     {
         Instructions {
             bytes,
-            place: 0,
+            offset: 0,
             args: Vec::new(alloc),
         }
     }
@@ -76,16 +76,16 @@ impl<'a, A: Allocator + Copy> Instructions<'a, A> {
     /// before the runs.
     #[tactic(auto, using(crate::proofs::WalkLaws::body_steps))]
     pub fn of_body(bytes: &'a [u8], alloc: A) -> Result<(Vec<(u32, ValType), A>, Self), ReadFault>
-        ensures found { IfOk result (λ x. Reads (vec (pair u32 val_type)) wide bytes.now x.0.items (ahead x.1)) }
+        ensures found { IfOk result (λ x. Decodes (vec (pair u32 val_type)) padded bytes.now x.0.items (ahead x.1)) }
         ensures same { IfOk result (λ x. x.1.bytes ≡ bytes.now) }
-        ensures within { IfOk result (λ x. x.1.place ≤ length bytes.now) }
+        ensures within { IfOk result (λ x. x.1.offset ≤ length bytes.now) }
         ensures before { IfOk result (λ x. x.1.arguments ≡ []) }
-        ensures none { IfErr result (λ e. e ≢ Memory → FillsNothing body bytes.now) }
+        ensures none { IfErr result (λ e. e ≢ Memory → RejectsWhole body bytes.now) }
     {
         let (runs, rest) = <Vec<(u32, ValType), A> as Readable<'a, A>>::read(bytes, alloc)?;
         let instructions = Instructions {
             bytes,
-            place: bytes.len() - rest.len(),
+            offset: bytes.len() - rest.len(),
             args: Vec::new(alloc),
         };
         Ok((runs, instructions))
@@ -93,34 +93,34 @@ impl<'a, A: Allocator + Copy> Instructions<'a, A> {
 
     /// Visits the instruction at the offset of the visitor, and advances the offset past it.
     fn step(&mut self) -> Result<Step, ReadFault>
-        ensures place { IfOk result (λ step. step.place ≡ self.old.place) }
-        ensures found { IfOk result (λ step. Reads (instruction table) wide (ahead self.old) (record { op = step.op; arguments = self.new.arguments }) (ahead self.new)) }
-        ensures further { IfOk result (λ _. (self.old.place < self.new.place) × (self.new.place ≤ length self.new.bytes)) }
+        ensures offset { IfOk result (λ step. step.offset ≡ self.old.offset) }
+        ensures found { IfOk result (λ step. Decodes (instruction table) padded (ahead self.old) (record { op = step.op; arguments = self.new.arguments }) (ahead self.new)) }
+        ensures further { IfOk result (λ _. (self.old.offset < self.new.offset) × (self.new.offset ≤ length self.new.bytes)) }
         ensures same { self.new.bytes ≡ self.old.bytes }
-        ensures stays { IfErr result (λ _. self.new.place ≡ self.old.place) }
-        ensures none { IfErr result (λ e. e ≢ Memory → ReadsNothing (instruction table) wide (ahead self.old)) }
+        ensures stays { IfErr result (λ _. self.new.offset ≡ self.old.offset) }
+        ensures none { IfErr result (λ e. e ≢ Memory → Rejects (instruction table) padded (ahead self.old)) }
     {
-        let place = self.place;
+        let offset = self.offset;
         let alloc = *self.args.allocator();
-        let (op, rest) = read_instruction_into(&self.bytes[place..], alloc, &mut self.args)?;
-        self.place = self.bytes.len() - rest.len();
-        Ok(Step { place, op })
+        let (op, rest) = read_instruction_into(&self.bytes[offset..], alloc, &mut self.args)?;
+        self.offset = self.bytes.len() - rest.len();
+        Ok(Step { offset, op })
     }
 
     /// Visits the next instruction, or returns `None` at the end of the bytes. After an error the
     /// offset is unchanged.
     pub fn next(&mut self) -> Result<Option<Step>, ReadFault>
-        ensures place { IfOk result (λ next. IfSome next (λ step. step.place ≡ self.old.place)) }
-        ensures found { IfOk result (λ next. IfSome next (λ step. Reads (instruction table) wide (ahead self.old) (record { op = step.op; arguments = self.new.arguments }) (ahead self.new))) }
-        ensures further { IfOk result (λ next. IfSome next (λ _. (self.old.place < self.new.place) × (self.new.place ≤ length self.new.bytes))) }
+        ensures offset { IfOk result (λ next. IfSome next (λ step. step.offset ≡ self.old.offset)) }
+        ensures found { IfOk result (λ next. IfSome next (λ step. Decodes (instruction table) padded (ahead self.old) (record { op = step.op; arguments = self.new.arguments }) (ahead self.new))) }
+        ensures further { IfOk result (λ next. IfSome next (λ _. (self.old.offset < self.new.offset) × (self.new.offset ≤ length self.new.bytes))) }
         ensures end { IfOk result (λ next. next ≡ None → ahead self.old ≡ []) }
         ensures ended { IfOk result (λ next. next ≡ None → self.new ≡ self.old) }
         ensures same { self.new.bytes ≡ self.old.bytes }
-        ensures stays { IfErr result (λ _. self.new.place ≡ self.old.place) }
-        ensures none { IfErr result (λ e. e ≢ Memory → ReadsNothing (instruction table) wide (ahead self.old)) }
+        ensures stays { IfErr result (λ _. self.new.offset ≡ self.old.offset) }
+        ensures none { IfErr result (λ e. e ≢ Memory → Rejects (instruction table) padded (ahead self.old)) }
         ensures left { IfErr result (λ _. ahead self.old ≢ []) }
     {
-        if self.place == self.bytes.len() {
+        if self.offset == self.bytes.len() {
             return Ok(None);
         }
         let step = self.step()?;
@@ -130,16 +130,16 @@ impl<'a, A: Allocator + Copy> Instructions<'a, A> {
     /// Visits the next instruction of an expression, or returns `None` at its final `End`, which
     /// the visitor does not pass. After an error the offset is unchanged.
     pub fn next_before_end(&mut self) -> Result<Option<Step>, ReadFault>
-        ensures place { IfOk result (λ next. IfSome next (λ step. step.place ≡ self.old.place)) }
-        ensures found { IfOk result (λ next. IfSome next (λ step. Reads (such IsNoEnd (instruction table)) wide (ahead self.old) (record { op = step.op; arguments = self.new.arguments }) (ahead self.new))) }
-        ensures further { IfOk result (λ next. IfSome next (λ _. (self.old.place < self.new.place) × (self.new.place ≤ length self.new.bytes))) }
-        ensures end { IfOk result (λ next. next ≡ None → ahead self.old ≡ 0x0B ∷ drop (self.old.place + 1) self.old.bytes) }
+        ensures offset { IfOk result (λ next. IfSome next (λ step. step.offset ≡ self.old.offset)) }
+        ensures found { IfOk result (λ next. IfSome next (λ step. Decodes (such IsNoEnd (instruction table)) padded (ahead self.old) (record { op = step.op; arguments = self.new.arguments }) (ahead self.new))) }
+        ensures further { IfOk result (λ next. IfSome next (λ _. (self.old.offset < self.new.offset) × (self.new.offset ≤ length self.new.bytes))) }
+        ensures end { IfOk result (λ next. next ≡ None → ahead self.old ≡ 0x0B ∷ drop (self.old.offset + 1) self.old.bytes) }
         ensures ended { IfOk result (λ next. next ≡ None → self.new ≡ self.old) }
         ensures same { self.new.bytes ≡ self.old.bytes }
-        ensures stays { IfErr result (λ _. self.new.place ≡ self.old.place) }
-        ensures none { IfErr result (λ e. e ≢ Memory → ReadsNothing expression wide (ahead self.old)) }
+        ensures stays { IfErr result (λ _. self.new.offset ≡ self.old.offset) }
+        ensures none { IfErr result (λ e. e ≢ Memory → Rejects expression padded (ahead self.old)) }
     {
-        let [first, ..] = &self.bytes[self.place..] else {
+        let [first, ..] = &self.bytes[self.offset..] else {
             return Err(ReadFault::Ended);
         };
         if *first == END {
@@ -158,16 +158,16 @@ impl<'a, A: Allocator + Copy> Instructions<'a, A> {
     }
 
     /// Returns the offset of the next instruction, in bytes.
-    pub fn place(&self) -> usize
-        ensures { result ≡ self.now.place }
+    pub fn offset(&self) -> usize
+        ensures { result ≡ self.now.offset }
     {
-        self.place
+        self.offset
     }
 
     /// Returns the bytes from the next instruction on.
     pub fn rest(&self) -> &'a [u8]
         ensures { result.now ≡ ahead self.now }
     {
-        &self.bytes[self.place..]
+        &self.bytes[self.offset..]
     }
 }

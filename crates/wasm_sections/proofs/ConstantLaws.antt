@@ -1,6 +1,6 @@
 -- This file proves that a minimally encoded constant expression is a possibly padded one.
-use Rattle.wasm_code.proofs.ExpressionLaws.{stores_wider}
-use Rattle.wasm_sections.specs.Constants.{Stored, IsStored, IsStoredWide}
+use Rattle.wasm_code.proofs.ExpressionLaws.{stores_included}
+use Rattle.wasm_sections.specs.Constants.{Stored, IsStored, IsStoredPadded}
 
-pub stored_wider : (e : Stored) → IsStored e → IsStoredWide e
-stored_wider e plain = stores_wider e.bytes e.instructions plain
+pub stored_included : (e : Stored) → IsStored e → IsStoredPadded e
+stored_included e plain = stores_included e.bytes e.instructions plain

@@ -1,9 +1,9 @@
 -- This file proves that the byte of the flags determines each flag.
 use Rattle.std.proofs.Common.{◌≡◌, ℕ, ◌+◌, ◌*◌, ◌/◌, ◌%◌, ◌^◌, ◌<◌, Bool, true, false, refl, arith}
-use Rattle.wasm_base.specs.Reading.{UniqueReading}
-use Rattle.wasm_base.proofs.FormatLaws.{coded_unique}
+use Rattle.wasm_base.specs.Decoding.{Unambiguous}
+use Rattle.wasm_base.proofs.FormatLaws.{coded_unambiguous}
 use Rattle.wasm_immediates.specs.Immediates.{where_set}
-use Rattle.wasm_immediates.specs.PlainImmediates.{bit}
+use Rattle.wasm_immediates.specs.ImmediateFormats.{bit}
 use Rattle.wasm_sections.specs.Flags.{Flags, flags, flags_code}
 
 -- A weight as a multiple of a bit.
@@ -15,9 +15,9 @@ pub bit_low : (set : Bool) → where_set set 1 < 2
 bit_low true = omega arith
 bit_low false = omega arith
 
-pub bit_of : (place n : ℕ) (set : Bool) → n / 2 ^ place % 2 ≡ where_set set 1 → bit place n ≡ set
-bit_of place n true e = rw e refl
-bit_of place n false e = rw e refl
+pub bit_of : (segment_mode n : ℕ) (set : Bool) → n / 2 ^ segment_mode % 2 ≡ where_set set 1 → bit segment_mode n ≡ set
+bit_of segment_mode n true e = rw e refl
+bit_of segment_mode n false e = rw e refl
 
 decode : ℕ → Flags
 decode n = record { has_maximum = bit 0 n; shared = bit 1 n; is_64 = bit 2 n; has_page_size = bit 3 n }
@@ -38,5 +38,5 @@ back f =
     let t : bit 3 n ≡ f.has_page_size = bit_of 3 n f.has_page_size (omega (arith, sum, a, b, c, d)) in
     λ i. record { has_maximum = p i; shared = q i; is_64 = r i; has_page_size = t i }
 
-pub flags_unique : UniqueReading flags
-flags_unique = coded_unique flags_code decode back
+pub flags_unambiguous : Unambiguous flags
+flags_unambiguous = coded_unambiguous flags_code decode back

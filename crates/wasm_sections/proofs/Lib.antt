@@ -1,7 +1,7 @@
 pub mod ViewedLists
 pub mod Prefixes
 pub mod FlagLaws
-pub mod ReadLimits
+pub mod DecodeLimits
 pub mod NumberLaws
 pub mod FunctionLaws
 pub mod MemoryLaws
@@ -14,4 +14,4 @@ pub mod ImportLaws
 pub mod DataLaws
 pub mod ElementLaws
 pub mod Calls
-pub mod NothingLaws
+pub mod RejectionLaws

@@ -2,55 +2,55 @@
 use Rattle.std.proofs.Common.{◌≡◌, ℕ, ◌^◌, ◌<◌, [], ◌∷◌, ◌++◌, Option, refl, ap, ◌∙◌, List, subst}
 use Rattle.wasm_base.specs.Entries.{ItemLaws}
 use Rattle.wasm_base.specs.Formats.{u32, u64, optional, is_given, vec, mapped, pair}
-use Rattle.wasm_base.specs.Numbers.{shortest, unsigned_text}
-use Rattle.wasm_base.specs.Reading.{UniqueReading}
-use Rattle.wasm_base.proofs.BaseLaws.{u64_unique}
-use Rattle.wasm_base.proofs.FormatLaws.{TellsTag, tagged_unique, mapped_unique, pair_unique, optional_unique, AllValues}
-use Rattle.wasm_base.proofs.NumberLaws.{u32_unique}
-use Rattle.wasm_base.proofs.TextLaws.{u32_spelled, u64_spelled}
-use Rattle.wasm_base.specs.Texts.{optional_text}
+use Rattle.wasm_base.specs.Numbers.{minimal, unsigned_encoding}
+use Rattle.wasm_base.specs.Decoding.{Unambiguous}
+use Rattle.wasm_base.proofs.BaseLaws.{u64_unambiguous}
+use Rattle.wasm_base.proofs.FormatLaws.{DeterminesTag, tagged_unambiguous, mapped_unambiguous, pair_unambiguous, optional_unambiguous, AllValues}
+use Rattle.wasm_base.proofs.NumberLaws.{u32_unambiguous}
+use Rattle.wasm_base.proofs.EncodingLaws.{u32_encodes, u64_encodes}
+use Rattle.wasm_base.specs.Encodings.{optional_encoding}
 use Rattle.wasm_sections.specs.Flags.{flags_code, Flags}
-use Rattle.wasm_sections.specs.Memories.{memory_flags, memory_text, IsMemory, memory_of, after_memory_flags, memory_type, memory_items}
+use Rattle.wasm_sections.specs.Memories.{memory_flags, memory_encoding, IsMemory, memory_of, after_memory_flags, memory_type, memory_items}
 use Rattle.wasm_sections.specs.declared.memory.MemoryType.{MemoryType}
-use Rattle.wasm_sections.proofs.FlagLaws.{flags_unique}
-use Rattle.wasm_sections.proofs.ReadLimits.{optional_is, u64_is, u32_is}
-use Rattle.wasm_base.proofs.PartLaws.{pair_spelled, optional_spelled, optional_tells}
+use Rattle.wasm_sections.proofs.FlagLaws.{flags_unambiguous}
+use Rattle.wasm_sections.proofs.DecodeLimits.{optional_is, u64_is, u32_is}
+use Rattle.wasm_base.proofs.PartLaws.{pair_encodes, optional_encodes, optional_determines}
 use Rattle.wasm_base.proofs.SectionLaws.{SectionLaws, counted_laws}
 
 abbrev parts_of : MemoryType → ℕ × (Option ℕ × Option ℕ)
 parts_of m = (m.minimum, (m.maximum, m.page_size_log2))
 
-flags_tell : TellsTag after_memory_flags memory_flags
-flags_tell mode f s m h =
-    let maximum = optional_tells u64 f.has_maximum mode h.2.second.front h.0.1.0 h.2.second.first in
-    let page = optional_tells u32 f.has_page_size mode h.2.second.back h.0.1.1 h.2.second.second in
-    let told : f ≡ memory_flags (memory_of f h.0) = λ i. record { has_maximum = maximum i; shared = f.shared; is_64 = f.is_64; has_page_size = page i } in
-    told ∙ ap memory_flags h.1
+flags_determine : DeterminesTag after_memory_flags memory_flags
+flags_determine mode f s m h =
+    let maximum = optional_determines u64 f.has_maximum mode h.2.second.front h.0.1.0 h.2.second.first in
+    let page = optional_determines u32 f.has_page_size mode h.2.second.back h.0.1.1 h.2.second.second in
+    let explicit : f ≡ memory_flags (memory_of f h.0) = λ i. record { has_maximum = maximum i; shared = f.shared; is_64 = f.is_64; has_page_size = page i } in
+    explicit ∙ ap memory_flags h.1
 
-pub memory_unique : UniqueReading memory_type
-memory_unique =
-    tagged_unique memory_flags flags_tell flags_unique λ f.
-    mapped_unique (memory_of f) (λ x y e. ap parts_of e)
-    (pair_unique u64_unique (pair_unique (optional_unique f.has_maximum u64_unique) (optional_unique f.has_page_size u32_unique)))
+pub memory_unambiguous : Unambiguous memory_type
+memory_unambiguous =
+    tagged_unambiguous memory_flags flags_determine flags_unambiguous λ f.
+    mapped_unambiguous (memory_of f) (λ x y e. ap parts_of e)
+    (pair_unambiguous u64_unambiguous (pair_unambiguous (optional_unambiguous f.has_maximum u64_unambiguous) (optional_unambiguous f.has_page_size u32_unambiguous)))
 
-pub memory_spelled : (m : MemoryType) → IsMemory m → memory_type shortest (memory_text m) m
-memory_spelled m plain =
-    let maximum = optional_spelled u64 (λ n. n < 2 ^ 64) unsigned_text u64_spelled m.maximum plain.maximum in
-    let page = optional_spelled u32 (λ n. n < 2 ^ 32) unsigned_text u32_spelled m.page_size_log2 plain.page_size in
-    let last = pair_spelled (optional (is_given m.maximum) u64) (optional (is_given m.page_size_log2) u32) (optional_text unsigned_text m.maximum) (optional_text unsigned_text m.page_size_log2) m.maximum m.page_size_log2 maximum page in (
+pub memory_encodes : (m : MemoryType) → IsMemory m → memory_type minimal (memory_encoding m) m
+memory_encodes m plain =
+    let maximum = optional_encodes u64 (λ n. n < 2 ^ 64) unsigned_encoding u64_encodes m.maximum plain.maximum in
+    let page = optional_encodes u32 (λ n. n < 2 ^ 32) unsigned_encoding u32_encodes m.page_size_log2 plain.page_size in
+    let last = pair_encodes (optional (is_given m.maximum) u64) (optional (is_given m.page_size_log2) u32) (optional_encoding unsigned_encoding m.maximum) (optional_encoding unsigned_encoding m.page_size_log2) m.maximum m.page_size_log2 maximum page in (
       (memory_flags m, m),
       refl,
       record {
         front = flags_code (memory_flags m) ∷ [];
-        back = unsigned_text m.minimum ++ (optional_text unsigned_text m.maximum ++ optional_text unsigned_text m.page_size_log2);
+        back = unsigned_encoding m.minimum ++ (optional_encoding unsigned_encoding m.maximum ++ optional_encoding unsigned_encoding m.page_size_log2);
         joined = refl;
         first = refl;
-        second = (parts_of m, refl, record { front = unsigned_text m.minimum; back = optional_text unsigned_text m.maximum ++ optional_text unsigned_text m.page_size_log2; joined = refl; first = u64_spelled m.minimum plain.minimum; second = last });
+        second = (parts_of m, refl, record { front = unsigned_encoding m.minimum; back = optional_encoding unsigned_encoding m.maximum ++ optional_encoding unsigned_encoding m.page_size_log2; joined = refl; first = u64_encodes m.minimum plain.minimum; second = last });
       },
     )
 
 pub memory_laws : ItemLaws memory_items
-memory_laws = record { alone = memory_unique; spelled = λ m plain fits. memory_spelled m plain }
+memory_laws = record { unique = memory_unambiguous; encodes = λ m plain encodable. memory_encodes m plain }
 
 pub memories_section : SectionLaws memory_items (vec memory_type)
 memories_section = counted_laws memory_laws (λ given plain. plain) (λ given plain. plain)

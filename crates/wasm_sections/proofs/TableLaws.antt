@@ -4,67 +4,67 @@ use Rattle.std.proofs.Common.{◌≡◌, ℕ, ◌^◌, ◌<◌, List, [], ◌∷
 use Rattle.std.specs.Prelude.{IfSome}
 use Rattle.wasm_base.specs.Entries.{ItemLaws}
 use Rattle.wasm_base.specs.Formats.{u64, impossible, mapped, pair, optional, when, prefixed, is_given, Format, byte, vec}
-use Rattle.wasm_base.specs.Numbers.{Mode, shortest, unsigned_text, wide, IsOfBuilders}
-use Rattle.wasm_base.specs.Reading.{UniqueReading, BeginsWith, Reads, ReadsNothing}
-use Rattle.wasm_base.specs.Texts.{optional_text}
-use Rattle.wasm_base.specs.Types.{ref_type, ref_tags, ref_text}
-use Rattle.wasm_base.proofs.BaseLaws.{u64_unique}
-use Rattle.wasm_base.proofs.FormatLaws.{TellsTag, tagged_unique, mapped_unique, when_unique, impossible_unique, pair_unique, optional_unique, prefixed_unique, one_of_unique, begins_then, begins_mapped, begins_fixed, choice_begins, none_in_common, values_mapped, AllValues}
-use Rattle.wasm_base.proofs.TextLaws.{spelled_in, u64_spelled}
-use Rattle.wasm_base.proofs.TypeLaws.{ref_unique, ref-texts}
-use Rattle.wasm_code.specs.Expressions.{expression, expression_text}
-use Rattle.wasm_code.proofs.ExpressionLaws.{expression_unique, expression_spelled}
+use Rattle.wasm_base.specs.Numbers.{Mode, minimal, unsigned_encoding, padded, IsOfBuilders}
+use Rattle.wasm_base.specs.Decoding.{Unambiguous, BeginsWith, Decodes, Rejects}
+use Rattle.wasm_base.specs.Encodings.{optional_encoding}
+use Rattle.wasm_base.specs.Types.{ref_type, ref_tags, ref_encoding}
+use Rattle.wasm_base.proofs.BaseLaws.{u64_unambiguous}
+use Rattle.wasm_base.proofs.FormatLaws.{DeterminesTag, tagged_unambiguous, mapped_unambiguous, when_unambiguous, impossible_unambiguous, pair_unambiguous, optional_unambiguous, prefixed_unambiguous, one_of_unambiguous, begins_then, begins_mapped, begins_fixed, choice_begins, none_in_common, values_mapped, AllValues}
+use Rattle.wasm_base.proofs.EncodingLaws.{encodes_in, u64_encodes}
+use Rattle.wasm_base.proofs.TypeLaws.{ref_unambiguous, ref-encodings}
+use Rattle.wasm_code.specs.Expressions.{expression, expression_encoding}
+use Rattle.wasm_code.proofs.ExpressionLaws.{expression_unambiguous, expression_encodes}
 use Rattle.wasm_insn.specs.Plain.{Plain}
-use Rattle.wasm_sections.specs.Constants.{Stored, IsStoredIn, IsStored, IsStoredWide}
+use Rattle.wasm_sections.specs.Constants.{Stored, IsStoredIn, IsStored, IsStoredPadded}
 use Rattle.wasm_sections.specs.Flags.{Flags, flags_code}
-use Rattle.wasm_sections.specs.Tables.{table_flags, table_text, IsTable, Limits, limits_of, after_limits_flags, limits, table_of, table_type, before_init, table_init_text, init_of, without_init, with_init, table_item, table_items}
+use Rattle.wasm_sections.specs.Tables.{table_flags, table_encoding, IsTable, Limits, limits_of, after_limits_flags, limits, table_of, table_type, before_init, table_init_encoding, init_of, without_init, with_init, table_item, table_items}
 use Rattle.wasm_sections.specs.declared.table.TableType.{TableType}
-use Rattle.wasm_sections.proofs.FlagLaws.{flags_unique}
-use Rattle.wasm_base.proofs.PartLaws.{pair_in, pair_spelled, optional_spelled, optional_tells}
-use Rattle.wasm_base.proofs.ReadingSteps.{mapped_reads, mapped_nothing}
-use Rattle.wasm_base.proofs.Tags.{one_of_nothing, one_of_left, one_of_right, not_begun, no_bytes}
-use Rattle.wasm_sections.proofs.Prefixes.{prefixed_reads, prefixed_nothing, prefixed_other}
-use Rattle.wasm_base.proofs.SectionLaws.{SectionLaws, counted_laws_wide}
-use Rattle.wasm_sections.proofs.ConstantLaws.{stored_wider}
-use Rattle.wasm_sections.proofs.ReadLimits.{optional_is, u64_is}
-use Rattle.wasm_reader_base.proofs.ReadPlain.{ref_is, fitting_appended}
-use Rattle.wasm_reader_base.proofs.ShortTexts.{pair_appended, prefixed_appended, mapped_appended}
-use Rattle.wasm_reader_base.specs.Shortest.{AppendsShortest, HasEncoding}
-use Rattle.wasm_reader_base.proofs.Encodings.{right_encoded, prefixed_encoded, mapped_encoded}
+use Rattle.wasm_sections.proofs.FlagLaws.{flags_unambiguous}
+use Rattle.wasm_base.proofs.PartLaws.{pair_in, pair_encodes, optional_encodes, optional_determines}
+use Rattle.wasm_base.proofs.DecodingSteps.{mapped_decodes, mapped_rejects}
+use Rattle.wasm_base.proofs.Tags.{one_of_rejects, one_of_left, one_of_right, not_begun, no_bytes}
+use Rattle.wasm_sections.proofs.Prefixes.{prefixed_decodes, prefixed_rejects, prefixed_other}
+use Rattle.wasm_base.proofs.SectionLaws.{SectionLaws, counted_laws_padded}
+use Rattle.wasm_sections.proofs.ConstantLaws.{stored_included}
+use Rattle.wasm_sections.proofs.DecodeLimits.{optional_is, u64_is}
+use Rattle.wasm_reader_base.proofs.DecodePlain.{ref_is, fitting_appended}
+use Rattle.wasm_reader_base.proofs.MinimalEncodings.{pair_appended, prefixed_appended, mapped_appended}
+use Rattle.wasm_reader_base.specs.Minimal.{AppendsMinimal, HasEncoding}
+use Rattle.wasm_reader_base.proofs.DecodedValues.{right_encoded, prefixed_encoded, mapped_encoded}
 
 abbrev limits_flags : Limits → Flags
 limits_flags l = record { has_maximum = is_given l.maximum; shared = l.shared; is_64 = l.table64; has_page_size = false }
 
-flags_tell : TellsTag after_limits_flags limits_flags
-flags_tell mode f s l h = go f.has_page_size refl h
+flags_determine : DeterminesTag after_limits_flags limits_flags
+flags_determine mode f s l h = go f.has_page_size refl h
   where
     go : (page : Bool) → f.has_page_size ≡ page → when page impossible (mapped (limits_of f) (pair u64 (optional f.has_maximum u64))) mode s l → f ≡ limits_flags l
     go true e g = absurd g
     go false e g =
-        let maximum = optional_tells u64 f.has_maximum mode g.2.back g.0.1 g.2.second in
-        let told : f ≡ limits_flags (limits_of f g.0) = λ i. record { has_maximum = maximum i; shared = f.shared; is_64 = f.is_64; has_page_size = e i } in
-        told ∙ ap limits_flags g.1
+        let maximum = optional_determines u64 f.has_maximum mode g.2.back g.0.1 g.2.second in
+        let explicit : f ≡ limits_flags (limits_of f g.0) = λ i. record { has_maximum = maximum i; shared = f.shared; is_64 = f.is_64; has_page_size = e i } in
+        explicit ∙ ap limits_flags g.1
 
-pub limits_unique : UniqueReading limits
-limits_unique =
-    tagged_unique limits_flags flags_tell flags_unique λ f.
-    when_unique f.has_page_size impossible_unique
-    (mapped_unique (limits_of f) (λ x y e. ap (λ l. (l.minimum, l.maximum)) e) (pair_unique u64_unique (optional_unique f.has_maximum u64_unique)))
+pub limits_unambiguous : Unambiguous limits
+limits_unambiguous =
+    tagged_unambiguous limits_flags flags_determine flags_unambiguous λ f.
+    when_unambiguous f.has_page_size impossible_unambiguous
+    (mapped_unambiguous (limits_of f) (λ x y e. ap (λ l. (l.minimum, l.maximum)) e) (pair_unambiguous u64_unambiguous (optional_unambiguous f.has_maximum u64_unambiguous)))
 
 abbrev limits_in : TableType → Limits
 limits_in t = record { table64 = t.table64; shared = t.shared; minimum = t.minimum; maximum = t.maximum }
 
-pub table_unique : UniqueReading table_type
-table_unique = mapped_unique table_of (λ x y e. ap (λ t. (t.element_type, limits_in t)) e) (pair_unique ref_unique limits_unique)
+pub table_unambiguous : Unambiguous table_type
+table_unambiguous = mapped_unambiguous table_of (λ x y e. ap (λ t. (t.element_type, limits_in t)) e) (pair_unambiguous ref_unambiguous limits_unambiguous)
 
-pub table_spelled : (t : TableType) → IsTable t → table_type shortest (table_text t) t
-table_spelled t plain =
-    let maximum = optional_spelled u64 (λ n. n < 2 ^ 64) unsigned_text u64_spelled t.maximum plain.maximum in
-    let numbers = pair_spelled u64 (optional (is_given t.maximum) u64) (unsigned_text t.minimum) (optional_text unsigned_text t.maximum) t.minimum t.maximum (u64_spelled t.minimum plain.minimum) maximum in
-    let back = unsigned_text t.minimum ++ optional_text unsigned_text t.maximum in
-    let limited : limits shortest (flags_code (table_flags t) ∷ back) (limits_in t) =
+pub table_encodes : (t : TableType) → IsTable t → table_type minimal (table_encoding t) t
+table_encodes t plain =
+    let maximum = optional_encodes u64 (λ n. n < 2 ^ 64) unsigned_encoding u64_encodes t.maximum plain.maximum in
+    let numbers = pair_encodes u64 (optional (is_given t.maximum) u64) (unsigned_encoding t.minimum) (optional_encoding unsigned_encoding t.maximum) t.minimum t.maximum (u64_encodes t.minimum plain.minimum) maximum in
+    let back = unsigned_encoding t.minimum ++ optional_encoding unsigned_encoding t.maximum in
+    let limited : limits minimal (flags_code (table_flags t) ∷ back) (limits_in t) =
     ((table_flags t, limits_in t), refl, record { front = flags_code (table_flags t) ∷ []; back = back; joined = refl; first = refl; second = ((t.minimum, t.maximum), refl, numbers) }) in
-    ((t.element_type, limits_in t), refl, pair_spelled ref_type limits (ref_text t.element_type) (flags_code (table_flags t) ∷ back) t.element_type (limits_in t) (ref-texts.spelled t.element_type plain.element_type) limited)
+    ((t.element_type, limits_in t), refl, pair_encodes ref_type limits (ref_encoding t.element_type) (flags_code (table_flags t) ∷ back) t.element_type (limits_in t) (ref-encodings.encodes t.element_type plain.element_type) limited)
 
 -- ---- tables
 
@@ -87,33 +87,33 @@ abbrev instructions_in : Option (List Plain) → List Plain
 instructions_in None = []
 instructions_in (Some is) = is
 
-pub table_item_unique : UniqueReading table_item
-table_item_unique =
-    one_of_unique IsTypeByte IsInitByte (λ b p q. omega (arith, p, q)) type_item_begins init_begins
+pub table_item_unambiguous : Unambiguous table_item
+table_item_unambiguous =
+    one_of_unambiguous IsTypeByte IsInitByte (λ b p q. omega (arith, p, q)) type_item_begins init_begins
     (none_in_common (λ i. is_given i.init ≡ false) (λ i. is_given i.init ≡ true) (λ i p q. absurd (cc (p, q)))
     (values_mapped (λ i. is_given i.init ≡ false) without_init table_type (λ t. refl)) (values_mapped (λ i. is_given i.init ≡ true) with_init (prefixed before_init (pair table_type expression)) (λ p. refl)))
-    (mapped_unique without_init (λ x y e. ap (λ i. i.table_type) e) table_unique)
-    (mapped_unique with_init (λ x y e. ap (λ i. (i.table_type, instructions_in i.init)) e) (prefixed_unique before_init (pair_unique table_unique expression_unique)))
+    (mapped_unambiguous without_init (λ x y e. ap (λ i. i.table_type) e) table_unambiguous)
+    (mapped_unambiguous with_init (λ x y e. ap (λ i. (i.table_type, instructions_in i.init)) e) (prefixed_unambiguous before_init (pair_unambiguous table_unambiguous expression_unambiguous)))
   where
     type_item_begins : BeginsWith IsTypeByte (mapped without_init table_type)
     type_item_begins = begins_mapped IsTypeByte without_init type_begins
 
-pub init_spelled : (mode : Mode) → IsOfBuilders mode → (t : TableType) (init : Option Stored) → IsTable t → IfSome init (IsStoredIn mode) → table_item mode (table_init_text t init) (record { table_type = t; init = init_of init })
-init_spelled mode of t None plain stored = inl (t, refl, spelled_in {F = table_type} table_unique (table_spelled t plain) mode of)
-init_spelled mode of t (Some e) plain stored =
-    let typed = spelled_in {F = table_type} table_unique (table_spelled t plain) mode of in
-    let parts = pair_in mode table_type expression (table_text t) (expression_text e.bytes) t e.instructions typed (expression_spelled mode e.bytes e.instructions stored) in
-    inr ((t, e.instructions), refl, ((tt, (t, e.instructions)), refl, record { front = before_init; back = table_text t ++ expression_text e.bytes; joined = refl; first = (refl, refl); second = parts }))
+pub init_encodes : (mode : Mode) → IsOfBuilders mode → (t : TableType) (init : Option Stored) → IsTable t → IfSome init (IsStoredIn mode) → table_item mode (table_init_encoding t init) (record { table_type = t; init = init_of init })
+init_encodes mode of t None plain stored = inl (t, refl, encodes_in {F = table_type} table_unambiguous (table_encodes t plain) mode of)
+init_encodes mode of t (Some e) plain stored =
+    let typed = encodes_in {F = table_type} table_unambiguous (table_encodes t plain) mode of in
+    let parts = pair_in mode table_type expression (table_encoding t) (expression_encoding e.bytes) t e.instructions typed (expression_encodes mode e.bytes e.instructions stored) in
+    inr ((t, e.instructions), refl, ((tt, (t, e.instructions)), refl, record { front = before_init; back = table_encoding t ++ expression_encoding e.bytes; joined = refl; first = (refl, refl); second = parts }))
 
 pub table_laws : ItemLaws table_items
-table_laws = record { alone = table_item_unique; spelled = λ t plain fits. init_spelled shortest tt t.table_type t.init plain.table_type plain.init }
+table_laws = record { unique = table_item_unambiguous; encodes = λ t plain encodable. init_encodes minimal tt t.table_type t.init plain.table_type plain.init }
 
-init_wider : (init : Option Stored) → IfSome init IsStored → IfSome init IsStoredWide
-init_wider None plain = plain
-init_wider (Some e) plain = stored_wider e plain
+init_included : (init : Option Stored) → IfSome init IsStored → IfSome init IsStoredPadded
+init_included None plain = plain
+init_included (Some e) plain = stored_included e plain
 
 pub tables_section : SectionLaws table_items (vec table_item)
-tables_section = counted_laws_wide table_laws (λ t plain. record { table_type = plain.table_type; init = init_wider t.init plain.init }) (λ t plain fits. init_spelled wide tt t.table_type t.init plain.table_type plain.init)
+tables_section = counted_laws_padded table_laws (λ t plain. record { table_type = plain.table_type; init = init_included t.init plain.init }) (λ t plain encodable. init_encodes padded tt t.table_type t.init plain.table_type plain.init)
 
 -- ---- decoding tables
 
@@ -121,53 +121,53 @@ abbrev typed : Format (TableType × List Plain)
 typed = pair table_type expression
 
 -- A table without an initial value.
-pub table_reads : (bytes last : List ℕ) (t : TableType) → Reads table_type wide bytes t last → Reads table_item wide bytes (record { table_type = t; init = None }) last
-table_reads bytes last t h = one_of_left (mapped with_init (prefixed before_init typed)) (mapped_reads without_init h)
+pub table_decodes : (bytes last : List ℕ) (t : TableType) → Decodes table_type padded bytes t last → Decodes table_item padded bytes (record { table_type = t; init = None }) last
+table_decodes bytes last t h = one_of_left (mapped with_init (prefixed before_init typed)) (mapped_decodes without_init h)
 
-pub table_none : (bytes : List ℕ) → ReadsNothing byte wide bytes → ReadsNothing table_item wide bytes
+pub table_none : (bytes : List ℕ) → Rejects byte padded bytes → Rejects table_item padded bytes
 table_none bytes n =
-    one_of_nothing (no_bytes IsTypeByte (mapped without_init table_type) (begins_mapped IsTypeByte without_init type_begins) n)
+    one_of_rejects (no_bytes IsTypeByte (mapped without_init table_type) (begins_mapped IsTypeByte without_init type_begins) n)
     (no_bytes IsInitByte (mapped with_init (prefixed before_init typed)) init_begins n)
 
-pub table_no_type : (bytes rest : List ℕ) (b : ℕ) → Reads byte wide bytes b rest → b ≢ 0x40 → ReadsNothing table_type wide bytes → ReadsNothing table_item wide bytes
-table_no_type bytes rest b h other n = one_of_nothing (mapped_nothing without_init n) (not_begun IsInitByte (mapped with_init (prefixed before_init typed)) init_begins h other)
+pub table_no_type : (bytes rest : List ℕ) (b : ℕ) → Decodes byte padded bytes b rest → b ≢ 0x40 → Rejects table_type padded bytes → Rejects table_item padded bytes
+table_no_type bytes rest b h other n = one_of_rejects (mapped_rejects without_init n) (not_begun IsInitByte (mapped with_init (prefixed before_init typed)) init_begins h other)
 
 -- A table with an initial value, after two bytes.
-two_bytes : (bytes rest after : List ℕ) (b c : ℕ) → Reads byte wide bytes b rest → b ≡ 0x40 → Reads byte wide rest c after → c ≡ 0x00 → bytes ≡ before_init ++ after
+two_bytes : (bytes rest after : List ℕ) (b c : ℕ) → Decodes byte padded bytes b rest → b ≡ 0x40 → Decodes byte padded rest c after → c ≡ 0x00 → bytes ≡ before_init ++ after
 two_bytes bytes rest after b c h e g f =
-    h.split ∙ ap (λ z. z ++ rest) h.spelled ∙ ap (λ z. b ∷ z) (g.split ∙ ap (λ z. z ++ after) g.spelled) ∙ ap (λ z. z ∷ c ∷ after) e ∙ ap (λ z. 0x40 ∷ z ∷ after) f
+    h.split ∙ ap (λ z. z ++ rest) h.encodes ∙ ap (λ z. b ∷ z) (g.split ∙ ap (λ z. z ++ after) g.encodes) ∙ ap (λ z. z ∷ c ∷ after) e ∙ ap (λ z. 0x40 ∷ z ∷ after) f
 
-with_nothing : (bytes rest : List ℕ) (b : ℕ) → Reads byte wide bytes b rest → b ≡ 0x40 → ReadsNothing (prefixed before_init typed) wide bytes → ReadsNothing table_item wide bytes
-with_nothing bytes rest b h e n =
-    one_of_nothing (not_begun IsTypeByte (mapped without_init table_type) (begins_mapped IsTypeByte without_init type_begins) h (λ l. omega (arith, l, e))) (mapped_nothing with_init n)
+with_rejects : (bytes rest : List ℕ) (b : ℕ) → Decodes byte padded bytes b rest → b ≡ 0x40 → Rejects (prefixed before_init typed) padded bytes → Rejects table_item padded bytes
+with_rejects bytes rest b h e n =
+    one_of_rejects (not_begun IsTypeByte (mapped without_init table_type) (begins_mapped IsTypeByte without_init type_begins) h (λ l. omega (arith, l, e))) (mapped_rejects with_init n)
 
-pub table_with : (bytes rest after last : List ℕ) (b c : ℕ) (t : TableType) (is : List Plain) → Reads byte wide bytes b rest → b ≡ 0x40 → Reads byte wide rest c after → c ≡ 0x00 → Reads typed wide after (t, is) last
-    → Reads table_item wide bytes (record { table_type = t; init = Some is }) last
+pub table_with : (bytes rest after last : List ℕ) (b c : ℕ) (t : TableType) (is : List Plain) → Decodes byte padded bytes b rest → b ≡ 0x40 → Decodes byte padded rest c after → c ≡ 0x00 → Decodes typed padded after (t, is) last
+    → Decodes table_item padded bytes (record { table_type = t; init = Some is }) last
 table_with bytes rest after last b c t is h e g f k =
-    one_of_right (mapped without_init table_type) (mapped_reads with_init (prefixed_reads before_init typed (two_bytes bytes rest after b c h e g f) k))
+    one_of_right (mapped without_init table_type) (mapped_decodes with_init (prefixed_decodes before_init typed (two_bytes bytes rest after b c h e g f) k))
 
-pub table_no_second : (bytes rest : List ℕ) (b : ℕ) → Reads byte wide bytes b rest → b ≡ 0x40 → ReadsNothing byte wide rest → ReadsNothing table_item wide bytes
-table_no_second bytes rest b h e n = with_nothing bytes rest b h e (prefixed_other before_init typed none)
+pub table_no_second : (bytes rest : List ℕ) (b : ℕ) → Decodes byte padded bytes b rest → b ≡ 0x40 → Rejects byte padded rest → Rejects table_item padded bytes
+table_no_second bytes rest b h e n = with_rejects bytes rest b h e (prefixed_other before_init typed none)
   where
     none : (q : List ℕ) → bytes ≡ before_init ++ q → ⊥
     none q s =
-        let second : Reads byte wide rest 0x00 q = record { front = 0x00 ∷ []; split = tail (sym (h.split ∙ ap (λ z. z ++ rest) h.spelled) ∙ s); spelled = refl } in
+        let second : Decodes byte padded rest 0x00 q = record { front = 0x00 ∷ []; split = tail (sym (h.split ∙ ap (λ z. z ++ rest) h.encodes) ∙ s); encodes = refl } in
         n.none 0x00 q second
       where
         tail : b ∷ rest ≡ 0x40 ∷ 0x00 ∷ q → rest ≡ 0x00 ∷ q
         tail e = cc e
 
-pub table_other : (bytes rest after : List ℕ) (b c : ℕ) → Reads byte wide bytes b rest → b ≡ 0x40 → Reads byte wide rest c after → c ≢ 0x00 → ReadsNothing table_item wide bytes
-table_other bytes rest after b c h e g other = with_nothing bytes rest b h e (prefixed_other before_init typed none)
+pub table_other : (bytes rest after : List ℕ) (b c : ℕ) → Decodes byte padded bytes b rest → b ≡ 0x40 → Decodes byte padded rest c after → c ≢ 0x00 → Rejects table_item padded bytes
+table_other bytes rest after b c h e g other = with_rejects bytes rest b h e (prefixed_other before_init typed none)
   where
     second : (q : List ℕ) → b ∷ c ∷ after ≡ 0x40 ∷ 0x00 ∷ q → c ≡ 0x00
     second q e = cc e
 
     none : (q : List ℕ) → bytes ≡ before_init ++ q → ⊥
-    none q s = other (second q (sym (h.split ∙ ap (λ z. z ++ rest) h.spelled ∙ ap (λ z. b ∷ z) (g.split ∙ ap (λ z. z ++ after) g.spelled)) ∙ s))
+    none q s = other (second q (sym (h.split ∙ ap (λ z. z ++ rest) h.encodes ∙ ap (λ z. b ∷ z) (g.split ∙ ap (λ z. z ++ after) g.encodes)) ∙ s))
 
-pub table_no_with : (bytes rest after : List ℕ) (b c : ℕ) → Reads byte wide bytes b rest → b ≡ 0x40 → Reads byte wide rest c after → c ≡ 0x00 → ReadsNothing typed wide after → ReadsNothing table_item wide bytes
-table_no_with bytes rest after b c h e g f n = with_nothing bytes rest b h e (prefixed_nothing before_init typed (two_bytes bytes rest after b c h e g f) n)
+pub table_no_with : (bytes rest after : List ℕ) (b c : ℕ) → Decodes byte padded bytes b rest → b ≡ 0x40 → Decodes byte padded rest c after → c ≡ 0x00 → Rejects typed padded after → Rejects table_item padded bytes
+table_no_with bytes rest after b c h e g f n = with_rejects bytes rest b h e (prefixed_rejects before_init typed (two_bytes bytes rest after b c h e g f) n)
 
 pub ruleset table_steps = (table_other)
 
@@ -198,32 +198,32 @@ abbrev first_value : Option (List Plain) → List Plain
 first_value None = []
 first_value (Some is) = is
 
-type_appended : (t : TableType) (old new : List ℕ) → new ≡ old ++ table_text t → AppendsShortest table_type t old new
-type_appended t old new e = fitting_appended table_type IsTable table_text t old new (record { spelled = table_spelled }) table_is e
+type_appended : (t : TableType) (old new : List ℕ) → new ≡ old ++ table_encoding t → AppendsMinimal table_type t old new
+type_appended t old new e = fitting_appended table_type IsTable table_encoding t old new (record { encodes = table_encodes }) table_is e
 
-pub table_appended : (t : TableType) (old new : List ℕ) → new ≡ old ++ table_text t → AppendsShortest table_item (without_init t) old new
+pub table_appended : (t : TableType) (old new : List ℕ) → new ≡ old ++ table_encoding t → AppendsMinimal table_item (without_init t) old new
 table_appended t old new e =
     let a = type_appended t old new e in
-    record { text = a.text; appended = a.appended; spelled = spelled a }
+    record { encoding = a.encoding; appended = a.appended; encodes = encodes a }
   where
-    spelled : (a : AppendsShortest table_type t old new) (s : List ℕ) → table_item wide s (without_init t) → table_item shortest a.text (without_init t)
-    spelled a s (inl h) = inl (t, refl, a.spelled s (subst (λ z. table_type wide s z) (ap (λ i. i.table_type) h.1) h.2))
-    spelled a s (inr h) = absurd (cc (ap (λ i. i.init) h.1))
+    encodes : (a : AppendsMinimal table_type t old new) (s : List ℕ) → table_item padded s (without_init t) → table_item minimal a.encoding (without_init t)
+    encodes a s (inl h) = inl (t, refl, a.encodes s (subst (λ z. table_type padded s z) (ap (λ i. i.table_type) h.1) h.2))
+    encodes a s (inr h) = absurd (cc (ap (λ i. i.init) h.1))
 
-pub table_init_appended : (t : TableType) (init : List Plain) (old front middle new : List ℕ) → front ≡ old ++ before_init → middle ≡ front ++ table_text t → AppendsShortest expression init middle new → AppendsShortest table_item (with_init (t, init)) old new
+pub table_init_appended : (t : TableType) (init : List Plain) (old front middle new : List ℕ) → front ≡ old ++ before_init → middle ≡ front ++ table_encoding t → AppendsMinimal expression init middle new → AppendsMinimal table_item (with_init (t, init)) old new
 table_init_appended t init old front middle new b e a =
     let both = prefixed_appended before_init (pair table_type expression) (t, init) old front new b (pair_appended table_type expression (type_appended t front middle e) a) in
     let is = mapped_appended with_init (prefixed before_init (pair table_type expression)) (t, init) old new (λ z k. ap (λ i. (i.table_type, first_value i.init)) k) both in
-    record { text = is.text; appended = is.appended; spelled = spelled is }
+    record { encoding = is.encoding; appended = is.appended; encodes = encodes is }
   where
-    spelled : (is : AppendsShortest (mapped with_init (prefixed before_init (pair table_type expression))) (with_init (t, init)) old new) (s : List ℕ) → table_item wide s (with_init (t, init)) → table_item shortest is.text (with_init (t, init))
-    spelled is s (inl h) = absurd (cc (ap (λ i. i.init) h.1))
-    spelled is s (inr h) = inr (is.spelled s h)
+    encodes : (is : AppendsMinimal (mapped with_init (prefixed before_init (pair table_type expression))) (with_init (t, init)) old new) (s : List ℕ) → table_item padded s (with_init (t, init)) → table_item minimal is.encoding (with_init (t, init))
+    encodes is s (inl h) = absurd (cc (ap (λ i. i.init) h.1))
+    encodes is s (inr h) = inr (is.encodes s h)
 
 pub init_encoded : (t : TableType) (init : List Plain) → HasEncoding table_item (with_init (t, init)) → HasEncoding expression init
 init_encoded t init h = go h.bytes h.decoded
   where
-    go : (s : List ℕ) → table_item wide s (with_init (t, init)) → HasEncoding expression init
+    go : (s : List ℕ) → table_item padded s (with_init (t, init)) → HasEncoding expression init
     go s (inl k) = absurd (cc (ap (λ i. i.init) k.1))
     go s (inr k) =
         right_encoded table_type expression t init

@@ -1,6 +1,6 @@
 -- This file defines the constant expressions that are arguments of calls.
 use Rattle.std.specs.Prelude.{ℕ, List, map}
-use Rattle.wasm_base.specs.Numbers.{Mode, shortest, wide}
+use Rattle.wasm_base.specs.Numbers.{Mode, minimal, padded}
 use Rattle.wasm_code.specs.Expressions.{StoresIn}
 use Rattle.wasm_insn.specs.Plain.{Plain}
 use Rattle.wasm_reader_insn.specs.Arguments.{plain_view}
@@ -17,11 +17,11 @@ IsStoredIn mode e = StoresIn mode e.bytes e.instructions
 
 -- The stored bytes minimally encode the instructions, and none of them is `end`.
 abbrev pub IsStored : Stored → Type 0
-IsStored e = IsStoredIn shortest e
+IsStored e = IsStoredIn minimal e
 
 -- The stored bytes encode the instructions, possibly padded, and none of them is `end`.
-abbrev pub IsStoredWide : Stored → Type 0
-IsStoredWide e = IsStoredIn wide e
+abbrev pub IsStoredPadded : Stored → Type 0
+IsStoredPadded e = IsStoredIn padded e
 
 -- The instructions of a decoded expression.
 abbrev pub instructions_view : {A : Type 0} → Expression A → List Plain

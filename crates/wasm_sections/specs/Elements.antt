@@ -1,20 +1,20 @@
 -- This file defines element segments, their encodings and their format. Core specification, Binary
 -- Format, Modules, Element Section.
 use Rattle.std.specs.Prelude.{ℕ, ◌+◌, ◌^◌, ◌<◌, List, [], ◌∷◌, ◌++◌, map, Bool, true, false, cond, Option, Some, None, IfSome}
-use Rattle.wasm_base.specs.Entries.{Kind, HoldsItems}
+use Rattle.wasm_base.specs.Entries.{Kind, ContainsItems}
 use Rattle.wasm_base.specs.Formats.{Format, u32, mapped, pair, tagged, prefixed, fixed, vec, when, numbered, is_given}
-use Rattle.wasm_base.specs.Laws.{FitsUnsigned}
-use Rattle.wasm_base.specs.Numbers.{Mode, shortest, wide, unsigned_text}
-use Rattle.wasm_base.specs.Texts.{vec_text, VecFits, optional_text}
-use Rattle.wasm_base.specs.Types.{ref_type, ref_text, IsRef, FUNCREF}
+use Rattle.wasm_base.specs.Laws.{IsUnsignedInRange}
+use Rattle.wasm_base.specs.Numbers.{Mode, minimal, padded, unsigned_encoding}
+use Rattle.wasm_base.specs.Encodings.{vec_encoding, IsEncodableVec, optional_encoding}
+use Rattle.wasm_base.specs.Types.{ref_type, ref_encoding, IsRef, FUNCREF}
 use Rattle.wasm_base.specs.declared.types.AbstractHeapType.TheVariants as kinds
 use Rattle.wasm_base.specs.declared.types.HeapType.{HeapType}
 use Rattle.wasm_base.specs.declared.types.HeapType.TheVariants.{Abstract}
 use Rattle.wasm_base.specs.declared.types.RefType.{RefType}
-use Rattle.wasm_base.specs.Modules.{SectionReading, reading_of}
+use Rattle.wasm_base.specs.Modules.{SectionDecoding, decoding_of}
 use Rattle.wasm_base.specs.SectionId.{number_of}
 use Rattle.wasm_base.specs.declared.section_id.SectionId.TheVariants as ids
-use Rattle.wasm_code.specs.Expressions.{expression, expression_text}
+use Rattle.wasm_code.specs.Expressions.{expression, expression_encoding}
 use Rattle.wasm_immediates.specs.Immediates.{where_set}
 use Rattle.wasm_insn.specs.Plain.{Plain}
 use Rattle.wasm_sections.specs.Constants.{Stored, IsStoredIn, instructions_view}
@@ -47,10 +47,10 @@ settled_table false None = None
 
 -- The mode of a segment: passive, declared, or active with an optional table and an offset
 -- expression.
-pub data Place (E : Type 0) : Type 0 where
-  passive : Place E
-  declared : Place E
-  active : Option ℕ → E → Place E
+pub data SegmentMode (E : Type 0) : Type 0 where
+  passive : SegmentMode E
+  declared : SegmentMode E
+  active : Option ℕ → E → SegmentMode E
 
 -- The elements of a segment: function indices, or expressions and their reference type.
 pub data ElementList (E : Type 0) : Type 0 where
@@ -59,7 +59,7 @@ pub data ElementList (E : Type 0) : Type 0 where
 
 -- An element segment: its mode and its elements.
 pub record ElementItem (E : Type 0) : Type 0 where
-  pub place : Place E
+  pub segment_mode : SegmentMode E
   pub elements : ElementList E
 
 -- ---- normal form
@@ -71,14 +71,14 @@ needs_table (functions fs) = false
 needs_table (expressions r es) = cond (is_funcref r) false true
 
 -- The mode, with table 0 if it is active, a table is needed and none is given.
-abbrev pub settled_place : {E : Type 0} → Bool → Place E → Place E
-settled_place needed passive = passive
-settled_place needed declared = declared
-settled_place needed (active table offset) = active (settled_table needed table) offset
+abbrev pub settled_segment_mode : {E : Type 0} → Bool → SegmentMode E → SegmentMode E
+settled_segment_mode needed passive = passive
+settled_segment_mode needed declared = declared
+settled_segment_mode needed (active table offset) = active (settled_table needed table) offset
 
 -- The segment, with table 0 if it is active, needs a table and has none.
 abbrev pub settled : {E : Type 0} → ElementItem E → ElementItem E
-settled s = record { place = settled_place (needs_table s.elements) s.place; elements = s.elements }
+settled s = record { segment_mode = settled_segment_mode (needs_table s.elements) s.segment_mode; elements = s.elements }
 
 -- ---- flags
 
@@ -94,17 +94,17 @@ abbrev pub flag_code : ElementFlag → ℕ
 flag_code f = where_set f.not_active 1 + where_set f.second 2 + where_set f.expressions 4
 
 -- Whether the kind of the elements is encoded: for every flag but 0 and 4.
-abbrev pub tells_kind : ElementFlag → Bool
-tells_kind f = cond f.not_active true f.second
+abbrev pub has_kind : ElementFlag → Bool
+has_kind f = cond f.not_active true f.second
 
 -- Whether the segment is passive or declared.
-abbrev pub is_inactive : {E : Type 0} → Place E → Bool
+abbrev pub is_inactive : {E : Type 0} → SegmentMode E → Bool
 is_inactive passive = true
 is_inactive declared = true
 is_inactive (active table offset) = false
 
 -- The second bit of the flag: the segment is declared, or is active with an explicit table.
-abbrev pub is_second : {E : Type 0} → Place E → Bool
+abbrev pub is_second : {E : Type 0} → SegmentMode E → Bool
 is_second passive = false
 is_second declared = true
 is_second (active table offset) = is_given table
@@ -116,79 +116,79 @@ are_expressions (expressions r es) = true
 
 -- The flag of an element segment.
 abbrev pub flag_of : {E : Type 0} → ElementItem E → ElementFlag
-flag_of s = record { not_active = is_inactive s.place; second = is_second s.place; expressions = are_expressions s.elements }
+flag_of s = record { not_active = is_inactive s.segment_mode; second = is_second s.segment_mode; expressions = are_expressions s.elements }
 
 -- ---- encoding
 
-module _ {E : Type 0} (text : E → List ℕ) where
+module _ {E : Type 0} (encoding : E → List ℕ) where
   -- The encoding of a mode: no bytes unless it is active, else the explicit table, if any, and the
   -- offset expression.
-  abbrev pub place_text : Place E → List ℕ
-  place_text passive = []
-  place_text declared = []
-  place_text (active table offset) = optional_text unsigned_text table ++ text offset
+  abbrev pub segment_mode_encoding : SegmentMode E → List ℕ
+  segment_mode_encoding passive = []
+  segment_mode_encoding declared = []
+  segment_mode_encoding (active table offset) = optional_encoding unsigned_encoding table ++ encoding offset
 
   -- The encoding of elements: their kind if it is encoded, then a vector.
-  abbrev pub elements_text : Bool → ElementList E → List ℕ
-  elements_text told (functions fs) = cond told (0x00 ∷ []) [] ++ vec_text unsigned_text fs
-  elements_text told (expressions r es) = cond told (ref_text r) [] ++ vec_text text es
+  abbrev pub elements_encoding : Bool → ElementList E → List ℕ
+  elements_encoding explicit (functions fs) = cond explicit (0x00 ∷ []) [] ++ vec_encoding unsigned_encoding fs
+  elements_encoding explicit (expressions r es) = cond explicit (ref_encoding r) [] ++ vec_encoding encoding es
 
   -- The encoding of a settled segment: the flag, the mode and the elements.
-  abbrev pub settled_text : ElementItem E → List ℕ
-  settled_text s = flag_code (flag_of s) ∷ (place_text s.place ++ elements_text (tells_kind (flag_of s)) s.elements)
+  abbrev pub settled_encoding : ElementItem E → List ℕ
+  settled_encoding s = flag_code (flag_of s) ∷ (segment_mode_encoding s.segment_mode ++ elements_encoding (has_kind (flag_of s)) s.elements)
 
 -- The number of elements is at most 2^32 - 1.
-abbrev pub ElementsFit : {E : Type 0} → ElementList E → Type 0
-ElementsFit (functions fs) = VecFits (λ f. Unit {0}) fs
-ElementsFit (expressions r es) = VecFits (λ e. Unit {0}) es
+abbrev pub AreEncodableElements : {E : Type 0} → ElementList E → Type 0
+AreEncodableElements (functions fs) = IsEncodableVec (λ f. Unit {0}) fs
+AreEncodableElements (expressions r es) = IsEncodableVec (λ e. Unit {0}) es
 
 -- ---- arguments of calls, and items of a section
 
 -- The encoding of an expression that is an argument.
-abbrev pub stored_text : Stored → List ℕ
-stored_text e = expression_text e.bytes
+abbrev pub stored_encoding : Stored → List ℕ
+stored_encoding e = expression_encoding e.bytes
 
 -- The encoding of an element segment that is an argument: that of the settled segment.
-abbrev pub element_text : ElementItem Stored → List ℕ
-element_text s = settled_text stored_text (settled s)
+abbrev pub element_encoding : ElementItem Stored → List ℕ
+element_encoding s = settled_encoding stored_encoding (settled s)
 
 -- If the segment is active, its explicit table is below 2^32 and the bytes of its expression encode
 -- its instructions in this mode.
-abbrev pub IsPlaceIn : Mode → Place Stored → Type 0
-IsPlaceIn mode passive = Unit {0}
-IsPlaceIn mode declared = Unit {0}
-IsPlaceIn mode (active table offset) = IfSome table (λ t. t < 2 ^ 32) × IsStoredIn mode offset
+abbrev pub IsSegmentModeIn : Mode → SegmentMode Stored → Type 0
+IsSegmentModeIn mode passive = Unit {0}
+IsSegmentModeIn mode declared = Unit {0}
+IsSegmentModeIn mode (active table offset) = IfSome table (λ t. t < 2 ^ 32) × IsStoredIn mode offset
 
 -- Indices are below 2^32, the bytes of expressions encode their instructions in this mode, and
 -- there are at most 2^32 - 1 elements.
 abbrev pub AreElementsIn : Mode → ElementList Stored → Type 0
-AreElementsIn mode (functions fs) = VecFits (FitsUnsigned 32) fs
-AreElementsIn mode (expressions r es) = IsRef r × VecFits (IsStoredIn mode) es
+AreElementsIn mode (functions fs) = IsEncodableVec (IsUnsignedInRange 32) fs
+AreElementsIn mode (expressions r es) = IsRef r × IsEncodableVec (IsStoredIn mode) es
 
 -- The numbers of the segment are in range, and the bytes of its expressions encode their
 -- instructions in this mode.
 pub record IsSegmentIn (mode : Mode) (s : ElementItem Stored) : Type 0 where
-  pub place : IsPlaceIn mode s.place
+  pub segment_mode : IsSegmentModeIn mode s.segment_mode
   pub elements : AreElementsIn mode s.elements
 
 -- If the segment is active, its explicit table is below 2^32 and its expression is minimally
 -- encoded.
-abbrev pub IsPlace : Place Stored → Type 0
-IsPlace p = IsPlaceIn shortest p
+abbrev pub IsSegmentMode : SegmentMode Stored → Type 0
+IsSegmentMode p = IsSegmentModeIn minimal p
 
 -- The segment is well-formed: its numbers are in range, and its expressions are minimally encoded.
 abbrev pub IsSegment : ElementItem Stored → Type 0
-IsSegment s = IsSegmentIn shortest s
+IsSegment s = IsSegmentIn minimal s
 
 -- The segment is well-formed, and its expressions may be padded.
-abbrev pub IsSegmentWide : ElementItem Stored → Type 0
-IsSegmentWide s = IsSegmentIn wide s
+abbrev pub IsSegmentPadded : ElementItem Stored → Type 0
+IsSegmentPadded s = IsSegmentIn padded s
 
 -- The same mode, with the bytes of its expression.
-abbrev pub place_by : Place Stored → Place (List ℕ)
-place_by passive = passive
-place_by declared = declared
-place_by (active table offset) = active table offset.bytes
+abbrev pub segment_mode_by : SegmentMode Stored → SegmentMode (List ℕ)
+segment_mode_by passive = passive
+segment_mode_by declared = declared
+segment_mode_by (active table offset) = active table offset.bytes
 
 -- The same elements, with the bytes of their expressions.
 abbrev pub elements_by : ElementList Stored → ElementList (List ℕ)
@@ -197,13 +197,13 @@ elements_by (expressions r es) = expressions r (map (λ e. e.bytes) es)
 
 -- The same segment, with the bytes of its expressions.
 abbrev pub stored_by : ElementItem Stored → ElementItem (List ℕ)
-stored_by s = record { place = place_by s.place; elements = elements_by s.elements }
+stored_by s = record { segment_mode = segment_mode_by s.segment_mode; elements = elements_by s.elements }
 
 -- The same mode, with the instructions of its expression.
-abbrev pub place_of : Place Stored → Place (List Plain)
-place_of passive = passive
-place_of declared = declared
-place_of (active table offset) = active table offset.instructions
+abbrev pub segment_mode_of : SegmentMode Stored → SegmentMode (List Plain)
+segment_mode_of passive = passive
+segment_mode_of declared = declared
+segment_mode_of (active table offset) = active table offset.instructions
 
 -- The same elements, with the instructions of their expressions.
 abbrev pub elements_of : ElementList Stored → ElementList (List Plain)
@@ -212,7 +212,7 @@ elements_of (expressions r es) = expressions r (map (λ e. e.instructions) es)
 
 -- The same segment, with the instructions of its expressions.
 abbrev pub said_by : ElementItem Stored → ElementItem (List Plain)
-said_by s = record { place = place_of s.place; elements = elements_of s.elements }
+said_by s = record { segment_mode = segment_mode_of s.segment_mode; elements = elements_of s.elements }
 
 -- The normal form: the settled segment, with the instructions of its expressions.
 abbrev pub element_of : ElementItem Stored → ElementItem (List Plain)
@@ -221,17 +221,17 @@ element_of s = said_by (settled s)
 -- ---- format
 
 -- The active mode without an explicit table, with this offset expression.
-abbrev pub in_no_table : List Plain → Place (List Plain)
+abbrev pub in_no_table : List Plain → SegmentMode (List Plain)
 in_no_table offset = active None offset
 
 -- The active mode with this explicit table and this offset expression.
-abbrev pub in_table : ℕ × List Plain → Place (List Plain)
+abbrev pub in_table : ℕ × List Plain → SegmentMode (List Plain)
 in_table parts = active (Some parts.0) parts.1
 
 -- A mode by its flag: no bytes if passive or declared; if active, a table if the second bit is set,
 -- then an expression.
-abbrev pub place : ElementFlag → Format (Place (List Plain))
-place f = when f.not_active (when f.second (fixed [] declared) (fixed [] passive)) (when f.second (mapped in_table (pair u32 expression)) (mapped in_no_table expression))
+abbrev pub segment_mode : ElementFlag → Format (SegmentMode (List Plain))
+segment_mode f = when f.not_active (when f.second (fixed [] declared) (fixed [] passive)) (when f.second (mapped in_table (pair u32 expression)) (mapped in_no_table expression))
 
 -- The elements that are these expressions of this reference type.
 abbrev pub list_of : RefType × List (List Plain) → ElementList (List Plain)
@@ -240,22 +240,22 @@ list_of parts = expressions parts.0 parts.1
 -- Elements: expressions or function indices. Before expressions comes their reference type if it is
 -- encoded, and `funcref` is implied otherwise. Before indices comes the byte 00 of their kind if it
 -- is encoded.
-abbrev pub elements_as : (told of_expressions : Bool) → Format (ElementList (List Plain))
-elements_as told of_expressions =
-    when of_expressions (mapped list_of (pair (when told ref_type (fixed [] FUNCREF)) (vec expression)))
-    (mapped functions (prefixed (cond told (0x00 ∷ []) []) (vec u32)))
+abbrev pub elements_as : (explicit of_expressions : Bool) → Format (ElementList (List Plain))
+elements_as explicit of_expressions =
+    when of_expressions (mapped list_of (pair (when explicit ref_type (fixed [] FUNCREF)) (vec expression)))
+    (mapped functions (prefixed (cond explicit (0x00 ∷ []) []) (vec u32)))
 
 -- The element segment of this mode and these elements.
-abbrev pub segment_of : Place (List Plain) × ElementList (List Plain) → ElementItem (List Plain)
-segment_of parts = record { place = parts.0; elements = parts.1 }
+abbrev pub segment_of : SegmentMode (List Plain) × ElementList (List Plain) → ElementItem (List Plain)
+segment_of parts = record { segment_mode = parts.0; elements = parts.1 }
 
 -- An element segment: a flag, then the mode and the elements that it selects.
 abbrev pub element : Format (ElementItem (List Plain))
-element = tagged (numbered flag_code) (λ f. mapped segment_of (pair (place f) (elements_as (tells_kind f) f.expressions)))
+element = tagged (numbered flag_code) (λ f. mapped segment_of (pair (segment_mode f) (elements_as (has_kind f) f.expressions)))
 
 -- The kind of element segments.
 abbrev pub element_items : Kind (ElementItem Stored) (ElementItem (List Plain))
-element_items = record { text = element_text; IsPlain = IsSegment; IsPlainWide = IsSegmentWide; normal_form = element_of; format = element }
+element_items = record { encoding = element_encoding; IsWellFormed = IsSegment; IsWellFormedPadded = IsSegmentPadded; normal_form = element_of; format = element }
 
 -- ---- decoded segments
 
@@ -264,10 +264,10 @@ abbrev pub element_flag_view : ReadFlag → ElementFlag
 element_flag_view f = record { not_active = f.not_active; second = f.second; expressions = f.expressions }
 
 -- The view of a decoded mode.
-abbrev pub place_view : {A : Type 0} → ElementItemMode A → Place (List Plain)
-place_view modes.Passive = passive
-place_view modes.Declared = declared
-place_view (modes.Active table offset) = active table (instructions_view offset)
+abbrev pub segment_mode_view : {A : Type 0} → ElementItemMode A → SegmentMode (List Plain)
+segment_mode_view modes.Passive = passive
+segment_mode_view modes.Declared = declared
+segment_mode_view (modes.Active table offset) = active table (instructions_view offset)
 
 -- The view of decoded elements.
 abbrev pub list_view : {A : Type 0} → ReadList A → ElementList (List Plain)
@@ -276,12 +276,12 @@ list_view (lists.Expressions r es) = expressions r (map instructions_view es.ite
 
 -- The view of a decoded element segment.
 abbrev pub element_view : {A : Type 0} → ReadElement A → ElementItem (List Plain)
-element_view e = record { place = place_view e.mode; elements = list_view e.elements }
+element_view e = record { segment_mode = segment_mode_view e.mode; elements = list_view e.elements }
 
 -- The pieces encode these element segments.
-abbrev pub HoldsElements : List (List ℕ) → List (ElementItem (List Plain)) → Type 0
-HoldsElements = HoldsItems element_items
+abbrev pub ContainsElements : List (List ℕ) → List (ElementItem (List Plain)) → Type 0
+ContainsElements = ContainsItems element_items
 
 -- The element section that decodes to these segments.
-abbrev pub element_reading : List (ElementItem (List Plain)) → SectionReading
-element_reading segments = reading_of (number_of ids.Element) (vec element) segments
+abbrev pub element_decoding : List (ElementItem (List Plain)) → SectionDecoding
+element_decoding segments = decoding_of (number_of ids.Element) (vec element) segments

@@ -1,11 +1,11 @@
 -- This file defines exports, their encoding and their format. Core specification, Binary Format,
 -- Modules, Export Section.
 use Rattle.std.specs.Prelude.{ℕ, ◌^◌, ◌<◌, List, [], ◌∷◌, ◌++◌, IsUtf8}
-use Rattle.wasm_base.specs.Entries.{Kind, HoldsItems}
+use Rattle.wasm_base.specs.Entries.{Kind, ContainsItems}
 use Rattle.wasm_base.specs.Formats.{Format, u32, name, coded, mapped, pair, vec}
-use Rattle.wasm_base.specs.Numbers.{unsigned_text}
-use Rattle.wasm_base.specs.Texts.{frame_text, FrameFits}
-use Rattle.wasm_base.specs.Modules.{SectionReading, reading_of}
+use Rattle.wasm_base.specs.Numbers.{unsigned_encoding}
+use Rattle.wasm_base.specs.Encodings.{size_prefixed_encoding, HasEncodableSize}
+use Rattle.wasm_base.specs.Modules.{SectionDecoding, decoding_of}
 use Rattle.wasm_base.specs.SectionId.{number_of}
 use Rattle.wasm_base.specs.declared.section_id.SectionId.TheVariants as ids
 use Rattle.wasm_sections.specs.declared.export.Export.{Export}
@@ -21,12 +21,12 @@ kind_code Global = 0x03
 kind_code Tag = 0x04
 
 -- The encoding of an export: its name, the byte of its kind and its index.
-abbrev pub export_text : Export → List ℕ
-export_text e = frame_text e.name.now ++ (kind_code e.kind ∷ [] ++ unsigned_text e.index)
+abbrev pub export_encoding : Export → List ℕ
+export_encoding e = size_prefixed_encoding e.name.now ++ (kind_code e.kind ∷ [] ++ unsigned_encoding e.index)
 
 -- The length of the name is at most 2^32 - 1.
-abbrev pub ExportFits : Export → Type 0
-ExportFits e = FrameFits e.name.now
+abbrev pub IsEncodableExport : Export → Type 0
+IsEncodableExport e = HasEncodableSize e.name.now
 
 -- The export is well-formed: its name is UTF-8, and its index is below 2^32.
 pub record IsExport (e : Export) : Type 0 where
@@ -53,12 +53,12 @@ export = mapped export_of (pair name (pair (coded kind_code) u32))
 
 -- The kind of exports.
 abbrev pub export_items : Kind Export ExportItem
-export_items = record { text = export_text; IsPlain = IsExport; IsPlainWide = IsExport; normal_form = item_of; format = export }
+export_items = record { encoding = export_encoding; IsWellFormed = IsExport; IsWellFormedPadded = IsExport; normal_form = item_of; format = export }
 
 -- The pieces encode these exports.
-abbrev pub HoldsExports : List (List ℕ) → List ExportItem → Type 0
-HoldsExports = HoldsItems export_items
+abbrev pub ContainsExports : List (List ℕ) → List ExportItem → Type 0
+ContainsExports = ContainsItems export_items
 
 -- The export section that decodes to these exports.
-abbrev pub export_reading : List ExportItem → SectionReading
-export_reading exports = reading_of (number_of ids.Export) (vec export) exports
+abbrev pub export_decoding : List ExportItem → SectionDecoding
+export_decoding exports = decoding_of (number_of ids.Export) (vec export) exports

@@ -1,9 +1,9 @@
 -- This file defines element segments as arguments of calls, whose expressions are stored bytes.
 use Rattle.std.specs.Prelude.{◌≡◌, ℕ, List}
 use Rattle.wasm_base.specs.Cow.{items_of}
-use Rattle.wasm_code.specs.Expressions.{expression_text}
+use Rattle.wasm_code.specs.Expressions.{expression_encoding}
 use Rattle.wasm_sections.specs.Constants.{Stored}
-use Rattle.wasm_sections.specs.Elements.{Place, passive, declared, active, ElementList, functions, expressions, ElementItem, settled, settled_text, element_text, stored_by}
+use Rattle.wasm_sections.specs.Elements.{SegmentMode, passive, declared, active, ElementList, functions, expressions, ElementItem, settled, settled_encoding, element_encoding, stored_by}
 use Rattle.wasm_sections.specs.declared.element.ElementMode.{ElementMode}
 use Rattle.wasm_sections.specs.declared.element.ElementMode.TheVariants as modes
 use Rattle.wasm_sections.specs.declared.element.ElementSegment.{ElementSegment}
@@ -11,7 +11,7 @@ use Rattle.wasm_sections.specs.declared.element.Elements.{Elements}
 use Rattle.wasm_sections.specs.declared.element.Elements.TheVariants as lists
 
 -- The mode of an argument, with the stored bytes of its expression.
-abbrev pub mode_of : {A : Type 0} → ElementMode A → Place (List ℕ)
+abbrev pub mode_of : {A : Type 0} → ElementMode A → SegmentMode (List ℕ)
 mode_of modes.Passive = passive
 mode_of modes.Declared = declared
 mode_of (modes.Active table offset) = active table offset.now
@@ -23,13 +23,13 @@ list_in (lists.Expressions r es) = expressions r (items_of es)
 
 -- The element segment of an argument, with the stored bytes of its expressions.
 abbrev pub segment_in : {A : Type 0} → ElementSegment A → ElementItem (List ℕ)
-segment_in s = record { place = mode_of s.mode; elements = list_in s.elements }
+segment_in s = record { segment_mode = mode_of s.mode; elements = list_in s.elements }
 
 -- The encoding of an element segment that is an argument: that of the settled segment.
-abbrev pub given_text : {A : Type 0} → ElementSegment A → List ℕ
-given_text s = settled_text expression_text (settled (segment_in s))
+abbrev pub given_encoding : {A : Type 0} → ElementSegment A → List ℕ
+given_encoding s = settled_encoding expression_encoding (settled (segment_in s))
 
 -- If the record has the mode and the elements of the segment, with the same bytes of expressions,
 -- both have one encoding.
-pub record HaveOneText {A : Type 0} (s : ElementSegment A) (given : ElementItem Stored) : Type 0 where
-  pub same : segment_in s ≡ stored_by given → given_text s ≡ element_text given
+pub record HaveOneEncoding {A : Type 0} (s : ElementSegment A) (given : ElementItem Stored) : Type 0 where
+  pub same : segment_in s ≡ stored_by given → given_encoding s ≡ element_encoding given

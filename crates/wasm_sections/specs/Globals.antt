@@ -1,15 +1,15 @@
 -- This file defines global types and globals, their encodings and their formats. Core
 -- specification, Binary Format, Types, Global Types, and Modules, Global Section.
 use Rattle.std.specs.Prelude.{ℕ, ◌+◌, List, [], ◌∷◌, ◌++◌, Bool}
-use Rattle.wasm_base.specs.Entries.{Kind, HoldsItems}
+use Rattle.wasm_base.specs.Entries.{Kind, ContainsItems}
 use Rattle.wasm_base.specs.Formats.{Format, coded, mapped, pair, vec}
-use Rattle.wasm_base.specs.Numbers.{Mode, shortest, wide}
-use Rattle.wasm_base.specs.Types.{val_type, val_text, IsVal}
+use Rattle.wasm_base.specs.Numbers.{Mode, minimal, padded}
+use Rattle.wasm_base.specs.Types.{val_type, val_encoding, IsVal}
 use Rattle.wasm_base.specs.declared.types.ValType.{ValType}
-use Rattle.wasm_base.specs.Modules.{SectionReading, reading_of}
+use Rattle.wasm_base.specs.Modules.{SectionDecoding, decoding_of}
 use Rattle.wasm_base.specs.SectionId.{number_of}
 use Rattle.wasm_base.specs.declared.section_id.SectionId.TheVariants as ids
-use Rattle.wasm_code.specs.Expressions.{expression, expression_text}
+use Rattle.wasm_code.specs.Expressions.{expression, expression_encoding}
 use Rattle.wasm_immediates.specs.Immediates.{where_set}
 use Rattle.wasm_insn.specs.Plain.{Plain}
 use Rattle.wasm_sections.specs.Constants.{Stored, IsStoredIn, instructions_view}
@@ -31,8 +31,8 @@ abbrev pub global_flags : GlobalType → GlobalFlags
 global_flags g = record { mutable = g.mutable; shared = g.shared }
 
 -- The encoding of a global type: its value type, and the byte of its flags.
-abbrev pub global_text : GlobalType → List ℕ
-global_text g = val_text g.val_type ++ global_code (global_flags g) ∷ []
+abbrev pub global_encoding : GlobalType → List ℕ
+global_encoding g = val_encoding g.val_type ++ global_code (global_flags g) ∷ []
 
 -- The global type is well-formed: an index in its value type is below 2^32.
 abbrev pub IsGlobal : GlobalType → Type 0
@@ -59,8 +59,8 @@ pub record GlobalItem : Type 0 where
   pub init : List Plain
 
 -- The encoding of a global that is an argument: its type, and the expression of its initial value.
-abbrev pub global_item_text : GivenGlobal → List ℕ
-global_item_text g = global_text g.global_type ++ expression_text g.init.bytes
+abbrev pub global_item_encoding : GivenGlobal → List ℕ
+global_item_encoding g = global_encoding g.global_type ++ expression_encoding g.init.bytes
 
 -- The global type is well-formed, and the bytes of the expression encode its instructions in this
 -- mode.
@@ -70,11 +70,11 @@ pub record IsGivenGlobalIn (mode : Mode) (g : GivenGlobal) : Type 0 where
 
 -- The global is well-formed: its numbers are in range, and its expression is minimally encoded.
 abbrev pub IsGivenGlobal : GivenGlobal → Type 0
-IsGivenGlobal g = IsGivenGlobalIn shortest g
+IsGivenGlobal g = IsGivenGlobalIn minimal g
 
 -- The global is well-formed, and its expression may be padded.
-abbrev pub IsGivenGlobalWide : GivenGlobal → Type 0
-IsGivenGlobalWide g = IsGivenGlobalIn wide g
+abbrev pub IsGivenGlobalPadded : GivenGlobal → Type 0
+IsGivenGlobalPadded g = IsGivenGlobalIn padded g
 
 -- The normal form: the same global, with the instructions of its expression.
 abbrev pub global_item_of : GivenGlobal → GlobalItem
@@ -90,7 +90,7 @@ global_item = mapped global_from (pair global_type expression)
 
 -- The kind of globals.
 abbrev pub global_items : Kind GivenGlobal GlobalItem
-global_items = record { text = global_item_text; IsPlain = IsGivenGlobal; IsPlainWide = IsGivenGlobalWide; normal_form = global_item_of; format = global_item }
+global_items = record { encoding = global_item_encoding; IsWellFormed = IsGivenGlobal; IsWellFormedPadded = IsGivenGlobalPadded; normal_form = global_item_of; format = global_item }
 
 -- ---- decoded globals
 
@@ -103,9 +103,9 @@ abbrev pub global_view : {A : Type 0} → ReadGlobal A → GlobalItem
 global_view g = record { global_type = g.global_type; init = instructions_view g.init }
 
 -- The pieces encode these globals.
-abbrev pub HoldsGlobals : List (List ℕ) → List GlobalItem → Type 0
-HoldsGlobals = HoldsItems global_items
+abbrev pub ContainsGlobals : List (List ℕ) → List GlobalItem → Type 0
+ContainsGlobals = ContainsItems global_items
 
 -- The global section that decodes to these globals.
-abbrev pub global_reading : List GlobalItem → SectionReading
-global_reading globals = reading_of (number_of ids.Global) (vec global_item) globals
+abbrev pub global_decoding : List GlobalItem → SectionDecoding
+global_decoding globals = decoding_of (number_of ids.Global) (vec global_item) globals

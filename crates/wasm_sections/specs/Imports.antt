@@ -2,18 +2,18 @@
 -- specification, Binary Format, Modules, Import Section.
 use Rattle.std.specs.Prelude.{ℕ, ◌^◌, ◌<◌, List, [], ◌∷◌, ◌++◌, map, IsUtf8}
 use Rattle.wasm_base.specs.Cow.{items_of}
-use Rattle.wasm_base.specs.Entries.{Kind, HoldsItems}
+use Rattle.wasm_base.specs.Entries.{Kind, ContainsItems}
 use Rattle.wasm_base.specs.Formats.{Format, u32, name, byte, vec, mapped, tagged, choice, impossible, one_of, pair, prefixed}
-use Rattle.wasm_base.specs.Laws.{NameFits}
-use Rattle.wasm_base.specs.Numbers.{unsigned_text}
-use Rattle.wasm_base.specs.Texts.{frame_text, FrameFits, vec_text, VecFits}
-use Rattle.wasm_base.specs.Modules.{SectionReading, reading_of}
+use Rattle.wasm_base.specs.Laws.{IsEncodableName}
+use Rattle.wasm_base.specs.Numbers.{unsigned_encoding}
+use Rattle.wasm_base.specs.Encodings.{size_prefixed_encoding, HasEncodableSize, vec_encoding, IsEncodableVec}
+use Rattle.wasm_base.specs.Modules.{SectionDecoding, decoding_of}
 use Rattle.wasm_base.specs.SectionId.{number_of}
 use Rattle.wasm_base.specs.declared.section_id.SectionId.TheVariants as ids
-use Rattle.wasm_sections.specs.Globals.{global_text, IsGlobal, global_type}
-use Rattle.wasm_sections.specs.Memories.{memory_text, IsMemory, memory_type}
-use Rattle.wasm_sections.specs.Tables.{table_text, IsTable, table_type}
-use Rattle.wasm_sections.specs.Tags.{tag_text, IsTag, tag_type}
+use Rattle.wasm_sections.specs.Globals.{global_encoding, IsGlobal, global_type}
+use Rattle.wasm_sections.specs.Memories.{memory_encoding, IsMemory, memory_type}
+use Rattle.wasm_sections.specs.Tables.{table_encoding, IsTable, table_type}
+use Rattle.wasm_sections.specs.Tags.{tag_encoding, IsTag, tag_type}
 use Rattle.wasm_sections.specs.declared.import.EntityType.{EntityType}
 use Rattle.wasm_sections.specs.declared.import.EntityType.TheVariants.{Function, Table, Memory, Global, Tag, FunctionExact}
 use Rattle.wasm_sections.specs.declared.import.Import.{Import}
@@ -25,13 +25,13 @@ use Rattle.wasm_sections.specs.declared.import.Imports.TheVariants as groups
 
 -- The encoding of an entity: a byte for its kind, and its type. `FunctionExact` is not in the core
 -- specification.
-abbrev pub entity_text : EntityType → List ℕ
-entity_text (Function index) = 0x00 ∷ unsigned_text index
-entity_text (Table ty) = 0x01 ∷ table_text ty
-entity_text (Memory ty) = 0x02 ∷ memory_text ty
-entity_text (Global ty) = 0x03 ∷ global_text ty
-entity_text (Tag ty) = 0x04 ∷ tag_text ty
-entity_text (FunctionExact index) = 0x20 ∷ unsigned_text index
+abbrev pub entity_encoding : EntityType → List ℕ
+entity_encoding (Function index) = 0x00 ∷ unsigned_encoding index
+entity_encoding (Table ty) = 0x01 ∷ table_encoding ty
+entity_encoding (Memory ty) = 0x02 ∷ memory_encoding ty
+entity_encoding (Global ty) = 0x03 ∷ global_encoding ty
+entity_encoding (Tag ty) = 0x04 ∷ tag_encoding ty
+entity_encoding (FunctionExact index) = 0x20 ∷ unsigned_encoding index
 
 -- The numbers of the entity are in range.
 abbrev pub IsEntity : EntityType → Type 0
@@ -68,40 +68,40 @@ pub record ImportItem : Type 0 where
   pub imported : Imported
 
 -- The encoding of a group's item: its name and its entity.
-abbrev pub named_text : List ℕ × EntityType → List ℕ
-named_text i = frame_text i.0 ++ entity_text i.1
+abbrev pub named_encoding : List ℕ × EntityType → List ℕ
+named_encoding i = size_prefixed_encoding i.0 ++ entity_encoding i.1
 
 -- The encoding of the imports from a module. A group begins with 00, and with a byte for its kind
 -- that no entity has.
-abbrev pub imported_text : Imported → List ℕ
-imported_text (single n ty) = frame_text n ++ entity_text ty
-imported_text (named items) = 0x00 ∷ 0x7F ∷ vec_text named_text items
-imported_text (alike ty names) = 0x00 ∷ 0x7E ∷ (entity_text ty ++ vec_text frame_text names)
+abbrev pub imported_encoding : Imported → List ℕ
+imported_encoding (single n ty) = size_prefixed_encoding n ++ entity_encoding ty
+imported_encoding (named items) = 0x00 ∷ 0x7F ∷ vec_encoding named_encoding items
+imported_encoding (alike ty names) = 0x00 ∷ 0x7E ∷ (entity_encoding ty ++ vec_encoding size_prefixed_encoding names)
 
 -- The encoding of an entry: the module name, and the imports from that module.
-abbrev pub import_text : ImportItem → List ℕ
-import_text i = frame_text i.module_name ++ imported_text i.imported
+abbrev pub import_encoding : ImportItem → List ℕ
+import_encoding i = size_prefixed_encoding i.module_name ++ imported_encoding i.imported
 
 -- The lengths of item names are at most 2^32 - 1, and so is the number of items in a group.
-abbrev pub ImportedFits : Imported → Type 0
-ImportedFits (single n ty) = FrameFits n
-ImportedFits (named items) = VecFits (λ i. FrameFits i.0) items
-ImportedFits (alike ty names) = VecFits FrameFits names
+abbrev pub IsEncodableImported : Imported → Type 0
+IsEncodableImported (single n ty) = HasEncodableSize n
+IsEncodableImported (named items) = IsEncodableVec (λ i. HasEncodableSize i.0) items
+IsEncodableImported (alike ty names) = IsEncodableVec HasEncodableSize names
 
 -- The lengths of all names of the entry are at most 2^32 - 1, and so is the number of items in a
 -- group.
-abbrev pub ImportFits : ImportItem → Type 0
-ImportFits i = FrameFits i.module_name × ImportedFits i.imported
+abbrev pub IsEncodableImport : ImportItem → Type 0
+IsEncodableImport i = HasEncodableSize i.module_name × IsEncodableImported i.imported
 
 -- The name is UTF-8 of at most 2^32 - 1 bytes, and the numbers of the entity are in range.
 abbrev pub IsNamed : List ℕ × EntityType → Type 0
-IsNamed i = NameFits i.0 × IsEntity i.1
+IsNamed i = IsEncodableName i.0 × IsEntity i.1
 
 -- Item names are UTF-8, numbers are in range, and the list of a group fits.
 abbrev pub IsImported : Imported → Type 0
 IsImported (single n ty) = IsUtf8 n × IsEntity ty
-IsImported (named items) = VecFits IsNamed items
-IsImported (alike ty names) = IsEntity ty × VecFits NameFits names
+IsImported (named items) = IsEncodableVec IsNamed items
+IsImported (alike ty names) = IsEntity ty × IsEncodableVec IsEncodableName names
 
 -- The entry is well-formed: names are UTF-8, numbers are in range, and the list of a group fits.
 abbrev pub IsImport : ImportItem → Type 0
@@ -156,12 +156,12 @@ import_format = mapped import_of (pair name after_module)
 
 -- The kind of the entries of an import section.
 abbrev pub import_items : Kind ImportItem ImportItem
-import_items = record { text = import_text; IsPlain = IsImport; IsPlainWide = IsImport; normal_form = λ import. import; format = import_format }
+import_items = record { encoding = import_encoding; IsWellFormed = IsImport; IsWellFormedPadded = IsImport; normal_form = λ import. import; format = import_format }
 
 -- The pieces encode these entries.
-abbrev pub HoldsImports : List (List ℕ) → List ImportItem → Type 0
-HoldsImports = HoldsItems import_items
+abbrev pub ContainsImports : List (List ℕ) → List ImportItem → Type 0
+ContainsImports = ContainsItems import_items
 
 -- The import section that decodes to these entries.
-abbrev pub import_reading : List ImportItem → SectionReading
-import_reading imports = reading_of (number_of ids.Import) (vec import_format) imports
+abbrev pub import_decoding : List ImportItem → SectionDecoding
+import_decoding imports = decoding_of (number_of ids.Import) (vec import_format) imports

@@ -1,11 +1,11 @@
 -- This file defines memory types, their encoding and their format. Core specification, Binary
 -- Format, Types, Memory Types, and Modules, Memory Section.
 use Rattle.std.specs.Prelude.{ℕ, ◌^◌, ◌<◌, List, ◌∷◌, ◌++◌, Option, Some, None, IfSome}
-use Rattle.wasm_base.specs.Entries.{Kind, HoldsItems}
+use Rattle.wasm_base.specs.Entries.{Kind, ContainsItems}
 use Rattle.wasm_base.specs.Formats.{Format, u32, u64, mapped, tagged, pair, optional, is_given, vec}
-use Rattle.wasm_base.specs.Numbers.{unsigned_text}
-use Rattle.wasm_base.specs.Texts.{optional_text}
-use Rattle.wasm_base.specs.Modules.{SectionReading, reading_of}
+use Rattle.wasm_base.specs.Numbers.{unsigned_encoding}
+use Rattle.wasm_base.specs.Encodings.{optional_encoding}
+use Rattle.wasm_base.specs.Modules.{SectionDecoding, decoding_of}
 use Rattle.wasm_base.specs.SectionId.{number_of}
 use Rattle.wasm_base.specs.declared.section_id.SectionId.TheVariants as ids
 use Rattle.wasm_sections.specs.Flags.{Flags, flags, flags_code}
@@ -17,8 +17,8 @@ memory_flags m = record { has_maximum = is_given m.maximum; shared = m.shared; i
 
 -- The encoding of a memory type: flags, the minimum, and the maximum and the exponent of the page
 -- size if they are given.
-abbrev pub memory_text : MemoryType → List ℕ
-memory_text m = flags_code (memory_flags m) ∷ (unsigned_text m.minimum ++ (optional_text unsigned_text m.maximum ++ optional_text unsigned_text m.page_size_log2))
+abbrev pub memory_encoding : MemoryType → List ℕ
+memory_encoding m = flags_code (memory_flags m) ∷ (unsigned_encoding m.minimum ++ (optional_encoding unsigned_encoding m.maximum ++ optional_encoding unsigned_encoding m.page_size_log2))
 
 -- The memory type is well-formed: its numbers are in range.
 pub record IsMemory (m : MemoryType) : Type 0 where
@@ -43,7 +43,7 @@ memory_type = tagged flags after_memory_flags
 
 -- The kind of memory types.
 abbrev pub memory_items : Kind MemoryType MemoryType
-memory_items = record { text = memory_text; IsPlain = IsMemory; IsPlainWide = IsMemory; normal_form = λ memory. memory; format = memory_type }
+memory_items = record { encoding = memory_encoding; IsWellFormed = IsMemory; IsWellFormedPadded = IsMemory; normal_form = λ memory. memory; format = memory_type }
 
 -- The exponent of 2 of the page size: 16 by default.
 abbrev pub page_exponent : Option ℕ → ℕ
@@ -51,9 +51,9 @@ page_exponent None = 16
 page_exponent (Some n) = n
 
 -- The pieces encode these memory types.
-abbrev pub HoldsMemories : List (List ℕ) → List MemoryType → Type 0
-HoldsMemories = HoldsItems memory_items
+abbrev pub ContainsMemories : List (List ℕ) → List MemoryType → Type 0
+ContainsMemories = ContainsItems memory_items
 
 -- The memory section that decodes to these memory types.
-abbrev pub memory_reading : List MemoryType → SectionReading
-memory_reading memories = reading_of (number_of ids.Memory) (vec memory_type) memories
+abbrev pub memory_decoding : List MemoryType → SectionDecoding
+memory_decoding memories = decoding_of (number_of ids.Memory) (vec memory_type) memories

@@ -1,23 +1,23 @@
 -- This file defines table types and tables, their encodings and their formats. Core specification,
 -- Binary Format, Types, Table Types, and Modules, Table Section.
 use Rattle.std.specs.Prelude.{ℕ, ◌^◌, ◌<◌, List, [], ◌∷◌, ◌++◌, Bool, true, false, Option, Some, None, IfSome, option_map}
-use Rattle.wasm_base.specs.Entries.{Kind, HoldsItems}
+use Rattle.wasm_base.specs.Entries.{Kind, ContainsItems}
 use Rattle.wasm_base.specs.Formats.{Format, u64, impossible, mapped, tagged, pair, optional, when, one_of, prefixed, is_given, vec}
-use Rattle.wasm_base.specs.Numbers.{Mode, shortest, wide, unsigned_text}
-use Rattle.wasm_base.specs.Texts.{optional_text}
-use Rattle.wasm_base.specs.Types.{ref_type, ref_text, IsRef}
+use Rattle.wasm_base.specs.Numbers.{Mode, minimal, padded, unsigned_encoding}
+use Rattle.wasm_base.specs.Encodings.{optional_encoding}
+use Rattle.wasm_base.specs.Types.{ref_type, ref_encoding, IsRef}
 use Rattle.wasm_base.specs.declared.types.RefType.{RefType}
 use Rattle.wasm_base.specs.declared.types.ValType.{ValType}
 use Rattle.wasm_base.specs.declared.types.ValType.TheVariants.{I32, I64}
-use Rattle.wasm_base.specs.Modules.{SectionReading, reading_of}
+use Rattle.wasm_base.specs.Modules.{SectionDecoding, decoding_of}
 use Rattle.wasm_base.specs.SectionId.{number_of}
 use Rattle.wasm_base.specs.declared.section_id.SectionId.TheVariants as ids
-use Rattle.wasm_code.specs.Expressions.{expression, expression_text}
+use Rattle.wasm_code.specs.Expressions.{expression, expression_encoding}
 use Rattle.wasm_insn.specs.Plain.{Plain}
 use Rattle.wasm_sections.specs.Constants.{Stored, IsStoredIn, instructions_view}
 use Rattle.wasm_sections.specs.Flags.{Flags, flags, flags_code}
 use Rattle.wasm_sections.specs.declared.table.TableType.{TableType}
-use Rattle.wasm_sections.specs.declared.table.Limits.{Limits as ReadLimits}
+use Rattle.wasm_sections.specs.declared.table.Limits.{Limits as DecodeLimits}
 use Rattle.wasm_sections.specs.declared.table.TableItem.{TableItem as ReadTable}
 
 -- The flags of a table type, which has no page size.
@@ -26,8 +26,8 @@ table_flags t = record { has_maximum = is_given t.maximum; shared = t.shared; is
 
 -- The encoding of a table type: the type of its elements, flags, the minimum, and the maximum if it
 -- is given.
-abbrev pub table_text : TableType → List ℕ
-table_text t = ref_text t.element_type ++ (flags_code (table_flags t) ∷ (unsigned_text t.minimum ++ optional_text unsigned_text t.maximum))
+abbrev pub table_encoding : TableType → List ℕ
+table_encoding t = ref_encoding t.element_type ++ (flags_code (table_flags t) ∷ (unsigned_encoding t.minimum ++ optional_encoding unsigned_encoding t.maximum))
 
 -- The table type is well-formed: its numbers are in range.
 pub record IsTable (t : TableType) : Type 0 where
@@ -85,13 +85,13 @@ abbrev pub before_init : List ℕ
 before_init = 0x40 ∷ 0x00 ∷ []
 
 -- The encoding of a table: its type; or with an initial value, 40 00, its type and the expression.
-abbrev pub table_init_text : TableType → Option Stored → List ℕ
-table_init_text t None = table_text t
-table_init_text t (Some e) = before_init ++ (table_text t ++ expression_text e.bytes)
+abbrev pub table_init_encoding : TableType → Option Stored → List ℕ
+table_init_encoding t None = table_encoding t
+table_init_encoding t (Some e) = before_init ++ (table_encoding t ++ expression_encoding e.bytes)
 
 -- The encoding of a table that is an argument.
-abbrev pub table_item_text : GivenTable → List ℕ
-table_item_text t = table_init_text t.table_type t.init
+abbrev pub table_item_encoding : GivenTable → List ℕ
+table_item_encoding t = table_init_encoding t.table_type t.init
 
 -- The table type is well-formed, and the bytes of the expression, if any, encode its instructions
 -- in this mode.
@@ -101,11 +101,11 @@ pub record IsGivenTableIn (mode : Mode) (t : GivenTable) : Type 0 where
 
 -- The table is well-formed: its numbers are in range, and its expression is minimally encoded.
 abbrev pub IsGivenTable : GivenTable → Type 0
-IsGivenTable t = IsGivenTableIn shortest t
+IsGivenTable t = IsGivenTableIn minimal t
 
 -- The table is well-formed, and its expression may be padded.
-abbrev pub IsGivenTableWide : GivenTable → Type 0
-IsGivenTableWide t = IsGivenTableIn wide t
+abbrev pub IsGivenTablePadded : GivenTable → Type 0
+IsGivenTablePadded t = IsGivenTableIn padded t
 
 -- The instructions of an optional initial value.
 abbrev pub init_of : Option Stored → Option (List Plain)
@@ -130,12 +130,12 @@ table_item = one_of (mapped without_init table_type) (mapped with_init (prefixed
 
 -- The kind of tables.
 abbrev pub table_items : Kind GivenTable TableItem
-table_items = record { text = table_item_text; IsPlain = IsGivenTable; IsPlainWide = IsGivenTableWide; normal_form = table_item_of; format = table_item }
+table_items = record { encoding = table_item_encoding; IsWellFormed = IsGivenTable; IsWellFormedPadded = IsGivenTablePadded; normal_form = table_item_of; format = table_item }
 
 -- ---- decoded tables
 
 -- The view of decoded limits.
-abbrev pub limits_view : ReadLimits → Limits
+abbrev pub limits_view : DecodeLimits → Limits
 limits_view l = record { table64 = l.table64; shared = l.shared; minimum = l.minimum; maximum = l.maximum }
 
 -- The view of a decoded table.
@@ -143,9 +143,9 @@ abbrev pub table_view : {A : Type 0} → ReadTable A → TableItem
 table_view t = record { table_type = t.table_type; init = option_map instructions_view t.init }
 
 -- The pieces encode these tables.
-abbrev pub HoldsTables : List (List ℕ) → List TableItem → Type 0
-HoldsTables = HoldsItems table_items
+abbrev pub ContainsTables : List (List ℕ) → List TableItem → Type 0
+ContainsTables = ContainsItems table_items
 
 -- The table section that decodes to these tables.
-abbrev pub table_reading : List TableItem → SectionReading
-table_reading tables = reading_of (number_of ids.Table) (vec table_item) tables
+abbrev pub table_decoding : List TableItem → SectionDecoding
+table_decoding tables = decoding_of (number_of ids.Table) (vec table_item) tables

@@ -1,10 +1,10 @@
 -- This file defines tag types, their encoding and their format. Core specification, Binary Format,
 -- Modules, Tag Section.
 use Rattle.std.specs.Prelude.{ℕ, ◌^◌, ◌<◌, List, ◌∷◌}
-use Rattle.wasm_base.specs.Entries.{Kind, HoldsItems}
+use Rattle.wasm_base.specs.Entries.{Kind, ContainsItems}
 use Rattle.wasm_base.specs.Formats.{Format, u32, coded, mapped, pair, vec}
-use Rattle.wasm_base.specs.Numbers.{unsigned_text}
-use Rattle.wasm_base.specs.Modules.{SectionReading, reading_of}
+use Rattle.wasm_base.specs.Numbers.{unsigned_encoding}
+use Rattle.wasm_base.specs.Modules.{SectionDecoding, decoding_of}
 use Rattle.wasm_base.specs.SectionId.{number_of}
 use Rattle.wasm_base.specs.declared.section_id.SectionId.TheVariants as ids
 use Rattle.wasm_sections.specs.declared.tag.TagKind.{TagKind}
@@ -16,8 +16,8 @@ abbrev pub tag_code : TagKind → ℕ
 tag_code Exception = 0x00
 
 -- The encoding of a tag type: the byte of its kind, and the index of a function type.
-abbrev pub tag_text : TagType → List ℕ
-tag_text t = tag_code t.kind ∷ unsigned_text t.func_type_idx
+abbrev pub tag_encoding : TagType → List ℕ
+tag_encoding t = tag_code t.kind ∷ unsigned_encoding t.func_type_idx
 
 -- The tag type is well-formed: its index is below 2^32.
 abbrev pub IsTag : TagType → Type 0
@@ -33,12 +33,12 @@ tag_type = mapped tag_of (pair (coded tag_code) u32)
 
 -- The kind of tag types.
 abbrev pub tag_items : Kind TagType TagType
-tag_items = record { text = tag_text; IsPlain = IsTag; IsPlainWide = IsTag; normal_form = λ tag. tag; format = tag_type }
+tag_items = record { encoding = tag_encoding; IsWellFormed = IsTag; IsWellFormedPadded = IsTag; normal_form = λ tag. tag; format = tag_type }
 
 -- The pieces encode these tag types.
-abbrev pub HoldsTags : List (List ℕ) → List TagType → Type 0
-HoldsTags = HoldsItems tag_items
+abbrev pub ContainsTags : List (List ℕ) → List TagType → Type 0
+ContainsTags = ContainsItems tag_items
 
 -- The tag section that decodes to these tag types.
-abbrev pub tag_reading : List TagType → SectionReading
-tag_reading tags = reading_of (number_of ids.Tag) (vec tag_type) tags
+abbrev pub tag_decoding : List TagType → SectionDecoding
+tag_decoding tags = decoding_of (number_of ids.Tag) (vec tag_type) tags

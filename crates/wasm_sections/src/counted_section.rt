@@ -2,10 +2,10 @@
 ghost use Rattle.std.specs.Prelude.{◌≡◌, ◌≢◌, ℕ, List, [], ◌∷◌, length, IfOk, IsTrue, ◌↔◌, slice_get, ⊤};
 ghost use Rattle.std.proofs.Common.{refl};
 ghost use Rattle.std.specs.Option.{option_copied};
-ghost use Rattle.wasm_base.specs.Calls.{Adds, ReadsBackBoth};
-ghost use Rattle.wasm_base.specs.Entries.{HoldsItems, HoldsWide, counted_format};
+ghost use Rattle.wasm_base.specs.Calls.{Adds, DecodesBackBoth};
+ghost use Rattle.wasm_base.specs.Entries.{ContainsItems, ContainsPadded, counted_format};
 ghost use Rattle.wasm_base.specs.Once.{AddsOnce};
-ghost use Rattle.wasm_base.specs.Pieces.{section_text, SectionFits, IsOverlong};
+ghost use Rattle.wasm_base.specs.Pieces.{section_encoding, IsEncodableSection, IsOverlong};
 ghost use Rattle.wasm_base.specs.declared.refused.Refused.TheVariants.{TooLong};
 
 use std::alloc::{Allocator, Global};
@@ -67,7 +67,7 @@ impl<K, A: Allocator> CountedSection<K, A> {
 
     /// Adds the encoding of the record as an entry.
     pub(crate) fn add_record<T: Encode>(&mut self, given: &T) -> R<()>
-        ensures { Adds (T.text given.now) (T.fits given.now) self.old self.new result }
+        ensures { Adds (T.encoding given.now) (T.encodable given.now) self.old self.new result }
     {
         self.pieces.add_encoded(given)
     }
@@ -75,7 +75,7 @@ impl<K, A: Allocator> CountedSection<K, A> {
     /// Adds an encoding of the item as an entry, and consumes the item.
     pub(crate) fn add_once<T: EncodeOnce + Drop>(&mut self, item: T) -> R<()>
         requires { T.lawful item }
-        ensures { AddsOnce (T.gives item) (T.fits item) self.old self.new result }
+        ensures { AddsOnce (T.gives item) (T.encodable item) self.old self.new result }
     {
         self.pieces.add_once(item)
     }
@@ -113,13 +113,13 @@ impl<K, A: Allocator + Copy> CountedSection<K, A> {
 
 /// Encodes the size prefix, the number of entries, and the entries.
 impl<K: ItemKind, A: Allocator> Encode for CountedSection<K, A> {
-    ghost text = { section_text };
+    ghost encoding = { section_encoding };
 
-    ghost fits = { SectionFits };
+    ghost encodable = { IsEncodableSection };
 
     ghost overlong = { IsOverlong };
 
-    ghost reading = { λ section. ReadsBackBoth (counted_format K.kind.format) (HoldsItems K.kind section) (HoldsWide K.kind.format section) (section_text section) };
+    ghost decoding = { λ section. DecodesBackBoth (counted_format K.kind.format) (ContainsItems K.kind section) (ContainsPadded K.kind.format section) (section_encoding section) };
 
     fn encode<B: Allocator>(&self, sink: &mut Vec<u8, B>) -> R<()> {
         K::laws();
@@ -128,8 +128,8 @@ impl<K: ItemKind, A: Allocator> Encode for CountedSection<K, A> {
 }
 
 impl<K: ItemKind, A: Allocator> Section for CountedSection<K, A> {
-    ghost use Rattle.wasm_base.specs.Entries.{HoldsItems, counted_format};
-    ghost use Rattle.wasm_base.specs.Pieces.{SectionPayload, section_framed};
+    ghost use Rattle.wasm_base.specs.Entries.{ContainsItems, counted_format};
+    ghost use Rattle.wasm_base.specs.Pieces.{SectionPayload, section_sized};
 
     ghost id_of = { λ _. K.section_id };
 
@@ -137,7 +137,7 @@ impl<K: ItemKind, A: Allocator> Section for CountedSection<K, A> {
 
     ghost format = { counted_format K.kind.format };
 
-    ghost says = { HoldsItems K.kind };
+    ghost says = { ContainsItems K.kind };
 
     ghost payload = { SectionPayload };
 
@@ -145,17 +145,17 @@ impl<K: ItemKind, A: Allocator> Section for CountedSection<K, A> {
         K::id()
     }
 
-    ghost framed = { section_framed };
+    ghost sized = { section_sized };
 
-    ghost reads_back = { λ section promised. promised.plain };
+    ghost decodes_back = { λ section promised. promised.plain };
 }
 
 impl<K: ItemKind, T: RecordOf<K>, A: Allocator> Counted<T> for CountedSection<K, A> {
     ghost pieces = { λ section. section };
 
-    ghost item_text = { T.text };
+    ghost item_encoding = { T.encoding };
 
-    ghost item_fits = { T.fits };
+    ghost item_encodable = { T.encodable };
 
     fn add(&mut self, item: &T) -> R<()> {
         self.add_record(item)

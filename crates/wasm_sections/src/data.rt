@@ -2,23 +2,23 @@
 ghost use Rattle.std.specs.Prelude.{◌≡◌, ◌≢◌, ℕ, List, ◌++◌, IfOk, ⊤, IfErr, Err, OnOk, map};
 ghost use Rattle.wasm_base.specs.Calls.{Adds};
 ghost use Rattle.wasm_base.specs.Formats.{byte, pair, vec};
-ghost use Rattle.wasm_base.specs.Going.{FillsNothing};
+ghost use Rattle.wasm_base.specs.Continuing.{RejectsWhole};
 ghost use Rattle.wasm_base.specs.Iterators.{HasKnownLength};
-ghost use Rattle.wasm_base.specs.Numbers.{wide};
-ghost use Rattle.wasm_base.specs.Reading.{UniqueReading};
-ghost use Rattle.wasm_base.specs.Texts.{frame_text};
+ghost use Rattle.wasm_base.specs.Numbers.{padded};
+ghost use Rattle.wasm_base.specs.Decoding.{Unambiguous};
+ghost use Rattle.wasm_base.specs.Encodings.{size_prefixed_encoding};
 ghost use Rattle.wasm_base.specs.declared.refused.Refused.TheVariants.{TooLong};
 ghost use Rattle.wasm_code.specs.Expressions.{expression};
-ghost use Rattle.wasm_reader_base.specs.Shortest.{AppendsShortest, IsFrontOf, HasEncoding};
+ghost use Rattle.wasm_reader_base.specs.Minimal.{AppendsMinimal, IsFrontOf, HasEncoding};
 ghost use Rattle.wasm_reader_base.specs.declared.fault.ReadFault.TheVariants.{Memory};
 ghost use Rattle.wasm_sections.specs.Constants.{instructions_view};
 ghost use Rattle.wasm_sections.specs.DataSegments.{data_items, DataItem, active, data_item, segment_view};
 
 use crate::counted_section::{CountedSection, ItemKind};
 use std::alloc::{Allocator, Global};
-use wasm_base::{Encode, Kind, Lent, R, SectionId, bytes_of, encode_frame};
+use wasm_base::{Encode, Kind, Lent, R, SectionId, bytes_of, encode_size_prefixed};
 use wasm_code::ConstExpr;
-use wasm_reader_base::{Dropped, Passed, ReadFault, Readable, Shorten, Spelled, read_whole};
+use wasm_reader_base::{Dropped, Skip, ReadFault, Readable, Shorten, Layout, read_whole};
 use wasm_reader_insn::Expression;
 
 /// The data section: segments of bytes that a module copies to memories.
@@ -89,7 +89,7 @@ impl<'a, D: Clone, A: Allocator> DataSegment<'a, D, A> {
 }
 
 impl Kind for DataItems {
-    ghost use Rattle.wasm_sections.specs.DataSegments.{GivenData, data_text, IsGivenData, data_of};
+    ghost use Rattle.wasm_sections.specs.DataSegments.{GivenData, data_encoding, IsGivenData, data_of};
 
     ghost Record = { GivenData };
 
@@ -115,7 +115,7 @@ impl ItemKind for DataItems {
 /// Adding calls. A segment is a flag, the memory if it is not 0, the offset of an active segment,
 /// and the bytes: see "Data Section".
 impl<A: Allocator> DataSection<A> {
-    ghost use Rattle.wasm_sections.specs.DataSegments.{segment_text, active_text, passive_text, AddsBytes};
+    ghost use Rattle.wasm_sections.specs.DataSegments.{segment_encoding, active_encoding, passive_encoding, AddsBytes};
 
     /// Adds a segment. If there are too many bytes, it returns `TooLong` and requests none, as
     /// tests show.
@@ -126,7 +126,7 @@ impl<A: Allocator> DataSection<A> {
     where
         D::IntoIter: ExactSizeIterator + Drop,
         requires { HasKnownLength D.into_iter_gives D.IntoIter.can_next D.IntoIter.next_gives D.IntoIter.remaining segment.bytes }
-        ensures { AddsBytes D.into_iter_gives D.IntoIter.next_gives D.IntoIter.remaining segment.entry.bytes (segment_text segment.entry.mode) self.old self.new result }
+        ensures { AddsBytes D.into_iter_gives D.IntoIter.next_gives D.IntoIter.remaining segment.entry.bytes (segment_encoding segment.entry.mode) self.old self.new result }
     {
         let DataSegment { mode, bytes } = segment;
         match mode {
@@ -149,7 +149,7 @@ impl<A: Allocator> DataSection<A> {
     where
         D::IntoIter: ExactSizeIterator + Drop,
         requires { HasKnownLength D.into_iter_gives D.IntoIter.can_next D.IntoIter.next_gives D.IntoIter.remaining bytes }
-        ensures { AddsBytes D.into_iter_gives D.IntoIter.next_gives D.IntoIter.remaining bytes (active_text memory_index offset.now) self.old self.new result }
+        ensures { AddsBytes D.into_iter_gives D.IntoIter.next_gives D.IntoIter.remaining bytes (active_encoding memory_index offset.now) self.old self.new result }
     {
         if memory_index == 0 {
             self.add_bytes((ACTIVE, Lent(offset)), bytes)
@@ -164,7 +164,7 @@ impl<A: Allocator> DataSection<A> {
     where
         D::IntoIter: ExactSizeIterator + Drop,
         requires { HasKnownLength D.into_iter_gives D.IntoIter.can_next D.IntoIter.next_gives D.IntoIter.remaining bytes }
-        ensures { AddsBytes D.into_iter_gives D.IntoIter.next_gives D.IntoIter.remaining bytes passive_text self.old self.new result }
+        ensures { AddsBytes D.into_iter_gives D.IntoIter.next_gives D.IntoIter.remaining bytes passive_encoding self.old self.new result }
     {
         self.add_bytes(PASSIVE, bytes)
     }
@@ -185,8 +185,8 @@ impl<A: Allocator> DataSection<A> {
     where
         D::IntoIter: ExactSizeIterator + Drop,
         requires length { HasKnownLength D.into_iter_gives D.IntoIter.can_next D.IntoIter.next_gives D.IntoIter.remaining bytes }
-        requires fits { S.fits front }
-        ensures { AddsBytes D.into_iter_gives D.IntoIter.next_gives D.IntoIter.remaining bytes (λ b. S.text front ++ frame_text b) self.old self.new result }
+        requires encodable { S.encodable front }
+        ensures { AddsBytes D.into_iter_gives D.IntoIter.next_gives D.IntoIter.remaining bytes (λ b. S.encoding front ++ size_prefixed_encoding b) self.old self.new result }
     {
         let bytes = bytes_of(bytes)?;
         self.add_once((front, bytes))
@@ -204,16 +204,16 @@ pub(crate) const ACTIVE_IN_MEMORY: u8 = 0x02;
 #[derive(Clone, Copy, Debug)]
 struct Bytes<'a>(&'a [u8]);
 
-impl<'a> Spelled for Bytes<'a> {
+impl<'a> Layout for Bytes<'a> {
     ghost Value = { List ℕ };
 
     ghost format = { vec byte };
 
     ghost view = { λ b. b.0.now };
 
-    #[tactic(auto, using(wasm_base::proofs::BaseLaws::vec_bytes_unique))]
+    #[tactic(auto, using(wasm_base::proofs::BaseLaws::vec_bytes_unambiguous))]
     fn laws()
-        ensures { UniqueReading (vec byte) }
+        ensures { Unambiguous (vec byte) }
     {}
 }
 
@@ -241,16 +241,16 @@ pub enum Segment<'a, A: Allocator = Global> {
     },
 }
 
-impl<'a, A: Allocator> Spelled for Segment<'a, A> {
+impl<'a, A: Allocator> Layout for Segment<'a, A> {
     ghost Value = { DataItem };
 
     ghost format = { data_item };
 
     ghost view = { segment_view };
 
-    #[tactic(auto, using(crate::proofs::DataLaws::data_unique))]
+    #[tactic(auto, using(crate::proofs::DataLaws::data_unambiguous))]
     fn laws()
-        ensures { UniqueReading data_item }
+        ensures { Unambiguous data_item }
     {}
 }
 
@@ -311,25 +311,25 @@ pub fn read_segments<'a, A: Allocator + Copy + 'a>(
     bytes: &'a [u8],
     alloc: A,
 ) -> Result<Vec<Segment<'a, A>, A>, ReadFault>
-    ensures found { IfOk result (λ x. vec data_item wide bytes.now (map segment_view x.items)) }
-    ensures none { IfErr result (λ e. e ≢ Memory → FillsNothing (vec data_item) bytes.now) }
+    ensures found { IfOk result (λ x. vec data_item padded bytes.now (map segment_view x.items)) }
+    ensures none { IfErr result (λ e. e ≢ Memory → RejectsWhole (vec data_item) bytes.now) }
 {
     read_whole::<'a, Vec<Segment<'a, A>, A>, A>(bytes, alloc)
 }
 
 /// Appends the offset and the bytes of a segment.
-#[tactic(auto, using(crate::proofs::DataLaws::placed_appended, crate::proofs::DataLaws::offset_encoded, crate::proofs::DataLaws::bytes_fit))]
+#[tactic(auto, using(crate::proofs::DataLaws::placed_appended, crate::proofs::DataLaws::offset_encoded, crate::proofs::DataLaws::bytes_encodable))]
 fn append_placed<A: Allocator, B: Allocator>(
     offset: &Expression<A>,
     bytes: &[u8],
-    out: &mut Vec<u8, B>,
+    sink: &mut Vec<u8, B>,
 ) -> R<()>
-    ensures ok { OnOk result (AppendsShortest (pair expression (vec byte)) (instructions_view offset.now, bytes.now) out.old.items out.new.items) }
-    ensures front { IsFrontOf out.old.items out.new.items }
+    ensures ok { OnOk result (AppendsMinimal (pair expression (vec byte)) (instructions_view offset.now, bytes.now) sink.old.items sink.new.items) }
+    ensures front { IsFrontOf sink.old.items sink.new.items }
     ensures too_long { HasEncoding (pair expression (vec byte)) (instructions_view offset.now, bytes.now) → result ≢ Err TooLong }
 {
-    offset.write_minimal(out)?;
-    encode_frame(out, bytes)
+    offset.write_minimal(sink)?;
+    encode_size_prefixed(sink, bytes)
 }
 
 /// Appends an active segment of the memory. Memory 0 has a flag of its own.
@@ -338,53 +338,53 @@ fn append_active<A: Allocator, B: Allocator>(
     memory: u32,
     offset: &Expression<A>,
     bytes: &[u8],
-    out: &mut Vec<u8, B>,
+    sink: &mut Vec<u8, B>,
 ) -> R<()>
-    ensures ok { OnOk result (AppendsShortest data_item (active memory (instructions_view offset.now) bytes.now) out.old.items out.new.items) }
-    ensures front { IsFrontOf out.old.items out.new.items }
+    ensures ok { OnOk result (AppendsMinimal data_item (active memory (instructions_view offset.now) bytes.now) sink.old.items sink.new.items) }
+    ensures front { IsFrontOf sink.old.items sink.new.items }
     ensures too_long { HasEncoding data_item (active memory (instructions_view offset.now) bytes.now) → result ≢ Err TooLong }
 {
     if memory == 0 {
-        0u32.encode(out)?;
-        return append_placed(offset, bytes, out);
+        0u32.encode(sink)?;
+        return append_placed(offset, bytes, sink);
     }
-    (2u32, memory).encode(out)?;
-    append_placed(offset, bytes, out)
+    (2u32, memory).encode(sink)?;
+    append_placed(offset, bytes, sink)
 }
 
 impl<'a, A: Allocator> Shorten for Segment<'a, A> {
-    #[tactic(auto, using(crate::proofs::DataLaws::passive_appended, crate::proofs::DataLaws::passive_fits))]
-    fn write_minimal<B: Allocator>(&self, out: &mut Vec<u8, B>) -> R<()> {
+    #[tactic(auto, using(crate::proofs::DataLaws::passive_appended, crate::proofs::DataLaws::passive_encodable))]
+    fn write_minimal<B: Allocator>(&self, sink: &mut Vec<u8, B>) -> R<()> {
         match self {
             Segment::Active {
                 memory,
                 offset,
                 bytes,
-            } => append_active(*memory, offset, bytes, out),
+            } => append_active(*memory, offset, bytes, sink),
             Segment::Passive { bytes } => {
-                1u32.encode(out)?;
-                encode_frame(out, bytes)
+                1u32.encode(sink)?;
+                encode_size_prefixed(sink, bytes)
             }
         }
     }
 }
 
-impl<'a, A: Allocator + Copy> Passed<'a, A> for Segment<'a, A> {
+impl<'a, A: Allocator + Copy> Skip<'a, A> for Segment<'a, A> {
     ghost Value = { DataItem };
 
     ghost format = { data_item };
 
-    #[tactic(auto, using(crate::proofs::DataLaws::data_unique))]
+    #[tactic(auto, using(crate::proofs::DataLaws::data_unambiguous))]
     fn laws()
-        ensures { UniqueReading data_item }
+        ensures { Unambiguous data_item }
     {}
 
     #[tactic(auto, using(crate::proofs::DataLaws::segment_steps))]
-    fn pass(bytes: &'a [u8], alloc: A) -> Result<&'a [u8], ReadFault> {
+    fn skip(bytes: &'a [u8], alloc: A) -> Result<&'a [u8], ReadFault> {
         let (flag, rest) = <u32 as Readable<'a, A>>::read(bytes, alloc)?;
         match flag {
             0 => {
-                let rest = <(Expression<A>, Dropped<Bytes<'a>>) as Passed<'a, A>>::pass(
+                let rest = <(Expression<A>, Dropped<Bytes<'a>>) as Skip<'a, A>>::skip(
                     rest, alloc,
                 )?;
                 Ok(rest)
@@ -398,7 +398,7 @@ impl<'a, A: Allocator + Copy> Passed<'a, A> for Segment<'a, A> {
                 if memory == 0 {
                     return Err(ReadFault::UnknownTag);
                 }
-                let rest = <(Expression<A>, Dropped<Bytes<'a>>) as Passed<'a, A>>::pass(
+                let rest = <(Expression<A>, Dropped<Bytes<'a>>) as Skip<'a, A>>::skip(
                     rest, alloc,
                 )?;
                 Ok(rest)

@@ -2,10 +2,10 @@
 ghost use Rattle.std.specs.Prelude.{◌≡◌, ◌≢◌, ◌≤◌, IfOk, ⊤};
 ghost use Rattle.wasm_base.specs.Calls.{Adds};
 ghost use Rattle.wasm_base.specs.declared.refused.Refused.TheVariants.{TooLong};
-ghost use Rattle.wasm_code.specs.Expressions.{expression_text};
+ghost use Rattle.wasm_code.specs.Expressions.{expression_encoding};
 ghost use Rattle.wasm_immediates.specs.Immediates.{where_set};
-ghost use Rattle.wasm_sections.specs.Elements.{element_items, is_funcref, needs_table, settled_table, are_expressions, elements_text, ElementsFit};
-ghost use Rattle.wasm_code.specs.Expressions.{expression_text};
+ghost use Rattle.wasm_sections.specs.Elements.{element_items, is_funcref, needs_table, settled_table, are_expressions, elements_encoding, AreEncodableElements};
+ghost use Rattle.wasm_code.specs.Expressions.{expression_encoding};
 
 use crate::counted_section::{CountedSection, ItemKind};
 use crate::flags::where_set;
@@ -194,21 +194,21 @@ const FUNCTIONS: u8 = 0x00;
 
 /// References, and whether their type is explicit in the encoding.
 #[derive(Drop)]
-struct Told<'a, 'b, A: Allocator> {
-    told: bool,
+struct ExplicitKind<'a, 'b, A: Allocator> {
+    explicit: bool,
     elements: &'b Elements<'a, A>,
 }
 
 /// Encodes the type if it is explicit, and the references.
-impl<A: Allocator> Encode for Told<'_, '_, A> {
+impl<A: Allocator> Encode for ExplicitKind<'_, '_, A> {
     ghost use Rattle.wasm_sections.specs.GivenElements.{list_in};
 
-    ghost text = { λ t. elements_text expression_text t.told (list_in t.elements.now) };
+    ghost encoding = { λ t. elements_encoding expression_encoding t.explicit (list_in t.elements.now) };
 
-    ghost fits = { λ t. ElementsFit (list_in t.elements.now) };
+    ghost encodable = { λ t. AreEncodableElements (list_in t.elements.now) };
 
     fn encode<B: Allocator>(&self, sink: &mut Vec<u8, B>) -> R<()> {
-        match (self.elements, self.told) {
+        match (self.elements, self.explicit) {
             (Elements::Functions(functions), true) => {
                 (FUNCTIONS, functions.as_slice()).encode(sink)
             }
@@ -223,11 +223,11 @@ impl<A: Allocator> Encode for Told<'_, '_, A> {
 
 /// Encodes a flag, the table and the offset if they are explicit, and the references.
 impl<A: Allocator> Encode for ElementSegment<'_, A> {
-    ghost use Rattle.wasm_sections.specs.GivenElements.{given_text, list_in};
+    ghost use Rattle.wasm_sections.specs.GivenElements.{given_encoding, list_in};
 
-    ghost text = { given_text };
+    ghost encoding = { given_encoding };
 
-    ghost fits = { λ s. ElementsFit (list_in s.elements) };
+    ghost encodable = { λ s. AreEncodableElements (list_in s.elements) };
 
     fn encode<B: Allocator>(&self, sink: &mut Vec<u8, B>) -> R<()> {
         let flag = self.elements.flag();
@@ -236,8 +236,8 @@ impl<A: Allocator> Encode for ElementSegment<'_, A> {
             ElementMode::Passive => {
                 (
                     flag + PASSIVE,
-                    Told {
-                        told: true,
+                    ExplicitKind {
+                        explicit: true,
                         elements,
                     },
                 )
@@ -246,8 +246,8 @@ impl<A: Allocator> Encode for ElementSegment<'_, A> {
             ElementMode::Declared => {
                 (
                     flag + DECLARED,
-                    Told {
-                        told: true,
+                    ExplicitKind {
+                        explicit: true,
                         elements,
                     },
                 )
@@ -256,12 +256,12 @@ impl<A: Allocator> Encode for ElementSegment<'_, A> {
             ElementMode::Active { table, offset } => {
                 match named_table(*table, elements.needs_table()) {
                     Some(table) => {
-                        let place = (table, Lent(*offset));
+                        let segment_mode = (table, Lent(*offset));
                         (
                             flag + WITH_TABLE,
-                            place,
-                            Told {
-                                told: true,
+                            segment_mode,
+                            ExplicitKind {
+                                explicit: true,
                                 elements,
                             },
                         )
@@ -270,8 +270,8 @@ impl<A: Allocator> Encode for ElementSegment<'_, A> {
                     None => (
                         flag,
                         Lent(*offset),
-                        Told {
-                            told: false,
+                        ExplicitKind {
+                            explicit: false,
                             elements,
                         },
                     )
@@ -286,7 +286,7 @@ impl Kind for ElementItems {
     ghost use Rattle.std.specs.Prelude.{List};
     ghost use Rattle.wasm_insn.specs.Plain.{Plain};
     ghost use Rattle.wasm_sections.specs.Constants.{Stored};
-    ghost use Rattle.wasm_sections.specs.Elements.{ElementItem, element_text, IsSegment, element_of, element};
+    ghost use Rattle.wasm_sections.specs.Elements.{ElementItem, element_encoding, IsSegment, element_of, element};
 
     ghost Record = { ElementItem Stored };
 
@@ -313,11 +313,11 @@ impl ItemKind for ElementItems {
 impl<A: Allocator> ElementSection<A> {
     ghost use Rattle.wasm_sections.specs.declared.element.ElementMode.{ElementMode as Mode};
     ghost use Rattle.wasm_sections.specs.declared.element.ElementMode.TheVariants as modes;
-    ghost use Rattle.wasm_sections.specs.GivenElements.{given_text, list_in};
+    ghost use Rattle.wasm_sections.specs.GivenElements.{given_encoding, list_in};
 
     /// Adds a segment.
     pub fn segment<B: Allocator>(&mut self, segment: ElementSegment<'_, B>) -> R<()>
-        ensures { Adds (given_text segment.entry) (ElementsFit (list_in segment.entry.elements)) self.old self.new result }
+        ensures { Adds (given_encoding segment.entry) (AreEncodableElements (list_in segment.entry.elements)) self.old self.new result }
     {
         self.add_record(&segment)
     }
@@ -329,7 +329,7 @@ impl<A: Allocator> ElementSection<A> {
         offset: &'a ConstExpr<B>,
         elements: Elements<'a, B>,
     ) -> R<()>
-        ensures { Adds (given_text (record { mode = modes.Active table offset.entry; elements = elements.entry })) (ElementsFit (list_in elements.entry)) self.old self.new result }
+        ensures { Adds (given_encoding (record { mode = modes.Active table offset.entry; elements = elements.entry })) (AreEncodableElements (list_in elements.entry)) self.old self.new result }
     {
         self.segment(ElementSegment {
             mode: ElementMode::Active { table, offset },
@@ -339,7 +339,7 @@ impl<A: Allocator> ElementSection<A> {
 
     /// Adds a segment whose references are copied to a table by an instruction.
     pub fn passive<B: Allocator>(&mut self, elements: Elements<'_, B>) -> R<()>
-        ensures { Adds (given_text (record { mode = modes.Passive; elements = elements.entry })) (ElementsFit (list_in elements.entry)) self.old self.new result }
+        ensures { Adds (given_encoding (record { mode = modes.Passive; elements = elements.entry })) (AreEncodableElements (list_in elements.entry)) self.old self.new result }
     {
         self.segment(ElementSegment {
             mode: ElementMode::Passive,
@@ -349,7 +349,7 @@ impl<A: Allocator> ElementSection<A> {
 
     /// Adds a segment that declares that code may refer to its functions.
     pub fn declared<B: Allocator>(&mut self, elements: Elements<'_, B>) -> R<()>
-        ensures { Adds (given_text (record { mode = modes.Declared; elements = elements.entry })) (ElementsFit (list_in elements.entry)) self.old self.new result }
+        ensures { Adds (given_encoding (record { mode = modes.Declared; elements = elements.entry })) (AreEncodableElements (list_in elements.entry)) self.old self.new result }
     {
         self.segment(ElementSegment {
             mode: ElementMode::Declared,

@@ -1,18 +1,18 @@
 // The reader and the minimizer of the element section.
 ghost use Rattle.std.specs.Prelude.{◌≡◌, true, false, ◌≢◌, List, IfOk, IfErr, Err, OnOk, map};
 ghost use Rattle.wasm_base.specs.Formats.{is_given, numbered};
-ghost use Rattle.wasm_base.specs.Numbers.{wide};
-ghost use Rattle.wasm_base.specs.Reading.{Reads, ReadsNothing};
+ghost use Rattle.wasm_base.specs.Numbers.{padded};
+ghost use Rattle.wasm_base.specs.Decoding.{Decodes, Rejects};
 ghost use Rattle.wasm_insn.specs.Plain.{Plain};
 ghost use Rattle.wasm_base.specs.declared.refused.Refused.TheVariants.{TooLong};
-ghost use Rattle.wasm_reader_base.specs.Shortest.{AppendsShortest, IsFrontOf, HasEncoding};
+ghost use Rattle.wasm_reader_base.specs.Minimal.{AppendsMinimal, IsFrontOf, HasEncoding};
 ghost use Rattle.wasm_reader_base.specs.declared.fault.ReadFault.TheVariants.{Memory};
 ghost use Rattle.wasm_sections.specs.Constants.{instructions_view};
-ghost use Rattle.wasm_sections.specs.Elements.{ElementItem, ElementFlag as FlagModel, flag_code, flag_of, active, functions, expressions, are_expressions, tells_kind, place, elements_as, element, element_flag_view, place_view, list_view, element_view, Place, ElementList as ListModel};
+ghost use Rattle.wasm_sections.specs.Elements.{ElementItem, ElementFlag as FlagModel, flag_code, flag_of, active, functions, expressions, are_expressions, has_kind, segment_mode, elements_as, element, element_flag_view, segment_mode_view, list_view, element_view, SegmentMode, ElementList as ListModel};
 
 use std::alloc::{Allocator, Global};
 use wasm_base::{Encode, R, RefType};
-use wasm_reader_base::{Dropped, Passed, ReadFault, Readable, Shorten, Spelled, pass_many};
+use wasm_reader_base::{Dropped, Skip, ReadFault, Readable, Shorten, Layout, skip_many};
 use wasm_reader_insn::Expression;
 
 /// The flag of an element segment, as its bits.
@@ -35,21 +35,21 @@ impl ElementFlag {
     }
 
     /// Returns `true` if the kind of the elements is explicit in the encoding.
-    fn tells_kind(self) -> bool
-        ensures { result ≡ tells_kind (element_flag_view self) }
+    fn has_kind(self) -> bool
+        ensures { result ≡ has_kind (element_flag_view self) }
     {
         self.not_active || self.second
     }
 }
 
-impl Spelled for ElementFlag {
+impl Layout for ElementFlag {
     ghost Value = { FlagModel };
 
     ghost format = { numbered flag_code };
 
     ghost view = { element_flag_view };
 
-    #[tactic(auto, using(crate::proofs::ElementLaws::element_flag_unique))]
+    #[tactic(auto, using(crate::proofs::ElementLaws::element_flag_unambiguous))]
     fn laws() {}
 }
 
@@ -102,14 +102,14 @@ pub struct ElementItem<A: Allocator = Global> {
 }
 
 /// Decodes the mode that the flag selects.
-#[tactic(auto, using(crate::proofs::ElementLaws::place_steps))]
+#[tactic(auto, using(crate::proofs::ElementLaws::segment_mode_steps))]
 fn read_mode<'a, A: Allocator + Copy>(
     flag: ElementFlag,
     bytes: &'a [u8],
     alloc: A,
 ) -> Result<(ElementItemMode<A>, &'a [u8]), ReadFault>
-    ensures found { IfOk result (λ x. Reads (place (element_flag_view flag)) wide bytes.now (place_view x.0) x.1.now) }
-    ensures none { IfErr result (λ e. e ≢ Memory → ReadsNothing (place (element_flag_view flag)) wide bytes.now) }
+    ensures found { IfOk result (λ x. Decodes (segment_mode (element_flag_view flag)) padded bytes.now (segment_mode_view x.0) x.1.now) }
+    ensures none { IfErr result (λ e. e ≢ Memory → Rejects (segment_mode (element_flag_view flag)) padded bytes.now) }
 {
     match (flag.not_active, flag.second) {
         (true, true) => Ok((ElementItemMode::Declared, bytes)),
@@ -132,14 +132,14 @@ fn read_mode<'a, A: Allocator + Copy>(
 /// Decodes the indices of functions, after the byte of their kind if that is explicit.
 #[tactic(auto, using(crate::proofs::ElementLaws::function_steps))]
 fn read_functions<'a, A: Allocator + Copy>(
-    told: bool,
+    explicit: bool,
     bytes: &'a [u8],
     alloc: A,
 ) -> Result<(ElementList<A>, &'a [u8]), ReadFault>
-    ensures found { IfOk result (λ x. Reads (elements_as told false) wide bytes.now (list_view x.0) x.1.now) }
-    ensures none { IfErr result (λ e. e ≢ Memory → ReadsNothing (elements_as told false) wide bytes.now) }
+    ensures found { IfOk result (λ x. Decodes (elements_as explicit false) padded bytes.now (list_view x.0) x.1.now) }
+    ensures none { IfErr result (λ e. e ≢ Memory → Rejects (elements_as explicit false) padded bytes.now) }
 {
-    if told {
+    if explicit {
         let (kind, rest) = <u8 as Readable<'a, A>>::read(bytes, alloc)?;
         if kind != 0x00 {
             return Err(ReadFault::UnknownTag);
@@ -154,14 +154,14 @@ fn read_functions<'a, A: Allocator + Copy>(
 /// Decodes expressions, after their type if that is explicit.
 #[tactic(auto, using(crate::proofs::ElementLaws::expression_steps))]
 fn read_expressions<'a, A: Allocator + Copy>(
-    told: bool,
+    explicit: bool,
     bytes: &'a [u8],
     alloc: A,
 ) -> Result<(ElementList<A>, &'a [u8]), ReadFault>
-    ensures found { IfOk result (λ x. Reads (elements_as told true) wide bytes.now (list_view x.0) x.1.now) }
-    ensures none { IfErr result (λ e. e ≢ Memory → ReadsNothing (elements_as told true) wide bytes.now) }
+    ensures found { IfOk result (λ x. Decodes (elements_as explicit true) padded bytes.now (list_view x.0) x.1.now) }
+    ensures none { IfErr result (λ e. e ≢ Memory → Rejects (elements_as explicit true) padded bytes.now) }
 {
-    if told {
+    if explicit {
         let ((ty, expressions), rest) = <(RefType, Vec<Expression<A>, A>) as Readable<'a, A>>::read(
             bytes, alloc,
         )?;
@@ -177,30 +177,30 @@ fn read_expressions<'a, A: Allocator + Copy>(
 /// Decodes the elements of the kind that the flag selects.
 #[tactic(auto, using(crate::proofs::ElementLaws::list_steps))]
 fn read_elements<'a, A: Allocator + Copy>(
-    told: bool,
+    explicit: bool,
     of_expressions: bool,
     bytes: &'a [u8],
     alloc: A,
 ) -> Result<(ElementList<A>, &'a [u8]), ReadFault>
-    ensures found { IfOk result (λ x. Reads (elements_as told of_expressions) wide bytes.now (list_view x.0) x.1.now) }
-    ensures none { IfErr result (λ e. e ≢ Memory → ReadsNothing (elements_as told of_expressions) wide bytes.now) }
+    ensures found { IfOk result (λ x. Decodes (elements_as explicit of_expressions) padded bytes.now (list_view x.0) x.1.now) }
+    ensures none { IfErr result (λ e. e ≢ Memory → Rejects (elements_as explicit of_expressions) padded bytes.now) }
 {
     if of_expressions {
-        let (elements, rest) = read_expressions(told, bytes, alloc)?;
+        let (elements, rest) = read_expressions(explicit, bytes, alloc)?;
         return Ok((elements, rest));
     }
-    let (elements, rest) = read_functions(told, bytes, alloc)?;
+    let (elements, rest) = read_functions(explicit, bytes, alloc)?;
     Ok((elements, rest))
 }
 
-impl<A: Allocator> Spelled for ElementItem<A> {
+impl<A: Allocator> Layout for ElementItem<A> {
     ghost Value = { ElementItem (List Plain) };
 
     ghost format = { element };
 
     ghost view = { element_view };
 
-    #[tactic(auto, using(crate::proofs::ElementLaws::element_unique))]
+    #[tactic(auto, using(crate::proofs::ElementLaws::element_unambiguous))]
     fn laws() {}
 }
 
@@ -209,7 +209,7 @@ impl<'a, A: Allocator + Copy> Readable<'a, A> for ElementItem<A> {
     fn read(bytes: &'a [u8], alloc: A) -> Result<(ElementItem<A>, &'a [u8]), ReadFault> {
         let (flag, rest) = <ElementFlag as Readable<'a, A>>::read(bytes, alloc)?;
         let (mode, rest) = read_mode(flag, rest, alloc)?;
-        let (elements, rest) = read_elements(flag.tells_kind(), flag.expressions, rest, alloc)?;
+        let (elements, rest) = read_elements(flag.has_kind(), flag.expressions, rest, alloc)?;
         Ok((ElementItem { mode, elements }, rest))
     }
 }
@@ -217,38 +217,38 @@ impl<'a, A: Allocator + Copy> Readable<'a, A> for ElementItem<A> {
 /// Appends the indices of functions, after the byte of their kind if that is explicit.
 #[tactic(auto, using(crate::proofs::ElementLaws::functions_encoded))]
 fn append_functions<A: Allocator, B: Allocator>(
-    told: bool,
+    explicit: bool,
     indices: &Vec<u32, A>,
-    out: &mut Vec<u8, B>,
+    sink: &mut Vec<u8, B>,
 ) -> R<()>
-    ensures ok { OnOk result (AppendsShortest (elements_as told false) (functions indices.now.items) out.old.items out.new.items) }
-    ensures front { IsFrontOf out.old.items out.new.items }
-    ensures too_long { HasEncoding (elements_as told false) (functions indices.now.items) → result ≢ Err TooLong }
+    ensures ok { OnOk result (AppendsMinimal (elements_as explicit false) (functions indices.now.items) sink.old.items sink.new.items) }
+    ensures front { IsFrontOf sink.old.items sink.new.items }
+    ensures too_long { HasEncoding (elements_as explicit false) (functions indices.now.items) → result ≢ Err TooLong }
 {
-    if told {
-        0x00u8.encode(out)?;
-        return indices.write_minimal(out);
+    if explicit {
+        0x00u8.encode(sink)?;
+        return indices.write_minimal(sink);
     }
-    indices.write_minimal(out)
+    indices.write_minimal(sink)
 }
 
 /// Appends expressions, after their type if that is explicit.
 #[tactic(auto, using(crate::proofs::ElementLaws::expressions_encoded))]
 fn append_expressions<A: Allocator, B: Allocator>(
-    told: bool,
+    explicit: bool,
     ty: RefType,
     elements: &Vec<Expression<A>, A>,
-    out: &mut Vec<u8, B>,
+    sink: &mut Vec<u8, B>,
 ) -> R<()>
-    ensures ok { OnOk result (AppendsShortest (elements_as told true) (expressions ty (map instructions_view elements.now.items)) out.old.items out.new.items) }
-    ensures front { IsFrontOf out.old.items out.new.items }
-    ensures too_long { HasEncoding (elements_as told true) (expressions ty (map instructions_view elements.now.items)) → result ≢ Err TooLong }
+    ensures ok { OnOk result (AppendsMinimal (elements_as explicit true) (expressions ty (map instructions_view elements.now.items)) sink.old.items sink.new.items) }
+    ensures front { IsFrontOf sink.old.items sink.new.items }
+    ensures too_long { HasEncoding (elements_as explicit true) (expressions ty (map instructions_view elements.now.items)) → result ≢ Err TooLong }
 {
-    if told {
-        ty.encode(out)?;
-        return elements.write_minimal(out);
+    if explicit {
+        ty.encode(sink)?;
+        return elements.write_minimal(sink);
     }
-    elements.write_minimal(out)
+    elements.write_minimal(sink)
 }
 
 /// Appends the table if it is explicit, and the offset of the first element.
@@ -256,18 +256,18 @@ fn append_expressions<A: Allocator, B: Allocator>(
 fn append_active<A: Allocator, B: Allocator>(
     table: Option<u32>,
     offset: &Expression<A>,
-    out: &mut Vec<u8, B>,
+    sink: &mut Vec<u8, B>,
 ) -> R<()>
-    ensures ok { OnOk result (AppendsShortest (place (record { not_active = false; second = is_given table; expressions = false })) (active table (instructions_view offset.now)) out.old.items out.new.items) }
-    ensures front { IsFrontOf out.old.items out.new.items }
-    ensures too_long { HasEncoding (place (record { not_active = false; second = is_given table; expressions = false })) (active table (instructions_view offset.now)) → result ≢ Err TooLong }
+    ensures ok { OnOk result (AppendsMinimal (segment_mode (record { not_active = false; second = is_given table; expressions = false })) (active table (instructions_view offset.now)) sink.old.items sink.new.items) }
+    ensures front { IsFrontOf sink.old.items sink.new.items }
+    ensures too_long { HasEncoding (segment_mode (record { not_active = false; second = is_given table; expressions = false })) (active table (instructions_view offset.now)) → result ≢ Err TooLong }
 {
     match table {
         Some(table) => {
-            table.encode(out)?;
-            offset.write_minimal(out)
+            table.encode(sink)?;
+            offset.write_minimal(sink)
         }
-        None => offset.write_minimal(out),
+        None => offset.write_minimal(sink),
     }
 }
 
@@ -292,139 +292,139 @@ impl<A: Allocator> ElementItem<A> {
 
     /// Appends the table and the offset, as the mode needs them.
     #[tactic(auto, using(crate::proofs::ElementLaws::passive_appended, crate::proofs::ElementLaws::declared_appended))]
-    fn append_place<B: Allocator>(&self, out: &mut Vec<u8, B>) -> R<()>
-        ensures ok { OnOk result (AppendsShortest (place (flag_of (element_view self.now))) (place_view self.now.mode) out.old.items out.new.items) }
-        ensures front { IsFrontOf out.old.items out.new.items }
-        ensures too_long { HasEncoding (place (flag_of (element_view self.now))) (place_view self.now.mode) → result ≢ Err TooLong }
+    fn append_segment_mode<B: Allocator>(&self, sink: &mut Vec<u8, B>) -> R<()>
+        ensures ok { OnOk result (AppendsMinimal (segment_mode (flag_of (element_view self.now))) (segment_mode_view self.now.mode) sink.old.items sink.new.items) }
+        ensures front { IsFrontOf sink.old.items sink.new.items }
+        ensures too_long { HasEncoding (segment_mode (flag_of (element_view self.now))) (segment_mode_view self.now.mode) → result ≢ Err TooLong }
     {
         match &self.mode {
             ElementItemMode::Passive => Ok(()),
             ElementItemMode::Declared => Ok(()),
-            ElementItemMode::Active { table, offset } => append_active(*table, offset, out),
+            ElementItemMode::Active { table, offset } => append_active(*table, offset, sink),
         }
     }
 }
 
 /// Appends the elements, after their kind if that is explicit.
 fn append_elements<A: Allocator, B: Allocator>(
-    told: bool,
+    explicit: bool,
     elements: &ElementList<A>,
-    out: &mut Vec<u8, B>,
+    sink: &mut Vec<u8, B>,
 ) -> R<()>
-    ensures ok { OnOk result (AppendsShortest (elements_as told (are_expressions (list_view elements.now))) (list_view elements.now) out.old.items out.new.items) }
-    ensures front { IsFrontOf out.old.items out.new.items }
-    ensures too_long { HasEncoding (elements_as told (are_expressions (list_view elements.now))) (list_view elements.now) → result ≢ Err TooLong }
+    ensures ok { OnOk result (AppendsMinimal (elements_as explicit (are_expressions (list_view elements.now))) (list_view elements.now) sink.old.items sink.new.items) }
+    ensures front { IsFrontOf sink.old.items sink.new.items }
+    ensures too_long { HasEncoding (elements_as explicit (are_expressions (list_view elements.now))) (list_view elements.now) → result ≢ Err TooLong }
 {
     match elements {
-        ElementList::Functions(indices) => append_functions(told, indices, out),
-        ElementList::Expressions(ty, elements) => append_expressions(told, *ty, elements, out),
+        ElementList::Functions(indices) => append_functions(explicit, indices, sink),
+        ElementList::Expressions(ty, elements) => append_expressions(explicit, *ty, elements, sink),
     }
 }
 
 impl<A: Allocator> Shorten for ElementItem<A> {
-    #[tactic(auto, using(crate::proofs::ElementLaws::place_encoded, crate::proofs::ElementLaws::elements_encoded))]
-    fn write_minimal<B: Allocator>(&self, out: &mut Vec<u8, B>) -> R<()> {
+    #[tactic(auto, using(crate::proofs::ElementLaws::segment_mode_encoded, crate::proofs::ElementLaws::elements_encoded))]
+    fn write_minimal<B: Allocator>(&self, sink: &mut Vec<u8, B>) -> R<()> {
         let flag = self.flag();
-        flag.code().encode(out)?;
-        self.append_place(out)?;
-        append_elements(flag.tells_kind(), &self.elements, out)
+        flag.code().encode(sink)?;
+        self.append_segment_mode(sink)?;
+        append_elements(flag.has_kind(), &self.elements, sink)
     }
 }
 
 /// Skips the table and the offset that the flag selects.
-#[tactic(auto, using(crate::proofs::ElementLaws::place_steps))]
-fn pass_place<'a, A: Allocator + Copy>(
+#[tactic(auto, using(crate::proofs::ElementLaws::segment_mode_steps))]
+fn skip_segment_mode<'a, A: Allocator + Copy>(
     flag: ElementFlag,
     bytes: &'a [u8],
     alloc: A,
 ) -> Result<&'a [u8], ReadFault>
-    ensures found { IfOk result (λ rest. (x : Place (List Plain)) × Reads (place (element_flag_view flag)) wide bytes.now x rest.now) }
-    ensures none { IfErr result (λ e. e ≢ Memory → ReadsNothing (place (element_flag_view flag)) wide bytes.now) }
+    ensures found { IfOk result (λ rest. (x : SegmentMode (List Plain)) × Decodes (segment_mode (element_flag_view flag)) padded bytes.now x rest.now) }
+    ensures none { IfErr result (λ e. e ≢ Memory → Rejects (segment_mode (element_flag_view flag)) padded bytes.now) }
 {
     match (flag.not_active, flag.second) {
         (true, true) => Ok(bytes),
         (true, false) => Ok(bytes),
         (false, true) => {
-            let rest = <(Dropped<u32>, Expression<A>) as Passed<'a, A>>::pass(bytes, alloc)?;
+            let rest = <(Dropped<u32>, Expression<A>) as Skip<'a, A>>::skip(bytes, alloc)?;
             Ok(rest)
         }
         (false, false) => {
-            let rest = <Expression<A> as Passed<'a, A>>::pass(bytes, alloc)?;
+            let rest = <Expression<A> as Skip<'a, A>>::skip(bytes, alloc)?;
             Ok(rest)
         }
     }
 }
 
 /// Skips the indices of functions, and the byte of their kind if that is explicit.
-fn pass_functions<'a, A: Allocator + Copy>(
-    told: bool,
+fn skip_functions<'a, A: Allocator + Copy>(
+    explicit: bool,
     bytes: &'a [u8],
     alloc: A,
 ) -> Result<&'a [u8], ReadFault>
-    ensures found { IfOk result (λ rest. (x : ListModel (List Plain)) × Reads (elements_as told false) wide bytes.now x rest.now) }
-    ensures none { IfErr result (λ e. e ≢ Memory → ReadsNothing (elements_as told false) wide bytes.now) }
+    ensures found { IfOk result (λ rest. (x : ListModel (List Plain)) × Decodes (elements_as explicit false) padded bytes.now x rest.now) }
+    ensures none { IfErr result (λ e. e ≢ Memory → Rejects (elements_as explicit false) padded bytes.now) }
 {
-    if told {
+    if explicit {
         let (kind, rest) = <u8 as Readable<'a, A>>::read(bytes, alloc)?;
         if kind != 0x00 {
             return Err(ReadFault::UnknownTag);
         }
-        let (_count, rest) = pass_many::<'a, Dropped<u32>, A>(rest, alloc)?;
+        let (_count, rest) = skip_many::<'a, Dropped<u32>, A>(rest, alloc)?;
         return Ok(rest);
     }
-    let (_count, rest) = pass_many::<'a, Dropped<u32>, A>(bytes, alloc)?;
+    let (_count, rest) = skip_many::<'a, Dropped<u32>, A>(bytes, alloc)?;
     Ok(rest)
 }
 
 /// Skips expressions, and their type if that is explicit.
-fn pass_expressions<'a, A: Allocator + Copy>(
-    told: bool,
+fn skip_expressions<'a, A: Allocator + Copy>(
+    explicit: bool,
     bytes: &'a [u8],
     alloc: A,
 ) -> Result<&'a [u8], ReadFault>
-    ensures found { IfOk result (λ rest. (x : ListModel (List Plain)) × Reads (elements_as told true) wide bytes.now x rest.now) }
-    ensures none { IfErr result (λ e. e ≢ Memory → ReadsNothing (elements_as told true) wide bytes.now) }
+    ensures found { IfOk result (λ rest. (x : ListModel (List Plain)) × Decodes (elements_as explicit true) padded bytes.now x rest.now) }
+    ensures none { IfErr result (λ e. e ≢ Memory → Rejects (elements_as explicit true) padded bytes.now) }
 {
-    if told {
+    if explicit {
         let (_type, rest) = <RefType as Readable<'a, A>>::read(bytes, alloc)?;
-        let (_count, rest) = pass_many::<'a, Expression<A>, A>(rest, alloc)?;
+        let (_count, rest) = skip_many::<'a, Expression<A>, A>(rest, alloc)?;
         return Ok(rest);
     }
-    let (_count, rest) = pass_many::<'a, Expression<A>, A>(bytes, alloc)?;
+    let (_count, rest) = skip_many::<'a, Expression<A>, A>(bytes, alloc)?;
     Ok(rest)
 }
 
 /// Skips the elements of the kind that the flag selects.
-fn pass_elements<'a, A: Allocator + Copy>(
-    told: bool,
+fn skip_elements<'a, A: Allocator + Copy>(
+    explicit: bool,
     of_expressions: bool,
     bytes: &'a [u8],
     alloc: A,
 ) -> Result<&'a [u8], ReadFault>
-    ensures found { IfOk result (λ rest. (x : ListModel (List Plain)) × Reads (elements_as told of_expressions) wide bytes.now x rest.now) }
-    ensures none { IfErr result (λ e. e ≢ Memory → ReadsNothing (elements_as told of_expressions) wide bytes.now) }
+    ensures found { IfOk result (λ rest. (x : ListModel (List Plain)) × Decodes (elements_as explicit of_expressions) padded bytes.now x rest.now) }
+    ensures none { IfErr result (λ e. e ≢ Memory → Rejects (elements_as explicit of_expressions) padded bytes.now) }
 {
     if of_expressions {
-        let rest = pass_expressions(told, bytes, alloc)?;
+        let rest = skip_expressions(explicit, bytes, alloc)?;
         return Ok(rest);
     }
-    let rest = pass_functions(told, bytes, alloc)?;
+    let rest = skip_functions(explicit, bytes, alloc)?;
     Ok(rest)
 }
 
-impl<'a, A: Allocator + Copy> Passed<'a, A> for ElementItem<A> {
+impl<'a, A: Allocator + Copy> Skip<'a, A> for ElementItem<A> {
     ghost Value = { ElementItem (List Plain) };
 
     ghost format = { element };
 
-    #[tactic(auto, using(crate::proofs::ElementLaws::element_unique))]
+    #[tactic(auto, using(crate::proofs::ElementLaws::element_unambiguous))]
     fn laws() {}
 
     #[tactic(auto, using(crate::proofs::ElementLaws::element_steps))]
-    fn pass(bytes: &'a [u8], alloc: A) -> Result<&'a [u8], ReadFault> {
+    fn skip(bytes: &'a [u8], alloc: A) -> Result<&'a [u8], ReadFault> {
         let (flag, rest) = <ElementFlag as Readable<'a, A>>::read(bytes, alloc)?;
-        let rest = pass_place(flag, rest, alloc)?;
-        let rest = pass_elements(flag.tells_kind(), flag.expressions, rest, alloc)?;
+        let rest = skip_segment_mode(flag, rest, alloc)?;
+        let rest = skip_elements(flag.has_kind(), flag.expressions, rest, alloc)?;
         Ok(rest)
     }
 }

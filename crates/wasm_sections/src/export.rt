@@ -2,17 +2,17 @@
 ghost use Rattle.std.specs.Prelude.{◌≡◌, ◌∷◌, ◌++◌, [], ⊤};
 ghost use Rattle.wasm_base.specs.Calls.{Adds};
 ghost use Rattle.wasm_base.specs.Formats.{coded};
-ghost use Rattle.wasm_base.specs.Numbers.{unsigned_text};
-ghost use Rattle.wasm_base.specs.Reading.{UniqueReading};
-ghost use Rattle.wasm_base.specs.Texts.{frame_text, FrameFits};
-ghost use Rattle.wasm_sections.specs.Exports.{export_items, kind_code, export_text, ExportFits, IsExport, ExportItem, item_of, export};
+ghost use Rattle.wasm_base.specs.Numbers.{unsigned_encoding};
+ghost use Rattle.wasm_base.specs.Decoding.{Unambiguous};
+ghost use Rattle.wasm_base.specs.Encodings.{size_prefixed_encoding, HasEncodableSize};
+ghost use Rattle.wasm_sections.specs.Exports.{export_items, kind_code, export_encoding, IsEncodableExport, IsExport, ExportItem, item_of, export};
 ghost use Rattle.wasm_sections.specs.declared.export.Export.{Export as Given};
 ghost use Rattle.wasm_sections.specs.declared.export.ExportKind.{ExportKind as Kind};
 
 use crate::counted_section::{CountedSection, ItemKind, RecordOf};
 use std::alloc::{Allocator, Global};
 use wasm_base::{Encode, Kind, R, SectionId};
-use wasm_reader_base::{ReadFault, Readable, Spelled};
+use wasm_reader_base::{ReadFault, Readable, Layout};
 
 /// The export section: the items that a module exports.
 ///
@@ -47,9 +47,9 @@ pub struct Export<'a> {
 
 /// Encodes the kind as one byte.
 impl Encode for ExportKind {
-    ghost text = { λ kind. kind_code kind ∷ [] };
+    ghost encoding = { λ kind. kind_code kind ∷ [] };
 
-    ghost fits = { λ _. ⊤ };
+    ghost encodable = { λ _. ⊤ };
 
     #[inline]
     fn encode<A: Allocator>(&self, sink: &mut Vec<u8, A>) -> R<()> {
@@ -59,9 +59,9 @@ impl Encode for ExportKind {
 
 /// Encodes the name, the kind and the index.
 impl Encode for Export<'_> {
-    ghost text = { export_text };
+    ghost encoding = { export_encoding };
 
-    ghost fits = { ExportFits };
+    ghost encodable = { IsEncodableExport };
 
     #[inline]
     fn encode<A: Allocator>(&self, sink: &mut Vec<u8, A>) -> R<()> {
@@ -96,20 +96,20 @@ impl RecordOf<ExportItems> for Export<'_> {}
 impl<A: Allocator> ExportSection<A> {
     /// Adds an export.
     pub fn export(&mut self, name: &str, kind: ExportKind, index: u32) -> R<()>
-        ensures { Adds (frame_text name.now ++ (kind_code kind ∷ [] ++ unsigned_text index)) (FrameFits name.now) self.old self.new result }
+        ensures { Adds (size_prefixed_encoding name.now ++ (kind_code kind ∷ [] ++ unsigned_encoding index)) (HasEncodableSize name.now) self.old self.new result }
     {
         self.add_record(&Export { name, kind, index })
     }
 }
 
-impl Spelled for ExportKind {
+impl Layout for ExportKind {
     ghost Value = { Kind };
 
     ghost format = { coded kind_code };
 
     ghost view = { λ kind. kind };
 
-    #[tactic(auto, using(crate::proofs::ExportLaws::export_kind_unique))]
+    #[tactic(auto, using(crate::proofs::ExportLaws::export_kind_unambiguous))]
     fn laws() {}
 }
 
@@ -128,16 +128,16 @@ impl<'a, A: Allocator + Copy> Readable<'a, A> for ExportKind {
     }
 }
 
-impl<'a> Spelled for Export<'a> {
+impl<'a> Layout for Export<'a> {
     ghost Value = { ExportItem };
 
     ghost format = { export };
 
     ghost view = { item_of };
 
-    #[tactic(auto, using(crate::proofs::ExportLaws::export_unique))]
+    #[tactic(auto, using(crate::proofs::ExportLaws::export_unambiguous))]
     fn laws()
-        ensures { UniqueReading export }
+        ensures { Unambiguous export }
     {}
 }
 

@@ -1,7 +1,7 @@
 // The function section.
 ghost use Rattle.std.specs.Prelude.{◌≡◌, ℕ, ⊤};
 ghost use Rattle.wasm_base.specs.Calls.{Adds};
-ghost use Rattle.wasm_base.specs.Numbers.{unsigned_text};
+ghost use Rattle.wasm_base.specs.Numbers.{unsigned_encoding};
 ghost use Rattle.wasm_sections.specs.Functions.{function_items};
 
 use crate::counted_section::{CountedSection, ItemKind, RecordOf};
@@ -53,9 +53,9 @@ struct TypeIndex {
 }
 
 impl Encode for TypeIndex {
-    ghost text = { λ given. unsigned_text given.index };
+    ghost encoding = { λ given. unsigned_encoding given.index };
 
-    ghost fits = { λ _. ⊤ };
+    ghost encodable = { λ _. ⊤ };
 
     #[tactic(auto, using(crate::proofs::FunctionLaws::two_bytes))]
     #[inline]
@@ -76,7 +76,7 @@ impl Encode for TypeIndex {
 impl<A: Allocator> FunctionSection<A> {
     /// Adds a function of the type of this index.
     pub fn function(&mut self, type_index: u32) -> R<()>
-        ensures { Adds (unsigned_text type_index) ⊤ self.old self.new result }
+        ensures { Adds (unsigned_encoding type_index) ⊤ self.old self.new result }
     {
         self.add_record(&TypeIndex { index: type_index })
     }

@@ -2,8 +2,8 @@
 ghost use Rattle.std.specs.Prelude.{◌≡◌, ◌++◌, ⊤};
 ghost use Rattle.wasm_base.specs.Calls.{Adds};
 ghost use Rattle.wasm_base.specs.Formats.{coded};
-ghost use Rattle.wasm_code.specs.Expressions.{expression_text};
-ghost use Rattle.wasm_sections.specs.Globals.{global_items, global_flags, global_code, global_text, GivenGlobal, GlobalItem as GlobalModel, global_item_text, IsGivenGlobal, global_item_of, global_item, GlobalFlags as GlobalBits, global_type, global_flags_view, global_view};
+ghost use Rattle.wasm_code.specs.Expressions.{expression_encoding};
+ghost use Rattle.wasm_sections.specs.Globals.{global_items, global_flags, global_code, global_encoding, GivenGlobal, GlobalItem as GlobalModel, global_item_encoding, IsGivenGlobal, global_item_of, global_item, GlobalFlags as GlobalBits, global_type, global_flags_view, global_view};
 ghost use Rattle.wasm_sections.specs.declared.global.GlobalType.{GlobalType as TypeModel};
 
 use crate::counted_section::{CountedSection, ItemKind};
@@ -11,7 +11,7 @@ use crate::flags::where_set;
 use std::alloc::{Allocator, Global};
 use wasm_base::{Encode, Kind, Lent, R, SectionId, ValType};
 use wasm_code::ConstExpr;
-use wasm_reader_base::{Dropped, Passed, ReadFault, Readable, Shorten, Spelled};
+use wasm_reader_base::{Dropped, Skip, ReadFault, Readable, Shorten, Layout};
 use wasm_reader_insn::Expression;
 
 /// The global section: the globals that a module defines.
@@ -50,9 +50,9 @@ impl GlobalType {
 
 /// Encodes the type of the value, and the flags.
 impl Encode for GlobalType {
-    ghost text = { global_text };
+    ghost encoding = { global_encoding };
 
-    ghost fits = { λ _. ⊤ };
+    ghost encodable = { λ _. ⊤ };
 
     #[inline]
     fn encode<A: Allocator>(&self, sink: &mut Vec<u8, A>) -> R<()> {
@@ -85,7 +85,7 @@ impl ItemKind for GlobalItems {
 impl<A: Allocator> GlobalSection<A> {
     /// Adds a global of this type, initialized by the expression.
     pub fn global<B: Allocator>(&mut self, global_type: GlobalType, init: &ConstExpr<B>) -> R<()>
-        ensures { Adds (global_text global_type ++ expression_text init.now) ⊤ self.old self.new result }
+        ensures { Adds (global_encoding global_type ++ expression_encoding init.now) ⊤ self.old self.new result }
     {
         self.add_record(&(global_type, Lent(init)))
     }
@@ -105,14 +105,14 @@ struct GlobalFlags {
     shared: bool,
 }
 
-impl Spelled for GlobalFlags {
+impl Layout for GlobalFlags {
     ghost Value = { GlobalBits };
 
     ghost format = { coded global_code };
 
     ghost view = { global_flags_view };
 
-    #[tactic(auto, using(crate::proofs::GlobalLaws::global_flags_unique))]
+    #[tactic(auto, using(crate::proofs::GlobalLaws::global_flags_unambiguous))]
     fn laws() {}
 }
 
@@ -131,14 +131,14 @@ impl<'a, A: Allocator + Copy> Readable<'a, A> for GlobalFlags {
     }
 }
 
-impl Spelled for GlobalType {
+impl Layout for GlobalType {
     ghost Value = { TypeModel };
 
     ghost format = { global_type };
 
     ghost view = { λ global. global };
 
-    #[tactic(auto, using(crate::proofs::GlobalLaws::global_unique))]
+    #[tactic(auto, using(crate::proofs::GlobalLaws::global_unambiguous))]
     fn laws() {}
 }
 
@@ -164,14 +164,14 @@ pub struct GlobalItem<A: Allocator = Global> {
     pub init: Expression<A>,
 }
 
-impl<A: Allocator> Spelled for GlobalItem<A> {
+impl<A: Allocator> Layout for GlobalItem<A> {
     ghost Value = { GlobalModel };
 
     ghost format = { global_item };
 
     ghost view = { global_view };
 
-    #[tactic(auto, using(crate::proofs::GlobalLaws::global_item_unique))]
+    #[tactic(auto, using(crate::proofs::GlobalLaws::global_item_unambiguous))]
     fn laws() {}
 }
 
@@ -187,23 +187,23 @@ impl<'a, A: Allocator + Copy> Readable<'a, A> for GlobalItem<A> {
 
 impl<A: Allocator> Shorten for GlobalItem<A> {
     #[tactic(auto, using(crate::proofs::GlobalLaws::global_appended, crate::proofs::GlobalLaws::init_encoded))]
-    fn write_minimal<B: Allocator>(&self, out: &mut Vec<u8, B>) -> R<()> {
-        self.global_type.encode(out)?;
-        self.init.write_minimal(out)
+    fn write_minimal<B: Allocator>(&self, sink: &mut Vec<u8, B>) -> R<()> {
+        self.global_type.encode(sink)?;
+        self.init.write_minimal(sink)
     }
 }
 
-impl<'a, A: Allocator + Copy> Passed<'a, A> for GlobalItem<A> {
+impl<'a, A: Allocator + Copy> Skip<'a, A> for GlobalItem<A> {
     ghost Value = { GlobalModel };
 
     ghost format = { global_item };
 
-    #[tactic(auto, using(crate::proofs::GlobalLaws::global_item_unique))]
+    #[tactic(auto, using(crate::proofs::GlobalLaws::global_item_unambiguous))]
     fn laws() {}
 
     #[tactic(auto, using(crate::proofs::GlobalLaws::item_steps))]
-    fn pass(bytes: &'a [u8], alloc: A) -> Result<&'a [u8], ReadFault> {
-        let rest = <(Dropped<GlobalType>, Expression<A>) as Passed<'a, A>>::pass(bytes, alloc)?;
+    fn skip(bytes: &'a [u8], alloc: A) -> Result<&'a [u8], ReadFault> {
+        let rest = <(Dropped<GlobalType>, Expression<A>) as Skip<'a, A>>::skip(bytes, alloc)?;
         Ok(rest)
     }
 }

@@ -2,14 +2,14 @@
 ghost use Rattle.std.specs.Prelude.{◌≡◌, ◌≢◌, ◌++◌, IfOk, ⊤, ◌≤◌, ◌∷◌, [], List, ℕ, IfErr, MatchOption, Err, OnOk, OnErr, map};
 ghost use Rattle.wasm_base.specs.Calls.{Adds};
 ghost use Rattle.wasm_base.specs.Formats.{name, pair, prefixed, vec};
-ghost use Rattle.wasm_base.specs.Going.{FillsNothing};
-ghost use Rattle.wasm_base.specs.Numbers.{wide};
-ghost use Rattle.wasm_base.specs.Reading.{UniqueReading, ReadsNothing};
-ghost use Rattle.wasm_base.specs.Texts.{frame_text, FrameFits};
+ghost use Rattle.wasm_base.specs.Continuing.{RejectsWhole};
+ghost use Rattle.wasm_base.specs.Numbers.{padded};
+ghost use Rattle.wasm_base.specs.Decoding.{Unambiguous, Rejects};
+ghost use Rattle.wasm_base.specs.Encodings.{size_prefixed_encoding, HasEncodableSize};
 ghost use Rattle.wasm_base.specs.declared.refused.Refused.TheVariants.{TooLong};
-ghost use Rattle.wasm_reader_base.specs.Shortest.{AppendsShortest, IsFrontOf, HasEncoding};
+ghost use Rattle.wasm_reader_base.specs.Minimal.{AppendsMinimal, IsFrontOf, HasEncoding};
 ghost use Rattle.wasm_reader_base.specs.declared.fault.ReadFault.TheVariants.{Memory};
-ghost use Rattle.wasm_sections.specs.Imports.{import_items, entity_text, ImportItem, import_text, ImportFits, IsImport, import_format, named_text, import_item, compact_item, imports_item, entity, group};
+ghost use Rattle.wasm_sections.specs.Imports.{import_items, entity_encoding, ImportItem, import_encoding, IsEncodableImport, IsImport, import_format, named_encoding, import_item, compact_item, imports_item, entity, group};
 ghost use Rattle.wasm_sections.specs.declared.import.EntityType.{EntityType as EntityModel};
 ghost use Rattle.wasm_sections.specs.declared.import.EntityType.TheVariants as entities;
 
@@ -23,7 +23,7 @@ use wasm_base::{
     CORE_FUNCTION_EXACT_SORT, CORE_FUNCTION_SORT, CORE_GLOBAL_SORT, CORE_MEMORY_SORT,
     CORE_TABLE_SORT, CORE_TAG_SORT, CowSlice, Encode, Kind, R, SectionId,
 };
-use wasm_reader_base::{Dropped, Passed, ReadFault, Readable, Spelled, pass_many, read_whole};
+use wasm_reader_base::{Dropped, Skip, ReadFault, Readable, Layout, skip_many, read_whole};
 
 /// The import section: the items that a module imports.
 ///
@@ -86,9 +86,9 @@ impl From<TagType> for EntityType {
 
 /// Encodes a byte for the kind, and the type.
 impl Encode for EntityType {
-    ghost text = { entity_text };
+    ghost encoding = { entity_encoding };
 
-    ghost fits = { λ _. ⊤ };
+    ghost encodable = { λ _. ⊤ };
 
     #[inline]
     fn encode<A: Allocator>(&self, sink: &mut Vec<u8, A>) -> R<()> {
@@ -159,9 +159,9 @@ impl<A: Allocator + Copy> Imports<'_, A> {
 
 /// Encodes the two names, and the type.
 impl Encode for Import<'_> {
-    ghost text = { λ import. import_text (import_item import) };
+    ghost encoding = { λ import. import_encoding (import_item import) };
 
-    ghost fits = { λ import. ImportFits (import_item import) };
+    ghost encodable = { λ import. IsEncodableImport (import_item import) };
 
     #[inline]
     fn encode<A: Allocator>(&self, sink: &mut Vec<u8, A>) -> R<()> {
@@ -171,9 +171,9 @@ impl Encode for Import<'_> {
 
 /// Encodes the name, and the type.
 impl Encode for ImportCompact<'_> {
-    ghost text = { λ import. named_text (compact_item import) };
+    ghost encoding = { λ import. named_encoding (compact_item import) };
 
-    ghost fits = { λ import. FrameFits import.name.now };
+    ghost encodable = { λ import. HasEncodableSize import.name.now };
 
     #[inline]
     fn encode<A: Allocator>(&self, sink: &mut Vec<u8, A>) -> R<()> {
@@ -184,9 +184,9 @@ impl Encode for ImportCompact<'_> {
 /// Encodes a single import as such. A group is the name of the module, two bytes that no import has
 /// there, and the items.
 impl<A: Allocator> Encode for Imports<'_, A> {
-    ghost text = { λ imports. import_text (imports_item imports) };
+    ghost encoding = { λ imports. import_encoding (imports_item imports) };
 
-    ghost fits = { λ imports. ImportFits (imports_item imports) };
+    ghost encodable = { λ imports. IsEncodableImport (imports_item imports) };
 
     #[inline]
     fn encode<B: Allocator>(&self, sink: &mut Vec<u8, B>) -> R<()> {
@@ -229,27 +229,27 @@ impl RecordOf<ImportItems> for Import<'_> {}
 impl<A: Allocator> ImportSection<A> {
     /// Adds an import.
     pub fn import(&mut self, module: &str, name: &str, ty: EntityType) -> R<()>
-        ensures { Adds (frame_text «module».now ++ (frame_text name.now ++ entity_text ty)) (FrameFits «module».now × FrameFits name.now) self.old self.new result }
+        ensures { Adds (size_prefixed_encoding «module».now ++ (size_prefixed_encoding name.now ++ entity_encoding ty)) (HasEncodableSize «module».now × HasEncodableSize name.now) self.old self.new result }
     {
         self.add_record(&Import { module, name, ty })
     }
 
     /// Adds an import or a group of imports, as one entry.
     pub fn imports(&mut self, imports: Imports<'_, A>) -> R<()>
-        ensures { Adds (import_text (imports_item imports.entry)) (ImportFits (imports_item imports.entry)) self.old self.new result }
+        ensures { Adds (import_encoding (imports_item imports.entry)) (IsEncodableImport (imports_item imports.entry)) self.old self.new result }
     {
         self.add_record(&imports)
     }
 }
 
-impl Spelled for EntityType {
+impl Layout for EntityType {
     ghost Value = { EntityModel };
 
     ghost format = { entity };
 
     ghost view = { λ entity. entity };
 
-    #[tactic(auto, using(crate::proofs::ImportLaws::entity_unique))]
+    #[tactic(auto, using(crate::proofs::ImportLaws::entity_unambiguous))]
     fn laws() {}
 }
 
@@ -287,7 +287,7 @@ impl<'a, A: Allocator + Copy> Readable<'a, A> for EntityType {
     }
 }
 
-impl<'a> Spelled for ImportCompact<'a> {
+impl<'a> Layout for ImportCompact<'a> {
     ghost Value = { List ℕ × EntityModel };
 
     ghost format = { pair name entity };
@@ -295,9 +295,9 @@ impl<'a> Spelled for ImportCompact<'a> {
     ghost view = { compact_item };
 
     fn laws()
-        ensures { UniqueReading (pair name entity) }
+        ensures { Unambiguous (pair name entity) }
     {
-        <(&'a str, EntityType) as Spelled>::laws();
+        <(&'a str, EntityType) as Layout>::laws();
     }
 }
 
@@ -312,7 +312,7 @@ impl<'a, A: Allocator + Copy> Readable<'a, A> for ImportCompact<'a> {
 /// after an empty name, this byte is the kind of no entity.
 #[tactic(auto, using(crate::proofs::ImportLaws::group_steps))]
 fn group_kind(bytes: &[u8]) -> Option<(u8, &[u8])>
-    ensures { MatchOption result (ReadsNothing (prefixed (0x00 ∷ []) group) wide bytes.now) (λ x. (bytes.now ≡ 0x00 ∷ x.0 ∷ x.1.now) × (0x7E ≤ x.0)) }
+    ensures { MatchOption result (Rejects (prefixed (0x00 ∷ []) group) padded bytes.now) (λ x. (bytes.now ≡ 0x00 ∷ x.0 ∷ x.1.now) × (0x7E ≤ x.0)) }
 {
     let [first, kind, rest @ ..] = bytes else {
         return None;
@@ -326,16 +326,16 @@ fn group_kind(bytes: &[u8]) -> Option<(u8, &[u8])>
     Some((*kind, rest))
 }
 
-impl<'a, A: Allocator> Spelled for Imports<'a, A> {
+impl<'a, A: Allocator> Layout for Imports<'a, A> {
     ghost Value = { ImportItem };
 
     ghost format = { import_format };
 
     ghost view = { imports_item };
 
-    #[tactic(auto, using(crate::proofs::ImportLaws::import_unique))]
+    #[tactic(auto, using(crate::proofs::ImportLaws::import_unambiguous))]
     fn laws()
-        ensures { UniqueReading import_format }
+        ensures { Unambiguous import_format }
     {}
 }
 
@@ -377,26 +377,26 @@ pub fn read_imports<'a, A: Allocator + Copy + 'a>(
     bytes: &'a [u8],
     alloc: A,
 ) -> Result<Vec<Imports<'a, A>, A>, ReadFault>
-    ensures found { IfOk result (λ x. vec import_format wide bytes.now (map imports_item x.items)) }
-    ensures none { IfErr result (λ e. e ≢ Memory → FillsNothing (vec import_format) bytes.now) }
+    ensures found { IfOk result (λ x. vec import_format padded bytes.now (map imports_item x.items)) }
+    ensures none { IfErr result (λ e. e ≢ Memory → RejectsWhole (vec import_format) bytes.now) }
 {
     read_whole::<'a, Vec<Imports<'a, A>, A>, A>(bytes, alloc)
 }
 
 /// Writes the bytes that [`append_imports`] appends. After an error, part of them may follow the
 /// old bytes.
-#[tactic(auto, using(wasm_reader_base::proofs::ShortTexts::members_start))]
+#[tactic(auto, using(wasm_reader_base::proofs::MinimalEncodings::members_start))]
 fn write_imports<A: Allocator, B: Allocator>(
     imports: &[Imports<'_, A>],
-    out: &mut Vec<u8, B>,
+    sink: &mut Vec<u8, B>,
 ) -> R<()>
-    ensures ok { OnOk result (AppendsShortest (vec import_format) (map imports_item imports.now) out.old.items out.new.items) }
-    ensures front { IsFrontOf out.old.items out.new.items }
+    ensures ok { OnOk result (AppendsMinimal (vec import_format) (map imports_item imports.now) sink.old.items sink.new.items) }
+    ensures front { IsFrontOf sink.old.items sink.new.items }
     ensures too_long { HasEncoding (vec import_format) (map imports_item imports.now) → result ≢ Err TooLong }
 {
-    imports.len().encode(out)?;
+    imports.len().encode(sink)?;
     for import in imports {
-        import.encode(out)?;
+        import.encode(sink)?;
     }
     Ok(())
 }
@@ -405,34 +405,34 @@ fn write_imports<A: Allocator, B: Allocator>(
 /// the sink is unchanged.
 pub fn append_imports<A: Allocator, B: Allocator>(
     imports: &[Imports<'_, A>],
-    out: &mut Vec<u8, B>,
+    sink: &mut Vec<u8, B>,
 ) -> R<()>
-    ensures ok { OnOk result (AppendsShortest (vec import_format) (map imports_item imports.now) out.old.items out.new.items) }
-    ensures err { OnErr result (out.new.items ≡ out.old.items) }
+    ensures ok { OnOk result (AppendsMinimal (vec import_format) (map imports_item imports.now) sink.old.items sink.new.items) }
+    ensures err { OnErr result (sink.new.items ≡ sink.old.items) }
     ensures too_long { HasEncoding (vec import_format) (map imports_item imports.now) → result ≢ Err TooLong }
 {
-    let start = out.len();
-    let written = write_imports(imports, out);
+    let start = sink.len();
+    let written = write_imports(imports, sink);
     if written.is_err() {
-        out.truncate(start);
+        sink.truncate(start);
     }
     written
 }
 
 /// An import or a group of imports that is skipped.
 #[derive(Debug)]
-pub struct PassedImports;
+pub struct SkippedImports;
 
-impl<'a, A: Allocator + Copy> Passed<'a, A> for PassedImports {
+impl<'a, A: Allocator + Copy> Skip<'a, A> for SkippedImports {
     ghost Value = { ImportItem };
 
     ghost format = { import_format };
 
-    #[tactic(auto, using(crate::proofs::ImportLaws::import_unique))]
+    #[tactic(auto, using(crate::proofs::ImportLaws::import_unambiguous))]
     fn laws() {}
 
     #[tactic(auto, using(crate::proofs::ImportLaws::import_steps))]
-    fn pass(bytes: &'a [u8], alloc: A) -> Result<&'a [u8], ReadFault> {
+    fn skip(bytes: &'a [u8], alloc: A) -> Result<&'a [u8], ReadFault> {
         let (_module, rest) = <&'a str as Readable<'a, A>>::read(bytes, alloc)?;
         let Some((kind, rest)) = group_kind(rest) else {
             let (_name, rest) = <&'a str as Readable<'a, A>>::read(rest, alloc)?;
@@ -441,12 +441,12 @@ impl<'a, A: Allocator + Copy> Passed<'a, A> for PassedImports {
         };
         match kind {
             0x7F => {
-                let (_count, rest) = pass_many::<'a, Dropped<ImportCompact<'a>>, A>(rest, alloc)?;
+                let (_count, rest) = skip_many::<'a, Dropped<ImportCompact<'a>>, A>(rest, alloc)?;
                 Ok(rest)
             }
             0x7E => {
                 let (_type, rest) = <EntityType as Readable<'a, A>>::read(rest, alloc)?;
-                let (_count, rest) = pass_many::<'a, Dropped<&'a str>, A>(rest, alloc)?;
+                let (_count, rest) = skip_many::<'a, Dropped<&'a str>, A>(rest, alloc)?;
                 Ok(rest)
             }
             _ => Err(ReadFault::UnknownTag),

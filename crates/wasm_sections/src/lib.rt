@@ -2,7 +2,7 @@
 //! "Binary Format", "Modules".
 //!
 //! Each section has a builder. The crate also decodes their items (`Readable` of
-//! `wasm_reader_base`), skips them (`Passed`), and writes decoded ones in their minimal encoding
+//! `wasm_reader_base`), skips them (`Skip`), and writes decoded ones in their minimal encoding
 //! (`Shorten`).
 #![tactic(auto)]
 
@@ -29,7 +29,7 @@ pub use export::{Export, ExportItems, ExportKind, ExportSection};
 pub use function::{FunctionItems, FunctionSection};
 pub use global::{GlobalItem, GlobalItems, GlobalSection, GlobalType};
 pub use import::{
-    EntityType, Import, ImportCompact, ImportItems, ImportSection, Imports, PassedImports,
+    EntityType, Import, ImportCompact, ImportItems, ImportSection, Imports, SkippedImports,
     append_imports, read_imports,
 };
 pub use memory::{MemoryItems, MemorySection, MemoryType};

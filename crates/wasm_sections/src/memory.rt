@@ -2,14 +2,14 @@
 ghost use Rattle.std.specs.Prelude.{◌≡◌, ◌^◌, ◌<◌, ⊤};
 ghost use Rattle.wasm_base.specs.Calls.{Adds};
 ghost use Rattle.wasm_sections.specs.Flags.{flags_code, Flags as FlagBits, flags as flags_format, flags_view};
-ghost use Rattle.wasm_sections.specs.Memories.{memory_items, memory_flags, memory_text, IsMemory, memory_type, page_exponent};
+ghost use Rattle.wasm_sections.specs.Memories.{memory_items, memory_flags, memory_encoding, IsMemory, memory_type, page_exponent};
 ghost use Rattle.wasm_sections.specs.declared.memory.MemoryType.{MemoryType as Memory};
 
 use crate::counted_section::{CountedSection, ItemKind, RecordOf};
 use crate::flags::where_set;
 use std::alloc::{Allocator, Global};
 use wasm_base::{Encode, Kind, Optional, R, SectionId};
-use wasm_reader_base::{ReadFault, Readable, Spelled, read_optional};
+use wasm_reader_base::{ReadFault, Readable, Layout, read_optional};
 
 /// The memory section: the memories that a module defines.
 ///
@@ -71,9 +71,9 @@ impl MemoryType {
 
 /// Encodes the flags, the minimum, and the fields for which the flags have a bit.
 impl Encode for MemoryType {
-    ghost text = { memory_text };
+    ghost encoding = { memory_encoding };
 
-    ghost fits = { λ _. ⊤ };
+    ghost encodable = { λ _. ⊤ };
 
     #[inline]
     fn encode<A: Allocator>(&self, sink: &mut Vec<u8, A>) -> R<()> {
@@ -110,7 +110,7 @@ impl RecordOf<MemoryItems> for MemoryType {}
 impl<A: Allocator> MemorySection<A> {
     /// Adds a memory of this type.
     pub fn memory(&mut self, memory_type: MemoryType) -> R<()>
-        ensures { Adds (memory_text memory_type) ⊤ self.old self.new result }
+        ensures { Adds (memory_encoding memory_type) ⊤ self.old self.new result }
     {
         self.add_record(&memory_type)
     }
@@ -125,19 +125,19 @@ pub(crate) struct Flags {
     pub(crate) has_page_size: bool,
 }
 
-impl Spelled for Flags {
+impl Layout for Flags {
     ghost Value = { FlagBits };
 
     ghost format = { flags_format };
 
     ghost view = { flags_view };
 
-    #[tactic(auto, using(crate::proofs::FlagLaws::flags_unique))]
+    #[tactic(auto, using(crate::proofs::FlagLaws::flags_unambiguous))]
     fn laws() {}
 }
 
 impl<'a, A: Allocator + Copy> Readable<'a, A> for Flags {
-    #[tactic(auto, using(crate::proofs::ReadLimits::flag_steps))]
+    #[tactic(auto, using(crate::proofs::DecodeLimits::flag_steps))]
     fn read(bytes: &'a [u8], alloc: A) -> Result<(Flags, &'a [u8]), ReadFault> {
         let (byte, rest) = <u8 as Readable<'a, A>>::read(bytes, alloc)?;
         if byte >= 0x10 {
@@ -153,19 +153,19 @@ impl<'a, A: Allocator + Copy> Readable<'a, A> for Flags {
     }
 }
 
-impl Spelled for MemoryType {
+impl Layout for MemoryType {
     ghost Value = { Memory };
 
     ghost format = { memory_type };
 
     ghost view = { λ memory. memory };
 
-    #[tactic(auto, using(crate::proofs::MemoryLaws::memory_unique))]
+    #[tactic(auto, using(crate::proofs::MemoryLaws::memory_unambiguous))]
     fn laws() {}
 }
 
 impl<'a, A: Allocator + Copy> Readable<'a, A> for MemoryType {
-    #[tactic(auto, using(crate::proofs::ReadLimits::memory_steps))]
+    #[tactic(auto, using(crate::proofs::DecodeLimits::memory_steps))]
     fn read(bytes: &'a [u8], alloc: A) -> Result<(MemoryType, &'a [u8]), ReadFault> {
         let (flags, rest) = <Flags as Readable<'a, A>>::read(bytes, alloc)?;
         let (minimum, rest) = <u64 as Readable<'a, A>>::read(rest, alloc)?;

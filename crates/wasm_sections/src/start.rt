@@ -1,12 +1,12 @@
 // The start section and the data count section, which hold one number each.
 ghost use Rattle.std.specs.Prelude.{◌≡◌, ℕ, OnOk};
-ghost use Rattle.wasm_base.specs.Calls.{Appends, ReadsBack};
-ghost use Rattle.wasm_base.specs.Formats.{frame, u32 as u32_format};
-ghost use Rattle.wasm_base.specs.Numbers.{unsigned_text};
-ghost use Rattle.wasm_base.specs.Texts.{frame_text, FrameFits};
+ghost use Rattle.wasm_base.specs.Calls.{Appends, DecodesBack};
+ghost use Rattle.wasm_base.specs.Formats.{size_prefixed, u32 as u32_format};
+ghost use Rattle.wasm_base.specs.Numbers.{unsigned_encoding};
+ghost use Rattle.wasm_base.specs.Encodings.{size_prefixed_encoding, HasEncodableSize};
 
 use std::alloc::Allocator;
-use wasm_base::{Encode, R, Section, SectionId, begin_frame, encoding_size};
+use wasm_base::{Encode, R, Section, SectionId, begin_size_prefixed, encoding_size};
 
 /// The start section: the function that runs when a module is instantiated.
 ///
@@ -32,21 +32,21 @@ pub struct DataCountSection {
 
 /// Appends the number with its size prefix, which decode to this number alone.
 fn encode_number<A: Allocator>(sink: &mut Vec<u8, A>, number: u32) -> R<()>
-    ensures appends { Appends (frame_text (unsigned_text number)) (FrameFits (unsigned_text number)) sink.old sink.new result }
-    ensures read { OnOk result (ReadsBack (frame u32_format) (λ said. said ≡ number) (frame_text (unsigned_text number))) }
+    ensures appends { Appends (size_prefixed_encoding (unsigned_encoding number)) (HasEncodableSize (unsigned_encoding number)) sink.old sink.new result }
+    ensures read { OnOk result (DecodesBack (size_prefixed u32_format) (λ said. said ≡ number) (size_prefixed_encoding (unsigned_encoding number))) }
 {
-    begin_frame(sink, encoding_size(number))?;
+    begin_size_prefixed(sink, encoding_size(number))?;
     number.encode(sink).unwrap();
     Ok(())
 }
 
 /// Encodes the index with its size prefix.
 impl Encode for StartSection {
-    ghost text = { λ s. frame_text (unsigned_text s.function_index) };
+    ghost encoding = { λ s. size_prefixed_encoding (unsigned_encoding s.function_index) };
 
-    ghost fits = { λ s. FrameFits (unsigned_text s.function_index) };
+    ghost encodable = { λ s. HasEncodableSize (unsigned_encoding s.function_index) };
 
-    ghost reading = { λ s. ReadsBack (frame u32_format) (λ index. index ≡ s.function_index) (frame_text (unsigned_text s.function_index)) };
+    ghost decoding = { λ s. DecodesBack (size_prefixed u32_format) (λ index. index ≡ s.function_index) (size_prefixed_encoding (unsigned_encoding s.function_index)) };
 
     fn encode<A: Allocator>(&self, sink: &mut Vec<u8, A>) -> R<()> {
         encode_number(sink, self.function_index)
@@ -55,35 +55,35 @@ impl Encode for StartSection {
 
 impl Section for StartSection {
     ghost use Rattle.wasm_base.specs.SectionId.{number_of};
-    ghost use Rattle.wasm_base.specs.Texts.{raw_framed};
+    ghost use Rattle.wasm_base.specs.Encodings.{raw_sized};
     ghost use Rattle.wasm_base.specs.declared.section_id.SectionId.TheVariants as ids;
 
     ghost id_of = { λ _. number_of ids.Start };
 
     ghost Items = { ℕ };
 
-    ghost format = { frame u32_format };
+    ghost format = { size_prefixed u32_format };
 
     ghost says = { λ s index. index ≡ s.function_index };
 
-    ghost payload = { λ s bytes. bytes ≡ unsigned_text s.function_index };
+    ghost payload = { λ s bytes. bytes ≡ unsigned_encoding s.function_index };
 
     fn id(&self) -> u8 {
         SectionId::Start.into()
     }
 
-    ghost framed = { λ s bytes fits pays. raw_framed (unsigned_text s.function_index) bytes fits pays };
+    ghost sized = { λ s bytes encodable pays. raw_sized (unsigned_encoding s.function_index) bytes encodable pays };
 
-    ghost reads_back = { λ s promised. promised };
+    ghost decodes_back = { λ s promised. promised };
 }
 
 /// Encodes the count with its size prefix.
 impl Encode for DataCountSection {
-    ghost text = { λ s. frame_text (unsigned_text s.count) };
+    ghost encoding = { λ s. size_prefixed_encoding (unsigned_encoding s.count) };
 
-    ghost fits = { λ s. FrameFits (unsigned_text s.count) };
+    ghost encodable = { λ s. HasEncodableSize (unsigned_encoding s.count) };
 
-    ghost reading = { λ s. ReadsBack (frame u32_format) (λ count. count ≡ s.count) (frame_text (unsigned_text s.count)) };
+    ghost decoding = { λ s. DecodesBack (size_prefixed u32_format) (λ count. count ≡ s.count) (size_prefixed_encoding (unsigned_encoding s.count)) };
 
     fn encode<A: Allocator>(&self, sink: &mut Vec<u8, A>) -> R<()> {
         encode_number(sink, self.count)
@@ -92,24 +92,24 @@ impl Encode for DataCountSection {
 
 impl Section for DataCountSection {
     ghost use Rattle.wasm_base.specs.SectionId.{number_of};
-    ghost use Rattle.wasm_base.specs.Texts.{raw_framed};
+    ghost use Rattle.wasm_base.specs.Encodings.{raw_sized};
     ghost use Rattle.wasm_base.specs.declared.section_id.SectionId.TheVariants as ids;
 
     ghost id_of = { λ _. number_of ids.DataCount };
 
     ghost Items = { ℕ };
 
-    ghost format = { frame u32_format };
+    ghost format = { size_prefixed u32_format };
 
     ghost says = { λ s count. count ≡ s.count };
 
-    ghost payload = { λ s bytes. bytes ≡ unsigned_text s.count };
+    ghost payload = { λ s bytes. bytes ≡ unsigned_encoding s.count };
 
     fn id(&self) -> u8 {
         SectionId::DataCount.into()
     }
 
-    ghost framed = { λ s bytes fits pays. raw_framed (unsigned_text s.count) bytes fits pays };
+    ghost sized = { λ s bytes encodable pays. raw_sized (unsigned_encoding s.count) bytes encodable pays };
 
-    ghost reads_back = { λ s promised. promised };
+    ghost decodes_back = { λ s promised. promised };
 }

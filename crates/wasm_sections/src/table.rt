@@ -1,9 +1,9 @@
 // The table section: its builder, its reader and its minimizer.
 ghost use Rattle.std.specs.Prelude.{◌≡◌, ◌++◌, ⊤};
 ghost use Rattle.wasm_base.specs.Calls.{Adds};
-ghost use Rattle.wasm_code.specs.Expressions.{expression_text};
+ghost use Rattle.wasm_code.specs.Expressions.{expression_encoding};
 ghost use Rattle.wasm_sections.specs.Flags.{flags_code};
-ghost use Rattle.wasm_sections.specs.Tables.{table_items, table_flags, table_text, GivenTable, TableItem as TableModel, before_init, table_item_text, IsGivenTable, table_item_of, table_item, index_type_of, Limits as LimitsModel, limits, table_type, limits_view, table_view};
+ghost use Rattle.wasm_sections.specs.Tables.{table_items, table_flags, table_encoding, GivenTable, TableItem as TableModel, before_init, table_item_encoding, IsGivenTable, table_item_of, table_item, index_type_of, Limits as LimitsModel, limits, table_type, limits_view, table_view};
 ghost use Rattle.wasm_sections.specs.declared.table.TableType.{TableType as TypeModel};
 
 use crate::counted_section::{CountedSection, ItemKind, RecordOf};
@@ -12,7 +12,7 @@ use crate::memory::Flags;
 use std::alloc::{Allocator, Global};
 use wasm_base::{Encode, Kind, Lent, Optional, R, RefType, SectionId, ValType};
 use wasm_code::ConstExpr;
-use wasm_reader_base::{Dropped, Passed, ReadFault, Readable, Shorten, Spelled, read_optional};
+use wasm_reader_base::{Dropped, Skip, ReadFault, Readable, Shorten, Layout, read_optional};
 use wasm_reader_insn::Expression;
 
 /// The table section: the tables that a module defines.
@@ -68,9 +68,9 @@ impl TableType {
 
 /// Encodes the type of the elements, the flags, the minimum, and the maximum if there is one.
 impl Encode for TableType {
-    ghost text = { table_text };
+    ghost encoding = { table_encoding };
 
-    ghost fits = { λ _. ⊤ };
+    ghost encodable = { λ _. ⊤ };
 
     #[inline]
     fn encode<A: Allocator>(&self, sink: &mut Vec<u8, A>) -> R<()> {
@@ -106,7 +106,7 @@ impl RecordOf<TableItems> for TableType {}
 impl<A: Allocator> TableSection<A> {
     /// Adds a table of this type, whose elements are initially null.
     pub fn table(&mut self, table_type: TableType) -> R<()>
-        ensures { Adds (table_text table_type) ⊤ self.old self.new result }
+        ensures { Adds (table_encoding table_type) ⊤ self.old self.new result }
     {
         self.add_record(&table_type)
     }
@@ -117,7 +117,7 @@ impl<A: Allocator> TableSection<A> {
         table_type: TableType,
         init: &ConstExpr<B>,
     ) -> R<()>
-        ensures { Adds (before_init ++ (table_text table_type ++ expression_text init.now)) ⊤ self.old self.new result }
+        ensures { Adds (before_init ++ (table_encoding table_type ++ expression_encoding init.now)) ⊤ self.old self.new result }
     {
         self.add_record(&([0x40u8, 0x00], table_type, Lent(init)))
     }
@@ -132,19 +132,19 @@ struct Limits {
     maximum: Option<u64>,
 }
 
-impl Spelled for Limits {
+impl Layout for Limits {
     ghost Value = { LimitsModel };
 
     ghost format = { limits };
 
     ghost view = { limits_view };
 
-    #[tactic(auto, using(crate::proofs::TableLaws::limits_unique))]
+    #[tactic(auto, using(crate::proofs::TableLaws::limits_unambiguous))]
     fn laws() {}
 }
 
 impl<'a, A: Allocator + Copy> Readable<'a, A> for Limits {
-    #[tactic(auto, using(crate::proofs::ReadLimits::limits_steps))]
+    #[tactic(auto, using(crate::proofs::DecodeLimits::limits_steps))]
     fn read(bytes: &'a [u8], alloc: A) -> Result<(Limits, &'a [u8]), ReadFault> {
         let (flags, rest) = <Flags as Readable<'a, A>>::read(bytes, alloc)?;
         if flags.has_page_size {
@@ -162,19 +162,19 @@ impl<'a, A: Allocator + Copy> Readable<'a, A> for Limits {
     }
 }
 
-impl Spelled for TableType {
+impl Layout for TableType {
     ghost Value = { TypeModel };
 
     ghost format = { table_type };
 
     ghost view = { λ table. table };
 
-    #[tactic(auto, using(crate::proofs::TableLaws::table_unique))]
+    #[tactic(auto, using(crate::proofs::TableLaws::table_unambiguous))]
     fn laws() {}
 }
 
 impl<'a, A: Allocator + Copy> Readable<'a, A> for TableType {
-    #[tactic(auto, using(crate::proofs::ReadLimits::table_steps))]
+    #[tactic(auto, using(crate::proofs::DecodeLimits::table_steps))]
     fn read(bytes: &'a [u8], alloc: A) -> Result<(TableType, &'a [u8]), ReadFault> {
         let ((element_type, limits), rest) = <(RefType, Limits) as Readable<'a, A>>::read(
             bytes, alloc,
@@ -200,14 +200,14 @@ pub struct TableItem<A: Allocator = Global> {
     pub init: Option<Expression<A>>,
 }
 
-impl<A: Allocator> Spelled for TableItem<A> {
+impl<A: Allocator> Layout for TableItem<A> {
     ghost Value = { TableModel };
 
     ghost format = { table_item };
 
     ghost view = { table_view };
 
-    #[tactic(auto, using(crate::proofs::TableLaws::table_item_unique))]
+    #[tactic(auto, using(crate::proofs::TableLaws::table_item_unambiguous))]
     fn laws() {}
 }
 
@@ -234,26 +234,26 @@ impl<'a, A: Allocator + Copy> Readable<'a, A> for TableItem<A> {
 
 impl<A: Allocator> Shorten for TableItem<A> {
     #[tactic(auto, using(crate::proofs::TableLaws::table_appended, crate::proofs::TableLaws::table_init_appended, crate::proofs::TableLaws::init_encoded))]
-    fn write_minimal<B: Allocator>(&self, out: &mut Vec<u8, B>) -> R<()> {
+    fn write_minimal<B: Allocator>(&self, sink: &mut Vec<u8, B>) -> R<()> {
         let Some(init) = &self.init else {
-            return self.table_type.encode(out);
+            return self.table_type.encode(sink);
         };
-        BEFORE_INIT.encode(out)?;
-        self.table_type.encode(out)?;
-        init.write_minimal(out)
+        BEFORE_INIT.encode(sink)?;
+        self.table_type.encode(sink)?;
+        init.write_minimal(sink)
     }
 }
 
-impl<'a, A: Allocator + Copy> Passed<'a, A> for TableItem<A> {
+impl<'a, A: Allocator + Copy> Skip<'a, A> for TableItem<A> {
     ghost Value = { TableModel };
 
     ghost format = { table_item };
 
-    #[tactic(auto, using(crate::proofs::TableLaws::table_item_unique))]
+    #[tactic(auto, using(crate::proofs::TableLaws::table_item_unambiguous))]
     fn laws() {}
 
     #[tactic(auto, using(crate::proofs::TableLaws::table_steps))]
-    fn pass(bytes: &'a [u8], alloc: A) -> Result<&'a [u8], ReadFault> {
+    fn skip(bytes: &'a [u8], alloc: A) -> Result<&'a [u8], ReadFault> {
         let (first, rest) = <u8 as Readable<'a, A>>::read(bytes, alloc)?;
         if first != 0x40 {
             let (_type, rest) = <TableType as Readable<'a, A>>::read(bytes, alloc)?;
@@ -263,7 +263,7 @@ impl<'a, A: Allocator + Copy> Passed<'a, A> for TableItem<A> {
         if second != 0x00 {
             return Err(ReadFault::UnknownTag);
         }
-        let rest = <(Dropped<TableType>, Expression<A>) as Passed<'a, A>>::pass(rest, alloc)?;
+        let rest = <(Dropped<TableType>, Expression<A>) as Skip<'a, A>>::skip(rest, alloc)?;
         Ok(rest)
     }
 }

@@ -2,14 +2,14 @@
 ghost use Rattle.std.specs.Prelude.{◌≡◌, ⊤};
 ghost use Rattle.wasm_base.specs.Calls.{Adds};
 ghost use Rattle.wasm_base.specs.Formats.{coded};
-ghost use Rattle.wasm_sections.specs.Tags.{tag_items, tag_code, tag_text, IsTag, tag_type};
+ghost use Rattle.wasm_sections.specs.Tags.{tag_items, tag_code, tag_encoding, IsTag, tag_type};
 ghost use Rattle.wasm_sections.specs.declared.tag.TagKind.{TagKind as Kind};
 ghost use Rattle.wasm_sections.specs.declared.tag.TagType.{TagType as Tag};
 
 use crate::counted_section::{CountedSection, ItemKind, RecordOf};
 use std::alloc::{Allocator, Global};
 use wasm_base::{Encode, Kind, R, SectionId};
-use wasm_reader_base::{ReadFault, Readable, Spelled};
+use wasm_reader_base::{ReadFault, Readable, Layout};
 
 /// The tag section: the tags that a module defines.
 ///
@@ -52,9 +52,9 @@ impl TagKind {
 
 /// Encodes the kind, and the index.
 impl Encode for TagType {
-    ghost text = { tag_text };
+    ghost encoding = { tag_encoding };
 
-    ghost fits = { λ _. ⊤ };
+    ghost encodable = { λ _. ⊤ };
 
     #[inline]
     fn encode<A: Allocator>(&self, sink: &mut Vec<u8, A>) -> R<()> {
@@ -89,20 +89,20 @@ impl RecordOf<TagItems> for TagType {}
 impl<A: Allocator> TagSection<A> {
     /// Adds a tag of this type.
     pub fn tag(&mut self, tag_type: TagType) -> R<()>
-        ensures { Adds (tag_text tag_type) ⊤ self.old self.new result }
+        ensures { Adds (tag_encoding tag_type) ⊤ self.old self.new result }
     {
         self.add_record(&tag_type)
     }
 }
 
-impl Spelled for TagKind {
+impl Layout for TagKind {
     ghost Value = { Kind };
 
     ghost format = { coded tag_code };
 
     ghost view = { λ kind. kind };
 
-    #[tactic(auto, using(crate::proofs::TagLaws::tag_kind_unique))]
+    #[tactic(auto, using(crate::proofs::TagLaws::tag_kind_unambiguous))]
     fn laws() {}
 }
 
@@ -118,14 +118,14 @@ impl<'a, A: Allocator + Copy> Readable<'a, A> for TagKind {
     }
 }
 
-impl Spelled for TagType {
+impl Layout for TagType {
     ghost Value = { Tag };
 
     ghost format = { tag_type };
 
     ghost view = { λ tag. tag };
 
-    #[tactic(auto, using(crate::proofs::TagLaws::tag_unique))]
+    #[tactic(auto, using(crate::proofs::TagLaws::tag_unambiguous))]
     fn laws() {}
 }
 

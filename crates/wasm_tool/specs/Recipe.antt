@@ -6,22 +6,22 @@ use Rattle.std.specs.Result.{result_unwrap_or}
 use Rattle.std.specs.Str.{all_ascii_digits, bytes_eq}
 use Rattle.std.specs.Str.Parse.{digits_value}
 use Rattle.hex.specs.Hex.{decode_of}
-use Rattle.wasm_base.specs.Numbers.{unsigned_text}
-use Rattle.wasm_base.specs.Texts.{longest, frame_text, FrameFits, module_text}
-use Rattle.wasm_base.specs.Pieces.{joined, SectionFits}
+use Rattle.wasm_base.specs.Numbers.{unsigned_encoding}
+use Rattle.wasm_base.specs.Encodings.{longest, size_prefixed_encoding, HasEncodableSize, module_encoding}
+use Rattle.wasm_base.specs.Pieces.{joined, IsEncodableSection}
 use Rattle.wasm_base.specs.declared.types.ValType.TheVariants.{I32}
-use Rattle.wasm_code.specs.Expressions.{expression_text}
-use Rattle.wasm_custom.specs.Customs.{NamedFits, subsection_text}
+use Rattle.wasm_code.specs.Expressions.{expression_encoding}
+use Rattle.wasm_custom.specs.Customs.{IsEncodableNamed, subsection_encoding}
 use Rattle.wasm_custom.specs.Names.{name_name}
-use Rattle.wasm_insn.specs.Instructions.{instruction_text}
+use Rattle.wasm_insn.specs.Instructions.{instruction_encoding}
 use Rattle.wasm_insn.specs.declared.instruction.Instruction.TheVariants.{I32Const}
-use Rattle.wasm_sections.specs.DataSegments.{active_text}
+use Rattle.wasm_sections.specs.DataSegments.{active_encoding}
 use Rattle.wasm_sections.specs.Exports.{kind_code}
 use Rattle.wasm_sections.specs.declared.export.ExportKind.{ExportKind}
 use Rattle.wasm_sections.specs.declared.export.ExportKind.TheVariants as kinds
-use Rattle.wasm_sections.specs.Globals.{global_text}
+use Rattle.wasm_sections.specs.Globals.{global_encoding}
 use Rattle.wasm_sections.specs.declared.global.GlobalType.{GlobalType}
-use Rattle.wasm_sections.specs.Memories.{memory_text}
+use Rattle.wasm_sections.specs.Memories.{memory_encoding}
 use Rattle.wasm_sections.specs.declared.memory.MemoryType.{MemoryType}
 use Rattle.wasm_tool.specs.declared.fault.RecipeCause.{RecipeCause}
 use Rattle.wasm_tool.specs.declared.fault.RecipeCause.TheVariants.{UnknownCommand, BadNumber, BadHex, MissingWord}
@@ -84,12 +84,12 @@ type_entry (hex ∷ more) = from_hex (decode_of hex) (λ bytes. adds 1 bytes)
 -- `body HEX`: a function without locals, in the code section.
 abbrev pub body_entry : List (List ℕ) → Result (List Addition) RecipeCause
 body_entry [] = Err MissingWord
-body_entry (hex ∷ more) = from_hex (decode_of hex) (λ bytes. adds 10 (frame_text (0x00 ∷ bytes)))
+body_entry (hex ∷ more) = from_hex (decode_of hex) (λ bytes. adds 10 (size_prefixed_encoding (0x00 ∷ bytes)))
 
 -- `func N`: a function of this type index.
 abbrev pub function_entry : List (List ℕ) → Result (List Addition) RecipeCause
 function_entry [] = Err MissingWord
-function_entry (index ∷ more) = from_number (decimal_of 32 index) (λ n. adds 3 (unsigned_text n))
+function_entry (index ∷ more) = from_number (decimal_of 32 index) (λ n. adds 3 (unsigned_encoding n))
 
 -- The memory type with this minimum of pages, and no other limits.
 abbrev pub memory_of_size : ℕ → MemoryType
@@ -98,11 +98,11 @@ memory_of_size minimum = record { minimum = minimum; maximum = None; memory64 = 
 -- `memory MIN`: a memory with this minimum of pages.
 abbrev pub memory_entry : List (List ℕ) → Result (List Addition) RecipeCause
 memory_entry [] = Err MissingWord
-memory_entry (size ∷ more) = from_number (decimal_of 64 size) (λ n. adds 5 (memory_text (memory_of_size n)))
+memory_entry (size ∷ more) = from_number (decimal_of 64 size) (λ n. adds 5 (memory_encoding (memory_of_size n)))
 
 -- The stored bytes of an expression that computes this number.
 abbrev pub constant_bytes : ℤ → List ℕ
-constant_bytes z = instruction_text {A = Global} (I32Const z)
+constant_bytes z = instruction_encoding {A = Global} (I32Const z)
 
 -- The type of an `i32` global that is not mutable.
 abbrev pub constant_type : GlobalType
@@ -111,11 +111,11 @@ constant_type = record { val_type = I32; mutable = false; shared = false }
 -- `global I`: a global with this value.
 abbrev pub global_entry : List (List ℕ) → Result (List Addition) RecipeCause
 global_entry [] = Err MissingWord
-global_entry (value ∷ more) = from_signed (signed_of value) (λ z. adds 6 (global_text constant_type ++ expression_text (constant_bytes z)))
+global_entry (value ∷ more) = from_signed (signed_of value) (λ z. adds 6 (global_encoding constant_type ++ expression_encoding (constant_bytes z)))
 
 -- `data I HEX`: bytes at this offset of memory 0.
 abbrev pub data_entry : List (List ℕ) → Result (List Addition) RecipeCause
-data_entry (place ∷ hex ∷ more) = from_signed (signed_of place) (λ z. from_hex (decode_of hex) (λ bytes. adds 11 (active_text 0 (constant_bytes z) bytes)))
+data_entry (place ∷ hex ∷ more) = from_signed (signed_of place) (λ z. from_hex (decode_of hex) (λ bytes. adds 11 (active_encoding 0 (constant_bytes z) bytes)))
 data_entry words = Err MissingWord
 
 -- The kind of an export, by its word.
@@ -136,18 +136,18 @@ from_kind None make = Err UnknownCommand
 -- `export NAME KIND N`: an export.
 abbrev pub export_entry : List (List ℕ) → Result (List Addition) RecipeCause
 export_entry (name ∷ kind ∷ index ∷ more) =
-    from_kind (export_kind_of kind) (λ k. from_number (decimal_of 32 index) (λ n. adds 7 (frame_text name ++ (kind_code k ∷ [] ++ unsigned_text n))))
+    from_kind (export_kind_of kind) (λ k. from_number (decimal_of 32 index) (λ n. adds 7 (size_prefixed_encoding name ++ (kind_code k ∷ [] ++ unsigned_encoding n))))
 export_entry words = Err MissingWord
 
 -- `start N`: the function that runs when the module is instantiated.
 abbrev pub start_entry : List (List ℕ) → Result (List Addition) RecipeCause
 start_entry [] = Err MissingWord
-start_entry (index ∷ more) = from_number (decimal_of 32 index) (λ n. adds 8 (unsigned_text n))
+start_entry (index ∷ more) = from_number (decimal_of 32 index) (λ n. adds 8 (unsigned_encoding n))
 
 -- `name TEXT`: the name of the module, which is the remainder of the line, in the name section.
 abbrev pub name_entry : List ℕ → Result (List Addition) RecipeCause
 name_entry [] = Err MissingWord
-name_entry (b ∷ bs) = adds 0 (subsection_text 0 (frame_text (b ∷ bs)))
+name_entry (b ∷ bs) = adds 0 (subsection_encoding 0 (size_prefixed_encoding (b ∷ bs)))
 
 -- The entry of a line of these words, if it has any, or its error. The remainder of the line after
 -- its first word is also an argument.
@@ -186,7 +186,7 @@ added_to id entries = map (λ entry. entry.item) (filter (λ entry. entry.sectio
 -- A section of these items, as id and payload, unless there are no items.
 abbrev pub section_of : ℕ → List (List ℕ) → List (ℕ × List ℕ)
 section_of id [] = []
-section_of id (item ∷ items) = (id, unsigned_text (length (item ∷ items)) ++ joined (item ∷ items)) ∷ []
+section_of id (item ∷ items) = (id, unsigned_encoding (length (item ∷ items)) ++ joined (item ∷ items)) ∷ []
 
 -- The last of these items alone: a later `start` replaces an earlier one.
 abbrev pub last_of : List (List ℕ) → List (List ℕ)
@@ -201,12 +201,12 @@ start_of items = map (λ item. (8, item)) (last_of items)
 -- The name section of these subsections, as id and payload, unless there are none.
 abbrev pub names_of : List (List ℕ) → List (ℕ × List ℕ)
 names_of [] = []
-names_of (item ∷ items) = (0, frame_text name_name ++ joined (item ∷ items)) ∷ []
+names_of (item ∷ items) = (0, size_prefixed_encoding name_name ++ joined (item ∷ items)) ∷ []
 
 -- The subsections and the size of a name section are at most 2^32 - 1.
-pub record NamesFit (items : List (List ℕ)) : Type 0 where
+pub record AreEncodableNames (items : List (List ℕ)) : Type 0 where
   pub count : length items ≤ longest
-  pub size : NamedFits name_name (joined items)
+  pub size : IsEncodableNamed name_name (joined items)
 
 -- The sections of these items, in the order of the standard, then the name section.
 abbrev pub in_order : (types functions memories globals exports start code segments names : List (List ℕ)) → List (ℕ × List ℕ)
@@ -220,19 +220,19 @@ sections_of entries =
 
 -- The module of these entries.
 unfoldable pub recipe_module : List Addition → List ℕ
-recipe_module entries = module_text (sections_of entries)
+recipe_module entries = module_encoding (sections_of entries)
 
 -- Every count and size that the module needs is at most 2^32 - 1.
-pub record RecipeFits (entries : List Addition) : Type 0 where
-  pub types : SectionFits (added_to 1 entries)
-  pub functions : SectionFits (added_to 3 entries)
-  pub memories : SectionFits (added_to 5 entries)
-  pub globals : SectionFits (added_to 6 entries)
-  pub exports : SectionFits (added_to 7 entries)
-  pub start : All FrameFits (last_of (added_to 8 entries))
-  pub code : SectionFits (added_to 10 entries)
-  pub segments : SectionFits (added_to 11 entries)
-  pub names : NamesFit (added_to 0 entries)
+pub record IsEncodableRecipe (entries : List Addition) : Type 0 where
+  pub types : IsEncodableSection (added_to 1 entries)
+  pub functions : IsEncodableSection (added_to 3 entries)
+  pub memories : IsEncodableSection (added_to 5 entries)
+  pub globals : IsEncodableSection (added_to 6 entries)
+  pub exports : IsEncodableSection (added_to 7 entries)
+  pub start : All HasEncodableSize (last_of (added_to 8 entries))
+  pub code : IsEncodableSection (added_to 10 entries)
+  pub segments : IsEncodableSection (added_to 11 entries)
+  pub names : AreEncodableNames (added_to 0 entries)
 
 -- ---- the lines of an error, which names a line counted from 1, or 0 for all lines
 

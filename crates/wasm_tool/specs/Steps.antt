@@ -2,23 +2,23 @@
 -- meaning of errors.
 use Rattle.std.specs.Prelude.{ℕ, [], ◌≡◌, ◌≢◌, ◌++◌, ◌-◌, ◌≤◌, ⊤, List, ◌∷◌, Option, None, Result, Ok, Err, All, IsOkAnd, OnOk, length, Some, option_map}
 use Rattle.std.specs.List.{slice_get, flat_map}
-use Rattle.wasm_base.specs.Numbers.{unsigned_text}
-use Rattle.wasm_base.specs.Texts.{any_section_text, FrameFits, module_text}
-use Rattle.wasm_base.specs.Pieces.{SectionFits}
+use Rattle.wasm_base.specs.Numbers.{unsigned_encoding}
+use Rattle.wasm_base.specs.Encodings.{any_section_encoding, HasEncodableSize, module_encoding}
+use Rattle.wasm_base.specs.Pieces.{IsEncodableSection}
 use Rattle.wasm_base.specs.declared.refused.Refused.{Refused}
 use Rattle.wasm_base.specs.declared.refused.Refused.TheVariants as refusals
 use Rattle.wasm_tool.specs.declared.fault.RecipeCause.{RecipeCause}
 use Rattle.wasm_tool.specs.declared.fault.RecipeCause.TheVariants.{Memory, TooLong}
 use Rattle.wasm_tool.specs.declared.recipe.Recipe.{Recipe}
 use Rattle.wasm_tool.specs.Lines.{lines_of}
-use Rattle.wasm_tool.specs.Recipe.{Addition, IsGood, NamesFit, RecipeFits, entries_of, entry_of, in_order, added_to, last_of, lines_before, lines_through}
+use Rattle.wasm_tool.specs.Recipe.{Addition, IsGood, AreEncodableNames, IsEncodableRecipe, entries_of, entry_of, in_order, added_to, last_of, lines_before, lines_through}
 
 -- ---- lines
 
 -- The item of a start section.
 abbrev pub start_items : Option ℕ → List (List ℕ)
 start_items None = []
-start_items (Some index) = unsigned_text index ∷ []
+start_items (Some index) = unsigned_encoding index ∷ []
 
 -- The items that remain when later ones replace earlier ones.
 abbrev pub replaced : List (List ℕ) → List (List ℕ) → List (List ℕ)
@@ -38,15 +38,15 @@ pub record AddsEntries {A : Type 0} (old new : Recipe A) (entries : List Additio
   pub names : new.names ≡ old.names ++ added_to 0 entries
 
 -- The old items and those of the entries fit their sections.
-pub record FitsWith {A : Type 0} (old : Recipe A) (entries : List Addition) : Type 0 where
-  pub types : SectionFits (old.types ++ added_to 1 entries)
-  pub functions : SectionFits (old.functions ++ added_to 3 entries)
-  pub memories : SectionFits (old.memories ++ added_to 5 entries)
-  pub globals : SectionFits (old.globals ++ added_to 6 entries)
-  pub exports : SectionFits (old.exports ++ added_to 7 entries)
-  pub code : SectionFits (old.code ++ added_to 10 entries)
-  pub segments : SectionFits (old.segments ++ added_to 11 entries)
-  pub names : NamesFit (old.names ++ added_to 0 entries)
+pub record IsEncodableWith {A : Type 0} (old : Recipe A) (entries : List Addition) : Type 0 where
+  pub types : IsEncodableSection (old.types ++ added_to 1 entries)
+  pub functions : IsEncodableSection (old.functions ++ added_to 3 entries)
+  pub memories : IsEncodableSection (old.memories ++ added_to 5 entries)
+  pub globals : IsEncodableSection (old.globals ++ added_to 6 entries)
+  pub exports : IsEncodableSection (old.exports ++ added_to 7 entries)
+  pub code : IsEncodableSection (old.code ++ added_to 10 entries)
+  pub segments : IsEncodableSection (old.segments ++ added_to 11 entries)
+  pub names : AreEncodableNames (old.names ++ added_to 0 entries)
 
 -- No section has an item.
 pub record IsEmpty {A : Type 0} (recipe : Recipe A) : Type 0 where
@@ -61,23 +61,23 @@ pub record IsEmpty {A : Type 0} (recipe : Recipe A) : Type 0 where
   pub names : recipe.names ≡ []
 
 -- The items fit their sections.
-pub record FitsSections {A : Type 0} (recipe : Recipe A) : Type 0 where
-  pub types : SectionFits recipe.types
-  pub functions : SectionFits recipe.functions
-  pub memories : SectionFits recipe.memories
-  pub globals : SectionFits recipe.globals
-  pub exports : SectionFits recipe.exports
-  pub start : All FrameFits (start_items recipe.start)
-  pub code : SectionFits recipe.code
-  pub segments : SectionFits recipe.segments
-  pub names : NamesFit recipe.names
+pub record AreEncodableSections {A : Type 0} (recipe : Recipe A) : Type 0 where
+  pub types : IsEncodableSection recipe.types
+  pub functions : IsEncodableSection recipe.functions
+  pub memories : IsEncodableSection recipe.memories
+  pub globals : IsEncodableSection recipe.globals
+  pub exports : IsEncodableSection recipe.exports
+  pub start : All HasEncodableSize (start_items recipe.start)
+  pub code : IsEncodableSection recipe.code
+  pub segments : IsEncodableSection recipe.segments
+  pub names : AreEncodableNames recipe.names
 
 -- The sections of the recipe, in order.
 abbrev pub listed : {A : Type 0} → Recipe A → List (ℕ × List ℕ)
 listed recipe = in_order recipe.types recipe.functions recipe.memories recipe.globals recipe.exports (start_items recipe.start) recipe.code recipe.segments recipe.names
 
 -- None of the lines has an error, and the sections have their items.
-pub record HoldsLines {A : Type 0} (lines : List (List ℕ)) (recipe : Recipe A) : Type 0 where
+pub record ContainsLines {A : Type 0} (lines : List (List ℕ)) (recipe : Recipe A) : Type 0 where
   pub good : All IsGood lines
   pub types : recipe.types ≡ added_to 1 (entries_of lines)
   pub functions : recipe.functions ≡ added_to 3 (entries_of lines)
@@ -91,25 +91,25 @@ pub record HoldsLines {A : Type 0} (lines : List (List ℕ)) (recipe : Recipe A)
 
 -- The sections hold these lines, and the bytes are the module of the sections.
 pub record IsModule {A : Type 0} (lines : List (List ℕ)) (recipe : Recipe A) (bytes : List ℕ) : Type 0 where
-  pub holds : HoldsLines lines recipe
-  pub fits : FitsSections recipe
-  pub text : bytes ≡ module_text (listed recipe)
+  pub contains : ContainsLines lines recipe
+  pub encodable : AreEncodableSections recipe
+  pub text : bytes ≡ module_encoding (listed recipe)
 
 -- The result and the effect of a call that decodes a line, given the entries or the error of the
 -- line.
 abbrev pub Follows : {A : Type 0} → Result (List Addition) RecipeCause → Recipe A → Recipe A → Result (Unit {0}) RecipeCause → Type 0
 Follows said old new (Ok done) = IsOkAnd said (AddsEntries old new)
 Follows said old new (Err Memory) = ⊤
-Follows said old new (Err TooLong) = IsOkAnd said (λ entries. ¬ (FitsWith old entries))
+Follows said old new (Err TooLong) = IsOkAnd said (λ entries. ¬ (IsEncodableWith old entries))
 Follows said old new (Err cause) = said ≡ Err cause
 
 -- ---- sections
 
 -- The module gains these sections if they fit.
-pub record Puts (sections : List (ℕ × List ℕ)) (Fits : Type 0) (old new : List ℕ) (result : Result (Unit {0}) Refused) : Type 0 where
-  pub ok : OnOk result (new ≡ old ++ flat_map any_section_text sections)
-  pub fitted : OnOk result Fits
-  pub too_long : Fits → result ≢ Err refusals.TooLong
+pub record Puts (sections : List (ℕ × List ℕ)) (Encodable : Type 0) (old new : List ℕ) (result : Result (Unit {0}) Refused) : Type 0 where
+  pub ok : OnOk result (new ≡ old ++ flat_map any_section_encoding sections)
+  pub was_encodable : OnOk result Encodable
+  pub too_long : Encodable → result ≢ Err refusals.TooLong
 
 -- ---- errors
 
@@ -117,7 +117,7 @@ pub record Puts (sections : List (ℕ × List ℕ)) (Fits : Type 0) (old new : L
 -- 0.
 abbrev pub SaysCause : List ℕ → ℕ → RecipeCause → Type 0
 SaysCause text line Memory = ⊤
-SaysCause text line TooLong = All IsGood (lines_through line text) × (¬ (RecipeFits (entries_of (lines_through line text))))
+SaysCause text line TooLong = All IsGood (lines_through line text) × (¬ (IsEncodableRecipe (entries_of (lines_through line text))))
 SaysCause text line cause = (1 ≤ line) × (option_map (λ l. entry_of l) (slice_get (lines_of text) (line - 1)) ≡ Some (Err cause))
 
 -- The error names a line of the text, or 0 after the last one, and the cause. No line before it has

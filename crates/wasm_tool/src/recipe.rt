@@ -4,11 +4,11 @@ ghost use Rattle.std.specs.Str.Lines.{strip_carriage_return};
 ghost use Rattle.hex.specs.Hex.{decode_of};
 ghost use Rattle.wasm_base.specs.Calls.{Adds};
 ghost use Rattle.wasm_base.specs.Formats.{wasm_module};
-ghost use Rattle.wasm_base.specs.Reading.{ReadsWhole};
-ghost use Rattle.wasm_base.specs.Pieces.{SectionFits};
-ghost use Rattle.wasm_base.specs.Texts.{FrameFits, module_text};
+ghost use Rattle.wasm_base.specs.Decoding.{DecodesWhole};
+ghost use Rattle.wasm_base.specs.Pieces.{IsEncodableSection};
+ghost use Rattle.wasm_base.specs.Encodings.{HasEncodableSize, module_encoding};
 ghost use Rattle.wasm_base.specs.declared.refused.Refused.TheVariants as refusals;
-ghost use Rattle.wasm_sections.specs.DataSegments.{active_text};
+ghost use Rattle.wasm_sections.specs.DataSegments.{active_encoding};
 ghost use Rattle.wasm_tool.specs.Lines.{words_of, lines_of, without_spaces};
 ghost use Rattle.wasm_tool.specs.Recipe.{
   entry_of,
@@ -25,16 +25,16 @@ ghost use Rattle.wasm_tool.specs.Recipe.{
   decimal_of,
   signed_of,
   IsGood,
-  NamesFit,
+  AreEncodableNames,
   entries_of,
   section_of,
   names_of,
   start_of,
   sections_of,
   recipe_module,
-  RecipeFits,
+  IsEncodableRecipe,
 };
-ghost use Rattle.wasm_tool.specs.Steps.{Follows, Explains, HoldsLines, IsEmpty, IsModule, FitsSections, Puts, listed, start_items};
+ghost use Rattle.wasm_tool.specs.Steps.{Follows, Explains, ContainsLines, IsEmpty, IsModule, AreEncodableSections, Puts, listed, start_items};
 
 use crate::fault::{RecipeCause, RecipeFault};
 use crate::words::Words;
@@ -133,7 +133,7 @@ fn put_counted<K: ItemKind, A: Allocator, B: Allocator>(
     section: &CountedSection<K, A>,
     target: &mut Module<B>,
 ) -> R<()>
-    ensures { Puts (section_of K.section_id section.now) (SectionFits section.now) target.old target.new result }
+    ensures { Puts (section_of K.section_id section.now) (IsEncodableSection section.now) target.old target.new result }
 {
     if section.is_empty() {
         return Ok(());
@@ -157,7 +157,7 @@ fn add_data<A: Allocator>(
     offset: &ConstExpr<A>,
     bytes: Vec<u8, A>,
 ) -> R<()>
-    ensures { Adds (active_text 0 offset.now bytes.items) (FrameFits bytes.items) segments.old segments.new result }
+    ensures { Adds (active_encoding 0 offset.now bytes.items) (HasEncodableSize bytes.items) segments.old segments.new result }
 {
     segments.active(0, offset, bytes)
 }
@@ -203,7 +203,7 @@ impl<A: Allocator + Copy> Recipe<A> {
 
     /// Parses the lines of a recipe into sections without items.
     fn read_lines(&mut self, alloc: A, lines: &str) -> Result<(), RecipeFault>
-        ensures { IsEmpty self.old → MatchResult result (λ _. HoldsLines (lines_of lines.now) self.new) (λ fault. Explains lines.now fault.line fault.cause) }
+        ensures { IsEmpty self.old → MatchResult result (λ _. ContainsLines (lines_of lines.now) self.new) (λ fault. Explains lines.now fault.line fault.cause) }
     {
         let mut number = 0;
         for line in lines.split('\n') {
@@ -321,7 +321,7 @@ impl<A: Allocator + Copy> Recipe<A> {
 
     /// Appends the type section to the module: the number of types, and the types.
     fn put_types(&self, alloc: A, target: &mut Module<A>) -> R<()>
-        ensures { Puts (section_of 1 self.now.types) (SectionFits self.now.types) target.old target.new result }
+        ensures { Puts (section_of 1 self.now.types) (IsEncodableSection self.now.types) target.old target.new result }
     {
         if self.types.is_empty() {
             return Ok(());
@@ -336,7 +336,7 @@ impl<A: Allocator + Copy> Recipe<A> {
     }
 
     fn put_start(&self, target: &mut Module<A>) -> R<()>
-        ensures { Puts (start_of (start_items self.now.start)) (All FrameFits (start_items self.now.start)) target.old target.new result }
+        ensures { Puts (start_of (start_items self.now.start)) (All HasEncodableSize (start_items self.now.start)) target.old target.new result }
     {
         match self.start {
             Some(function_index) => target.section(&StartSection { function_index }),
@@ -345,7 +345,7 @@ impl<A: Allocator + Copy> Recipe<A> {
     }
 
     fn put_code(&self, target: &mut Module<A>) -> R<()>
-        ensures { Puts (section_of 10 self.now.code) (SectionFits self.now.code) target.old target.new result }
+        ensures { Puts (section_of 10 self.now.code) (IsEncodableSection self.now.code) target.old target.new result }
     {
         if self.code.is_empty() {
             return Ok(());
@@ -354,7 +354,7 @@ impl<A: Allocator + Copy> Recipe<A> {
     }
 
     fn put_names(&self, target: &mut Module<A>) -> R<()>
-        ensures { Puts (names_of self.now.names) (NamesFit self.now.names) target.old target.new result }
+        ensures { Puts (names_of self.now.names) (AreEncodableNames self.now.names) target.old target.new result }
     {
         match self.names.len() {
             0 => Ok(()),
@@ -364,7 +364,7 @@ impl<A: Allocator + Copy> Recipe<A> {
 
     /// Appends the sections to the module, in the order of the standard.
     fn put_sections(&self, alloc: A, target: &mut Module<A>) -> R<()>
-        ensures { Puts (listed self.now) (FitsSections self.now) target.old target.new result }
+        ensures { Puts (listed self.now) (AreEncodableSections self.now) target.old target.new result }
     {
         self.put_types(alloc, target)?;
         put_counted(&self.functions, target)?;
@@ -379,9 +379,9 @@ impl<A: Allocator + Copy> Recipe<A> {
 
     /// Returns the module of the sections.
     fn finish(&self, alloc: A) -> R<Vec<u8, A>>
-        ensures ok { IfOk result (λ bytes. bytes.items ≡ module_text (listed self.now)) }
-        ensures fitted { OnOk result (FitsSections self.now) }
-        ensures too_long { FitsSections self.now → result ≢ Err refusals.TooLong }
+        ensures ok { IfOk result (λ bytes. bytes.items ≡ module_encoding (listed self.now)) }
+        ensures was_encodable { OnOk result (AreEncodableSections self.now) }
+        ensures too_long { AreEncodableSections self.now → result ≢ Err refusals.TooLong }
     {
         let mut module = Module::new(alloc)?;
         self.put_sections(alloc, &mut module)?;
@@ -431,9 +431,9 @@ fn without_return(line: &str) -> &str
 /// ```
 pub fn assemble<A: Allocator + Copy>(alloc: A, lines: &str) -> Result<Vec<u8, A>, RecipeFault>
     ensures good { OnOk result (All IsGood (lines_of lines.now)) }
-    ensures fitted { OnOk result (RecipeFits (entries_of (lines_of lines.now))) }
+    ensures was_encodable { OnOk result (IsEncodableRecipe (entries_of (lines_of lines.now))) }
     ensures value { IfOk result (λ bytes. bytes.items ≡ recipe_module (entries_of (lines_of lines.now))) }
-    ensures read { IfOk result (λ bytes. ReadsWhole wasm_module bytes.items (sections_of (entries_of (lines_of lines.now)))) }
+    ensures read { IfOk result (λ bytes. DecodesWhole wasm_module bytes.items (sections_of (entries_of (lines_of lines.now)))) }
     ensures fault { IfErr result (λ fault. Explains lines.now fault.line fault.cause) }
 {
     let mut recipe = Recipe::new(alloc);

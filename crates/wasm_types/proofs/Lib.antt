@@ -1,7 +1,7 @@
 pub mod TypeLaws
-pub mod NothingLaws
+pub mod RejectionLaws
 pub mod Calls
-pub mod ReadFields
-pub mod ReadShapes
-pub mod ReadItems
-pub mod ShortTypes
+pub mod DecodeFields
+pub mod DecodeShapes
+pub mod DecodeItems
+pub mod MinimalTypes

@@ -4,19 +4,19 @@ use Rattle.std.proofs.Common.{◌≡◌, ◌≢◌, ℕ, zero, suc, ◌<◌, Lis
 use Rattle.std.proofs.lemmas.Bool.{ne_eqb}
 use Rattle.wasm_base.specs.Entries.{ItemLaws}
 use Rattle.wasm_base.specs.Formats.{Format, u32, byte, impossible, coded, mapped, pair, tagged, choice, vec}
-use Rattle.wasm_base.specs.Laws.{FitsUnsigned}
-use Rattle.wasm_base.specs.Numbers.{Mode, shortest, unsigned_text, signed_text}
-use Rattle.wasm_base.specs.Reading.{UniqueReading}
-use Rattle.wasm_base.specs.Texts.{vec_text, VecFits}
-use Rattle.wasm_base.specs.Types.{val_type, val_text, IsVal, val_tags, val_ref, ref_tags}
+use Rattle.wasm_base.specs.Laws.{IsUnsignedInRange}
+use Rattle.wasm_base.specs.Numbers.{Mode, minimal, unsigned_encoding, signed_encoding}
+use Rattle.wasm_base.specs.Decoding.{Unambiguous}
+use Rattle.wasm_base.specs.Encodings.{vec_encoding, IsEncodableVec}
+use Rattle.wasm_base.specs.Types.{val_type, val_encoding, IsVal, val_tags, val_ref, ref_tags}
 use Rattle.wasm_base.specs.declared.types.ValType.{ValType}
-use Rattle.wasm_base.proofs.BaseLaws.{s33_unique, vec_u32_unique}
-use Rattle.wasm_base.proofs.FormatLaws.{TellsTag, mapped_unique, such_unique, coded_unique, fixed_unique, impossible_unique, pair_unique, tagged_unique, vec_unique, byte_unique, choice_unique, choice_tells, choice_tags}
-use Rattle.wasm_base.proofs.NumberLaws.{u32_unique}
-use Rattle.wasm_base.proofs.PartLaws.{pair_spelled}
-use Rattle.wasm_base.proofs.TextLaws.{u32_spelled, s33_spelled, vec_spelled, tagged_spelled}
-use Rattle.wasm_base.proofs.TypeLaws.{val_unique, val-texts, val_tag, val_tells, val_choice_unique}
-use Rattle.wasm_types.specs.RecTypes.{Shape, func, array, structure, cont, Composite, Sub, TypeItem, single, group, storage_text, mutable_code, field_text, shape_text, index_text, shared_text, composite_text, before_text, sub_text, type_text, IsStorage, IsField, IsShape, IsGivenIndex, IsComposite, IsSub, IsType, storage_tags, storage_val, storage_type, field_of, field_type, func_of, shape_tags, after_shape, given_index, no_index, with_index, after_descriptor, after_describes, composite_of, after_composite, composite_type, HasSupertypes, sub_of, alone_of, supertypes_and, sub_tags, after_sub, sub_type, after_type, type_item, type_items}
+use Rattle.wasm_base.proofs.BaseLaws.{s33_unambiguous, vec_u32_unambiguous}
+use Rattle.wasm_base.proofs.FormatLaws.{DeterminesTag, mapped_unambiguous, such_unambiguous, coded_unambiguous, fixed_unambiguous, impossible_unambiguous, pair_unambiguous, tagged_unambiguous, vec_unambiguous, byte_unambiguous, choice_unambiguous, choice_determines, choice_tags}
+use Rattle.wasm_base.proofs.NumberLaws.{u32_unambiguous}
+use Rattle.wasm_base.proofs.PartLaws.{pair_encodes}
+use Rattle.wasm_base.proofs.EncodingLaws.{u32_encodes, s33_encodes, vec_encodes, tagged_encodes}
+use Rattle.wasm_base.proofs.TypeLaws.{val_unambiguous, val-encodings, val_tag, val_determines, val_choice_unambiguous}
+use Rattle.wasm_types.specs.RecTypes.{Shape, func, array, structure, cont, Composite, Sub, TypeItem, single, group, storage_encoding, mutable_code, field_encoding, shape_encoding, index_encoding, shared_encoding, composite_encoding, before_encoding, sub_encoding, type_encoding, IsStorage, IsField, IsShape, IsGivenIndex, IsComposite, IsSub, IsType, storage_tags, storage_val, storage_type, field_of, field_type, func_of, shape_tags, after_shape, given_index, no_index, with_index, after_descriptor, after_describes, composite_of, after_composite, composite_type, HasSupertypes, sub_of, alone_of, supertypes_and, sub_tags, after_sub, sub_type, after_type, type_item, type_items}
 use Rattle.wasm_types.specs.declared.types.FieldType.{FieldType}
 use Rattle.wasm_types.specs.declared.types.StorageType.{StorageType}
 use Rattle.wasm_types.specs.declared.types.StorageType.TheVariants.{I8, I16, Val}
@@ -25,8 +25,8 @@ use Rattle.wasm_base.proofs.SectionLaws.{SectionLaws, counted_laws}
 -- ---- one tag before other values
 
 -- A format that its first byte determines is unambiguous.
-told_unique : {X : Type 0} (tag : X → ℕ) {G : ℕ → Format X} → TellsTag G tag → ((b : ℕ) → UniqueReading (G b)) → UniqueReading (tagged byte G)
-told_unique tag {G} tells all = tagged_unique tag tells byte_unique all
+told_unambiguous : {X : Type 0} (tag : X → ℕ) {G : ℕ → Format X} → DeterminesTag G tag → ((b : ℕ) → Unambiguous (G b)) → Unambiguous (tagged byte G)
+told_unambiguous tag {G} tells all = tagged_unambiguous tag tells byte_unambiguous all
 
 -- A byte other than the tag selects the format without it.
 other_at : {X : Type 0} (tag : ℕ) (F : Format X) (G : ℕ → Format X) (b : ℕ) → b ≢ tag → (mode : Mode) (s : List ℕ) (x : X) → G b mode s x → choice ((tag, F) ∷ []) G b mode s x
@@ -48,14 +48,14 @@ storage_tag I8 = 0x78
 storage_tag I16 = 0x77
 storage_tag (Val ty) = val_tag ty
 
-storage_tells : TellsTag (choice storage_tags storage_val) storage_tag
-storage_tells =
-    choice_tells storage_tag storage_tags storage_val
+storage_determines : DeterminesTag (choice storage_tags storage_val) storage_tag
+storage_determines =
+    choice_determines storage_tag storage_tags storage_val
     (λ mode s x h. ap storage_tag (sym h.1), (λ mode s x h. ap storage_tag (sym h.1), tt))
-    (λ b mode s x h. val_tells mode b s h.0 h.2 ∙ ap storage_tag h.1)
+    (λ b mode s x h. val_determines mode b s h.0 h.2 ∙ ap storage_tag h.1)
 
-pub storage_unique : UniqueReading storage_type
-storage_unique = told_unique storage_tag storage_tells (choice_unique storage_tags storage_val (fixed_unique [] I8, (fixed_unique [] I16, tt)) (λ b. mapped_unique Val (λ x y e. cc) (val_choice_unique b)))
+pub storage_unambiguous : Unambiguous storage_type
+storage_unambiguous = told_unambiguous storage_tag storage_determines (choice_unambiguous storage_tags storage_val (fixed_unambiguous [] I8, (fixed_unambiguous [] I16, tt)) (λ b. mapped_unambiguous Val (λ x y e. cc) (val_choice_unambiguous b)))
 
 mutable_decode : ℕ → Bool
 mutable_decode zero = false
@@ -66,11 +66,11 @@ unfolding mutable_decode
 mutable_back false = refl
 mutable_back true = refl
 
-pub mutable_unique : UniqueReading (coded mutable_code)
-mutable_unique = coded_unique mutable_code mutable_decode mutable_back
+pub mutable_unambiguous : Unambiguous (coded mutable_code)
+mutable_unambiguous = coded_unambiguous mutable_code mutable_decode mutable_back
 
-pub field_unique : UniqueReading field_type
-field_unique = mapped_unique field_of (λ x y e. ap (λ f. (f.element_type, f.mutable)) e) (pair_unique storage_unique mutable_unique)
+pub field_unambiguous : Unambiguous field_type
+field_unambiguous = mapped_unambiguous field_of (λ x y e. ap (λ f. (f.element_type, f.mutable)) e) (pair_unambiguous storage_unambiguous mutable_unambiguous)
 
 -- ---- shapes
 
@@ -80,9 +80,9 @@ shape_tag (array field) = 0x5E
 shape_tag (structure fields) = 0x5F
 shape_tag (cont index) = 0x5D
 
-shape_tells : TellsTag after_shape shape_tag
-shape_tells =
-    choice_tells shape_tag shape_tags (λ b. impossible)
+shape_determines : DeterminesTag after_shape shape_tag
+shape_determines =
+    choice_determines shape_tag shape_tags (λ b. impossible)
     (λ mode s x h. ap shape_tag h.1, (λ mode s x h. ap shape_tag h.1, (λ mode s x h. ap shape_tag h.1, (λ mode s x h. ap shape_tag h.1, tt))))
     (λ b mode s x h. absurd h)
 
@@ -90,13 +90,13 @@ abbrev func_parts : Shape → List ValType × List ValType
 func_parts (func params results) = (params, results)
 func_parts _ = ([], [])
 
-shape_after_unique : (b : ℕ) → UniqueReading (after_shape b)
-shape_after_unique =
-    choice_unique shape_tags (λ b. impossible) (
-      mapped_unique func_of (λ x y e. ap func_parts e) (pair_unique (vec_unique val_unique) (vec_unique val_unique)),
-      (mapped_unique array (λ x y e. cc) field_unique, (mapped_unique structure (λ x y e. cc) (vec_unique field_unique), (mapped_unique cont (λ x y e. cc) s33_unique, tt))),
+shape_after_unambiguous : (b : ℕ) → Unambiguous (after_shape b)
+shape_after_unambiguous =
+    choice_unambiguous shape_tags (λ b. impossible) (
+      mapped_unambiguous func_of (λ x y e. ap func_parts e) (pair_unambiguous (vec_unambiguous val_unambiguous) (vec_unambiguous val_unambiguous)),
+      (mapped_unambiguous array (λ x y e. cc) field_unambiguous, (mapped_unambiguous structure (λ x y e. cc) (vec_unambiguous field_unambiguous), (mapped_unambiguous cont (λ x y e. cc) s33_unambiguous, tt))),
     )
-    (λ b. impossible_unique)
+    (λ b. impossible_unambiguous)
 
 -- ---- optional indices
 
@@ -107,9 +107,9 @@ one_tag tag None other = other
 abbrev index_tag : {X : Type 0} → ℕ → (X → ℕ) → Option ℕ × X → ℕ
 index_tag tag tags p = one_tag tag p.0 (tags p.1)
 
-index_tells : {X : Type 0} (tag : ℕ) (tags : X → ℕ) (F : ℕ → Format X) → TellsTag F tags → TellsTag (with_index tag F) (index_tag tag tags)
-index_tells tag tags F tells =
-    choice_tells (index_tag tag tags) ((tag, mapped given_index (pair u32 (tagged byte F))) ∷ []) (λ c. mapped no_index (F c))
+index_determines : {X : Type 0} (tag : ℕ) (tags : X → ℕ) (F : ℕ → Format X) → DeterminesTag F tags → DeterminesTag (with_index tag F) (index_tag tag tags)
+index_determines tag tags F tells =
+    choice_determines (index_tag tag tags) ((tag, mapped given_index (pair u32 (tagged byte F))) ∷ []) (λ c. mapped no_index (F c))
     (λ mode s x h. ap (index_tag tag tags) h.1, tt)
     (λ b mode s x h. tells mode b s h.0 h.2 ∙ ap (index_tag tag tags) h.1)
 
@@ -125,11 +125,11 @@ given_same p q e =
     let a : p.0 ≡ q.0 = sym (index_of-some p.0 p.1) ∙ ap index_of e ∙ index_of-some q.0 q.1 in
     λ i. (a i, (e i).1)
 
-index_unique : {X : Type 0} (tag : ℕ) (F : ℕ → Format X) → UniqueReading (tagged byte F) → ((b : ℕ) → UniqueReading (F b)) → (b : ℕ) → UniqueReading (with_index tag F b)
-index_unique tag F whole all =
-    choice_unique ((tag, mapped given_index (pair u32 (tagged byte F))) ∷ []) (λ c. mapped no_index (F c))
-    (mapped_unique given_index given_same (pair_unique u32_unique whole), tt)
-    (λ b. mapped_unique no_index (λ x y e. ap (λ p. p.1) e) (all b))
+index_unambiguous : {X : Type 0} (tag : ℕ) (F : ℕ → Format X) → Unambiguous (tagged byte F) → ((b : ℕ) → Unambiguous (F b)) → (b : ℕ) → Unambiguous (with_index tag F b)
+index_unambiguous tag F whole all =
+    choice_unambiguous ((tag, mapped given_index (pair u32 (tagged byte F))) ∷ []) (λ c. mapped no_index (F c))
+    (mapped_unambiguous given_index given_same (pair_unambiguous u32_unambiguous whole), tt)
+    (λ b. mapped_unambiguous no_index (λ x y e. ap (λ p. p.1) e) (all b))
 
 -- ---- composite types
 
@@ -139,17 +139,17 @@ descriptor_tag p = index_tag 0x4D shape_tag p
 abbrev describes_tag : Option ℕ × (Option ℕ × Shape) → ℕ
 describes_tag p = index_tag 0x4C descriptor_tag p
 
-descriptor_tells : TellsTag after_descriptor descriptor_tag
-descriptor_tells = index_tells 0x4D shape_tag after_shape shape_tells
+descriptor_determines : DeterminesTag after_descriptor descriptor_tag
+descriptor_determines = index_determines 0x4D shape_tag after_shape shape_determines
 
-describes_tells : TellsTag after_describes describes_tag
-describes_tells = index_tells 0x4C descriptor_tag after_descriptor descriptor_tells
+describes_determines : DeterminesTag after_describes describes_tag
+describes_determines = index_determines 0x4C descriptor_tag after_descriptor descriptor_determines
 
-descriptor_after_unique : (b : ℕ) → UniqueReading (after_descriptor b)
-descriptor_after_unique = index_unique 0x4D after_shape (told_unique shape_tag shape_tells shape_after_unique) shape_after_unique
+descriptor_after_unambiguous : (b : ℕ) → Unambiguous (after_descriptor b)
+descriptor_after_unambiguous = index_unambiguous 0x4D after_shape (told_unambiguous shape_tag shape_determines shape_after_unambiguous) shape_after_unambiguous
 
-describes_after_unique : (b : ℕ) → UniqueReading (after_describes b)
-describes_after_unique = index_unique 0x4C after_descriptor (told_unique descriptor_tag descriptor_tells descriptor_after_unique) descriptor_after_unique
+describes_after_unambiguous : (b : ℕ) → Unambiguous (after_describes b)
+describes_after_unambiguous = index_unambiguous 0x4C after_descriptor (told_unambiguous descriptor_tag descriptor_determines descriptor_after_unambiguous) descriptor_after_unambiguous
 
 abbrev composite_parts : Composite → Option ℕ × (Option ℕ × Shape)
 composite_parts c = (c.describes, (c.descriptor, c.shape))
@@ -163,20 +163,20 @@ shared_tags = (0x65, mapped (composite_of true) (tagged byte after_describes)) �
 abbrev not_shared : ℕ → Format Composite
 not_shared c = mapped (composite_of false) (after_describes c)
 
-composite_tells : TellsTag after_composite composite_tag
-composite_tells =
-    choice_tells composite_tag shared_tags not_shared
+composite_determines : DeterminesTag after_composite composite_tag
+composite_determines =
+    choice_determines composite_tag shared_tags not_shared
     (λ mode s x h. ap composite_tag h.1, tt)
-    (λ b mode s x h. describes_tells mode b s h.0 h.2 ∙ ap composite_tag h.1)
+    (λ b mode s x h. describes_determines mode b s h.0 h.2 ∙ ap composite_tag h.1)
 
-composite_after_unique : (b : ℕ) → UniqueReading (after_composite b)
-composite_after_unique =
-    choice_unique shared_tags not_shared
-    (mapped_unique (composite_of true) (λ x y e. ap composite_parts e) (told_unique describes_tag describes_tells describes_after_unique), tt)
-    (λ b. mapped_unique (composite_of false) (λ x y e. ap composite_parts e) (describes_after_unique b))
+composite_after_unambiguous : (b : ℕ) → Unambiguous (after_composite b)
+composite_after_unambiguous =
+    choice_unambiguous shared_tags not_shared
+    (mapped_unambiguous (composite_of true) (λ x y e. ap composite_parts e) (told_unambiguous describes_tag describes_determines describes_after_unambiguous), tt)
+    (λ b. mapped_unambiguous (composite_of false) (λ x y e. ap composite_parts e) (describes_after_unambiguous b))
 
-pub composite_unique : UniqueReading composite_type
-composite_unique = told_unique composite_tag composite_tells composite_after_unique
+pub composite_unambiguous : Unambiguous composite_type
+composite_unambiguous = told_unambiguous composite_tag composite_determines composite_after_unambiguous
 
 -- ---- subtypes
 
@@ -195,24 +195,24 @@ final_tag : (xs : List ℕ) (tag : ℕ) → 0 < length xs → 0x4F ≡ before_ta
 final_tag [] tag h = absurd (omega (arith, h))
 final_tag (x ∷ xs) tag h = refl
 
-sub_tells : TellsTag after_sub sub_tag
-sub_tells =
-    choice_tells sub_tag sub_tags not_before
+sub_determines : DeterminesTag after_sub sub_tag
+sub_determines =
+    choice_determines sub_tag sub_tags not_before
     (λ mode s x h. ap sub_tag h.1, (λ mode s x h. final_tag h.0.0 (composite_tag h.0.1) h.2.1 ∙ ap sub_tag h.1, tt))
-    (λ b mode s x h. composite_tells mode b s h.0 h.2 ∙ ap sub_tag h.1)
+    (λ b mode s x h. composite_determines mode b s h.0 h.2 ∙ ap sub_tag h.1)
 
 abbrev sub_parts : Sub → List ℕ × Composite
 sub_parts s = (s.supertypes, s.composite)
 
-sub_after_unique : (b : ℕ) → UniqueReading (after_sub b)
-sub_after_unique =
-    let both = pair_unique vec_u32_unique composite_unique in
-    choice_unique sub_tags not_before
-    (mapped_unique (sub_of false) (λ x y e. ap sub_parts e) both, (mapped_unique (sub_of true) (λ x y e. ap sub_parts e) (such_unique HasSupertypes both), tt))
-    (λ b. mapped_unique alone_of (λ x y e. ap (λ s. s.composite) e) (composite_after_unique b))
+sub_after_unambiguous : (b : ℕ) → Unambiguous (after_sub b)
+sub_after_unambiguous =
+    let both = pair_unambiguous vec_u32_unambiguous composite_unambiguous in
+    choice_unambiguous sub_tags not_before
+    (mapped_unambiguous (sub_of false) (λ x y e. ap sub_parts e) both, (mapped_unambiguous (sub_of true) (λ x y e. ap sub_parts e) (such_unambiguous HasSupertypes both), tt))
+    (λ b. mapped_unambiguous alone_of (λ x y e. ap (λ s. s.composite) e) (composite_after_unambiguous b))
 
-pub sub_unique : UniqueReading sub_type
-sub_unique = told_unique sub_tag sub_tells sub_after_unique
+pub sub_unambiguous : Unambiguous sub_type
+sub_unambiguous = told_unambiguous sub_tag sub_determines sub_after_unambiguous
 
 -- ---- entries
 
@@ -226,11 +226,11 @@ group_tags = (0x4E, mapped group (vec sub_type)) ∷ []
 abbrev not_group : ℕ → Format TypeItem
 not_group c = mapped single (after_sub c)
 
-type_tells : TellsTag after_type type_tag
-type_tells = choice_tells type_tag group_tags not_group (λ mode s x h. ap type_tag h.1, tt) (λ b mode s x h. sub_tells mode b s h.0 h.2 ∙ ap type_tag h.1)
+type_determines : DeterminesTag after_type type_tag
+type_determines = choice_determines type_tag group_tags not_group (λ mode s x h. ap type_tag h.1, tt) (λ b mode s x h. sub_determines mode b s h.0 h.2 ∙ ap type_tag h.1)
 
-pub type_unique : UniqueReading type_item
-type_unique = told_unique type_tag type_tells (choice_unique group_tags not_group (mapped_unique group (λ x y e. cc) (vec_unique sub_unique), tt) (λ b. mapped_unique single (λ x y e. cc) (sub_after_unique b)))
+pub type_unambiguous : Unambiguous type_item
+type_unambiguous = told_unambiguous type_tag type_determines (choice_unambiguous group_tags not_group (mapped_unambiguous group (λ x y e. cc) (vec_unambiguous sub_unambiguous), tt) (λ b. mapped_unambiguous single (λ x y e. cc) (sub_after_unambiguous b)))
 
 -- ---- encodings
 
@@ -249,25 +249,25 @@ at_storage b p mode s x h = rw (ne_eqb b 0x78 p.0, ne_eqb b 0x77 p.1) (x, refl, 
 pub val_storage : (mode : Mode) (s : List ℕ) (ty : ValType) → val_type mode s ty → storage_type mode s (Val ty)
 val_storage mode s ty h = lifted IsUnpacked Val {G = choice val_tags val_ref} {H = choice storage_tags storage_val} unpacked at_storage mode s ty h
 
-storage_spelled : (t : StorageType) → IsStorage t → storage_type shortest (storage_text t) t
-storage_spelled I8 p = tagged_spelled shortest 0x78 [] I8 (refl, refl)
-storage_spelled I16 p = tagged_spelled shortest 0x77 [] I16 (refl, refl)
-storage_spelled (Val ty) p = val_storage shortest (val_text ty) ty (val-texts.spelled ty p)
+storage_encodes : (t : StorageType) → IsStorage t → storage_type minimal (storage_encoding t) t
+storage_encodes I8 p = tagged_encodes minimal 0x78 [] I8 (refl, refl)
+storage_encodes I16 p = tagged_encodes minimal 0x77 [] I16 (refl, refl)
+storage_encodes (Val ty) p = val_storage minimal (val_encoding ty) ty (val-encodings.encodes ty p)
 
-field_spelled : (f : FieldType) → IsField f → field_type shortest (field_text f) f
-field_spelled f p =
-    ((f.element_type, f.mutable), refl, pair_spelled storage_type (coded mutable_code) (storage_text f.element_type) (mutable_code f.mutable ∷ []) f.element_type f.mutable (storage_spelled f.element_type p) refl)
+field_encodes : (f : FieldType) → IsField f → field_type minimal (field_encoding f) f
+field_encodes f p =
+    ((f.element_type, f.mutable), refl, pair_encodes storage_type (coded mutable_code) (storage_encoding f.element_type) (mutable_code f.mutable ∷ []) f.element_type f.mutable (storage_encodes f.element_type p) refl)
 
-vals_spelled : (tys : List ValType) → VecFits IsVal tys → vec val_type shortest (vec_text val_text tys) tys
-vals_spelled tys fits = vec_spelled val_type IsVal val_text val-texts.spelled tys fits
+vals_encodes : (tys : List ValType) → IsEncodableVec IsVal tys → vec val_type minimal (vec_encoding val_encoding tys) tys
+vals_encodes tys encodable = vec_encodes val_type IsVal val_encoding val-encodings.encodes tys encodable
 
-shape_spelled : (x : Shape) → IsShape x → tagged byte after_shape shortest (shape_text x) x
-shape_spelled (func params results) p =
-    tagged_spelled {G = after_shape} shortest 0x60 (vec_text val_text params ++ vec_text val_text results) (func params results)
-    ((params, results), refl, pair_spelled (vec val_type) (vec val_type) (vec_text val_text params) (vec_text val_text results) params results (vals_spelled params p.0) (vals_spelled results p.1))
-shape_spelled (array field) p = tagged_spelled {G = after_shape} shortest 0x5E (field_text field) (array field) (field, refl, field_spelled field p)
-shape_spelled (structure fields) p = tagged_spelled {G = after_shape} shortest 0x5F (vec_text field_text fields) (structure fields) (fields, refl, vec_spelled field_type IsField field_text field_spelled fields p)
-shape_spelled (cont index) p = tagged_spelled {G = after_shape} shortest 0x5D (signed_text (pos index)) (cont index) (index, refl, s33_spelled index p)
+shape_encodes : (x : Shape) → IsShape x → tagged byte after_shape minimal (shape_encoding x) x
+shape_encodes (func params results) p =
+    tagged_encodes {G = after_shape} minimal 0x60 (vec_encoding val_encoding params ++ vec_encoding val_encoding results) (func params results)
+    ((params, results), refl, pair_encodes (vec val_type) (vec val_type) (vec_encoding val_encoding params) (vec_encoding val_encoding results) params results (vals_encodes params p.0) (vals_encodes results p.1))
+shape_encodes (array field) p = tagged_encodes {G = after_shape} minimal 0x5E (field_encoding field) (array field) (field, refl, field_encodes field p)
+shape_encodes (structure fields) p = tagged_encodes {G = after_shape} minimal 0x5F (vec_encoding field_encoding fields) (structure fields) (fields, refl, vec_encodes field_type IsField field_encoding field_encodes fields p)
+shape_encodes (cont index) p = tagged_encodes {G = after_shape} minimal 0x5D (signed_encoding (pos index)) (cont index) (index, refl, s33_encodes index p)
 
 -- The first bytes of shapes.
 abbrev IsShapeByte : ℕ → Type 0
@@ -308,57 +308,57 @@ sub_bytes : (b : ℕ) (mode : Mode) (s : List ℕ) (x : Sub) → after_sub b mod
 sub_bytes = choice_tags (λ b. b ≢ 0x4E) sub_tags not_before (omega arith, (omega arith, tt)) (λ b mode s x h. (composite_bytes b mode s h.0 h.2).0)
 
 -- A value with an optional index before it.
-index_spelled : {X : Type 0} (P : ℕ → Type 0) (tag : ℕ) (F : ℕ → Format X) → ((b : ℕ) (mode : Mode) (s : List ℕ) (x : X) → F b mode s x → P b) → ((b : ℕ) → P b → b ≢ tag)
-    → ((s : List ℕ) (p : Option ℕ × X) → mapped given_index (pair u32 (tagged byte F)) shortest s p → with_index tag F tag shortest s p)
-    → (index : Option ℕ) (s : List ℕ) (x : X) → IsGivenIndex index → tagged byte F shortest s x → tagged byte (with_index tag F) shortest (index_text tag index ++ s) (index, x)
-index_spelled P tag F bytes apart here None s x range h =
-    lifted P no_index {G = F} {H = with_index tag F} bytes (λ b p mode s x h. other_at tag (mapped given_index (pair u32 (tagged byte F))) (λ c. mapped no_index (F c)) b (apart b p) mode s (no_index x) (x, refl, h)) shortest s x h
-index_spelled P tag F bytes apart here (Some index) s x range h =
-    tagged_spelled {G = with_index tag F} shortest tag (unsigned_text index ++ s) (Some index, x)
-    (here (unsigned_text index ++ s) (Some index, x) ((index, x), refl, pair_spelled u32 (tagged byte F) (unsigned_text index) s index x (u32_spelled index range) h))
+index_encodes : {X : Type 0} (P : ℕ → Type 0) (tag : ℕ) (F : ℕ → Format X) → ((b : ℕ) (mode : Mode) (s : List ℕ) (x : X) → F b mode s x → P b) → ((b : ℕ) → P b → b ≢ tag)
+    → ((s : List ℕ) (p : Option ℕ × X) → mapped given_index (pair u32 (tagged byte F)) minimal s p → with_index tag F tag minimal s p)
+    → (index : Option ℕ) (s : List ℕ) (x : X) → IsGivenIndex index → tagged byte F minimal s x → tagged byte (with_index tag F) minimal (index_encoding tag index ++ s) (index, x)
+index_encodes P tag F bytes apart here None s x range h =
+    lifted P no_index {G = F} {H = with_index tag F} bytes (λ b p mode s x h. other_at tag (mapped given_index (pair u32 (tagged byte F))) (λ c. mapped no_index (F c)) b (apart b p) mode s (no_index x) (x, refl, h)) minimal s x h
+index_encodes P tag F bytes apart here (Some index) s x range h =
+    tagged_encodes {G = with_index tag F} minimal tag (unsigned_encoding index ++ s) (Some index, x)
+    (here (unsigned_encoding index ++ s) (Some index, x) ((index, x), refl, pair_encodes u32 (tagged byte F) (unsigned_encoding index) s index x (u32_encodes index range) h))
 
-unshared_spelled : (c : Composite) → IsComposite c → tagged byte after_describes shortest (index_text 0x4C c.describes ++ (index_text 0x4D c.descriptor ++ shape_text c.shape)) (composite_parts c)
-unshared_spelled c p =
-    index_spelled IsDescriptorByte 0x4C after_descriptor descriptor_bytes (λ b q. q.1) (λ s x h. h) c.describes (index_text 0x4D c.descriptor ++ shape_text c.shape) (c.descriptor, c.shape) p.describes
-    (index_spelled IsShapeByte 0x4D after_shape shape_bytes (λ b q e. omega (arith, q.0, e)) (λ s x h. h) c.descriptor (shape_text c.shape) c.shape p.descriptor (shape_spelled c.shape p.shape))
+unshared_encodes : (c : Composite) → IsComposite c → tagged byte after_describes minimal (index_encoding 0x4C c.describes ++ (index_encoding 0x4D c.descriptor ++ shape_encoding c.shape)) (composite_parts c)
+unshared_encodes c p =
+    index_encodes IsDescriptorByte 0x4C after_descriptor descriptor_bytes (λ b q. q.1) (λ s x h. h) c.describes (index_encoding 0x4D c.descriptor ++ shape_encoding c.shape) (c.descriptor, c.shape) p.describes
+    (index_encodes IsShapeByte 0x4D after_shape shape_bytes (λ b q e. omega (arith, q.0, e)) (λ s x h. h) c.descriptor (shape_encoding c.shape) c.shape p.descriptor (shape_encodes c.shape p.shape))
 
-shared_spelled : (shared : Bool) (parts : Option ℕ × (Option ℕ × Shape)) (s : List ℕ) → tagged byte after_describes shortest s parts → composite_type shortest (shared_text shared ++ s) (composite_of shared parts)
-shared_spelled true parts s h = tagged_spelled {G = after_composite} shortest 0x65 s (composite_of true parts) (parts, refl, h)
-shared_spelled false parts s h =
+shared_encodes : (shared : Bool) (parts : Option ℕ × (Option ℕ × Shape)) (s : List ℕ) → tagged byte after_describes minimal s parts → composite_type minimal (shared_encoding shared ++ s) (composite_of shared parts)
+shared_encodes true parts s h = tagged_encodes {G = after_composite} minimal 0x65 s (composite_of true parts) (parts, refl, h)
+shared_encodes false parts s h =
     lifted IsUnsharedByte (composite_of false) {G = after_describes} {H = after_composite} describes_bytes
-    (λ b p mode s x h. other_at 0x65 (mapped (composite_of true) (tagged byte after_describes)) not_shared b p.1 mode s (composite_of false x) (x, refl, h)) shortest s parts h
+    (λ b p mode s x h. other_at 0x65 (mapped (composite_of true) (tagged byte after_describes)) not_shared b p.1 mode s (composite_of false x) (x, refl, h)) minimal s parts h
 
-pub composite_spelled : (c : Composite) → IsComposite c → composite_type shortest (composite_text c) c
-composite_spelled c p = shared_spelled c.shared (composite_parts c) (index_text 0x4C c.describes ++ (index_text 0x4D c.descriptor ++ shape_text c.shape)) (unshared_spelled c p)
+pub composite_encodes : (c : Composite) → IsComposite c → composite_type minimal (composite_encoding c) c
+composite_encodes c p = shared_encodes c.shared (composite_parts c) (index_encoding 0x4C c.describes ++ (index_encoding 0x4D c.descriptor ++ shape_encoding c.shape)) (unshared_encodes c p)
 
 at_sub : (b : ℕ) → IsCompositeByte b → (mode : Mode) (s : List ℕ) (x : Composite) → after_composite b mode s x → after_sub b mode s (alone_of x)
 at_sub b p mode s x h = rw (ne_eqb b 0x50 p.2, ne_eqb b 0x4F p.1) (x, refl, h)
 
-supertypes_spelled : (xs : List ℕ) (c : Composite) → VecFits (FitsUnsigned 32) xs → IsComposite c → supertypes_and shortest (vec_text unsigned_text xs ++ composite_text c) (xs, c)
-supertypes_spelled xs c fits p = pair_spelled (vec u32) composite_type (vec_text unsigned_text xs) (composite_text c) xs c (vec_spelled u32 (FitsUnsigned 32) unsigned_text u32_spelled xs fits) (composite_spelled c p)
+supertypes_encodes : (xs : List ℕ) (c : Composite) → IsEncodableVec (IsUnsignedInRange 32) xs → IsComposite c → supertypes_and minimal (vec_encoding unsigned_encoding xs ++ composite_encoding c) (xs, c)
+supertypes_encodes xs c encodable p = pair_encodes (vec u32) composite_type (vec_encoding unsigned_encoding xs) (composite_encoding c) xs c (vec_encodes u32 (IsUnsignedInRange 32) unsigned_encoding u32_encodes xs encodable) (composite_encodes c p)
 
-before_spelled : (is_final : Bool) (xs : List ℕ) (c : Composite) → VecFits (FitsUnsigned 32) xs → IsComposite c → sub_type shortest (before_text is_final xs ++ composite_text c) (sub_of is_final (xs, c))
-before_spelled true [] c fits p = lifted IsCompositeByte alone_of {G = after_composite} {H = after_sub} composite_bytes at_sub shortest (composite_text c) c (composite_spelled c p)
-before_spelled true (x ∷ xs) c fits p =
-    tagged_spelled {G = after_sub} shortest 0x4F (vec_text unsigned_text (x ∷ xs) ++ composite_text c) (sub_of true (x ∷ xs, c)) ((x ∷ xs, c), refl, (supertypes_spelled (x ∷ xs) c fits p, omega arith))
-before_spelled false xs c fits p =
-    tagged_spelled {G = after_sub} shortest 0x50 (vec_text unsigned_text xs ++ composite_text c) (sub_of false (xs, c)) ((xs, c), refl, supertypes_spelled xs c fits p)
+before_encodes : (is_final : Bool) (xs : List ℕ) (c : Composite) → IsEncodableVec (IsUnsignedInRange 32) xs → IsComposite c → sub_type minimal (before_encoding is_final xs ++ composite_encoding c) (sub_of is_final (xs, c))
+before_encodes true [] c encodable p = lifted IsCompositeByte alone_of {G = after_composite} {H = after_sub} composite_bytes at_sub minimal (composite_encoding c) c (composite_encodes c p)
+before_encodes true (x ∷ xs) c encodable p =
+    tagged_encodes {G = after_sub} minimal 0x4F (vec_encoding unsigned_encoding (x ∷ xs) ++ composite_encoding c) (sub_of true (x ∷ xs, c)) ((x ∷ xs, c), refl, (supertypes_encodes (x ∷ xs) c encodable p, omega arith))
+before_encodes false xs c encodable p =
+    tagged_encodes {G = after_sub} minimal 0x50 (vec_encoding unsigned_encoding xs ++ composite_encoding c) (sub_of false (xs, c)) ((xs, c), refl, supertypes_encodes xs c encodable p)
 
-pub sub_spelled : (s : Sub) → IsSub s → sub_type shortest (sub_text s) s
-sub_spelled s p = before_spelled s.is_final s.supertypes s.composite p.supertypes p.composite
+pub sub_encodes : (s : Sub) → IsSub s → sub_type minimal (sub_encoding s) s
+sub_encodes s p = before_encodes s.is_final s.supertypes s.composite p.supertypes p.composite
 
-pub type_spelled : (t : TypeItem) → IsType t → type_item shortest (type_text t) t
-type_spelled (single s) p =
-    lifted (λ b. b ≢ 0x4E) single {G = after_sub} {H = after_type} sub_bytes (λ b p mode s x h. other_at 0x4E (mapped group (vec sub_type)) not_group b p mode s (single x) (x, refl, h)) shortest (sub_text s) s (sub_spelled s p)
-type_spelled (group subs) p =
-    tagged_spelled {G = after_type} shortest 0x4E (vec_text sub_text subs) (group subs) (subs, refl, vec_spelled sub_type IsSub sub_text sub_spelled subs p)
+pub type_encodes : (t : TypeItem) → IsType t → type_item minimal (type_encoding t) t
+type_encodes (single s) p =
+    lifted (λ b. b ≢ 0x4E) single {G = after_sub} {H = after_type} sub_bytes (λ b p mode s x h. other_at 0x4E (mapped group (vec sub_type)) not_group b p mode s (single x) (x, refl, h)) minimal (sub_encoding s) s (sub_encodes s p)
+type_encodes (group subs) p =
+    tagged_encodes {G = after_type} minimal 0x4E (vec_encoding sub_encoding subs) (group subs) (subs, refl, vec_encodes sub_type IsSub sub_encoding sub_encodes subs p)
 
 pub type_laws : ItemLaws type_items
-type_laws = record { alone = type_unique; spelled = λ t plain fits. type_spelled t plain }
+type_laws = record { unique = type_unambiguous; encodes = λ t plain encodable. type_encodes t plain }
 
 pub types_section : SectionLaws type_items (vec type_item)
 types_section = counted_laws type_laws (λ given plain. plain) (λ given plain. plain)
 
 pub ruleset sections = (types_section)
 
-pub ruleset parts = (type_unique, sub_unique, composite_unique, field_unique, storage_unique)
+pub ruleset parts = (type_unambiguous, sub_unambiguous, composite_unambiguous, field_unambiguous, storage_unambiguous)

@@ -1,7 +1,7 @@
 -- This file defines the types that the arguments of calls encode.
 use Rattle.std.specs.Prelude.{ℕ, List, [], ◌∷◌, Option, Some, None}
-use Rattle.wasm_base.specs.Texts.{vec_text, VecFits}
-use Rattle.wasm_types.specs.RecTypes.{Shape, func, array, structure, cont, Composite, Sub, sub_text}
+use Rattle.wasm_base.specs.Encodings.{vec_encoding, IsEncodableVec}
+use Rattle.wasm_types.specs.RecTypes.{Shape, func, array, structure, cont, Composite, Sub, sub_encoding}
 use Rattle.wasm_types.specs.declared.types.CompositeInnerType.{CompositeInnerType}
 use Rattle.wasm_types.specs.declared.types.CompositeInnerType.TheVariants as inner
 use Rattle.wasm_types.specs.declared.types.CompositeType.{CompositeType}
@@ -33,12 +33,12 @@ abbrev pub sub_in : {A : Type 0} → SubType A → Sub
 sub_in s = record { is_final = s.is_final; supertypes = listed s.supertype_idx; composite = composite_in s.composite_type }
 
 -- The numbers of parameters, results and fields are at most 2^32 - 1.
-abbrev pub ShapeFits : Shape → Type 0
-ShapeFits (func params results) = VecFits (λ t. Unit {0}) params × VecFits (λ t. Unit {0}) results
-ShapeFits (array field) = Unit {0}
-ShapeFits (structure fields) = VecFits (λ f. Unit {0}) fields
-ShapeFits (cont index) = Unit {0}
+abbrev pub IsEncodableShape : Shape → Type 0
+IsEncodableShape (func params results) = IsEncodableVec (λ t. Unit {0}) params × IsEncodableVec (λ t. Unit {0}) results
+IsEncodableShape (array field) = Unit {0}
+IsEncodableShape (structure fields) = IsEncodableVec (λ f. Unit {0}) fields
+IsEncodableShape (cont index) = Unit {0}
 
 -- The encoding of a recursion group of subtypes.
-abbrev pub group_text : {A : Type 0} → List (SubType A) → List ℕ
-group_text subs = 0x4E ∷ vec_text (λ s. sub_text (sub_in s)) subs
+abbrev pub group_encoding : {A : Type 0} → List (SubType A) → List ℕ
+group_encoding subs = 0x4E ∷ vec_encoding (λ s. sub_encoding (sub_in s)) subs

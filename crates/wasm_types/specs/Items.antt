@@ -1,8 +1,8 @@
 -- This file defines the views of decoded types: their values without locations in memory.
 use Rattle.std.specs.Prelude.{ℕ, List, ◌∷◌, map, Option}
-use Rattle.wasm_base.specs.Texts.{vec_text, VecFits}
-use Rattle.wasm_types.specs.Given.{composite_in, shape_in, ShapeFits}
-use Rattle.wasm_types.specs.RecTypes.{sub_text, Shape, Sub, TypeItem, single, group}
+use Rattle.wasm_base.specs.Encodings.{vec_encoding, IsEncodableVec}
+use Rattle.wasm_types.specs.Given.{composite_in, shape_in, IsEncodableShape}
+use Rattle.wasm_types.specs.RecTypes.{sub_encoding, Shape, Sub, TypeItem, single, group}
 use Rattle.wasm_types.specs.declared.types.CompositeInnerType.{CompositeInnerType}
 use Rattle.wasm_types.specs.declared.items.SubItem.{SubItem}
 use Rattle.wasm_types.specs.declared.items.TypeEntry.{TypeEntry}
@@ -26,15 +26,15 @@ entry_view (entries.Single s) = single (sub_view s)
 entry_view (entries.Group v) = group (map sub_view v.items)
 
 -- Every count in the encoding of the subtype is at most 2^32 - 1.
-abbrev pub SubItemFits : {A : Type 0} → SubItem A → Type 0
-SubItemFits s = VecFits (λ i. Unit {0}) s.supertypes.items × ShapeFits (shape_in s.composite_type.inner)
+abbrev pub IsEncodableSubItem : {A : Type 0} → SubItem A → Type 0
+IsEncodableSubItem s = IsEncodableVec (λ i. Unit {0}) s.supertypes.items × IsEncodableShape (shape_in s.composite_type.inner)
 
 -- The encoding of an entry.
-abbrev pub entry_text : {A : Type 0} → TypeEntry A → List ℕ
-entry_text (entries.Single s) = sub_text (sub_view s)
-entry_text (entries.Group v) = 0x4E ∷ vec_text (λ s. sub_text (sub_view s)) v.items
+abbrev pub entry_encoding : {A : Type 0} → TypeEntry A → List ℕ
+entry_encoding (entries.Single s) = sub_encoding (sub_view s)
+entry_encoding (entries.Group v) = 0x4E ∷ vec_encoding (λ s. sub_encoding (sub_view s)) v.items
 
 -- Every count in the encoding of the entry is at most 2^32 - 1.
-abbrev pub EntryFits : {A : Type 0} → TypeEntry A → Type 0
-EntryFits (entries.Single s) = SubItemFits s
-EntryFits (entries.Group v) = VecFits SubItemFits v.items
+abbrev pub IsEncodableEntry : {A : Type 0} → TypeEntry A → Type 0
+IsEncodableEntry (entries.Single s) = IsEncodableSubItem s
+IsEncodableEntry (entries.Group v) = IsEncodableVec IsEncodableSubItem v.items

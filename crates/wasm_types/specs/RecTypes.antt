@@ -1,14 +1,14 @@
 -- This file defines the types of a type section, their encodings and their formats. Core
 -- specification, Binary Format, Types, and Modules, Type Section.
 use Rattle.std.specs.Prelude.{ℕ, ◌^◌, ◌<◌, List, [], ◌∷◌, ◌++◌, length, Bool, true, false, Option, Some, None, IfSome, pos}
-use Rattle.wasm_base.specs.Entries.{Kind, HoldsItems}
+use Rattle.wasm_base.specs.Entries.{Kind, ContainsItems}
 use Rattle.wasm_base.specs.Formats.{Format, u32, byte, s33, fixed, impossible, coded, mapped, such, pair, tagged, choice, vec}
-use Rattle.wasm_base.specs.Laws.{FitsUnsigned}
-use Rattle.wasm_base.specs.Numbers.{unsigned_text, signed_text}
-use Rattle.wasm_base.specs.Texts.{vec_text, VecFits}
-use Rattle.wasm_base.specs.Types.{val_type, val_text, IsVal, val_tags, val_ref}
+use Rattle.wasm_base.specs.Laws.{IsUnsignedInRange}
+use Rattle.wasm_base.specs.Numbers.{unsigned_encoding, signed_encoding}
+use Rattle.wasm_base.specs.Encodings.{vec_encoding, IsEncodableVec}
+use Rattle.wasm_base.specs.Types.{val_type, val_encoding, IsVal, val_tags, val_ref}
 use Rattle.wasm_base.specs.declared.types.ValType.{ValType}
-use Rattle.wasm_base.specs.Modules.{SectionReading, reading_of}
+use Rattle.wasm_base.specs.Modules.{SectionDecoding, decoding_of}
 use Rattle.wasm_base.specs.SectionId.{number_of}
 use Rattle.wasm_base.specs.declared.section_id.SectionId.TheVariants as ids
 use Rattle.wasm_types.specs.declared.types.FieldType.{FieldType}
@@ -47,10 +47,10 @@ pub data TypeItem : Type 0 where
 -- ---- encodings
 
 -- The encoding of a storage type: the byte of a packed type, or a value type.
-abbrev pub storage_text : StorageType → List ℕ
-storage_text I8 = 0x78 ∷ []
-storage_text I16 = 0x77 ∷ []
-storage_text (Val ty) = val_text ty
+abbrev pub storage_encoding : StorageType → List ℕ
+storage_encoding I8 = 0x78 ∷ []
+storage_encoding I16 = 0x77 ∷ []
+storage_encoding (Val ty) = val_encoding ty
 
 -- The byte for the mutability of a field.
 abbrev pub mutable_code : Bool → ℕ
@@ -58,57 +58,57 @@ mutable_code false = 0x00
 mutable_code true = 0x01
 
 -- The encoding of a field type.
-abbrev pub field_text : FieldType → List ℕ
-field_text f = storage_text f.element_type ++ mutable_code f.mutable ∷ []
+abbrev pub field_encoding : FieldType → List ℕ
+field_encoding f = storage_encoding f.element_type ++ mutable_code f.mutable ∷ []
 
 -- The encoding of a function type.
-abbrev pub func_text : List ValType → List ValType → List ℕ
-func_text params results = 0x60 ∷ (vec_text val_text params ++ vec_text val_text results)
+abbrev pub func_encoding : List ValType → List ValType → List ℕ
+func_encoding params results = 0x60 ∷ (vec_encoding val_encoding params ++ vec_encoding val_encoding results)
 
 -- The encoding of a structure type.
-abbrev pub struct_text : List FieldType → List ℕ
-struct_text fields = 0x5F ∷ vec_text field_text fields
+abbrev pub struct_encoding : List FieldType → List ℕ
+struct_encoding fields = 0x5F ∷ vec_encoding field_encoding fields
 
 -- The encoding of a continuation type.
-abbrev pub cont_text : ℕ → List ℕ
-cont_text index = 0x5D ∷ signed_text (pos index)
+abbrev pub cont_encoding : ℕ → List ℕ
+cont_encoding index = 0x5D ∷ signed_encoding (pos index)
 
 -- The encoding of a shape, which begins with a byte for its kind.
-abbrev pub shape_text : Shape → List ℕ
-shape_text (func params results) = func_text params results
-shape_text (array field) = 0x5E ∷ field_text field
-shape_text (structure fields) = struct_text fields
-shape_text (cont index) = cont_text index
+abbrev pub shape_encoding : Shape → List ℕ
+shape_encoding (func params results) = func_encoding params results
+shape_encoding (array field) = 0x5E ∷ field_encoding field
+shape_encoding (structure fields) = struct_encoding fields
+shape_encoding (cont index) = cont_encoding index
 
 -- The encoding of an optional index: the byte `b` and the index, or no bytes.
-abbrev pub index_text : ℕ → Option ℕ → List ℕ
-index_text b None = []
-index_text b (Some index) = b ∷ unsigned_text index
+abbrev pub index_encoding : ℕ → Option ℕ → List ℕ
+index_encoding b None = []
+index_encoding b (Some index) = b ∷ unsigned_encoding index
 
 -- The encoding of sharedness: 65 for a shared type, no bytes otherwise.
-abbrev pub shared_text : Bool → List ℕ
-shared_text false = []
-shared_text true = 0x65 ∷ []
+abbrev pub shared_encoding : Bool → List ℕ
+shared_encoding false = []
+shared_encoding true = 0x65 ∷ []
 
 -- The encoding of a composite type.
-abbrev pub composite_text : Composite → List ℕ
-composite_text c = shared_text c.shared ++ (index_text 0x4C c.describes ++ (index_text 0x4D c.descriptor ++ shape_text c.shape))
+abbrev pub composite_encoding : Composite → List ℕ
+composite_encoding c = shared_encoding c.shared ++ (index_encoding 0x4C c.describes ++ (index_encoding 0x4D c.descriptor ++ shape_encoding c.shape))
 
 -- The bytes before the composite type of a subtype. There are none for a final type without
 -- supertypes.
-abbrev pub before_text : (is_final : Bool) → List ℕ → List ℕ
-before_text true [] = []
-before_text true (x ∷ xs) = 0x4F ∷ vec_text unsigned_text (x ∷ xs)
-before_text false xs = 0x50 ∷ vec_text unsigned_text xs
+abbrev pub before_encoding : (is_final : Bool) → List ℕ → List ℕ
+before_encoding true [] = []
+before_encoding true (x ∷ xs) = 0x4F ∷ vec_encoding unsigned_encoding (x ∷ xs)
+before_encoding false xs = 0x50 ∷ vec_encoding unsigned_encoding xs
 
 -- The encoding of a subtype.
-abbrev pub sub_text : Sub → List ℕ
-sub_text s = before_text s.is_final s.supertypes ++ composite_text s.composite
+abbrev pub sub_encoding : Sub → List ℕ
+sub_encoding s = before_encoding s.is_final s.supertypes ++ composite_encoding s.composite
 
 -- The encoding of an entry.
-abbrev pub type_text : TypeItem → List ℕ
-type_text (single s) = sub_text s
-type_text (group subs) = 0x4E ∷ vec_text sub_text subs
+abbrev pub type_encoding : TypeItem → List ℕ
+type_encoding (single s) = sub_encoding s
+type_encoding (group subs) = 0x4E ∷ vec_encoding sub_encoding subs
 
 -- ---- well-formed types: numbers in range, and counts of at most 2^32 - 1
 
@@ -123,14 +123,14 @@ IsField f = IsStorage f.element_type
 
 -- Indices in the shape are below 2^32, and so are the numbers of parameters, results and fields.
 abbrev pub IsShape : Shape → Type 0
-IsShape (func params results) = VecFits IsVal params × VecFits IsVal results
+IsShape (func params results) = IsEncodableVec IsVal params × IsEncodableVec IsVal results
 IsShape (array field) = IsField field
-IsShape (structure fields) = VecFits IsField fields
+IsShape (structure fields) = IsEncodableVec IsField fields
 IsShape (cont index) = index < 2 ^ 32
 
 -- An optional index is below 2^32.
 abbrev pub IsGivenIndex : Option ℕ → Type 0
-IsGivenIndex index = IfSome index (FitsUnsigned 32)
+IsGivenIndex index = IfSome index (IsUnsignedInRange 32)
 
 -- The composite type is well-formed.
 pub record IsComposite (c : Composite) : Type 0 where
@@ -140,13 +140,13 @@ pub record IsComposite (c : Composite) : Type 0 where
 
 -- The subtype is well-formed.
 pub record IsSub (s : Sub) : Type 0 where
-  pub supertypes : VecFits (FitsUnsigned 32) s.supertypes
+  pub supertypes : IsEncodableVec (IsUnsignedInRange 32) s.supertypes
   pub composite : IsComposite s.composite
 
 -- The entry is well-formed.
 abbrev pub IsType : TypeItem → Type 0
 IsType (single s) = IsSub s
-IsType (group subs) = VecFits IsSub subs
+IsType (group subs) = IsEncodableVec IsSub subs
 
 -- ---- formats
 
@@ -256,17 +256,17 @@ type_item = tagged byte after_type
 
 -- The kind of the entries of a type section.
 abbrev pub type_items : Kind TypeItem TypeItem
-type_items = record { text = type_text; IsPlain = IsType; IsPlainWide = IsType; normal_form = λ ty. ty; format = type_item }
+type_items = record { encoding = type_encoding; IsWellFormed = IsType; IsWellFormedPadded = IsType; normal_form = λ ty. ty; format = type_item }
 
 -- ---- the type section
 
 -- The pieces encode these entries.
-abbrev pub HoldsTypes : List (List ℕ) → List TypeItem → Type 0
-HoldsTypes = HoldsItems type_items
+abbrev pub ContainsTypes : List (List ℕ) → List TypeItem → Type 0
+ContainsTypes = ContainsItems type_items
 
 -- The type section that decodes to these entries.
-abbrev pub type_reading : List TypeItem → SectionReading
-type_reading types = reading_of (number_of ids.Types) (vec type_item) types
+abbrev pub type_decoding : List TypeItem → SectionDecoding
+type_decoding types = decoding_of (number_of ids.Types) (vec type_item) types
 
 -- The entry of this shape alone: final, without supertypes, and not shared.
 abbrev pub plain_type : Shape → TypeItem

@@ -1,8 +1,8 @@
 // Decoding and minimal encoding of storage and field types.
 ghost use Rattle.std.specs.Prelude.{◌≢◌, Bool, IfOk, IfErr};
 ghost use Rattle.wasm_base.specs.Formats.{coded, s33};
-ghost use Rattle.wasm_base.specs.Numbers.{wide};
-ghost use Rattle.wasm_base.specs.Reading.{Reads, ReadsNothing};
+ghost use Rattle.wasm_base.specs.Numbers.{padded};
+ghost use Rattle.wasm_base.specs.Decoding.{Decodes, Rejects};
 ghost use Rattle.wasm_reader_base.specs.declared.fault.ReadFault.TheVariants.{Memory};
 ghost use Rattle.wasm_types.specs.RecTypes.{mutable_code, storage_type, field_type};
 ghost use Rattle.wasm_types.specs.declared.types.FieldType.{FieldType as Field};
@@ -11,13 +11,13 @@ ghost use Rattle.wasm_types.specs.declared.types.StorageType.{StorageType as Sto
 use crate::types::{FieldType, StorageType};
 use std::alloc::Allocator;
 use wasm_base::{ValType, read_groups};
-use wasm_reader_base::{ReadFault, Readable, Spelled};
+use wasm_reader_base::{ReadFault, Readable, Layout};
 
 /// Decodes an index, encoded as a signed number of 33 bits.
-#[tactic(auto, using(wasm_reader_base::proofs::ReadNumbers::index_steps))]
+#[tactic(auto, using(wasm_reader_base::proofs::DecodeNumbers::index_steps))]
 pub(crate) fn read_index(bytes: &[u8]) -> Result<(u32, &[u8]), ReadFault>
-    ensures found { IfOk result (λ x. Reads s33 wide bytes.now x.0 x.1.now) }
-    ensures none { IfErr result (λ e. e ≢ Memory → ReadsNothing s33 wide bytes.now) }
+    ensures found { IfOk result (λ x. Decodes s33 padded bytes.now x.0 x.1.now) }
+    ensures none { IfErr result (λ e. e ≢ Memory → Rejects s33 padded bytes.now) }
 {
     let (groups, rest) = read_groups(bytes, 5)?;
     if groups.last >= 0x40 {
@@ -34,19 +34,19 @@ pub(crate) fn read_index(bytes: &[u8]) -> Result<(u32, &[u8]), ReadFault>
 #[derive(Clone, Copy)]
 struct Mutable(bool);
 
-impl Spelled for Mutable {
+impl Layout for Mutable {
     ghost Value = { Bool };
 
     ghost format = { coded mutable_code };
 
     ghost view = { λ m. m.0 };
 
-    #[tactic(auto, using(crate::proofs::TypeLaws::mutable_unique))]
+    #[tactic(auto, using(crate::proofs::TypeLaws::mutable_unambiguous))]
     fn laws() {}
 }
 
 impl<'a, A: Allocator + Copy> Readable<'a, A> for Mutable {
-    #[tactic(auto, using(crate::proofs::ReadFields::mutable_steps))]
+    #[tactic(auto, using(crate::proofs::DecodeFields::mutable_steps))]
     fn read(bytes: &'a [u8], alloc: A) -> Result<(Mutable, &'a [u8]), ReadFault> {
         let (code, rest) = <u8 as Readable<'a, A>>::read(bytes, alloc)?;
         match code {
@@ -57,19 +57,19 @@ impl<'a, A: Allocator + Copy> Readable<'a, A> for Mutable {
     }
 }
 
-impl Spelled for StorageType {
+impl Layout for StorageType {
     ghost Value = { Storage };
 
     ghost format = { storage_type };
 
     ghost view = { λ ty. ty };
 
-    #[tactic(auto, using(crate::proofs::TypeLaws::storage_unique))]
+    #[tactic(auto, using(crate::proofs::TypeLaws::storage_unambiguous))]
     fn laws() {}
 }
 
 impl<'a, A: Allocator + Copy> Readable<'a, A> for StorageType {
-    #[tactic(auto, using(crate::proofs::ReadFields::storage_steps))]
+    #[tactic(auto, using(crate::proofs::DecodeFields::storage_steps))]
     fn read(bytes: &'a [u8], alloc: A) -> Result<(StorageType, &'a [u8]), ReadFault> {
         let (tag, rest) = <u8 as Readable<'a, A>>::read(bytes, alloc)?;
         match tag {
@@ -83,19 +83,19 @@ impl<'a, A: Allocator + Copy> Readable<'a, A> for StorageType {
     }
 }
 
-impl Spelled for FieldType {
+impl Layout for FieldType {
     ghost Value = { Field };
 
     ghost format = { field_type };
 
     ghost view = { λ field. field };
 
-    #[tactic(auto, using(crate::proofs::TypeLaws::field_unique))]
+    #[tactic(auto, using(crate::proofs::TypeLaws::field_unambiguous))]
     fn laws() {}
 }
 
 impl<'a, A: Allocator + Copy> Readable<'a, A> for FieldType {
-    #[tactic(auto, using(crate::proofs::ReadFields::field_steps))]
+    #[tactic(auto, using(crate::proofs::DecodeFields::field_steps))]
     fn read(bytes: &'a [u8], alloc: A) -> Result<(FieldType, &'a [u8]), ReadFault> {
         let ((element_type, Mutable(mutable)), rest) = <(StorageType, Mutable) as Readable<
             'a,

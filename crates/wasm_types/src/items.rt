@@ -1,18 +1,18 @@
 // The decoded entries of a type section: subtypes and recursion groups.
 ghost use Rattle.std.specs.Prelude.{◌≢◌, IfOk, IfErr};
 ghost use Rattle.wasm_base.specs.Formats.{pair, vec, u32 as u32_format};
-ghost use Rattle.wasm_base.specs.Numbers.{wide};
-ghost use Rattle.wasm_base.specs.Reading.{Reads, ReadsNothing};
+ghost use Rattle.wasm_base.specs.Numbers.{padded};
+ghost use Rattle.wasm_base.specs.Decoding.{Decodes, Rejects};
 ghost use Rattle.wasm_reader_base.specs.declared.fault.ReadFault.TheVariants.{Memory};
 ghost use Rattle.wasm_types.specs.Given.{composite_in};
-ghost use Rattle.wasm_types.specs.RecTypes.{supertypes_and, after_sub, sub_text, sub_type, type_item, Sub, TypeItem as Entry};
-ghost use Rattle.wasm_types.specs.Items.{sub_view, SubItemFits, entry_view};
+ghost use Rattle.wasm_types.specs.RecTypes.{supertypes_and, after_sub, sub_encoding, sub_type, type_item, Sub, TypeItem as Entry};
+ghost use Rattle.wasm_types.specs.Items.{sub_view, IsEncodableSubItem, entry_view};
 
 use crate::shapes::read_composite_after;
 use crate::types::CompositeType;
 use std::alloc::{Allocator, Global};
 use wasm_base::{Encode, Lent, R};
-use wasm_reader_base::{ReadFault, Readable, Spelled};
+use wasm_reader_base::{ReadFault, Readable, Layout};
 
 /// A decoded subtype: its supertypes, and whether it is final, so that it can have no subtypes.
 #[derive(Drop, Debug)]
@@ -36,8 +36,8 @@ fn read_supertypes_and<'a, A: Allocator + Copy>(
     bytes: &'a [u8],
     alloc: A,
 ) -> Result<(Vec<u32, A>, CompositeType<A>, &'a [u8]), ReadFault>
-    ensures found { IfOk result (λ x. Reads supertypes_and wide bytes.now (x.0.items, composite_in x.1) x.2.now) }
-    ensures none { IfErr result (λ e. e ≢ Memory → ReadsNothing supertypes_and wide bytes.now) }
+    ensures found { IfOk result (λ x. Decodes supertypes_and padded bytes.now (x.0.items, composite_in x.1) x.2.now) }
+    ensures none { IfErr result (λ e. e ≢ Memory → Rejects supertypes_and padded bytes.now) }
 {
     let ((supertypes, tag), rest) = <(Vec<u32, A>, u8) as Readable<'a, A>>::read(bytes, alloc)?;
     let (composite_type, rest) = read_composite_after(tag, rest, alloc)?;
@@ -45,14 +45,14 @@ fn read_supertypes_and<'a, A: Allocator + Copy>(
 }
 
 /// Decodes a subtype after its first byte, `tag`.
-#[tactic(auto, using(crate::proofs::ReadItems::sub_steps))]
+#[tactic(auto, using(crate::proofs::DecodeItems::sub_steps))]
 fn read_sub_after<'a, A: Allocator + Copy>(
     tag: u8,
     bytes: &'a [u8],
     alloc: A,
 ) -> Result<(SubItem<A>, &'a [u8]), ReadFault>
-    ensures found { IfOk result (λ x. Reads (after_sub tag) wide bytes.now (sub_view x.0) x.1.now) }
-    ensures none { IfErr result (λ e. e ≢ Memory → ReadsNothing (after_sub tag) wide bytes.now) }
+    ensures found { IfOk result (λ x. Decodes (after_sub tag) padded bytes.now (sub_view x.0) x.1.now) }
+    ensures none { IfErr result (λ e. e ≢ Memory → Rejects (after_sub tag) padded bytes.now) }
 {
     match tag {
         0x50 => {
@@ -88,14 +88,14 @@ fn read_sub_after<'a, A: Allocator + Copy>(
     }
 }
 
-impl<A: Allocator> Spelled for SubItem<A> {
+impl<A: Allocator> Layout for SubItem<A> {
     ghost Value = { Sub };
 
     ghost format = { sub_type };
 
     ghost view = { sub_view };
 
-    #[tactic(auto, using(crate::proofs::TypeLaws::sub_unique))]
+    #[tactic(auto, using(crate::proofs::TypeLaws::sub_unambiguous))]
     fn laws() {}
 }
 
@@ -106,14 +106,14 @@ impl<'a, A: Allocator + Copy> Readable<'a, A> for SubItem<A> {
     }
 }
 
-impl<A: Allocator> Spelled for TypeEntry<A> {
+impl<A: Allocator> Layout for TypeEntry<A> {
     ghost Value = { Entry };
 
     ghost format = { type_item };
 
     ghost view = { entry_view };
 
-    #[tactic(auto, using(crate::proofs::TypeLaws::type_unique))]
+    #[tactic(auto, using(crate::proofs::TypeLaws::type_unambiguous))]
     fn laws() {}
 }
 
@@ -132,11 +132,11 @@ impl<'a, A: Allocator + Copy> Readable<'a, A> for TypeEntry<A> {
 
 /// Encodes the subtype's prefix, if it needs one, and the composite type.
 impl<A: Allocator> Encode for SubItem<A> {
-    ghost text = { λ s. sub_text (sub_view s) };
+    ghost encoding = { λ s. sub_encoding (sub_view s) };
 
-    ghost fits = { SubItemFits };
+    ghost encodable = { IsEncodableSubItem };
 
-    #[tactic(auto, using(crate::proofs::ShortTypes::before_steps))]
+    #[tactic(auto, using(crate::proofs::MinimalTypes::before_steps))]
     fn encode<B: Allocator>(&self, sink: &mut Vec<u8, B>) -> R<()> {
         if !self.is_final {
             return (
@@ -160,11 +160,11 @@ impl<A: Allocator> Encode for SubItem<A> {
 
 /// Encodes a subtype, or a byte and the vector of subtypes.
 impl<A: Allocator> Encode for TypeEntry<A> {
-    ghost use Rattle.wasm_types.specs.Items.{entry_text, EntryFits};
+    ghost use Rattle.wasm_types.specs.Items.{entry_encoding, IsEncodableEntry};
 
-    ghost text = { entry_text };
+    ghost encoding = { entry_encoding };
 
-    ghost fits = { EntryFits };
+    ghost encodable = { IsEncodableEntry };
 
     fn encode<B: Allocator>(&self, sink: &mut Vec<u8, B>) -> R<()> {
         match self {

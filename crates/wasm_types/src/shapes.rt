@@ -1,7 +1,7 @@
 // Decoding and minimal encoding of composite types.
 ghost use Rattle.std.specs.Prelude.{◌≢◌, IfOk, IfErr};
-ghost use Rattle.wasm_base.specs.Numbers.{wide};
-ghost use Rattle.wasm_base.specs.Reading.{Reads, ReadsNothing};
+ghost use Rattle.wasm_base.specs.Numbers.{padded};
+ghost use Rattle.wasm_base.specs.Decoding.{Decodes, Rejects};
 ghost use Rattle.wasm_reader_base.specs.declared.fault.ReadFault.TheVariants.{Memory};
 ghost use Rattle.wasm_types.specs.Given.{shape_in, composite_in};
 ghost use Rattle.wasm_types.specs.RecTypes.{after_shape, after_descriptor, after_describes, after_composite};
@@ -16,14 +16,14 @@ use wasm_base::ValType;
 use wasm_reader_base::{ReadFault, Readable};
 
 /// Decodes an inner type after its first byte, `tag`.
-#[tactic(auto, using(crate::proofs::ReadShapes::shape_steps))]
+#[tactic(auto, using(crate::proofs::DecodeShapes::shape_steps))]
 fn read_shape_after<'a, A: Allocator + Copy>(
     tag: u8,
     bytes: &'a [u8],
     alloc: A,
 ) -> Result<(CompositeInnerType<A>, &'a [u8]), ReadFault>
-    ensures found { IfOk result (λ x. Reads (after_shape tag) wide bytes.now (shape_in x.0) x.1.now) }
-    ensures none { IfErr result (λ e. e ≢ Memory → ReadsNothing (after_shape tag) wide bytes.now) }
+    ensures found { IfOk result (λ x. Decodes (after_shape tag) padded bytes.now (shape_in x.0) x.1.now) }
+    ensures none { IfErr result (λ e. e ≢ Memory → Rejects (after_shape tag) padded bytes.now) }
 {
     match tag {
         0x60 => {
@@ -53,14 +53,14 @@ fn read_shape_after<'a, A: Allocator + Copy>(
 }
 
 /// Decodes an optional descriptor and an inner type after the first byte, `tag`.
-#[tactic(auto, using(crate::proofs::ReadShapes::index_steps))]
+#[tactic(auto, using(crate::proofs::DecodeShapes::index_steps))]
 fn read_descriptor_after<'a, A: Allocator + Copy>(
     tag: u8,
     bytes: &'a [u8],
     alloc: A,
 ) -> Result<((Option<u32>, CompositeInnerType<A>), &'a [u8]), ReadFault>
-    ensures found { IfOk result (λ x. Reads (after_descriptor tag) wide bytes.now (described_view x.0) x.1.now) }
-    ensures none { IfErr result (λ e. e ≢ Memory → ReadsNothing (after_descriptor tag) wide bytes.now) }
+    ensures found { IfOk result (λ x. Decodes (after_descriptor tag) padded bytes.now (described_view x.0) x.1.now) }
+    ensures none { IfErr result (λ e. e ≢ Memory → Rejects (after_descriptor tag) padded bytes.now) }
 {
     if tag == 0x4D {
         let ((index, tag), rest) = <(u32, u8) as Readable<'a, A>>::read(bytes, alloc)?;
@@ -74,7 +74,7 @@ fn read_descriptor_after<'a, A: Allocator + Copy>(
 
 /// Decodes an optional described type, an optional descriptor and an inner type after the first
 /// byte, `tag`.
-#[tactic(auto, using(crate::proofs::ReadShapes::index_steps))]
+#[tactic(auto, using(crate::proofs::DecodeShapes::index_steps))]
 fn read_describes_after<'a, A: Allocator + Copy>(
     tag: u8,
     bytes: &'a [u8],
@@ -86,8 +86,8 @@ fn read_describes_after<'a, A: Allocator + Copy>(
     ),
     ReadFault,
 >
-    ensures found { IfOk result (λ x. Reads (after_describes tag) wide bytes.now (describing_view x.0) x.1.now) }
-    ensures none { IfErr result (λ e. e ≢ Memory → ReadsNothing (after_describes tag) wide bytes.now) }
+    ensures found { IfOk result (λ x. Decodes (after_describes tag) padded bytes.now (describing_view x.0) x.1.now) }
+    ensures none { IfErr result (λ e. e ≢ Memory → Rejects (after_describes tag) padded bytes.now) }
 {
     if tag == 0x4C {
         let ((index, tag), rest) = <(u32, u8) as Readable<'a, A>>::read(bytes, alloc)?;
@@ -100,14 +100,14 @@ fn read_describes_after<'a, A: Allocator + Copy>(
 }
 
 /// Decodes a composite type after its first byte, `tag`.
-#[tactic(auto, using(crate::proofs::ReadShapes::composite_steps))]
+#[tactic(auto, using(crate::proofs::DecodeShapes::composite_steps))]
 pub(crate) fn read_composite_after<'a, A: Allocator + Copy>(
     tag: u8,
     bytes: &'a [u8],
     alloc: A,
 ) -> Result<(CompositeType<A>, &'a [u8]), ReadFault>
-    ensures found { IfOk result (λ x. Reads (after_composite tag) wide bytes.now (composite_in x.0) x.1.now) }
-    ensures none { IfErr result (λ e. e ≢ Memory → ReadsNothing (after_composite tag) wide bytes.now) }
+    ensures found { IfOk result (λ x. Decodes (after_composite tag) padded bytes.now (composite_in x.0) x.1.now) }
+    ensures none { IfErr result (λ e. e ≢ Memory → Rejects (after_composite tag) padded bytes.now) }
 {
     if tag == 0x65 {
         let (tag, rest) = <u8 as Readable<'a, A>>::read(bytes, alloc)?;

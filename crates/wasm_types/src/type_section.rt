@@ -1,20 +1,20 @@
 // The type section: its builder, its reader and its minimizer.
 ghost use Rattle.std.specs.Prelude.{◌≡◌, ◌≢◌, ℕ, List, [], ◌∷◌, length, map, IfErr, IfOk, IsTrue, Err, OnOk, OnErr, ◌↔◌, slice_get, ⊤, pos};
 ghost use Rattle.std.specs.Option.{option_copied};
-ghost use Rattle.wasm_base.specs.Calls.{Adds, ReadsBackBoth};
-ghost use Rattle.wasm_base.specs.Entries.{HoldsWide, counted_format};
+ghost use Rattle.wasm_base.specs.Calls.{Adds, DecodesBackBoth};
+ghost use Rattle.wasm_base.specs.Entries.{ContainsPadded, counted_format};
 ghost use Rattle.wasm_base.specs.Formats.{vec};
-ghost use Rattle.wasm_base.specs.Going.{FillsNothing};
+ghost use Rattle.wasm_base.specs.Continuing.{RejectsWhole};
 ghost use Rattle.wasm_base.specs.Iterators.{HasKnownLength};
-ghost use Rattle.wasm_base.specs.Numbers.{wide};
-ghost use Rattle.wasm_base.specs.Pieces.{section_text, SectionFits, IsOverlong};
-ghost use Rattle.wasm_base.specs.Texts.{VecFits};
+ghost use Rattle.wasm_base.specs.Numbers.{padded};
+ghost use Rattle.wasm_base.specs.Pieces.{section_encoding, IsEncodableSection, IsOverlong};
+ghost use Rattle.wasm_base.specs.Encodings.{IsEncodableVec};
 ghost use Rattle.wasm_base.specs.declared.refused.Refused.TheVariants.{TooLong};
-ghost use Rattle.wasm_reader_base.specs.Shortest.{AppendsShortest, HasEncoding};
+ghost use Rattle.wasm_reader_base.specs.Minimal.{AppendsMinimal, HasEncoding};
 ghost use Rattle.wasm_reader_base.specs.declared.fault.ReadFault.TheVariants.{Memory};
 ghost use Rattle.wasm_types.specs.Calls.{AddsListed, AddsTwoListed};
 ghost use Rattle.wasm_types.specs.Items.{entry_view};
-ghost use Rattle.wasm_types.specs.RecTypes.{type_items, TypeItem as Item, type_text, IsType, type_item, field_text, func_text, struct_text, cont_text, sub_text, HoldsTypes};
+ghost use Rattle.wasm_types.specs.RecTypes.{type_items, TypeItem as Item, type_encoding, IsType, type_item, field_encoding, func_encoding, struct_encoding, cont_encoding, sub_encoding, ContainsTypes};
 
 use crate::items::TypeEntry;
 use crate::types::{ARRAY, ContType, FUNC, FieldType, FuncType, STRUCT, StorageType, SubType};
@@ -115,13 +115,13 @@ impl<A: Allocator + Copy> TypeSection<A> {
 
 /// Encodes the size prefix, the number of entries, and the entries.
 impl<A: Allocator> Encode for TypeSection<A> {
-    ghost text = { section_text };
+    ghost encoding = { section_encoding };
 
-    ghost fits = { SectionFits };
+    ghost encodable = { IsEncodableSection };
 
     ghost overlong = { IsOverlong };
 
-    ghost reading = { λ section. ReadsBackBoth (counted_format type_item) (HoldsTypes section) (HoldsWide type_item section) (section_text section) };
+    ghost decoding = { λ section. DecodesBackBoth (counted_format type_item) (ContainsTypes section) (ContainsPadded type_item section) (section_encoding section) };
 
     fn encode<B: Allocator>(&self, sink: &mut Vec<u8, B>) -> R<()> {
         TypeItems::laws();
@@ -130,7 +130,7 @@ impl<A: Allocator> Encode for TypeSection<A> {
 }
 
 impl<A: Allocator> Section for TypeSection<A> {
-    ghost use Rattle.wasm_base.specs.Pieces.{SectionPayload, section_framed};
+    ghost use Rattle.wasm_base.specs.Pieces.{SectionPayload, section_sized};
     ghost use Rattle.wasm_base.specs.SectionId.{number_of};
     ghost use Rattle.wasm_base.specs.declared.section_id.SectionId.TheVariants as ids;
 
@@ -140,7 +140,7 @@ impl<A: Allocator> Section for TypeSection<A> {
 
     ghost format = { counted_format type_item };
 
-    ghost says = { HoldsTypes };
+    ghost says = { ContainsTypes };
 
     ghost payload = { SectionPayload };
 
@@ -148,9 +148,9 @@ impl<A: Allocator> Section for TypeSection<A> {
         SectionId::Types.into()
     }
 
-    ghost framed = { section_framed };
+    ghost sized = { section_sized };
 
-    ghost reads_back = { λ section promised. promised.plain };
+    ghost decodes_back = { λ section promised. promised.plain };
 }
 
 /// Adds one type to a section that it borrows. A call that returns an error leaves the section
@@ -161,11 +161,11 @@ pub struct CoreTypeEncoder<'a, A: Allocator = Global> {
 }
 
 impl<'a, A: Allocator> CoreTypeEncoder<'a, A> {
-    ghost use Rattle.wasm_types.specs.Given.{sub_in, shape_in, ShapeFits, group_text};
+    ghost use Rattle.wasm_types.specs.Given.{sub_in, shape_in, IsEncodableShape, group_encoding};
 
     /// Adds a function type.
     pub fn func_type<B: Allocator>(self, ty: &FuncType<B>) -> R<()>
-        ensures { Adds (func_text ty.now.params.items ty.now.results.items) (VecFits (λ _. ⊤) ty.now.params.items × VecFits (λ _. ⊤) ty.now.results.items) self.entry.section.now self.exit.0.now result }
+        ensures { Adds (func_encoding ty.now.params.items ty.now.results.items) (IsEncodableVec (λ _. ⊤) ty.now.params.items × IsEncodableVec (λ _. ⊤) ty.now.results.items) self.entry.section.now self.exit.0.now result }
     {
         let section = self.section;
         section.pieces.add_encoded(ty)
@@ -173,7 +173,7 @@ impl<'a, A: Allocator> CoreTypeEncoder<'a, A> {
 
     /// Adds an array type.
     pub fn array(self, ty: &StorageType, mutable: bool) -> R<()>
-        ensures { Adds (0x5E ∷ field_text (record { element_type = ty.now; mutable = mutable })) ⊤ self.entry.section.now self.exit.0.now result }
+        ensures { Adds (0x5E ∷ field_encoding (record { element_type = ty.now; mutable = mutable })) ⊤ self.entry.section.now self.exit.0.now result }
     {
         let element = FieldType {
             element_type: *ty,
@@ -185,7 +185,7 @@ impl<'a, A: Allocator> CoreTypeEncoder<'a, A> {
 
     /// Adds a continuation type.
     pub fn cont(self, ty: &ContType) -> R<()>
-        ensures { Adds (cont_text ty.now.0) ⊤ self.entry.section.now self.exit.0.now result }
+        ensures { Adds (cont_encoding ty.now.0) ⊤ self.entry.section.now self.exit.0.now result }
     {
         let section = self.section;
         section.pieces.add_encoded(ty)
@@ -193,7 +193,7 @@ impl<'a, A: Allocator> CoreTypeEncoder<'a, A> {
 
     /// Adds a subtype.
     pub fn subtype<B: Allocator>(self, ty: &SubType<B>) -> R<()>
-        ensures { Adds (sub_text (sub_in ty.now)) (ShapeFits (shape_in ty.now.composite_type.inner)) self.entry.section.now self.exit.0.now result }
+        ensures { Adds (sub_encoding (sub_in ty.now)) (IsEncodableShape (shape_in ty.now.composite_type.inner)) self.entry.section.now self.exit.0.now result }
     {
         let section = self.section;
         section.pieces.add_encoded(ty)
@@ -211,7 +211,7 @@ impl<'a, A: Allocator> CoreTypeEncoder<'a, A> {
         Q::IntoIter: ExactSizeIterator + Drop,
         requires params { HasKnownLength P.into_iter_gives P.IntoIter.can_next P.IntoIter.next_gives P.IntoIter.remaining params }
         requires results { HasKnownLength Q.into_iter_gives Q.IntoIter.can_next Q.IntoIter.next_gives Q.IntoIter.remaining results }
-        ensures { AddsTwoListed P.into_iter_gives P.IntoIter.next_gives P.IntoIter.remaining Q.into_iter_gives Q.IntoIter.next_gives Q.IntoIter.remaining params results func_text self.entry.section.now self.exit.0.now result }
+        ensures { AddsTwoListed P.into_iter_gives P.IntoIter.next_gives P.IntoIter.remaining Q.into_iter_gives Q.IntoIter.next_gives Q.IntoIter.remaining params results func_encoding self.entry.section.now self.exit.0.now result }
     {
         let section = self.section;
         let params = vec_of(params);
@@ -225,7 +225,7 @@ impl<'a, A: Allocator> CoreTypeEncoder<'a, A> {
     where
         F::IntoIter: ExactSizeIterator + Drop,
         requires { HasKnownLength F.into_iter_gives F.IntoIter.can_next F.IntoIter.next_gives F.IntoIter.remaining fields }
-        ensures { AddsListed F.into_iter_gives F.IntoIter.next_gives F.IntoIter.remaining (λ _. ⊤) fields struct_text self.entry.section.now self.exit.0.now result }
+        ensures { AddsListed F.into_iter_gives F.IntoIter.next_gives F.IntoIter.remaining (λ _. ⊤) fields struct_encoding self.entry.section.now self.exit.0.now result }
     {
         let section = self.section;
         let fields = vec_of(fields)?;
@@ -238,7 +238,7 @@ impl<'a, A: Allocator> CoreTypeEncoder<'a, A> {
     where
         T::IntoIter: ExactSizeIterator + Drop,
         requires { HasKnownLength T.into_iter_gives T.IntoIter.can_next T.IntoIter.next_gives T.IntoIter.remaining types }
-        ensures { AddsListed T.into_iter_gives T.IntoIter.next_gives T.IntoIter.remaining (λ s. ShapeFits (shape_in s.composite_type.inner)) types group_text self.entry.section.now self.exit.0.now result }
+        ensures { AddsListed T.into_iter_gives T.IntoIter.next_gives T.IntoIter.remaining (λ s. IsEncodableShape (shape_in s.composite_type.inner)) types group_encoding self.entry.section.now self.exit.0.now result }
     {
         let section = self.section;
         let types = vec_of(types)?;
@@ -259,22 +259,22 @@ pub fn read_types<'a, A: Allocator + Copy>(
     bytes: &'a [u8],
     alloc: A,
 ) -> Result<Vec<TypeEntry<A>, A>, ReadFault>
-    ensures found { IfOk result (λ x. vec type_item wide bytes.now (map entry_view x.items)) }
-    ensures none { IfErr result (λ e. e ≢ Memory → FillsNothing (vec type_item) bytes.now) }
+    ensures found { IfOk result (λ x. vec type_item padded bytes.now (map entry_view x.items)) }
+    ensures none { IfErr result (λ e. e ≢ Memory → RejectsWhole (vec type_item) bytes.now) }
 {
     read_whole::<'a, Vec<TypeEntry<A>, A>, A>(bytes, alloc)
 }
 
 /// Appends the minimal encoding of a type section's payload: the number of types, and the types. On
 /// an error, the sink is unchanged.
-#[tactic(auto, using(crate::proofs::ShortTypes::types_appended))]
+#[tactic(auto, using(crate::proofs::MinimalTypes::types_appended))]
 pub fn append_types<A: Allocator, B: Allocator>(
     types: &[TypeEntry<A>],
-    out: &mut Vec<u8, B>,
+    sink: &mut Vec<u8, B>,
 ) -> R<()>
-    ensures ok { OnOk result (AppendsShortest (vec type_item) (map entry_view types.now) out.old.items out.new.items) }
-    ensures err { OnErr result (out.new.items ≡ out.old.items) }
+    ensures ok { OnOk result (AppendsMinimal (vec type_item) (map entry_view types.now) sink.old.items sink.new.items) }
+    ensures err { OnErr result (sink.new.items ≡ sink.old.items) }
     ensures too_long { HasEncoding (vec type_item) (map entry_view types.now) → result ≢ Err TooLong }
 {
-    types.encode(out)
+    types.encode(sink)
 }

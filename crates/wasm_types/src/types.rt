@@ -2,19 +2,19 @@
 ghost use Rattle.std.specs.Iterator.{IsFinite, Drains};
 ghost use Rattle.std.specs.Prelude.{◌≡◌, ◌≢◌, ◌∷◌, ◌++◌, [], ℕ, pos, IfOk, ⊤};
 ghost use Rattle.wasm_base.specs.declared.refused.Refused.TheVariants.{TooLong};
-ghost use Rattle.wasm_base.specs.Numbers.{signed_text};
-ghost use Rattle.wasm_base.specs.Texts.{vec_text, VecFits};
+ghost use Rattle.wasm_base.specs.Numbers.{signed_encoding};
+ghost use Rattle.wasm_base.specs.Encodings.{vec_encoding, IsEncodableVec};
 ghost use Rattle.wasm_types.specs.RecTypes.{
-  storage_text,
+  storage_encoding,
   mutable_code,
-  field_text,
-  func_text,
-  shape_text,
-  index_text,
-  shared_text,
-  composite_text,
-  before_text,
-  sub_text,
+  field_encoding,
+  func_encoding,
+  shape_encoding,
+  index_encoding,
+  shared_encoding,
+  composite_encoding,
+  before_encoding,
+  sub_encoding,
 };
 
 use std::alloc::{Allocator, Global};
@@ -240,9 +240,9 @@ impl<A: Allocator + Copy> SubType<A> {
 
 /// Encodes a packed type as its byte, and a value type as such.
 impl Encode for StorageType {
-    ghost text = { storage_text };
+    ghost encoding = { storage_encoding };
 
-    ghost fits = { λ _. ⊤ };
+    ghost encodable = { λ _. ⊤ };
 
     fn encode<A: Allocator>(&self, sink: &mut Vec<u8, A>) -> R<()> {
         match *self {
@@ -263,9 +263,9 @@ fn mutability(mutable: bool) -> u8
 
 /// Encodes the storage type, and the mutability of the field.
 impl Encode for FieldType {
-    ghost text = { field_text };
+    ghost encoding = { field_encoding };
 
-    ghost fits = { λ _. ⊤ };
+    ghost encodable = { λ _. ⊤ };
 
     fn encode<A: Allocator>(&self, sink: &mut Vec<u8, A>) -> R<()> {
         (self.element_type, mutability(self.mutable)).encode(sink)
@@ -283,9 +283,9 @@ pub(crate) const FUNC: u8 = 0x60;
 
 /// Encodes a byte, and the element type.
 impl Encode for ArrayType {
-    ghost text = { λ a. 0x5E ∷ field_text a.0 };
+    ghost encoding = { λ a. 0x5E ∷ field_encoding a.0 };
 
-    ghost fits = { λ _. ⊤ };
+    ghost encodable = { λ _. ⊤ };
 
     fn encode<A: Allocator>(&self, sink: &mut Vec<u8, A>) -> R<()> {
         (ARRAY, self.0).encode(sink)
@@ -294,9 +294,9 @@ impl Encode for ArrayType {
 
 /// Encodes a byte, and the index as a signed number.
 impl Encode for ContType {
-    ghost text = { λ c. 0x5D ∷ signed_text (pos c.0) };
+    ghost encoding = { λ c. 0x5D ∷ signed_encoding (pos c.0) };
 
-    ghost fits = { λ _. ⊤ };
+    ghost encodable = { λ _. ⊤ };
 
     fn encode<A: Allocator>(&self, sink: &mut Vec<u8, A>) -> R<()> {
         (CONT, i64::from(self.0)).encode(sink)
@@ -305,9 +305,9 @@ impl Encode for ContType {
 
 /// Encodes a byte, the vector of the parameters and the vector of the results.
 impl<A: Allocator> Encode for FuncType<A> {
-    ghost text = { λ f. func_text f.params.items f.results.items };
+    ghost encoding = { λ f. func_encoding f.params.items f.results.items };
 
-    ghost fits = { λ f. VecFits (λ _. ⊤) f.params.items × VecFits (λ _. ⊤) f.results.items };
+    ghost encodable = { λ f. IsEncodableVec (λ _. ⊤) f.params.items × IsEncodableVec (λ _. ⊤) f.results.items };
 
     fn encode<B: Allocator>(&self, sink: &mut Vec<u8, B>) -> R<()> {
         (FUNC, self.params.as_slice(), self.results.as_slice()).encode(sink)
@@ -316,9 +316,9 @@ impl<A: Allocator> Encode for FuncType<A> {
 
 /// Encodes a byte, and the vector of the fields.
 impl<A: Allocator> Encode for StructType<A> {
-    ghost text = { λ s. 0x5F ∷ vec_text field_text s.fields.items };
+    ghost encoding = { λ s. 0x5F ∷ vec_encoding field_encoding s.fields.items };
 
-    ghost fits = { λ s. VecFits (λ _. ⊤) s.fields.items };
+    ghost encodable = { λ s. IsEncodableVec (λ _. ⊤) s.fields.items };
 
     fn encode<B: Allocator>(&self, sink: &mut Vec<u8, B>) -> R<()> {
         (STRUCT, self.fields.as_slice()).encode(sink)
@@ -327,11 +327,11 @@ impl<A: Allocator> Encode for StructType<A> {
 
 /// Encodes a byte that selects the case, and its fields.
 impl<A: Allocator> Encode for CompositeInnerType<A> {
-    ghost use Rattle.wasm_types.specs.Given.{shape_in, ShapeFits};
+    ghost use Rattle.wasm_types.specs.Given.{shape_in, IsEncodableShape};
 
-    ghost text = { λ c. shape_text (shape_in c) };
+    ghost encoding = { λ c. shape_encoding (shape_in c) };
 
-    ghost fits = { λ c. ShapeFits (shape_in c) };
+    ghost encodable = { λ c. IsEncodableShape (shape_in c) };
 
     fn encode<B: Allocator>(&self, sink: &mut Vec<u8, B>) -> R<()> {
         match self {
@@ -348,9 +348,9 @@ impl<A: Allocator> Encode for CompositeInnerType<A> {
 struct Shared(bool);
 
 impl Encode for Shared {
-    ghost text = { λ s. shared_text s.0 };
+    ghost encoding = { λ s. shared_encoding s.0 };
 
-    ghost fits = { λ _. ⊤ };
+    ghost encodable = { λ _. ⊤ };
 
     fn encode<A: Allocator>(&self, sink: &mut Vec<u8, A>) -> R<()> {
         if self.0 { 0x65u8.encode(sink) } else { Ok(()) }
@@ -365,9 +365,9 @@ struct Marked {
 }
 
 impl Encode for Marked {
-    ghost text = { λ m. index_text m.byte m.index };
+    ghost encoding = { λ m. index_encoding m.byte m.index };
 
-    ghost fits = { λ _. ⊤ };
+    ghost encodable = { λ _. ⊤ };
 
     fn encode<A: Allocator>(&self, sink: &mut Vec<u8, A>) -> R<()> {
         match self.index {
@@ -379,11 +379,11 @@ impl Encode for Marked {
 
 /// Encodes the prefixes, and the inner type.
 impl<A: Allocator> Encode for CompositeType<A> {
-    ghost use Rattle.wasm_types.specs.Given.{composite_in, ShapeFits, shape_in};
+    ghost use Rattle.wasm_types.specs.Given.{composite_in, IsEncodableShape, shape_in};
 
-    ghost text = { λ c. composite_text (composite_in c) };
+    ghost encoding = { λ c. composite_encoding (composite_in c) };
 
-    ghost fits = { λ c. ShapeFits (shape_in c.inner) };
+    ghost encodable = { λ c. IsEncodableShape (shape_in c.inner) };
 
     fn encode<B: Allocator>(&self, sink: &mut Vec<u8, B>) -> R<()> {
         let describes = Marked {
@@ -415,9 +415,9 @@ struct Before {
 impl Encode for Before {
     ghost use Rattle.wasm_types.specs.Given.{listed};
 
-    ghost text = { λ b. before_text b.is_final (listed b.supertype_idx) };
+    ghost encoding = { λ b. before_encoding b.is_final (listed b.supertype_idx) };
 
-    ghost fits = { λ _. ⊤ };
+    ghost encodable = { λ _. ⊤ };
 
     fn encode<A: Allocator>(&self, sink: &mut Vec<u8, A>) -> R<()> {
         let byte: u8 = if self.is_final { 0x4F } else { 0x50 };
@@ -434,11 +434,11 @@ impl Encode for Before {
 
 /// Encodes the subtype's prefix, if it needs one, and the composite type.
 impl<A: Allocator> Encode for SubType<A> {
-    ghost use Rattle.wasm_types.specs.Given.{sub_in, shape_in, ShapeFits};
+    ghost use Rattle.wasm_types.specs.Given.{sub_in, shape_in, IsEncodableShape};
 
-    ghost text = { λ s. sub_text (sub_in s) };
+    ghost encoding = { λ s. sub_encoding (sub_in s) };
 
-    ghost fits = { λ s. ShapeFits (shape_in s.composite_type.inner) };
+    ghost encodable = { λ s. IsEncodableShape (shape_in s.composite_type.inner) };
 
     fn encode<B: Allocator>(&self, sink: &mut Vec<u8, B>) -> R<()> {
         let before = Before {

@@ -6,23 +6,23 @@ fn base(_rt: HostRuntime) {
     wasm_base::laws::numbers();
     wasm_base::laws::frames();
     wasm_base::laws::payloads();
-    wasm_base::laws::wide_payloads();
+    wasm_base::laws::padded_payloads();
     wasm_base::laws::types();
     wasm_base::laws::constants();
-    wasm_base::laws::wide()
+    wasm_base::laws::padded()
 }
 
 #[test]
 fn instructions(_rt: HostRuntime) {
     wasm_immediates::laws::immediates();
     wasm_immediates::laws::memory_arguments();
-    wasm_immediates::laws::wide();
+    wasm_immediates::laws::padded();
     wasm_insn::laws::opcodes();
     wasm_insn::laws::rows::<Global>();
     wasm_insn::laws::cases::<Global>();
     wasm_insn::laws::instructions::<Global>();
     wasm_insn::laws::lists();
-    wasm_insn::laws::wide()
+    wasm_insn::laws::padded()
 }
 
 #[test]
@@ -31,52 +31,52 @@ fn code(_rt: HostRuntime) {
     wasm_code::laws::bodies();
     wasm_code::laws::offset::<Global>();
     wasm_code::laws::payloads();
-    wasm_code::laws::wide_payloads();
+    wasm_code::laws::padded_payloads();
     wasm_code::laws::calls::<Global>();
-    wasm_code::laws::wide_calls::<Global>();
-    wasm_code::laws::wide();
+    wasm_code::laws::padded_calls::<Global>();
+    wasm_code::laws::padded();
     wasm_code::laws::locals();
-    wasm_code::laws::nothing_stands()
+    wasm_code::laws::rejections()
 }
 
 #[test]
 fn sections(_rt: HostRuntime) {
     wasm_sections::laws::sections();
-    wasm_sections::laws::wide();
+    wasm_sections::laws::padded();
     wasm_sections::laws::calls();
-    wasm_sections::laws::wide_calls();
+    wasm_sections::laws::padded_calls();
     wasm_sections::laws::given_elements::<Global>();
     wasm_sections::laws::payloads();
-    wasm_sections::laws::wide_payloads();
-    wasm_sections::laws::nothing_stands()
+    wasm_sections::laws::padded_payloads();
+    wasm_sections::laws::rejections()
 }
 
 #[test]
 fn type_sections(_rt: HostRuntime) {
     wasm_types::laws::types();
-    wasm_types::laws::wide();
+    wasm_types::laws::padded();
     wasm_types::laws::calls();
-    wasm_types::laws::wide_calls();
+    wasm_types::laws::padded_calls();
     wasm_types::laws::payloads();
-    wasm_types::laws::wide_payloads();
-    wasm_types::laws::nothing_stands()
+    wasm_types::laws::padded_payloads();
+    wasm_types::laws::rejections()
 }
 
 #[test]
 fn custom_sections(_rt: HostRuntime) {
     wasm_custom::laws::sections();
-    wasm_custom::laws::wide();
+    wasm_custom::laws::padded();
     wasm_custom::laws::calls();
-    wasm_custom::laws::wide_calls();
+    wasm_custom::laws::padded_calls();
     wasm_custom::laws::payloads();
-    wasm_custom::laws::wide_payloads();
-    wasm_custom::laws::nothing_stands()
+    wasm_custom::laws::padded_payloads();
+    wasm_custom::laws::rejections()
 }
 
 #[test]
 fn readers(_rt: HostRuntime) {
     wasm_reader_insn::laws::places();
-    wasm_reader::laws::texts();
+    wasm_reader::laws::encodings();
     wasm_reader::laws::modules();
     wasm_reader::laws::shortened()
 }

@@ -8,5 +8,5 @@ fn walk(rt: HostRuntime) {
     );
     let _ = instructions.next_before_end().expect(&rt, "read");
     let _ = instructions.args();
-    let _ = instructions.place();
+    let _ = instructions.offset();
 }

@@ -1,5 +1,5 @@
 use Rattle.std.proofs.Common.{[], ◌∷◌, ◌++◌, sym, subst, ap, ◌∙◌}
-use Rattle.wasm_base.specs.Numbers.{shortest}
+use Rattle.wasm_base.specs.Numbers.{minimal}
 use Rattle.wasm_reader_base.proofs.Faults.{fault_stays}
 use Rattle.wasm_reader.specs.Kinds.{Functions}
 use Rattle.wasm_reader.specs.Sections.{section}
@@ -9,10 +9,10 @@ use Rattle.read_back.proofs.shortened_function.Goals as goal
 
 pub returns-in_err-taken-clause-memory : goal.returns-in_err-taken-clause-memory
 returns-in_err-taken-clause-memory g c =
-    let text = subst (λ bytes. section kinds.Functions shortest bytes (Functions (c.args.index ∷ []))) (sym c.as_slice.ensures.value) (written Functions c.requires c.in-Ok.ensures) in
-    fault_stays c.from_residual.result _ c.from_residual.ensures.1 λ n. written_stands kinds.Functions (c.in_err-taken.ensures.none n) text
+    let encoding = subst (λ bytes. section kinds.Functions minimal bytes (Functions (c.args.index ∷ []))) (sym c.as_slice.ensures.value) (written Functions c.requires c.in-Ok.ensures) in
+    fault_stays c.from_residual.result _ c.from_residual.ensures.1 λ n. written_stands kinds.Functions (c.in_err-taken.ensures.none n) encoding
 
 pub returns-clause-same : goal.returns-clause-same
 returns-clause-same g c =
-    let text = subst (λ bytes. section kinds.Functions shortest bytes (Functions (c.args.index ∷ []))) (sym c.as_slice.ensures.value) (written Functions c.requires c.in-Ok.ensures) in
-    shortens_written c.in_ok-taken.ensures.ok text ∙ ap (λ t. c.args.sink.now.items ++ t) c.as_slice.ensures.value
+    let encoding = subst (λ bytes. section kinds.Functions minimal bytes (Functions (c.args.index ∷ []))) (sym c.as_slice.ensures.value) (written Functions c.requires c.in-Ok.ensures) in
+    shortens_written c.in_ok-taken.ensures.ok encoding ∙ ap (λ t. c.args.sink.now.items ++ t) c.as_slice.ensures.value

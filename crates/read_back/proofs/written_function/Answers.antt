@@ -1,18 +1,18 @@
 use Rattle.std.proofs.Common.{[], ◌∷◌, sym, subst}
-use Rattle.wasm_base.specs.Numbers.{shortest}
+use Rattle.wasm_base.specs.Numbers.{minimal}
 use Rattle.wasm_reader_base.proofs.Faults.{fault_stays}
 use Rattle.wasm_reader.specs.Kinds.{Functions}
 use Rattle.wasm_reader.specs.Sections.{section}
 use Rattle.wasm_reader.specs.declared.kinds.SectionKind.TheVariants as kinds
-use Rattle.wasm_reader.proofs.Calls.{written, reads_written, written_stands}
+use Rattle.wasm_reader.proofs.Calls.{written, decodes_written, written_stands}
 use Rattle.read_back.proofs.written_function.Goals as goal
 
 pub returns-in_err-items-clause-memory : goal.returns-in_err-items-clause-memory
 returns-in_err-items-clause-memory g c =
-    let text = subst (λ bytes. section kinds.Functions shortest bytes (Functions (c.args.index ∷ []))) (sym c.as_slice.ensures.value) (written Functions c.requires c.in-Ok.ensures) in
-    fault_stays c.from_residual.result _ c.from_residual.ensures.1 λ n. written_stands kinds.Functions (c.in_err-items.ensures.none n) text
+    let encoding = subst (λ bytes. section kinds.Functions minimal bytes (Functions (c.args.index ∷ []))) (sym c.as_slice.ensures.value) (written Functions c.requires c.in-Ok.ensures) in
+    fault_stays c.from_residual.result _ c.from_residual.ensures.1 λ n. written_stands kinds.Functions (c.in_err-items.ensures.none n) encoding
 
 pub returns-clause-read : goal.returns-clause-read
 returns-clause-read g c =
-    let text = subst (λ bytes. section kinds.Functions shortest bytes (Functions (c.args.index ∷ []))) (sym c.as_slice.ensures.value) (written Functions c.requires c.in-Ok.ensures) in
-    reads_written c.in_ok-items.ensures.found text
+    let encoding = subst (λ bytes. section kinds.Functions minimal bytes (Functions (c.args.index ∷ []))) (sym c.as_slice.ensures.value) (written Functions c.requires c.in-Ok.ensures) in
+    decodes_written c.in_ok-items.ensures.found encoding

@@ -2,10 +2,10 @@ use Rattle.std.proofs.Common.{[], ◌∷◌, ◌++◌, ◌<◌, ◌≤◌, lengt
 use Rattle.std.proofs.lemmas.List.{length-append}
 use Rattle.wasm_reader_base.proofs.Faults.{fault_stays}
 use Rattle.wasm_reader_insn.specs.Walks.{ahead}
-use Rattle.wasm_reader_insn.proofs.Calls.{goes_on, ended, stopped, of_some}
-use Rattle.wasm_reader_insn.proofs.ReadLists.{body_fills, body_no_code}
-use Rattle.wasm_base.specs.Numbers.{wide}
-use Rattle.wasm_base.specs.Reading.{Reads}
+use Rattle.wasm_reader_insn.proofs.Calls.{continues, ended, stopped, of_some}
+use Rattle.wasm_reader_insn.proofs.DecodeLists.{body_fills, body_no_code}
+use Rattle.wasm_base.specs.Numbers.{padded}
+use Rattle.wasm_base.specs.Decoding.{Decodes}
 use Rattle.wasm_insn.specs.Plain.{Plain, instruction}
 use Rattle.wasm_insn.specs.Table.{table}
 use Rattle.callers.proofs.walks.count_instructions.Goals as goal
@@ -21,9 +21,9 @@ loop-instructions-preserved g c =
     let old = c.loop-instructions.instructions in
     let new = c.next.new.self in
     let i : Plain = record { op = c.in-Some._step.op; arguments = new.arguments } in
-    let read = of_some (λ step. Reads (instruction table) wide (ahead old) (record { op = step.op; arguments = new.arguments }) (ahead new)) c.in-Some.is c.in_ok-_step.ensures.found in
-    let further = of_some (λ step. (old.place < new.place) × (new.place ≤ length new.bytes)) c.in-Some.is c.in_ok-_step.ensures.further in
-    (w.0 ++ i ∷ [], goes_on w.0 w.1 read, omega (arith, length-append w.0 (i ∷ []), w.2), omega (arith, w.3, further.0), c.in_ok-_step.ensures.same ∙ w.4)
+    let read = of_some (λ step. Decodes (instruction table) padded (ahead old) (record { op = step.op; arguments = new.arguments }) (ahead new)) c.in-Some.is c.in_ok-_step.ensures.found in
+    let further = of_some (λ step. (old.offset < new.offset) × (new.offset ≤ length new.bytes)) c.in-Some.is c.in_ok-_step.ensures.further in
+    (w.0 ++ i ∷ [], continues w.0 w.1 read, omega (arith, length-append w.0 (i ∷ []), w.2), omega (arith, w.3, further.0), c.in_ok-_step.ensures.same ∙ w.4)
 
 pub returns-clause-found : goal.returns-clause-found
 returns-clause-found g c =

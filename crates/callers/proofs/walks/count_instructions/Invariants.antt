@@ -6,7 +6,7 @@ use Rattle.callers.proofs.walks.count_instructions.Given as goal
 
 abbrev pub invariant-loop-instructions : goal.invariant-loop-instructions
 invariant-loop-instructions g l =
-    (seen : List Plain) × HasWalked (ahead l.initial.instructions) seen (ahead l.instructions) × (length seen ≡ l.count) × (l.count ≤ l.instructions.place) × (l.instructions.bytes ≡ l.bytes)
+    (seen : List Plain) × HasWalked (ahead l.initial.instructions) seen (ahead l.instructions) × (length seen ≡ l.count) × (l.count ≤ l.instructions.offset) × (l.instructions.bytes ≡ l.bytes)
 
 abbrev pub decreases-loop-instructions : goal.decreases-loop-instructions
-decreases-loop-instructions g l = length l.bytes - l.instructions.place
+decreases-loop-instructions g l = length l.bytes - l.instructions.offset

@@ -1,13 +1,13 @@
 use Rattle.std.proofs.Common.{◌≡◌, ◌<◌, ◌≤◌, [], ◌∷◌, length, drop, refl, subst, ◌∙◌, arith}
 use Rattle.std.proofs.lemmas.List.{length-append}
-use Rattle.wasm_base.specs.Numbers.{wide}
+use Rattle.wasm_base.specs.Numbers.{padded}
 use Rattle.wasm_base.specs.Formats.{u32, pair, vec}
-use Rattle.wasm_base.specs.Reading.{Reads}
+use Rattle.wasm_base.specs.Decoding.{Decodes}
 use Rattle.wasm_base.specs.Types.{val_type}
 use Rattle.wasm_code.specs.Bodies.{and_then}
 use Rattle.wasm_insn.specs.Plain.{Plain, instruction}
 use Rattle.wasm_insn.specs.Table.{table}
-use Rattle.wasm_reader_insn.specs.Laws.{HasGone}
+use Rattle.wasm_reader_insn.specs.Laws.{HasVisited}
 use Rattle.wasm_reader_insn.specs.Walks.{ahead}
 use Rattle.wasm_reader_insn.proofs.Calls.{of_some}
 use Rattle.callers.proofs.walks.place_after.Goals as goal
@@ -16,8 +16,8 @@ pub loop-taken-init : goal.loop-taken-init
 loop-taken-init g c =
     let runs = c.in_ok-_runs._runs.items in
     let same = c.in_ok-_runs.ensures.same in
-    let read = subst (λ z. Reads (vec (pair u32 val_type)) wide c.args.bytes.now runs (drop c.in_ok-_runs.instructions.place z)) same c.in_ok-_runs.ensures.found in
-    (record { runs = runs; code = [] }, c.places.ensures.begun c.args.bytes.now c.in_ok-_runs.instructions.place runs read c.in_ok-_runs.ensures.within, refl, c.in_ok-_runs.ensures.within, same)
+    let read = subst (λ z. Decodes (vec (pair u32 val_type)) padded c.args.bytes.now runs (drop c.in_ok-_runs.instructions.offset z)) same c.in_ok-_runs.ensures.found in
+    (record { runs = runs; code = [] }, c.places.ensures.begun c.args.bytes.now c.in_ok-_runs.instructions.offset runs read c.in_ok-_runs.ensures.within, refl, c.in_ok-_runs.ensures.within, same)
 
 pub loop-taken-preserved : goal.loop-taken-preserved
 loop-taken-preserved g c =
@@ -25,16 +25,16 @@ loop-taken-preserved g c =
     let old = c.loop-taken.instructions in
     let new = c.next.new.self in
     let i : Plain = record { op = c.in-Some._step.op; arguments = new.arguments } in
-    let read = of_some (λ step. Reads (instruction table) wide (ahead old) (record { op = step.op; arguments = new.arguments }) (ahead new)) c.in-Some.is c.in_ok-_step.ensures.found in
-    let further = of_some (λ step. (old.place < new.place) × (new.place ≤ length new.bytes)) c.in-Some.is c.in_ok-_step.ensures.further in
+    let read = of_some (λ step. Decodes (instruction table) padded (ahead old) (record { op = step.op; arguments = new.arguments }) (ahead new)) c.in-Some.is c.in_ok-_step.ensures.found in
+    let further = of_some (λ step. (old.offset < new.offset) × (new.offset ≤ length new.bytes)) c.in-Some.is c.in_ok-_step.ensures.further in
     let same : new.bytes ≡ c.args.bytes.now = c.in_ok-_step.ensures.same ∙ w.4 in
-    let there = subst (λ z. Reads (instruction table) wide (drop old.place z) i (drop new.place c.args.bytes.now)) w.4 (subst (λ z. Reads (instruction table) wide (ahead old) i (drop new.place z)) same read) in
-    let within : new.place ≤ length c.args.bytes.now = subst (λ z. new.place ≤ length z) same further.1 in
-    (and_then w.0 (i ∷ []), c.places.ensures.goes_on c.args.bytes.now old.place new.place w.0 i w.1 there further.0 within, omega (arith, length-append w.0.code (i ∷ []), w.2), within, same)
+    let there = subst (λ z. Decodes (instruction table) padded (drop old.offset z) i (drop new.offset c.args.bytes.now)) w.4 (subst (λ z. Decodes (instruction table) padded (ahead old) i (drop new.offset z)) same read) in
+    let within : new.offset ≤ length c.args.bytes.now = subst (λ z. new.offset ≤ length z) same further.1 in
+    (and_then w.0 (i ∷ []), c.places.ensures.continues c.args.bytes.now old.offset new.offset w.0 i w.1 there further.0 within, omega (arith, length-append w.0.code (i ∷ []), w.2), within, same)
 
 pub returns : goal.returns
 returns g c = λ front more x h n e.
     let w = c.loop-taken.invariant in
-    let gone = subst (λ z. HasGone z c.loop-taken.instructions.place w.0) e w.1 in
-    let within = subst (λ z. c.loop-taken.instructions.place ≤ length z) e w.3 in
-    c.place.ensures ∙ (c.places.ensures.same front more c.loop-taken.instructions.place x w.0 h gone within (omega (arith, w.2, n, c.loop-taken-test.false))).1
+    let gone = subst (λ z. HasVisited z c.loop-taken.instructions.offset w.0) e w.1 in
+    let within = subst (λ z. c.loop-taken.instructions.offset ≤ length z) e w.3 in
+    c.offset.ensures ∙ (c.places.ensures.same front more c.loop-taken.instructions.offset x w.0 h gone within (omega (arith, w.2, n, c.loop-taken-test.false))).1

@@ -1,8 +1,8 @@
 use Rattle.std.proofs.Common.{◌≡◌, ◌≤◌, length}
 use Rattle.wasm_code.specs.Bodies.{Body}
-use Rattle.wasm_reader_insn.specs.Laws.{HasGone}
+use Rattle.wasm_reader_insn.specs.Laws.{HasVisited}
 use Rattle.callers.proofs.walks.place_after.Given as goal
 
 -- The instructions that the reader has visited.
 abbrev pub invariant-loop-taken : goal.invariant-loop-taken
-invariant-loop-taken g l = (x : Body) × HasGone l.bytes l.instructions.place x × (length x.code ≡ l._taken) × (l.instructions.place ≤ length l.bytes) × (l.instructions.bytes ≡ l.bytes)
+invariant-loop-taken g l = (x : Body) × HasVisited l.bytes l.instructions.offset x × (length x.code ≡ l._taken) × (l.instructions.offset ≤ length l.bytes) × (l.instructions.bytes ≡ l.bytes)

@@ -6,4 +6,4 @@ use Rattle.examples.specs.Adding.{add_export}
 use Rattle.examples.proofs.adding.exports.Goals as goal
 
 pub returns : goal.returns
-returns g c = adds_export (new_exports c.new-section.ensures) add_export c.in_ok-export.ensures.ok c.in_ok-export.ensures.fitted (ascii refl) (omega arith)
+returns g c = adds_export (new_exports c.new-section.ensures) add_export c.in_ok-export.ensures.ok c.in_ok-export.ensures.was_encodable (ascii refl) (omega arith)

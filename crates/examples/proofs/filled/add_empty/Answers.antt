@@ -5,7 +5,7 @@ use Rattle.examples.proofs.filled.add_empty.Goals as goal
 
 pub returns : goal.returns
 returns g c before =
-    let m1 = gains_raw before c.in_ok-section.ensures.read c.in_ok-section.ensures.fitted c.in_ok-section.ensures.section in
-    let m2 = gains_imports m1 c.in_ok-section-2.ensures.read c.in_ok-section-2.ensures.fitted c.in_ok-section-2.ensures.section c.in_ok-imports.ensures in
-    let m3 = gains_tables m2 c.in_ok-section-3.ensures.read c.in_ok-section-3.ensures.fitted c.in_ok-section-3.ensures.section c.in_ok-tables.ensures in
-    gains_memories m3 c.in_ok-section-4.ensures.read c.in_ok-section-4.ensures.fitted c.in_ok-section-4.ensures.section c.in_ok-memories.ensures
+    let m1 = gains_raw before c.in_ok-section.ensures.read c.in_ok-section.ensures.was_encodable c.in_ok-section.ensures.section in
+    let m2 = gains_imports m1 c.in_ok-section-2.ensures.read c.in_ok-section-2.ensures.was_encodable c.in_ok-section-2.ensures.section c.in_ok-imports.ensures in
+    let m3 = gains_tables m2 c.in_ok-section-3.ensures.read c.in_ok-section-3.ensures.was_encodable c.in_ok-section-3.ensures.section c.in_ok-tables.ensures in
+    gains_memories m3 c.in_ok-section-4.ensures.read c.in_ok-section-4.ensures.was_encodable c.in_ok-section-4.ensures.section c.in_ok-memories.ensures

@@ -1,16 +1,16 @@
 use Rattle.std.proofs.Common.{List, ℕ, [], ◌∷◌, Result, Ok, Err}
 use Rattle.std.specs.Prelude.{OnOk}
 use Rattle.wasm_base.specs.declared.refused.Refused.{Refused}
-use Rattle.wasm_code.specs.Bodies.{Body, IsPlainBody, AddsInstruction, and_then}
+use Rattle.wasm_code.specs.Bodies.{Body, IsWellFormedBody, AddsInstruction, and_then}
 use Rattle.wasm_code.specs.Expressions.{normal_row}
 use Rattle.wasm_code.proofs.Calls.{adds_instruction}
-use Rattle.wasm_insn.specs.Instructions.{HasSmallAlignments, IsPlainWhereAligned}
+use Rattle.wasm_insn.specs.Instructions.{HasSmallAlignments, IsWellFormedWhereAligned}
 use Rattle.wasm_insn.specs.declared.instruction.Instruction.{Instruction}
 use Rattle.examples.proofs.grown.grow.Goals as goal
 
-grown : {A : Type 0} {i : Instruction A} {old new : List ℕ} {result : Result (Unit {0}) Refused} → IsPlainWhereAligned i → AddsInstruction i old new result
-    → OnOk result (HasSmallAlignments i → (x : Body) → IsPlainBody old x → IsPlainBody new (and_then x (normal_row i ∷ [])))
-grown {result = Ok u} range added = λ small x body. adds_instruction body added.ok (range.plain small added.fitted)
+grown : {A : Type 0} {i : Instruction A} {old new : List ℕ} {result : Result (Unit {0}) Refused} → IsWellFormedWhereAligned i → AddsInstruction i old new result
+    → OnOk result (HasSmallAlignments i → (x : Body) → IsWellFormedBody old x → IsWellFormedBody new (and_then x (normal_row i ∷ [])))
+grown {result = Ok u} range added = λ small x body. adds_instruction body added.ok (range.plain small added.was_encodable)
 grown {result = Err e} range added = tt
 
 pub returns : goal.returns

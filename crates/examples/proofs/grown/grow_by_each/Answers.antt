@@ -1,10 +1,10 @@
 use Rattle.std.proofs.Common.{◌≡◌, ℕ, suc, ◌+◌, ◌<◌, List, [], ◌∷◌, ◌++◌, length, map, take, get_or, sym, ap, subst, ◌∙◌, append-nil, append_assoc, arith}
 use Rattle.std.proofs.Math.Seq.{take-suc}
 use Rattle.std.proofs.lemmas.List.{map-append, take_all}
-use Rattle.wasm_code.specs.Bodies.{IsPlainBody, and_then}
+use Rattle.wasm_code.specs.Bodies.{IsWellFormedBody, and_then}
 use Rattle.wasm_code.specs.Expressions.{normal_row}
 use Rattle.wasm_code.proofs.Calls.{adds_instruction}
-use Rattle.wasm_insn.specs.Instructions.{HasSmallAlignments, IsPlainWhereAligned}
+use Rattle.wasm_insn.specs.Instructions.{HasSmallAlignments, IsWellFormedWhereAligned}
 use Rattle.examples.proofs.grown.grow_by_each.Goals as goal
 
 -- The next member after those before it.
@@ -15,18 +15,18 @@ next_of f front xs i x there e =
     ∙ ap (λ ys. front ++ ys) (ap (λ y. map f (take i xs) ++ f y ∷ []) e ∙ sym (map-append f (take i xs) (get_or xs i x ∷ [])) ∙ ap (map f) (sym (take-suc xs i x there) ∙ ap (λ n. take n xs) step))
 
 pub loop-instruction-init : goal.loop-instruction-init
-loop-instruction-init g c small x body = subst (λ is. IsPlainBody c.args.function.now (record { runs = x.runs; code = is })) (sym (append-nil x.code)) body
+loop-instruction-init g c small x body = subst (λ is. IsWellFormedBody c.args.function.now (record { runs = x.runs; code = is })) (sym (append-nil x.code)) body
 
 pub loop-instruction-preserved : goal.loop-instruction-preserved
 loop-instruction-preserved g c small x body =
     let is = c.args.instructions.now in
     let i = c.loop-instruction.instruction-index in
     let item = c.instruction-item.result in
-    let range = subst IsPlainWhereAligned (sym c.instruction-item.is) (c.plain_instructions.ensures i item c.loop-instruction-test.true) in
+    let range = subst IsWellFormedWhereAligned (sym c.instruction-item.is) (c.plain_instructions.ensures i item c.loop-instruction-test.true) in
     let aligned = subst HasSmallAlignments (sym c.instruction-item.is) (small i item c.loop-instruction-test.true) in
-    let grown = adds_instruction (c.loop-instruction.invariant small x body) c.in_ok-instruction.ensures.ok (range.plain aligned c.in_ok-instruction.ensures.fitted) in
-    subst (λ code. IsPlainBody c.instruction.new.self (record { runs = x.runs; code = code })) (next_of normal_row x.code is i item c.loop-instruction-test.true c.instruction-item.is) grown
+    let grown = adds_instruction (c.loop-instruction.invariant small x body) c.in_ok-instruction.ensures.ok (range.plain aligned c.in_ok-instruction.ensures.was_encodable) in
+    subst (λ code. IsWellFormedBody c.instruction.new.self (record { runs = x.runs; code = code })) (next_of normal_row x.code is i item c.loop-instruction-test.true c.instruction-item.is) grown
 
 pub returns : goal.returns
 returns g c small x body =
-    subst (λ is. IsPlainBody c.loop-instruction.function (and_then x (map normal_row is))) (take_all c.loop-instruction.instruction-index c.args.instructions.now c.loop-instruction-test.false) (c.loop-instruction.invariant small x body)
+    subst (λ is. IsWellFormedBody c.loop-instruction.function (and_then x (map normal_row is))) (take_all c.loop-instruction.instruction-index c.args.instructions.now c.loop-instruction-test.false) (c.loop-instruction.invariant small x body)

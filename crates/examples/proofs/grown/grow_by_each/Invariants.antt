@@ -1,9 +1,9 @@
 use Rattle.std.proofs.Common.{All, map, take}
-use Rattle.wasm_code.specs.Bodies.{Body, IsPlainBody, and_then}
+use Rattle.wasm_code.specs.Bodies.{Body, IsWellFormedBody, and_then}
 use Rattle.wasm_code.specs.Expressions.{normal_row}
 use Rattle.wasm_insn.specs.Instructions.{HasSmallAlignments}
 use Rattle.examples.proofs.grown.grow_by_each.Given as goal
 
 abbrev pub invariant-loop-instruction : goal.invariant-loop-instruction
 invariant-loop-instruction g l =
-    All HasSmallAlignments l.instructions → (x : Body) → IsPlainBody l.initial.function x → IsPlainBody l.function (and_then x (map normal_row (take l.instruction-index l.instructions)))
+    All HasSmallAlignments l.instructions → (x : Body) → IsWellFormedBody l.initial.function x → IsWellFormedBody l.function (and_then x (map normal_row (take l.instruction-index l.instructions)))

@@ -5,6 +5,6 @@ use Rattle.examples.proofs.large.large_module.Goals as goal
 
 pub returns : goal.returns
 returns g c =
-    let m1 = gains_memories (new_module c.in_ok-module.ensures.read) c.in_ok-section.ensures.read c.in_ok-section.ensures.fitted c.in_ok-section.ensures.section c.in_ok-memories.ensures in
-    let m2 = gains_globals m1 c.in_ok-section-2.ensures.read c.in_ok-section-2.ensures.fitted c.in_ok-section-2.ensures.section c.in_ok-globals.ensures in
+    let m1 = gains_memories (new_module c.in_ok-module.ensures.read) c.in_ok-section.ensures.read c.in_ok-section.ensures.was_encodable c.in_ok-section.ensures.section c.in_ok-memories.ensures in
+    let m2 = gains_globals m1 c.in_ok-section-2.ensures.read c.in_ok-section-2.ensures.was_encodable c.in_ok-section-2.ensures.section c.in_ok-globals.ensures in
     finished m2 c.finish.ensures

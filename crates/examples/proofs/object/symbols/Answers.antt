@@ -6,4 +6,4 @@ use Rattle.examples.specs.Object.{count_down_symbol}
 use Rattle.examples.proofs.object.symbols.Goals as goal
 
 pub returns : goal.returns
-returns g c = adds_symbol (new_symbols c.new-table.ensures) count_down_symbol c.in_ok-function.ensures.ok c.in_ok-function.ensures.counted (omega arith, omega arith, (ascii refl, c.in_ok-function.ensures.fitted))
+returns g c = adds_symbol (new_symbols c.new-table.ensures) count_down_symbol c.in_ok-function.ensures.ok c.in_ok-function.ensures.counted (omega arith, omega arith, (ascii refl, c.in_ok-function.ensures.was_encodable))

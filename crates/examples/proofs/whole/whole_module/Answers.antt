@@ -8,6 +8,6 @@ pub returns : goal.returns
 returns g c =
     let m1 = c.in_ok-add_declared.ensures (new_module c.in_ok-module.ensures.read) in
     let m2 = c.in_ok-add_stored.ensures m1 in
-    let m3 = gains_number m2 c.in_ok-section.ensures.read c.in_ok-section.ensures.fitted c.in_ok-section.ensures.section in
-    let m4 = gains_code m3 c.in_ok-section-2.ensures.read c.in_ok-section-2.ensures.fitted c.in_ok-section-2.ensures.section c.in_ok-code.ensures in
+    let m3 = gains_number m2 c.in_ok-section.ensures.read c.in_ok-section.ensures.was_encodable c.in_ok-section.ensures.section in
+    let m4 = gains_code m3 c.in_ok-section-2.ensures.read c.in_ok-section-2.ensures.was_encodable c.in_ok-section-2.ensures.section c.in_ok-code.ensures in
     finished m4 c.finish.ensures

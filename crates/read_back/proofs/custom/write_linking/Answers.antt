@@ -2,7 +2,7 @@
 use Rattle.std.proofs.Common.{refl}
 use Rattle.std.specs.Prelude.{codes}
 use Rattle.wasm_base.proofs.Calls.{ascii}
-use Rattle.wasm_base.specs.Formats.{frame}
+use Rattle.wasm_base.specs.Formats.{size_prefixed}
 use Rattle.wasm_custom.proofs.Calls.{new_linking, adds_symbols, adds_target, encodes_entries}
 use Rattle.wasm_custom.specs.Linking.{linking_payload}
 use Rattle.read_back.proofs.custom.write_linking.Goals as goal
@@ -11,4 +11,4 @@ pub returns : goal.returns
 returns g c =
     let s1 = adds_symbols (new_linking c.new-section.ensures) c.in_ok-symbols.ensures c.in_ok-symbol_table.ensures.ok (refl, tt) in
     let s2 = adds_target s1 (codes "wasm32") c.in_ok-target_arch.ensures.ok (ascii refl) in
-    encodes_entries (frame linking_payload) _ _ c.encode.ensures.appends c.encode.ensures.read s2
+    encodes_entries (size_prefixed linking_payload) _ _ c.encode.ensures.appends c.encode.ensures.read s2

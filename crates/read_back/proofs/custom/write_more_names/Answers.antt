@@ -1,6 +1,6 @@
 -- Written by tools/answers.
 use Rattle.std.proofs.Common.{refl}
-use Rattle.wasm_base.specs.Formats.{frame}
+use Rattle.wasm_base.specs.Formats.{size_prefixed}
 use Rattle.wasm_custom.proofs.Calls.{new_names, adds_module_name, adds_other_names, encodes_entries}
 use Rattle.wasm_custom.specs.Names.{name_payload}
 use Rattle.read_back.proofs.custom.write_more_names.Goals as goal
@@ -9,4 +9,4 @@ pub returns : goal.returns
 returns g c =
     let s1 = adds_module_name (new_names c.new-section.ensures) c.args.name.now c.in_ok-module.ensures.ok c.utf8.name in
     let s2 = adds_other_names s1 14 c.args.more.now c.in_ok-raw.ensures.ok refl in
-    encodes_entries (frame name_payload) _ _ c.encode.ensures.appends c.encode.ensures.read s2
+    encodes_entries (size_prefixed name_payload) _ _ c.encode.ensures.appends c.encode.ensures.read s2

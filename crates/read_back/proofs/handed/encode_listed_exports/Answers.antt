@@ -1,4 +1,4 @@
-use Rattle.wasm_base.proofs.Calls.{each, holds_wide, adds_items_wide, encodes_items_wide}
+use Rattle.wasm_base.proofs.Calls.{each, contains_padded, adds_items_padded, encodes_items_padded}
 use Rattle.wasm_sections.proofs.Calls.{new_exports}
 use Rattle.wasm_sections.proofs.ExportLaws.{exports_section}
 use Rattle.wasm_sections.specs.Exports.{IsExport}
@@ -6,5 +6,5 @@ use Rattle.read_back.proofs.handed.encode_listed_exports.Goals as goal
 
 pub returns-in-Ok : goal.returns-in-Ok
 returns-in-Ok g c =
-    let s1 = adds_items_wide exports_section.held_wide (holds_wide exports_section.held_wide (new_exports c.new-section.ensures)) c.in-Ok.ensures.ok (each IsExport c.args.exports.now c.plain_exports.ensures) in
-    encodes_items_wide exports_section.held_wide c.encode.ensures.appends c.encode.ensures.read s1
+    let s1 = adds_items_padded exports_section.held_padded (contains_padded exports_section.held_padded (new_exports c.new-section.ensures)) c.in-Ok.ensures.ok (each IsExport c.args.exports.now c.plain_exports.ensures) in
+    encodes_items_padded exports_section.held_padded c.encode.ensures.appends c.encode.ensures.read s1

@@ -1,7 +1,7 @@
 use Rattle.std.proofs.Common.{[], ◌∷◌, None, arith}
 use Rattle.std.proofs.lemmas.Int.{ints}
 use Rattle.wasm_code.proofs.Calls.{all_of, one_constant}
-use Rattle.wasm_base.specs.Laws.{FitsUnsigned}
+use Rattle.wasm_base.specs.Laws.{IsUnsignedInRange}
 use Rattle.wasm_base.proofs.Calls.{encodes_items}
 use Rattle.wasm_sections.proofs.Calls.{new_elements, adds_functions, adds_element}
 use Rattle.wasm_sections.specs.Elements.{active, passive, functions}
@@ -11,7 +11,7 @@ use Rattle.read_back.proofs.stored.write_elements.Goals as goal
 pub returns : goal.returns
 returns g c =
     let offset = one_constant c.in_ok-offset.ensures.stores ((omega (arith, ints), omega (arith, ints)), tt) in
-    let first = adds_functions (new_elements c.new-section.ensures) (active None (record { bytes = _; instructions = eight })) (c.args.index ∷ []) c.in_ok-active.ensures.ok c.in_ok-active.ensures.fitted (tt, offset) (omega (arith, c.ranges.index.fits), tt) in
-    let both = adds_element first (record { place = passive; elements = functions (1 ∷ 2 ∷ []) }) c.in_ok-segment.ensures.ok
-    (record { place = tt; elements = record { count = omega arith; members = all_of (FitsUnsigned 32) (1 ∷ 2 ∷ []) (omega arith, (omega arith, tt)) } }) in
+    let first = adds_functions (new_elements c.new-section.ensures) (active None (record { bytes = _; instructions = eight })) (c.args.index ∷ []) c.in_ok-active.ensures.ok c.in_ok-active.ensures.was_encodable (tt, offset) (omega (arith, c.ranges.index.encodable), tt) in
+    let both = adds_element first (record { segment_mode = passive; elements = functions (1 ∷ 2 ∷ []) }) c.in_ok-segment.ensures.ok
+    (record { segment_mode = tt; elements = record { count = omega arith; members = all_of (IsUnsignedInRange 32) (1 ∷ 2 ∷ []) (omega arith, (omega arith, tt)) } }) in
     encodes_items c.encode.ensures.appends c.encode.ensures.read both

@@ -1,6 +1,6 @@
 use Rattle.std.proofs.Common.{[], ◌∷◌, arith, refl}
 use Rattle.std.proofs.lemmas.Int.{ints}
-use Rattle.wasm_base.specs.Numbers.{shortest}
+use Rattle.wasm_base.specs.Numbers.{minimal}
 use Rattle.wasm_base.proofs.KnownLengths.{drained_array}
 use Rattle.wasm_base.proofs.NumberLaws.{u32_small}
 use Rattle.wasm_code.proofs.Calls.{one_constant}
@@ -14,8 +14,8 @@ pub returns : goal.returns
 returns g c =
     let offset = one_constant c.in_ok-offset.ensures.stores ((omega (arith, ints), omega (arith, ints)), tt) in
     let first = adds_active (new_segments c.new-section.ensures) 0 eight _ (5 ∷ 6 ∷ []) (array_added c.in_ok-active.ensures (5 ∷ 6 ∷ []) (λ it b. b.0)) (omega arith) offset in
-    let one = u32_small shortest 1 (omega arith) in
-    let raw : data_item shortest (0x01 ∷ 0x01 ∷ 0x07 ∷ []) byte_later = (
+    let one = u32_small minimal 1 (omega arith) in
+    let raw : data_item minimal (0x01 ∷ 0x01 ∷ 0x07 ∷ []) byte_later = (
       (1, byte_later),
       refl,
       record { front = 0x01 ∷ []; back = 0x01 ∷ 0x07 ∷ []; joined = refl; first = one; second = (7 ∷ [], refl, record { front = 0x01 ∷ []; back = 0x07 ∷ []; joined = refl; first = one; second = (7 ∷ [], [], refl, refl, refl) }) },

@@ -5,4 +5,4 @@ use Rattle.wasm_base.proofs.counted.add_all.Given as goal
 -- The builder has gained exactly the items before this one.
 abbrev pub invariant-loop-added : goal.invariant-loop-added
 invariant-loop-added g l =
-    AddsEach g.B.Counted.item_text g.B.Counted.item_fits (take l.added l.items) (g.B.Counted.pieces l.fn.builder) (g.B.Counted.pieces l.builder)
+    AddsEach g.B.Counted.item_encoding g.B.Counted.item_encodable (take l.added l.items) (g.B.Counted.pieces l.fn.builder) (g.B.Counted.pieces l.builder)

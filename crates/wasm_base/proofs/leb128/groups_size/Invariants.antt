@@ -1,9 +1,9 @@
 use Rattle.std.proofs.Common.{◌≡◌, ◌+◌, length}
-use Rattle.wasm_base.specs.Numbers.{groups_text}
+use Rattle.wasm_base.specs.Numbers.{groups_encoding}
 use Rattle.wasm_base.proofs.leb128.groups_size.Given as goal
 
 abbrev pub invariant-loop-rest : goal.invariant-loop-rest
-invariant-loop-rest l = l.size + length (groups_text l.negative l.limit l.rest) ≡ length (groups_text l.negative l.limit l.n) + 1
+invariant-loop-rest l = l.size + length (groups_encoding l.negative l.limit l.rest) ≡ length (groups_encoding l.negative l.limit l.n) + 1
 
 abbrev pub decreases-loop-rest : goal.decreases-loop-rest
 decreases-loop-rest l = l.rest

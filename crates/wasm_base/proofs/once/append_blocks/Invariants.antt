@@ -9,7 +9,7 @@ invariant-loop-left g l = record {
   given : List ℕ;
   so_far : Yields g.I.Iterator.next_gives l.initial.items given l.items;
   counted : l.left + length given ≤ l.count;
-  text : l.sink.items ≡ l.initial.sink.items ++ given;
+  encoding : l.sink.items ≡ l.initial.sink.items ++ given;
   capacity : vec_capacity l.initial.sink ≤ vec_capacity l.sink;
 }
 

@@ -1,6 +1,6 @@
 use Rattle.std.proofs.Common.{◌≡◌, map, take}
-use Rattle.wasm_base.specs.Numbers.{unsigned_text}
+use Rattle.wasm_base.specs.Numbers.{unsigned_encoding}
 use Rattle.wasm_bench.proofs.functions.build.Given as goal
 
 abbrev pub invariant-loop-type_index : goal.invariant-loop-type_index
-invariant-loop-type_index l = l.section ≡ map unsigned_text (take l.type_index-index l.types)
+invariant-loop-type_index l = l.section ≡ map unsigned_encoding (take l.type_index-index l.types)

@@ -6,6 +6,6 @@ abbrev pub invariant-loop-element : goal.invariant-loop-element
 invariant-loop-element g l = record {
   can : (goal.iterator-loop-element g).can_next l.element-iterator;
   finite : (goal.iterator-loop-element g).is_finite l.element-iterator;
-  text : l.sink.items ≡ l.initial.sink.items ++ flat_map g.T.Encode.text l.yielded;
-  fits : All g.T.Encode.fits l.yielded;
+  encoding : l.sink.items ≡ l.initial.sink.items ++ flat_map g.T.Encode.encoding l.yielded;
+  encodable : All g.T.Encode.encodable l.yielded;
 }

@@ -2,8 +2,8 @@ use Rattle.std.proofs.Common.{rules, ◌≡◌, ◌≢◌, ◌+◌, [], ◌∷�
 use Rattle.wasm_code.proofs.RunLaws.{longer_run, next_run}
 use Rattle.wasm_code.proofs.locals.add_local.Goals as goal
 
-pub returns-then-goes_on-clause-more : goal.returns-then-goes_on-clause-more
-returns-then-goes_on-clause-more g c =
+pub returns-then-continues-clause-more : goal.returns-then-continues-clause-more
+returns-then-continues-clause-more g c =
     let same : c.in-Some.last ≡ c.args.ty = search rules in
     let before = c.in-Some.ensures.items ∙ ap (λ t. c.pop.new.self.items ++ (c.in-Some.count, t) ∷ []) same in
     let more : c.in-Some-checked_add.more ≡ c.in-Some.count + 1 = search rules in

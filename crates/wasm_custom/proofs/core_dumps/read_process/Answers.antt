@@ -1,5 +1,5 @@
 use Rattle.wasm_reader_base.proofs.Faults.{fault_stays}
-use Rattle.wasm_custom.proofs.CoreDumpLaws.{process_none, process_fills, process_nothing}
+use Rattle.wasm_custom.proofs.CoreDumpLaws.{process_none, process_fills, process_rejects}
 use Rattle.wasm_custom.proofs.core_dumps.read_process.Goals as goal
 
 pub returns-in_err-rest-clause-none : goal.returns-in_err-rest-clause-none
@@ -9,4 +9,4 @@ pub returns-clause-found : goal.returns-clause-found
 returns-clause-found g c = search (process_fills, c.in_ok-rest.ensures.found, c.in_ok-name.ensures.found)
 
 pub returns-in_err-name-clause-none : goal.returns-in_err-name-clause-none
-returns-in_err-name-clause-none g c = fault_stays c.from_residual-in_err-name.result _ c.from_residual-in_err-name.ensures.1 λ n. process_nothing c.args.bytes.now _ c.in_ok-rest.ensures.found (c.in_err-name.ensures.none n)
+returns-in_err-name-clause-none g c = fault_stays c.from_residual-in_err-name.result _ c.from_residual-in_err-name.ensures.1 λ n. process_rejects c.args.bytes.now _ c.in_ok-rest.ensures.found (c.in_err-name.ensures.none n)

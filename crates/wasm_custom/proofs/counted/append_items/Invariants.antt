@@ -1,7 +1,7 @@
 use Rattle.std.proofs.Common.{map, take}
 use Rattle.wasm_base.specs.Formats.{members}
-use Rattle.wasm_reader_base.specs.Shortest.{AppendsShortest}
+use Rattle.wasm_reader_base.specs.Minimal.{AppendsMinimal}
 use Rattle.wasm_custom.proofs.counted.append_items.Given as goal
 
 abbrev pub invariant-loop-item : goal.invariant-loop-item
-invariant-loop-item g l = AppendsShortest (members g.K.ItemsAs.format) (map g.K.ItemsAs.view (take l.item-index l.items)) l.initial.out.items l.out.items
+invariant-loop-item g l = AppendsMinimal (members g.K.ItemsAs.format) (map g.K.ItemsAs.view (take l.item-index l.items)) l.initial.sink.items l.sink.items

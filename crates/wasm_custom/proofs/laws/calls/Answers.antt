@@ -1,6 +1,6 @@
-use Rattle.wasm_base.proofs.HeldLaws.{holds_more}
+use Rattle.wasm_base.proofs.ContentsLaws.{contains_more}
 use Rattle.wasm_custom.proofs.ListLaws.{list_more, is_vector}
 use Rattle.wasm_custom.proofs.laws.calls.Goals as goal
 
 pub returns : goal.returns
-returns g = search (holds_more, list_more, is_vector)
+returns g = search (contains_more, list_more, is_vector)

@@ -2,5 +2,5 @@ use Rattle.wasm_reader_base.proofs.Faults.{fault_stays}
 use Rattle.wasm_custom.proofs.LinkLaws.{version_none}
 use Rattle.wasm_custom.proofs.linking.after_version.Goals as goal
 
-pub returns-in_err-told-clause-none : goal.returns-in_err-told-clause-none
-returns-in_err-told-clause-none g c = fault_stays c.from_residual.result _ c.from_residual.ensures.1 λ n. version_none c.args.bytes.now (c.in_err-told.ensures.none n)
+pub returns-in_err-known-clause-none : goal.returns-in_err-known-clause-none
+returns-in_err-known-clause-none g c = fault_stays c.from_residual.result _ c.from_residual.ensures.1 λ n. version_none c.args.bytes.now (c.in_err-known.ensures.none n)

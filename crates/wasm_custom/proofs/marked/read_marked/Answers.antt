@@ -1,5 +1,5 @@
 use Rattle.wasm_reader_base.proofs.Faults.{fault_stays}
-use Rattle.wasm_custom.proofs.ReadMarked.{marked_none}
+use Rattle.wasm_custom.proofs.DecodeMarked.{marked_none}
 use Rattle.wasm_custom.proofs.marked.read_marked.Goals as goal
 
 pub returns-in_err-first-clause-none : goal.returns-in_err-first-clause-none

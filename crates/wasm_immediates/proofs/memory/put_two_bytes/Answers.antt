@@ -1,6 +1,6 @@
 use Rattle.std.proofs.Common.{arith}
 use Rattle.std.proofs.lemmas.Grind.{common_steps}
-use Rattle.wasm_immediates.proofs.ImmediateTexts.{one_byte}
+use Rattle.wasm_immediates.proofs.ImmediateEncodings.{one_byte}
 use Rattle.wasm_immediates.proofs.memory.put_two_bytes.Goals as goal
 
 pub returns-clause-items : goal.returns-clause-items

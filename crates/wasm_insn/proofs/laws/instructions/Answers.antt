@@ -1,11 +1,11 @@
-use Rattle.wasm_insn.proofs.InstructionLaws.{alone, reads, one_text}
+use Rattle.wasm_insn.proofs.InstructionLaws.{unique, decodes, one_encoding}
 use Rattle.wasm_insn.proofs.laws.instructions.Goals as goal
 
-pub returns-clause-alone : goal.returns-clause-alone
-returns-clause-alone g c = alone
+pub returns-clause-unique : goal.returns-clause-unique
+returns-clause-unique g c = unique
 
 pub returns-clause-plain : goal.returns-clause-plain
-returns-clause-plain g c i = reads i
+returns-clause-plain g c i = decodes i
 
-pub returns-clause-one_text : goal.returns-clause-one_text
-returns-clause-one_text g c i j = one_text i j
+pub returns-clause-one_encoding : goal.returns-clause-one_encoding
+returns-clause-one_encoding g c i j = one_encoding i j

@@ -1,7 +1,7 @@
 use Rattle.std.proofs.Common.{take}
 use Rattle.std.specs.List.{All}
-use Rattle.wasm_insn.specs.Instructions.{IsPlainWhereAligned}
+use Rattle.wasm_insn.specs.Instructions.{IsWellFormedWhereAligned}
 use Rattle.wasm_insn.proofs.laws.plain_instructions.Given as goal
 
 abbrev pub invariant-loop-instruction : goal.invariant-loop-instruction
-invariant-loop-instruction g l = All IsPlainWhereAligned (take l.instruction-index l.instructions)
+invariant-loop-instruction g l = All IsWellFormedWhereAligned (take l.instruction-index l.instructions)

@@ -2,14 +2,14 @@ use Rattle.std.proofs.Common.{◌≡◌, ℕ, List, map, sym, ap, subst, ◌∙�
 use Rattle.wasm_base.proofs.Outcomes.{on_ok}
 use Rattle.wasm_custom.specs.CoreDumps.{instance_view}
 use Rattle.wasm_custom.specs.Hints.{hints_view}
-use Rattle.wasm_reader_base.specs.Shortest.{AppendsShortest}
+use Rattle.wasm_reader_base.specs.Minimal.{AppendsMinimal}
 use Rattle.wasm_reader.specs.Kinds.{Contents, Hints, CoreInstances, content, contents_of, kind_in}
 use Rattle.wasm_reader.proofs.KindLaws.{AppendsItems, items_appended, custom_appended}
 use Rattle.wasm_reader.proofs.kinds.append_content.Goals as goal
 
 -- The items are those of a case of a match.
-of_items : (x y : Contents) (old new : List ℕ) → x ≡ y → AppendsItems y old new → AppendsShortest (content (kind_in x)) x old new
-of_items x y old new e a = subst (λ z. AppendsShortest (content (kind_in z)) z old new) (sym e) (items_appended y old new a)
+of_items : (x y : Contents) (old new : List ℕ) → x ≡ y → AppendsItems y old new → AppendsMinimal (content (kind_in x)) x old new
+of_items x y old new e a = subst (λ z. AppendsMinimal (content (kind_in z)) z old new) (sym e) (items_appended y old new a)
 
 pub returns-in-Hints : goal.returns-in-Hints
 returns-in-Hints g c = on_ok c.append_hints.result _ _ c.append_hints.ensures.ok λ a. of_items _ _ _ _ (ap contents_of c.in-Hints.is ∙ ap (λ v. Hints (map hints_view v)) (sym c.deref-in-Hints.ensures.value)) a
@@ -20,5 +20,5 @@ returns-in-CoreInstances g c = on_ok c.append_instances.result _ _ c.append_inst
 pub returns-in_ok-extend_from_slice-in-Custom : goal.returns-in_ok-extend_from_slice-in-Custom
 returns-in_ok-extend_from_slice-in-Custom g c =
     let new = c.extend_from_slice.new.self.items in
-    subst (λ z. AppendsShortest (content (kind_in z)) z c.args.out.now.items new) (sym (ap contents_of c.in-Custom.is))
-    (custom_appended c.in-Custom.name.now c.in-Custom.bytes.now c.args.out.now.items c.write_minimal-in-Custom.new.out.items new c.in_ok-write_minimal-in-Custom.ensures.ok c.in_ok-extend_from_slice-in-Custom.ensures.items)
+    subst (λ z. AppendsMinimal (content (kind_in z)) z c.args.sink.now.items new) (sym (ap contents_of c.in-Custom.is))
+    (custom_appended c.in-Custom.name.now c.in-Custom.bytes.now c.args.sink.now.items c.write_minimal-in-Custom.new.sink.items new c.in_ok-write_minimal-in-Custom.ensures.ok c.in_ok-extend_from_slice-in-Custom.ensures.items)

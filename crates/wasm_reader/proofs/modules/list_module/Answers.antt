@@ -1,7 +1,7 @@
 use Rattle.std.proofs.Common.{◌≡◌, ◌+◌, suc, length, sym, subst, ◌∙◌, arith}
 use Rattle.std.proofs.lemmas.Bool.{eqb-true, eqb-false}
 use Rattle.wasm_reader.specs.Modules.{StopsAt}
-use Rattle.wasm_reader.proofs.ReadModules.{HasListed, listed_step, listed_done, listed_stops}
+use Rattle.wasm_reader.proofs.DecodeModules.{HasListed, listed_step, listed_done, listed_stops}
 use Rattle.wasm_reader.proofs.modules.list_module.Goals as goal
 
 pub returns-then-is_empty-clause-found : goal.returns-then-is_empty-clause-found

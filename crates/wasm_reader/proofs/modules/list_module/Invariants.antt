@@ -1,5 +1,5 @@
 use Rattle.std.proofs.Common.{length}
-use Rattle.wasm_reader.proofs.ReadModules.{HasListed}
+use Rattle.wasm_reader.proofs.DecodeModules.{HasListed}
 use Rattle.wasm_reader.proofs.modules.list_module.Given as goal
 
 abbrev pub invariant-loop-rest : goal.invariant-loop-rest

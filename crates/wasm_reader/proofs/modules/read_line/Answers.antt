@@ -1,21 +1,21 @@
 use Rattle.std.proofs.Common.{length, ap, subst}
-use Rattle.wasm_base.specs.Numbers.{wide}
+use Rattle.wasm_base.specs.Numbers.{padded}
 use Rattle.wasm_reader_base.proofs.Faults.{fault_stays}
 use Rattle.wasm_reader.specs.Kinds.{content}
-use Rattle.wasm_reader.proofs.ReadModules.{line_reads, line_none, line_no_frame}
+use Rattle.wasm_reader.proofs.DecodeModules.{line_decodes, line_none, line_not_size_prefixed}
 use Rattle.wasm_reader.proofs.modules.read_line.Goals as goal
 
 pub returns-in_err-id-clause-none : goal.returns-in_err-id-clause-none
 returns-in_err-id-clause-none g c = fault_stays c.from_residual.result _ c.from_residual.ensures.1 λ n. line_none c.args.bytes.now (c.in_err-id.ensures.none n)
 
-pub returns-in_err-framed-clause-none : goal.returns-in_err-framed-clause-none
-returns-in_err-framed-clause-none g c = fault_stays c.from_residual-in_err-framed.result _ c.from_residual-in_err-framed.ensures.1 λ n. line_no_frame c.args.bytes.now _ _ c.in_ok-id.ensures.found (c.in_err-framed.ensures.none n)
+pub returns-in_err-sized-clause-none : goal.returns-in_err-sized-clause-none
+returns-in_err-sized-clause-none g c = fault_stays c.from_residual-in_err-sized.result _ c.from_residual-in_err-sized.ensures.1 λ n. line_not_size_prefixed c.args.bytes.now _ _ c.in_ok-id.ensures.found (c.in_err-sized.ensures.none n)
 
 pub returns-clause-found : goal.returns-clause-found
 returns-clause-found g c =
-    let framed = c.in_ok-framed.framed.now in
+    let sized = c.in_ok-sized.sized.now in
     let x = c.in_ok-items.ensures.found in (
-      (c.in_ok-id.id, (length framed, x.0)),
-      line_reads c.args.bytes.now _ framed c.in_ok-framed.rest.now c.in_ok-id.id x.0 c.in_ok-id.ensures.found c.in_ok-framed.ensures.found (subst (λ kind. content kind wide framed x.0) c.kind_of_id.ensures x.1),
-      ap (λ n. record { id = c.in_ok-id.id; size = length framed; items = n }) x.2,
+      (c.in_ok-id.id, (length sized, x.0)),
+      line_decodes c.args.bytes.now _ sized c.in_ok-sized.rest.now c.in_ok-id.id x.0 c.in_ok-id.ensures.found c.in_ok-sized.ensures.found (subst (λ kind. content kind padded sized x.0) c.kind_of_id.ensures x.1),
+      ap (λ n. record { id = c.in_ok-id.id; size = length sized; items = n }) x.2,
     )

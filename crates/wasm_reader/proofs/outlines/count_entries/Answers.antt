@@ -1,7 +1,7 @@
 use Rattle.std.proofs.Common.{map}
 use Rattle.std.proofs.lemmas.List.{length-map}
 use Rattle.wasm_types.specs.Items.{entry_view}
-use Rattle.wasm_reader.proofs.ReadOutlines.{types_counted}
+use Rattle.wasm_reader.proofs.DecodeOutlines.{types_counted}
 use Rattle.wasm_reader.proofs.outlines.count_entries.Goals as goal
 
 pub returns-clause-found : goal.returns-clause-found

@@ -1,6 +1,6 @@
 use Rattle.std.proofs.Common.{length}
 use Rattle.wasm_base.specs.Formats.{header}
-use Rattle.wasm_reader.proofs.ReadOutlines.{HasOutlined}
+use Rattle.wasm_reader.proofs.DecodeOutlines.{HasOutlined}
 use Rattle.wasm_reader.proofs.outlines.outline.Given as goal
 
 abbrev pub invariant-loop-rest : goal.invariant-loop-rest

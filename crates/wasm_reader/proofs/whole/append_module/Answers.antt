@@ -1,6 +1,6 @@
 use Rattle.std.proofs.Common.{sym, ◌∙◌}
-use Rattle.wasm_reader.proofs.ReadOutlines.{no_header}
-use Rattle.wasm_reader.proofs.ShortModules.{stops_at, keeps_offsets, loses_at}
+use Rattle.wasm_reader.proofs.DecodeOutlines.{no_header}
+use Rattle.wasm_reader.proofs.MinimalModules.{stops_at, keeps_offsets, loses_at}
 use Rattle.wasm_reader.proofs.whole.append_module.Goals as goal
 
 pub returns-in-Err-clause-why : goal.returns-in-Err-clause-why

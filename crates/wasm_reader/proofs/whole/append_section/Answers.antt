@@ -1,15 +1,15 @@
 use Rattle.std.proofs.Common.{sym, ap, ◌++◌, ◌∙◌}
 use Rattle.wasm_reader.specs.Outlines.{section_of}
-use Rattle.wasm_reader.specs.Shortening.{holds_offsets}
-use Rattle.wasm_reader.proofs.ShortModules.{gains, stays_in, is_change_text, after_id}
+use Rattle.wasm_reader.specs.Shortening.{contains_offsets}
+use Rattle.wasm_reader.proofs.MinimalModules.{gains, stays_in, is_change_encoding, after_id}
 use Rattle.wasm_reader.proofs.whole.append_section.Goals as goal
 
 pub returns-in-Ok-clause-ok : goal.returns-in-Ok-clause-ok
 returns-in-Ok-clause-ok g c =
     let s = section_of c.args.section.now in
-    let text = c.in-Ok.ensures.ok in
-    let gained = text.2 ∙ ap (λ z. z ++ text.0) c.in_ok-push.ensures.items in
-    gains c.args.offsets s c.in-Ok.how _ text.0 c.args.sink.now.items _ text.1
-    (stays_in c.args.offsets (holds_offsets s.name) (sym c.is_left_out.ensures ∙ c.if-is_left_out.false))
-    (is_change_text _ s _ text.0 (after_id c.args.sink.now.items text.0 c.deref.result.now s.id c.len-start.result (search (c.len-start.ensures, c.args.sink.now.ok)) (c.deref.ensures.value ∙ gained)) c.is_changed-is_changed.ensures)
+    let encoding = c.in-Ok.ensures.ok in
+    let gained = encoding.2 ∙ ap (λ z. z ++ encoding.0) c.in_ok-push.ensures.items in
+    gains c.args.offsets s c.in-Ok.how _ encoding.0 c.args.sink.now.items _ encoding.1
+    (stays_in c.args.offsets (contains_offsets s.name) (sym c.is_left_out.ensures ∙ c.if-is_left_out.false))
+    (is_change_encoding _ s _ encoding.0 (after_id c.args.sink.now.items encoding.0 c.deref.result.now s.id c.len-start.result (search (c.len-start.ensures, c.args.sink.now.ok)) (c.deref.ensures.value ∙ gained)) c.is_changed-is_changed.ensures)
     gained

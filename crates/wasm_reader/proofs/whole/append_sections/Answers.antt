@@ -1,7 +1,7 @@
 use Rattle.std.proofs.Common.{◌≡◌, sym, ◌∙◌, length, arith}
 use Rattle.std.proofs.lemmas.Bool.{eqb-false}
-use Rattle.wasm_reader_base.proofs.ReadWhole.{empty_not}
-use Rattle.wasm_reader.proofs.ShortModules.{rewrites_below, rewrites_longer, rewrites_rest, rewrites_stop, rewrites_step}
+use Rattle.wasm_reader_base.proofs.DecodeWhole.{empty_not}
+use Rattle.wasm_reader.proofs.MinimalModules.{rewrites_below, rewrites_longer, rewrites_rest, rewrites_stop, rewrites_step}
 use Rattle.wasm_reader.proofs.whole.append_sections.Goals as goal
 
 pub overflow_add-number : goal.overflow_add-number

@@ -1,5 +1,5 @@
 use Rattle.wasm_reader_base.proofs.Faults.{fault_stays}
-use Rattle.wasm_reader_base.proofs.ReadImmediates.{memory_none, memory_reads, memory_unknown, memory_no_target, memory_no_ordering, memory_no_offset}
+use Rattle.wasm_reader_base.proofs.DecodeImmediates.{memory_none, memory_decodes, memory_unknown, memory_no_target, memory_no_ordering, memory_no_offset}
 use Rattle.std.proofs.Common.{arith}
 use Rattle.wasm_reader_base.proofs.immediates.read_any_memory.Goals as goal
 
@@ -19,4 +19,4 @@ pub returns-in_err-offset-clause-none : goal.returns-in_err-offset-clause-none
 returns-in_err-offset-clause-none g c = fault_stays c.from_residual-in_err-offset.result _ c.from_residual-in_err-offset.ensures.1 λ n. memory_no_offset c.args.bytes.now _ _ _ _ _ _ c.in_ok-flags.ensures.found (omega (arith, c.if-flags-ge128.false)) c.in_ok-target.ensures.found c.in_ok-ordering.ensures.found (c.in_err-offset.ensures.none n)
 
 pub returns-clause-found : goal.returns-clause-found
-returns-clause-found g c = search (memory_reads, c.in_ok-flags.ensures.found, c.if-flags-ge128.false, c.in_ok-target.ensures.found, c.in_ok-ordering.ensures.found, c.in_ok-offset.ensures.found)
+returns-clause-found g c = search (memory_decodes, c.in_ok-flags.ensures.found, c.if-flags-ge128.false, c.in_ok-target.ensures.found, c.in_ok-ordering.ensures.found, c.in_ok-offset.ensures.found)

@@ -1,6 +1,6 @@
 use Rattle.std.proofs.Common.{arith}
-use Rattle.wasm_base.proofs.ReadingSteps.{front_and_rest}
-use Rattle.wasm_reader_base.proofs.ReadNumbers.{begun_more, begun_last, begun_small}
+use Rattle.wasm_base.proofs.DecodingSteps.{front_and_rest}
+use Rattle.wasm_reader_base.proofs.DecodeNumbers.{begun_more, begun_last, begun_small}
 use Rattle.wasm_reader_base.proofs.leb128.read_few_groups.Goals as goal
 
 pub overflow_mul-sum : goal.overflow_mul-sum

@@ -1,4 +1,4 @@
-use Rattle.wasm_reader_base.proofs.ReadNumbers.{HasBegun}
+use Rattle.wasm_reader_base.proofs.DecodeNumbers.{HasBegun}
 use Rattle.wasm_reader_base.proofs.leb128.read_few_groups.Given as goal
 
 abbrev pub invariant-loop-group : goal.invariant-loop-group

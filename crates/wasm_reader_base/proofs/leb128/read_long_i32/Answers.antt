@@ -1,6 +1,6 @@
 use Rattle.std.proofs.Common.{arith}
 use Rattle.std.proofs.lemmas.Int.{ints}
-use Rattle.wasm_reader_base.proofs.ReadNumbers.{s32_low, s32_high, s32_none}
+use Rattle.wasm_reader_base.proofs.DecodeNumbers.{s32_low, s32_high, s32_none}
 use Rattle.wasm_reader_base.proofs.Faults.{fault_stays}
 use Rattle.wasm_reader_base.proofs.leb128.read_long_i32.Goals as goal
 

@@ -1,6 +1,6 @@
 use Rattle.std.proofs.Common.{arith}
 use Rattle.std.proofs.lemmas.Int.{ints}
-use Rattle.wasm_reader_base.proofs.ReadNumbers.{s64_low, s64_high, s64_none}
+use Rattle.wasm_reader_base.proofs.DecodeNumbers.{s64_low, s64_high, s64_none}
 use Rattle.wasm_reader_base.proofs.Faults.{fault_stays}
 use Rattle.wasm_reader_base.proofs.leb128.read_long_i64.Goals as goal
 

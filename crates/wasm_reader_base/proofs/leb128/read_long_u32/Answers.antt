@@ -1,5 +1,5 @@
 use Rattle.std.proofs.Common.{arith}
-use Rattle.wasm_reader_base.proofs.ReadNumbers.{u32_none, u32_large}
+use Rattle.wasm_reader_base.proofs.DecodeNumbers.{u32_none, u32_large}
 use Rattle.wasm_reader_base.proofs.Faults.{fault_stays}
 use Rattle.wasm_reader_base.proofs.leb128.read_long_u32.Goals as goal
 

@@ -1,5 +1,5 @@
 use Rattle.wasm_reader_base.proofs.Faults.{fault_stays}
-use Rattle.wasm_reader_base.proofs.ReadTypes.{ref_no_to, ref_no_nullable, ref_own_byte}
+use Rattle.wasm_reader_base.proofs.DecodeTypes.{ref_no_to, ref_no_nullable, ref_own_byte}
 use Rattle.wasm_reader_base.proofs.types.read_ref_after.Goals as goal
 
 pub returns-in_err-heap_type-in-100-clause-none : goal.returns-in_err-heap_type-in-100-clause-none

@@ -1,6 +1,6 @@
 use Rattle.std.proofs.Common.{arith}
 use Rattle.wasm_reader_base.proofs.Faults.{fault_stays}
-use Rattle.wasm_reader_base.proofs.ReadTypes.{val_no_ref}
+use Rattle.wasm_reader_base.proofs.DecodeTypes.{val_no_ref}
 use Rattle.wasm_reader_base.proofs.types.read_val_after.Goals as goal
 
 pub returns-in_err-ty-in_default-clause-none : goal.returns-in_err-ty-in_default-clause-none

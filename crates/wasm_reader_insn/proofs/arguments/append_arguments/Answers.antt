@@ -1,6 +1,6 @@
 use Rattle.std.proofs.Common.{refl}
-use Rattle.wasm_reader_base.proofs.Encodings.{stays_short}
-use Rattle.wasm_reader_insn.proofs.ReadPlain.{plain_at}
+use Rattle.wasm_reader_base.proofs.DecodedValues.{stays_short}
+use Rattle.wasm_reader_insn.proofs.DecodePlain.{plain_at}
 use Rattle.wasm_reader_insn.proofs.arguments.append_arguments.Goals as goal
 
 pub returns-in_err-append_argument-clause-too_long : goal.returns-in_err-append_argument-clause-too_long

@@ -1,5 +1,5 @@
 use Rattle.wasm_reader_base.proofs.Faults.{fault_stays}
-use Rattle.wasm_reader_insn.proofs.ReadArguments.{ordering_none}
+use Rattle.wasm_reader_insn.proofs.DecodeArguments.{ordering_none}
 use Rattle.wasm_reader_insn.proofs.arguments.read_ordering.Goals as goal
 
 pub returns-in_err-value-clause-none : goal.returns-in_err-value-clause-none

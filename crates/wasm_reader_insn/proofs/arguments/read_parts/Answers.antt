@@ -2,7 +2,7 @@ use Rattle.std.proofs.Common.{◌+◌, ◌∷◌, [], ◌∙◌, ap, map, sym, s
 use Rattle.std.proofs.lemmas.List.{map-append}
 use Rattle.wasm_reader_base.proofs.Faults.{fault_stays, memory_stays}
 use Rattle.wasm_reader_insn.specs.Arguments.{argument_view}
-use Rattle.wasm_reader_insn.proofs.ReadArguments.{HasArguments, arguments_start, arguments_step, arguments_fail, arguments_done}
+use Rattle.wasm_reader_insn.proofs.DecodeArguments.{HasArguments, arguments_start, arguments_step, arguments_fail, arguments_done}
 use Rattle.wasm_reader_insn.proofs.arguments.read_parts.Goals as goal
 
 pub returns-in_err-arg-clause-none : goal.returns-in_err-arg-clause-none

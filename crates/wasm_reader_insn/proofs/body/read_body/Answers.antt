@@ -1,4 +1,4 @@
-use Rattle.wasm_reader_insn.proofs.ReadLists.{body_fills_viewed}
+use Rattle.wasm_reader_insn.proofs.DecodeLists.{body_fills_viewed}
 use Rattle.wasm_reader_insn.proofs.body.read_body.Goals as goal
 
 pub returns-clause-found : goal.returns-clause-found

@@ -2,11 +2,11 @@ use Rattle.std.proofs.Common.{◌∙◌, subst, sym}
 use Rattle.std.proofs.lemmas.Bool.{eqb-true, eqb-false}
 use Rattle.wasm_insn.specs.Plain.{instruction}
 use Rattle.wasm_insn.specs.Table.{table}
-use Rattle.wasm_insn.proofs.InstructionLaws.{alone}
+use Rattle.wasm_insn.proofs.InstructionLaws.{unique}
 use Rattle.wasm_reader_insn.specs.Arguments.{plain_view}
 use Rattle.wasm_reader_base.proofs.Faults.{fault_stays, memory_stays}
-use Rattle.wasm_reader_base.proofs.ReadFrames.{none_left}
-use Rattle.wasm_reader_base.proofs.ReadWhole.{HasMembers, members_step, members_fail, members_done, empty_not}
+use Rattle.wasm_reader_base.proofs.DecodeSizePrefixed.{none_left}
+use Rattle.wasm_reader_base.proofs.DecodeWhole.{HasMembers, members_step, members_fail, members_done, empty_not}
 use Rattle.wasm_reader_insn.proofs.body.read_code.Goals as goal
 
 pub returns-then-is_empty-clause-found : goal.returns-then-is_empty-clause-found
@@ -19,7 +19,7 @@ returns-in_err-item-clause-none g c = fault_stays c.from_residual-in_err-item.re
 pub loop-rest-preserved : goal.loop-rest-preserved
 loop-rest-preserved g c =
     subst (λ z. HasMembers (instruction table) plain_view c.args.bytes.now z c.in_ok-item.after.now) (sym c.in_ok-push.ensures.items)
-    (members_step (instruction table) plain_view c.args.bytes.now alone c.loop-rest.rest.now c.in_ok-item.after.now c.loop-rest.items.items c.in_ok-item.item c.loop-rest.invariant (empty_not c.loop-rest.rest.now (eqb-false _ _ (sym c.is_empty.ensures ∙ c.if-is_empty.false))) c.in_ok-item.ensures.found)
+    (members_step (instruction table) plain_view c.args.bytes.now unique c.loop-rest.rest.now c.in_ok-item.after.now c.loop-rest.items.items c.in_ok-item.item c.loop-rest.invariant (empty_not c.loop-rest.rest.now (eqb-false _ _ (sym c.is_empty.ensures ∙ c.if-is_empty.false))) c.in_ok-item.ensures.found)
 
 pub returns-in_err-items-clause-none : goal.returns-in_err-items-clause-none
 returns-in_err-items-clause-none g c = memory_stays _ c.from_residual.result c.from_residual.ensures.1

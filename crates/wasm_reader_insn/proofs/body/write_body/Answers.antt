@@ -1,17 +1,17 @@
 use Rattle.std.proofs.Common.{◌≡◌, ◌∷◌, ◌++◌, [], ◌<◌, ◌≤◌, length, rules, subst, ◌∙◌, drop}
-use Rattle.wasm_base.specs.Texts.{frame_text}
-use Rattle.wasm_base.specs.Numbers.{wide}
-use Rattle.wasm_base.specs.Reading.{Reads}
+use Rattle.wasm_base.specs.Encodings.{size_prefixed_encoding}
+use Rattle.wasm_base.specs.Numbers.{padded}
+use Rattle.wasm_base.specs.Decoding.{Decodes}
 use Rattle.wasm_code.specs.Bodies.{Body, body}
 use Rattle.wasm_insn.specs.Plain.{Plain, instruction}
 use Rattle.wasm_insn.specs.Table.{table}
-use Rattle.wasm_reader_base.specs.Shortest.{AppendsShortest}
+use Rattle.wasm_reader_base.specs.Minimal.{AppendsMinimal}
 use Rattle.wasm_reader_base.proofs.Faults.{fault_stays, memory_stays}
-use Rattle.wasm_reader_base.proofs.ShortTexts.{frame_appended, members_start, members_more, front_then, front_appended}
+use Rattle.wasm_reader_base.proofs.MinimalEncodings.{size_prefixed_appended, members_start, members_more, front_then, front_appended}
 use Rattle.wasm_reader_insn.specs.Walks.{ahead}
-use Rattle.wasm_reader_insn.proofs.Calls.{begun, goes_on, ended, of_some, stopped}
-use Rattle.wasm_reader_insn.proofs.ReadLists.{body_fills, body_no_code}
-use Rattle.wasm_reader_insn.proofs.ShortLists.{body_appended, front_framed}
+use Rattle.wasm_reader_insn.proofs.Calls.{begun, continues, ended, of_some, stopped}
+use Rattle.wasm_reader_insn.proofs.DecodeLists.{body_fills, body_no_code}
+use Rattle.wasm_reader_insn.proofs.MinimalLists.{body_appended, front_sized}
 use Rattle.wasm_reader_insn.proofs.body.write_body.Goals as goal
 
 pub returns-in_err-step-clause-none : goal.returns-in_err-step-clause-none
@@ -23,11 +23,11 @@ returns-in_err-step-clause-none g c =
 pub returns-in_err-append_instruction-clause-none : goal.returns-in_err-append_instruction-clause-none
 returns-in_err-append_instruction-clause-none g c = memory_stays _ c.from_residual-in_err-append_instruction.result c.from_residual-in_err-append_instruction.ensures.1
 
-pub returns-in_err-frame_since-clause-none : goal.returns-in_err-frame_since-clause-none
-returns-in_err-frame_since-clause-none g c = memory_stays _ c.from_residual-in_err-frame_since.result c.from_residual-in_err-frame_since.ensures.1
+pub returns-in_err-prefix_size_since-clause-none : goal.returns-in_err-prefix_size_since-clause-none
+returns-in_err-prefix_size_since-clause-none g c = memory_stays _ c.from_residual-in_err-prefix_size_since.result c.from_residual-in_err-prefix_size_since.ensures.1
 
 pub loop-instructions-init : goal.loop-instructions-init
-loop-instructions-init g c = ([], begun (ahead c.in_ok-runs.instructions), c.in_ok-runs.ensures.within, c.in_ok-runs.ensures.same, members_start (instruction table) c.write_minimal.new.out.items)
+loop-instructions-init g c = ([], begun (ahead c.in_ok-runs.instructions), c.in_ok-runs.ensures.within, c.in_ok-runs.ensures.same, members_start (instruction table) c.write_minimal.new.sink.items)
 
 pub loop-instructions-preserved : goal.loop-instructions-preserved
 loop-instructions-preserved g c =
@@ -35,11 +35,11 @@ loop-instructions-preserved g c =
     let old = c.loop-instructions.instructions in
     let new = c.next.new.self in
     let i : Plain = record { op = c.in-Some.step.op; arguments = new.arguments } in
-    let read = of_some (λ step. Reads (instruction table) wide (ahead old) (record { op = step.op; arguments = new.arguments }) (ahead new)) c.in-Some.is c.in_ok-step.ensures.found in
-    let further = of_some (λ step. (old.place < new.place) × (new.place ≤ length new.bytes)) c.in-Some.is c.in_ok-step.ensures.further in
+    let read = of_some (λ step. Decodes (instruction table) padded (ahead old) (record { op = step.op; arguments = new.arguments }) (ahead new)) c.in-Some.is c.in_ok-step.ensures.found in
+    let further = of_some (λ step. (old.offset < new.offset) × (new.offset ≤ length new.bytes)) c.in-Some.is c.in_ok-step.ensures.further in
     let same : new.bytes ≡ c.args.bytes.now = c.in_ok-step.ensures.same ∙ w.3 in
-    let written = subst (λ xs. AppendsShortest (instruction table) (record { op = c.in-Some.step.op; arguments = xs }) c.loop-instructions.out.items c.append_instruction.new.out.items) c.args-in-Some.ensures c.in_ok-append_instruction.ensures.ok in
-    (w.0 ++ i ∷ [], goes_on w.0 w.1 read, subst (λ z. new.place ≤ length z) same further.1, same, members_more (instruction table) w.0 i _ _ _ w.4 written)
+    let written = subst (λ xs. AppendsMinimal (instruction table) (record { op = c.in-Some.step.op; arguments = xs }) c.loop-instructions.sink.items c.append_instruction.new.sink.items) c.args-in-Some.ensures c.in_ok-append_instruction.ensures.ok in
+    (w.0 ++ i ∷ [], continues w.0 w.1 read, subst (λ z. new.offset ≤ length z) same further.1, same, members_more (instruction table) w.0 i _ _ _ w.4 written)
 
 pub returns-clause-found : goal.returns-clause-found
 returns-clause-found g c =
@@ -47,24 +47,24 @@ returns-clause-found g c =
     let runs = c.in_ok-runs.runs.items in
     let x : Body = record { runs = runs; code = w.0 } in
     let code = ended w.0 w.1 (c.in_ok-step.ensures.end c.in_default.is) in
-    let inside = body_appended runs w.0 c.args.out.now.items c.write_minimal.new.out.items c.loop-instructions.out.items c.in_ok-write_minimal.ensures.ok w.4 in (
+    let inside = body_appended runs w.0 c.args.sink.now.items c.write_minimal.new.sink.items c.loop-instructions.sink.items c.in_ok-write_minimal.ensures.ok w.4 in (
       x,
       body_fills c.args.bytes.now (ahead c.in_ok-runs.instructions) runs w.0 c.in_ok-runs.ensures.found code,
-      frame_appended body x c.len-start.result c.args.out.now.items c.loop-instructions.out.items c.frame_since.new.out.items (search rules) inside c.in_ok-frame_since.ensures.fitted c.in_ok-frame_since.ensures.framed,
+      size_prefixed_appended body x c.len-start.result c.args.sink.now.items c.loop-instructions.sink.items c.prefix_size_since.new.sink.items (search rules) inside c.in_ok-prefix_size_since.ensures.was_encodable c.in_ok-prefix_size_since.ensures.sized,
     )
 
 pub returns-in_err-step-clause-front : goal.returns-in_err-step-clause-front
-returns-in_err-step-clause-front g c = front_then c.args.out.now.items c.write_minimal.new.out.items c.loop-instructions.out.items c.write_minimal.ensures.front (front_appended _ _ _ _ c.loop-instructions.invariant.4)
+returns-in_err-step-clause-front g c = front_then c.args.sink.now.items c.write_minimal.new.sink.items c.loop-instructions.sink.items c.write_minimal.ensures.front (front_appended _ _ _ _ c.loop-instructions.invariant.4)
 
 pub returns-in_err-append_instruction-clause-front : goal.returns-in_err-append_instruction-clause-front
-returns-in_err-append_instruction-clause-front g c = front_then c.args.out.now.items c.loop-instructions.out.items c.append_instruction.new.out.items (front_then c.args.out.now.items c.write_minimal.new.out.items c.loop-instructions.out.items c.write_minimal.ensures.front (front_appended _ _ _ _ c.loop-instructions.invariant.4)) c.append_instruction.ensures.front
+returns-in_err-append_instruction-clause-front g c = front_then c.args.sink.now.items c.loop-instructions.sink.items c.append_instruction.new.sink.items (front_then c.args.sink.now.items c.write_minimal.new.sink.items c.loop-instructions.sink.items c.write_minimal.ensures.front (front_appended _ _ _ _ c.loop-instructions.invariant.4)) c.append_instruction.ensures.front
 
-pub returns-in_err-frame_since-clause-front : goal.returns-in_err-frame_since-clause-front
-returns-in_err-frame_since-clause-front g c =
-    front_framed c.len-start.result c.args.out.now.items c.loop-instructions.out.items c.frame_since.new.out.items (frame_text (drop c.len-start.result c.loop-instructions.out.items)) c.frame_since.result (search rules)
-    (front_then c.args.out.now.items c.write_minimal.new.out.items c.loop-instructions.out.items c.write_minimal.ensures.front (front_appended _ _ _ _ c.loop-instructions.invariant.4)) c.frame_since.ensures.framed c.frame_since.ensures.err
+pub returns-in_err-prefix_size_since-clause-front : goal.returns-in_err-prefix_size_since-clause-front
+returns-in_err-prefix_size_since-clause-front g c =
+    front_sized c.len-start.result c.args.sink.now.items c.loop-instructions.sink.items c.prefix_size_since.new.sink.items (size_prefixed_encoding (drop c.len-start.result c.loop-instructions.sink.items)) c.prefix_size_since.result (search rules)
+    (front_then c.args.sink.now.items c.write_minimal.new.sink.items c.loop-instructions.sink.items c.write_minimal.ensures.front (front_appended _ _ _ _ c.loop-instructions.invariant.4)) c.prefix_size_since.ensures.sized c.prefix_size_since.ensures.err
 
 pub returns-clause-front : goal.returns-clause-front
 returns-clause-front g c =
-    front_framed c.len-start.result c.args.out.now.items c.loop-instructions.out.items c.frame_since.new.out.items (frame_text (drop c.len-start.result c.loop-instructions.out.items)) c.frame_since.result (search rules)
-    (front_then c.args.out.now.items c.write_minimal.new.out.items c.loop-instructions.out.items c.write_minimal.ensures.front (front_appended _ _ _ _ c.loop-instructions.invariant.4)) c.frame_since.ensures.framed c.frame_since.ensures.err
+    front_sized c.len-start.result c.args.sink.now.items c.loop-instructions.sink.items c.prefix_size_since.new.sink.items (size_prefixed_encoding (drop c.len-start.result c.loop-instructions.sink.items)) c.prefix_size_since.result (search rules)
+    (front_then c.args.sink.now.items c.write_minimal.new.sink.items c.loop-instructions.sink.items c.write_minimal.ensures.front (front_appended _ _ _ _ c.loop-instructions.invariant.4)) c.prefix_size_since.ensures.sized c.prefix_size_since.ensures.err

@@ -4,11 +4,11 @@ use Rattle.wasm_sections.specs.Constants.{instructions_view}
 use Rattle.wasm_sections.proofs.element_items.append_expressions.Goals as goal
 use Rattle.wasm_sections.proofs.ElementLaws.{expressions_told_appended, expressions_untold_appended}
 
-pub returns-then-told-clause-ok : goal.returns-then-told-clause-ok
-returns-then-told-clause-ok g c =
+pub returns-then-explicit-clause-ok : goal.returns-then-explicit-clause-ok
+returns-then-explicit-clause-ok g c =
     on_ok c.write_minimal.result _ _ c.write_minimal.ensures.ok λ a.
-    expressions_told_appended c.args.told c.args.ty (map instructions_view c.args.elements.now.items) c.args.out.now.items c.encode.new.sink.items c.write_minimal.new.out.items c.if-told.true c.in_ok-encode.ensures.appends.ok a
+    expressions_told_appended c.args.explicit c.args.ty (map instructions_view c.args.elements.now.items) c.args.sink.now.items c.encode.new.sink.items c.write_minimal.new.sink.items c.if-explicit.true c.in_ok-encode.ensures.appends.ok a
 
 pub returns-clause-ok : goal.returns-clause-ok
 returns-clause-ok g c =
-    on_ok c.write_minimal-2.result _ _ c.write_minimal-2.ensures.ok λ a. expressions_untold_appended c.args.told c.args.ty (map instructions_view c.args.elements.now.items) c.args.out.now.items c.write_minimal-2.new.out.items c.if-told.false a
+    on_ok c.write_minimal-2.result _ _ c.write_minimal-2.ensures.ok λ a. expressions_untold_appended c.args.explicit c.args.ty (map instructions_view c.args.elements.now.items) c.args.sink.now.items c.write_minimal-2.new.sink.items c.if-explicit.false a

@@ -3,20 +3,20 @@ use Rattle.wasm_sections.proofs.ElementLaws.{functions_read, functions_no_kind, 
 use Rattle.wasm_sections.proofs.element_items.read_functions.Goals as goal
 
 pub returns-in_err-kind-clause-none : goal.returns-in_err-kind-clause-none
-returns-in_err-kind-clause-none g c = fault_stays c.from_residual.result _ c.from_residual.ensures.1 λ n. functions_no_kind c.args.told c.args.bytes.now c.if-told.true (c.in_err-kind.ensures.none n)
+returns-in_err-kind-clause-none g c = fault_stays c.from_residual.result _ c.from_residual.ensures.1 λ n. functions_no_kind c.args.explicit c.args.bytes.now c.if-explicit.true (c.in_err-kind.ensures.none n)
 
 pub returns-then-kind-ne0-clause-none : goal.returns-then-kind-ne0-clause-none
-returns-then-kind-ne0-clause-none g c = λ n. functions_other c.args.told c.args.bytes.now _ _ c.if-told.true c.in_ok-kind.ensures.found c.if-kind-ne0.true
+returns-then-kind-ne0-clause-none g c = λ n. functions_other c.args.explicit c.args.bytes.now _ _ c.if-explicit.true c.in_ok-kind.ensures.found c.if-kind-ne0.true
 
 pub returns-in_err-functions-clause-none : goal.returns-in_err-functions-clause-none
 returns-in_err-functions-clause-none g c = fault_stays c.from_residual-in_err-functions.result _ c.from_residual-in_err-functions.ensures.1 λ n.
-    functions_none c.args.told c.args.bytes.now _ _ c.if-told.true c.in_ok-kind.ensures.found c.if-kind-ne0.false (c.in_err-functions.ensures.none n)
+    functions_none c.args.explicit c.args.bytes.now _ _ c.if-explicit.true c.in_ok-kind.ensures.found c.if-kind-ne0.false (c.in_err-functions.ensures.none n)
 
-pub returns-then-told-clause-found : goal.returns-then-told-clause-found
-returns-then-told-clause-found g c = functions_read c.args.told c.args.bytes.now _ _ _ _ c.if-told.true c.in_ok-kind.ensures.found c.if-kind-ne0.false c.in_ok-functions.ensures.found
+pub returns-then-explicit-clause-found : goal.returns-then-explicit-clause-found
+returns-then-explicit-clause-found g c = functions_read c.args.explicit c.args.bytes.now _ _ _ _ c.if-explicit.true c.in_ok-kind.ensures.found c.if-kind-ne0.false c.in_ok-functions.ensures.found
 
 pub returns-in_err-functions-2-clause-none : goal.returns-in_err-functions-2-clause-none
-returns-in_err-functions-2-clause-none g c = fault_stays c.from_residual-in_err-functions-2.result _ c.from_residual-in_err-functions-2.ensures.1 λ n. functions_none_untold c.args.told c.args.bytes.now c.if-told.false (c.in_err-functions-2.ensures.none n)
+returns-in_err-functions-2-clause-none g c = fault_stays c.from_residual-in_err-functions-2.result _ c.from_residual-in_err-functions-2.ensures.1 λ n. functions_none_untold c.args.explicit c.args.bytes.now c.if-explicit.false (c.in_err-functions-2.ensures.none n)
 
 pub returns-clause-found : goal.returns-clause-found
-returns-clause-found g c = functions_untold c.args.told c.args.bytes.now _ _ c.if-told.false c.in_ok-functions-2.ensures.found
+returns-clause-found g c = functions_untold c.args.explicit c.args.bytes.now _ _ c.if-explicit.false c.in_ok-functions-2.ensures.found

@@ -1,26 +1,26 @@
 use Rattle.std.proofs.Common.{refl, map}
 use Rattle.wasm_sections.specs.Imports.{imports_item, import_format}
-use Rattle.wasm_reader_base.proofs.Encodings.{member_encoded, members_encoded, stays_short}
-use Rattle.wasm_reader_base.proofs.ShortTexts.{next_appended, all_appended, vec_appended, front_then, front_encoded, front_appended}
+use Rattle.wasm_reader_base.proofs.DecodedValues.{member_encoded, members_encoded, stays_short}
+use Rattle.wasm_reader_base.proofs.MinimalEncodings.{next_appended, all_appended, vec_appended, front_then, front_encoded, front_appended}
 use Rattle.wasm_sections.proofs.import.write_imports.Goals as goal
-use Rattle.wasm_sections.proofs.ImportLaws.{import_appended, import_fits}
+use Rattle.wasm_sections.proofs.ImportLaws.{import_appended, import_encodable}
 
 pub loop-import-preserved : goal.loop-import-preserved
 loop-import-preserved g c =
     let appends = c.in_ok-encode-2.ensures.appends in
-    next_appended import_format imports_item c.args.imports.now c.loop-import.import-index c.import-item.result _ c.loop-import.out.items _ c.loop-import-test.true c.import-item.is c.loop-import.invariant (import_appended (imports_item c.import-item.result) c.loop-import.out.items _ appends.fitted appends.ok)
+    next_appended import_format imports_item c.args.imports.now c.loop-import.import-index c.import-item.result _ c.loop-import.sink.items _ c.loop-import-test.true c.import-item.is c.loop-import.invariant (import_appended (imports_item c.import-item.result) c.loop-import.sink.items _ appends.was_encodable appends.ok)
 
 pub returns-clause-ok : goal.returns-clause-ok
 returns-clause-ok g c =
-    let old = c.args.out.now.items in
-    vec_appended import_format imports_item c.args.imports.now old c.encode.new.sink.items c.loop-import.out.items c.in_ok-encode.ensures.appends.ok
-    (all_appended import_format imports_item c.args.imports.now c.loop-import.import-index c.encode.new.sink.items c.loop-import.out.items c.loop-import-test.false c.loop-import.invariant)
+    let old = c.args.sink.now.items in
+    vec_appended import_format imports_item c.args.imports.now old c.encode.new.sink.items c.loop-import.sink.items c.in_ok-encode.ensures.appends.ok
+    (all_appended import_format imports_item c.args.imports.now c.loop-import.import-index c.encode.new.sink.items c.loop-import.sink.items c.loop-import-test.false c.loop-import.invariant)
 
 pub returns-in_err-encode-2-clause-too_long : goal.returns-in_err-encode-2-clause-too_long
 returns-in_err-encode-2-clause-too_long g c = λ h.
     let imports = c.args.imports.now in
     let item = member_encoded import_format imports_item imports c.loop-import.import-index c.import-item.result c.loop-import-test.true c.import-item.is (members_encoded import_format (map imports_item imports) h) in
-    stays_short c.from_residual-in_err-encode-2.result _ _ refl c.from_residual-in_err-encode-2.ensures.1 (c.in_err-encode-2.ensures.appends.too_long (import_fits (imports_item c.import-item.result) item))
+    stays_short c.from_residual-in_err-encode-2.result _ _ refl c.from_residual-in_err-encode-2.ensures.1 (c.in_err-encode-2.ensures.appends.too_long (import_encodable (imports_item c.import-item.result) item))
 
 pub returns-in_err-encode-clause-front : goal.returns-in_err-encode-clause-front
 returns-in_err-encode-clause-front g c = front_encoded _ _ _ _ _ c.encode.ensures.appends

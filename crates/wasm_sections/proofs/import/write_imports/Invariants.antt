@@ -1,8 +1,8 @@
 use Rattle.std.proofs.Common.{map, take}
 use Rattle.wasm_base.specs.Formats.{members}
-use Rattle.wasm_reader_base.specs.Shortest.{AppendsShortest}
+use Rattle.wasm_reader_base.specs.Minimal.{AppendsMinimal}
 use Rattle.wasm_sections.specs.Imports.{import_format, imports_item}
 use Rattle.wasm_sections.proofs.import.write_imports.Given as goal
 
 abbrev pub invariant-loop-import : goal.invariant-loop-import
-invariant-loop-import g l = AppendsShortest (members import_format) (map imports_item (take l.import-index l.imports)) l.initial.out.items l.out.items
+invariant-loop-import g l = AppendsMinimal (members import_format) (map imports_item (take l.import-index l.imports)) l.initial.sink.items l.sink.items

@@ -1,5 +1,5 @@
-use Rattle.wasm_base.proofs.HeldLaws.{holds_more}
+use Rattle.wasm_base.proofs.ContentsLaws.{contains_more}
 use Rattle.wasm_sections.proofs.laws.calls.Goals as goal
 
 pub returns : goal.returns
-returns g = search (holds_more)
+returns g = search (contains_more)

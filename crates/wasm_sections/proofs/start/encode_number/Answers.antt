@@ -1,8 +1,8 @@
 use Rattle.std.proofs.Common.{◌≤◌, arith, subst}
-use Rattle.wasm_base.specs.Texts.{longest}
-use Rattle.wasm_sections.proofs.NumberLaws.{number_alone}
+use Rattle.wasm_base.specs.Encodings.{longest}
+use Rattle.wasm_sections.proofs.NumberLaws.{number_unique}
 use Rattle.wasm_sections.proofs.start.encode_number.Goals as goal
 
 pub returns-clause-read : goal.returns-clause-read
 returns-clause-read g c =
-    number_alone c.args.number (omega (arith, c.ranges.number.fits)) (subst (λ size. size ≤ longest) c.encoding_size.ensures.value c.in_ok-begin_frame.ensures.fitted)
+    number_unique c.args.number (omega (arith, c.ranges.number.encodable)) (subst (λ size. size ≤ longest) c.encoding_size.ensures.value c.in_ok-begin_size_prefixed.ensures.was_encodable)

@@ -8,4 +8,4 @@ returns-then-is_empty g c = puts_none g.K.ItemKind.section_id c.args.«section»
 pub returns : goal.returns
 returns g c =
     let some : length c.args.«section».now ≢ 0 = λ none. let empty = c.is_empty.ensures.1 none in let full = c.if-is_empty.false in cc in
-    puts_some g.K.ItemKind.section_id c.args.«section».now c.args.target.now c.section.new.self c.section.result (omega (arith, some)) c.section.ensures.ok c.section.ensures.fitted c.section.ensures.too_long
+    puts_some g.K.ItemKind.section_id c.args.«section».now c.args.target.now c.section.new.self c.section.result (omega (arith, some)) c.section.ensures.ok c.section.ensures.was_encodable c.section.ensures.too_long

@@ -1,5 +1,5 @@
 use Rattle.wasm_reader_base.proofs.Faults.{fault_stays}
-use Rattle.wasm_types.proofs.ReadItems.{supertypes_none, supertypes_none_after, supertypes_reads}
+use Rattle.wasm_types.proofs.DecodeItems.{supertypes_none, supertypes_none_after, supertypes_decodes}
 use Rattle.wasm_types.proofs.items.read_supertypes_and.Goals as goal
 
 pub returns-in_err-supertypes-clause-none : goal.returns-in_err-supertypes-clause-none
@@ -9,4 +9,4 @@ pub returns-in_err-composite_type-clause-none : goal.returns-in_err-composite_ty
 returns-in_err-composite_type-clause-none g c = fault_stays c.from_residual-in_err-composite_type.result _ c.from_residual-in_err-composite_type.ensures.1 λ n. supertypes_none_after c.in_ok-supertypes.ensures.found (c.in_err-composite_type.ensures.none n)
 
 pub returns-clause-found : goal.returns-clause-found
-returns-clause-found g c = supertypes_reads c.in_ok-supertypes.ensures.found c.in_ok-composite_type.ensures.found
+returns-clause-found g c = supertypes_decodes c.in_ok-supertypes.ensures.found c.in_ok-composite_type.ensures.found

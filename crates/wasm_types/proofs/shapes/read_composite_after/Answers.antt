@@ -1,5 +1,5 @@
 use Rattle.wasm_reader_base.proofs.Faults.{fault_stays}
-use Rattle.wasm_types.proofs.ReadShapes.{shared_none, shared_none_after, unshared_none, shared_reads, unshared_reads}
+use Rattle.wasm_types.proofs.DecodeShapes.{shared_none, shared_none_after, unshared_none, shared_decodes, unshared_decodes}
 use Rattle.wasm_types.proofs.shapes.read_composite_after.Goals as goal
 
 pub returns-in_err-tag-clause-none : goal.returns-in_err-tag-clause-none
@@ -12,7 +12,7 @@ pub returns-in_err-describes-2-clause-none : goal.returns-in_err-describes-2-cla
 returns-in_err-describes-2-clause-none g c = fault_stays c.from_residual-in_err-describes-2.result _ c.from_residual-in_err-describes-2.ensures.1 λ n. unshared_none c.if-tag-eq101.false (c.in_err-describes-2.ensures.none n)
 
 pub returns-in_ok-describes-clause-found : goal.returns-in_ok-describes-clause-found
-returns-in_ok-describes-clause-found g c = shared_reads c.if-tag-eq101.true c.in_ok-tag.ensures.found c.in_ok-describes.ensures.found
+returns-in_ok-describes-clause-found g c = shared_decodes c.if-tag-eq101.true c.in_ok-tag.ensures.found c.in_ok-describes.ensures.found
 
 pub returns-in_ok-describes-2-clause-found : goal.returns-in_ok-describes-2-clause-found
-returns-in_ok-describes-2-clause-found g c = unshared_reads c.if-tag-eq101.false c.in_ok-describes-2.ensures.found
+returns-in_ok-describes-2-clause-found g c = unshared_decodes c.if-tag-eq101.false c.in_ok-describes-2.ensures.found

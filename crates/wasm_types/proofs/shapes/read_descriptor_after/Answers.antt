@@ -1,6 +1,6 @@
 use Rattle.std.proofs.Common.{refl}
 use Rattle.wasm_reader_base.proofs.Faults.{fault_stays}
-use Rattle.wasm_types.proofs.ReadShapes.{index_none, index_none_after, no_index_none, index_reads}
+use Rattle.wasm_types.proofs.DecodeShapes.{index_none, index_none_after, no_index_none, index_decodes}
 use Rattle.wasm_types.specs.RecTypes.{after_shape}
 use Rattle.wasm_types.proofs.shapes.read_descriptor_after.Goals as goal
 
@@ -14,4 +14,4 @@ pub returns-in_err-inner-2-clause-none : goal.returns-in_err-inner-2-clause-none
 returns-in_err-inner-2-clause-none g c = fault_stays c.from_residual-in_err-inner-2.result _ c.from_residual-in_err-inner-2.ensures.1 λ n. no_index_none 0x4D after_shape refl c.if-tag-eq77.false (c.in_err-inner-2.ensures.none n)
 
 pub returns-in_ok-inner-clause-found : goal.returns-in_ok-inner-clause-found
-returns-in_ok-inner-clause-found g c = index_reads 0x4D after_shape refl c.if-tag-eq77.true c.in_ok-index.ensures.found c.in_ok-inner.ensures.found
+returns-in_ok-inner-clause-found g c = index_decodes 0x4D after_shape refl c.if-tag-eq77.true c.in_ok-index.ensures.found c.in_ok-inner.ensures.found

@@ -1,5 +1,5 @@
 use Rattle.wasm_reader_base.proofs.Faults.{fault_stays}
-use Rattle.wasm_types.proofs.ReadShapes.{func_none, array_none, structure_none, cont_none}
+use Rattle.wasm_types.proofs.DecodeShapes.{func_none, array_none, structure_none, cont_none}
 use Rattle.wasm_types.proofs.shapes.read_shape_after.Goals as goal
 
 pub returns-in_err-params-in-96-clause-none : goal.returns-in_err-params-in-96-clause-none

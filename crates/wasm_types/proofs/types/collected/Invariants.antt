@@ -5,5 +5,5 @@ abbrev pub invariant-loop-ty : goal.invariant-loop-ty
 invariant-loop-ty g l = record {
   can : (goal.iterator-loop-ty g).can_next l.ty-iterator;
   finite : (goal.iterator-loop-ty g).is_finite l.ty-iterator;
-  text : l.collected.items ≡ l.yielded;
+  encoding : l.collected.items ≡ l.yielded;
 }

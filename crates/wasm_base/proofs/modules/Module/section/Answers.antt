@@ -1,5 +1,5 @@
 use Rattle.std.proofs.Common.{subst}
-use Rattle.wasm_base.specs.Calls.{ReadsOneMore}
+use Rattle.wasm_base.specs.Calls.{DecodesOneMore}
 use Rattle.wasm_base.proofs.ModuleLaws.{one_more_section}
 use Rattle.wasm_base.proofs.Outcomes.{on_ok_both}
 use Rattle.wasm_base.proofs.modules.Module.section.Goals as goal
@@ -7,6 +7,6 @@ use Rattle.wasm_base.proofs.modules.Module.section.Goals as goal
 pub returns-clause-read : goal.returns-clause-read
 returns-clause-read g c =
     let s = c.args.section.now in
-    on_ok_both c.append_to.result _ _ _ c.append_to.ensures.appends.ok c.append_to.ensures.appends.fitted
-    (λ added fits. subst (λ old. ReadsOneMore (g.S.Section.payload s) (g.S.Section.id_of s) old c.append_to.new.dst.items) c.self.view_is
-    (one_more_section (g.S.Section.payload s) (g.S.Section.id_of s) (g.S.Encode.text s) c.self.inside.bytes.items c.append_to.new.dst.items added (λ payload pays. g.met.S.Section.framed s payload fits pays)))
+    on_ok_both c.append_to.result _ _ _ c.append_to.ensures.appends.ok c.append_to.ensures.appends.was_encodable
+    (λ added encodable. subst (λ old. DecodesOneMore (g.S.Section.payload s) (g.S.Section.id_of s) old c.append_to.new.dst.items) c.self.view_is
+    (one_more_section (g.S.Section.payload s) (g.S.Section.id_of s) (g.S.Encode.encoding s) c.self.inside.bytes.items c.append_to.new.dst.items added (λ payload pays. g.met.S.Section.sized s payload encodable pays)))

@@ -6,7 +6,7 @@ pub returns-then-len-ge-MOST_ENTRIES : goal.returns-then-len-ge-MOST_ENTRIES
 returns-then-len-ge-MOST_ENTRIES g c = record {
   ok = search rules;
   err = search rules;
-  fitted = search rules;
+  was_encodable = search rules;
   counted = search rules;
   too_long = λ _ more _. omega (arith, more, length_cut 0 c.self.inside.ends.items c.self.inside.bytes.items, ap length c.self.view_is);
   full = search rules;
@@ -27,7 +27,7 @@ returns g c =
     record {
       ok = rw (bytes, ends, ← c.self.view_is) (cut_push _ _ _ _ c.self.invariant.0 end);
       err = search rules;
-      fitted = search rules;
+      was_encodable = search rules;
       counted = omega (arith, length_cut 0 c.self.inside.ends.items c.self.inside.bytes.items, ap length c.self.view_is);
       too_long = search rules;
       full = λ e. absurd (omega (arith, e, length_cut 0 c.self.inside.ends.items c.self.inside.bytes.items, ap length c.self.view_is));

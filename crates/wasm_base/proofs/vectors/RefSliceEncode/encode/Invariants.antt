@@ -1,12 +1,12 @@
 use Rattle.std.proofs.Common.{◌≡◌, ◌≤◌, ◌++◌, length, take, vec_len, vec_capacity}
 use Rattle.std.specs.List.{All, flat_map}
-use Rattle.wasm_base.specs.Numbers.{unsigned_text}
+use Rattle.wasm_base.specs.Numbers.{unsigned_encoding}
 use Rattle.wasm_base.proofs.vectors.RefSliceEncode.encode.Given as goal
 
 abbrev pub invariant-loop-item : goal.invariant-loop-item
 invariant-loop-item g l = record {
   start : l.start ≡ vec_len l.fn.sink;
-  text : l.sink.items ≡ l.fn.sink.items ++ (unsigned_text (length l.item-items) ++ flat_map g.T.Encode.text (take l.item-index l.item-items));
-  fits : All g.T.Encode.fits (take l.item-index l.item-items);
+  encoding : l.sink.items ≡ l.fn.sink.items ++ (unsigned_encoding (length l.item-items) ++ flat_map g.T.Encode.encoding (take l.item-index l.item-items));
+  encodable : All g.T.Encode.encodable (take l.item-index l.item-items);
   capacity : vec_capacity l.fn.sink ≤ vec_capacity l.sink;
 }

@@ -1,11 +1,11 @@
 use Rattle.std.proofs.Common.{◌≡◌, ◌++◌, refl, rules}
 use Rattle.std.specs.declared.alloc.Global.{Global}
-use Rattle.wasm_insn.specs.Instructions.{instruction_text}
+use Rattle.wasm_insn.specs.Instructions.{instruction_encoding}
 use Rattle.wasm_insn.specs.declared.instruction.Instruction.TheVariants.{F64Const}
 use Rattle.wasm_code.proofs.ExpressionLaws.{stores_more}
 use Rattle.wasm_code.proofs.const_expr.ConstExpr.with_f64_const.Goals as goal
 
 pub returns-clause-stores : goal.returns-clause-stores
 returns-clause-stores g c =
-    let text : c.f64_const.new.self.sink.now.items ≡ c.self.inside.bytes.items ++ instruction_text {A = Global} (F64Const c.args.value) = search rules in
-    stores_more _ _ _ _ _ c.self.view_is refl text
+    let encoding : c.f64_const.new.self.sink.now.items ≡ c.self.inside.bytes.items ++ instruction_encoding {A = Global} (F64Const c.args.value) = search rules in
+    stores_more _ _ _ _ _ c.self.view_is refl encoding

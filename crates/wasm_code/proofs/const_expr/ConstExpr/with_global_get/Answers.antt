@@ -1,11 +1,11 @@
 use Rattle.std.proofs.Common.{◌≡◌, ◌++◌, refl, rules}
 use Rattle.std.specs.declared.alloc.Global.{Global}
-use Rattle.wasm_insn.specs.Instructions.{instruction_text}
+use Rattle.wasm_insn.specs.Instructions.{instruction_encoding}
 use Rattle.wasm_insn.specs.declared.instruction.Instruction.TheVariants.{GlobalGet}
 use Rattle.wasm_code.proofs.ExpressionLaws.{stores_more}
 use Rattle.wasm_code.proofs.const_expr.ConstExpr.with_global_get.Goals as goal
 
 pub returns-clause-stores : goal.returns-clause-stores
 returns-clause-stores g c =
-    let text : c.global_get.new.self.sink.now.items ≡ c.self.inside.bytes.items ++ instruction_text {A = Global} (GlobalGet c.args.index) = search rules in
-    stores_more _ _ _ _ _ c.self.view_is refl text
+    let encoding : c.global_get.new.self.sink.now.items ≡ c.self.inside.bytes.items ++ instruction_encoding {A = Global} (GlobalGet c.args.index) = search rules in
+    stores_more _ _ _ _ _ c.self.view_is refl encoding

@@ -1,6 +1,6 @@
 use Rattle.std.proofs.Common.{◌≡◌, ◌++◌, refl, rules}
 use Rattle.std.specs.declared.alloc.Global.{Global}
-use Rattle.wasm_insn.specs.Instructions.{instruction_text}
+use Rattle.wasm_insn.specs.Instructions.{instruction_encoding}
 use Rattle.wasm_insn.specs.declared.instruction.Instruction.TheVariants.{Numeric}
 use Rattle.wasm_insn.specs.declared.numeric.Numeric.TheVariants.{I32Sub}
 use Rattle.wasm_code.proofs.ExpressionLaws.{stores_more}
@@ -8,5 +8,5 @@ use Rattle.wasm_code.proofs.const_expr.ConstExpr.with_i32_sub.Goals as goal
 
 pub returns-clause-stores : goal.returns-clause-stores
 returns-clause-stores g c =
-    let text : c.i32_sub.new.self.sink.now.items ≡ c.self.inside.bytes.items ++ instruction_text {A = Global} (Numeric I32Sub) = search rules in
-    stores_more _ _ _ _ _ c.self.view_is refl text
+    let encoding : c.i32_sub.new.self.sink.now.items ≡ c.self.inside.bytes.items ++ instruction_encoding {A = Global} (Numeric I32Sub) = search rules in
+    stores_more _ _ _ _ _ c.self.view_is refl encoding

@@ -1,19 +1,19 @@
 use Rattle.std.proofs.Common.{sym, subst, map}
 use Rattle.wasm_base.proofs.Outcomes.{on_ok}
-use Rattle.wasm_reader_base.specs.Shortest.{AppendsShortest, HasEncoding}
+use Rattle.wasm_reader_base.specs.Minimal.{AppendsMinimal, HasEncoding}
 use Rattle.wasm_custom.specs.Names.{inside, id_of, held_by, names_view, inside_view, name_item_view}
 use Rattle.wasm_custom.proofs.NameLaws.{map_appended, indirect_appended, map_encoded, indirect_encoded}
 use Rattle.wasm_custom.proofs.names.NameItem.append_content.Goals as goal
 
 pub returns-in-Map-clause-ok : goal.returns-in-Map-clause-ok
 returns-in-Map-clause-ok g c = on_ok c.write_minimal-in-Map.result _ _ c.write_minimal-in-Map.ensures.ok λ a.
-    subst (λ i. AppendsShortest (inside (held_by (name_item_view i)) (id_of (name_item_view i))) (name_item_view i) c.args.out.now.items c.write_minimal-in-Map.new.out.items) (sym c.in-Map.is)
-    (map_appended c.in-Map.id (names_view c.in-Map.names.items) c.args.out.now.items c.write_minimal-in-Map.new.out.items a)
+    subst (λ i. AppendsMinimal (inside (held_by (name_item_view i)) (id_of (name_item_view i))) (name_item_view i) c.args.sink.now.items c.write_minimal-in-Map.new.sink.items) (sym c.in-Map.is)
+    (map_appended c.in-Map.id (names_view c.in-Map.names.items) c.args.sink.now.items c.write_minimal-in-Map.new.sink.items a)
 
 pub returns-in-Indirect-clause-ok : goal.returns-in-Indirect-clause-ok
 returns-in-Indirect-clause-ok g c = on_ok c.write_minimal-in-Indirect.result _ _ c.write_minimal-in-Indirect.ensures.ok λ a.
-    subst (λ i. AppendsShortest (inside (held_by (name_item_view i)) (id_of (name_item_view i))) (name_item_view i) c.args.out.now.items c.write_minimal-in-Indirect.new.out.items) (sym c.in-Indirect.is)
-    (indirect_appended c.in-Indirect.id (map inside_view c.in-Indirect.maps.items) c.args.out.now.items c.write_minimal-in-Indirect.new.out.items a)
+    subst (λ i. AppendsMinimal (inside (held_by (name_item_view i)) (id_of (name_item_view i))) (name_item_view i) c.args.sink.now.items c.write_minimal-in-Indirect.new.sink.items) (sym c.in-Indirect.is)
+    (indirect_appended c.in-Indirect.id (map inside_view c.in-Indirect.maps.items) c.args.sink.now.items c.write_minimal-in-Indirect.new.sink.items a)
 
 pub returns-in-Map-clause-too_long : goal.returns-in-Map-clause-too_long
 returns-in-Map-clause-too_long g c = λ h.

@@ -1,5 +1,5 @@
 use Rattle.wasm_reader_base.proofs.Faults.{fault_stays}
-use Rattle.wasm_custom.proofs.SymbolLaws.{symbol_none, function_reads, function_none, of_data_reads, of_data_none, global_reads, global_none}
+use Rattle.wasm_custom.proofs.SymbolLaws.{symbol_none, function_decodes, function_none, of_data_decodes, of_data_none, global_decodes, global_none}
 use Rattle.wasm_custom.proofs.symbols.SymbolReadable.read.Goals as goal
 
 pub returns-in_err-kind-clause-none : goal.returns-in_err-kind-clause-none
@@ -9,16 +9,16 @@ pub returns-in_err-symbol-in-0-clause-none : goal.returns-in_err-symbol-in-0-cla
 returns-in_err-symbol-in-0-clause-none g c = fault_stays c.from_residual-in_err-symbol-in-0.result _ c.from_residual-in_err-symbol-in-0.ensures.1 λ n. function_none c.args.bytes.now _ _ c.in_ok-kind.ensures.found c.in-0.is (c.in_err-symbol-in-0.ensures.none n)
 
 pub returns-in_ok-symbol-in-0-clause-found : goal.returns-in_ok-symbol-in-0-clause-found
-returns-in_ok-symbol-in-0-clause-found g c = function_reads c.args.bytes.now _ _ _ _ c.in_ok-kind.ensures.found c.in-0.is c.in_ok-symbol-in-0.ensures.found
+returns-in_ok-symbol-in-0-clause-found g c = function_decodes c.args.bytes.now _ _ _ _ c.in_ok-kind.ensures.found c.in-0.is c.in_ok-symbol-in-0.ensures.found
 
 pub returns-in_err-symbol-in-1-clause-none : goal.returns-in_err-symbol-in-1-clause-none
 returns-in_err-symbol-in-1-clause-none g c = fault_stays c.from_residual-in_err-symbol-in-1.result _ c.from_residual-in_err-symbol-in-1.ensures.1 λ n. of_data_none c.args.bytes.now _ _ c.in_ok-kind.ensures.found c.in-1.is (c.in_err-symbol-in-1.ensures.none n)
 
 pub returns-in_ok-symbol-in-1-clause-found : goal.returns-in_ok-symbol-in-1-clause-found
-returns-in_ok-symbol-in-1-clause-found g c = of_data_reads c.args.bytes.now _ _ _ _ c.in_ok-kind.ensures.found c.in-1.is c.in_ok-symbol-in-1.ensures.found
+returns-in_ok-symbol-in-1-clause-found g c = of_data_decodes c.args.bytes.now _ _ _ _ c.in_ok-kind.ensures.found c.in-1.is c.in_ok-symbol-in-1.ensures.found
 
 pub returns-in_err-symbol-in-2-clause-none : goal.returns-in_err-symbol-in-2-clause-none
 returns-in_err-symbol-in-2-clause-none g c = fault_stays c.from_residual-in_err-symbol-in-2.result _ c.from_residual-in_err-symbol-in-2.ensures.1 λ n. global_none c.args.bytes.now _ _ c.in_ok-kind.ensures.found c.in-2.is (c.in_err-symbol-in-2.ensures.none n)
 
 pub returns-in_ok-symbol-in-2-clause-found : goal.returns-in_ok-symbol-in-2-clause-found
-returns-in_ok-symbol-in-2-clause-found g c = global_reads c.args.bytes.now _ _ _ _ c.in_ok-kind.ensures.found c.in-2.is c.in_ok-symbol-in-2.ensures.found
+returns-in_ok-symbol-in-2-clause-found g c = global_decodes c.args.bytes.now _ _ _ _ c.in_ok-kind.ensures.found c.in-2.is c.in_ok-symbol-in-2.ensures.found

@@ -1,13 +1,13 @@
 use Rattle.std.proofs.Common.{◌∷◌, ◌++◌, ap, arith}
-use Rattle.wasm_base.specs.Numbers.{unsigned_text}
+use Rattle.wasm_base.specs.Numbers.{unsigned_encoding}
 use Rattle.wasm_custom.specs.Lists.{given_name}
 use Rattle.wasm_custom.specs.Symbols.{kind_code, indexed}
-use Rattle.wasm_custom.proofs.ListLaws.{named_text_of, name_fits}
+use Rattle.wasm_custom.proofs.ListLaws.{named_encoding_of, name_encodable}
 use Rattle.wasm_custom.proofs.symbols.SymbolTable+A.indexed.Goals as goal
 
 pub add_record-requires : goal.add_record-requires
-add_record-requires g c fits = record {
+add_record-requires g c encodable = record {
   member = indexed c.args.kind c.args.flags c.args.index (given_name c.args.name);
-  is = ap (λ s. kind_code c.args.kind ∷ (unsigned_text c.args.flags ++ (unsigned_text c.args.index ++ s))) (named_text_of c.args.name);
-  fits = (omega (arith, c.ranges.flags.fits), omega (arith, c.ranges.index.fits), name_fits c.args.name c.given_name.ensures fits.2);
+  is = ap (λ s. kind_code c.args.kind ∷ (unsigned_encoding c.args.flags ++ (unsigned_encoding c.args.index ++ s))) (named_encoding_of c.args.name);
+  encodable = (omega (arith, c.ranges.flags.encodable), omega (arith, c.ranges.index.encodable), name_encodable c.args.name c.given_name.ensures encodable.2);
 }

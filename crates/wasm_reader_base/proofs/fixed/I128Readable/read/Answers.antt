@@ -1,6 +1,6 @@
 use Rattle.std.proofs.Common.{◌∙◌, to_z-of_z, arith, rules}
 use Rattle.std.specs.Int.{w128}
-use Rattle.wasm_reader_base.proofs.ReadFixed.{are_bytes, sixteen_read}
+use Rattle.wasm_reader_base.proofs.DecodeFixed.{are_bytes, sixteen_read}
 use Rattle.wasm_reader_base.proofs.fixed.I128Readable.read.Goals as goal
 
 pub returns-in-Some-clause-found : goal.returns-in-Some-clause-found

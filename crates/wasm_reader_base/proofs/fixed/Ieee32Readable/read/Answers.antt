@@ -1,5 +1,5 @@
 use Rattle.std.proofs.Common.{◌∙◌, arith}
-use Rattle.wasm_reader_base.proofs.ReadFixed.{are_bytes, four_read}
+use Rattle.wasm_reader_base.proofs.DecodeFixed.{are_bytes, four_read}
 use Rattle.wasm_reader_base.proofs.fixed.Ieee32Readable.read.Goals as goal
 
 pub returns-in-Some-clause-found : goal.returns-in-Some-clause-found

@@ -1,5 +1,5 @@
 use Rattle.wasm_reader_base.proofs.Faults.{fault_stays}
-use Rattle.wasm_reader_base.proofs.ReadImmediates.{block_none}
+use Rattle.wasm_reader_base.proofs.DecodeImmediates.{block_none}
 use Rattle.wasm_reader_base.proofs.immediates.BlockTypeReadable.read.Goals as goal
 
 pub returns-in_err-tag-clause-none : goal.returns-in_err-tag-clause-none

@@ -1,5 +1,5 @@
 use Rattle.wasm_reader_base.proofs.Faults.{fault_stays}
-use Rattle.wasm_reader_base.proofs.ReadImmediates.{catch_one, catch_one_ref, catch_all, catch_none, catch_no_one, catch_no_one_ref, catch_no_all, catch_no_all_ref, catch_all_ref}
+use Rattle.wasm_reader_base.proofs.DecodeImmediates.{catch_one, catch_one_ref, catch_all, catch_none, catch_no_one, catch_no_one_ref, catch_no_all, catch_no_all_ref, catch_all_ref}
 use Rattle.wasm_reader_base.proofs.immediates.CatchReadable.read.Goals as goal
 
 pub returns-in_err-kind-clause-none : goal.returns-in_err-kind-clause-none

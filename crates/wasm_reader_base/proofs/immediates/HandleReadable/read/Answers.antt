@@ -1,5 +1,5 @@
 use Rattle.wasm_reader_base.proofs.Faults.{fault_stays}
-use Rattle.wasm_reader_base.proofs.ReadImmediates.{handle_on_switch, handle_none, handle_no_label, handle_no_switch, handle_on_label}
+use Rattle.wasm_reader_base.proofs.DecodeImmediates.{handle_on_switch, handle_none, handle_no_label, handle_no_switch, handle_on_label}
 use Rattle.wasm_reader_base.proofs.immediates.HandleReadable.read.Goals as goal
 
 pub returns-in_err-kind-clause-none : goal.returns-in_err-kind-clause-none

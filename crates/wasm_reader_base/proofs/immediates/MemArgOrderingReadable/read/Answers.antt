@@ -1,5 +1,5 @@
 use Rattle.wasm_reader_base.proofs.Faults.{fault_stays}
-use Rattle.wasm_reader_base.proofs.ReadImmediates.{mem_order_none, mem_seq_cst, mem_acq_rel, mem_rmw}
+use Rattle.wasm_reader_base.proofs.DecodeImmediates.{mem_order_none, mem_seq_cst, mem_acq_rel, mem_rmw}
 use Rattle.wasm_reader_base.proofs.immediates.MemArgOrderingReadable.read.Goals as goal
 
 pub returns-in_err-tag-clause-none : goal.returns-in_err-tag-clause-none

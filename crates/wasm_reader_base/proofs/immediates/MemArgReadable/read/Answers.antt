@@ -1,6 +1,6 @@
-use Rattle.wasm_base.proofs.ReadingSteps.{front_and_rest}
+use Rattle.wasm_base.proofs.DecodingSteps.{front_and_rest}
 use Rattle.wasm_reader_base.proofs.Faults.{fault_stays}
-use Rattle.wasm_reader_base.proofs.ReadImmediates.{memory_plain, memory_plain_none}
+use Rattle.wasm_reader_base.proofs.DecodeImmediates.{memory_plain, memory_plain_none}
 use Rattle.wasm_reader_base.proofs.immediates.MemArgReadable.read.Goals as goal
 
 pub returns-in_err-offset-clause-none : goal.returns-in_err-offset-clause-none

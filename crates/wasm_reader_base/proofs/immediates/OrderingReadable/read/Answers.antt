@@ -1,5 +1,5 @@
 use Rattle.wasm_reader_base.proofs.Faults.{fault_stays}
-use Rattle.wasm_reader_base.proofs.ReadImmediates.{ordering_none}
+use Rattle.wasm_reader_base.proofs.DecodeImmediates.{ordering_none}
 use Rattle.wasm_reader_base.proofs.immediates.OrderingReadable.read.Goals as goal
 
 pub returns-in_err-byte-clause-none : goal.returns-in_err-byte-clause-none

@@ -1,7 +1,7 @@
 use Rattle.std.proofs.Common.{◌∙◌, to_z-of_z, rules}
 use Rattle.std.specs.Int.{w16, w32}
-use Rattle.wasm_reader_base.proofs.ReadNumbers.{s32_byte}
-use Rattle.wasm_base.proofs.ReadingSteps.{front_and_rest}
+use Rattle.wasm_reader_base.proofs.DecodeNumbers.{s32_byte}
+use Rattle.wasm_base.proofs.DecodingSteps.{front_and_rest}
 use Rattle.wasm_reader_base.proofs.leb128.I32Readable.read.Goals as goal
 
 pub returns-then-b-lt128-clause-found : goal.returns-then-b-lt128-clause-found

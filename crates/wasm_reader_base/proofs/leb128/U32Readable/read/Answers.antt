@@ -1,5 +1,5 @@
-use Rattle.wasm_base.proofs.ReadingSteps.{front_and_rest}
-use Rattle.wasm_reader_base.proofs.ReadNumbers.{u32_byte}
+use Rattle.wasm_base.proofs.DecodingSteps.{front_and_rest}
+use Rattle.wasm_reader_base.proofs.DecodeNumbers.{u32_byte}
 use Rattle.wasm_reader_base.proofs.leb128.U32Readable.read.Goals as goal
 
 pub returns-then-b-lt128-clause-found : goal.returns-then-b-lt128-clause-found

@@ -1,5 +1,5 @@
 use Rattle.wasm_reader_base.proofs.Faults.{fault_stays}
-use Rattle.wasm_reader_base.proofs.ReadTypes.{abstract_none}
+use Rattle.wasm_reader_base.proofs.DecodeTypes.{abstract_none}
 use Rattle.wasm_reader_base.proofs.types.AbstractHeapTypeReadable.read.Goals as goal
 
 pub returns-in_err-byte-clause-none : goal.returns-in_err-byte-clause-none

@@ -1,7 +1,7 @@
 use Rattle.wasm_reader_base.proofs.Faults.{fault_stays}
-use Rattle.wasm_reader_base.proofs.ReadTypes.{heap_none, heap_shared}
+use Rattle.wasm_reader_base.proofs.DecodeTypes.{heap_none, heap_shared}
 use Rattle.std.proofs.Common.{arith}
-use Rattle.wasm_reader_base.proofs.ReadTypes.{heap_exact, heap_abstract, heap_index, heap_no_exact, heap_no_shared, heap_no_index}
+use Rattle.wasm_reader_base.proofs.DecodeTypes.{heap_exact, heap_abstract, heap_index, heap_no_exact, heap_no_shared, heap_no_index}
 use Rattle.wasm_reader_base.proofs.types.HeapTypeReadable.read.Goals as goal
 
 pub returns-in_err-tag-clause-none : goal.returns-in_err-tag-clause-none

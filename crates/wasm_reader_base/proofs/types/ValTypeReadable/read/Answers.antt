@@ -1,11 +1,11 @@
 use Rattle.wasm_reader_base.proofs.Faults.{if_ok_more}
-use Rattle.wasm_reader_base.proofs.ReadTypes.{val_type_reads}
+use Rattle.wasm_reader_base.proofs.DecodeTypes.{val_type_decodes}
 use Rattle.wasm_reader_base.proofs.Faults.{fault_stays}
-use Rattle.wasm_reader_base.proofs.ReadTypes.{val_type_none, val_type_fails}
+use Rattle.wasm_reader_base.proofs.DecodeTypes.{val_type_none, val_type_fails}
 use Rattle.wasm_reader_base.proofs.types.ValTypeReadable.read.Goals as goal
 
 pub returns-clause-found : goal.returns-clause-found
-returns-clause-found g c = if_ok_more c.read_val_after.result (λ x h. val_type_reads c.args.bytes.now _ x.1.now _ x.0 c.in_ok-tag.ensures.found h) c.read_val_after.ensures.found
+returns-clause-found g c = if_ok_more c.read_val_after.result (λ x h. val_type_decodes c.args.bytes.now _ x.1.now _ x.0 c.in_ok-tag.ensures.found h) c.read_val_after.ensures.found
 
 pub returns-in_err-tag-clause-none : goal.returns-in_err-tag-clause-none
 returns-in_err-tag-clause-none g c = fault_stays c.from_residual.result _ c.from_residual.ensures.1 λ n. val_type_none c.args.bytes.now (c.in_err-tag.ensures.none n)

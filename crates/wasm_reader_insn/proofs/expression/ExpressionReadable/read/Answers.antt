@@ -1,18 +1,18 @@
 use Rattle.std.proofs.Common.{subst, sym, arith}
 use Rattle.wasm_base.specs.Formats.{such}
-use Rattle.wasm_base.proofs.FormatLaws.{such_unique, begins_such}
+use Rattle.wasm_base.proofs.FormatLaws.{such_unambiguous, begins_such}
 use Rattle.wasm_insn.specs.Plain.{instruction}
 use Rattle.wasm_insn.specs.Table.{table}
-use Rattle.wasm_insn.proofs.InstructionLaws.{alone}
+use Rattle.wasm_insn.proofs.InstructionLaws.{unique}
 use Rattle.wasm_code.specs.Expressions.{IsNoEnd}
 use Rattle.wasm_insn.proofs.InstructionLaws.{any_begins}
 use Rattle.wasm_reader_insn.specs.Arguments.{plain_view}
 use Rattle.wasm_reader_base.proofs.Faults.{fault_stays, memory_stays}
-use Rattle.wasm_reader_base.proofs.ReadFrames.{none_left}
-use Rattle.wasm_base.proofs.ReadingSteps.{such_none}
-use Rattle.wasm_base.proofs.ReadingSteps.{front_and_rest}
-use Rattle.wasm_reader_base.proofs.ReadWhole.{member_shorter}
-use Rattle.wasm_reader_insn.proofs.ReadLists.{HasEnded, ended_step, ended_fail, ended_done, ended_short, front_is, not_end}
+use Rattle.wasm_reader_base.proofs.DecodeSizePrefixed.{none_left}
+use Rattle.wasm_base.proofs.DecodingSteps.{such_none}
+use Rattle.wasm_base.proofs.DecodingSteps.{front_and_rest}
+use Rattle.wasm_reader_base.proofs.DecodeWhole.{member_shorter}
+use Rattle.wasm_reader_insn.proofs.DecodeLists.{HasEnded, ended_step, ended_fail, ended_done, ended_short, front_is, not_end}
 use Rattle.wasm_reader_insn.proofs.expression.ExpressionReadable.read.Goals as goal
 
 pub returns-then-first-eq-END-clause-found : goal.returns-then-first-eq-END-clause-found
@@ -32,7 +32,7 @@ pub loop-rest-preserved : goal.loop-rest-preserved
 loop-rest-preserved g c =
     let split = front_and_rest c.loop-rest.rest.now c.in-len1-up.len_at_least in
     subst (λ z. HasEnded 11 (such IsNoEnd (instruction table)) plain_view c.args.bytes.now z c.in_ok-item.after.now) (sym c.in_ok-push.ensures.items)
-    (ended_step 11 (such IsNoEnd (instruction table)) plain_view c.args.bytes.now (such_unique IsNoEnd alone) _ c.loop-rest.rest.now _ c.in_ok-item.after.now c.loop-rest.items.items c.in_ok-item.item c.loop-rest.invariant split c.if-first-eq-END.false
+    (ended_step 11 (such IsNoEnd (instruction table)) plain_view c.args.bytes.now (such_unambiguous IsNoEnd unique) _ c.loop-rest.rest.now _ c.in_ok-item.after.now c.loop-rest.items.items c.in_ok-item.item c.loop-rest.invariant split c.if-first-eq-END.false
     (not_end c.loop-rest.rest.now _ c.in_ok-item.after.now _ (plain_view c.in_ok-item.item) split c.if-first-eq-END.false c.in_ok-item.ensures.found))
 
 pub loop-rest-smaller : goal.loop-rest-smaller

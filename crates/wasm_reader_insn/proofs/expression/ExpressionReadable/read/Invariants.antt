@@ -4,7 +4,7 @@ use Rattle.wasm_insn.specs.Table.{table}
 use Rattle.wasm_base.specs.Formats.{such}
 use Rattle.wasm_code.specs.Expressions.{IsNoEnd}
 use Rattle.wasm_reader_insn.specs.Arguments.{plain_view}
-use Rattle.wasm_reader_insn.proofs.ReadLists.{HasEnded}
+use Rattle.wasm_reader_insn.proofs.DecodeLists.{HasEnded}
 use Rattle.wasm_reader_insn.proofs.expression.ExpressionReadable.read.Given as goal
 
 abbrev pub invariant-loop-rest : goal.invariant-loop-rest

@@ -2,14 +2,14 @@ use Rattle.std.proofs.Common.{map, subst, sym}
 use Rattle.wasm_base.proofs.Outcomes.{on_ok}
 use Rattle.wasm_insn.specs.Plain.{instruction}
 use Rattle.wasm_insn.specs.Table.{table}
-use Rattle.wasm_reader_base.specs.Shortest.{AppendsShortest, HasEncoding}
+use Rattle.wasm_reader_base.specs.Minimal.{AppendsMinimal, HasEncoding}
 use Rattle.wasm_reader_insn.specs.Arguments.{argument_view}
 use Rattle.wasm_reader_insn.proofs.instruction.PlainShorten.write_minimal.Goals as goal
 
 pub returns-clause-ok : goal.returns-clause-ok
 returns-clause-ok g c =
     on_ok c.append_instruction.result _ _ c.append_instruction.ensures.ok λ a.
-    subst (λ xs. AppendsShortest (instruction table) (record { op = c.args.self.now.op; arguments = map argument_view xs }) c.args.out.now.items c.append_instruction.new.out.items) c.deref.ensures.value a
+    subst (λ xs. AppendsMinimal (instruction table) (record { op = c.args.self.now.op; arguments = map argument_view xs }) c.args.sink.now.items c.append_instruction.new.sink.items) c.deref.ensures.value a
 
 pub returns-clause-too_long : goal.returns-clause-too_long
 returns-clause-too_long g c = λ h.

@@ -1,27 +1,27 @@
 use Rattle.std.proofs.Common.{◌∙◌, ap, subst, sym, arith}
-use Rattle.wasm_base.specs.Numbers.{wide}
-use Rattle.wasm_base.specs.Reading.{ReadsNothing}
-use Rattle.wasm_base.proofs.ReadingSteps.{front_and_rest}
+use Rattle.wasm_base.specs.Numbers.{padded}
+use Rattle.wasm_base.specs.Decoding.{Rejects}
+use Rattle.wasm_base.proofs.DecodingSteps.{front_and_rest}
 use Rattle.wasm_insn.specs.Plain.{instruction}
 use Rattle.wasm_insn.specs.Table.{table}
 use Rattle.wasm_code.specs.Expressions.{expression}
 use Rattle.wasm_reader_base.proofs.Faults.{fault_stays}
-use Rattle.wasm_reader_base.proofs.ReadFrames.{none_left}
+use Rattle.wasm_reader_base.proofs.DecodeSizePrefixed.{none_left}
 use Rattle.wasm_reader_insn.specs.Walks.{ahead}
-use Rattle.wasm_reader_insn.proofs.ReadLists.{not_end}
-use Rattle.wasm_reader_insn.proofs.WalkLaws.{reads_there, from_place, end_fails, end_ended}
+use Rattle.wasm_reader_insn.proofs.DecodeLists.{not_end}
+use Rattle.wasm_reader_insn.proofs.WalkLaws.{decodes_there, from_place, end_fails, end_ended}
 use Rattle.wasm_reader_insn.proofs.walk.Instructions.next_before_end.Goals as goal
 
 pub returns-in_default-clause-none : goal.returns-in_default-clause-none
-returns-in_default-clause-none g c = λ e. subst (λ w. ReadsNothing expression wide (ahead w)) c.self.view_is (end_ended _ (sym (from_place c.self.inside.bytes.now c.self.inside.place) ∙ none_left _ (omega (arith, c.in_default.len_below))))
+returns-in_default-clause-none g c = λ e. subst (λ w. Rejects expression padded (ahead w)) c.self.view_is (end_ended _ (sym (from_place c.self.inside.bytes.now c.self.inside.offset) ∙ none_left _ (omega (arith, c.in_default.len_below))))
 
 pub returns-in_err-step-clause-none : goal.returns-in_err-step-clause-none
 returns-in_err-step-clause-none g c = fault_stays c.from_residual.result _ c.from_residual.ensures.1 λ n.
-    subst (λ w. ReadsNothing expression wide (ahead w)) c.self.view_is
-    (end_fails _ _ _ (sym (from_place c.self.inside.bytes.now c.self.inside.place) ∙ front_and_rest _ c.in-len1-up.len_at_least) c.if-first-eq-END.false (subst (λ w. ReadsNothing (instruction table) wide (ahead w)) (sym c.self.view_is) (c.in_err-step.ensures.none n)))
+    subst (λ w. Rejects expression padded (ahead w)) c.self.view_is
+    (end_fails _ _ _ (sym (from_place c.self.inside.bytes.now c.self.inside.offset) ∙ front_and_rest _ c.in-len1-up.len_at_least) c.if-first-eq-END.false (subst (λ w. Rejects (instruction table) padded (ahead w)) (sym c.self.view_is) (c.in_err-step.ensures.none n)))
 
 pub returns-clause-found : goal.returns-clause-found
 returns-clause-found g c =
     let same = ap ahead c.self.view_is in
-    reads_there same
-    (not_end _ _ _ _ _ (sym (from_place c.self.inside.bytes.now c.self.inside.place) ∙ front_and_rest _ c.in-len1-up.len_at_least) c.if-first-eq-END.false (reads_there (sym same) c.in_ok-step.ensures.found))
+    decodes_there same
+    (not_end _ _ _ _ _ (sym (from_place c.self.inside.bytes.now c.self.inside.offset) ∙ front_and_rest _ c.in-len1-up.len_at_least) c.if-first-eq-END.false (decodes_there (sym same) c.in_ok-step.ensures.found))

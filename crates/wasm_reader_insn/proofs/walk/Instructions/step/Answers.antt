@@ -1,22 +1,22 @@
 use Rattle.std.proofs.Common.{◌<◌, ap, subst, length, ◌-◌, arith}
-use Rattle.wasm_base.specs.Numbers.{wide}
-use Rattle.wasm_base.specs.Reading.{ReadsNothing}
+use Rattle.wasm_base.specs.Numbers.{padded}
+use Rattle.wasm_base.specs.Decoding.{Rejects}
 use Rattle.wasm_insn.specs.Plain.{instruction}
 use Rattle.wasm_insn.specs.Table.{table}
 use Rattle.wasm_reader_base.proofs.Faults.{fault_stays}
 use Rattle.wasm_reader_insn.specs.Walks.{ahead}
-use Rattle.wasm_reader_insn.proofs.WalkLaws.{reads_there, from_place, step_reads, step_further}
+use Rattle.wasm_reader_insn.proofs.WalkLaws.{decodes_there, from_place, step_decodes, step_further}
 use Rattle.wasm_reader_insn.proofs.walk.Instructions.step.Goals as goal
 
 pub returns-in_err-op-clause-none : goal.returns-in_err-op-clause-none
-returns-in_err-op-clause-none g c = fault_stays c.from_residual.result _ c.from_residual.ensures.1 λ n. subst (λ w. ReadsNothing (instruction table) wide (ahead w)) c.self.view_is (subst (ReadsNothing (instruction table) wide) (from_place c.self.inside.bytes.now c.self.inside.place) (c.in_err-op.ensures.none n))
+returns-in_err-op-clause-none g c = fault_stays c.from_residual.result _ c.from_residual.ensures.1 λ n. subst (λ w. Rejects (instruction table) padded (ahead w)) c.self.view_is (subst (Rejects (instruction table) padded) (from_place c.self.inside.bytes.now c.self.inside.offset) (c.in_err-op.ensures.none n))
 
 pub returns-clause-found : goal.returns-clause-found
 returns-clause-found g c =
-    reads_there (ap ahead c.self.view_is)
-    (step_reads c.self.inside.bytes.now c.in_ok-op.rest.now c.self.inside.place _ c.self.invariant (reads_there (from_place c.self.inside.bytes.now c.self.inside.place) c.in_ok-op.ensures.found))
+    decodes_there (ap ahead c.self.view_is)
+    (step_decodes c.self.inside.bytes.now c.in_ok-op.rest.now c.self.inside.offset _ c.self.invariant (decodes_there (from_place c.self.inside.bytes.now c.self.inside.offset) c.in_ok-op.ensures.found))
 
 pub returns-clause-further : goal.returns-clause-further
 returns-clause-further g c =
-    let h = reads_there (from_place c.self.inside.bytes.now c.self.inside.place) c.in_ok-op.ensures.found in
-    (subst (λ w. w.place < length c.self.inside.bytes.now - length c.in_ok-op.rest.now) c.self.view_is (step_further c.self.inside.bytes.now c.in_ok-op.rest.now c.self.inside.place _ c.self.invariant h), omega arith)
+    let h = decodes_there (from_place c.self.inside.bytes.now c.self.inside.offset) c.in_ok-op.ensures.found in
+    (subst (λ w. w.offset < length c.self.inside.bytes.now - length c.in_ok-op.rest.now) c.self.view_is (step_further c.self.inside.bytes.now c.in_ok-op.rest.now c.self.inside.offset _ c.self.invariant h), omega arith)

@@ -1,6 +1,6 @@
 use Rattle.wasm_reader_base.proofs.Faults.{fault_stays}
 use Rattle.wasm_sections.specs.Constants.{instructions_view}
-use Rattle.wasm_sections.proofs.DataLaws.{segment_none, first_none, passive_none, passive_reads, other_no_memory, other_none, other_reads, first_reads}
+use Rattle.wasm_sections.proofs.DataLaws.{segment_none, first_none, passive_none, passive_decodes, other_no_memory, other_none, other_decodes, first_decodes}
 use Rattle.wasm_sections.proofs.data.SegmentReadable.read.Goals as goal
 
 pub returns-in_err-flag-clause-none : goal.returns-in_err-flag-clause-none
@@ -13,7 +13,7 @@ pub returns-in_err-bytes-in-1-clause-none : goal.returns-in_err-bytes-in-1-claus
 returns-in_err-bytes-in-1-clause-none g c = fault_stays c.from_residual-in_err-bytes-in-1.result _ c.from_residual-in_err-bytes-in-1.ensures.1 λ n. passive_none c.args.bytes.now _ _ c.in_ok-flag.ensures.found c.in-1.is (c.in_err-bytes-in-1.ensures.none n)
 
 pub returns-in_ok-bytes-in-1-clause-found : goal.returns-in_ok-bytes-in-1-clause-found
-returns-in_ok-bytes-in-1-clause-found g c = passive_reads c.args.bytes.now _ _ _ _ c.in_ok-flag.ensures.found c.in-1.is c.in_ok-bytes-in-1.ensures.found
+returns-in_ok-bytes-in-1-clause-found g c = passive_decodes c.args.bytes.now _ _ _ _ c.in_ok-flag.ensures.found c.in-1.is c.in_ok-bytes-in-1.ensures.found
 
 pub returns-in_err-memory-in-2-clause-none : goal.returns-in_err-memory-in-2-clause-none
 returns-in_err-memory-in-2-clause-none g c = fault_stays c.from_residual-in_err-memory-in-2.result _ c.from_residual-in_err-memory-in-2.ensures.1 λ n. other_no_memory c.args.bytes.now _ _ c.in_ok-flag.ensures.found c.in-2.is (c.in_err-memory-in-2.ensures.none n)
@@ -22,7 +22,7 @@ pub returns-in_err-offset-in-2-clause-none : goal.returns-in_err-offset-in-2-cla
 returns-in_err-offset-in-2-clause-none g c = fault_stays c.from_residual-in_err-offset-in-2.result _ c.from_residual-in_err-offset-in-2.ensures.1 λ n. other_none c.args.bytes.now _ _ _ _ c.in_ok-flag.ensures.found c.in-2.is c.in_ok-memory-in-2.ensures.found c.if-memory-eq0.false (c.in_err-offset-in-2.ensures.none n)
 
 pub returns-in_ok-offset-in-2-clause-found : goal.returns-in_ok-offset-in-2-clause-found
-returns-in_ok-offset-in-2-clause-found g c = other_reads c.args.bytes.now _ _ _ _ _ (instructions_view c.in_ok-offset-in-2.offset) c.in_ok-offset-in-2.field-0-0-1.0.now c.in_ok-flag.ensures.found c.in-2.is c.in_ok-memory-in-2.ensures.found c.if-memory-eq0.false c.in_ok-offset-in-2.ensures.found
+returns-in_ok-offset-in-2-clause-found g c = other_decodes c.args.bytes.now _ _ _ _ _ (instructions_view c.in_ok-offset-in-2.offset) c.in_ok-offset-in-2.field-0-0-1.0.now c.in_ok-flag.ensures.found c.in-2.is c.in_ok-memory-in-2.ensures.found c.if-memory-eq0.false c.in_ok-offset-in-2.ensures.found
 
 pub returns-in_ok-offset-in-0-clause-found : goal.returns-in_ok-offset-in-0-clause-found
-returns-in_ok-offset-in-0-clause-found g c = search (first_reads, c.in_ok-flag.ensures.found, c.in-0.is, c.in_ok-offset-in-0.ensures.found)
+returns-in_ok-offset-in-0-clause-found g c = search (first_decodes, c.in_ok-flag.ensures.found, c.in-0.is, c.in_ok-offset-in-0.ensures.found)

@@ -7,8 +7,8 @@ pub returns-then-capacity-len-ge2-clause-appends : goal.returns-then-capacity-le
 returns-then-capacity-len-ge2-clause-appends g c = record {
   ok = grind (arith, common_steps, two_bytes);
   err = search rules;
-  fitted = search rules;
+  was_encodable = search rules;
   too_long = search rules;
-  room = search rules;
+  spare = search rules;
   capacity = omega arith;
 }

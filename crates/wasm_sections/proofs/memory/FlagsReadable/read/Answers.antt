@@ -1,5 +1,5 @@
 use Rattle.wasm_reader_base.proofs.Faults.{fault_stays}
-use Rattle.wasm_sections.proofs.ReadLimits.{flags_none, flags_unknown}
+use Rattle.wasm_sections.proofs.DecodeLimits.{flags_none, flags_unknown}
 use Rattle.wasm_sections.proofs.memory.FlagsReadable.read.Goals as goal
 
 pub returns-in_err-byte-clause-none : goal.returns-in_err-byte-clause-none

@@ -8,4 +8,4 @@ returns-then-is_empty g c = puts_none 10 c.args.self.now.code c.args.target.now 
 pub returns : goal.returns
 returns g c =
     let some : length c.args.self.now.code ≢ 0 = λ none. let empty = c.is_empty.ensures.1 none in let full = c.if-is_empty.false in cc in
-    puts_some 10 c.args.self.now.code c.args.target.now c.section.new.self c.section.result (omega (arith, some)) c.section.ensures.ok c.section.ensures.fitted c.section.ensures.too_long
+    puts_some 10 c.args.self.now.code c.args.target.now c.section.new.self c.section.result (omega (arith, some)) c.section.ensures.ok c.section.ensures.was_encodable c.section.ensures.too_long

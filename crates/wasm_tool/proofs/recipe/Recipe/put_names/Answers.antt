@@ -8,4 +8,4 @@ returns-in-0 g c = puts_no_names c.args.self.now.names c.args.target.now (omega 
 pub returns-in_default : goal.returns-in_default
 returns-in_default g c =
     let some : 0 < length c.args.self.now.names = omega (arith, c.len.ensures, c.in_default) in
-    puts_names c.args.self.now.names c.args.target.now c.section.new.self c.section.result some (omega (arith, c.len.ensures, c.len.type_inv)) c.section.ensures.ok c.section.ensures.fitted c.section.ensures.too_long
+    puts_names c.args.self.now.names c.args.target.now c.section.new.self c.section.result some (omega (arith, c.len.ensures, c.len.type_inv)) c.section.ensures.ok c.section.ensures.was_encodable c.section.ensures.too_long

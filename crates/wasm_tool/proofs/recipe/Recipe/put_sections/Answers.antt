@@ -9,16 +9,16 @@ returns g c =
     let numbered = more_sections _ _ _ _ _ (more_sections _ _ _ _ _ (more_sections _ _ _ _ _ before_start c.in_ok-put_start.ensures.ok) c.in_ok-put_code.ensures.ok) c.in_ok-put_counted-5.ensures.ok in
     record {
       ok = on_ok c.put_names.result _ _ c.put_names.ensures.ok (more_sections _ _ _ _ _ numbered);
-      fitted = on_ok c.put_names.result _ _ c.put_names.ensures.fitted (λ names. record {
-        types = c.in_ok-put_types.ensures.fitted;
-        functions = c.in_ok-put_counted.ensures.fitted;
-        memories = c.in_ok-put_counted-2.ensures.fitted;
-        globals = c.in_ok-put_counted-3.ensures.fitted;
-        exports = c.in_ok-put_counted-4.ensures.fitted;
-        start = c.in_ok-put_start.ensures.fitted;
-        code = c.in_ok-put_code.ensures.fitted;
-        segments = c.in_ok-put_counted-5.ensures.fitted;
+      was_encodable = on_ok c.put_names.result _ _ c.put_names.ensures.was_encodable (λ names. record {
+        types = c.in_ok-put_types.ensures.was_encodable;
+        functions = c.in_ok-put_counted.ensures.was_encodable;
+        memories = c.in_ok-put_counted-2.ensures.was_encodable;
+        globals = c.in_ok-put_counted-3.ensures.was_encodable;
+        exports = c.in_ok-put_counted-4.ensures.was_encodable;
+        start = c.in_ok-put_start.ensures.was_encodable;
+        code = c.in_ok-put_code.ensures.was_encodable;
+        segments = c.in_ok-put_counted-5.ensures.was_encodable;
         names = names;
       });
-      too_long = λ fits. c.put_names.ensures.too_long fits.names;
+      too_long = λ encodable. c.put_names.ensures.too_long encodable.names;
     }

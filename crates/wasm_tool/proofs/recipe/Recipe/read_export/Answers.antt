@@ -1,6 +1,6 @@
 use Rattle.std.proofs.Common.{arith}
-use Rattle.wasm_tool.proofs.SectionLemmas.{fits_count, fits_name}
+use Rattle.wasm_tool.proofs.SectionLemmas.{encodable_count, encodable_name}
 use Rattle.wasm_tool.proofs.recipe.Recipe.read_export.Goals as goal
 
 pub returns-in_err-export : goal.returns-in_err-export
-returns-in_err-export g c = grind (arith, fits_count, fits_name)
+returns-in_err-export g c = grind (arith, encodable_count, encodable_name)

@@ -1,5 +1,5 @@
 use Rattle.wasm_reader_base.proofs.Faults.{fault_stays}
-use Rattle.wasm_types.proofs.ReadFields.{mutable_none}
+use Rattle.wasm_types.proofs.DecodeFields.{mutable_none}
 use Rattle.wasm_types.proofs.fields.MutableReadable.read.Goals as goal
 
 pub returns-in_err-code-clause-none : goal.returns-in_err-code-clause-none

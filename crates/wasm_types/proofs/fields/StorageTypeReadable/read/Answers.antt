@@ -1,10 +1,10 @@
 use Rattle.std.proofs.Common.{arith}
 use Rattle.wasm_reader_base.proofs.Faults.{fault_stays}
-use Rattle.wasm_types.proofs.ReadFields.{storage_none, val_nothing}
+use Rattle.wasm_types.proofs.DecodeFields.{storage_none, val_rejects}
 use Rattle.wasm_types.proofs.fields.StorageTypeReadable.read.Goals as goal
 
 pub returns-in_err-tag-clause-none : goal.returns-in_err-tag-clause-none
 returns-in_err-tag-clause-none g c = fault_stays c.from_residual.result _ c.from_residual.ensures.1 λ n. storage_none c.args.bytes.now (c.in_err-tag.ensures.none n)
 
 pub returns-in_err-ty-in_default-clause-none : goal.returns-in_err-ty-in_default-clause-none
-returns-in_err-ty-in_default-clause-none g c = fault_stays c.from_residual-in_err-ty-in_default.result _ c.from_residual-in_err-ty-in_default.ensures.1 λ n. val_nothing c.args.bytes.now _ _ c.in_ok-tag.ensures.found (omega arith) (omega arith) (c.in_err-ty-in_default.ensures.none n)
+returns-in_err-ty-in_default-clause-none g c = fault_stays c.from_residual-in_err-ty-in_default.result _ c.from_residual-in_err-ty-in_default.ensures.1 λ n. val_rejects c.args.bytes.now _ _ c.in_ok-tag.ensures.found (omega arith) (omega arith) (c.in_err-ty-in_default.ensures.none n)

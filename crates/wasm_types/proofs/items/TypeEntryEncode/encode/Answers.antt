@@ -1,10 +1,10 @@
 use Rattle.std.proofs.Common.{sym, subst}
 use Rattle.wasm_base.specs.Calls.{Appends}
-use Rattle.wasm_types.specs.Items.{entry_text, EntryFits}
-use Rattle.wasm_types.proofs.ShortTypes.{group_appended}
+use Rattle.wasm_types.specs.Items.{entry_encoding, IsEncodableEntry}
+use Rattle.wasm_types.proofs.MinimalTypes.{group_appended}
 use Rattle.wasm_types.proofs.items.TypeEntryEncode.encode.Goals as goal
 
 pub returns-in-Group-clause-appends : goal.returns-in-Group-clause-appends
 returns-in-Group-clause-appends g c =
-    subst (λ t. Appends (entry_text t) (EntryFits t) c.args.sink.now c.encode-in-Group.new.sink c.encode-in-Group.result) (sym c.in-Group.is)
+    subst (λ t. Appends (entry_encoding t) (IsEncodableEntry t) c.args.sink.now c.encode-in-Group.new.sink c.encode-in-Group.result) (sym c.in-Group.is)
     (group_appended c.in-Group.subs.items c.as_slice.result.now c.as_slice.ensures.value c.encode-in-Group.ensures.appends)

@@ -1,5 +1,5 @@
 use Rattle.wasm_reader_base.proofs.Faults.{fault_stays}
-use Rattle.wasm_types.proofs.ReadItems.{type_none, group_none, single_none, group_reads, single_reads}
+use Rattle.wasm_types.proofs.DecodeItems.{type_none, group_none, single_none, group_decodes, single_decodes}
 use Rattle.wasm_types.proofs.items.TypeEntryReadable.read.Goals as goal
 
 pub returns-in_err-tag-clause-none : goal.returns-in_err-tag-clause-none
@@ -12,7 +12,7 @@ pub returns-in_err-sub-clause-none : goal.returns-in_err-sub-clause-none
 returns-in_err-sub-clause-none g c = fault_stays c.from_residual-in_err-sub.result _ c.from_residual-in_err-sub.ensures.1 λ n. single_none c.in_ok-tag.ensures.found c.if-tag-eq78.false (c.in_err-sub.ensures.none n)
 
 pub returns-in_ok-types-clause-found : goal.returns-in_ok-types-clause-found
-returns-in_ok-types-clause-found g c = group_reads c.in_ok-tag.ensures.found c.if-tag-eq78.true c.in_ok-types.ensures.found
+returns-in_ok-types-clause-found g c = group_decodes c.in_ok-tag.ensures.found c.if-tag-eq78.true c.in_ok-types.ensures.found
 
 pub returns-in_ok-sub-clause-found : goal.returns-in_ok-sub-clause-found
-returns-in_ok-sub-clause-found g c = single_reads c.in_ok-tag.ensures.found c.if-tag-eq78.false c.in_ok-sub.ensures.found
+returns-in_ok-sub-clause-found g c = single_decodes c.in_ok-tag.ensures.found c.if-tag-eq78.false c.in_ok-sub.ensures.found

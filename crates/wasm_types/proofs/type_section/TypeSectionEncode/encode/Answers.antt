@@ -1,9 +1,9 @@
 use Rattle.std.proofs.Common.{subst}
-use Rattle.wasm_base.specs.Pieces.{SectionFits}
-use Rattle.wasm_base.proofs.EntryLaws.{counted_reads}
+use Rattle.wasm_base.specs.Pieces.{IsEncodableSection}
+use Rattle.wasm_base.proofs.EntryLaws.{counted_decodes}
 use Rattle.wasm_base.proofs.Outcomes.{on_ok}
 use Rattle.wasm_types.proofs.type_section.TypeSectionEncode.encode.Goals as goal
 
 pub returns-clause-read : goal.returns-clause-read
 returns-clause-read g c =
-    on_ok c.encode.result _ _ c.encode.ensures.appends.fitted (λ fits. counted_reads _ c.laws.ensures c.args.self.now (subst SectionFits c.self.view_is fits))
+    on_ok c.encode.result _ _ c.encode.ensures.appends.was_encodable (λ encodable. counted_decodes _ c.laws.ensures c.args.self.now (subst IsEncodableSection c.self.view_is encodable))

@@ -1,0 +1,30 @@
+use Rattle.std.proofs.Common.{◌≡◌, ◌∷◌, ◌++◌, [], ◌<◌, ◌≤◌, length, sym, subst, ◌∙◌, arith}
+use Rattle.std.proofs.lemmas.List.{length-append}
+use Rattle.wasm_base.specs.Numbers.{padded}
+use Rattle.wasm_base.specs.Decoding.{Decodes}
+use Rattle.wasm_insn.specs.Plain.{Plain, instruction}
+use Rattle.wasm_insn.specs.Table.{table}
+use Rattle.wasm_reader_insn.specs.Walks.{ahead}
+use Rattle.wasm_reader_insn.proofs.Calls.{continues, ended, of_some}
+use Rattle.wasm_reader_insn.proofs.DecodeLists.{body_fills}
+use Rattle.wasm_bench.proofs.decoding.walked.Goals as goal
+
+pub loop-walk-preserved : goal.loop-walk-preserved
+loop-walk-preserved c =
+    let w = c.loop-walk.invariant in
+    let old = c.loop-walk.walk in
+    let new = c.next.new.self in
+    let i : Plain = record { op = c.in-Some._step.op; arguments = new.arguments } in
+    let read = of_some (λ step. Decodes (instruction table) padded (ahead old) (record { op = step.op; arguments = new.arguments }) (ahead new)) c.in-Some.is c.in_ok-_step.ensures.found in
+    let further = of_some (λ step. (old.offset < new.offset) × (new.offset ≤ length new.bytes)) c.in-Some.is c.in_ok-_step.ensures.further in
+    let same : new.bytes ≡ c.args.body.now = c.in_ok-_step.ensures.same ∙ w.5 in
+    (w.0 ++ i ∷ [], continues w.0 w.1 read, omega (arith, length-append w.0 (i ∷ []), w.2), omega (arith, w.3, further.0), subst (λ z. new.offset ≤ length z) same further.1, same)
+
+pub returns : goal.returns
+returns c =
+    let w = c.loop-walk.invariant in
+    record {
+      walked = record { runs = c.in_ok-_runs._runs.items; code = w.0 };
+      encodes = body_fills c.args.body.now (ahead c.in_ok-_runs.walk) c.in_ok-_runs._runs.items w.0 c.in_ok-_runs.ensures.found (ended w.0 w.1 (c.in_ok-_step.ensures.end c.in_default.is));
+      counted = sym w.2;
+    }

@@ -1,8 +1,0 @@
-use Rattle.std.proofs.Common.{◌≡◌, map, take}
-use Rattle.wasm_bench.specs.Readings.{instructions_in}
-use Rattle.wasm_reader_insn.specs.Arguments.{body_view}
-use Rattle.wasm_bench.proofs.reading.instructions.Given as goal
-
--- The count is that of the instructions of the bodies so far.
-abbrev pub invariant-loop-body : goal.invariant-loop-body
-invariant-loop-body l = l.count ≡ instructions_in (map body_view (take l.body-index l.bodies))

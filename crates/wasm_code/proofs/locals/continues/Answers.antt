@@ -1,0 +1,6 @@
+use Rattle.std.proofs.Common.{rules}
+use Rattle.wasm_code.proofs.SameTypes.{same_val}
+use Rattle.wasm_code.proofs.locals.continues.Goals as goal
+
+pub returns : goal.returns
+returns c = (λ h. same_val c.args.last c.args.ty (search rules), λ e. search rules)

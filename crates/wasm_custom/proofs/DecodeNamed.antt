@@ -1,0 +1,94 @@
+-- This file proves how readers decode the bytes after the name of a custom section.
+use Rattle.std.proofs.Common.{◌≡◌, ◌≢◌, ℕ, List, [], length, Bool, true, refl, sym, subst}
+use Rattle.wasm_base.specs.Continuing.{RejectsWhole}
+use Rattle.wasm_base.specs.Numbers.{padded}
+use Rattle.wasm_base.specs.Formats.{Format, name, just, fixed, tagged, vec}
+use Rattle.wasm_base.specs.Decoding.{Unambiguous, Decodes, Rejects}
+use Rattle.wasm_base.proofs.AfterLaws.{just_unambiguous}
+use Rattle.wasm_base.proofs.BaseLaws.{name_unambiguous}
+use Rattle.wasm_base.proofs.FormatLaws.{fixed_unambiguous, vec_unambiguous}
+use Rattle.wasm_base.proofs.DecodingSteps.{decodes_same}
+use Rattle.wasm_base.proofs.Tags.{fixed_decodes}
+use Rattle.wasm_custom.specs.Customs.{named_payload}
+use Rattle.wasm_custom.specs.Entries.{listing, entries, counted_payload}
+use Rattle.wasm_reader_base.proofs.DecodeWhole.{whole_decodes, whole_more, whole_rejects}
+
+-- ---- a fixed value
+
+module _ {X : Type 0} (F : Format X) (x : X) (bytes : List ℕ) where
+  pub just_this : (rest : List ℕ) (y : X) → Decodes F padded bytes y rest → y ≡ x → Decodes (just x F) padded bytes tt rest
+  just_this rest y h e = record { front = h.front; split = h.split; encodes = subst (λ z. F padded h.front z) e h.encodes }
+
+  pub just_none : Rejects F padded bytes → Rejects (just x F) padded bytes
+  just_none n = record { none = λ u rest h. n.none x rest (record { front = h.front; split = h.split; encodes = h.encodes }) }
+
+  pub just_other : Unambiguous F → (rest : List ℕ) (y : X) → Decodes F padded bytes y rest → y ≢ x → Rejects (just x F) padded bytes
+  just_other unique rest y h p = record { none = λ u last g. p (decodes_same unique h (record { front = g.front; split = g.split; encodes = g.encodes })).0 }
+
+pub name_there : (m bytes rest n : List ℕ) → Decodes name padded bytes n rest → n ≡ m → Decodes (just m name) padded bytes tt rest
+name_there m bytes rest n = just_this name m bytes rest n
+
+pub name_none : (m bytes : List ℕ) → Rejects name padded bytes → Rejects (just m name) padded bytes
+name_none m bytes = just_none name m bytes
+
+pub name_other : (m bytes rest n : List ℕ) → Decodes name padded bytes n rest → n ≢ m → Rejects (just m name) padded bytes
+name_other m bytes rest n = just_other name m bytes name_unambiguous rest n
+
+pub ruleset name_steps = (name_there, name_none, name_other)
+
+-- ---- a value after a format without a value
+
+module _ {X : Type 0} (F : Format (Unit {0})) (G : Format X) (bytes : List ℕ) where
+  pub behind_fills : (rest : List ℕ) (x : X) → Decodes F padded bytes tt rest → G padded rest x → tagged F (λ u. G) padded bytes x
+  behind_fills rest x h g = ((tt, x), refl, record { front = h.front; back = rest; joined = h.split; first = h.encodes; second = g })
+
+  pub behind_none : Rejects F padded bytes → RejectsWhole (tagged F (λ u. G)) bytes
+  behind_none n = record { none = λ x h. n.none tt h.2.back (record { front = h.2.front; split = h.2.joined; encodes = h.2.first }) }
+
+  pub behind_rejects : Unambiguous F → (rest : List ℕ) → Decodes F padded bytes tt rest → RejectsWhole G rest → RejectsWhole (tagged F (λ u. G)) bytes
+  behind_rejects unique rest h n = record {
+    none = λ x g.
+        let same = decodes_same unique h (record { front = g.2.front; split = g.2.joined; encodes = g.2.first }) in
+        n.none g.0.1 (subst (λ z. G padded z g.0.1) (sym same.1) g.2.second);
+  }
+
+-- ---- a value after a name
+
+module _ {X : Type 0} (n : List ℕ) (G : Format X) (bytes : List ℕ) where
+  pub named_fills : (rest : List ℕ) (x : X) → Decodes (just n name) padded bytes tt rest → G padded rest x → named_payload n G padded bytes x
+  named_fills rest x h g = behind_fills (just n name) G bytes rest x h g
+
+  pub named_none : Rejects (just n name) padded bytes → RejectsWhole (named_payload n G) bytes
+  named_none none = behind_none (just n name) G bytes none
+
+  pub named_rejects : (rest : List ℕ) → Decodes (just n name) padded bytes tt rest → RejectsWhole G rest → RejectsWhole (named_payload n G) bytes
+  named_rejects rest h none = behind_rejects (just n name) G bytes (just_unambiguous n name_unambiguous) rest h none
+
+-- ---- items right after a name
+
+module _ {X : Type 0} (n : List ℕ) (counted : Bool) (F : Format X) (bytes : List ℕ) where
+  pub items_fill : (rest : List ℕ) (xs : List X) → Decodes (just n name) padded bytes tt rest → listing counted F padded rest xs → named_payload n (entries (fixed [] (tt {0})) counted F) padded bytes xs
+  items_fill rest xs h g = named_fills n (entries (fixed [] (tt {0})) counted F) bytes rest xs h (behind_fills (fixed [] (tt {0})) (listing counted F) rest rest xs (fixed_decodes rest (tt {0})) g)
+
+  pub no_items : (rest : List ℕ) → Decodes (just n name) padded bytes tt rest → RejectsWhole (listing counted F) rest → RejectsWhole (named_payload n (entries (fixed [] (tt {0})) counted F)) bytes
+  no_items rest h none =
+      named_rejects n (entries (fixed [] (tt {0})) counted F) bytes rest h (behind_rejects (fixed [] (tt {0})) (listing counted F) rest (fixed_unambiguous [] (tt {0})) rest (fixed_decodes rest (tt {0})) none)
+
+-- ---- counted items right after a name that is an argument of the call
+
+module _ {X : Type 0} {n known : List ℕ} (called : known ≡ n) (F : Format X) (bytes : List ℕ) where
+  pub counted_none : Rejects (just known name) padded bytes → RejectsWhole (counted_payload n F) bytes
+  counted_none none = named_none n (entries (fixed [] (tt {0})) true F) bytes (subst (λ z. Rejects (just z name) padded bytes) called none)
+
+  module _ {rest : List ℕ} (h : Decodes (just known name) padded bytes tt rest) where
+    there : Decodes (just n name) padded bytes tt rest
+    there = subst (λ z. Decodes (just z name) padded bytes tt rest) called h
+
+    pub counted_decodes : (left : List ℕ) (xs : List X) → Decodes (vec F) padded rest xs left → length left ≡ 0 → counted_payload n F padded bytes xs
+    counted_decodes left xs g e = items_fill n true F bytes rest xs there (whole_decodes (vec F) rest left xs g e)
+
+    pub counted_rejects : Rejects (vec F) padded rest → RejectsWhole (counted_payload n F) bytes
+    counted_rejects none = no_items n true F bytes rest there (whole_rejects (vec F) rest none)
+
+    pub counted_more : Unambiguous F → (left : List ℕ) (xs : List X) → Decodes (vec F) padded rest xs left → length left ≢ 0 → RejectsWhole (counted_payload n F) bytes
+    counted_more unique left xs g more = no_items n true F bytes rest there (whole_more (vec F) rest left xs (vec_unambiguous unique) g more)

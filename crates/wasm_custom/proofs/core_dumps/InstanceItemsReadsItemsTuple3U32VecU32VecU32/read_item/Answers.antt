@@ -1,9 +1,0 @@
-use Rattle.wasm_reader_base.proofs.Faults.{fault_stays}
-use Rattle.wasm_custom.proofs.CoreDumpLaws.{instance_none, instance_reads}
-use Rattle.wasm_custom.proofs.core_dumps.InstanceItemsReadsItemsTuple3U32VecU32VecU32.read_item.Goals as goal
-
-pub returns-in_err-module_index-clause-none : goal.returns-in_err-module_index-clause-none
-returns-in_err-module_index-clause-none g c = fault_stays c.from_residual.result _ c.from_residual.ensures.1 λ n. instance_none c.args.bytes.now (c.in_err-module_index.ensures.none n)
-
-pub returns-clause-found : goal.returns-clause-found
-returns-clause-found g c = search (instance_reads, c.in_ok-module_index.ensures.found)

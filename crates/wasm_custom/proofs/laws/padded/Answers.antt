@@ -1,0 +1,7 @@
+use Rattle.wasm_base.proofs.BaseLaws.{unambiguous_padded}
+use Rattle.wasm_base.proofs.SectionLaws.{padded_unambiguous}
+use Rattle.wasm_custom.proofs.Calls.{sections, parts}
+use Rattle.wasm_custom.proofs.laws.padded.Goals as goal
+
+pub returns : goal.returns
+returns g = search (sections, parts, padded_unambiguous, unambiguous_padded)

@@ -1,0 +1,105 @@
+-- This file proves how the reader lists a module's sections.
+use Rattle.wasm_reader.specs.Kinds.{kind_of_id, Contents, content}
+use Rattle.std.proofs.Common.{◌≡◌, ◌≢◌, ℕ, ◌<◌, ◌^◌, List, [], ◌∷◌, ◌++◌, length, map, take, drop, refl, sym, ap, subst, ◌∙◌, arith}
+use Rattle.std.proofs.lemmas.List.{map-append, take-append-drop, take_at, length-append, length-map}
+use Rattle.wasm_base.specs.Continuing.{RejectsWhole}
+use Rattle.wasm_base.specs.Numbers.{padded}
+use Rattle.wasm_base.specs.Formats.{Format, byte, any_bytes, fixed, size_prefixed, header, members}
+use Rattle.wasm_base.specs.Decoding.{BeginsWith, Decodes, Rejects}
+use Rattle.wasm_base.proofs.BaseLaws.{size_prefixed_bytes_unambiguous}
+use Rattle.wasm_base.proofs.FormatLaws.{byte_unambiguous, begins_then}
+use Rattle.wasm_base.proofs.DecodingSteps.{decodes_same, then_decodes, then_rejects_first, then_rejects_second, members_start, members_step}
+use Rattle.wasm_reader_base.proofs.DecodeWhole.{member_shorter}
+use Rattle.wasm_reader.specs.Modules.{Sized, sized_section, sized_module, line_of, HasLines, StopsBehind}
+use Rattle.wasm_reader.specs.declared.modules.Listed.{Listed}
+use Rattle.wasm_reader.specs.declared.kinds.SectionKind.{SectionKind}
+use Rattle.wasm_sections.proofs.Prefixes.{prefixed_decodes}
+use Rattle.wasm_reader_base.proofs.DecodeWhole.{whole_decodes}
+
+-- ---- the header
+
+pub header_found : (bytes front rest : List ℕ) → front ≡ take 8 bytes → rest ≡ drop 8 bytes → front ≡ header → bytes ≡ header ++ rest
+header_found bytes front rest f r e = sym (take-append-drop 8 bytes) ∙ ap (λ z. z ++ drop 8 bytes) (sym f ∙ e) ∙ ap (λ z. header ++ z) (sym r)
+
+abbrev no_value : Format (Unit {0})
+no_value = fixed header (tt {0})
+
+pub header_short : (bytes : List ℕ) → length bytes < 8 → Rejects no_value padded bytes
+header_short bytes l = record { none = λ u rest h. omega (arith, l, ap length (h.split ∙ ap (λ z. z ++ rest) h.encodes.0), length-append header rest) }
+
+pub header_other : (bytes front : List ℕ) → front ≡ take 8 bytes → front ≢ header → Rejects no_value padded bytes
+header_other bytes front f other = record { none = λ u rest h. other (f ∙ ap (take 8) (h.split ∙ ap (λ z. z ++ rest) h.encodes.0) ∙ take_at header rest 8 refl) }
+
+pub ruleset header_steps = (header_found, header_short, header_other)
+
+-- ---- kinds
+
+-- ---- lines
+
+pub sized_small : (bytes rest sized : List ℕ) → Decodes (size_prefixed any_bytes) padded bytes sized rest → length sized < 2 ^ 32
+sized_small bytes rest sized h = let s = h.encodes in subst (λ z. length z < 2 ^ 32) s.encodes s.size.range
+
+pub line_decodes : (bytes rest sized after : List ℕ) (id : ℕ) (x : Contents) → Decodes byte padded bytes id rest → Decodes (size_prefixed any_bytes) padded rest sized after → content (kind_of_id id) padded sized x → Decodes sized_section padded bytes (id, (length sized, x)) after
+line_decodes bytes rest sized after id x h g k =
+    let of_size : Decodes (Sized (kind_of_id id)) padded rest (length sized, x) after = record { front = g.front; split = g.split; encodes = record { payload = sized; sized = g.encodes; size = refl; contains = k } } in
+    then_decodes {G = λ i. Sized (kind_of_id i)} h of_size
+
+pub line_none : (bytes : List ℕ) → Rejects byte padded bytes → Rejects sized_section padded bytes
+line_none bytes n = then_rejects_first n
+
+as_size_prefixed : {kind : SectionKind} {bytes rest : List ℕ} {p : ℕ × Contents} → (h : Decodes (Sized kind) padded bytes p rest) → Decodes (size_prefixed any_bytes) padded bytes h.encodes.payload rest
+as_size_prefixed h = record { front = h.front; split = h.split; encodes = h.encodes.sized }
+
+pub line_not_size_prefixed : (bytes rest : List ℕ) (id : ℕ) → Decodes byte padded bytes id rest → Rejects (size_prefixed any_bytes) padded rest → Rejects sized_section padded bytes
+line_not_size_prefixed bytes rest id h n = then_rejects_second {G = λ i. Sized (kind_of_id i)} byte_unambiguous h (record { none = λ p last g. n.none g.encodes.payload last (as_size_prefixed g) })
+
+pub line_rejects : (bytes rest sized after : List ℕ) (id : ℕ) → Decodes byte padded bytes id rest → Decodes (size_prefixed any_bytes) padded rest sized after → RejectsWhole (content (kind_of_id id)) sized → Rejects sized_section padded bytes
+line_rejects bytes rest sized after id h g n =
+    then_rejects_second {G = λ i. Sized (kind_of_id i)} byte_unambiguous h (record {
+      none = λ p last k. n.none p.1 (subst (λ z. content (kind_of_id id) padded z p.1) (sym (decodes_same size_prefixed_bytes_unambiguous g (as_size_prefixed k)).0) k.encodes.contains);
+    })
+
+pub ruleset line_steps = (line_rejects)
+
+-- ---- the loop
+
+-- The lines so far are those of the sections from `start` on, and `rest` remains.
+pub record HasListed (start : List ℕ) (lines : List Listed) (rest : List ℕ) : Type 0 where
+  pub sections : List (ℕ × (ℕ × Contents))
+  pub read : Decodes (members sized_section) padded start sections rest
+  pub same : lines ≡ map line_of sections
+
+pub listed_start : (start : List ℕ) → HasListed start [] start
+listed_start start = record { sections = []; read = members_start sized_section padded start; same = refl }
+
+pub listed_step : (start rest after : List ℕ) (lines : List Listed) (line : Listed) (s : ℕ × (ℕ × Contents)) → HasListed start lines rest → Decodes sized_section padded rest s after → line ≡ line_of s → HasListed start (lines ++ line ∷ []) after
+listed_step start rest after lines line s h g e = record {
+  sections = h.sections ++ s ∷ [];
+  read = members_step sized_section h.read g;
+  same = ap (λ z. z ++ line ∷ []) h.same ∙ ap (λ z. map line_of h.sections ++ z ∷ []) e ∙ sym (map-append line_of h.sections (s ∷ []));
+}
+
+whole_of : {bytes start : List ℕ} {lines : List Listed} {rest : List ℕ} → bytes ≡ header ++ start → (h : HasListed start lines rest) → Decodes sized_module padded bytes h.sections rest
+whole_of e h = prefixed_decodes header (members sized_section) e h.read
+
+pub listed_done : (bytes start rest : List ℕ) (lines : List Listed) → bytes ≡ header ++ start → HasListed start lines rest → length rest ≡ 0 → HasLines bytes lines
+listed_done bytes start rest lines e h l = record { sections = h.sections; read = whole_decodes sized_module bytes rest h.sections (whole_of e h) l; same = h.same }
+
+pub listed_stops : (bytes start rest : List ℕ) (lines : List Listed) → bytes ≡ header ++ start → HasListed start lines rest → length rest ≢ 0 → Rejects sized_section padded rest → StopsBehind bytes (length lines)
+listed_stops bytes start rest lines e h more n = record {
+  sections = h.sections;
+  rest = rest;
+  read = whole_of e h;
+  counted = sym (ap length h.same ∙ length-map h.sections line_of);
+  more = λ z. more (ap length z);
+  none = n;
+}
+
+pub line_shorter : (bytes rest : List ℕ) (s : ℕ × (ℕ × Contents)) → Decodes sized_section padded bytes s rest → length rest < length bytes
+line_shorter bytes rest s h = member_shorter sized_section bytes rest s begins h
+  where
+    byte_begins : BeginsWith (λ b. Unit {0}) byte
+    byte_begins mode s x e = (x, [], e, tt)
+
+    begins : BeginsWith (λ b. Unit {0}) sized_section
+    begins = begins_then (λ b. Unit {0}) byte_begins

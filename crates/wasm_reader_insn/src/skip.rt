@@ -1,0 +1,207 @@
+// Skipping of instructions, expressions and bodies, of which nothing is kept.
+ghost use Rattle.std.specs.Prelude.{◌≢◌, List, IfOk, IfErr, OnOk};
+ghost use Rattle.wasm_base.specs.Formats.{members, size_prefixed};
+ghost use Rattle.wasm_base.specs.Continuing.{RejectsWhole};
+ghost use Rattle.wasm_base.specs.Numbers.{padded};
+ghost use Rattle.wasm_base.specs.Decoding.{Decodes, Rejects};
+ghost use Rattle.wasm_insn.specs.Arguments.{Argument};
+ghost use Rattle.wasm_insn.specs.Parts.{parts_of};
+ghost use Rattle.wasm_insn.specs.Plain.{Plain as PlainInstruction, part, arguments, instruction};
+ghost use Rattle.wasm_insn.specs.Table.{table};
+ghost use Rattle.wasm_code.specs.Bodies.{Body as BodyModel, body};
+ghost use Rattle.wasm_code.specs.Expressions.{expression};
+ghost use Rattle.wasm_reader_base.specs.declared.fault.ReadFault.TheVariants.{Memory};
+
+use crate::arguments::{
+    read_block, read_memory, read_part, read_signed32, read_signed64, read_unsigned,
+};
+use crate::body::Body;
+use crate::expression::{END, Expression};
+use crate::instruction::read_op;
+use std::alloc::Allocator;
+use wasm_base::ValType;
+use wasm_insn::{Catch, Handle, Part, Shape};
+use wasm_reader_base::{Dropped, Skip, ReadFault, Readable, skip_many};
+
+/// Skips one argument, and returns the remaining bytes. Lists are skipped member by member.
+fn skip_part<'a, A: Allocator + Copy>(
+    wanted: Part,
+    bytes: &'a [u8],
+    alloc: A,
+) -> Result<&'a [u8], ReadFault>
+    ensures found { IfOk result (λ rest. (x : Argument) × Decodes (part wanted) padded bytes.now x rest.now) }
+    ensures none { IfErr result (λ e. e ≢ Memory → Rejects (part wanted) padded bytes.now) }
+{
+    match wanted {
+        Part::Labels => {
+            let (_count, rest) = skip_many::<'a, Dropped<u32>, A>(bytes, alloc)?;
+            Ok(rest)
+        }
+        Part::Catches => {
+            let (_count, rest) = skip_many::<'a, Dropped<Catch>, A>(bytes, alloc)?;
+            Ok(rest)
+        }
+        Part::Types => {
+            let (_count, rest) = skip_many::<'a, Dropped<ValType>, A>(bytes, alloc)?;
+            Ok(rest)
+        }
+        Part::Handles => {
+            let (_count, rest) = skip_many::<'a, Dropped<Handle>, A>(bytes, alloc)?;
+            Ok(rest)
+        }
+        _ => {
+            let (_arg, rest) = read_part(wanted, bytes, alloc)?;
+            Ok(rest)
+        }
+    }
+}
+
+/// Skips one argument for each of `wanted`, and returns the remaining bytes.
+fn skip_parts<'a, A: Allocator + Copy>(
+    wanted: &[Part],
+    bytes: &'a [u8],
+    alloc: A,
+) -> Result<&'a [u8], ReadFault>
+    ensures found { IfOk result (λ rest. (xs : List Argument) × Decodes (arguments wanted.now) padded bytes.now xs rest.now) }
+    ensures none { IfErr result (λ e. e ≢ Memory → Rejects (arguments wanted.now) padded bytes.now) }
+{
+    let mut rest = bytes;
+    for part in wanted {
+        rest = skip_part(*part, rest, alloc)?;
+    }
+    Ok(rest)
+}
+
+/// Skips the arguments of any shape, and returns the remaining bytes. Out of line, for rare shapes.
+#[inline(never)]
+#[tactic(auto, using(crate::proofs::DecodeArguments::shape_steps))]
+fn skip_any<'a, A: Allocator + Copy>(
+    shape: Shape,
+    bytes: &'a [u8],
+    alloc: A,
+) -> Result<&'a [u8], ReadFault>
+    ensures found { IfOk result (λ rest. (xs : List Argument) × Decodes (arguments (parts_of shape)) padded bytes.now xs rest.now) }
+    ensures none { IfErr result (λ e. e ≢ Memory → Rejects (arguments (parts_of shape)) padded bytes.now) }
+{
+    skip_parts(shape.parts(), bytes, alloc)
+}
+
+/// Skips the arguments of an opcode of this shape, and returns the remaining bytes. Common shapes
+/// are skipped inline.
+#[inline]
+fn skip_arguments<'a, A: Allocator + Copy>(
+    shape: Shape,
+    bytes: &'a [u8],
+    alloc: A,
+) -> Result<&'a [u8], ReadFault>
+    ensures found { IfOk result (λ rest. (xs : List Argument) × Decodes (arguments (parts_of shape)) padded bytes.now xs rest.now) }
+    ensures none { IfErr result (λ e. e ≢ Memory → Rejects (arguments (parts_of shape)) padded bytes.now) }
+{
+    match shape {
+        Shape::Nothing => Ok(bytes),
+        Shape::U => {
+            let (_arg, rest) = read_unsigned(bytes, alloc)?;
+            Ok(rest)
+        }
+        Shape::M => {
+            let (_arg, rest) = read_memory(bytes, alloc)?;
+            Ok(rest)
+        }
+        Shape::C32 => {
+            let (_arg, rest) = read_signed32(bytes, alloc)?;
+            Ok(rest)
+        }
+        Shape::C64 => {
+            let (_arg, rest) = read_signed64(bytes, alloc)?;
+            Ok(rest)
+        }
+        Shape::B => {
+            let (_arg, rest) = read_block(bytes, alloc)?;
+            Ok(rest)
+        }
+        _ => skip_any(shape, bytes, alloc),
+    }
+}
+
+/// Skips the instruction at the front, and returns the remaining bytes.
+#[inline]
+#[tactic(auto, using(crate::proofs::DecodeInstructions::instruction_steps))]
+fn skip_instruction<'a, A: Allocator + Copy>(
+    bytes: &'a [u8],
+    alloc: A,
+) -> Result<&'a [u8], ReadFault>
+    ensures found { IfOk result (λ rest. (x : PlainInstruction) × Decodes (instruction table) padded bytes.now x rest.now) }
+    ensures none { IfErr result (λ e. e ≢ Memory → Rejects (instruction table) padded bytes.now) }
+{
+    let (op, rest) = read_op(bytes, alloc)?;
+    let Some(shape) = op.shape() else {
+        return Err(ReadFault::UnknownOpcode);
+    };
+    let rest = skip_arguments(shape, rest, alloc)?;
+    Ok(rest)
+}
+
+/// Skips instructions up to the last byte.
+fn skip_code<A: Allocator + Copy>(bytes: &[u8], alloc: A) -> Result<(), ReadFault>
+    ensures found { OnOk result ((xs : List PlainInstruction) × members (instruction table) padded bytes.now xs) }
+    ensures none { IfErr result (λ e. e ≢ Memory → RejectsWhole (members (instruction table)) bytes.now) }
+{
+    let mut rest = bytes;
+    loop {
+        if rest.is_empty() {
+            return Ok(());
+        }
+        rest = skip_instruction(rest, alloc)?;
+    }
+}
+
+/// Skips the bytes of a body without its size prefix.
+#[tactic(auto, using(crate::proofs::DecodeLists::body_steps))]
+fn skip_body<'a, A: Allocator + Copy>(bytes: &'a [u8], alloc: A) -> Result<(), ReadFault>
+    ensures found { OnOk result ((x : BodyModel) × body padded bytes.now x) }
+    ensures none { IfErr result (λ e. e ≢ Memory → RejectsWhole body bytes.now) }
+{
+    let (_count, rest) = skip_many::<'a, Dropped<(u32, ValType)>, A>(bytes, alloc)?;
+    skip_code(rest, alloc)?;
+    Ok(())
+}
+
+/// Skips a body with its size prefix, as in a code section, and allocates nothing.
+impl<'a, A: Allocator + Copy> Skip<'a, A> for Body<A> {
+    ghost Value = { BodyModel };
+
+    ghost format = { size_prefixed body };
+
+    #[tactic(auto, using(wasm_code::proofs::BodyLaws::size_prefixed_body_unambiguous))]
+    fn laws() {}
+
+    fn skip(bytes: &'a [u8], alloc: A) -> Result<&'a [u8], ReadFault> {
+        let (sized, rest) = <&'a [u8] as Readable<'a, A>>::read(bytes, alloc)?;
+        skip_body(sized, alloc)?;
+        Ok(rest)
+    }
+}
+
+/// Skips a constant expression with its `End`, and allocates nothing.
+impl<'a, A: Allocator + Copy> Skip<'a, A> for Expression<A> {
+    ghost Value = { List PlainInstruction };
+
+    ghost format = { expression };
+
+    #[tactic(auto, using(wasm_code::proofs::ExpressionLaws::expression_unambiguous))]
+    fn laws() {}
+
+    #[tactic(auto, using(wasm_insn::proofs::InstructionLaws::any_begins))]
+    fn skip(bytes: &'a [u8], alloc: A) -> Result<&'a [u8], ReadFault> {
+        let mut rest = bytes;
+        loop {
+            let [first, after @ ..] = rest else {
+                return Err(ReadFault::Ended);
+            };
+            if *first == END {
+                return Ok(after);
+            }
+            rest = skip_instruction(rest, alloc)?;
+        }
+    }
+}

@@ -1,0 +1,31 @@
+use Rattle.wasm_reader_base.proofs.Faults.{fault_stays}
+use Rattle.wasm_sections.proofs.DataLaws.{segment_none, first_none, first_decodes, passive_none, passive_decodes, other_no_memory, other_none, other_decodes}
+use Rattle.wasm_sections.proofs.data.SegmentSkip.skip.Goals as goal
+
+pub returns-in_err-flag-clause-none : goal.returns-in_err-flag-clause-none
+returns-in_err-flag-clause-none g c = fault_stays c.from_residual.result _ c.from_residual.ensures.1 λ n. segment_none c.args.bytes.now (c.in_err-flag.ensures.none n)
+
+pub returns-in_err-rest-in-0-clause-none : goal.returns-in_err-rest-in-0-clause-none
+returns-in_err-rest-in-0-clause-none g c = fault_stays c.from_residual-in_err-rest-in-0.result _ c.from_residual-in_err-rest-in-0.ensures.1 λ n. first_none c.args.bytes.now _ _ c.in_ok-flag.ensures.found c.in-0.is (c.in_err-rest-in-0.ensures.none n)
+
+pub returns-in_ok-rest-in-0-clause-found : goal.returns-in_ok-rest-in-0-clause-found
+returns-in_ok-rest-in-0-clause-found g c =
+    let x = c.in_ok-rest-in-0.ensures.found in
+    (_, first_decodes c.args.bytes.now _ _ _ x.0.0 x.0.1 c.in_ok-flag.ensures.found c.in-0.is x.1)
+
+pub returns-in_err-_bytes-in-1-clause-none : goal.returns-in_err-_bytes-in-1-clause-none
+returns-in_err-_bytes-in-1-clause-none g c = fault_stays c.from_residual-in_err-_bytes-in-1.result _ c.from_residual-in_err-_bytes-in-1.ensures.1 λ n. passive_none c.args.bytes.now _ _ c.in_ok-flag.ensures.found c.in-1.is (c.in_err-_bytes-in-1.ensures.none n)
+
+pub returns-in_ok-_bytes-in-1-clause-found : goal.returns-in_ok-_bytes-in-1-clause-found
+returns-in_ok-_bytes-in-1-clause-found g c = (_, passive_decodes c.args.bytes.now _ _ _ _ c.in_ok-flag.ensures.found c.in-1.is c.in_ok-_bytes-in-1.ensures.found)
+
+pub returns-in_err-memory-in-2-clause-none : goal.returns-in_err-memory-in-2-clause-none
+returns-in_err-memory-in-2-clause-none g c = fault_stays c.from_residual-in_err-memory-in-2.result _ c.from_residual-in_err-memory-in-2.ensures.1 λ n. other_no_memory c.args.bytes.now _ _ c.in_ok-flag.ensures.found c.in-2.is (c.in_err-memory-in-2.ensures.none n)
+
+pub returns-in_err-rest-in-2-clause-none : goal.returns-in_err-rest-in-2-clause-none
+returns-in_err-rest-in-2-clause-none g c = fault_stays c.from_residual-in_err-rest-in-2.result _ c.from_residual-in_err-rest-in-2.ensures.1 λ n. other_none c.args.bytes.now _ _ _ _ c.in_ok-flag.ensures.found c.in-2.is c.in_ok-memory-in-2.ensures.found c.if-memory-eq0.false (c.in_err-rest-in-2.ensures.none n)
+
+pub returns-in_ok-rest-in-2-clause-found : goal.returns-in_ok-rest-in-2-clause-found
+returns-in_ok-rest-in-2-clause-found g c =
+    let x = c.in_ok-rest-in-2.ensures.found in
+    (_, other_decodes c.args.bytes.now _ _ _ _ _ x.0.0 x.0.1 c.in_ok-flag.ensures.found c.in-2.is c.in_ok-memory-in-2.ensures.found c.if-memory-eq0.false x.1)

@@ -1,0 +1,38 @@
+use Rattle.std.proofs.Common.{rules}
+use Rattle.wasm_reader_base.proofs.Faults.{fault_stays}
+use Rattle.wasm_sections.proofs.ImportLaws.{import_no_module, single_no_name, single_no_type, single_decodes, named_decodes, named_none, alike_decodes, alike_no_type, alike_no_names, group_unknown}
+use Rattle.wasm_sections.proofs.import.SkippedImportsSkip.skip.Goals as goal
+
+pub returns-in_err-_module-clause-none : goal.returns-in_err-_module-clause-none
+returns-in_err-_module-clause-none g c = fault_stays c.from_residual.result _ c.from_residual.ensures.1 λ n. import_no_module c.args.bytes.now (c.in_err-_module.ensures.none n)
+
+pub returns-in_err-_name-clause-none : goal.returns-in_err-_name-clause-none
+returns-in_err-_name-clause-none g c = fault_stays c.from_residual-in_err-_name.result _ c.from_residual-in_err-_name.ensures.1 λ n. single_no_name c.args.bytes.now _ _ c.in_ok-_module.ensures.found c.in_default.ensures (c.in_err-_name.ensures.none n)
+
+pub returns-in_err-_type-clause-none : goal.returns-in_err-_type-clause-none
+returns-in_err-_type-clause-none g c = fault_stays c.from_residual-in_err-_type.result _ c.from_residual-in_err-_type.ensures.1 λ n. single_no_type c.args.bytes.now _ _ _ _ c.in_ok-_module.ensures.found c.in_default.ensures c.in_ok-_name.ensures.found (c.in_err-_type.ensures.none n)
+
+pub returns-in_default-clause-found : goal.returns-in_default-clause-found
+returns-in_default-clause-found g c = (_, single_decodes c.args.bytes.now _ _ _ _ _ _ c.in_ok-_module.ensures.found c.in_ok-_name.ensures.found c.in_ok-_type.ensures.found)
+
+pub returns-in_err-_count-in-127-clause-none : goal.returns-in_err-_count-in-127-clause-none
+returns-in_err-_count-in-127-clause-none g c = fault_stays c.from_residual-in_err-_count-in-127.result _ c.from_residual-in_err-_count-in-127.ensures.1 λ n. named_none c.args.bytes.now _ _ _ _ c.in_ok-_module.ensures.found c.in-Some.ensures.0 c.in-127.is (c.in_err-_count-in-127.ensures.none n)
+
+pub returns-in_err-_type-in-126-clause-none : goal.returns-in_err-_type-in-126-clause-none
+returns-in_err-_type-in-126-clause-none g c = fault_stays c.from_residual-in_err-_type-in-126.result _ c.from_residual-in_err-_type-in-126.ensures.1 λ n. alike_no_type c.args.bytes.now _ _ _ _ c.in_ok-_module.ensures.found c.in-Some.ensures.0 c.in-126.is (c.in_err-_type-in-126.ensures.none n)
+
+pub returns-in_err-_count-in-126-clause-none : goal.returns-in_err-_count-in-126-clause-none
+returns-in_err-_count-in-126-clause-none g c = fault_stays c.from_residual-in_err-_count-in-126.result _ c.from_residual-in_err-_count-in-126.ensures.1 λ n. alike_no_names c.args.bytes.now _ _ _ _ _ _ c.in_ok-_module.ensures.found c.in-Some.ensures.0 c.in-126.is c.in_ok-_type-in-126.ensures.found (c.in_err-_count-in-126.ensures.none n)
+
+pub returns-in_ok-_count-in-127-clause-found : goal.returns-in_ok-_count-in-127-clause-found
+returns-in_ok-_count-in-127-clause-found g c =
+    let xs = c.in_ok-_count-in-127.ensures.found in
+    (_, named_decodes c.args.bytes.now _ _ _ _ _ xs.0 c.in_ok-_module.ensures.found c.in-Some.ensures.0 c.in-127.is xs.1)
+
+pub returns-in_ok-_count-in-126-clause-found : goal.returns-in_ok-_count-in-126-clause-found
+returns-in_ok-_count-in-126-clause-found g c =
+    let xs = c.in_ok-_count-in-126.ensures.found in
+    (_, alike_decodes c.args.bytes.now _ _ _ _ _ _ _ xs.0 c.in_ok-_module.ensures.found c.in-Some.ensures.0 c.in-126.is c.in_ok-_type-in-126.ensures.found xs.1)
+
+pub returns-in_default-kind-clause-none : goal.returns-in_default-kind-clause-none
+returns-in_default-kind-clause-none g c = λ n. group_unknown c.args.bytes.now _ _ _ _ c.in_ok-_module.ensures.found c.in-Some.ensures.0 c.in-Some.ensures.1 (search rules) (search rules)

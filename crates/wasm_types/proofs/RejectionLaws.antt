@@ -1,0 +1,85 @@
+-- This file proves that certain bytes are not a type section.
+use Rattle.std.proofs.Common.{◌≡◌, ℕ, ◌<◌, List, [], ◌∷◌, ◌++◌, length, Bool, true, false, refl, sym, subst, ◌∙◌, append-nil, arith}
+use Rattle.wasm_base.specs.Entries.{counted_format}
+use Rattle.wasm_base.specs.Formats.{Format, u32, byte, tagged, vec, coded, Then}
+use Rattle.wasm_base.specs.Laws.{RejectsAllAfterPadded}
+use Rattle.wasm_base.specs.Numbers.{padded}
+use Rattle.wasm_base.specs.Decoding.{Unambiguous}
+use Rattle.wasm_base.specs.declared.types.ValType.TheVariants.{I32}
+use Rattle.wasm_base.proofs.BaseLaws.{vec_u32_unambiguous}
+use Rattle.wasm_base.proofs.FormatLaws.{byte_unambiguous, vec_of_one, then_at, tagged_at}
+use Rattle.wasm_base.proofs.RejectionLaws.{rejects_padded, one_item}
+use Rattle.wasm_base.proofs.NumberLaws.{u32_small}
+use Rattle.wasm_types.specs.RecTypes.{TypeItem, mutable_code, storage_type, field_type, after_type, type_item}
+use Rattle.wasm_types.specs.declared.types.FieldType.{FieldType}
+use Rattle.wasm_types.specs.declared.types.StorageType.TheVariants.{Val}
+use Rattle.wasm_types.proofs.TypeLaws.{storage_unambiguous, val_storage, types_section}
+use Rattle.wasm_base.proofs.SectionLaws.{unambiguous}
+
+-- ---- the suffix of a known front, up to the last byte
+
+behind_byte : {X : Type 0} {G : ℕ → Format X} (b : ℕ) (rest : List ℕ) (x : X) → tagged byte G padded (b ∷ rest) x → G b padded rest x
+behind_byte {G = G} b rest x h =
+    let found = tagged_at {F = byte} {G = G} byte_unambiguous padded (b ∷ []) b refl rest (b ∷ rest) [] x (sym (append-nil (b ∷ rest))) h in
+    subst (λ s. G b padded s x) (sym (found.1 ∙ append-nil found.0)) found.2
+
+behind_first : {X Y : Type 0} {F : Format X} {G : Format Y} → Unambiguous F → (a : List ℕ) (x : X) → F padded a x → (rest : List ℕ) (p : X × Y) → Then F (λ x. G) padded (a ++ rest) p → G padded rest p.1
+behind_first {F = F} {G = G} k a x known rest p h =
+    let found = then_at {F = F} {G = λ x. G} k padded a x known rest (a ++ rest) [] p (sym (append-nil (a ++ rest))) h in
+    subst (λ s. G padded s p.1) (sym (found.1 ∙ append-nil found.0)) found.2
+
+-- ---- a structure whose field has the mutability 2
+
+no_mutability : (m : Bool) → 2 ∷ [] ≡ mutable_code m ∷ [] → ⊥
+no_mutability false e = let two : ◌≡◌ {A = ℕ} 2 0 = cc e in omega (arith, two)
+no_mutability true e = let two : ◌≡◌ {A = ℕ} 2 1 = cc e in omega (arith, two)
+
+number : storage_type padded (0x7F ∷ []) (Val I32)
+number = val_storage padded (0x7F ∷ []) I32 ((0x7F, I32), refl, record { front = 0x7F ∷ []; back = []; joined = refl; first = refl; second = (refl, refl) })
+
+no_field : (x : FieldType) → field_type padded (0x7F ∷ 0x02 ∷ []) x → ⊥
+no_field x h = no_mutability h.0.1 (behind_first {F = storage_type} {G = coded mutable_code} storage_unambiguous (0x7F ∷ []) (Val I32) number (0x02 ∷ []) h.0 h.2)
+
+no_structure : (x : TypeItem) → type_item padded (0x5F ∷ 0x01 ∷ 0x7F ∷ 0x02 ∷ []) x → ⊥
+no_structure x h =
+    let shape = behind_byte {G = after_type} 0x5F (0x01 ∷ 0x7F ∷ 0x02 ∷ []) x h in
+    let fields = shape.2.2.2.2.2 in
+    let one = vec_of_one {F = field_type} padded (0x7F ∷ 0x02 ∷ []) fields.0 (u32_small padded 1 (omega arith)) fields.2 in
+    no_field one.0 one.1
+
+pub mutability_of_2 : RejectsAllAfterPadded (counted_format type_item) (5 ∷ 1 ∷ 95 ∷ 1 ∷ 127 ∷ 2 ∷ [])
+mutability_of_2 =
+    rejects_padded {F = counted_format type_item} (5 ∷ 1 ∷ 95 ∷ 1 ∷ 127 ∷ 2 ∷ []) (unambiguous types_section)
+    (λ after rest xs h. let x = one_item {F = type_item} 5 (95 ∷ 1 ∷ 127 ∷ 2 ∷ []) after rest h.front xs (omega arith) refl h.split h.encodes in no_structure x.0 x.1)
+
+-- ---- a group whose tag is padded
+
+no_group : (x : TypeItem) → type_item padded (0xCE ∷ 0x00 ∷ 0x00 ∷ []) x → ⊥
+no_group x h =
+    let none = behind_byte {G = after_type} 0xCE (0x00 ∷ 0x00 ∷ []) x h in
+    absurd none.2.2.2.2.2
+
+pub padded_group : RejectsAllAfterPadded (counted_format type_item) (4 ∷ 1 ∷ 206 ∷ 0 ∷ 0 ∷ [])
+padded_group =
+    rejects_padded {F = counted_format type_item} (4 ∷ 1 ∷ 206 ∷ 0 ∷ 0 ∷ []) (unambiguous types_section)
+    (λ after rest xs h. let x = one_item {F = type_item} 4 (206 ∷ 0 ∷ 0 ∷ []) after rest h.front xs (omega arith) refl h.split h.encodes in no_group x.0 x.1)
+
+-- ---- a final type that is encoded with an empty list of supertypes
+
+no_indices : vec u32 padded (0 ∷ []) []
+no_indices = record { front = 0 ∷ []; back = []; joined = refl; first = u32_small padded 0 (omega arith); second = refl }
+
+no_final : (x : TypeItem) → type_item padded (0x4F ∷ 0x00 ∷ 0x5F ∷ 0x00 ∷ []) x → ⊥
+no_final x h =
+    let sub = behind_byte {G = after_type} 0x4F (0x00 ∷ 0x5F ∷ 0x00 ∷ []) x h in
+    let parts = sub.2.2.0 in
+    let none = vec_u32_unambiguous.unique padded (0 ∷ []) parts.front (0x5F ∷ 0x00 ∷ []) parts.back [] sub.2.0.0 no_indices parts.first parts.joined in
+    let some : 0 < length {A = ℕ} [] = subst (λ xs. 0 < length xs) (sym none.0) sub.2.2.1 in
+    omega (arith, some)
+
+pub no_supertypes : RejectsAllAfterPadded (counted_format type_item) (5 ∷ 1 ∷ 79 ∷ 0 ∷ 95 ∷ 0 ∷ [])
+no_supertypes =
+    rejects_padded {F = counted_format type_item} (5 ∷ 1 ∷ 79 ∷ 0 ∷ 95 ∷ 0 ∷ []) (unambiguous types_section)
+    (λ after rest xs h. let x = one_item {F = type_item} 5 (79 ∷ 0 ∷ 95 ∷ 0 ∷ []) after rest h.front xs (omega arith) refl h.split h.encodes in no_final x.0 x.1)
+
+pub ruleset nothing = (mutability_of_2, padded_group, no_supertypes)
