@@ -6,14 +6,14 @@ ghost use Rattle.wasm_custom.specs.Symbols.{indexed_encoding};
 ghost use Rattle.wasm_custom.specs.declared.symbols.SymbolKind.TheVariants as kinds;
 
 use std::alloc::Allocator;
-use wasm_base::R;
+use wasm_base::Result;
 use wasm_custom::{NameMap, NameSection, SymbolTable};
 
 /// Adds names of types, in the subsection 4.
 pub fn name_types<A: Allocator, B: Allocator>(
     section: &mut NameSection<A>,
     names: &NameMap<B>,
-) -> R<()>
+) -> Result<()>
     ensures { OnOk result (section.new ≡ section.old ++ subsection_encoding 4 (list_encoding names.now) ∷ []) }
 {
     section.types(names)
@@ -23,7 +23,7 @@ pub fn name_types<A: Allocator, B: Allocator>(
 pub fn name_tables<A: Allocator, B: Allocator>(
     section: &mut NameSection<A>,
     names: &NameMap<B>,
-) -> R<()>
+) -> Result<()>
     ensures { OnOk result (section.new ≡ section.old ++ subsection_encoding 5 (list_encoding names.now) ∷ []) }
 {
     section.tables(names)
@@ -33,7 +33,7 @@ pub fn name_tables<A: Allocator, B: Allocator>(
 pub fn name_memories<A: Allocator, B: Allocator>(
     section: &mut NameSection<A>,
     names: &NameMap<B>,
-) -> R<()>
+) -> Result<()>
     ensures { OnOk result (section.new ≡ section.old ++ subsection_encoding 6 (list_encoding names.now) ∷ []) }
 {
     section.memories(names)
@@ -43,7 +43,7 @@ pub fn name_memories<A: Allocator, B: Allocator>(
 pub fn name_globals<A: Allocator, B: Allocator>(
     section: &mut NameSection<A>,
     names: &NameMap<B>,
-) -> R<()>
+) -> Result<()>
     ensures { OnOk result (section.new ≡ section.old ++ subsection_encoding 7 (list_encoding names.now) ∷ []) }
 {
     section.globals(names)
@@ -53,7 +53,7 @@ pub fn name_globals<A: Allocator, B: Allocator>(
 pub fn name_elements<A: Allocator, B: Allocator>(
     section: &mut NameSection<A>,
     names: &NameMap<B>,
-) -> R<()>
+) -> Result<()>
     ensures { OnOk result (section.new ≡ section.old ++ subsection_encoding 8 (list_encoding names.now) ∷ []) }
 {
     section.elements(names)
@@ -63,7 +63,7 @@ pub fn name_elements<A: Allocator, B: Allocator>(
 pub fn name_tags<A: Allocator, B: Allocator>(
     section: &mut NameSection<A>,
     names: &NameMap<B>,
-) -> R<()>
+) -> Result<()>
     ensures { OnOk result (section.new ≡ section.old ++ subsection_encoding 11 (list_encoding names.now) ∷ []) }
 {
     section.tag(names)
@@ -71,14 +71,14 @@ pub fn name_tags<A: Allocator, B: Allocator>(
 
 /// Adds a global that another module defines: its flags say that it is not defined here, and it has
 /// no name.
-pub fn import_global<A: Allocator>(table: &mut SymbolTable<A>, index: u32) -> R<()>
+pub fn import_global<A: Allocator>(table: &mut SymbolTable<A>, index: u32) -> Result<()>
     ensures { OnOk result (table.new ≡ table.old ++ indexed_encoding kinds.Global 0x10 index [] ∷ []) }
 {
     table.global(0x10, index, None)
 }
 
 /// Adds a table that another module defines.
-pub fn import_table<A: Allocator>(table: &mut SymbolTable<A>, index: u32) -> R<()>
+pub fn import_table<A: Allocator>(table: &mut SymbolTable<A>, index: u32) -> Result<()>
     ensures { OnOk result (table.new ≡ table.old ++ indexed_encoding kinds.Table 0x10 index [] ∷ []) }
 {
     table.table(0x10, index, None)

@@ -4,7 +4,7 @@ ghost use Rattle.wasm_sections.specs.GivenElements.{list_in, segment_in};
 ghost use Rattle.wasm_sections.specs.Imports.{imports_item};
 
 use std::alloc::Allocator;
-use wasm_base::R;
+use wasm_base::Result;
 use wasm_sections::{
     DataSegmentMode, ElementMode, ElementSegment, Elements, FunctionSection, Imports,
 };
@@ -12,14 +12,14 @@ use wasm_sections::{
 /// Returns a function section of the same entries.
 pub fn copied_functions<A: Allocator + Copy>(
     functions: &FunctionSection<A>,
-) -> R<FunctionSection<A>>
+) -> Result<FunctionSection<A>>
     ensures { IfOk result (λ copy. copy ≡ functions.now) }
 {
     functions.clone()
 }
 
 /// Returns the same import or group of imports.
-pub fn copied_imports<'a, A: Allocator + Copy>(imports: &Imports<'a, A>) -> R<Imports<'a, A>>
+pub fn copied_imports<'a, A: Allocator + Copy>(imports: &Imports<'a, A>) -> Result<Imports<'a, A>>
     ensures { IfOk result (λ copy. imports_item copy ≡ imports_item imports.now) }
 {
     imports.clone()
@@ -28,21 +28,21 @@ pub fn copied_imports<'a, A: Allocator + Copy>(imports: &Imports<'a, A>) -> R<Im
 /// Returns the same mode of a data segment.
 pub fn copied_data_mode<'a, A: Allocator>(
     mode: &DataSegmentMode<'a, A>,
-) -> R<DataSegmentMode<'a, A>>
+) -> Result<DataSegmentMode<'a, A>>
     ensures { IfOk result (λ copy. copy ≡ mode.now) }
 {
     mode.clone()
 }
 
 /// Returns the same mode of an element segment.
-pub fn copied_element_mode<'a, A: Allocator>(offset: &ElementMode<'a, A>) -> R<ElementMode<'a, A>>
+pub fn copied_element_mode<'a, A: Allocator>(offset: &ElementMode<'a, A>) -> Result<ElementMode<'a, A>>
     ensures { IfOk result (λ copy. copy ≡ offset.now) }
 {
     offset.clone()
 }
 
 /// Returns references to the same functions, or by the same expressions.
-pub fn copied_elements<'a, A: Allocator + Copy>(elements: &Elements<'a, A>) -> R<Elements<'a, A>>
+pub fn copied_elements<'a, A: Allocator + Copy>(elements: &Elements<'a, A>) -> Result<Elements<'a, A>>
     ensures { IfOk result (λ copy. list_in copy ≡ list_in elements.now) }
 {
     elements.clone()
@@ -51,7 +51,7 @@ pub fn copied_elements<'a, A: Allocator + Copy>(elements: &Elements<'a, A>) -> R
 /// Returns a segment of the same mode and references.
 pub fn copied_element_segment<'a, A: Allocator + Copy>(
     segment: &ElementSegment<'a, A>,
-) -> R<ElementSegment<'a, A>>
+) -> Result<ElementSegment<'a, A>>
     ensures { IfOk result (λ copy. segment_in copy ≡ segment_in segment.now) }
 {
     segment.clone()

@@ -8,13 +8,13 @@ ghost use Rattle.wasm_sections.specs.Tables.{table_item};
 ghost use Rattle.callers.specs.FirstValues.{copied, null_table, nulled_table};
 
 use std::alloc::Allocator;
-use wasm_base::{Encode, HeapType, R, RefType, ValType};
+use wasm_base::{Encode, HeapType, RefType, Result, ValType};
 use wasm_code::ConstExpr;
 use wasm_sections::{GlobalSection, GlobalType, TableSection, TableType};
 
 /// Appends a global section of one immutable global, which has the value of the global at the
 /// index.
-pub fn encode_copied<A: Allocator + Copy>(sink: &mut Vec<u8, A>, index: u32) -> R<()>
+pub fn encode_copied<A: Allocator + Copy>(sink: &mut Vec<u8, A>, index: u32) -> Result<()>
     ensures { OnOk result (GainsDecoding (counted_format global_item) (copied index ∷ []) sink.old.items sink.new.items) }
 {
     let alloc = *sink.allocator();
@@ -29,7 +29,7 @@ pub fn encode_copied<A: Allocator + Copy>(sink: &mut Vec<u8, A>, index: u32) -> 
 }
 
 /// Appends a table section of two tables of functions, all initially null.
-pub fn encode_null_tables<A: Allocator + Copy>(sink: &mut Vec<u8, A>, minimum: u64) -> R<()>
+pub fn encode_null_tables<A: Allocator + Copy>(sink: &mut Vec<u8, A>, minimum: u64) -> Result<()>
     ensures { OnOk result (GainsDecoding (counted_format table_item) (null_table minimum ∷ nulled_table minimum ∷ []) sink.old.items sink.new.items) }
 {
     let alloc = *sink.allocator();

@@ -7,7 +7,7 @@ ghost use Rattle.wasm_custom.specs.CoreStacks.{stack_name};
 ghost use Rattle.wasm_custom.specs.Entries.{entries_encoding};
 
 use std::alloc::Allocator;
-use wasm_base::{R, ValType};
+use wasm_base::{Result, ValType};
 use wasm_code::ConstExpr;
 use wasm_custom::{
     CoreDumpInstancesSection, CoreDumpModulesSection, CoreDumpStackSection, CustomSection,
@@ -17,21 +17,21 @@ use wasm_insn::{Instruction, VectorImmediate};
 use wasm_types::FuncType;
 
 /// Returns a constant of 32 bits.
-pub fn single_constant<A: Allocator>(alloc: A, float: Ieee32) -> R<ConstExpr<A>>
+pub fn single_constant<A: Allocator>(alloc: A, float: Ieee32) -> Result<ConstExpr<A>>
     ensures { IfOk result (Stores (Instruction.F32Const float) []) }
 {
     ConstExpr::f32_const(alloc, float)
 }
 
 /// Returns a constant of 64 bits.
-pub fn double_constant<A: Allocator>(alloc: A, float: Ieee64) -> R<ConstExpr<A>>
+pub fn double_constant<A: Allocator>(alloc: A, float: Ieee64) -> Result<ConstExpr<A>>
     ensures { IfOk result (Stores (Instruction.F64Const float) []) }
 {
     ConstExpr::f64_const(alloc, float)
 }
 
 /// Returns a constant of 128 bits.
-pub fn vector_constant<A: Allocator>(alloc: A, vector: i128) -> R<ConstExpr<A>>
+pub fn vector_constant<A: Allocator>(alloc: A, vector: i128) -> Result<ConstExpr<A>>
     ensures { IfOk result (Stores (Instruction.VectorImmediate (VectorImmediate.V128Const vector)) []) }
 {
     ConstExpr::v128_const(alloc, vector)
@@ -49,7 +49,7 @@ pub fn function_type<A: Allocator>(params: Vec<ValType, A>, results: Vec<ValType
 pub fn custom_modules<'a, A: Allocator, B: Allocator>(
     modules: &'a CoreDumpModulesSection<A>,
     alloc: B,
-) -> R<CustomSection<'a, B>>
+) -> Result<CustomSection<'a, B>>
     ensures { IfOk result (λ s. (encoding_of s.name ≡ modules_name) × (items_of s.bytes ≡ entries_encoding [] true modules.now)) }
 {
     modules.as_custom(alloc)
@@ -59,7 +59,7 @@ pub fn custom_modules<'a, A: Allocator, B: Allocator>(
 pub fn custom_instances<'a, A: Allocator, B: Allocator>(
     instances: &'a CoreDumpInstancesSection<A>,
     alloc: B,
-) -> R<CustomSection<'a, B>>
+) -> Result<CustomSection<'a, B>>
     ensures { IfOk result (λ s. (encoding_of s.name ≡ instances_name) × (items_of s.bytes ≡ entries_encoding [] true instances.now)) }
 {
     instances.as_custom(alloc)
@@ -69,7 +69,7 @@ pub fn custom_instances<'a, A: Allocator, B: Allocator>(
 pub fn custom_stack<'a, A: Allocator, B: Allocator>(
     stack: &'a CoreDumpStackSection<A>,
     alloc: B,
-) -> R<CustomSection<'a, B>>
+) -> Result<CustomSection<'a, B>>
     ensures { IfOk result (λ s. (encoding_of s.name ≡ stack_name) × (items_of s.bytes ≡ entries_encoding stack.now.0 true stack.now.1)) }
 {
     stack.as_custom(alloc)

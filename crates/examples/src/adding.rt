@@ -9,13 +9,13 @@ ghost use Rattle.wasm_types.specs.RecTypes.{ContainsTypes};
 ghost use Rattle.examples.specs.Adding.{adding_sections, adding_type, add_export, adding_body};
 
 use std::alloc::Allocator;
-use wasm_base::{Module, R, ValType};
+use wasm_base::{Module, Result, ValType};
 use wasm_code::{CodeSection, Function};
 use wasm_sections::{ExportKind, ExportSection, FunctionSection};
 use wasm_types::TypeSection;
 
 /// Returns a module that exports, as `add`, the sum of two numbers.
-pub fn adding_module<A: Allocator + Copy>(alloc: A) -> R<Vec<u8, A>>
+pub fn adding_module<A: Allocator + Copy>(alloc: A) -> Result<Vec<u8, A>>
     ensures { IfOk result (λ bytes. DecodesSections adding_sections bytes.items) }
 {
     let mut module = Module::new(alloc)?;
@@ -27,7 +27,7 @@ pub fn adding_module<A: Allocator + Copy>(alloc: A) -> R<Vec<u8, A>>
 }
 
 /// Returns the type of the function.
-fn types<A: Allocator + Copy>(alloc: A) -> R<TypeSection<A>>
+fn types<A: Allocator + Copy>(alloc: A) -> Result<TypeSection<A>>
     ensures { IfOk result (λ section. ContainsTypes section (adding_type ∷ [])) }
 {
     let mut section = TypeSection::new(alloc);
@@ -38,7 +38,7 @@ fn types<A: Allocator + Copy>(alloc: A) -> R<TypeSection<A>>
 }
 
 /// The function is of the type 0.
-fn functions<A: Allocator + Copy>(alloc: A) -> R<FunctionSection<A>>
+fn functions<A: Allocator + Copy>(alloc: A) -> Result<FunctionSection<A>>
     ensures { IfOk result (λ section. ContainsFunctions section (0 ∷ [])) }
 {
     let mut section = FunctionSection::new(alloc);
@@ -47,7 +47,7 @@ fn functions<A: Allocator + Copy>(alloc: A) -> R<FunctionSection<A>>
 }
 
 /// Exports the function 0 as `add`.
-fn exports<A: Allocator + Copy>(alloc: A) -> R<ExportSection<A>>
+fn exports<A: Allocator + Copy>(alloc: A) -> Result<ExportSection<A>>
     ensures { IfOk result (λ section. ContainsExports section (add_export ∷ [])) }
 {
     let mut section = ExportSection::new(alloc);
@@ -56,7 +56,7 @@ fn exports<A: Allocator + Copy>(alloc: A) -> R<ExportSection<A>>
 }
 
 /// Returns the body of the function.
-fn code<A: Allocator + Copy>(alloc: A) -> R<CodeSection<A>>
+fn code<A: Allocator + Copy>(alloc: A) -> Result<CodeSection<A>>
     ensures { IfOk result (λ section. EncodesBodies section (adding_body ∷ [])) }
 {
     let mut section = CodeSection::new(alloc);
@@ -65,7 +65,7 @@ fn code<A: Allocator + Copy>(alloc: A) -> R<CodeSection<A>>
 }
 
 /// Returns the sum of the two parameters.
-fn sum<A: Allocator>(alloc: A) -> R<Function<A>>
+fn sum<A: Allocator>(alloc: A) -> Result<Function<A>>
     ensures { IfOk result (λ function. IsWellFormedBody function adding_body) }
 {
     let mut function = Function::new(alloc, [])?;

@@ -4,11 +4,11 @@ ghost use Rattle.wasm_code.specs.Bodies.{IsWellFormedBody};
 ghost use Rattle.examples.specs.Bodies.{first_body, local_body};
 
 use std::alloc::Allocator;
-use wasm_base::{R, ValType};
+use wasm_base::{Result, ValType};
 use wasm_code::Function;
 
 /// Returns a function of one local, which does nothing.
-pub(crate) fn first_function<A: Allocator>(alloc: A) -> R<Function<A>>
+pub(crate) fn first_function<A: Allocator>(alloc: A) -> Result<Function<A>>
     ensures { IfOk result (λ function. IsWellFormedBody function first_body) }
 {
     let mut function = Function::new(alloc, [(1, ValType::I32)])?;
@@ -18,7 +18,7 @@ pub(crate) fn first_function<A: Allocator>(alloc: A) -> R<Function<A>>
 }
 
 /// Returns a function that returns the local of this index.
-pub(crate) fn local_function<A: Allocator>(alloc: A, index: u32) -> R<Function<A>>
+pub(crate) fn local_function<A: Allocator>(alloc: A, index: u32) -> Result<Function<A>>
     ensures { IfOk result (λ function. IsWellFormedBody function (local_body index)) }
 {
     let mut function = Function::new(alloc, [])?;

@@ -13,7 +13,7 @@ ghost use Rattle.examples.specs.Lowering.{body_of};
 use crate::lowering::{Operation, Operator, compile};
 use crate::trees::{Expr, Statement, compile_tree};
 use std::alloc::Allocator;
-use wasm_base::{Module, R, ValType};
+use wasm_base::{Module, Result, ValType};
 use wasm_code::{CodeSection, Function};
 use wasm_sections::{ExportKind, ExportSection, FunctionSection};
 use wasm_types::TypeSection;
@@ -68,7 +68,7 @@ const SQUARES: [Operation; 19] = [
 
 /// Returns a module that exports a factorial, compiled from a tree, and a sum of squares, compiled
 /// from operations. Both have a loop, and call a third function.
-pub fn compiled_module<A: Allocator + Copy>(alloc: A) -> R<Vec<u8, A>>
+pub fn compiled_module<A: Allocator + Copy>(alloc: A) -> Result<Vec<u8, A>>
     ensures { IfOk result (λ bytes. DecodesSections compiled_sections bytes.items) }
 {
     let mut module = Module::new(alloc)?;
@@ -80,7 +80,7 @@ pub fn compiled_module<A: Allocator + Copy>(alloc: A) -> R<Vec<u8, A>>
 }
 
 /// Returns the types of the functions: of two numbers, and of one.
-fn types<A: Allocator + Copy>(alloc: A) -> R<TypeSection<A>>
+fn types<A: Allocator + Copy>(alloc: A) -> Result<TypeSection<A>>
     ensures { IfOk result (λ section. ContainsTypes section (adding_type ∷ one_number ∷ [])) }
 {
     let mut section = TypeSection::new(alloc);
@@ -92,7 +92,7 @@ fn types<A: Allocator + Copy>(alloc: A) -> R<TypeSection<A>>
 }
 
 /// The product is of the type 0, and the others are of the type 1.
-fn functions<A: Allocator + Copy>(alloc: A) -> R<FunctionSection<A>>
+fn functions<A: Allocator + Copy>(alloc: A) -> Result<FunctionSection<A>>
     ensures { IfOk result (λ section. ContainsFunctions section (0 ∷ 1 ∷ 1 ∷ [])) }
 {
     let mut section = FunctionSection::new(alloc);
@@ -103,7 +103,7 @@ fn functions<A: Allocator + Copy>(alloc: A) -> R<FunctionSection<A>>
 }
 
 /// Exports the functions 1 and 2.
-fn exports<A: Allocator + Copy>(alloc: A) -> R<ExportSection<A>>
+fn exports<A: Allocator + Copy>(alloc: A) -> Result<ExportSection<A>>
     ensures { IfOk result (λ section. ContainsExports section (factorial_of ∷ squares_of ∷ [])) }
 {
     let mut section = ExportSection::new(alloc);
@@ -113,7 +113,7 @@ fn exports<A: Allocator + Copy>(alloc: A) -> R<ExportSection<A>>
 }
 
 /// Returns the bodies of the three functions.
-fn code<A: Allocator + Copy>(alloc: A) -> R<CodeSection<A>>
+fn code<A: Allocator + Copy>(alloc: A) -> Result<CodeSection<A>>
     ensures { IfOk result (λ section. EncodesBodies section compiled_bodies) }
 {
     let mut section = CodeSection::new(alloc);
@@ -124,7 +124,7 @@ fn code<A: Allocator + Copy>(alloc: A) -> R<CodeSection<A>>
 }
 
 /// Returns the compiled factorial.
-fn compiled_factorial<A: Allocator>(alloc: A) -> R<Function<A>>
+fn compiled_factorial<A: Allocator>(alloc: A) -> Result<Function<A>>
     ensures { IfOk result (λ function. IsWellFormedBody function (body_of 1 factorial_operations)) }
 {
     compile_tree(alloc, 1, &FACTORIAL)

@@ -8,14 +8,14 @@ ghost use Rattle.examples.specs.Filled.{three_places, ready_at_0, bytes_at_8, by
 
 use crate::whole::{imports, memories};
 use std::alloc::Allocator;
-use wasm_base::{CowSlice, Module, R, RawSection, RefType};
+use wasm_base::{CowSlice, Module, RawSection, RefType, Result};
 use wasm_code::ConstExpr;
 use wasm_sections::{
     DataCountSection, DataSection, ElementSection, Elements, TableSection, TableType,
 };
 
 /// Returns a module that copies an imported function to a table, and bytes to a memory.
-pub fn filled_module<A: Allocator + Copy>(alloc: A, bytes: &[u8]) -> R<Vec<u8, A>>
+pub fn filled_module<A: Allocator + Copy>(alloc: A, bytes: &[u8]) -> Result<Vec<u8, A>>
     ensures { IfOk result (λ made. DecodesSections (filled_sections bytes.now) made.items) }
 {
     let mut module = Module::new(alloc)?;
@@ -27,7 +27,7 @@ pub fn filled_module<A: Allocator + Copy>(alloc: A, bytes: &[u8]) -> R<Vec<u8, A
 }
 
 /// Adds the imported function, the table and the memory.
-fn add_empty<A: Allocator + Copy>(built: &mut Module<A>, alloc: A) -> R<()>
+fn add_empty<A: Allocator + Copy>(built: &mut Module<A>, alloc: A) -> Result<()>
     ensures { DecodesSections [] built.old → OnOk result (DecodesSections empty_sections built.new) }
 {
     built.section(&RawSection {
@@ -41,7 +41,7 @@ fn add_empty<A: Allocator + Copy>(built: &mut Module<A>, alloc: A) -> R<()>
 }
 
 /// Returns a table of three functions.
-fn tables<A: Allocator + Copy>(alloc: A) -> R<TableSection<A>>
+fn tables<A: Allocator + Copy>(alloc: A) -> Result<TableSection<A>>
     ensures { IfOk result (λ section. ContainsTables section (three_places ∷ [])) }
 {
     let mut section = TableSection::new(alloc);
@@ -56,7 +56,7 @@ fn tables<A: Allocator + Copy>(alloc: A) -> R<TableSection<A>>
 }
 
 /// Returns a segment of the function 0, at the front of the table.
-fn elements<A: Allocator + Copy>(alloc: A) -> R<ElementSection<A>>
+fn elements<A: Allocator + Copy>(alloc: A) -> Result<ElementSection<A>>
     ensures { IfOk result (λ section. ContainsElements section (ready_at_0 ∷ [])) }
 {
     let mut section = ElementSection::new(alloc);
@@ -68,7 +68,7 @@ fn elements<A: Allocator + Copy>(alloc: A) -> R<ElementSection<A>>
 
 /// Returns a segment of the bytes at the offset 8, and another for a later call.
 #[tactic(auto, using(wasm_base::proofs::KnownLengths::drained_array, wasm_base::proofs::KnownLengths::drained_copied))]
-fn segments<A: Allocator + Copy>(alloc: A, bytes: &[u8]) -> R<DataSection<A>>
+fn segments<A: Allocator + Copy>(alloc: A, bytes: &[u8]) -> Result<DataSection<A>>
     ensures { IfOk result (λ section. ContainsSegments section (bytes_at_8 bytes.now ∷ bytes_later ∷ [])) }
 {
     let mut section = DataSection::new(alloc);

@@ -11,7 +11,7 @@ ghost use Rattle.wasm_sections.specs.Memories.{IsMemory, memory_type};
 
 use std::alloc::Allocator;
 use wasm_base::laws::plain_name;
-use wasm_base::{Encode, R, add_all};
+use wasm_base::{Encode, Result, add_all};
 use wasm_code::Function;
 use wasm_insn::Instruction;
 use wasm_insn::laws::{plain_instruction, plain_instructions};
@@ -20,7 +20,7 @@ use wasm_sections::{Import, ImportSection, MemorySection, MemoryType};
 
 /// Adds an instruction that the caller passes. The only requirement is that its alignments are
 /// below 16.
-pub fn grow<A: Allocator>(function: &mut Function<A>, instruction: &Instruction<'_>) -> R<()>
+pub fn grow<A: Allocator>(function: &mut Function<A>, instruction: &Instruction<'_>) -> Result<()>
     ensures { OnOk result (HasSmallAlignments instruction.now → (x : Body) → IsWellFormedBody function.old x → IsWellFormedBody function.new (and_then x (normal_row instruction.now ∷ []))) }
 {
     plain_instruction(instruction);
@@ -32,7 +32,7 @@ pub fn grow<A: Allocator>(function: &mut Function<A>, instruction: &Instruction<
 pub fn grow_by_each<A: Allocator>(
     function: &mut Function<A>,
     instructions: &[Instruction<'_>],
-) -> R<()>
+) -> Result<()>
     ensures { OnOk result (All HasSmallAlignments instructions.now → (x : Body) → IsWellFormedBody function.old x → IsWellFormedBody function.new (and_then x (map normal_row instructions.now))) }
 {
     plain_instructions(instructions);
@@ -43,7 +43,7 @@ pub fn grow_by_each<A: Allocator>(
 }
 
 /// Appends an import section of one import that the caller passes.
-pub fn encode_given_import<A: Allocator + Copy>(sink: &mut Vec<u8, A>, import: &Import<'_>) -> R<()>
+pub fn encode_given_import<A: Allocator + Copy>(sink: &mut Vec<u8, A>, import: &Import<'_>) -> Result<()>
     ensures { OnOk result (GainsDecoding (counted_format import_format) (import_item import.now ∷ []) sink.old.items sink.new.items) }
 {
     plain_name(import.module);
@@ -55,7 +55,7 @@ pub fn encode_given_import<A: Allocator + Copy>(sink: &mut Vec<u8, A>, import: &
 }
 
 /// Appends a memory section of the memories of a list.
-pub fn encode_memories<A: Allocator + Copy>(sink: &mut Vec<u8, A>, memories: &[MemoryType]) -> R<()>
+pub fn encode_memories<A: Allocator + Copy>(sink: &mut Vec<u8, A>, memories: &[MemoryType]) -> Result<()>
     ensures { OnOk result (GainsDecoding (counted_format memory_type) memories.now sink.old.items sink.new.items) }
 {
     plain_memories(memories);

@@ -6,13 +6,13 @@ ghost use Rattle.wasm_sections.specs.Memories.{ContainsMemories};
 ghost use Rattle.examples.specs.Large.{large_memory, large_constant, large_sections};
 
 use std::alloc::Allocator;
-use wasm_base::{Module, R, ValType};
+use wasm_base::{Module, Result, ValType};
 use wasm_code::ConstExpr;
 use wasm_sections::{GlobalSection, GlobalType, MemorySection, MemoryType};
 
 /// Returns a module of a memory whose addresses have 64 bits, and of a constant that needs more
 /// than 32.
-pub fn large_module<A: Allocator + Copy>(alloc: A) -> R<Vec<u8, A>>
+pub fn large_module<A: Allocator + Copy>(alloc: A) -> Result<Vec<u8, A>>
     ensures { IfOk result (λ bytes. DecodesSections large_sections bytes.items) }
 {
     let mut module = Module::new(alloc)?;
@@ -22,7 +22,7 @@ pub fn large_module<A: Allocator + Copy>(alloc: A) -> R<Vec<u8, A>>
 }
 
 /// Returns a memory of 1 page, which grows to 8589934592 at most.
-fn memories<A: Allocator + Copy>(alloc: A) -> R<MemorySection<A>>
+fn memories<A: Allocator + Copy>(alloc: A) -> Result<MemorySection<A>>
     ensures { IfOk result (λ section. ContainsMemories section (large_memory ∷ [])) }
 {
     let mut section = MemorySection::new(alloc);
@@ -37,7 +37,7 @@ fn memories<A: Allocator + Copy>(alloc: A) -> R<MemorySection<A>>
 }
 
 /// Returns a global of the number -1099511627776.
-fn globals<A: Allocator + Copy>(alloc: A) -> R<GlobalSection<A>>
+fn globals<A: Allocator + Copy>(alloc: A) -> Result<GlobalSection<A>>
     ensures { IfOk result (λ section. ContainsGlobals section (large_constant ∷ [])) }
 {
     let global_type = GlobalType {

@@ -5,7 +5,7 @@ ghost use Rattle.wasm_insn.specs.Instructions.{IsWellFormedInstruction};
 ghost use Rattle.examples.specs.Lowering.{numeric_of, instruction_of, GainsOperations, body_of};
 
 use std::alloc::Allocator;
-use wasm_base::{R, ValType};
+use wasm_base::{Result, ValType};
 use wasm_code::Function;
 use wasm_immediates::BlockType;
 use wasm_insn::{Instruction, Numeric};
@@ -80,14 +80,14 @@ pub fn lower(operation: Operation) -> Instruction<'static>
 }
 
 /// Adds the instruction of an operation.
-pub(crate) fn emit<A: Allocator>(function: &mut Function<A>, operation: Operation) -> R<()>
+pub(crate) fn emit<A: Allocator>(function: &mut Function<A>, operation: Operation) -> Result<()>
     ensures { OnOk result (GainsOperations (operation ∷ []) function.old function.new) }
 {
     function.instruction(&lower(operation))
 }
 
 /// Adds the instructions of operations.
-fn emit_all<A: Allocator>(function: &mut Function<A>, operations: &[Operation]) -> R<()>
+fn emit_all<A: Allocator>(function: &mut Function<A>, operations: &[Operation]) -> Result<()>
     ensures { OnOk result (GainsOperations operations.now function.old function.new) }
 {
     for operation in operations {
@@ -97,7 +97,7 @@ fn emit_all<A: Allocator>(function: &mut Function<A>, operations: &[Operation]) 
 }
 
 /// Returns a function of these operations, with `locals` locals of 32 bits after its parameters.
-pub fn compile<A: Allocator>(alloc: A, locals: u32, operations: &[Operation]) -> R<Function<A>>
+pub fn compile<A: Allocator>(alloc: A, locals: u32, operations: &[Operation]) -> Result<Function<A>>
     ensures { IfOk result (λ function. IsWellFormedBody function (body_of locals operations.now)) }
 {
     let mut function = Function::new(alloc, [(locals, ValType::I32)])?;

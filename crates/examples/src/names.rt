@@ -8,12 +8,12 @@ ghost use Rattle.examples.specs.Named.{x_at_0, names_of};
 
 use crate::bodies::first_function;
 use std::alloc::Allocator;
-use wasm_base::{Module, R};
+use wasm_base::{Module, Result};
 use wasm_code::CodeSection;
 use wasm_custom::{IndirectNameMap, NameMap, NameSection};
 
 /// Returns a module of one function, which does nothing, and of its names.
-pub fn named_module<A: Allocator + Copy>(alloc: A, name: &str) -> R<Vec<u8, A>>
+pub fn named_module<A: Allocator + Copy>(alloc: A, name: &str) -> Result<Vec<u8, A>>
     ensures { IfOk result (λ bytes. DecodesSections (code_decoding (first_body ∷ []) ∷ name_decoding (names_of name.now) ∷ []) bytes.items) }
 {
     let mut module = Module::new(alloc)?;
@@ -23,7 +23,7 @@ pub fn named_module<A: Allocator + Copy>(alloc: A, name: &str) -> R<Vec<u8, A>>
 }
 
 /// Returns a function of one local.
-fn code<A: Allocator + Copy>(alloc: A) -> R<CodeSection<A>>
+fn code<A: Allocator + Copy>(alloc: A) -> Result<CodeSection<A>>
     ensures { IfOk result (λ section. EncodesBodies section (first_body ∷ [])) }
 {
     let mut section = CodeSection::new(alloc);
@@ -32,7 +32,7 @@ fn code<A: Allocator + Copy>(alloc: A) -> R<CodeSection<A>>
 }
 
 /// Returns the name of the function 0.
-fn functions<A: Allocator + Copy>(alloc: A, name: &str) -> R<NameMap<A>>
+fn functions<A: Allocator + Copy>(alloc: A, name: &str) -> Result<NameMap<A>>
     ensures { IfOk result (λ names. AreNamings names ((0, name.now) ∷ [])) }
 {
     let mut names = NameMap::new(alloc);
@@ -41,7 +41,7 @@ fn functions<A: Allocator + Copy>(alloc: A, name: &str) -> R<NameMap<A>>
 }
 
 /// Returns the name of the local of the function 0.
-fn locals<A: Allocator + Copy>(alloc: A) -> R<IndirectNameMap<A>>
+fn locals<A: Allocator + Copy>(alloc: A) -> Result<IndirectNameMap<A>>
     ensures { IfOk result (λ names. AreInsides names ((0, x_at_0) ∷ [])) }
 {
     let mut inside = NameMap::new(alloc);
@@ -52,7 +52,7 @@ fn locals<A: Allocator + Copy>(alloc: A) -> R<IndirectNameMap<A>>
 }
 
 /// Returns the names of the module, of its function, and of the function's local.
-fn names<A: Allocator + Copy>(alloc: A, name: &str) -> R<NameSection<A>>
+fn names<A: Allocator + Copy>(alloc: A, name: &str) -> Result<NameSection<A>>
     ensures { IfOk result (λ section. ContainsNames section (names_of name.now)) }
 {
     let mut section = NameSection::new(alloc);

@@ -13,7 +13,7 @@ ghost use Rattle.examples.specs.Object.{address_type, count_down_body, unlikely_
 
 use crate::whole::memories;
 use std::alloc::Allocator;
-use wasm_base::{Module, R, ValType};
+use wasm_base::{Module, Result, ValType};
 use wasm_code::{CodeSection, Function};
 use wasm_custom::{
     BranchHint, BranchHints, LinkingSection, ProducersField, ProducersSection, SymbolTable,
@@ -32,7 +32,7 @@ const NUMBER: MemArg = MemArg {
 
 /// Returns a module for a linker: a function that counts down a number in memory, a hint of its
 /// branch, its symbol, and its producer.
-pub fn object_module<A: Allocator + Copy>(alloc: A) -> R<Vec<u8, A>>
+pub fn object_module<A: Allocator + Copy>(alloc: A) -> Result<Vec<u8, A>>
     ensures { IfOk result (λ bytes. DecodesSections object_sections bytes.items) }
 {
     let mut module = Module::new(alloc)?;
@@ -45,7 +45,7 @@ pub fn object_module<A: Allocator + Copy>(alloc: A) -> R<Vec<u8, A>>
 }
 
 /// Adds the types, the functions and the memory.
-fn add_types<A: Allocator + Copy>(module: &mut Module<A>, alloc: A) -> R<()>
+fn add_types<A: Allocator + Copy>(module: &mut Module<A>, alloc: A) -> Result<()>
     ensures { DecodesSections [] module.old → OnOk result (DecodesSections object_types module.new) }
 {
     module.section(&types(alloc)?)?;
@@ -55,7 +55,7 @@ fn add_types<A: Allocator + Copy>(module: &mut Module<A>, alloc: A) -> R<()>
 }
 
 /// Returns the type of the function.
-fn types<A: Allocator + Copy>(alloc: A) -> R<TypeSection<A>>
+fn types<A: Allocator + Copy>(alloc: A) -> Result<TypeSection<A>>
     ensures { IfOk result (λ section. ContainsTypes section (address_type ∷ [])) }
 {
     let mut section = TypeSection::new(alloc);
@@ -64,7 +64,7 @@ fn types<A: Allocator + Copy>(alloc: A) -> R<TypeSection<A>>
 }
 
 /// The function is of the type 0.
-fn functions<A: Allocator + Copy>(alloc: A) -> R<FunctionSection<A>>
+fn functions<A: Allocator + Copy>(alloc: A) -> Result<FunctionSection<A>>
     ensures { IfOk result (λ section. ContainsFunctions section (0 ∷ [])) }
 {
     let mut section = FunctionSection::new(alloc);
@@ -75,7 +75,7 @@ fn functions<A: Allocator + Copy>(alloc: A) -> R<FunctionSection<A>>
 /// The branch of the function 0, at the offset 9 of its raw body, is not likely to be taken. Before
 /// it are the count of locals (1 byte), `block` (2), `local.get` (2), `i32.load` (3) and `i32.eqz`
 /// (1).
-fn hints<A: Allocator + Copy>(alloc: A) -> R<BranchHints<A>>
+fn hints<A: Allocator + Copy>(alloc: A) -> Result<BranchHints<A>>
     ensures { IfOk result (λ section. ContainsHints section unlikely_hints) }
 {
     let hint = BranchHint {
@@ -88,7 +88,7 @@ fn hints<A: Allocator + Copy>(alloc: A) -> R<BranchHints<A>>
 }
 
 /// Returns the body of the function.
-fn code<A: Allocator + Copy>(alloc: A) -> R<CodeSection<A>>
+fn code<A: Allocator + Copy>(alloc: A) -> Result<CodeSection<A>>
     ensures { IfOk result (λ section. EncodesBodies section (count_down_body ∷ [])) }
 {
     let mut section = CodeSection::new(alloc);
@@ -97,7 +97,7 @@ fn code<A: Allocator + Copy>(alloc: A) -> R<CodeSection<A>>
 }
 
 /// Decrements the number if it is not 0.
-fn count_down<A: Allocator>(alloc: A) -> R<Function<A>>
+fn count_down<A: Allocator>(alloc: A) -> Result<Function<A>>
     ensures { IfOk result (λ function. IsWellFormedBody function count_down_body) }
 {
     let mut function = Function::new(alloc, [])?;
@@ -119,7 +119,7 @@ fn count_down<A: Allocator>(alloc: A) -> R<Function<A>>
 }
 
 /// Returns the symbol of the function 0, which is exported from the linked module.
-fn symbols<A: Allocator + Copy>(alloc: A) -> R<SymbolTable<A>>
+fn symbols<A: Allocator + Copy>(alloc: A) -> Result<SymbolTable<A>>
     ensures { IfOk result (λ table. AreSymbols table (count_down_symbol ∷ [])) }
 {
     let mut table = SymbolTable::new(alloc);
@@ -128,7 +128,7 @@ fn symbols<A: Allocator + Copy>(alloc: A) -> R<SymbolTable<A>>
 }
 
 /// Returns the linking section: the symbols.
-fn linking<A: Allocator + Copy>(alloc: A) -> R<LinkingSection<A>>
+fn linking<A: Allocator + Copy>(alloc: A) -> Result<LinkingSection<A>>
     ensures { IfOk result (λ section. ContainsLinks section links) }
 {
     let mut section = LinkingSection::new(alloc);
@@ -137,7 +137,7 @@ fn linking<A: Allocator + Copy>(alloc: A) -> R<LinkingSection<A>>
 }
 
 /// Returns the producers of the module.
-fn producers<A: Allocator + Copy>(alloc: A) -> R<ProducersSection<A>>
+fn producers<A: Allocator + Copy>(alloc: A) -> Result<ProducersSection<A>>
     ensures { IfOk result (λ section. ContainsFields section producers_fields) }
 {
     let mut values = ProducersField::new(alloc);

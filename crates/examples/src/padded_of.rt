@@ -11,14 +11,14 @@ ghost use Rattle.examples.specs.Padded.{bare_body, number};
 
 use crate::bodies::{first_function, local_function};
 use std::alloc::Allocator;
-use wasm_base::{Encode, Module, R, ValType};
+use wasm_base::{Encode, Module, Result, ValType};
 use wasm_code::{CodeSection, ConstExpr};
 use wasm_custom::NameSection;
 use wasm_sections::{GlobalSection, GlobalType};
 
 /// Appends a code section of a body whose number of runs is padded, and of a function, which
 /// returns the local of this index.
-pub fn encode_padded_body<A: Allocator + Copy>(sink: &mut Vec<u8, A>, index: u32) -> R<()>
+pub fn encode_padded_body<A: Allocator + Copy>(sink: &mut Vec<u8, A>, index: u32) -> Result<()>
     ensures { OnOk result (GainsDecodingPadded code_section (bare_body ∷ local_body index ∷ []) sink.old.items sink.new.items) }
 {
     let alloc = *sink.allocator();
@@ -30,7 +30,7 @@ pub fn encode_padded_body<A: Allocator + Copy>(sink: &mut Vec<u8, A>, index: u32
 
 /// Appends a global section of an expression with a padded number, and of an encoded global with
 /// one.
-pub fn encode_padded_globals<A: Allocator + Copy>(sink: &mut Vec<u8, A>) -> R<()>
+pub fn encode_padded_globals<A: Allocator + Copy>(sink: &mut Vec<u8, A>) -> Result<()>
     ensures { OnOk result (GainsDecodingPadded (counted_format global_item) (number (neg_ℤ (pos 1)) ∷ number (pos 0) ∷ []) sink.old.items sink.new.items) }
 {
     let alloc = *sink.allocator();
@@ -47,7 +47,7 @@ pub fn encode_padded_globals<A: Allocator + Copy>(sink: &mut Vec<u8, A>) -> R<()
 }
 
 /// Appends a name section of the name `a` of the function 0, whose index is padded.
-pub fn encode_padded_names<A: Allocator + Copy>(sink: &mut Vec<u8, A>) -> R<()>
+pub fn encode_padded_names<A: Allocator + Copy>(sink: &mut Vec<u8, A>) -> Result<()>
     ensures { OnOk result (GainsDecodingPadded (size_prefixed name_payload) (Map 1 ((0, 97 ∷ []) ∷ []) ∷ []) sink.old.items sink.new.items) }
 {
     let mut names = NameSection::new(*sink.allocator());
@@ -57,7 +57,7 @@ pub fn encode_padded_names<A: Allocator + Copy>(sink: &mut Vec<u8, A>) -> R<()>
 
 /// Returns a module of a code section of a body whose number of runs is padded, and of a function
 /// of one local.
-pub fn padded_module<A: Allocator + Copy>(alloc: A) -> R<Vec<u8, A>>
+pub fn padded_module<A: Allocator + Copy>(alloc: A) -> Result<Vec<u8, A>>
     ensures { IfOk result (λ bytes. DecodesSections (padded_code_decoding (bare_body ∷ first_body ∷ []) ∷ []) bytes.items) }
 {
     let mut code = CodeSection::new(alloc);

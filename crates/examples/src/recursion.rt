@@ -4,13 +4,13 @@ ghost use Rattle.wasm_code.specs.Bodies.{IsWellFormedBody};
 ghost use Rattle.examples.specs.Bodies.{factorial_body, choice_body};
 
 use std::alloc::Allocator;
-use wasm_base::R;
+use wasm_base::Result;
 use wasm_code::Function;
 use wasm_insn::BlockType;
 
 /// Returns the factorial of its one parameter: 1 for 0, and otherwise the parameter times the
 /// factorial of the number below. `itself` is the index of the function in its module.
-pub fn factorial<A: Allocator>(alloc: A, itself: u32) -> R<Function<A>>
+pub fn factorial<A: Allocator>(alloc: A, itself: u32) -> Result<Function<A>>
     ensures { IfOk result (λ function. IsWellFormedBody function (factorial_body itself)) }
 {
     let mut function = Function::new(alloc, [])?;
@@ -34,7 +34,7 @@ pub fn factorial<A: Allocator>(alloc: A, itself: u32) -> R<Function<A>>
 
 /// Returns a function that branches out of the inner block if its one parameter is 0, and otherwise
 /// out of both.
-pub fn choice<A: Allocator>(alloc: A) -> R<Function<A>>
+pub fn choice<A: Allocator>(alloc: A) -> Result<Function<A>>
     ensures { IfOk result (λ function. IsWellFormedBody function choice_body) }
 {
     let mut function = Function::new(alloc, [])?;

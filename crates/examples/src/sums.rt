@@ -8,7 +8,7 @@ ghost use Rattle.examples.specs.Padded.{number};
 ghost use Rattle.examples.specs.Sums.{sum_global, sum_code};
 
 use std::alloc::Allocator;
-use wasm_base::{Encode, R, ValType};
+use wasm_base::{Encode, Result, ValType};
 use wasm_code::ConstExpr;
 use wasm_sections::{GlobalSection, GlobalType};
 
@@ -19,7 +19,7 @@ const CONSTANT: GlobalType = GlobalType {
 };
 
 /// Returns the sum of the global of this index and 5.
-fn sum_of<A: Allocator + Copy>(alloc: A, index: u32) -> R<ConstExpr<A>>
+fn sum_of<A: Allocator + Copy>(alloc: A, index: u32) -> Result<ConstExpr<A>>
     ensures { IfOk result (λ init. StoresInstructions init (sum_code index)) }
 {
     let both = ConstExpr::global_get(alloc, index)?.with_i32_const(5)?;
@@ -29,7 +29,7 @@ fn sum_of<A: Allocator + Copy>(alloc: A, index: u32) -> R<ConstExpr<A>>
 
 /// Appends a global section of one global, whose initializer is the sum of the global of this index
 /// and 5.
-pub fn encode_sum<A: Allocator + Copy>(sink: &mut Vec<u8, A>, index: u32) -> R<()>
+pub fn encode_sum<A: Allocator + Copy>(sink: &mut Vec<u8, A>, index: u32) -> Result<()>
     ensures { OnOk result (GainsDecoding (counted_format global_item) (sum_global index ∷ []) sink.old.items sink.new.items) }
 {
     let alloc = *sink.allocator();
@@ -40,7 +40,7 @@ pub fn encode_sum<A: Allocator + Copy>(sink: &mut Vec<u8, A>, index: u32) -> R<(
 
 /// Appends a global section of that global, and of one that is already encoded, whose number is
 /// padded.
-pub fn encode_sum_and_padded<A: Allocator + Copy>(sink: &mut Vec<u8, A>, index: u32) -> R<()>
+pub fn encode_sum_and_padded<A: Allocator + Copy>(sink: &mut Vec<u8, A>, index: u32) -> Result<()>
     ensures { OnOk result (GainsDecodingPadded (counted_format global_item) (sum_global index ∷ number (pos 0) ∷ []) sink.old.items sink.new.items) }
 {
     let alloc = *sink.allocator();

@@ -7,7 +7,7 @@ ghost use Rattle.examples.specs.Trees.{expr_operations, statement_operations};
 
 use crate::lowering::{Operation, Operator, emit};
 use std::alloc::Allocator;
-use wasm_base::{R, ValType};
+use wasm_base::{Result, ValType};
 use wasm_code::Function;
 
 /// An expression, whose value is a number of 32 bits.
@@ -32,7 +32,7 @@ pub enum Statement<'a> {
 
 /// Adds the instructions of an expression.
 #[cycle(expression)]
-fn emit_expr<A: Allocator>(function: &mut Function<A>, expr: &Expr<'_>) -> R<()>
+fn emit_expr<A: Allocator>(function: &mut Function<A>, expr: &Expr<'_>) -> Result<()>
     ensures { OnOk result (GainsOperations (expr_operations expr.now) function.old function.new) }
 {
     match expr {
@@ -52,7 +52,7 @@ fn emit_expr<A: Allocator>(function: &mut Function<A>, expr: &Expr<'_>) -> R<()>
 
 /// Adds the instructions of arguments, one after another.
 #[cycle(expression)]
-fn emit_arguments<A: Allocator>(function: &mut Function<A>, arguments: &[Expr<'_>]) -> R<()>
+fn emit_arguments<A: Allocator>(function: &mut Function<A>, arguments: &[Expr<'_>]) -> Result<()>
     ensures { OnOk result (GainsOperations (flat_map expr_operations arguments.now) function.old function.new) }
 {
     for argument in arguments {
@@ -63,7 +63,7 @@ fn emit_arguments<A: Allocator>(function: &mut Function<A>, arguments: &[Expr<'_
 
 /// Adds the instructions of a statement.
 #[cycle(statement)]
-fn emit_statement<A: Allocator>(function: &mut Function<A>, statement: &Statement<'_>) -> R<()>
+fn emit_statement<A: Allocator>(function: &mut Function<A>, statement: &Statement<'_>) -> Result<()>
     ensures { OnOk result (GainsOperations (statement_operations statement.now) function.old function.new) }
 {
     match statement {
@@ -91,7 +91,7 @@ fn emit_statement<A: Allocator>(function: &mut Function<A>, statement: &Statemen
 
 /// Adds the instructions of statements, one after another.
 #[cycle(statement)]
-fn emit_statements<A: Allocator>(function: &mut Function<A>, statements: &[Statement<'_>]) -> R<()>
+fn emit_statements<A: Allocator>(function: &mut Function<A>, statements: &[Statement<'_>]) -> Result<()>
     ensures { OnOk result (GainsOperations (flat_map statement_operations statements.now) function.old function.new) }
 {
     for statement in statements {
@@ -106,7 +106,7 @@ pub fn compile_tree<A: Allocator>(
     alloc: A,
     locals: u32,
     statements: &[Statement<'_>],
-) -> R<Function<A>>
+) -> Result<Function<A>>
     ensures { IfOk result (λ function. IsWellFormedBody function (body_of locals (flat_map statement_operations statements.now))) }
 {
     let mut function = Function::new(alloc, [(locals, ValType::I32)])?;

@@ -13,7 +13,7 @@ ghost use Rattle.examples.specs.Whole.{import_of_function, import_of_functions};
 use crate::bodies::local_function;
 use std::alloc::Allocator;
 use wasm_base::laws::plain_names;
-use wasm_base::{CowSlice, Encode, R, RefType, add_all};
+use wasm_base::{CowSlice, Encode, RefType, Result, add_all};
 use wasm_code::{CodeSection, ConstExpr};
 use wasm_sections::laws::plain_exports;
 use wasm_sections::{
@@ -21,7 +21,7 @@ use wasm_sections::{
 };
 
 /// Appends a code section of one function, which returns the local of this index.
-pub fn encode_local<A: Allocator + Copy>(sink: &mut Vec<u8, A>, index: u32) -> R<()>
+pub fn encode_local<A: Allocator + Copy>(sink: &mut Vec<u8, A>, index: u32) -> Result<()>
     ensures { OnOk result (GainsDecoding code_section (local_body index ∷ []) sink.old.items sink.new.items) }
 {
     let alloc = *sink.allocator();
@@ -36,7 +36,7 @@ pub fn encode_import<A: Allocator + Copy>(
     from: &str,
     name: &str,
     index: u32,
-) -> R<()>
+) -> Result<()>
     ensures { OnOk result (GainsDecoding (counted_format import_format) (import_of_function from.now name.now index ∷ []) sink.old.items sink.new.items) }
 {
     let mut section = ImportSection::new(*sink.allocator());
@@ -46,7 +46,7 @@ pub fn encode_import<A: Allocator + Copy>(
 
 /// Appends an export section of the exports of a list. The first call proves that they are
 /// well-formed.
-pub fn encode_exports<A: Allocator + Copy>(sink: &mut Vec<u8, A>, exports: &[Export<'_>]) -> R<()>
+pub fn encode_exports<A: Allocator + Copy>(sink: &mut Vec<u8, A>, exports: &[Export<'_>]) -> Result<()>
     ensures { OnOk result (GainsDecoding (counted_format export) (map item_of exports.now) sink.old.items sink.new.items) }
 {
     plain_exports(exports);
@@ -64,7 +64,7 @@ pub fn encode_group<A: Allocator + Copy>(
     from: &str,
     names: &[&str],
     index: u32,
-) -> R<()>
+) -> Result<()>
     ensures { OnOk result (GainsDecoding (counted_format import_format) (import_of_functions from.now (map (λ name. name.now) names.now) index ∷ []) sink.old.items sink.new.items) }
 {
     plain_names(names);
@@ -78,7 +78,7 @@ pub fn encode_group<A: Allocator + Copy>(
 }
 
 /// Appends an element section of one reference, which code copies to a table.
-pub fn encode_reference(sink: &mut Vec<u8>, index: u32) -> R<()>
+pub fn encode_reference(sink: &mut Vec<u8>, index: u32) -> Result<()>
     ensures { OnOk result (GainsDecoding (counted_format element) (later index ∷ []) sink.old.items sink.new.items) }
 {
     let alloc = *sink.allocator();

@@ -13,7 +13,7 @@ ghost use Rattle.examples.specs.Whole.{ready, one_page, five, factorial_export, 
 
 use crate::recursion::factorial;
 use std::alloc::Allocator;
-use wasm_base::{Module, R, RawSection, ValType};
+use wasm_base::{Module, RawSection, Result, ValType};
 use wasm_code::{CodeSection, ConstExpr, Function};
 use wasm_sections::{
     EntityType, ExportKind, ExportSection, FunctionSection, GlobalSection, GlobalType,
@@ -22,7 +22,7 @@ use wasm_sections::{
 
 /// Returns a module that imports a function, has a global and a memory, and replaces the global by
 /// its factorial when it starts.
-pub fn whole_module<A: Allocator + Copy>(alloc: A) -> R<Vec<u8, A>>
+pub fn whole_module<A: Allocator + Copy>(alloc: A) -> Result<Vec<u8, A>>
     ensures { IfOk result (λ bytes. DecodesSections whole_sections bytes.items) }
 {
     let mut module = Module::new(alloc)?;
@@ -34,7 +34,7 @@ pub fn whole_module<A: Allocator + Copy>(alloc: A) -> R<Vec<u8, A>>
 }
 
 /// Adds the types, the imported function, and the types of the others.
-fn add_declared<A: Allocator + Copy>(built: &mut Module<A>, alloc: A) -> R<()>
+fn add_declared<A: Allocator + Copy>(built: &mut Module<A>, alloc: A) -> Result<()>
     ensures { DecodesSections [] built.old → OnOk result (DecodesSections declared_sections built.new) }
 {
     built.section(&RawSection {
@@ -47,7 +47,7 @@ fn add_declared<A: Allocator + Copy>(built: &mut Module<A>, alloc: A) -> R<()>
 }
 
 /// Adds the memory, the global, and the exports.
-fn add_stored<A: Allocator + Copy>(built: &mut Module<A>, alloc: A) -> R<()>
+fn add_stored<A: Allocator + Copy>(built: &mut Module<A>, alloc: A) -> Result<()>
     ensures { DecodesSections declared_sections built.old → OnOk result (DecodesSections stored_sections built.new) }
 {
     built.section(&memories(alloc)?)?;
@@ -57,7 +57,7 @@ fn add_stored<A: Allocator + Copy>(built: &mut Module<A>, alloc: A) -> R<()>
 }
 
 /// Imports the function 0 from the host.
-pub(crate) fn imports<A: Allocator + Copy>(alloc: A) -> R<ImportSection<A>>
+pub(crate) fn imports<A: Allocator + Copy>(alloc: A) -> Result<ImportSection<A>>
     ensures { IfOk result (λ section. ContainsImports section (ready ∷ [])) }
 {
     let mut section = ImportSection::new(alloc);
@@ -66,7 +66,7 @@ pub(crate) fn imports<A: Allocator + Copy>(alloc: A) -> R<ImportSection<A>>
 }
 
 /// Returns the types of the functions 1 and 2.
-fn functions<A: Allocator + Copy>(alloc: A) -> R<FunctionSection<A>>
+fn functions<A: Allocator + Copy>(alloc: A) -> Result<FunctionSection<A>>
     ensures { IfOk result (λ section. ContainsFunctions section (1 ∷ 0 ∷ [])) }
 {
     let mut section = FunctionSection::new(alloc);
@@ -76,7 +76,7 @@ fn functions<A: Allocator + Copy>(alloc: A) -> R<FunctionSection<A>>
 }
 
 /// Returns a memory of one page.
-pub(crate) fn memories<A: Allocator + Copy>(alloc: A) -> R<MemorySection<A>>
+pub(crate) fn memories<A: Allocator + Copy>(alloc: A) -> Result<MemorySection<A>>
     ensures { IfOk result (λ section. ContainsMemories section (one_page ∷ [])) }
 {
     let mut section = MemorySection::new(alloc);
@@ -91,7 +91,7 @@ pub(crate) fn memories<A: Allocator + Copy>(alloc: A) -> R<MemorySection<A>>
 }
 
 /// Returns a mutable number, initially 5.
-fn globals<A: Allocator + Copy>(alloc: A) -> R<GlobalSection<A>>
+fn globals<A: Allocator + Copy>(alloc: A) -> Result<GlobalSection<A>>
     ensures { IfOk result (λ section. ContainsGlobals section (five ∷ [])) }
 {
     let global_type = GlobalType {
@@ -105,7 +105,7 @@ fn globals<A: Allocator + Copy>(alloc: A) -> R<GlobalSection<A>>
 }
 
 /// Exports the factorial and the memory.
-fn exports<A: Allocator + Copy>(alloc: A) -> R<ExportSection<A>>
+fn exports<A: Allocator + Copy>(alloc: A) -> Result<ExportSection<A>>
     ensures { IfOk result (λ section. ContainsExports section (factorial_export ∷ memory_export ∷ [])) }
 {
     let mut section = ExportSection::new(alloc);
@@ -115,7 +115,7 @@ fn exports<A: Allocator + Copy>(alloc: A) -> R<ExportSection<A>>
 }
 
 /// Returns the bodies of the functions 1 and 2.
-fn code<A: Allocator + Copy>(alloc: A) -> R<CodeSection<A>>
+fn code<A: Allocator + Copy>(alloc: A) -> Result<CodeSection<A>>
     ensures { IfOk result (λ section. EncodesBodies section (factorial_body 1 ∷ start_body ∷ [])) }
 {
     let mut section = CodeSection::new(alloc);
@@ -125,7 +125,7 @@ fn code<A: Allocator + Copy>(alloc: A) -> R<CodeSection<A>>
 }
 
 /// Returns the start function: it replaces the global by its factorial, and calls the host.
-fn start<A: Allocator>(alloc: A) -> R<Function<A>>
+fn start<A: Allocator>(alloc: A) -> Result<Function<A>>
     ensures { IfOk result (λ function. IsWellFormedBody function start_body) }
 {
     let mut function = Function::new(alloc, [])?;

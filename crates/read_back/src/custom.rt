@@ -15,7 +15,7 @@ ghost use Rattle.wasm_reader.specs.Kinds.{Names, Linking, Producers, Hints, Cust
 
 use crate::read_and_shorten;
 use std::alloc::Allocator;
-use wasm_base::{CowSlice, CowStr, Encode, R};
+use wasm_base::{CowSlice, CowStr, Encode, Result};
 use wasm_custom::{
     BranchHint, BranchHints, CustomSection, DataSymbolDefinition, LinkingSection, NameItem,
     NameSection, ProducersField, ProducersSection, SymbolTable, append_names, read_names,
@@ -24,7 +24,7 @@ use wasm_reader::{Items, SectionKind};
 use wasm_reader_base::ReadFault;
 
 /// Appends a name section: the name of the module, and bytes of an id that no call has.
-fn write_more_names<A: Allocator + Copy>(sink: &mut Vec<u8, A>, name: &str, more: &[u8]) -> R<()>
+fn write_more_names<A: Allocator + Copy>(sink: &mut Vec<u8, A>, name: &str, more: &[u8]) -> Result<()>
     ensures { OnOk result (GainsDecoding (size_prefixed name_payload) (name_and_more name.now more.now) sink.old.items sink.new.items) }
 {
     let mut section = NameSection::new(*sink.allocator());
@@ -56,7 +56,7 @@ pub fn titled_names<A: Allocator>(
     title: &[u8],
     names: &[NameItem<'_, A>],
     sink: &mut Vec<u8, A>,
-) -> R<bool>
+) -> Result<bool>
     ensures named { IfOk result (λ all. all ≡ true → AppendsMinimal name_payload (map name_item_view names.now) (sink.old.items ++ title.now) sink.new.items) }
     ensures titled { IfOk result (λ all. all ≡ false → sink.new.items ≡ sink.old.items ++ title.now) }
     ensures err { OnErr result (sink.new.items ≡ sink.old.items) }
@@ -70,7 +70,7 @@ pub fn titled_names<A: Allocator>(
 
 /// Appends the minimal encoding of the names that the bytes encode, with their section's name.
 /// Returns whether they do. No count or size is too long.
-pub fn rewritten_names<A: Allocator + Copy>(bytes: &[u8], sink: &mut Vec<u8, A>) -> R<bool>
+pub fn rewritten_names<A: Allocator + Copy>(bytes: &[u8], sink: &mut Vec<u8, A>) -> Result<bool>
     ensures too_long { result ≢ Err TooLong }
     ensures err { OnErr result (sink.new.items ≡ sink.old.items) }
 {
@@ -84,7 +84,7 @@ pub fn rewritten_names<A: Allocator + Copy>(bytes: &[u8], sink: &mut Vec<u8, A>)
 }
 
 /// Returns a symbol table of one data symbol.
-fn symbols<A: Allocator + Copy>(alloc: A, name: &str) -> R<SymbolTable<A>>
+fn symbols<A: Allocator + Copy>(alloc: A, name: &str) -> Result<SymbolTable<A>>
     ensures { IfOk result (λ table. AreSymbols table (data_symbol name.now ∷ [])) }
 {
     let definition = DataSymbolDefinition {
@@ -98,7 +98,7 @@ fn symbols<A: Allocator + Copy>(alloc: A, name: &str) -> R<SymbolTable<A>>
 }
 
 /// Appends a linking section: a symbol, and the architecture of the target.
-fn write_linking<A: Allocator + Copy>(sink: &mut Vec<u8, A>, name: &str) -> R<()>
+fn write_linking<A: Allocator + Copy>(sink: &mut Vec<u8, A>, name: &str) -> Result<()>
     ensures { OnOk result (GainsDecoding (size_prefixed linking_payload) (links name.now) sink.old.items sink.new.items) }
 {
     let alloc = *sink.allocator();
@@ -125,7 +125,7 @@ pub fn read_linking<'a, A: Allocator + Copy + 'a>(
 }
 
 /// Appends a producers section of one field.
-fn write_producers<A: Allocator + Copy>(sink: &mut Vec<u8, A>, version: &str) -> R<()>
+fn write_producers<A: Allocator + Copy>(sink: &mut Vec<u8, A>, version: &str) -> Result<()>
     ensures { OnOk result (GainsDecoding (size_prefixed producers_payload) (language version.now) sink.old.items sink.new.items) }
 {
     let alloc = *sink.allocator();
@@ -154,7 +154,7 @@ pub fn read_producers<'a, A: Allocator + Copy + 'a>(
 
 /// Appends a section of branch hints: of an array, and of a slice.
 #[tactic(auto, using(wasm_base::proofs::KnownLengths::drained_array, wasm_base::proofs::KnownLengths::drained_copied))]
-fn write_hints<A: Allocator + Copy>(sink: &mut Vec<u8, A>, index: u32) -> R<()>
+fn write_hints<A: Allocator + Copy>(sink: &mut Vec<u8, A>, index: u32) -> Result<()>
     ensures { OnOk result (GainsDecoding (size_prefixed hints_payload) (likely_hints index) sink.old.items sink.new.items) }
 {
     let likely = BranchHint {
@@ -185,7 +185,7 @@ pub fn read_hints<'a, A: Allocator + Copy + 'a>(
 }
 
 /// Appends a custom section of a name and data.
-fn write_custom<A: Allocator>(sink: &mut Vec<u8, A>, name: &str, bytes: &[u8]) -> R<()>
+fn write_custom<A: Allocator>(sink: &mut Vec<u8, A>, name: &str, bytes: &[u8]) -> Result<()>
     ensures { OnOk result (GainsDecoding custom_format (name.now, bytes.now) sink.old.items sink.new.items) }
 {
     let section: CustomSection<'_> = CustomSection {

@@ -17,7 +17,7 @@ ghost use Rattle.wasm_reader.specs.Kinds.{Types, Imports, Tables, Memories, Tags
 use crate::read_and_shorten;
 use callers::first_values::encode_null_tables;
 use std::alloc::Allocator;
-use wasm_base::{Encode, R};
+use wasm_base::{Encode, Result};
 use wasm_reader::{Items, SectionKind};
 use wasm_reader_base::ReadFault;
 use wasm_sections::{
@@ -47,7 +47,7 @@ const OPEN_BYTES: SubType = SubType {
 };
 
 /// Appends a type section: an array, a structure, and an array that others may extend.
-fn write_types<A: Allocator + Copy>(sink: &mut Vec<u8, A>) -> R<()>
+fn write_types<A: Allocator + Copy>(sink: &mut Vec<u8, A>) -> Result<()>
     ensures { OnOk result (GainsDecoding (counted_format type_item) byte_types sink.old.items sink.new.items) }
 {
     let mut section = TypeSection::new(*sink.allocator());
@@ -73,7 +73,7 @@ pub fn read_types<'a, A: Allocator + Copy + 'a>(
 }
 
 /// Appends an import section of one function.
-fn write_imports<A: Allocator + Copy>(sink: &mut Vec<u8, A>, index: u32) -> R<()>
+fn write_imports<A: Allocator + Copy>(sink: &mut Vec<u8, A>, index: u32) -> Result<()>
     ensures { OnOk result (GainsDecoding (counted_format import_format) (imported_function index ∷ []) sink.old.items sink.new.items) }
 {
     let mut section = ImportSection::new(*sink.allocator());
@@ -115,7 +115,7 @@ pub fn read_tables<'a, A: Allocator + Copy + 'a>(
 }
 
 /// Appends a memory section of two memories.
-fn write_memories<A: Allocator + Copy>(sink: &mut Vec<u8, A>, minimum: u64) -> R<()>
+fn write_memories<A: Allocator + Copy>(sink: &mut Vec<u8, A>, minimum: u64) -> Result<()>
     ensures { OnOk result (GainsDecoding (counted_format memory_type) (pages minimum ∷ two_pages ∷ []) sink.old.items sink.new.items) }
 {
     let mut section = MemorySection::new(*sink.allocator());
@@ -153,7 +153,7 @@ pub fn read_memories<'a, A: Allocator + Copy + 'a>(
 }
 
 /// Returns a tag section of two tags: of the type 0, and of the type of this index.
-pub(crate) fn tags<A: Allocator + Copy>(alloc: A, index: u32) -> R<TagSection<A>>
+pub(crate) fn tags<A: Allocator + Copy>(alloc: A, index: u32) -> Result<TagSection<A>>
     ensures { IfOk result (λ section. ContainsTags section (thrown 0 ∷ thrown index ∷ [])) }
 {
     let mut section = TagSection::new(alloc);
@@ -169,7 +169,7 @@ pub(crate) fn tags<A: Allocator + Copy>(alloc: A, index: u32) -> R<TagSection<A>
 }
 
 /// Appends that tag section.
-fn write_tags<A: Allocator + Copy>(sink: &mut Vec<u8, A>, index: u32) -> R<()>
+fn write_tags<A: Allocator + Copy>(sink: &mut Vec<u8, A>, index: u32) -> Result<()>
     ensures { OnOk result (GainsDecoding (counted_format tag_type) (thrown 0 ∷ thrown index ∷ []) sink.old.items sink.new.items) }
 {
     let section = tags(*sink.allocator(), index)?;
@@ -193,7 +193,7 @@ pub fn read_tags<'a, A: Allocator + Copy + 'a>(
 }
 
 /// Appends an export section of one function.
-fn write_exports<A: Allocator + Copy>(sink: &mut Vec<u8, A>, name: &str, index: u32) -> R<()>
+fn write_exports<A: Allocator + Copy>(sink: &mut Vec<u8, A>, name: &str, index: u32) -> Result<()>
     ensures { OnOk result (GainsDecoding (counted_format export) (exported name.now index ∷ []) sink.old.items sink.new.items) }
 {
     let mut section = ExportSection::new(*sink.allocator());

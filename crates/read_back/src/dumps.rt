@@ -11,7 +11,7 @@ ghost use Rattle.wasm_reader.specs.Kinds.{Core, CoreModules, CoreInstances, Core
 
 use crate::read_and_shorten;
 use std::alloc::Allocator;
-use wasm_base::{Encode, Module, R};
+use wasm_base::{Encode, Module, Result};
 use wasm_custom::{
     CoreDumpInstancesSection, CoreDumpModulesSection, CoreDumpSection, CoreDumpStackSection,
     CoreDumpValue,
@@ -20,7 +20,7 @@ use wasm_reader::{Items, SectionKind};
 use wasm_reader_base::ReadFault;
 
 /// Appends the section of a process.
-fn write_process<A: Allocator + Copy>(sink: &mut Vec<u8, A>, name: &str) -> R<()>
+fn write_process<A: Allocator + Copy>(sink: &mut Vec<u8, A>, name: &str) -> Result<()>
     ensures { OnOk result (GainsDecoding (size_prefixed core_payload) name.now sink.old.items sink.new.items) }
 {
     let section = CoreDumpSection::new(*sink.allocator(), name)?;
@@ -44,7 +44,7 @@ pub fn read_process<'a, A: Allocator + Copy + 'a>(
 }
 
 /// Returns two modules: `main`, and one of this name.
-fn modules<A: Allocator + Copy>(alloc: A, name: &str) -> R<CoreDumpModulesSection<A>>
+fn modules<A: Allocator + Copy>(alloc: A, name: &str) -> Result<CoreDumpModulesSection<A>>
     ensures { IfOk result (λ section. ContainsModules section (codes "main" ∷ name.now ∷ [])) }
 {
     let mut section = CoreDumpModulesSection::new(alloc);
@@ -54,7 +54,7 @@ fn modules<A: Allocator + Copy>(alloc: A, name: &str) -> R<CoreDumpModulesSectio
 }
 
 /// Appends the section of these modules.
-fn write_modules<A: Allocator + Copy>(sink: &mut Vec<u8, A>, name: &str) -> R<()>
+fn write_modules<A: Allocator + Copy>(sink: &mut Vec<u8, A>, name: &str) -> Result<()>
     ensures { OnOk result (GainsDecoding (size_prefixed modules_payload) (codes "main" ∷ name.now ∷ []) sink.old.items sink.new.items) }
 {
     let section = modules(*sink.allocator(), name)?;
@@ -79,7 +79,7 @@ pub fn read_modules<'a, A: Allocator + Copy + 'a>(
 
 /// Returns two instances: of arrays, and of a vector and a slice.
 #[tactic(auto, using(wasm_base::proofs::KnownLengths::drained_array, wasm_base::proofs::KnownLengths::drained_vec, wasm_base::proofs::KnownLengths::drained_copied))]
-fn instances<A: Allocator + Copy>(alloc: A, index: u32) -> R<CoreDumpInstancesSection<A>>
+fn instances<A: Allocator + Copy>(alloc: A, index: u32) -> Result<CoreDumpInstancesSection<A>>
     ensures { IfOk result (λ section. ContainsInstances section (first_instance ∷ other_instance index (7 ∷ []) ∷ [])) }
 {
     let memories = Vec::from_slice(alloc, &[1u32])?;
@@ -91,7 +91,7 @@ fn instances<A: Allocator + Copy>(alloc: A, index: u32) -> R<CoreDumpInstancesSe
 }
 
 /// Appends the section of these instances.
-fn write_instances<A: Allocator + Copy>(sink: &mut Vec<u8, A>, index: u32) -> R<()>
+fn write_instances<A: Allocator + Copy>(sink: &mut Vec<u8, A>, index: u32) -> Result<()>
     ensures { OnOk result (GainsDecoding (size_prefixed instances_payload) (first_instance ∷ other_instance index (7 ∷ []) ∷ []) sink.old.items sink.new.items) }
 {
     let section = instances(*sink.allocator(), index)?;
@@ -116,7 +116,7 @@ pub fn read_instances<'a, A: Allocator + Copy + 'a>(
 
 /// Returns the stack of a thread: two frames, of arrays, and of a slice.
 #[tactic(auto, using(wasm_base::proofs::KnownLengths::drained_array, wasm_base::proofs::KnownLengths::drained_copied))]
-fn stack<A: Allocator + Copy>(alloc: A, name: &str, offset: u32) -> R<CoreDumpStackSection<A>>
+fn stack<A: Allocator + Copy>(alloc: A, name: &str, offset: u32) -> Result<CoreDumpStackSection<A>>
     ensures { IfOk result (λ section. SaysStack section.0 section.1 (name.now, first_frame ∷ other_frame offset ∷ [])) }
 {
     let locals = [CoreDumpValue::I32(5)];
@@ -127,7 +127,7 @@ fn stack<A: Allocator + Copy>(alloc: A, name: &str, offset: u32) -> R<CoreDumpSt
 }
 
 /// Appends the section of this stack.
-fn write_stack<A: Allocator + Copy>(sink: &mut Vec<u8, A>, name: &str, offset: u32) -> R<()>
+fn write_stack<A: Allocator + Copy>(sink: &mut Vec<u8, A>, name: &str, offset: u32) -> Result<()>
     ensures { OnOk result (GainsDecoding (size_prefixed stack_payload) (name.now, first_frame ∷ other_frame offset ∷ []) sink.old.items sink.new.items) }
 {
     let section = stack(*sink.allocator(), name, offset)?;
@@ -152,7 +152,7 @@ pub fn read_stack<'a, A: Allocator + Copy + 'a>(
 }
 
 /// Returns a core dump: a module of these four sections.
-pub fn core_dump<A: Allocator + Copy>(alloc: A, name: &str, index: u32) -> R<Vec<u8, A>>
+pub fn core_dump<A: Allocator + Copy>(alloc: A, name: &str, index: u32) -> Result<Vec<u8, A>>
     ensures { IfOk result (λ bytes. DecodesSections (dump_sections name.now index) bytes.items) }
 {
     let mut dump = Module::new(alloc)?;

@@ -11,14 +11,14 @@ ghost use Rattle.read_back.specs.Handed.{handed_sections};
 
 use crate::declared::tags;
 use std::alloc::Allocator;
-use wasm_base::{CowSlice, CowStr, Encode, Module, R, add_all};
+use wasm_base::{CowSlice, CowStr, Encode, Module, Result, add_all};
 use wasm_code::{CodeSection, Function};
 use wasm_custom::{CustomSection, RawCustomSection};
 use wasm_sections::laws::plain_exports;
 use wasm_sections::{Export, ExportSection};
 
 /// Returns a code section of a raw body.
-fn code<A: Allocator + Copy>(alloc: A, body: &[u8]) -> R<CodeSection<A>>
+fn code<A: Allocator + Copy>(alloc: A, body: &[u8]) -> Result<CodeSection<A>>
     ensures { IfOk result (λ section. ContainsBodies section (body.now ∷ [])) }
 {
     let mut section = CodeSection::new(alloc);
@@ -33,7 +33,7 @@ pub fn handed_module<A: Allocator + Copy>(
     body: &[u8],
     name: &str,
     bytes: &[u8],
-) -> R<Vec<u8, A>>
+) -> Result<Vec<u8, A>>
     ensures { IfOk result (λ made. DecodesSections (handed_sections index body.now name.now bytes.now) made.items) }
 {
     let given: CustomSection<'_> = CustomSection {
@@ -52,7 +52,7 @@ pub fn handed_module<A: Allocator + Copy>(
 
 /// Returns a code section of functions: it holds, in order, the bodies that they encode, minimal
 /// and padded.
-pub fn code_of<A: Allocator + Copy>(alloc: A, functions: &[Function<A>]) -> R<CodeSection<A>>
+pub fn code_of<A: Allocator + Copy>(alloc: A, functions: &[Function<A>]) -> Result<CodeSection<A>>
     ensures plain { IfOk result (λ section. (bodies : List Body) → AllZip IsWellFormedBody functions.now bodies → EncodesBodies section bodies) }
     ensures padded_of { IfOk result (λ section. (bodies : List Body) → AllZip IsPaddedBody functions.now bodies → EncodesBodiesPadded section bodies) }
 {
@@ -68,7 +68,7 @@ pub fn code_of<A: Allocator + Copy>(alloc: A, functions: &[Function<A>]) -> R<Co
 pub fn encode_listed_exports<A: Allocator + Copy>(
     sink: &mut Vec<u8, A>,
     exports: &[Export<'_>],
-) -> R<()>
+) -> Result<()>
     ensures { OnOk result (GainsDecodingPadded (counted_format export_format) (map item_of exports.now) sink.old.items sink.new.items) }
 {
     plain_exports(exports);

@@ -24,7 +24,7 @@ pub mod padded_of;
 pub mod stored;
 
 use std::alloc::Allocator;
-use wasm_base::{Encode, R};
+use wasm_base::{Encode, Result};
 use wasm_custom::{NameMap, NameSection};
 use wasm_reader::{
     Items, ModuleFault, Offsets, SectionKind, laws, read_section, shorten, shorten_module,
@@ -49,7 +49,7 @@ pub(crate) fn read_and_shorten<'a, A: Allocator + Copy + 'a>(
 }
 
 /// Appends a function section of one function.
-pub fn write_function<A: Allocator + Copy>(sink: &mut Vec<u8, A>, index: u32) -> R<()>
+pub fn write_function<A: Allocator + Copy>(sink: &mut Vec<u8, A>, index: u32) -> Result<()>
     ensures { OnOk result (GainsDecoding (counted_format u32_format) (index ∷ []) sink.old.items sink.new.items) }
 {
     let mut section = FunctionSection::new(*sink.allocator());
@@ -123,7 +123,7 @@ pub fn both_or_neither<T: Shorten, U: Shorten, A: Allocator>(
     first: &T,
     second: &U,
     sink: &mut Vec<u8, A>,
-) -> R<()>
+) -> Result<()>
     ensures { OnErr result (sink.new.items ≡ sink.old.items) }
 {
     let start = sink.len();
@@ -136,7 +136,7 @@ pub fn both_or_neither<T: Shorten, U: Shorten, A: Allocator>(
 }
 
 /// Appends a name section: the names of the module and of its first function.
-pub fn write_names<A: Allocator + Copy>(sink: &mut Vec<u8, A>, name: &str, function: &str) -> R<()>
+pub fn write_names<A: Allocator + Copy>(sink: &mut Vec<u8, A>, name: &str, function: &str) -> Result<()>
     ensures { OnOk result (GainsDecoding (size_prefixed name_payload) (Module name.now ∷ Map 1 ((0, function.now) ∷ []) ∷ []) sink.old.items sink.new.items) }
 {
     let mut functions = NameMap::new(*sink.allocator());

@@ -17,7 +17,7 @@ ghost use Rattle.read_back.specs.Stored.{empty_body};
 use crate::read_and_shorten;
 use crate::stored::of_nothing;
 use std::alloc::Allocator;
-use wasm_base::{CowSlice, Encode, Module, R, RefType};
+use wasm_base::{CowSlice, Encode, Module, RefType, Result};
 use wasm_code::{CodeSection, ConstExpr};
 use wasm_custom::NameSection;
 use wasm_reader::{Items, SectionKind};
@@ -25,7 +25,7 @@ use wasm_reader_base::ReadFault;
 use wasm_sections::{DataSection, ElementSection, Elements, TableSection, TableType};
 
 /// Returns the offset 0, whose number has two bytes.
-fn padded_offset<A: Allocator>(alloc: A) -> R<ConstExpr<A>>
+fn padded_offset<A: Allocator>(alloc: A) -> Result<ConstExpr<A>>
     ensures { IfOk result (λ offset. StoresPadded offset zero_offset) }
 {
     let offset = ConstExpr::raw(alloc, [0x41, 0x80, 0x00])?;
@@ -33,7 +33,7 @@ fn padded_offset<A: Allocator>(alloc: A) -> R<ConstExpr<A>>
 }
 
 /// Returns a table of references to the function 0, whose index has two bytes.
-fn tables<A: Allocator + Copy>(alloc: A) -> R<TableSection<A>>
+fn tables<A: Allocator + Copy>(alloc: A) -> Result<TableSection<A>>
     ensures { IfOk result (λ section. ContainsPadded table_item section (first_everywhere ∷ [])) }
 {
     let functions = TableType {
@@ -50,7 +50,7 @@ fn tables<A: Allocator + Copy>(alloc: A) -> R<TableSection<A>>
 }
 
 /// Returns a segment of the function 1, at the front of the table.
-fn elements<A: Allocator + Copy>(alloc: A) -> R<ElementSection<A>>
+fn elements<A: Allocator + Copy>(alloc: A) -> Result<ElementSection<A>>
     ensures { IfOk result (λ section. ContainsPadded element section (at_front ∷ [])) }
 {
     let offset = padded_offset(alloc)?;
@@ -61,7 +61,7 @@ fn elements<A: Allocator + Copy>(alloc: A) -> R<ElementSection<A>>
 
 /// Returns a segment of these bytes, at the front of a memory.
 #[tactic(auto, using(wasm_base::proofs::KnownLengths::drained_copied))]
-fn segments<A: Allocator + Copy>(alloc: A, memory: u32, bytes: &[u8]) -> R<DataSection<A>>
+fn segments<A: Allocator + Copy>(alloc: A, memory: u32, bytes: &[u8]) -> Result<DataSection<A>>
     ensures { IfOk result (λ section. ContainsPadded data_item section (bytes_at_front memory bytes.now ∷ [])) }
 {
     let offset = padded_offset(alloc)?;
@@ -71,7 +71,7 @@ fn segments<A: Allocator + Copy>(alloc: A, memory: u32, bytes: &[u8]) -> R<DataS
 }
 
 /// Returns the name of a local, whose index has two bytes.
-fn names<A: Allocator + Copy>(alloc: A) -> R<NameSection<A>>
+fn names<A: Allocator + Copy>(alloc: A) -> Result<NameSection<A>>
     ensures { IfOk result (λ section. ContainsPadded subsection section local_name) }
 {
     let mut section = NameSection::new(alloc);
@@ -80,7 +80,7 @@ fn names<A: Allocator + Copy>(alloc: A) -> R<NameSection<A>>
 }
 
 /// Returns a module of these sections.
-pub fn padded_entries<A: Allocator + Copy>(alloc: A, memory: u32, bytes: &[u8]) -> R<Vec<u8, A>>
+pub fn padded_entries<A: Allocator + Copy>(alloc: A, memory: u32, bytes: &[u8]) -> Result<Vec<u8, A>>
     ensures { IfOk result (λ made. DecodesSections (padded_sections memory bytes.now) made.items) }
 {
     let mut built = Module::new(alloc)?;
@@ -96,7 +96,7 @@ fn write_padded_segment<A: Allocator + Copy>(
     sink: &mut Vec<u8, A>,
     memory: u32,
     bytes: &[u8],
-) -> R<()>
+) -> Result<()>
     ensures { OnOk result (GainsDecodingPadded (counted_format data_item) (bytes_at_front memory bytes.now ∷ []) sink.old.items sink.new.items) }
 {
     let section = segments(*sink.allocator(), memory, bytes)?;
@@ -120,7 +120,7 @@ pub fn read_padded_segment<'a, A: Allocator + Copy>(
 }
 
 /// Appends a code section of a body in which an index has two bytes, and of a function.
-pub fn write_padded_bodies<A: Allocator + Copy>(sink: &mut Vec<u8, A>) -> R<()>
+pub fn write_padded_bodies<A: Allocator + Copy>(sink: &mut Vec<u8, A>) -> Result<()>
     ensures { OnOk result (GainsDecodingPadded code_section (gets_twice ∷ empty_body ∷ []) sink.old.items sink.new.items) }
 {
     let alloc = *sink.allocator();

@@ -18,7 +18,7 @@ ghost use Rattle.read_back.specs.Stored.{function_at_8, later_functions, bytes_a
 use crate::read_and_shorten;
 use callers::first_values::encode_copied;
 use std::alloc::Allocator;
-use wasm_base::{CowSlice, Encode, R, ValType};
+use wasm_base::{CowSlice, Encode, Result, ValType};
 use wasm_code::{CodeSection, ConstExpr, Function};
 use wasm_reader::{Items, SectionKind};
 use wasm_reader_base::ReadFault;
@@ -45,7 +45,7 @@ pub fn read_globals<'a, A: Allocator + Copy + 'a>(
 }
 
 /// Appends an element section: a function at an offset of a table, and two for a later call.
-fn write_elements<A: Allocator + Copy>(sink: &mut Vec<u8, A>, index: u32) -> R<()>
+fn write_elements<A: Allocator + Copy>(sink: &mut Vec<u8, A>, index: u32) -> Result<()>
     ensures { OnOk result (GainsDecoding (counted_format element) (function_at_8 index ∷ later_functions ∷ []) sink.old.items sink.new.items) }
 {
     let alloc = *sink.allocator();
@@ -82,7 +82,7 @@ pub fn read_elements<'a, A: Allocator + Copy + 'a>(
 }
 
 /// Appends a data section: bytes at an offset of a memory, and a segment that is already encoded.
-fn write_segments<A: Allocator + Copy>(sink: &mut Vec<u8, A>) -> R<()>
+fn write_segments<A: Allocator + Copy>(sink: &mut Vec<u8, A>) -> Result<()>
     ensures { OnOk result (GainsDecoding (counted_format data_item) (bytes_at_8 ∷ byte_later ∷ []) sink.old.items sink.new.items) }
 {
     let alloc = *sink.allocator();
@@ -109,7 +109,7 @@ pub fn read_segments<'a, A: Allocator + Copy + 'a>(
 }
 
 /// Returns a function of two locals, added one by one, which returns the local of the index.
-pub(crate) fn of_locals<A: Allocator + Copy>(alloc: A, index: u32) -> R<Function<A>>
+pub(crate) fn of_locals<A: Allocator + Copy>(alloc: A, index: u32) -> Result<Function<A>>
     ensures { IfOk result (λ function. IsWellFormedBody function (of_two_locals index)) }
 {
     let mut function = Function::new_with_locals_types(alloc, [ValType::I32, ValType::I32])?;
@@ -120,7 +120,7 @@ pub(crate) fn of_locals<A: Allocator + Copy>(alloc: A, index: u32) -> R<Function
 }
 
 /// Returns a function that does nothing.
-pub(crate) fn of_nothing<A: Allocator>(alloc: A) -> R<Function<A>>
+pub(crate) fn of_nothing<A: Allocator>(alloc: A) -> Result<Function<A>>
     ensures { IfOk result (λ function. IsWellFormedBody function empty_body) }
 {
     let mut function = Function::new(alloc, [])?;
@@ -130,7 +130,7 @@ pub(crate) fn of_nothing<A: Allocator>(alloc: A) -> R<Function<A>>
 }
 
 /// Appends a code section of these two functions.
-fn write_bodies<A: Allocator + Copy>(sink: &mut Vec<u8, A>, index: u32) -> R<()>
+fn write_bodies<A: Allocator + Copy>(sink: &mut Vec<u8, A>, index: u32) -> Result<()>
     ensures { OnOk result (GainsDecoding code_section (of_two_locals index ∷ empty_body ∷ []) sink.old.items sink.new.items) }
 {
     let alloc = *sink.allocator();
@@ -157,7 +157,7 @@ pub fn read_bodies<'a, A: Allocator + Copy + 'a>(
 }
 
 /// Appends a start section.
-fn write_start<A: Allocator>(sink: &mut Vec<u8, A>, index: u32) -> R<()>
+fn write_start<A: Allocator>(sink: &mut Vec<u8, A>, index: u32) -> Result<()>
     ensures { OnOk result (GainsDecoding (size_prefixed u32_format) index sink.old.items sink.new.items) }
 {
     StartSection {
@@ -183,7 +183,7 @@ pub fn read_start<'a, A: Allocator + Copy + 'a>(
 }
 
 /// Appends a data count section.
-fn write_data_count<A: Allocator>(sink: &mut Vec<u8, A>, count: u32) -> R<()>
+fn write_data_count<A: Allocator>(sink: &mut Vec<u8, A>, count: u32) -> Result<()>
     ensures { OnOk result (GainsDecoding (size_prefixed u32_format) count sink.old.items sink.new.items) }
 {
     DataCountSection { count }.encode(sink)

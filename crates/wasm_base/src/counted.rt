@@ -3,7 +3,7 @@ ghost use Rattle.std.specs.Prelude.{◌≡◌, ℕ, List};
 ghost use Rattle.wasm_base.specs.Calls.{Adds, AddsAll};
 ghost use Rattle.wasm_base.specs.Pieces.{section_encoding};
 
-use crate::refused::{R, Refused};
+use crate::refused::{Refused, Result};
 use crate::sections::Section;
 
 /// A builder of a counted section, to which items of type `T` are added one by one.
@@ -25,7 +25,7 @@ pub trait Counted<T>: Section {
     ///
     /// Returns [`Refused`], and leaves the builder unchanged, if the item does not fit, the builder
     /// is full, or an allocation fails.
-    fn add(&mut self, item: &T) -> R<()>
+    fn add(&mut self, item: &T) -> Result<()>
         ensures { Adds (item_encoding item.now) (item_encodable item.now) (pieces self.old) (pieces self.new) result };
 
     /// Its encoding is the size prefix, the number of entries, and the entries.

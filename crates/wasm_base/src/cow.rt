@@ -4,7 +4,7 @@ ghost use Rattle.wasm_base.specs.Cow.{items_of, encoding_of};
 ghost use Rattle.wasm_base.specs.Encodings.{vec_encoding, IsEncodableVec, size_prefixed_encoding, HasEncodableSize};
 
 use crate::encode::Encode;
-use crate::refused::{R, Refused};
+use crate::refused::{Refused, Result};
 use std::alloc::{Allocator, Global};
 
 /// A slice of items that is borrowed, or owned as a `Vec`.
@@ -28,7 +28,7 @@ impl<'a, T, A: Allocator> CowSlice<'a, T, A> {
 
 impl<'a, T: Copy, A: Allocator + Copy> CowSlice<'a, T, A> {
     /// Returns the same items, and copies owned ones into memory of their own.
-    pub fn clone(&self) -> R<Self>
+    pub fn clone(&self) -> Result<Self>
         ensures same { IfOk result (λ cow. items_of cow ≡ items_of self.now) }
         ensures memory { result ≢ Err Refused.TooLong }
     {
@@ -48,7 +48,7 @@ impl<T: Encode, A: Allocator> Encode for CowSlice<'_, T, A> {
 
     ghost encodable = { λ cow. IsEncodableVec T.encodable (items_of cow) };
 
-    fn encode<B: Allocator>(&self, sink: &mut Vec<u8, B>) -> R<()> {
+    fn encode<B: Allocator>(&self, sink: &mut Vec<u8, B>) -> Result<()> {
         self.as_slice().encode(sink)
     }
 }
@@ -74,7 +74,7 @@ impl<'a, A: Allocator> CowStr<'a, A> {
 
 impl<'a, A: Allocator + Copy> CowStr<'a, A> {
     /// Returns the same string, and copies an owned one into memory of its own.
-    pub fn clone(&self) -> R<Self>
+    pub fn clone(&self) -> Result<Self>
         ensures same { IfOk result (λ cow. encoding_of cow ≡ encoding_of self.now) }
         ensures memory { result ≢ Err Refused.TooLong }
     {
@@ -94,7 +94,7 @@ impl<A: Allocator> Encode for CowStr<'_, A> {
 
     ghost encodable = { λ cow. HasEncodableSize (encoding_of cow) };
 
-    fn encode<B: Allocator>(&self, sink: &mut Vec<u8, B>) -> R<()> {
+    fn encode<B: Allocator>(&self, sink: &mut Vec<u8, B>) -> Result<()> {
         self.as_str().encode(sink)
     }
 }

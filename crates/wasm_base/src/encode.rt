@@ -3,7 +3,7 @@ ghost use Rattle.std.specs.Prelude.{◌≡◌, ℕ, List, Err, OnOk, ⊤};
 ghost use Rattle.wasm_base.specs.Calls.{Appends};
 ghost use Rattle.wasm_base.specs.declared.refused.Refused.TheVariants.{TooLong};
 
-use crate::refused::R;
+use crate::refused::Result;
 use std::alloc::Allocator;
 
 /// A value that has an encoding in the WebAssembly binary format.
@@ -27,7 +27,7 @@ pub trait Encode {
     ghost overlong: { Self → Type 0 } = { λ _. ⊥ };
 
     /// Appends the encoding of the value. On an error, the bytes of the sink are unchanged.
-    fn encode<A: Allocator>(&self, sink: &mut Vec<u8, A>) -> R<()>
+    fn encode<A: Allocator>(&self, sink: &mut Vec<u8, A>) -> Result<()>
         ensures appends { Appends (encoding self.now) (encodable self.now) sink.old sink.new result }
         ensures read { OnOk result (decoding self.now) }
         ensures too_many { overlong self.now → result ≡ Err TooLong };

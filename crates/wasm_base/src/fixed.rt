@@ -2,7 +2,7 @@
 ghost use Rattle.std.specs.Prelude.{⊤};
 
 use crate::encode::Encode;
-use crate::refused::R;
+use crate::refused::Result;
 use std::alloc::Allocator;
 
 /// Encodes the bytes as they are, without a count.
@@ -12,7 +12,7 @@ impl<const N: usize> Encode for [u8; N] {
     ghost encodable = { λ _. ⊤ };
 
     #[inline]
-    fn encode<A: Allocator>(&self, sink: &mut Vec<u8, A>) -> R<()> {
+    fn encode<A: Allocator>(&self, sink: &mut Vec<u8, A>) -> Result<()> {
         sink.extend_from_slice(self)?;
         Ok(())
     }

@@ -6,11 +6,11 @@ ghost use Rattle.wasm_base.specs.Encodings.{longest, size_prefixed_encoding, Has
 
 use crate::encode::Encode;
 use crate::leb128::encoding_size;
-use crate::refused::{R, Refused};
+use crate::refused::{Refused, Result};
 use std::alloc::Allocator;
 
 /// Appends a size prefix, and reserves spare capacity for the payload that the caller appends next.
-pub fn begin_size_prefixed<A: Allocator>(sink: &mut Vec<u8, A>, size: usize) -> R<()>
+pub fn begin_size_prefixed<A: Allocator>(sink: &mut Vec<u8, A>, size: usize) -> Result<()>
     ensures ok { OnOk result (sink.new.items ≡ sink.old.items ++ unsigned_encoding size) }
     ensures reserved { OnOk result (vec_len sink.new + size ≤ vec_capacity sink.new) }
     ensures err { OnErr result (sink.new.items ≡ sink.old.items) }
@@ -37,7 +37,7 @@ const SHORT: usize = 0x80;
 /// Appends the bytes with their size prefix.
 #[tactic(auto, using(crate::proofs::NumberEncodings::one_group))]
 #[inline(always)]
-pub fn encode_size_prefixed<A: Allocator>(sink: &mut Vec<u8, A>, bytes: &[u8]) -> R<()>
+pub fn encode_size_prefixed<A: Allocator>(sink: &mut Vec<u8, A>, bytes: &[u8]) -> Result<()>
     ensures appends { Appends (size_prefixed_encoding bytes.now) (HasEncodableSize bytes.now) sink.old sink.new result }
     ensures too_many { longest < length bytes.now → result ≡ Err Refused.TooLong }
 {
@@ -53,7 +53,7 @@ pub fn encode_size_prefixed<A: Allocator>(sink: &mut Vec<u8, A>, bytes: &[u8]) -
 
 /// Appends the bytes with their size prefix, which may have several bytes.
 #[inline(never)]
-fn encode_long_payload<A: Allocator>(sink: &mut Vec<u8, A>, bytes: &[u8]) -> R<()>
+fn encode_long_payload<A: Allocator>(sink: &mut Vec<u8, A>, bytes: &[u8]) -> Result<()>
     ensures appends { Appends (size_prefixed_encoding bytes.now) (HasEncodableSize bytes.now) sink.old sink.new result }
     ensures too_many { longest < length bytes.now → result ≡ Err Refused.TooLong }
 {
@@ -64,7 +64,7 @@ fn encode_long_payload<A: Allocator>(sink: &mut Vec<u8, A>, bytes: &[u8]) -> R<(
 
 /// Appends a size prefix, then `count`, then the bytes. This is a counted section if the bytes are
 /// the encodings of `count` entries; the call does not check that.
-pub fn encode_section<A: Allocator>(sink: &mut Vec<u8, A>, count: u32, bytes: &[u8]) -> R<()>
+pub fn encode_section<A: Allocator>(sink: &mut Vec<u8, A>, count: u32, bytes: &[u8]) -> Result<()>
     ensures appends { Appends (size_prefixed_encoding (unsigned_encoding count ++ bytes.now)) (HasEncodableSize (unsigned_encoding count ++ bytes.now)) sink.old sink.new result }
     ensures too_many { longest < length (unsigned_encoding count ++ bytes.now) → result ≡ Err Refused.TooLong }
 {
@@ -83,7 +83,7 @@ impl Encode for &str {
     ghost overlong = { λ name. longest < length name.now };
 
     #[inline(always)]
-    fn encode<A: Allocator>(&self, sink: &mut Vec<u8, A>) -> R<()> {
+    fn encode<A: Allocator>(&self, sink: &mut Vec<u8, A>) -> Result<()> {
         encode_size_prefixed(sink, self.as_bytes())
     }
 }

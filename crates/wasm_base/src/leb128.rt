@@ -8,7 +8,7 @@ ghost use Rattle.wasm_base.specs.Encodings.{longest};
 ghost use Rattle.wasm_base.specs.declared.leb128.NoGroups.TheVariants.{Ended, TooMany};
 
 use crate::encode::Encode;
-use crate::refused::{R, Refused};
+use crate::refused::{Refused, Result};
 use std::alloc::Allocator;
 
 /// An unsigned number below this is one group, the last one.
@@ -94,7 +94,7 @@ const MOST_GROUPS: usize = 10;
 /// counted first, and two groups are written without a loop.
 #[tactic(auto, using(crate::proofs::NumberEncodings::most_groups))]
 #[inline(always)]
-fn append_groups<A: Allocator>(sink: &mut Vec<u8, A>, negative: bool, limit: u64, n: u64) -> R<()>
+fn append_groups<A: Allocator>(sink: &mut Vec<u8, A>, negative: bool, limit: u64, n: u64) -> Result<()>
     requires limit { 0x40 ≤ limit × limit ≤ 0x80 }
     requires several { limit ≤ n }
     ensures { Appends (groups_encoding negative limit n) ⊤ sink.old sink.new result }
@@ -118,7 +118,7 @@ fn append_counted_groups<A: Allocator>(
     negative: bool,
     limit: u64,
     n: u64,
-) -> R<()>
+) -> Result<()>
     requires { 0 < limit × limit ≤ 0x80 }
     ensures { Appends (groups_encoding negative limit n) ⊤ sink.old sink.new result }
 {
@@ -129,7 +129,7 @@ fn append_counted_groups<A: Allocator>(
 
 /// Appends an unsigned number of several groups.
 #[inline(never)]
-fn append_long_unsigned<A: Allocator>(sink: &mut Vec<u8, A>, n: u64) -> R<()>
+fn append_long_unsigned<A: Allocator>(sink: &mut Vec<u8, A>, n: u64) -> Result<()>
     requires { 0x80 ≤ n }
     ensures { Appends (unsigned_encoding n) ⊤ sink.old sink.new result }
 {
@@ -138,7 +138,7 @@ fn append_long_unsigned<A: Allocator>(sink: &mut Vec<u8, A>, n: u64) -> R<()>
 
 /// Appends a signed number of several groups.
 #[inline(never)]
-fn append_long_signed<A: Allocator>(sink: &mut Vec<u8, A>, negative: bool, n: u64) -> R<()>
+fn append_long_signed<A: Allocator>(sink: &mut Vec<u8, A>, negative: bool, n: u64) -> Result<()>
     requires { 0x40 ≤ n }
     ensures { Appends (groups_encoding negative SIGNED_LIMIT n) ⊤ sink.old sink.new result }
 {
@@ -148,7 +148,7 @@ fn append_long_signed<A: Allocator>(sink: &mut Vec<u8, A>, negative: bool, n: u6
 /// Appends an unsigned number. Most have one byte, which is written here without a call.
 #[tactic(auto, using(crate::proofs::NumberEncodings::one_group))]
 #[inline]
-fn append_unsigned<A: Allocator>(sink: &mut Vec<u8, A>, n: u64) -> R<()>
+fn append_unsigned<A: Allocator>(sink: &mut Vec<u8, A>, n: u64) -> Result<()>
     ensures { Appends (unsigned_encoding n) ⊤ sink.old sink.new result }
 {
     if n < UNSIGNED_LIMIT {
@@ -160,7 +160,7 @@ fn append_unsigned<A: Allocator>(sink: &mut Vec<u8, A>, n: u64) -> R<()>
 
 #[tactic(auto, using(crate::proofs::NumberEncodings::one_group))]
 #[inline]
-fn append_signed<A: Allocator>(sink: &mut Vec<u8, A>, n: i64) -> R<()>
+fn append_signed<A: Allocator>(sink: &mut Vec<u8, A>, n: i64) -> Result<()>
     ensures { Appends (signed_encoding n) ⊤ sink.old sink.new result }
 {
     let negative = n < 0;
@@ -179,7 +179,7 @@ impl Encode for u8 {
     ghost encodable = { λ _. ⊤ };
 
     #[inline]
-    fn encode<A: Allocator>(&self, sink: &mut Vec<u8, A>) -> R<()> {
+    fn encode<A: Allocator>(&self, sink: &mut Vec<u8, A>) -> Result<()> {
         sink.push(*self)?;
         Ok(())
     }
@@ -192,7 +192,7 @@ impl Encode for u32 {
     ghost encodable = { λ _. ⊤ };
 
     #[inline]
-    fn encode<A: Allocator>(&self, sink: &mut Vec<u8, A>) -> R<()> {
+    fn encode<A: Allocator>(&self, sink: &mut Vec<u8, A>) -> Result<()> {
         append_unsigned(sink, u64::from(*self))
     }
 }
@@ -204,7 +204,7 @@ impl Encode for u64 {
     ghost encodable = { λ _. ⊤ };
 
     #[inline]
-    fn encode<A: Allocator>(&self, sink: &mut Vec<u8, A>) -> R<()> {
+    fn encode<A: Allocator>(&self, sink: &mut Vec<u8, A>) -> Result<()> {
         append_unsigned(sink, *self)
     }
 }
@@ -217,7 +217,7 @@ impl Encode for usize {
 
     ghost overlong = { λ n. longest < n };
 
-    fn encode<A: Allocator>(&self, sink: &mut Vec<u8, A>) -> R<()> {
+    fn encode<A: Allocator>(&self, sink: &mut Vec<u8, A>) -> Result<()> {
         match u32::try_from(*self) {
             Ok(n) => n.encode(sink),
             Err(_) => Err(Refused::TooLong),
@@ -232,7 +232,7 @@ impl Encode for i32 {
     ghost encodable = { λ _. ⊤ };
 
     #[inline]
-    fn encode<A: Allocator>(&self, sink: &mut Vec<u8, A>) -> R<()> {
+    fn encode<A: Allocator>(&self, sink: &mut Vec<u8, A>) -> Result<()> {
         append_signed(sink, i64::from(*self))
     }
 }
@@ -244,7 +244,7 @@ impl Encode for i64 {
     ghost encodable = { λ _. ⊤ };
 
     #[inline]
-    fn encode<A: Allocator>(&self, sink: &mut Vec<u8, A>) -> R<()> {
+    fn encode<A: Allocator>(&self, sink: &mut Vec<u8, A>) -> Result<()> {
         append_signed(sink, *self)
     }
 }

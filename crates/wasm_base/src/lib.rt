@@ -35,7 +35,7 @@ pub use modules::Module;
 pub use once::{BytesOf, EncodeOnce, VecOf, bytes_of, vec_of};
 pub use parts::{Lent, Optional};
 pub use pieces::Pieces;
-pub use refused::{R, Refused};
+pub use refused::{Refused, Result};
 pub use section_id::{
     CORE_FUNCTION_EXACT_SORT, CORE_FUNCTION_SORT, CORE_GLOBAL_SORT, CORE_MEMORY_SORT,
     CORE_TABLE_SORT, CORE_TAG_SORT, SectionId,

@@ -4,7 +4,7 @@ ghost use Rattle.wasm_base.specs.Calls.{DecodesOneMore};
 ghost use Rattle.wasm_base.specs.Formats.{header, wasm_module};
 ghost use Rattle.wasm_base.specs.Decoding.{DecodesWhole};
 
-use crate::refused::{R, Refused};
+use crate::refused::{Refused, Result};
 use crate::sections::Section;
 use std::alloc::{Allocator, Global};
 use std::marker::Model;
@@ -34,7 +34,7 @@ impl<A: Allocator> Module<A> {
     ///
     /// Returns [`Refused::Memory`] if the allocation of the header fails.
     #[tactic(auto, using(crate::proofs::ModuleLaws::module_empty))]
-    pub fn new(alloc: A) -> R<Module<A>>
+    pub fn new(alloc: A) -> Result<Module<A>>
         ensures bytes { IfOk result (λ m. m ≡ header) }
         ensures read { IfOk result (λ m. DecodesWhole wasm_module m []) }
         ensures memory { result ≢ Err Refused.TooLong }
@@ -50,7 +50,7 @@ impl<A: Allocator> Module<A> {
     ///
     /// Returns [`Refused`], and leaves the module unchanged, if the section is too long or an
     /// allocation fails.
-    pub fn section<S: Section>(&mut self, section: &S) -> R<()>
+    pub fn section<S: Section>(&mut self, section: &S) -> Result<()>
         ensures ok { OnOk result (self.new ≡ self.old ++ (S.id_of section.now ∷ S.encoding section.now)) }
         ensures read { OnOk result (DecodesOneMore (S.payload section.now) (S.id_of section.now) self.old self.new) }
         ensures section { OnOk result (S.decoding section.now) }
@@ -64,7 +64,7 @@ impl<A: Allocator> Module<A> {
     }
 
     /// Returns a module of the same bytes, in memory of its own.
-    pub fn clone(&self) -> R<Module<A>>
+    pub fn clone(&self) -> Result<Module<A>>
     where
         A: Clone,
         ensures same { IfOk result (λ m. m ≡ self.now) }

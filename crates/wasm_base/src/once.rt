@@ -6,7 +6,7 @@ ghost use Rattle.wasm_base.specs.Encodings.{longest};
 ghost use Rattle.wasm_base.specs.declared.refused.Refused.TheVariants.{TooLong};
 
 use crate::encode::Encode;
-use crate::refused::{R, Refused};
+use crate::refused::{Refused, Result};
 use std::alloc::Allocator;
 
 /// A value that is consumed when it is encoded, since an iterator in it yields its items only once.
@@ -27,7 +27,7 @@ pub trait EncodeOnce {
     ghost encodable: { Self → Type 0 };
 
     /// Appends an encoding of the value. On an error, the bytes of the sink are unchanged.
-    fn encode_once<A: Allocator>(self, sink: &mut Vec<u8, A>) -> R<()>
+    fn encode_once<A: Allocator>(self, sink: &mut Vec<u8, A>) -> Result<()>
         requires { lawful self }
         ensures { AppendsOnce (gives self) (encodable self) sink.old sink.new result };
 }
@@ -49,7 +49,7 @@ pub struct BytesOf<I> {
 
 /// Returns the number of items that the iterator reports, or `TooLong` if a count cannot represent
 /// it.
-fn count_of<I: ExactSizeIterator>(items: &I) -> R<u32>
+fn count_of<I: ExactSizeIterator>(items: &I) -> Result<u32>
     ensures ok { IfOk result (λ count. IsFinite (I.remaining items.now) × (size (I.remaining items.now) ≡ count) × (count ≤ longest)) }
     ensures too_long { size (I.remaining items.now) ≤ longest → result ≢ Err TooLong }
     ensures too_many { longest < size (I.remaining items.now) → result ≡ Err TooLong }
@@ -67,7 +67,7 @@ fn count_of<I: ExactSizeIterator>(items: &I) -> R<u32>
 ///
 /// Returns `TooLong` if the iterator reports more than 4294967295 elements. It never returns
 /// `Memory`.
-pub fn vec_of<V: IntoIterator>(elements: V) -> R<VecOf<V::IntoIter>>
+pub fn vec_of<V: IntoIterator>(elements: V) -> Result<VecOf<V::IntoIter>>
 where
     V::IntoIter: ExactSizeIterator + Drop,
     ensures ok { IfOk result (λ v. V.into_iter_gives elements v.items × IsFinite (V.IntoIter.remaining v.items) × (size (V.IntoIter.remaining v.items) ≡ v.count) × (v.count ≤ longest)) }
@@ -86,7 +86,7 @@ where
 /// # Errors
 ///
 /// Returns `TooLong` if the iterator reports more than 4294967295 bytes. It never returns `Memory`.
-pub fn bytes_of<V: IntoIterator>(bytes: V) -> R<BytesOf<V::IntoIter>>
+pub fn bytes_of<V: IntoIterator>(bytes: V) -> Result<BytesOf<V::IntoIter>>
 where
     V::IntoIter: ExactSizeIterator + Drop,
     ensures ok { IfOk result (λ v. V.into_iter_gives bytes v.items × IsFinite (V.IntoIter.remaining v.items) × (size (V.IntoIter.remaining v.items) ≡ v.count) × (v.count ≤ longest)) }
@@ -107,7 +107,7 @@ impl<T: Encode + Drop, I: Iterator<Item = T> + Drop> EncodeOnce for VecOf<I> {
     ghost encodable = { λ v. YieldsEncodable I.next_gives T.encodable v.items };
 
     #[inline(always)]
-    fn encode_once<A: Allocator>(self, sink: &mut Vec<u8, A>) -> R<()> {
+    fn encode_once<A: Allocator>(self, sink: &mut Vec<u8, A>) -> Result<()> {
         let VecOf { items, count } = self;
         let start = sink.len();
         count.encode(sink)?;
@@ -176,7 +176,7 @@ impl<I: Iterator<Item = u8> + Drop> EncodeOnce for BytesOf<I> {
     ghost encodable = { λ _. Unit {0} };
 
     #[inline(always)]
-    fn encode_once<A: Allocator>(self, sink: &mut Vec<u8, A>) -> R<()> {
+    fn encode_once<A: Allocator>(self, sink: &mut Vec<u8, A>) -> Result<()> {
         let BytesOf { mut items, count } = self;
         let start = sink.len();
         let len = count as usize;
@@ -200,7 +200,7 @@ impl<S: Encode + Drop, T: EncodeOnce + Drop> EncodeOnce for (S, T) {
     ghost encodable = { λ p. S.encodable p.0 × T.encodable p.1 };
 
     #[inline(always)]
-    fn encode_once<A: Allocator>(self, sink: &mut Vec<u8, A>) -> R<()> {
+    fn encode_once<A: Allocator>(self, sink: &mut Vec<u8, A>) -> Result<()> {
         let (front, back) = self;
         let start = sink.len();
         front.encode(sink)?;
@@ -221,7 +221,7 @@ impl<S: Encode + Drop, T: EncodeOnce + Drop, U: EncodeOnce + Drop> EncodeOnce fo
     ghost encodable = { λ p. S.encodable p.0 × T.encodable p.1 × U.encodable p.2 };
 
     #[inline(always)]
-    fn encode_once<A: Allocator>(self, sink: &mut Vec<u8, A>) -> R<()> {
+    fn encode_once<A: Allocator>(self, sink: &mut Vec<u8, A>) -> Result<()> {
         let (front, middle, back) = self;
         let start = sink.len();
         front.encode(sink)?;

@@ -3,7 +3,7 @@ ghost use Rattle.std.specs.Prelude.{IfSome};
 ghost use Rattle.wasm_base.specs.Encodings.{optional_encoding};
 
 use crate::encode::Encode;
-use crate::refused::R;
+use crate::refused::Result;
 use std::alloc::Allocator;
 
 /// A borrowed value as a component of an encoding.
@@ -17,7 +17,7 @@ impl<T: Encode> Encode for Lent<'_, T> {
     ghost encodable = { λ lent. T.encodable lent.0.now };
 
     #[inline]
-    fn encode<A: Allocator>(&self, sink: &mut Vec<u8, A>) -> R<()> {
+    fn encode<A: Allocator>(&self, sink: &mut Vec<u8, A>) -> Result<()> {
         self.0.encode(sink)
     }
 }
@@ -33,7 +33,7 @@ impl<T: Encode> Encode for Optional<T> {
     ghost encodable = { λ part. IfSome part.0 T.encodable };
 
     #[inline]
-    fn encode<A: Allocator>(&self, sink: &mut Vec<u8, A>) -> R<()> {
+    fn encode<A: Allocator>(&self, sink: &mut Vec<u8, A>) -> Result<()> {
         match &self.0 {
             Some(part) => part.encode(sink),
             None => Ok(()),

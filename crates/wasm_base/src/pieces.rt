@@ -9,7 +9,7 @@ ghost use Rattle.wasm_base.specs.Encodings.{longest};
 use crate::encode::Encode;
 use crate::frames::encode_section;
 use crate::once::EncodeOnce;
-use crate::refused::{R, Refused};
+use crate::refused::{Refused, Result};
 use std::alloc::{Allocator, Global};
 use std::marker::Model;
 
@@ -91,7 +91,7 @@ impl<A: Allocator> Pieces<A> {
     /// Adds an entry of these bytes.
     #[tactic(auto, using(crate::proofs::Cut::length_cut))]
     #[inline]
-    pub fn add(&mut self, entry: &[u8]) -> R<()>
+    pub fn add(&mut self, entry: &[u8]) -> Result<()>
         ensures { Adds entry.now ⊤ self.old self.new result }
     {
         if self.ends.len() >= MOST_ENTRIES {
@@ -107,7 +107,7 @@ impl<A: Allocator> Pieces<A> {
     /// Adds the encoding of the item as an entry. It is encoded directly into the buffer.
     #[tactic(auto, using(crate::proofs::Cut::length_cut))]
     #[inline]
-    pub fn add_encoded<T: Encode>(&mut self, item: &T) -> R<()>
+    pub fn add_encoded<T: Encode>(&mut self, item: &T) -> Result<()>
         ensures { Adds (T.encoding item.now) (T.encodable item.now) self.old self.new result }
     {
         if self.ends.len() >= MOST_ENTRIES {
@@ -124,7 +124,7 @@ impl<A: Allocator> Pieces<A> {
     /// the buffer.
     #[tactic(auto, using(crate::proofs::Cut::length_cut))]
     #[inline]
-    pub fn add_once<T: EncodeOnce + Drop>(&mut self, item: T) -> R<()>
+    pub fn add_once<T: EncodeOnce + Drop>(&mut self, item: T) -> Result<()>
         requires { T.lawful item }
         ensures { AddsOnce (T.gives item) (T.encodable item) self.old self.new result }
     {
@@ -154,7 +154,7 @@ impl<A: Allocator + Copy> Pieces<A> {
     }
 
     /// Returns the same entries, in memory of their own.
-    pub fn clone(&self) -> R<Self>
+    pub fn clone(&self) -> Result<Self>
         ensures same { IfOk result (λ pieces. pieces ≡ self.now) }
         ensures memory { result ≢ Err Refused.TooLong }
     {
@@ -176,7 +176,7 @@ impl<A: Allocator> Encode for Pieces<A> {
     ghost overlong = { IsOverlong };
 
     #[tactic(auto, unfolding(crate::specs::Pieces::section_encoding))]
-    fn encode<B: Allocator>(&self, sink: &mut Vec<u8, B>) -> R<()> {
+    fn encode<B: Allocator>(&self, sink: &mut Vec<u8, B>) -> Result<()> {
         encode_section(sink, self.len(), self.bytes())
     }
 }

@@ -19,7 +19,7 @@ pub enum Refused {
 }
 
 /// The result of a call that can fail with [`Refused`].
-pub type R<T> = Result<T, Refused>;
+pub type Result<T, E = Refused> = std::result::Result<T, E>;
 
 impl From<AllocError> for Refused {
     ghost from_gives = { λ _ refused. refused ≡ Memory };

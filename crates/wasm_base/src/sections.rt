@@ -8,7 +8,7 @@ ghost use Rattle.wasm_base.specs.declared.refused.Refused.TheVariants.{TooLong};
 
 use crate::encode::Encode;
 use crate::frames::encode_size_prefixed;
-use crate::refused::{R, Refused};
+use crate::refused::{Refused, Result};
 use std::alloc::Allocator;
 
 /// A section of a module: an id, and an encoding from which a reader decodes the section's items.
@@ -36,7 +36,7 @@ pub trait Section: Encode {
         ensures { result ≡ id_of self.now };
 
     /// Appends the id and the encoding. On an error, the bytes of `dst` are unchanged.
-    fn append_to<A: Allocator>(&self, dst: &mut Vec<u8, A>) -> R<()>
+    fn append_to<A: Allocator>(&self, dst: &mut Vec<u8, A>) -> Result<()>
         ensures appends { Appends (id_of self.now ∷ Self.encoding self.now) (Self.encodable self.now) dst.old dst.new result }
         ensures read { OnOk result (Self.decoding self.now) }
         ensures too_many { Self.overlong self.now → result ≡ Err TooLong }
@@ -78,7 +78,7 @@ impl Encode for RawSection<'_> {
 
     ghost decoding = { λ s. DecodesBack (size_prefixed any_bytes) (λ bytes. bytes ≡ s.bytes.now) (size_prefixed_encoding s.bytes.now) };
 
-    fn encode<A: Allocator>(&self, sink: &mut Vec<u8, A>) -> R<()> {
+    fn encode<A: Allocator>(&self, sink: &mut Vec<u8, A>) -> Result<()> {
         encode_size_prefixed(sink, self.bytes)
     }
 }

@@ -3,7 +3,7 @@ ghost use Rattle.std.specs.Prelude.{◌++◌};
 ghost use Rattle.wasm_base.specs.Calls.{Appends};
 
 use crate::encode::Encode;
-use crate::refused::R;
+use crate::refused::Result;
 use std::alloc::Allocator;
 
 /// Appends the encodings of both values, or of neither.
@@ -12,7 +12,7 @@ fn encode_both<S: Encode, T: Encode, A: Allocator>(
     first: &S,
     second: &T,
     sink: &mut Vec<u8, A>,
-) -> R<()>
+) -> Result<()>
     ensures { Appends (S.encoding first.now ++ T.encoding second.now) (S.encodable first.now × T.encodable second.now) sink.old sink.new result }
 {
     let start = sink.len();
@@ -31,7 +31,7 @@ impl<S: Encode, T: Encode> Encode for (S, T) {
     ghost encodable = { λ p. S.encodable p.0 × T.encodable p.1 };
 
     #[inline]
-    fn encode<A: Allocator>(&self, sink: &mut Vec<u8, A>) -> R<()> {
+    fn encode<A: Allocator>(&self, sink: &mut Vec<u8, A>) -> Result<()> {
         encode_both(&self.0, &self.1, sink)
     }
 }
@@ -43,7 +43,7 @@ impl<S: Encode, T: Encode, U: Encode> Encode for (S, T, U) {
     ghost encodable = { λ p. S.encodable p.0 × T.encodable p.1 × U.encodable p.2 };
 
     #[inline]
-    fn encode<A: Allocator>(&self, sink: &mut Vec<u8, A>) -> R<()> {
+    fn encode<A: Allocator>(&self, sink: &mut Vec<u8, A>) -> Result<()> {
         let start = sink.len();
         encode_both(&self.0, &self.1, sink)?;
         if let Err(refused) = self.2.encode(sink) {

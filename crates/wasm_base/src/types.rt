@@ -3,7 +3,7 @@ ghost use Rattle.std.specs.Prelude.{◌≡◌, ◌∷◌, [], ⊤};
 ghost use Rattle.wasm_base.specs.Types.{abstract_code, heap_encoding, ref_encoding, val_encoding};
 
 use crate::encode::Encode;
-use crate::refused::R;
+use crate::refused::Result;
 use std::alloc::Allocator;
 
 /// The heap types that have a name, as the core specification ("Heap Types") and its proposals
@@ -99,7 +99,7 @@ impl Encode for AbstractHeapType {
     ghost encodable = { λ _. ⊤ };
 
     #[inline]
-    fn encode<A: Allocator>(&self, sink: &mut Vec<u8, A>) -> R<()> {
+    fn encode<A: Allocator>(&self, sink: &mut Vec<u8, A>) -> Result<()> {
         self.byte().encode(sink)
     }
 }
@@ -112,7 +112,7 @@ impl Encode for HeapType {
     ghost encodable = { λ _. ⊤ };
 
     #[inline]
-    fn encode<A: Allocator>(&self, sink: &mut Vec<u8, A>) -> R<()> {
+    fn encode<A: Allocator>(&self, sink: &mut Vec<u8, A>) -> Result<()> {
         match *self {
             HeapType::Abstract { shared: false, ty } => ty.encode(sink),
             HeapType::Abstract { shared: true, ty } => (0x65u8, ty).encode(sink),
@@ -129,7 +129,7 @@ impl Encode for RefType {
     ghost encodable = { λ _. ⊤ };
 
     #[inline]
-    fn encode<A: Allocator>(&self, sink: &mut Vec<u8, A>) -> R<()> {
+    fn encode<A: Allocator>(&self, sink: &mut Vec<u8, A>) -> Result<()> {
         let byte: u8 = match (self.nullable, self.heap_type) {
             (
                 true,
@@ -159,7 +159,7 @@ impl Encode for ValType {
     ghost encodable = { λ _. ⊤ };
 
     #[inline(always)]
-    fn encode<A: Allocator>(&self, sink: &mut Vec<u8, A>) -> R<()> {
+    fn encode<A: Allocator>(&self, sink: &mut Vec<u8, A>) -> Result<()> {
         let byte: u8 = match *self {
             ValType::I32 => 0x7F,
             ValType::I64 => 0x7E,

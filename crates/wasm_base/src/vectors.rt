@@ -5,7 +5,7 @@ ghost use Rattle.wasm_base.specs.Encodings.{longest, vec_encoding, IsEncodableVe
 
 use crate::encode::Encode;
 use crate::once::{EncodeOnce, vec_of};
-use crate::refused::R;
+use crate::refused::Result;
 use std::alloc::Allocator;
 
 /// Encodes the members as a vector.
@@ -16,7 +16,7 @@ impl<T: Encode> Encode for &[T] {
 
     ghost overlong = { λ s. longest < length s.now };
 
-    fn encode<A: Allocator>(&self, sink: &mut Vec<u8, A>) -> R<()> {
+    fn encode<A: Allocator>(&self, sink: &mut Vec<u8, A>) -> Result<()> {
         let start = sink.len();
         self.len().encode(sink)?;
         for item in self.iter() {
@@ -35,7 +35,7 @@ impl<T: Encode> Encode for &[T] {
 pub fn encode_vec<T: Encode + Drop, V: IntoIterator<Item = T>, A: Allocator>(
     elements: V,
     sink: &mut Vec<u8, A>,
-) -> R<()>
+) -> Result<()>
 where
     V::IntoIter: ExactSizeIterator + Drop,
     requires { HasKnownLength V.into_iter_gives V.IntoIter.can_next V.IntoIter.next_gives V.IntoIter.remaining elements }

@@ -4,13 +4,13 @@ ghost use Rattle.wasm_bench.specs.Answers.{DataAnswer, IsSplit, Outcome};
 
 use crate::answers::{Fault, answer, number};
 use std::alloc::Global;
-use wasm_base::R;
+use wasm_base::Result;
 use wasm_code::ConstExpr;
 use wasm_sections::DataSection;
 
 /// Adds an active segment of these bytes, which begins at the offset `start`.
 #[tactic(auto, using(wasm_base::proofs::KnownLengths::drained_copied))]
-fn add(alloc: Global, section: &mut DataSection, start: i32, bytes: &[u8]) -> R<()>
+fn add(alloc: Global, section: &mut DataSection, start: i32, bytes: &[u8]) -> Result<()>
     ensures { OnOk result (length section.new ≡ length section.old + 1) }
 {
     let offset = ConstExpr::i32_const(alloc, start)?;

@@ -5,11 +5,11 @@ ghost use Rattle.wasm_bench.specs.Answers.{FunctionsAnswer, Outcome};
 
 use crate::answers::{Fault, answer, number};
 use std::alloc::Global;
-use wasm_base::R;
+use wasm_base::Result;
 use wasm_sections::FunctionSection;
 
 /// Returns a section of functions of these types.
-fn build(alloc: Global, types: &[u32]) -> R<FunctionSection>
+fn build(alloc: Global, types: &[u32]) -> Result<FunctionSection>
     ensures { IfOk result (λ section. section ≡ map unsigned_encoding types.now) }
 {
     let mut section = FunctionSection::new(alloc);

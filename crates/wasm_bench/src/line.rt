@@ -5,7 +5,7 @@ ghost use Rattle.wasm_bench.specs.Answers.{CountedAnswer, Outcome};
 use crate::answers::{Fault, answer, number};
 use crate::bodies::with_locals;
 use std::alloc::Global;
-use wasm_base::R;
+use wasm_base::Result;
 use wasm_code::{CodeSection, Function};
 use wasm_insn::{InstructionSink, MemArg, MemArgTarget};
 
@@ -16,7 +16,7 @@ fn eight_calls(
     constant: u32,
     callee: u32,
     offset: u32,
-) -> R<()>
+) -> Result<()>
     ensures same_reference { sink.new.sink.ghost_name ≡ sink.old.sink.ghost_name }
 {
     let argument = MemArg {

@@ -11,7 +11,7 @@ ghost use Rattle.wasm_code.specs.Code.{code_section, EncodesBodies, DecodesCode}
 use crate::function::Function;
 use std::alloc::{Allocator, Global};
 use std::marker::Model;
-use wasm_base::{Counted, Encode, Pieces, R, Section, SectionId, encode_size_prefixed};
+use wasm_base::{Counted, Encode, Pieces, Result, Section, SectionId, encode_size_prefixed};
 
 /// The code section: the bodies of a module's functions, modelled as the bytes of each entry. An
 /// entry is a raw body with its size prefix.
@@ -50,7 +50,7 @@ impl Encode for RawBody<'_> {
     ghost encodable = { λ body. HasEncodableSize body.bytes.now };
 
     #[inline]
-    fn encode<A: Allocator>(&self, sink: &mut Vec<u8, A>) -> R<()> {
+    fn encode<A: Allocator>(&self, sink: &mut Vec<u8, A>) -> Result<()> {
         encode_size_prefixed(sink, self.bytes)
     }
 }
@@ -85,14 +85,14 @@ impl<A: Allocator> CodeSection<A> {
     }
 
     /// Adds a function body.
-    pub fn function<B: Allocator>(&mut self, function: &Function<B>) -> R<()>
+    pub fn function<B: Allocator>(&mut self, function: &Function<B>) -> Result<()>
         ensures { Adds (size_prefixed_encoding function.now) (HasEncodableSize function.now) self.old self.new result }
     {
         self.pieces.add_encoded(function)
     }
 
     /// Adds a raw body, as `Function::into_raw_body` returns it.
-    pub fn raw(&mut self, body: &[u8]) -> R<()>
+    pub fn raw(&mut self, body: &[u8]) -> Result<()>
         ensures { Adds (size_prefixed_encoding body.now) (HasEncodableSize body.now) self.old self.new result }
     {
         self.pieces.add_encoded(&RawBody { bytes: body })
@@ -110,7 +110,7 @@ impl<A: Allocator + Copy> CodeSection<A> {
     }
 
     /// Returns a section of the same bodies, in memory of its own.
-    pub fn clone(&self) -> R<Self>
+    pub fn clone(&self) -> Result<Self>
         ensures same { IfOk result (λ section. section ≡ self.now) }
         ensures memory { result ≢ Err TooLong }
     {
@@ -130,7 +130,7 @@ impl<A: Allocator> Encode for CodeSection<A> {
 
     ghost decoding = { λ section. DecodesCode section (section_encoding section) };
 
-    fn encode<B: Allocator>(&self, sink: &mut Vec<u8, B>) -> R<()> {
+    fn encode<B: Allocator>(&self, sink: &mut Vec<u8, B>) -> Result<()> {
         self.pieces.encode(sink)
     }
 }
@@ -168,7 +168,7 @@ impl<A: Allocator, B: Allocator> Counted<Function<B>> for CodeSection<A> {
 
     ghost item_encodable = { HasEncodableSize };
 
-    fn add(&mut self, item: &Function<B>) -> R<()> {
+    fn add(&mut self, item: &Function<B>) -> Result<()> {
         self.function(item)
     }
 

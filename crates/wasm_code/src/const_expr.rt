@@ -10,7 +10,7 @@ use crate::first::First;
 use crate::function::append_all;
 use std::alloc::{Allocator, Global};
 use std::marker::Model;
-use wasm_base::{Encode, HeapType, Optional, R, read_groups};
+use wasm_base::{Encode, HeapType, Optional, Result, read_groups};
 use wasm_insn::{Ieee32, Ieee64, Instruction, InstructionSink, Numeric, VectorImmediate};
 
 /// A constant expression, modelled as its stored bytes: the instructions without the `End` that
@@ -52,7 +52,7 @@ impl<A: Allocator> ConstExpr<A> {
 
     /// Returns the expression of these bytes, which should encode instructions. The call does not
     /// check that.
-    pub fn raw<I: IntoIterator<Item = u8>>(alloc: A, bytes: I) -> R<Self>
+    pub fn raw<I: IntoIterator<Item = u8>>(alloc: A, bytes: I) -> Result<Self>
     where
         I::IntoIter: Drop,
         requires { (it : I.IntoIter) → I.into_iter_gives bytes it → I.IntoIter.can_next it × IsFinite (I.IntoIter.remaining it) }
@@ -71,7 +71,7 @@ impl<A: Allocator> ConstExpr<A> {
     pub fn extended<'i, I: IntoIterator<Item = Instruction<'i>>>(
         alloc: A,
         instructions: I,
-    ) -> R<Self>
+    ) -> Result<Self>
     where
         I::IntoIter: Drop,
         requires { (it : I.IntoIter) → I.into_iter_gives instructions it → I.IntoIter.can_next it × IsFinite (I.IntoIter.remaining it) }
@@ -103,7 +103,7 @@ impl<A: Allocator> ConstExpr<A> {
 
     /// Returns the expression of `GlobalGet` alone.
     #[inline]
-    pub fn global_get(alloc: A, index: u32) -> R<Self>
+    pub fn global_get(alloc: A, index: u32) -> Result<Self>
         ensures stores { IfOk result (Stores (Instruction.GlobalGet index) []) }
         ensures memory { result ≢ Err TooLong }
     {
@@ -112,7 +112,7 @@ impl<A: Allocator> ConstExpr<A> {
 
     /// Returns the expression of `RefNull` alone.
     #[inline]
-    pub fn ref_null(alloc: A, ty: HeapType) -> R<Self>
+    pub fn ref_null(alloc: A, ty: HeapType) -> Result<Self>
         ensures stores { IfOk result (Stores (Instruction.RefNull ty) []) }
         ensures memory { result ≢ Err TooLong }
     {
@@ -121,7 +121,7 @@ impl<A: Allocator> ConstExpr<A> {
 
     /// Returns the expression of `RefFunc` alone.
     #[inline]
-    pub fn ref_func(alloc: A, function_index: u32) -> R<Self>
+    pub fn ref_func(alloc: A, function_index: u32) -> Result<Self>
         ensures stores { IfOk result (Stores (Instruction.RefFunc function_index) []) }
         ensures memory { result ≢ Err TooLong }
     {
@@ -130,7 +130,7 @@ impl<A: Allocator> ConstExpr<A> {
 
     /// Returns the expression of `I32Const` alone.
     #[inline]
-    pub fn i32_const(alloc: A, value: i32) -> R<Self>
+    pub fn i32_const(alloc: A, value: i32) -> Result<Self>
         ensures stores { IfOk result (Stores (Instruction.I32Const value) []) }
         ensures memory { result ≢ Err TooLong }
     {
@@ -139,7 +139,7 @@ impl<A: Allocator> ConstExpr<A> {
 
     /// Returns the expression of `I64Const` alone.
     #[inline]
-    pub fn i64_const(alloc: A, value: i64) -> R<Self>
+    pub fn i64_const(alloc: A, value: i64) -> Result<Self>
         ensures stores { IfOk result (Stores (Instruction.I64Const value) []) }
         ensures memory { result ≢ Err TooLong }
     {
@@ -148,7 +148,7 @@ impl<A: Allocator> ConstExpr<A> {
 
     /// Returns the expression of `F32Const` alone.
     #[inline]
-    pub fn f32_const(alloc: A, value: Ieee32) -> R<Self>
+    pub fn f32_const(alloc: A, value: Ieee32) -> Result<Self>
         ensures stores { IfOk result (Stores (Instruction.F32Const value) []) }
         ensures memory { result ≢ Err TooLong }
     {
@@ -157,7 +157,7 @@ impl<A: Allocator> ConstExpr<A> {
 
     /// Returns the expression of `F64Const` alone.
     #[inline]
-    pub fn f64_const(alloc: A, value: Ieee64) -> R<Self>
+    pub fn f64_const(alloc: A, value: Ieee64) -> Result<Self>
         ensures stores { IfOk result (Stores (Instruction.F64Const value) []) }
         ensures memory { result ≢ Err TooLong }
     {
@@ -165,7 +165,7 @@ impl<A: Allocator> ConstExpr<A> {
     }
 
     /// Returns the expression of `V128Const` alone.
-    pub fn v128_const(alloc: A, value: i128) -> R<Self>
+    pub fn v128_const(alloc: A, value: i128) -> Result<Self>
         ensures stores { IfOk result (Stores (Instruction.VectorImmediate (VectorImmediate.V128Const value)) []) }
         ensures memory { result ≢ Err TooLong }
     {
@@ -175,7 +175,7 @@ impl<A: Allocator> ConstExpr<A> {
 
     /// Appends `GlobalGet` to the expression.
     #[inline]
-    pub fn with_global_get(mut self, index: u32) -> R<Self>
+    pub fn with_global_get(mut self, index: u32) -> Result<Self>
         ensures stores { IfOk result (Stores (Instruction.GlobalGet index) self) }
         ensures memory { result ≢ Err TooLong }
     {
@@ -185,7 +185,7 @@ impl<A: Allocator> ConstExpr<A> {
 
     /// Appends `RefNull` to the expression.
     #[inline]
-    pub fn with_ref_null(mut self, ty: HeapType) -> R<Self>
+    pub fn with_ref_null(mut self, ty: HeapType) -> Result<Self>
         ensures stores { IfOk result (Stores (Instruction.RefNull ty) self) }
         ensures memory { result ≢ Err TooLong }
     {
@@ -195,7 +195,7 @@ impl<A: Allocator> ConstExpr<A> {
 
     /// Appends `RefFunc` to the expression.
     #[inline]
-    pub fn with_ref_func(mut self, function_index: u32) -> R<Self>
+    pub fn with_ref_func(mut self, function_index: u32) -> Result<Self>
         ensures stores { IfOk result (Stores (Instruction.RefFunc function_index) self) }
         ensures memory { result ≢ Err TooLong }
     {
@@ -205,7 +205,7 @@ impl<A: Allocator> ConstExpr<A> {
 
     /// Appends `I32Const` to the expression.
     #[inline]
-    pub fn with_i32_const(mut self, value: i32) -> R<Self>
+    pub fn with_i32_const(mut self, value: i32) -> Result<Self>
         ensures stores { IfOk result (Stores (Instruction.I32Const value) self) }
         ensures memory { result ≢ Err TooLong }
     {
@@ -215,7 +215,7 @@ impl<A: Allocator> ConstExpr<A> {
 
     /// Appends `I64Const` to the expression.
     #[inline]
-    pub fn with_i64_const(mut self, value: i64) -> R<Self>
+    pub fn with_i64_const(mut self, value: i64) -> Result<Self>
         ensures stores { IfOk result (Stores (Instruction.I64Const value) self) }
         ensures memory { result ≢ Err TooLong }
     {
@@ -225,7 +225,7 @@ impl<A: Allocator> ConstExpr<A> {
 
     /// Appends `F32Const` to the expression.
     #[inline]
-    pub fn with_f32_const(mut self, value: Ieee32) -> R<Self>
+    pub fn with_f32_const(mut self, value: Ieee32) -> Result<Self>
         ensures stores { IfOk result (Stores (Instruction.F32Const value) self) }
         ensures memory { result ≢ Err TooLong }
     {
@@ -235,7 +235,7 @@ impl<A: Allocator> ConstExpr<A> {
 
     /// Appends `F64Const` to the expression.
     #[inline]
-    pub fn with_f64_const(mut self, value: Ieee64) -> R<Self>
+    pub fn with_f64_const(mut self, value: Ieee64) -> Result<Self>
         ensures stores { IfOk result (Stores (Instruction.F64Const value) self) }
         ensures memory { result ≢ Err TooLong }
     {
@@ -245,7 +245,7 @@ impl<A: Allocator> ConstExpr<A> {
 
     /// Appends `V128Const` to the expression.
     #[inline]
-    pub fn with_v128_const(mut self, value: i128) -> R<Self>
+    pub fn with_v128_const(mut self, value: i128) -> Result<Self>
         ensures stores { IfOk result (Stores (Instruction.VectorImmediate (VectorImmediate.V128Const value)) self) }
         ensures memory { result ≢ Err TooLong }
     {
@@ -255,7 +255,7 @@ impl<A: Allocator> ConstExpr<A> {
 
     /// Appends `I32Add` to the expression.
     #[inline]
-    pub fn with_i32_add(mut self) -> R<Self>
+    pub fn with_i32_add(mut self) -> Result<Self>
         ensures stores { IfOk result (Stores (Instruction.Numeric Numeric.I32Add) self) }
         ensures memory { result ≢ Err TooLong }
     {
@@ -265,7 +265,7 @@ impl<A: Allocator> ConstExpr<A> {
 
     /// Appends `I32Sub` to the expression.
     #[inline]
-    pub fn with_i32_sub(mut self) -> R<Self>
+    pub fn with_i32_sub(mut self) -> Result<Self>
         ensures stores { IfOk result (Stores (Instruction.Numeric Numeric.I32Sub) self) }
         ensures memory { result ≢ Err TooLong }
     {
@@ -275,7 +275,7 @@ impl<A: Allocator> ConstExpr<A> {
 
     /// Appends `I32Mul` to the expression.
     #[inline]
-    pub fn with_i32_mul(mut self) -> R<Self>
+    pub fn with_i32_mul(mut self) -> Result<Self>
         ensures stores { IfOk result (Stores (Instruction.Numeric Numeric.I32Mul) self) }
         ensures memory { result ≢ Err TooLong }
     {
@@ -285,7 +285,7 @@ impl<A: Allocator> ConstExpr<A> {
 
     /// Appends `I64Add` to the expression.
     #[inline]
-    pub fn with_i64_add(mut self) -> R<Self>
+    pub fn with_i64_add(mut self) -> Result<Self>
         ensures stores { IfOk result (Stores (Instruction.Numeric Numeric.I64Add) self) }
         ensures memory { result ≢ Err TooLong }
     {
@@ -295,7 +295,7 @@ impl<A: Allocator> ConstExpr<A> {
 
     /// Appends `I64Sub` to the expression.
     #[inline]
-    pub fn with_i64_sub(mut self) -> R<Self>
+    pub fn with_i64_sub(mut self) -> Result<Self>
         ensures stores { IfOk result (Stores (Instruction.Numeric Numeric.I64Sub) self) }
         ensures memory { result ≢ Err TooLong }
     {
@@ -305,7 +305,7 @@ impl<A: Allocator> ConstExpr<A> {
 
     /// Appends `I64Mul` to the expression.
     #[inline]
-    pub fn with_i64_mul(mut self) -> R<Self>
+    pub fn with_i64_mul(mut self) -> Result<Self>
         ensures stores { IfOk result (Stores (Instruction.Numeric Numeric.I64Mul) self) }
         ensures memory { result ≢ Err TooLong }
     {
@@ -350,7 +350,7 @@ pub(crate) fn function_at_front(bytes: &[u8]) -> Option<u32>
 fn encode_each<T: Encode + Drop, I: IntoIterator<Item = T>, A: Allocator>(
     elements: I,
     sink: &mut Vec<u8, A>,
-) -> R<()>
+) -> Result<()>
 where
     I::IntoIter: Drop,
     requires { (it : I.IntoIter) → I.into_iter_gives elements it → I.IntoIter.can_next it × IsFinite (I.IntoIter.remaining it) }
@@ -364,7 +364,7 @@ where
 
 impl<A: Allocator + Copy> ConstExpr<A> {
     /// Returns the same expression, in memory of its own.
-    pub fn clone(&self) -> R<Self>
+    pub fn clone(&self) -> Result<Self>
         ensures same { IfOk result (λ e. e ≡ self.now) }
         ensures memory { result ≢ Err TooLong }
     {
@@ -387,7 +387,7 @@ impl Encode for Stored<'_> {
     ghost encodable = { λ _. ⊤ };
 
     #[inline]
-    fn encode<A: Allocator>(&self, sink: &mut Vec<u8, A>) -> R<()> {
+    fn encode<A: Allocator>(&self, sink: &mut Vec<u8, A>) -> Result<()> {
         sink.extend_from_slice(self.0)?;
         Ok(())
     }
@@ -406,7 +406,7 @@ impl<A: Allocator> Encode for ConstExpr<A> {
 
     #[tactic(auto, using(crate::proofs::ExpressionLaws::expression_decodes))]
     #[inline]
-    fn encode<B: Allocator>(&self, sink: &mut Vec<u8, B>) -> R<()> {
+    fn encode<B: Allocator>(&self, sink: &mut Vec<u8, B>) -> Result<()> {
         (Optional(self.first), Stored(&self.bytes), END).encode(sink)
     }
 }

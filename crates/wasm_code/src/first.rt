@@ -3,7 +3,7 @@ ghost use Rattle.std.specs.Prelude.{◌≡◌, ◌<◌, ◌^◌, IfSome, ⊤};
 ghost use Rattle.wasm_code.specs.Expressions.{first_encoding, index_of};
 
 use std::alloc::Allocator;
-use wasm_base::{Encode, HeapType, R};
+use wasm_base::{Encode, HeapType, Result};
 use wasm_insn::{Ieee32, Ieee64};
 
 /// An instruction that is usually a whole expression. It is kept as a value and not as bytes: it
@@ -39,7 +39,7 @@ impl Encode for First {
     ghost encodable = { λ _. ⊤ };
 
     #[inline]
-    fn encode<A: Allocator>(&self, sink: &mut Vec<u8, A>) -> R<()> {
+    fn encode<A: Allocator>(&self, sink: &mut Vec<u8, A>) -> Result<()> {
         match *self {
             First::GlobalGet(index) => (0x23u8, index).encode(sink),
             First::RefNull(ty) => (0xD0u8, ty).encode(sink),

@@ -11,7 +11,7 @@ ghost use Rattle.wasm_code.specs.Bodies.{body, IsWellFormedBody, GrowsBy, AddsIn
 use crate::locals::runs_of;
 use std::alloc::{Allocator, Global};
 use std::marker::Model;
-use wasm_base::{Encode, R, Refused, ValType, encode_size_prefixed, encode_vec};
+use wasm_base::{Encode, Refused, Result, ValType, encode_size_prefixed, encode_vec};
 use wasm_insn::{Buffer, Instruction, InstructionSink};
 
 /// A function, modelled as its raw body: the runs of its locals, and its instructions.
@@ -46,7 +46,7 @@ impl<A: Allocator> Function<A> {
     /// Returns a function with these runs of locals, to which instructions are then appended. If
     /// the length that the locals report exceeds 4294967295, the call returns `TooLong`, and
     /// requests none of them, as tests show.
-    pub fn new<V: IntoIterator<Item = (u32, ValType)>>(alloc: A, locals: V) -> R<Self>
+    pub fn new<V: IntoIterator<Item = (u32, ValType)>>(alloc: A, locals: V) -> Result<Self>
     where
         V::IntoIter: ExactSizeIterator + Drop,
         requires { HasKnownLength V.into_iter_gives V.IntoIter.can_next V.IntoIter.next_gives V.IntoIter.remaining locals }
@@ -71,14 +71,14 @@ impl<A: Allocator> Function<A> {
 
     /// Appends an instruction.
     #[tactic(auto, using(crate::proofs::BodyLaws::grows))]
-    pub fn instruction(&mut self, instruction: &Instruction<'_>) -> R<()>
+    pub fn instruction(&mut self, instruction: &Instruction<'_>) -> Result<()>
         ensures { AddsInstruction instruction.now self.old self.new result }
     {
         instruction.encode(&mut self.bytes)
     }
 
     /// Appends bytes, which should encode instructions. The call does not check that.
-    pub fn raw<I: IntoIterator<Item = u8>>(&mut self, bytes: I) -> R<()>
+    pub fn raw<I: IntoIterator<Item = u8>>(&mut self, bytes: I) -> Result<()>
     where
         I::IntoIter: Drop,
         requires { (it : I.IntoIter) → I.into_iter_gives bytes it → I.IntoIter.can_next it × IsFinite (I.IntoIter.remaining it) }
@@ -112,7 +112,7 @@ impl<A: Allocator> Function<A> {
 impl<A: Allocator + Copy> Function<A> {
     /// Returns a function with locals of these types: `new` of their runs. Neighbours of one type
     /// form one run.
-    pub fn new_with_locals_types<I: IntoIterator<Item = ValType>>(alloc: A, locals: I) -> R<Self>
+    pub fn new_with_locals_types<I: IntoIterator<Item = ValType>>(alloc: A, locals: I) -> Result<Self>
     where
         I::IntoIter: Drop,
         requires { (it : I.IntoIter) → I.into_iter_gives locals it → I.IntoIter.can_next it × IsFinite (I.IntoIter.remaining it) }
@@ -123,7 +123,7 @@ impl<A: Allocator + Copy> Function<A> {
     }
 
     /// Returns the same function, in memory of its own.
-    pub fn clone(&self) -> R<Self>
+    pub fn clone(&self) -> Result<Self>
         ensures same { IfOk result (λ f. f ≡ self.now) }
         ensures memory { result ≢ Err TooLong }
     {
@@ -160,7 +160,7 @@ impl<A: Allocator> Eq for Function<A> {
 impl<A: Allocator> Buffer for Function<A> {
     ghost written = { λ f. f };
 
-    fn append<E: Encode>(&mut self, value: &E) -> R<()> {
+    fn append<E: Encode>(&mut self, value: &E) -> Result<()> {
         value.encode(&mut self.bytes)
     }
 
@@ -169,7 +169,7 @@ impl<A: Allocator> Buffer for Function<A> {
         before: &S,
         elements: V,
         after: &U,
-    ) -> R<()>
+    ) -> Result<()>
     where
         V::IntoIter: ExactSizeIterator + Drop,
     {
@@ -181,7 +181,7 @@ impl<A: Allocator> Buffer for Function<A> {
 pub(crate) fn append_all<I: IntoIterator<Item = u8>, A: Allocator>(
     sink: &mut Vec<u8, A>,
     bytes: I,
-) -> R<()>
+) -> Result<()>
 where
     I::IntoIter: Drop,
     requires { (it : I.IntoIter) → I.into_iter_gives bytes it → I.IntoIter.can_next it × IsFinite (I.IntoIter.remaining it) }
@@ -210,7 +210,7 @@ impl<A: Allocator> Encode for Function<A> {
 
     ghost decoding = { λ f. DecodesBack (size_prefixed body) (IsWellFormedBody f) (size_prefixed_encoding f) };
 
-    fn encode<B: Allocator>(&self, sink: &mut Vec<u8, B>) -> R<()> {
+    fn encode<B: Allocator>(&self, sink: &mut Vec<u8, B>) -> Result<()> {
         encode_size_prefixed(sink, &self.bytes)
     }
 }

@@ -6,13 +6,13 @@ ghost use Rattle.wasm_base.specs.declared.refused.Refused.TheVariants.{TooLong};
 ghost use Rattle.wasm_code.specs.Bodies.{IsCounted, IsFull, MoreRuns, GathersRuns};
 
 use std::alloc::Allocator;
-use wasm_base::{R, Refused, ValType};
+use wasm_base::{Refused, Result, ValType};
 
 /// Returns the runs of the types: neighbours of one type form one run.
 pub(crate) fn runs_of<I: IntoIterator<Item = ValType>, A: Allocator>(
     alloc: A,
     types: I,
-) -> R<Vec<(u32, ValType), A>>
+) -> Result<Vec<(u32, ValType), A>>
 where
     I::IntoIter: Drop,
     requires { (it : I.IntoIter) → I.into_iter_gives types it → I.IntoIter.can_next it × IsFinite (I.IntoIter.remaining it) }
@@ -34,7 +34,7 @@ fn continues(last: ValType, ty: ValType) -> bool
 
 /// Adds one local: it extends the last run if that is of this type, and begins a new run otherwise.
 /// After an error the runs are unusable, since the last one may be lost.
-fn add_local<A: Allocator>(runs: &mut Vec<(u32, ValType), A>, ty: ValType) -> R<()>
+fn add_local<A: Allocator>(runs: &mut Vec<(u32, ValType), A>, ty: ValType) -> Result<()>
     ensures more { OnOk result (MoreRuns ty runs.old.items runs.new.items) }
     ensures counted { All IsCounted runs.old.items → OnOk result (All IsCounted runs.new.items) }
     ensures full { result ≡ Err TooLong → IsFull ty runs.old.items }

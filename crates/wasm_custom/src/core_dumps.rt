@@ -23,7 +23,7 @@ use crate::marked::{MarkedName, read_marked};
 use crate::named::after_name;
 use std::alloc::{Allocator, Global};
 use std::marker::Model;
-use wasm_base::{Encode, Kind, R, Section, SectionId, vec_of};
+use wasm_base::{Encode, Kind, Result, Section, SectionId, vec_of};
 use wasm_reader_base::{ReadFault, Readable, Shorten, read_whole};
 
 /// The `core` section of a dumped process, modelled as its data: the byte 00, and the name of the
@@ -50,7 +50,7 @@ impl<A: Allocator> Model for CoreDumpSection<A> {
 
 impl<A: Allocator> CoreDumpSection<A> {
     /// Returns the section of the process of this name.
-    pub fn new(alloc: A, name: &str) -> R<Self>
+    pub fn new(alloc: A, name: &str) -> Result<Self>
         ensures is { IfOk result (λ s. s ≡ marked_encoding name.now) }
         ensures was_encodable { IfOk result (λ _. HasEncodableSize name.now) }
         ensures too_long { HasEncodableSize name.now → result ≢ Err TooLong }
@@ -61,7 +61,7 @@ impl<A: Allocator> CoreDumpSection<A> {
     }
 
     /// Returns the same section, in memory of its own.
-    pub fn clone(&self) -> R<Self>
+    pub fn clone(&self) -> Result<Self>
     where
         A: Copy,
         ensures same { IfOk result (λ s. s ≡ self.now) }
@@ -82,7 +82,7 @@ impl<A: Allocator> Encode for CoreDumpSection<A> {
     ghost decoding = { λ s. DecodesBack core_section (SaysProcess s) (named_encoding core_name s) };
 
     #[tactic(auto, unfolding(crate::specs::Customs::named_encoding))]
-    fn encode<B: Allocator>(&self, sink: &mut Vec<u8, B>) -> R<()> {
+    fn encode<B: Allocator>(&self, sink: &mut Vec<u8, B>) -> Result<()> {
         let data = self.data.as_slice();
         begin_custom(sink, "core", data.len())?;
         sink.extend_from_slice(data).unwrap();
@@ -166,14 +166,14 @@ impl CustomKind for ModuleItems {
 
 impl<A: Allocator> CoreDumpModulesSection<A> {
     /// Adds a module.
-    pub fn module(&mut self, name: &str) -> R<()>
+    pub fn module(&mut self, name: &str) -> Result<()>
         ensures { Adds (marked_encoding name.now) (⊤ × HasEncodableSize name.now) self.old self.new result }
     {
         self.add_record(&(0x00u8, name))
     }
 
     /// Returns the section as a custom section, with its data in memory of their own.
-    pub fn as_custom<B: Allocator>(&self, alloc: B) -> R<CustomSection<'_, B>>
+    pub fn as_custom<B: Allocator>(&self, alloc: B) -> Result<CustomSection<'_, B>>
         ensures same { IfOk result (λ s. (encoding_of s.name ≡ modules_name) × (items_of s.bytes ≡ entries_encoding [] true self.now)) }
         ensures memory { result ≢ Err TooLong }
     {
@@ -238,7 +238,7 @@ impl<A: Allocator> CoreDumpInstancesSection<A> {
         module_index: u32,
         memories: M,
         globals: G,
-    ) -> R<()>
+    ) -> Result<()>
     where
         M::IntoIter: ExactSizeIterator + Drop,
         G::IntoIter: ExactSizeIterator + Drop,
@@ -253,7 +253,7 @@ impl<A: Allocator> CoreDumpInstancesSection<A> {
     }
 
     /// Returns the section as a custom section, with its data in memory of their own.
-    pub fn as_custom<B: Allocator>(&self, alloc: B) -> R<CustomSection<'_, B>>
+    pub fn as_custom<B: Allocator>(&self, alloc: B) -> Result<CustomSection<'_, B>>
         ensures same { IfOk result (λ s. (encoding_of s.name ≡ instances_name) × (items_of s.bytes ≡ entries_encoding [] true self.now)) }
         ensures memory { result ≢ Err TooLong }
     {
@@ -291,7 +291,7 @@ impl<'a> ItemsAs<&'a str> for ModuleItems {
         ensures { Unambiguous marked_name }
     {}
 
-    fn append_item<B: Allocator>(item: &&'a str, sink: &mut Vec<u8, B>) -> R<()> {
+    fn append_item<B: Allocator>(item: &&'a str, sink: &mut Vec<u8, B>) -> Result<()> {
         append_marked(item, sink)
     }
 }
@@ -332,7 +332,7 @@ impl<A: Allocator> ItemsAs<(u32, Vec<u32, A>, Vec<u32, A>)> for InstanceItems {
     fn append_item<B: Allocator>(
         item: &(u32, Vec<u32, A>, Vec<u32, A>),
         sink: &mut Vec<u8, B>,
-    ) -> R<()> {
+    ) -> Result<()> {
         let (index, memories, globals) = item;
         0x00u8.encode(sink)?;
         index.write_minimal(sink)?;
@@ -374,7 +374,7 @@ pub fn read_instances<'a, A: Allocator + Copy>(
 
 /// Appends the byte 00 and a name.
 #[tactic(auto, using(crate::proofs::CoreDumpLaws::marked_appended, crate::proofs::CoreDumpLaws::marked_encoded))]
-pub(crate) fn append_marked<B: Allocator>(name: &str, sink: &mut Vec<u8, B>) -> R<()>
+pub(crate) fn append_marked<B: Allocator>(name: &str, sink: &mut Vec<u8, B>) -> Result<()>
     ensures ok { OnOk result (AppendsMinimal marked_name name.now sink.old.items sink.new.items) }
     ensures front { IsFrontOf sink.old.items sink.new.items }
     ensures too_long { HasEncoding marked_name name.now → result ≢ Err TooLong }
@@ -386,7 +386,7 @@ pub(crate) fn append_marked<B: Allocator>(name: &str, sink: &mut Vec<u8, B>) -> 
 /// Writes the bytes that [`append_process`] appends. After an error, part of them may follow the
 /// old bytes.
 #[tactic(auto, using(crate::proofs::CoreDumpLaws::process_appended, crate::proofs::CoreDumpLaws::process_encoded))]
-fn write_process<B: Allocator>(name: &str, sink: &mut Vec<u8, B>) -> R<()>
+fn write_process<B: Allocator>(name: &str, sink: &mut Vec<u8, B>) -> Result<()>
     ensures ok { OnOk result (AppendsMinimal core_payload name.now sink.old.items sink.new.items) }
     ensures front { IsFrontOf sink.old.items sink.new.items }
     ensures too_long { HasEncoding core_payload name.now → result ≢ Err TooLong }
@@ -397,7 +397,7 @@ fn write_process<B: Allocator>(name: &str, sink: &mut Vec<u8, B>) -> R<()>
 
 /// Appends the minimal encoding of the payload of the section of this process. On an error, the
 /// sink is unchanged.
-pub fn append_process<B: Allocator>(name: &str, sink: &mut Vec<u8, B>) -> R<()>
+pub fn append_process<B: Allocator>(name: &str, sink: &mut Vec<u8, B>) -> Result<()>
     ensures ok { OnOk result (AppendsMinimal core_payload name.now sink.old.items sink.new.items) }
     ensures err { OnErr result (sink.new.items ≡ sink.old.items) }
     ensures too_long { HasEncoding core_payload name.now → result ≢ Err TooLong }
@@ -412,7 +412,7 @@ pub fn append_process<B: Allocator>(name: &str, sink: &mut Vec<u8, B>) -> R<()>
 
 /// Appends the minimal encoding of the payload of a section of these modules. On an error, the sink
 /// is unchanged.
-pub fn append_modules<B: Allocator>(names: &[&str], sink: &mut Vec<u8, B>) -> R<()>
+pub fn append_modules<B: Allocator>(names: &[&str], sink: &mut Vec<u8, B>) -> Result<()>
     ensures ok { OnOk result (AppendsMinimal modules_payload (map (λ n. n.now) names.now) sink.old.items sink.new.items) }
     ensures err { OnErr result (sink.new.items ≡ sink.old.items) }
     ensures too_long { HasEncoding modules_payload (map (λ n. n.now) names.now) → result ≢ Err TooLong }
@@ -425,7 +425,7 @@ pub fn append_modules<B: Allocator>(names: &[&str], sink: &mut Vec<u8, B>) -> R<
 pub fn append_instances<A: Allocator, B: Allocator>(
     instances: &[(u32, Vec<u32, A>, Vec<u32, A>)],
     sink: &mut Vec<u8, B>,
-) -> R<()>
+) -> Result<()>
     ensures ok { OnOk result (AppendsMinimal instances_payload (map instance_view instances.now) sink.old.items sink.new.items) }
     ensures err { OnErr result (sink.new.items ≡ sink.old.items) }
     ensures too_long { HasEncoding instances_payload (map instance_view instances.now) → result ≢ Err TooLong }

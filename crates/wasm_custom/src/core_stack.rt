@@ -24,7 +24,7 @@ use crate::marked::read_marked;
 use crate::named::after_name;
 use std::alloc::{Allocator, Global};
 use std::marker::Model;
-use wasm_base::{CowSlice, CowStr, Encode, Pieces, R, Section, SectionId, vec_of};
+use wasm_base::{CowSlice, CowStr, Encode, Pieces, Result, Section, SectionId, vec_of};
 use wasm_reader_base::{ReadFault, Readable, Shorten, Layout, read_whole};
 
 /// The `corestack` section of a thread, modelled as the bytes before its stack frames and the bytes
@@ -53,7 +53,7 @@ impl<A: Allocator> Model for CoreDumpStackSection<A> {
 
 impl<A: Allocator + Copy> CoreDumpStackSection<A> {
     /// Returns the stack of the thread of this name, without frames.
-    pub fn new(alloc: A, thread_name: &str) -> R<Self>
+    pub fn new(alloc: A, thread_name: &str) -> Result<Self>
         ensures is { IfOk result (λ s. s ≡ (marked_encoding thread_name.now, [])) }
         ensures was_encodable { IfOk result (λ _. HasEncodableSize thread_name.now) }
         ensures too_long { HasEncodableSize thread_name.now → result ≢ Err TooLong }
@@ -67,7 +67,7 @@ impl<A: Allocator + Copy> CoreDumpStackSection<A> {
     }
 
     /// Returns the same stack, in memory of its own.
-    pub fn clone(&self) -> R<Self>
+    pub fn clone(&self) -> Result<Self>
         ensures same { IfOk result (λ s. s ≡ self.now) }
         ensures memory { result ≢ Err TooLong }
     {
@@ -85,7 +85,7 @@ impl<A: Allocator> CoreDumpStackSection<A> {
     pub fn frame<
         L: IntoIterator<Item = CoreDumpValue>,
         S: IntoIterator<Item = CoreDumpValue> + Drop,
-    >(&mut self, instanceidx: u32, funcidx: u32, codeoffset: u32, locals: L, stack: S) -> R<()>
+    >(&mut self, instanceidx: u32, funcidx: u32, codeoffset: u32, locals: L, stack: S) -> Result<()>
     where
         L::IntoIter: ExactSizeIterator + Drop,
         S::IntoIter: ExactSizeIterator + Drop,
@@ -102,7 +102,7 @@ impl<A: Allocator> CoreDumpStackSection<A> {
     }
 
     /// Returns the section as a custom section, with its data in memory of their own.
-    pub fn as_custom<B: Allocator>(&self, alloc: B) -> R<CustomSection<'_, B>>
+    pub fn as_custom<B: Allocator>(&self, alloc: B) -> Result<CustomSection<'_, B>>
         ensures same { IfOk result (λ s. (encoding_of s.name ≡ stack_name) × (items_of s.bytes ≡ entries_encoding self.now.0 true self.now.1)) }
         ensures memory { result ≢ Err TooLong }
     {
@@ -123,7 +123,7 @@ impl<A: Allocator> Encode for CoreDumpStackSection<A> {
 
     ghost decoding = { λ s. DecodesBack stack_section (SaysStack s.0 s.1) (named_encoding stack_name (entries_encoding s.0 true s.1)) };
 
-    fn encode<B: Allocator>(&self, sink: &mut Vec<u8, B>) -> R<()> {
+    fn encode<B: Allocator>(&self, sink: &mut Vec<u8, B>) -> Result<()> {
         encode_entries(sink, "corestack", &self.front, true, &self.frames)
     }
 }
@@ -216,7 +216,7 @@ pub fn read_stack<'a, A: Allocator + Copy>(
 
 impl<A: Allocator> Shorten for CoreFrame<A> {
     #[tactic(auto, using(crate::proofs::CoreStackLaws::frame_appended, crate::proofs::CoreStackLaws::locals_encodable, crate::proofs::CoreStackLaws::stack_encodable))]
-    fn write_minimal<B: Allocator>(&self, sink: &mut Vec<u8, B>) -> R<()> {
+    fn write_minimal<B: Allocator>(&self, sink: &mut Vec<u8, B>) -> Result<()> {
         0x00u8.encode(sink)?;
         self.instanceidx.write_minimal(sink)?;
         self.funcidx.write_minimal(sink)?;
@@ -233,7 +233,7 @@ fn write_stack<A: Allocator, B: Allocator>(
     thread: &str,
     frames: &Vec<CoreFrame<A>, A>,
     sink: &mut Vec<u8, B>,
-) -> R<()>
+) -> Result<()>
     ensures ok { OnOk result (AppendsMinimal stack_payload (thread.now, map stack_frame_view frames.now.items) sink.old.items sink.new.items) }
     ensures front { IsFrontOf sink.old.items sink.new.items }
     ensures too_long { HasEncoding stack_payload (thread.now, map stack_frame_view frames.now.items) → result ≢ Err TooLong }
@@ -249,7 +249,7 @@ pub fn append_stack<A: Allocator, B: Allocator>(
     thread: &str,
     frames: &Vec<CoreFrame<A>, A>,
     sink: &mut Vec<u8, B>,
-) -> R<()>
+) -> Result<()>
     ensures ok { OnOk result (AppendsMinimal stack_payload (thread.now, map stack_frame_view frames.now.items) sink.old.items sink.new.items) }
     ensures err { OnErr result (sink.new.items ≡ sink.old.items) }
     ensures too_long { HasEncoding stack_payload (thread.now, map stack_frame_view frames.now.items) → result ≢ Err TooLong }

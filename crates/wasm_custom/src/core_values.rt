@@ -4,7 +4,7 @@ ghost use Rattle.wasm_custom.specs.CoreValues.{value_encoding, value as value_fo
 ghost use Rattle.wasm_custom.specs.declared.core_values.CoreDumpValue.{CoreDumpValue as ValueModel};
 
 use std::alloc::Allocator;
-use wasm_base::{Encode, R};
+use wasm_base::{Encode, Result};
 use wasm_immediates::{Ieee32, Ieee64};
 use wasm_reader_base::{ReadFault, Readable, Layout};
 
@@ -24,7 +24,7 @@ impl Encode for CoreDumpValue {
 
     ghost encodable = { λ _. ⊤ };
 
-    fn encode<A: Allocator>(&self, sink: &mut Vec<u8, A>) -> R<()> {
+    fn encode<A: Allocator>(&self, sink: &mut Vec<u8, A>) -> Result<()> {
         match *self {
             CoreDumpValue::Missing => 0x01u8.encode(sink),
             CoreDumpValue::I32(value) => (0x7Fu8, value).encode(sink),

@@ -12,7 +12,7 @@ ghost use Rattle.wasm_reader_base.specs.declared.fault.ReadFault.TheVariants.{Me
 use crate::entries::CustomKind;
 use crate::named::after_name;
 use std::alloc::Allocator;
-use wasm_base::{Encode, R};
+use wasm_base::{Encode, Result};
 use wasm_reader_base::{ReadFault, Readable};
 
 /// A kind whose items can be encoded from a decoded `T`.
@@ -32,7 +32,7 @@ pub(crate) trait ItemsAs<T>: CustomKind {
 
     /// Appends the minimal encoding of the item, if any bytes decode to it. After an error, part of
     /// the encoding may follow the old bytes.
-    fn append_item<B: Allocator>(item: &T, sink: &mut Vec<u8, B>) -> R<()>
+    fn append_item<B: Allocator>(item: &T, sink: &mut Vec<u8, B>) -> Result<()>
         ensures ok { OnOk result (AppendsMinimal format (view item.now) sink.old.items sink.new.items) }
         ensures front { IsFrontOf sink.old.items sink.new.items }
         ensures too_long { HasEncoding format (view item.now) → result ≢ Err TooLong };
@@ -88,7 +88,7 @@ pub(crate) fn read_counted<'a, K: DecodesItems<'a, T, A>, T: Drop, A: Allocator 
 
 /// Appends a count and the items.
 #[tactic(auto, using(wasm_reader_base::proofs::MinimalEncodings::members_start))]
-fn append_items<K: ItemsAs<T>, T, B: Allocator>(items: &[T], sink: &mut Vec<u8, B>) -> R<()>
+fn append_items<K: ItemsAs<T>, T, B: Allocator>(items: &[T], sink: &mut Vec<u8, B>) -> Result<()>
     ensures ok { OnOk result (AppendsMinimal (vec K.format) (map K.view items.now) sink.old.items sink.new.items) }
     ensures front { IsFrontOf sink.old.items sink.new.items }
     ensures too_long { HasEncoding (vec K.format) (map K.view items.now) → result ≢ Err TooLong }
@@ -103,7 +103,7 @@ fn append_items<K: ItemsAs<T>, T, B: Allocator>(items: &[T], sink: &mut Vec<u8, 
 /// Writes the bytes that [`append_counted`] appends. After an error, part of them may follow the
 /// old bytes.
 #[tactic(auto, using(crate::proofs::EntriesLaws::counted_encoded, crate::proofs::EntriesLaws::counted_name_encodable))]
-fn write_counted<K: ItemsAs<T>, T, B: Allocator>(items: &[T], sink: &mut Vec<u8, B>) -> R<()>
+fn write_counted<K: ItemsAs<T>, T, B: Allocator>(items: &[T], sink: &mut Vec<u8, B>) -> Result<()>
     ensures ok { OnOk result (AppendsMinimal (counted_payload K.name K.format) (map K.view items.now) sink.old.items sink.new.items) }
     ensures front { IsFrontOf sink.old.items sink.new.items }
     ensures too_long { HasEncoding (counted_payload K.name K.format) (map K.view items.now) → result ≢ Err TooLong }
@@ -117,7 +117,7 @@ fn write_counted<K: ItemsAs<T>, T, B: Allocator>(items: &[T], sink: &mut Vec<u8,
 pub(crate) fn append_counted<K: ItemsAs<T>, T, B: Allocator>(
     items: &[T],
     sink: &mut Vec<u8, B>,
-) -> R<()>
+) -> Result<()>
     ensures ok { OnOk result (AppendsMinimal (counted_payload K.name K.format) (map K.view items.now) sink.old.items sink.new.items) }
     ensures err { OnErr result (sink.new.items ≡ sink.old.items) }
     ensures too_long { HasEncoding (counted_payload K.name K.format) (map K.view items.now) → result ≢ Err TooLong }

@@ -8,13 +8,11 @@ ghost use Rattle.wasm_base.specs.Encodings.{longest, size_prefixed_encoding};
 ghost use Rattle.wasm_custom.specs.Customs.{named_encoding, IsEncodableNamed};
 
 use std::alloc::{Allocator, Global};
-use wasm_base::{
-    CowSlice, CowStr, Encode, R, Refused, Section, SectionId, begin_size_prefixed, encoding_size,
-};
+use wasm_base::{CowSlice, CowStr, Encode, Refused, Result, Section, SectionId, begin_size_prefixed, encoding_size};
 
 /// Appends the size prefix and the name of a custom section, and reserves spare capacity for `size`
 /// bytes of data that the caller appends next.
-pub(crate) fn begin_custom<A: Allocator>(sink: &mut Vec<u8, A>, name: &str, size: usize) -> R<()>
+pub(crate) fn begin_custom<A: Allocator>(sink: &mut Vec<u8, A>, name: &str, size: usize) -> Result<()>
     ensures ok { OnOk result (sink.new.items ≡ sink.old.items ++ (unsigned_encoding (length (size_prefixed_encoding name.now) + size) ++ size_prefixed_encoding name.now)) }
     ensures reserved { OnOk result (vec_len sink.new + size ≤ vec_capacity sink.new) }
     ensures err { OnErr result (sink.new.items ≡ sink.old.items) }
@@ -58,7 +56,7 @@ pub struct CustomSection<'a, A: Allocator = Global> {
 
 impl<'a, A: Allocator + Copy> CustomSection<'a, A> {
     /// Returns the same name and data, and copies owned ones into memory of their own.
-    pub fn clone(&self) -> R<Self>
+    pub fn clone(&self) -> Result<Self>
         ensures same { IfOk result (λ s. (encoding_of s.name ≡ encoding_of self.now.name) × (items_of s.bytes ≡ items_of self.now.bytes)) }
         ensures memory { result ≢ Err Refused.TooLong }
     {
@@ -103,7 +101,7 @@ impl<A: Allocator> Encode for CustomSection<'_, A> {
     ghost decoding = { λ s. DecodesBack custom (λ said. IsUtf8 (encoding_of s.name) × (said ≡ (encoding_of s.name, items_of s.bytes))) (named_encoding (encoding_of s.name) (items_of s.bytes)) };
 
     #[tactic(auto, unfolding(crate::specs::Customs::named_encoding))]
-    fn encode<B: Allocator>(&self, sink: &mut Vec<u8, B>) -> R<()> {
+    fn encode<B: Allocator>(&self, sink: &mut Vec<u8, B>) -> Result<()> {
         let bytes = self.bytes.as_slice();
         begin_custom(sink, self.name.as_str(), bytes.len())?;
         sink.extend_from_slice(bytes).unwrap();

@@ -14,9 +14,7 @@ ghost use Rattle.wasm_custom.specs.Entries.{count_encoding, entries_encoding, en
 use crate::custom_section::{CustomSection, begin_custom};
 use std::alloc::{Allocator, Global};
 use std::marker::{Model, PhantomData};
-use wasm_base::{
-    CowSlice, CowStr, Encode, EncodeOnce, Kind, Pieces, R, Section, SectionId, encoding_size,
-};
+use wasm_base::{CowSlice, CowStr, Encode, EncodeOnce, Kind, Pieces, Result, Section, SectionId, encoding_size};
 
 /// A kind of custom section: its items, its name, the bytes before its entries, and whether the
 /// entries are counted.
@@ -84,14 +82,14 @@ impl<K, A: Allocator> CustomEntries<K, A> {
     }
 
     /// Adds the encoding of the record as an entry.
-    pub(crate) fn add_record<T: Encode>(&mut self, given: &T) -> R<()>
+    pub(crate) fn add_record<T: Encode>(&mut self, given: &T) -> Result<()>
         ensures { Adds (T.encoding given.now) (T.encodable given.now) self.old self.new result }
     {
         self.pieces.add_encoded(given)
     }
 
     /// Adds an encoding of the item as an entry, and consumes the item.
-    pub(crate) fn add_once<T: EncodeOnce + Drop>(&mut self, item: T) -> R<()>
+    pub(crate) fn add_once<T: EncodeOnce + Drop>(&mut self, item: T) -> Result<()>
         requires { T.lawful item }
         ensures { AddsOnce (T.gives item) (T.encodable item) self.old self.new result }
     {
@@ -118,7 +116,7 @@ impl<K, A: Allocator + Copy> CustomEntries<K, A> {
     }
 
     /// Returns a section of the same entries, in memory of its own.
-    pub fn clone(&self) -> R<Self>
+    pub fn clone(&self) -> Result<Self>
         ensures same { IfOk result (λ section. section ≡ self.now) }
         ensures memory { result ≢ Err TooLong }
     {
@@ -131,7 +129,7 @@ impl<K, A: Allocator + Copy> CustomEntries<K, A> {
 
 impl<K: CustomKind, A: Allocator> CustomEntries<K, A> {
     /// Returns the section as a custom section, with its data in memory of their own.
-    pub(crate) fn owned<B: Allocator>(&self, alloc: B) -> R<CustomSection<'_, B>>
+    pub(crate) fn owned<B: Allocator>(&self, alloc: B) -> Result<CustomSection<'_, B>>
         ensures same { IfOk result (λ s. (encoding_of s.name ≡ K.name) × (items_of s.bytes ≡ entries_encoding K.front K.counted self.now)) }
         ensures memory { result ≢ Err TooLong }
     {
@@ -170,7 +168,7 @@ impl Encode for Count {
 
     ghost encodable = { λ _. ⊤ };
 
-    fn encode<A: Allocator>(&self, sink: &mut Vec<u8, A>) -> R<()> {
+    fn encode<A: Allocator>(&self, sink: &mut Vec<u8, A>) -> Result<()> {
         if self.counted {
             self.number.encode(sink)
         } else {
@@ -200,7 +198,7 @@ pub(crate) fn encode_entries<A: Allocator, B: Allocator>(
     front: &[u8],
     counted: bool,
     pieces: &Pieces<B>,
-) -> R<()>
+) -> Result<()>
     ensures appends { Appends (named_encoding name.now (entries_encoding front.now counted pieces.now)) (IsEncodableNamed name.now (entries_encoding front.now counted pieces.now)) sink.old sink.new result }
     ensures few { length pieces.now ≤ longest }
     ensures too_many { longest < length (size_prefixed_encoding name.now) + length (entries_encoding front.now counted pieces.now) → result ≡ Err TooLong }
@@ -223,7 +221,7 @@ pub(crate) fn data_of<A: Allocator, B: Allocator>(
     front: &[u8],
     counted: bool,
     pieces: &Pieces<B>,
-) -> R<Vec<u8, A>>
+) -> Result<Vec<u8, A>>
     ensures same { IfOk result (λ v. v.items ≡ entries_encoding front.now counted pieces.now) }
     ensures memory { result ≢ Err TooLong }
 {
@@ -247,7 +245,7 @@ impl<K: CustomKind, A: Allocator> Encode for CustomEntries<K, A> {
 
     ghost decoding = { λ section. DecodesBackBoth (named_section K.name (entries K.front_format K.counted K.kind.format)) (ContainsItems K.kind section) (ContainsPadded K.kind.format section) (named_encoding K.name (entries_encoding K.front K.counted section)) };
 
-    fn encode<B: Allocator>(&self, sink: &mut Vec<u8, B>) -> R<()> {
+    fn encode<B: Allocator>(&self, sink: &mut Vec<u8, B>) -> Result<()> {
         K::laws();
         K::layout_laws();
         encode_entries(sink, K::name(), K::front(), K::counted(), &self.pieces)

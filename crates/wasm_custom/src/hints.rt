@@ -16,7 +16,7 @@ use crate::counted::{ItemsAs, DecodesItems, append_counted, read_counted};
 use crate::entries::{CustomEntries, CustomKind};
 use crate::marked::read_marked;
 use std::alloc::{Allocator, Global};
-use wasm_base::{Encode, Kind, R, vec_of};
+use wasm_base::{Encode, Kind, Result, vec_of};
 use wasm_reader_base::{ReadFault, Readable, Shorten, Layout};
 
 /// The branch hint section: which branches are likely to be taken, as a list of hints for each
@@ -51,7 +51,7 @@ impl Encode for BranchHint {
 
     ghost encodable = { λ _. ⊤ };
 
-    fn encode<A: Allocator>(&self, sink: &mut Vec<u8, A>) -> R<()> {
+    fn encode<A: Allocator>(&self, sink: &mut Vec<u8, A>) -> Result<()> {
         (self.branch_func_offset, 0x01u8, self.branch_hint_value).encode(sink)
     }
 }
@@ -99,7 +99,7 @@ impl<A: Allocator> BranchHints<A> {
         &mut self,
         func: u32,
         hints: H,
-    ) -> R<()>
+    ) -> Result<()>
     where
         H::IntoIter: ExactSizeIterator + Drop,
         requires { HasKnownLength H.into_iter_gives H.IntoIter.can_next H.IntoIter.next_gives H.IntoIter.remaining hints }
@@ -170,7 +170,7 @@ impl<A: Allocator> ItemsAs<(u32, Vec<BranchHint, A>)> for HintItems {
     fn unique() {}
 
     #[tactic(auto, using(crate::proofs::HintLaws::function_appended, crate::proofs::HintLaws::of_branches_encodable))]
-    fn append_item<B: Allocator>(item: &(u32, Vec<BranchHint, A>), sink: &mut Vec<u8, B>) -> R<()> {
+    fn append_item<B: Allocator>(item: &(u32, Vec<BranchHint, A>), sink: &mut Vec<u8, B>) -> Result<()> {
         let (func, of_branches) = item;
         func.write_minimal(sink)?;
         of_branches.as_slice().encode(sink)
@@ -207,7 +207,7 @@ pub fn read_hints<'a, A: Allocator + Copy>(
 pub fn append_hints<A: Allocator, B: Allocator>(
     functions: &[(u32, Vec<BranchHint, A>)],
     sink: &mut Vec<u8, B>,
-) -> R<()>
+) -> Result<()>
     ensures ok { OnOk result (AppendsMinimal hints_payload (map hints_view functions.now) sink.old.items sink.new.items) }
     ensures err { OnErr result (sink.new.items ≡ sink.old.items) }
     ensures too_long { HasEncoding hints_payload (map hints_view functions.now) → result ≢ Err TooLong }

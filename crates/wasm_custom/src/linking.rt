@@ -18,7 +18,7 @@ use crate::named::after_name;
 use crate::subsections::Subsection;
 use crate::symbols::{Symbol, SymbolTable};
 use std::alloc::{Allocator, Global};
-use wasm_base::{Encode, Kind, R};
+use wasm_base::{Encode, Kind, Result};
 use wasm_reader_base::{
     SizePrefixed, ReadFault, Readable, Shorten, Layout, append_all, prefix_size_since, read_to_end, read_whole,
 };
@@ -77,14 +77,14 @@ impl CustomKind for LinkingItems {
 
 impl<A: Allocator> LinkingSection<A> {
     /// Adds the symbols.
-    pub fn symbol_table<B: Allocator>(&mut self, symbols: &SymbolTable<B>) -> R<()>
+    pub fn symbol_table<B: Allocator>(&mut self, symbols: &SymbolTable<B>) -> Result<()>
         ensures { Adds (subsection_encoding 8 (list_encoding symbols.now)) (HasEncodableSize (list_encoding symbols.now) × ⊤) self.old self.new result }
     {
         self.add_record(symbols)
     }
 
     /// Adds the architecture of the target.
-    pub fn target_arch(&mut self, name: &str) -> R<()>
+    pub fn target_arch(&mut self, name: &str) -> Result<()>
         ensures { Adds (subsection_encoding 9 (size_prefixed_encoding name.now)) (HasEncodableSize (size_prefixed_encoding name.now) × HasEncodableSize name.now) self.old self.new result }
     {
         self.add_record(&Subsection {
@@ -172,7 +172,7 @@ pub fn read_links<'a, A: Allocator + Copy + 'a>(
 
 impl<'a, A: Allocator> Shorten for LinkItem<'a, A> {
     #[tactic(auto, using(crate::proofs::LinkLaws::symbols_appended, crate::proofs::LinkLaws::arch_appended, crate::proofs::LinkLaws::symbols_encoded, crate::proofs::LinkLaws::symbols_encodable, crate::proofs::LinkLaws::arch_encoded))]
-    fn write_minimal<B: Allocator>(&self, sink: &mut Vec<u8, B>) -> R<()> {
+    fn write_minimal<B: Allocator>(&self, sink: &mut Vec<u8, B>) -> Result<()> {
         match self {
             LinkItem::Symbols(symbols) => {
                 8u8.encode(sink)?;
@@ -191,7 +191,7 @@ impl<'a, A: Allocator> Shorten for LinkItem<'a, A> {
 /// Writes the bytes that [`append_links`] appends. After an error, part of them may follow the old
 /// bytes.
 #[tactic(auto, using(crate::proofs::LinkLaws::links_appended, crate::proofs::LinkLaws::links_encoded))]
-fn write_links<A: Allocator, B: Allocator>(items: &[LinkItem<'_, A>], sink: &mut Vec<u8, B>) -> R<()>
+fn write_links<A: Allocator, B: Allocator>(items: &[LinkItem<'_, A>], sink: &mut Vec<u8, B>) -> Result<()>
     ensures ok { OnOk result (AppendsMinimal linking_payload (map link_view items.now) sink.old.items sink.new.items) }
     ensures front { IsFrontOf sink.old.items sink.new.items }
     ensures too_long { HasEncoding linking_payload (map link_view items.now) → result ≢ Err TooLong }
@@ -206,7 +206,7 @@ fn write_links<A: Allocator, B: Allocator>(items: &[LinkItem<'_, A>], sink: &mut
 pub fn append_links<A: Allocator, B: Allocator>(
     items: &[LinkItem<'_, A>],
     sink: &mut Vec<u8, B>,
-) -> R<()>
+) -> Result<()>
     ensures ok { OnOk result (AppendsMinimal linking_payload (map link_view items.now) sink.old.items sink.new.items) }
     ensures err { OnErr result (sink.new.items ≡ sink.old.items) }
     ensures too_long { HasEncoding linking_payload (map link_view items.now) → result ≢ Err TooLong }

@@ -7,7 +7,7 @@ ghost use Rattle.wasm_custom.specs.Lists.{list_encoding, listed_encoding, IsEnco
 use crate::subsections::{Content, Subsection};
 use std::alloc::{Allocator, Global};
 use std::marker::{Model, PhantomData};
-use wasm_base::{Encode, Pieces, R, encoding_size};
+use wasm_base::{Encode, Pieces, Result, encoding_size};
 
 /// A kind of members of a list, and their encoding.
 pub trait ListKind {
@@ -66,7 +66,7 @@ impl<K: ListKind, A: Allocator> CountedList<K, A> {
     }
 
     /// Adds the encoding of the record as an entry.
-    pub(crate) fn add_record<T: Encode>(&mut self, given: &T) -> R<()>
+    pub(crate) fn add_record<T: Encode>(&mut self, given: &T) -> Result<()>
         requires { T.encodable given.now → IsEncodingOf K.member_encoding K.is_member (T.encoding given.now) }
         ensures { Adds (T.encoding given.now) (T.encodable given.now) self.old self.new result }
     {
@@ -94,7 +94,7 @@ impl<K: ListKind, A: Allocator + Copy> CountedList<K, A> {
     }
 
     /// Returns a list of the same entries, in memory of its own.
-    pub fn clone(&self) -> R<Self>
+    pub fn clone(&self) -> Result<Self>
         ensures same { IfOk result (λ l. l ≡ self.now) }
         ensures memory { result ≢ Err TooLong }
     {
@@ -115,7 +115,7 @@ impl<K: ListKind, A: Allocator> Encode for Entries<'_, K, A> {
     ghost encodable = { λ _. ⊤ };
 
     #[tactic(auto, unfolding(crate::specs::Lists::list_encoding))]
-    fn encode<B: Allocator>(&self, sink: &mut Vec<u8, B>) -> R<()> {
+    fn encode<B: Allocator>(&self, sink: &mut Vec<u8, B>) -> Result<()> {
         let list = self.0;
         let count = list.pieces.len();
         sink.reserve(encoding_size(count).saturating_add(list.pieces.raw_len()))?;
@@ -139,7 +139,7 @@ impl<K: ListKind, A: Allocator> Encode for CountedList<K, A> {
 
     ghost encodable = { IsEncodableList K.subsection };
 
-    fn encode<B: Allocator>(&self, sink: &mut Vec<u8, B>) -> R<()> {
+    fn encode<B: Allocator>(&self, sink: &mut Vec<u8, B>) -> Result<()> {
         let entries = Entries(self);
         match K::subsection() {
             None => entries.encode(sink),

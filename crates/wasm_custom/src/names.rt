@@ -21,7 +21,7 @@ use crate::lists::{CountedList, Entries, ListKind};
 use crate::named::after_name;
 use crate::subsections::{RawContent, Subsection};
 use std::alloc::{Allocator, Global};
-use wasm_base::{CowSlice, CowStr, Encode, Kind, Lent, R};
+use wasm_base::{CowSlice, CowStr, Encode, Kind, Lent, Result};
 use wasm_reader_base::{
     ReadFault, Readable, Shorten, Layout, append_all, prefix_size_since, read_to_end, read_whole,
 };
@@ -50,7 +50,7 @@ impl ListKind for NameMembers {
 
 impl<A: Allocator> NameMap<A> {
     /// Adds the name of this index.
-    pub fn append(&mut self, index: u32, name: &str) -> R<()>
+    pub fn append(&mut self, index: u32, name: &str) -> Result<()>
         ensures { Adds (unsigned_encoding index ++ size_prefixed_encoding name.now) (HasEncodableSize name.now) self.old self.new result }
     {
         self.add_record(&(index, name))
@@ -81,7 +81,7 @@ impl ListKind for IndirectMembers {
 
 impl<A: Allocator> IndirectNameMap<A> {
     /// Adds the names of the items in this index.
-    pub fn append<B: Allocator>(&mut self, index: u32, names: &NameMap<B>) -> R<()>
+    pub fn append<B: Allocator>(&mut self, index: u32, names: &NameMap<B>) -> Result<()>
         ensures { Adds (unsigned_encoding index ++ list_encoding names.now) ⊤ self.old self.new result }
     {
         names.contains();
@@ -144,7 +144,7 @@ impl CustomKind for NameItems {
 
 impl<A: Allocator> NameSection<A> {
     /// Adds a subsection with a name map.
-    fn map<B: Allocator>(&mut self, id: u8, names: &NameMap<B>) -> R<()>
+    fn map<B: Allocator>(&mut self, id: u8, names: &NameMap<B>) -> Result<()>
         ensures { Adds (subsection_encoding id (list_encoding names.now)) (HasEncodableSize (list_encoding names.now) × ⊤) self.old self.new result }
     {
         let content = &Entries(names);
@@ -152,7 +152,7 @@ impl<A: Allocator> NameSection<A> {
     }
 
     /// Adds a subsection with an indirect name map.
-    fn indirect_map<B: Allocator>(&mut self, id: u8, names: &IndirectNameMap<B>) -> R<()>
+    fn indirect_map<B: Allocator>(&mut self, id: u8, names: &IndirectNameMap<B>) -> Result<()>
         ensures { Adds (subsection_encoding id (list_encoding names.now)) (HasEncodableSize (list_encoding names.now) × ⊤) self.old self.new result }
     {
         let content = &Entries(names);
@@ -160,7 +160,7 @@ impl<A: Allocator> NameSection<A> {
     }
 
     /// Adds the name of the module.
-    pub fn module(&mut self, name: &str) -> R<()>
+    pub fn module(&mut self, name: &str) -> Result<()>
         ensures { Adds (subsection_encoding 0 (size_prefixed_encoding name.now)) (HasEncodableSize (size_prefixed_encoding name.now) × HasEncodableSize name.now) self.old self.new result }
     {
         self.add_record(&Subsection {
@@ -170,98 +170,98 @@ impl<A: Allocator> NameSection<A> {
     }
 
     /// Adds the names of functions.
-    pub fn functions<B: Allocator>(&mut self, names: &NameMap<B>) -> R<()>
+    pub fn functions<B: Allocator>(&mut self, names: &NameMap<B>) -> Result<()>
         ensures { Adds (subsection_encoding 1 (list_encoding names.now)) (HasEncodableSize (list_encoding names.now) × ⊤) self.old self.new result }
     {
         self.map(1, names)
     }
 
     /// Adds the names of types.
-    pub fn types<B: Allocator>(&mut self, names: &NameMap<B>) -> R<()>
+    pub fn types<B: Allocator>(&mut self, names: &NameMap<B>) -> Result<()>
         ensures { Adds (subsection_encoding 4 (list_encoding names.now)) (HasEncodableSize (list_encoding names.now) × ⊤) self.old self.new result }
     {
         self.map(4, names)
     }
 
     /// Adds the names of tables.
-    pub fn tables<B: Allocator>(&mut self, names: &NameMap<B>) -> R<()>
+    pub fn tables<B: Allocator>(&mut self, names: &NameMap<B>) -> Result<()>
         ensures { Adds (subsection_encoding 5 (list_encoding names.now)) (HasEncodableSize (list_encoding names.now) × ⊤) self.old self.new result }
     {
         self.map(5, names)
     }
 
     /// Adds the names of memories.
-    pub fn memories<B: Allocator>(&mut self, names: &NameMap<B>) -> R<()>
+    pub fn memories<B: Allocator>(&mut self, names: &NameMap<B>) -> Result<()>
         ensures { Adds (subsection_encoding 6 (list_encoding names.now)) (HasEncodableSize (list_encoding names.now) × ⊤) self.old self.new result }
     {
         self.map(6, names)
     }
 
     /// Adds the names of globals.
-    pub fn globals<B: Allocator>(&mut self, names: &NameMap<B>) -> R<()>
+    pub fn globals<B: Allocator>(&mut self, names: &NameMap<B>) -> Result<()>
         ensures { Adds (subsection_encoding 7 (list_encoding names.now)) (HasEncodableSize (list_encoding names.now) × ⊤) self.old self.new result }
     {
         self.map(7, names)
     }
 
     /// Adds the names of element segments.
-    pub fn elements<B: Allocator>(&mut self, names: &NameMap<B>) -> R<()>
+    pub fn elements<B: Allocator>(&mut self, names: &NameMap<B>) -> Result<()>
         ensures { Adds (subsection_encoding 8 (list_encoding names.now)) (HasEncodableSize (list_encoding names.now) × ⊤) self.old self.new result }
     {
         self.map(8, names)
     }
 
     /// Adds the names of data segments.
-    pub fn data<B: Allocator>(&mut self, names: &NameMap<B>) -> R<()>
+    pub fn data<B: Allocator>(&mut self, names: &NameMap<B>) -> Result<()>
         ensures { Adds (subsection_encoding 9 (list_encoding names.now)) (HasEncodableSize (list_encoding names.now) × ⊤) self.old self.new result }
     {
         self.map(9, names)
     }
 
     /// Adds the names of tags. The same as `tags`.
-    pub fn tag<B: Allocator>(&mut self, names: &NameMap<B>) -> R<()>
+    pub fn tag<B: Allocator>(&mut self, names: &NameMap<B>) -> Result<()>
         ensures { Adds (subsection_encoding 11 (list_encoding names.now)) (HasEncodableSize (list_encoding names.now) × ⊤) self.old self.new result }
     {
         self.tags(names)
     }
 
     /// Adds the names of tags.
-    pub fn tags<B: Allocator>(&mut self, names: &NameMap<B>) -> R<()>
+    pub fn tags<B: Allocator>(&mut self, names: &NameMap<B>) -> Result<()>
         ensures { Adds (subsection_encoding 11 (list_encoding names.now)) (HasEncodableSize (list_encoding names.now) × ⊤) self.old self.new result }
     {
         self.map(11, names)
     }
 
     /// Adds the names of the locals of functions, including parameters.
-    pub fn locals<B: Allocator>(&mut self, names: &IndirectNameMap<B>) -> R<()>
+    pub fn locals<B: Allocator>(&mut self, names: &IndirectNameMap<B>) -> Result<()>
         ensures { Adds (subsection_encoding 2 (list_encoding names.now)) (HasEncodableSize (list_encoding names.now) × ⊤) self.old self.new result }
     {
         self.indirect_map(2, names)
     }
 
     /// Adds the names of the labels of functions.
-    pub fn labels<B: Allocator>(&mut self, names: &IndirectNameMap<B>) -> R<()>
+    pub fn labels<B: Allocator>(&mut self, names: &IndirectNameMap<B>) -> Result<()>
         ensures { Adds (subsection_encoding 3 (list_encoding names.now)) (HasEncodableSize (list_encoding names.now) × ⊤) self.old self.new result }
     {
         self.indirect_map(3, names)
     }
 
     /// Adds the names of the fields of types.
-    pub fn fields<B: Allocator>(&mut self, names: &IndirectNameMap<B>) -> R<()>
+    pub fn fields<B: Allocator>(&mut self, names: &IndirectNameMap<B>) -> Result<()>
         ensures { Adds (subsection_encoding 10 (list_encoding names.now)) (HasEncodableSize (list_encoding names.now) × ⊤) self.old self.new result }
     {
         self.indirect_map(10, names)
     }
 
     /// Adds the names of the parameters of function types.
-    pub fn parameters<B: Allocator>(&mut self, names: &IndirectNameMap<B>) -> R<()>
+    pub fn parameters<B: Allocator>(&mut self, names: &IndirectNameMap<B>) -> Result<()>
         ensures { Adds (subsection_encoding 12 (list_encoding names.now)) (HasEncodableSize (list_encoding names.now) × ⊤) self.old self.new result }
     {
         self.indirect_map(12, names)
     }
 
     /// Adds the names of the parameters of tags.
-    pub fn tag_parameters<B: Allocator>(&mut self, names: &IndirectNameMap<B>) -> R<()>
+    pub fn tag_parameters<B: Allocator>(&mut self, names: &IndirectNameMap<B>) -> Result<()>
         ensures { Adds (subsection_encoding 13 (list_encoding names.now)) (HasEncodableSize (list_encoding names.now) × ⊤) self.old self.new result }
     {
         self.indirect_map(13, names)
@@ -269,7 +269,7 @@ impl<A: Allocator> NameSection<A> {
 
     /// Adds a subsection of this id, whose content is already encoded. The call does not check the
     /// content.
-    pub fn raw(&mut self, id: u8, content: &[u8]) -> R<()>
+    pub fn raw(&mut self, id: u8, content: &[u8]) -> Result<()>
         ensures { Adds (subsection_encoding id content.now) (HasEncodableSize content.now × ⊤) self.old self.new result }
     {
         self.add_record(&Subsection {
@@ -418,7 +418,7 @@ impl<'a, A: Allocator> NameItem<'a, A> {
 
     /// Appends the content of the subsection, without its size prefix.
     #[tactic(auto, using(crate::proofs::NameLaws::module_appended, crate::proofs::NameLaws::map_appended, crate::proofs::NameLaws::indirect_appended, crate::proofs::NameLaws::other_appended, crate::proofs::NameLaws::module_encoded, crate::proofs::NameLaws::map_encoded, crate::proofs::NameLaws::indirect_encoded))]
-    fn append_content<B: Allocator>(&self, sink: &mut Vec<u8, B>) -> R<()>
+    fn append_content<B: Allocator>(&self, sink: &mut Vec<u8, B>) -> Result<()>
         ensures ok { OnOk result (AppendsMinimal (inside (held_by (name_item_view self.now)) (id_of (name_item_view self.now))) (name_item_view self.now) sink.old.items sink.new.items) }
         ensures front { IsFrontOf sink.old.items sink.new.items }
         ensures too_long { HasEncoding (inside (held_by (name_item_view self.now)) (id_of (name_item_view self.now))) (name_item_view self.now) → result ≢ Err TooLong }
@@ -437,7 +437,7 @@ impl<'a, A: Allocator> NameItem<'a, A> {
 
 impl<'a, A: Allocator> Shorten for NameItem<'a, A> {
     #[tactic(auto, using(crate::proofs::NameLaws::subsection_appended, crate::proofs::NameLaws::held_encoded, crate::proofs::NameLaws::held_encodable))]
-    fn write_minimal<B: Allocator>(&self, sink: &mut Vec<u8, B>) -> R<()> {
+    fn write_minimal<B: Allocator>(&self, sink: &mut Vec<u8, B>) -> Result<()> {
         self.id().encode(sink)?;
         let start = sink.len();
         self.append_content(sink)?;
@@ -448,7 +448,7 @@ impl<'a, A: Allocator> Shorten for NameItem<'a, A> {
 /// Writes the bytes that [`append_names`] appends. After an error, part of them may follow the old
 /// bytes.
 #[tactic(auto, using(crate::proofs::NameLaws::names_appended, crate::proofs::NameLaws::names_encoded))]
-fn write_names<A: Allocator, B: Allocator>(items: &[NameItem<'_, A>], sink: &mut Vec<u8, B>) -> R<()>
+fn write_names<A: Allocator, B: Allocator>(items: &[NameItem<'_, A>], sink: &mut Vec<u8, B>) -> Result<()>
     ensures ok { OnOk result (AppendsMinimal name_payload (map name_item_view items.now) sink.old.items sink.new.items) }
     ensures front { IsFrontOf sink.old.items sink.new.items }
     ensures too_long { HasEncoding name_payload (map name_item_view items.now) → result ≢ Err TooLong }
@@ -462,7 +462,7 @@ fn write_names<A: Allocator, B: Allocator>(items: &[NameItem<'_, A>], sink: &mut
 pub fn append_names<A: Allocator, B: Allocator>(
     items: &[NameItem<'_, A>],
     sink: &mut Vec<u8, B>,
-) -> R<()>
+) -> Result<()>
     ensures ok { OnOk result (AppendsMinimal name_payload (map name_item_view items.now) sink.old.items sink.new.items) }
     ensures err { OnErr result (sink.new.items ≡ sink.old.items) }
     ensures too_long { HasEncoding name_payload (map name_item_view items.now) → result ≢ Err TooLong }

@@ -16,7 +16,7 @@ use crate::counted::{ItemsAs, DecodesItems, append_counted, read_counted};
 use crate::entries::{CustomEntries, CustomKind};
 use crate::lists::{CountedList, ListKind};
 use std::alloc::{Allocator, Global};
-use wasm_base::{Kind, Lent, R};
+use wasm_base::{Kind, Lent, Result};
 use wasm_reader_base::{ReadFault, Readable, Shorten};
 
 /// The values of a producers field: the tools that produced the module, and their versions.
@@ -42,7 +42,7 @@ impl ListKind for ValueMembers {
 
 impl<A: Allocator> ProducersField<A> {
     /// Adds a value.
-    pub fn value(&mut self, name: &str, version: &str) -> R<()>
+    pub fn value(&mut self, name: &str, version: &str) -> Result<()>
         ensures { Adds (size_prefixed_encoding name.now ++ size_prefixed_encoding version.now) (HasEncodableSize name.now × HasEncodableSize version.now) self.old self.new result }
     {
         self.add_record(&(name, version))
@@ -102,7 +102,7 @@ impl CustomKind for ProducerItems {
 
 impl<A: Allocator> ProducersSection<A> {
     /// Adds a field, such as `language`, `processed-by` or `sdk`.
-    pub fn field<B: Allocator>(&mut self, name: &str, values: &ProducersField<B>) -> R<()>
+    pub fn field<B: Allocator>(&mut self, name: &str, values: &ProducersField<B>) -> Result<()>
         ensures { Adds (size_prefixed_encoding name.now ++ list_encoding values.now) (HasEncodableSize name.now × ⊤) self.old self.new result }
     {
         self.add_record(&(name, Lent(values)))
@@ -124,7 +124,7 @@ impl<'a, A: Allocator> ItemsAs<(&'a str, Vec<(&'a str, &'a str), A>)> for Produc
     fn append_item<B: Allocator>(
         item: &(&'a str, Vec<(&'a str, &'a str), A>),
         sink: &mut Vec<u8, B>,
-    ) -> R<()> {
+    ) -> Result<()> {
         item.write_minimal(sink)
     }
 }
@@ -160,7 +160,7 @@ pub fn read_producers<'a, A: Allocator + Copy + 'a>(
 pub fn append_producers<'a, A: Allocator, B: Allocator>(
     fields: &Vec<(&'a str, Vec<(&'a str, &'a str), A>), A>,
     sink: &mut Vec<u8, B>,
-) -> R<()>
+) -> Result<()>
     ensures ok { OnOk result (AppendsMinimal producers_payload (map field_view fields.now.items) sink.old.items sink.new.items) }
     ensures err { OnErr result (sink.new.items ≡ sink.old.items) }
     ensures too_long { HasEncoding producers_payload (map field_view fields.now.items) → result ≢ Err TooLong }

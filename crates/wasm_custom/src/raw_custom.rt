@@ -5,7 +5,7 @@ ghost use Rattle.wasm_base.specs.Formats.{custom};
 ghost use Rattle.wasm_base.specs.Numbers.{minimal, padded};
 
 use std::alloc::Allocator;
-use wasm_base::{Encode, R, Section, SectionId};
+use wasm_base::{Encode, Result, Section, SectionId};
 
 /// A custom section of raw bytes, including its size prefix. If they are not a size prefix, a name
 /// and data, then a reader of the module decodes something else there, or fails.
@@ -24,7 +24,7 @@ impl Encode for RawCustomSection<'_> {
 
     ghost decoding = { λ s. DecodesBackBoth custom (custom minimal s.0.now) (custom padded s.0.now) s.0.now };
 
-    fn encode<A: Allocator>(&self, sink: &mut Vec<u8, A>) -> R<()> {
+    fn encode<A: Allocator>(&self, sink: &mut Vec<u8, A>) -> Result<()> {
         sink.extend_from_slice(self.0)?;
         Ok(())
     }

@@ -7,7 +7,7 @@ ghost use Rattle.wasm_base.specs.declared.refused.Refused.TheVariants.{TooLong};
 ghost use Rattle.wasm_custom.specs.Customs.{subsection_encoding};
 
 use std::alloc::Allocator;
-use wasm_base::{Encode, R, begin_size_prefixed, encoding_size};
+use wasm_base::{Encode, Result, begin_size_prefixed, encoding_size};
 
 /// The content of a subsection, whose size is known before it is encoded.
 pub(crate) trait Content: Encode {
@@ -39,7 +39,7 @@ impl Encode for RawContent<'_> {
 
     ghost encodable = { λ _. ⊤ };
 
-    fn encode<A: Allocator>(&self, sink: &mut Vec<u8, A>) -> R<()> {
+    fn encode<A: Allocator>(&self, sink: &mut Vec<u8, A>) -> Result<()> {
         sink.extend_from_slice(self.0)?;
         Ok(())
     }
@@ -52,7 +52,7 @@ impl Content for RawContent<'_> {
 }
 
 /// Appends the content with its size prefix.
-fn encode_content<T: Content, A: Allocator>(sink: &mut Vec<u8, A>, content: &T) -> R<()>
+fn encode_content<T: Content, A: Allocator>(sink: &mut Vec<u8, A>, content: &T) -> Result<()>
     ensures { Appends (size_prefixed_encoding (T.encoding content.now)) (HasEncodableSize (T.encoding content.now) × T.encodable content.now) sink.old sink.new result }
 {
     let start = sink.len();
@@ -66,7 +66,7 @@ fn encode_content<T: Content, A: Allocator>(sink: &mut Vec<u8, A>, content: &T) 
 
 /// Reserves spare capacity for the id, the size prefix and the content of a subsection, in one
 /// request.
-fn reserve_subsection<A: Allocator>(sink: &mut Vec<u8, A>, size: usize) -> R<()>
+fn reserve_subsection<A: Allocator>(sink: &mut Vec<u8, A>, size: usize) -> Result<()>
     ensures same { sink.new.items ≡ sink.old.items }
     ensures memory { result ≢ Err TooLong }
     ensures spare { size ≤ longest
@@ -93,7 +93,7 @@ impl<T: Content> Encode for Subsection<'_, T> {
 
     ghost encodable = { λ s. HasEncodableSize (T.encoding s.content.now) × T.encodable s.content.now };
 
-    fn encode<A: Allocator>(&self, sink: &mut Vec<u8, A>) -> R<()> {
+    fn encode<A: Allocator>(&self, sink: &mut Vec<u8, A>) -> Result<()> {
         reserve_subsection(sink, self.content.size())?;
         let start = sink.len();
         sink.push(self.id)?;

@@ -15,7 +15,7 @@ ghost use Rattle.wasm_reader_base.specs.declared.fault.ReadFault.TheVariants.{Me
 use crate::lists::{CountedList, ListKind};
 use std::alloc::{Allocator, Global};
 use wasm_base::laws::plain_name;
-use wasm_base::{Encode, Optional, R};
+use wasm_base::{Encode, Optional, Result};
 use wasm_reader_base::{ReadFault, Readable, Shorten, Layout, read_optional};
 
 /// A symbol table: the symbols of a module, in the order in which they are added. It is encoded as
@@ -62,7 +62,7 @@ impl Encode for DataSymbolDefinition {
 
     ghost encodable = { λ _. ⊤ };
 
-    fn encode<A: Allocator>(&self, sink: &mut Vec<u8, A>) -> R<()> {
+    fn encode<A: Allocator>(&self, sink: &mut Vec<u8, A>) -> Result<()> {
         (self.index, self.offset, self.size).encode(sink)
     }
 }
@@ -81,7 +81,7 @@ impl Encode for SymbolKind {
 
     ghost encodable = { λ _. ⊤ };
 
-    fn encode<A: Allocator>(&self, sink: &mut Vec<u8, A>) -> R<()> {
+    fn encode<A: Allocator>(&self, sink: &mut Vec<u8, A>) -> Result<()> {
         (*self as u8).encode(sink)
     }
 }
@@ -142,7 +142,7 @@ const _: () = prove!(<SymbolTable>::WASM_SYM_NO_STRIP == 0x80);
 
 impl<A: Allocator> SymbolTable<A> {
     /// Adds a symbol with an index.
-    fn indexed(&mut self, kind: SymbolKind, flags: u32, index: u32, name: Option<&str>) -> R<()>
+    fn indexed(&mut self, kind: SymbolKind, flags: u32, index: u32, name: Option<&str>) -> Result<()>
         ensures { Adds (indexed_encoding kind flags index (optional_encoding (λ n. size_prefixed_encoding n.now) name.entry)) (IfSome name.entry (λ n. HasEncodableSize n.now)) self.old self.new result }
     {
         given_name(name);
@@ -151,21 +151,21 @@ impl<A: Allocator> SymbolTable<A> {
 
     /// Adds a function. A function has a name if it is defined here, or if `flags` say that its
     /// name is explicit. The call does not check that `name` agrees.
-    pub fn function(&mut self, flags: u32, index: u32, name: Option<&str>) -> R<()>
+    pub fn function(&mut self, flags: u32, index: u32, name: Option<&str>) -> Result<()>
         ensures { Adds (indexed_encoding kinds.Function flags index (optional_encoding (λ n. size_prefixed_encoding n.now) name.entry)) (IfSome name.entry (λ n. HasEncodableSize n.now)) self.old self.new result }
     {
         self.indexed(SymbolKind::Function, flags, index, name)
     }
 
     /// Adds a global. It has a name in the same cases as in `function`.
-    pub fn global(&mut self, flags: u32, index: u32, name: Option<&str>) -> R<()>
+    pub fn global(&mut self, flags: u32, index: u32, name: Option<&str>) -> Result<()>
         ensures { Adds (indexed_encoding kinds.Global flags index (optional_encoding (λ n. size_prefixed_encoding n.now) name.entry)) (IfSome name.entry (λ n. HasEncodableSize n.now)) self.old self.new result }
     {
         self.indexed(SymbolKind::Global, flags, index, name)
     }
 
     /// Adds a table. It has a name in the same cases as in `function`.
-    pub fn table(&mut self, flags: u32, index: u32, name: Option<&str>) -> R<()>
+    pub fn table(&mut self, flags: u32, index: u32, name: Option<&str>) -> Result<()>
         ensures { Adds (indexed_encoding kinds.Table flags index (optional_encoding (λ n. size_prefixed_encoding n.now) name.entry)) (IfSome name.entry (λ n. HasEncodableSize n.now)) self.old self.new result }
     {
         self.indexed(SymbolKind::Table, flags, index, name)
@@ -178,7 +178,7 @@ impl<A: Allocator> SymbolTable<A> {
         flags: u32,
         name: &str,
         definition: Option<DataSymbolDefinition>,
-    ) -> R<()>
+    ) -> Result<()>
         ensures { Adds (of_data_encoding flags name.now (optional_encoding definition_encoding definition)) (HasEncodableSize name.now) self.old self.new result }
     {
         given_definition(definition);
@@ -357,7 +357,7 @@ impl<'a, A: Allocator + Copy> Readable<'a, A> for Symbol<'a> {
 
 /// Appends the name if the flags say that the encoding has one.
 #[tactic(auto, using(crate::proofs::SymbolLaws::name_appended, crate::proofs::SymbolLaws::no_name_appended, crate::proofs::SymbolLaws::name_encoded))]
-fn append_name<B: Allocator>(flags: u32, name: Option<&str>, sink: &mut Vec<u8, B>) -> R<()>
+fn append_name<B: Allocator>(flags: u32, name: Option<&str>, sink: &mut Vec<u8, B>) -> Result<()>
     ensures ok { OnOk result (AppendsMinimal (optional (flags_name flags) name_format) (option_map (λ n. n.now) name.entry) sink.old.items sink.new.items) }
     ensures front { IsFrontOf sink.old.items sink.new.items }
     ensures too_long { HasEncoding (optional (flags_name flags) name_format) (option_map (λ n. n.now) name.entry) → result ≢ Err TooLong }
@@ -376,7 +376,7 @@ fn append_indexed<B: Allocator>(
     index: u32,
     name: Option<&str>,
     sink: &mut Vec<u8, B>,
-) -> R<()>
+) -> Result<()>
     ensures ok { OnOk result (AppendsMinimal symbol (indexed kind flags index (option_map (λ n. n.now) name.entry)) sink.old.items sink.new.items) }
     ensures front { IsFrontOf sink.old.items sink.new.items }
     ensures too_long { HasEncoding symbol (indexed kind flags index (option_map (λ n. n.now) name.entry)) → result ≢ Err TooLong }
@@ -393,7 +393,7 @@ fn append_definition<B: Allocator>(
     flags: u32,
     definition: Option<DataSymbolDefinition>,
     sink: &mut Vec<u8, B>,
-) -> R<()>
+) -> Result<()>
     ensures ok { OnOk result (AppendsMinimal (optional (flags_definition flags) definition_format) definition sink.old.items sink.new.items) }
     ensures front { IsFrontOf sink.old.items sink.new.items }
     ensures too_long { HasEncoding (optional (flags_definition flags) definition_format) definition → result ≢ Err TooLong }
@@ -411,7 +411,7 @@ fn append_data<B: Allocator>(
     name: &str,
     definition: Option<DataSymbolDefinition>,
     sink: &mut Vec<u8, B>,
-) -> R<()>
+) -> Result<()>
     ensures ok { OnOk result (AppendsMinimal symbol (of_data flags name.now definition) sink.old.items sink.new.items) }
     ensures front { IsFrontOf sink.old.items sink.new.items }
     ensures too_long { HasEncoding symbol (of_data flags name.now definition) → result ≢ Err TooLong }
@@ -423,7 +423,7 @@ fn append_data<B: Allocator>(
 }
 
 impl<'a> Shorten for Symbol<'a> {
-    fn write_minimal<B: Allocator>(&self, sink: &mut Vec<u8, B>) -> R<()> {
+    fn write_minimal<B: Allocator>(&self, sink: &mut Vec<u8, B>) -> Result<()> {
         match *self {
             Symbol::Function { flags, index, name } => {
                 append_indexed(SymbolKind::Function, flags, index, name, sink)

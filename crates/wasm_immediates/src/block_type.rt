@@ -3,7 +3,7 @@ ghost use Rattle.std.specs.Prelude.{⊤};
 ghost use Rattle.wasm_immediates.specs.Immediates.{block_encoding};
 
 use std::alloc::Allocator;
-use wasm_base::{Encode, R, ValType};
+use wasm_base::{Encode, Result, ValType};
 
 /// The type of a block: its parameters and results.
 #[derive(Clone, Copy, Debug)]
@@ -22,7 +22,7 @@ impl Encode for BlockType {
 
     ghost encodable = { λ _. ⊤ };
 
-    fn encode<A: Allocator>(&self, sink: &mut Vec<u8, A>) -> R<()> {
+    fn encode<A: Allocator>(&self, sink: &mut Vec<u8, A>) -> Result<()> {
         match *self {
             BlockType::Empty => 0x40u8.encode(sink),
             BlockType::Result(ty) => ty.encode(sink),

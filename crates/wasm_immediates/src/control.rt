@@ -3,7 +3,7 @@ ghost use Rattle.std.specs.Prelude.{⊤};
 ghost use Rattle.wasm_immediates.specs.Immediates.{catch_encoding, handle_encoding};
 
 use std::alloc::Allocator;
-use wasm_base::{Encode, R};
+use wasm_base::{Encode, Result};
 
 /// A clause of `try_table`: the exceptions that it catches, and the label that it then branches to.
 #[derive(Clone, Copy, Debug)]
@@ -27,7 +27,7 @@ impl Encode for Catch {
 
     ghost encodable = { λ _. ⊤ };
 
-    fn encode<A: Allocator>(&self, sink: &mut Vec<u8, A>) -> R<()> {
+    fn encode<A: Allocator>(&self, sink: &mut Vec<u8, A>) -> Result<()> {
         match *self {
             Catch::One { tag, label } => (0x00u8, tag, label).encode(sink),
             Catch::OneRef { tag, label } => (0x01u8, tag, label).encode(sink),
@@ -43,7 +43,7 @@ impl Encode for Handle {
 
     ghost encodable = { λ _. ⊤ };
 
-    fn encode<A: Allocator>(&self, sink: &mut Vec<u8, A>) -> R<()> {
+    fn encode<A: Allocator>(&self, sink: &mut Vec<u8, A>) -> Result<()> {
         match *self {
             Handle::OnLabel { tag, label } => (0x00u8, tag, label).encode(sink),
             Handle::OnSwitch { tag } => (0x01u8, tag).encode(sink),

@@ -3,7 +3,7 @@ ghost use Rattle.std.specs.Prelude.{◌≡◌, ⊤};
 ghost use Rattle.wasm_base.specs.Encodings.{little_endian_encoding};
 
 use std::alloc::Allocator;
-use wasm_base::{Encode, R};
+use wasm_base::{Encode, Result};
 
 /// A float of 32 bits, as its IEEE 754 bits.
 #[derive(Clone, Copy, PartialEq, Eq, Hash, Debug)]
@@ -34,7 +34,7 @@ impl Encode for Ieee32 {
     ghost encodable = { λ _. ⊤ };
 
     #[tactic(auto, using(crate::proofs::FixedBytes::four_bytes))]
-    fn encode<A: Allocator>(&self, sink: &mut Vec<u8, A>) -> R<()> {
+    fn encode<A: Allocator>(&self, sink: &mut Vec<u8, A>) -> Result<()> {
         let bytes: [u8; 4] = self.bits.to_le_bytes();
         bytes.encode(sink)
     }
@@ -69,7 +69,7 @@ impl Encode for Ieee64 {
     ghost encodable = { λ _. ⊤ };
 
     #[tactic(auto, using(crate::proofs::FixedBytes::eight_bytes))]
-    fn encode<A: Allocator>(&self, sink: &mut Vec<u8, A>) -> R<()> {
+    fn encode<A: Allocator>(&self, sink: &mut Vec<u8, A>) -> Result<()> {
         let bytes: [u8; 8] = self.bits.to_le_bytes();
         bytes.encode(sink)
     }

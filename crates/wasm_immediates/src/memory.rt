@@ -7,7 +7,7 @@ ghost use Rattle.wasm_immediates.specs.declared.memory.MemArgTarget.TheVariants.
 
 use std::alloc::Allocator;
 use std::default::Default;
-use wasm_base::{Encode, R};
+use wasm_base::{Encode, Result};
 
 /// The index of a lane of a vector.
 pub type Lane = u8;
@@ -76,7 +76,7 @@ impl Encode for Ordering {
 
     ghost encodable = { λ _. ⊤ };
 
-    fn encode<A: Allocator>(&self, sink: &mut Vec<u8, A>) -> R<()> {
+    fn encode<A: Allocator>(&self, sink: &mut Vec<u8, A>) -> Result<()> {
         (*self as u8).encode(sink)
     }
 }
@@ -87,7 +87,7 @@ impl Encode for MemArgOrdering {
 
     ghost encodable = { λ _. ⊤ };
 
-    fn encode<A: Allocator>(&self, sink: &mut Vec<u8, A>) -> R<()> {
+    fn encode<A: Allocator>(&self, sink: &mut Vec<u8, A>) -> Result<()> {
         let byte: u8 = match *self {
             MemArgOrdering::Op(Ordering::SeqCst) => 0x00,
             MemArgOrdering::Op(Ordering::AcqRel) => 0x01,
@@ -115,7 +115,7 @@ impl MemArg {
 
     /// Appends all fields for which the flags have a bit.
     #[inline(never)]
-    fn encode_all<A: Allocator>(&self, sink: &mut Vec<u8, A>) -> R<()>
+    fn encode_all<A: Allocator>(&self, sink: &mut Vec<u8, A>) -> Result<()>
         ensures { Appends (mem_arg_encoding self.now) ⊤ sink.old sink.new result }
     {
         let flags = self.flags();
@@ -136,7 +136,7 @@ impl Encode for MemArg {
     ghost encodable = { λ _. ⊤ };
 
     #[inline]
-    fn encode<A: Allocator>(&self, sink: &mut Vec<u8, A>) -> R<()> {
+    fn encode<A: Allocator>(&self, sink: &mut Vec<u8, A>) -> Result<()> {
         match (self.target, self.ordering) {
             (MemArgTarget::Memory(0), None) => encode_plain(self.flags(), self.offset, sink),
             _ => self.encode_all(sink),
@@ -147,7 +147,7 @@ impl Encode for MemArg {
 /// Appends flags and an offset. Most have one byte each, and are written after one test of the
 /// spare capacity.
 #[inline]
-fn encode_plain<A: Allocator>(flags: u32, offset: u64, sink: &mut Vec<u8, A>) -> R<()>
+fn encode_plain<A: Allocator>(flags: u32, offset: u64, sink: &mut Vec<u8, A>) -> Result<()>
     ensures { Appends (unsigned_encoding flags ++ unsigned_encoding offset) ⊤ sink.old sink.new result }
 {
     if flags < 0x80 && offset < 0x80 && sink.capacity() - sink.len() >= 2 {

@@ -7,7 +7,7 @@ ghost use Rattle.wasm_insn.specs.Atomic.{atomic_row};
 use crate::instruction::Instruction;
 use crate::op::Op;
 use std::alloc::Allocator;
-use wasm_base::{Encode, R};
+use wasm_base::{Encode, Result};
 use wasm_immediates::{MemArg, Ordering};
 
 /// Atomic instructions: those after the prefix FE.
@@ -349,7 +349,7 @@ impl Atomic {
     }
 
     /// Appends the immediates.
-    pub(crate) fn encode_arguments<A: Allocator>(self, sink: &mut Vec<u8, A>) -> R<()>
+    pub(crate) fn encode_arguments<A: Allocator>(self, sink: &mut Vec<u8, A>) -> Result<()>
         ensures { Appends (arguments_encoding (atomic_row self).arguments) (arguments_encodable (atomic_row self).arguments) sink.old sink.new result }
     {
         match self {

@@ -17,7 +17,7 @@ use crate::vector::Vector;
 use crate::vector_immediate::VectorImmediate;
 use std::alloc::{Allocator, Global};
 use std::slice;
-use wasm_base::{CowSlice, Encode, HeapType, R, RefType, Refused, ValType};
+use wasm_base::{CowSlice, Encode, HeapType, RefType, Refused, Result, ValType};
 use wasm_immediates::{BlockType, Catch, Handle, Ieee32, Ieee64, MemArg};
 
 /// An instruction of the core specification, "Instructions", or of its proposals.
@@ -255,7 +255,7 @@ fn cast_flag(from: RefType, to: RefType) -> u8
 
 /// Appends the labels of a branch table, and the default label.
 #[inline(never)]
-fn encode_labels<A: Allocator>(labels: &[u32], default: u32, sink: &mut Vec<u8, A>) -> R<()>
+fn encode_labels<A: Allocator>(labels: &[u32], default: u32, sink: &mut Vec<u8, A>) -> Result<()>
     ensures { Appends (vec_encoding unsigned_encoding labels.now ++ unsigned_encoding default) (IsEncodableVec (λ _. ⊤) labels.now × ⊤) sink.old sink.new result }
 {
     (labels, default).encode(sink)
@@ -267,7 +267,7 @@ fn encode_try_table<A: Allocator>(
     block_type: BlockType,
     catches: &[Catch],
     sink: &mut Vec<u8, A>,
-) -> R<()>
+) -> Result<()>
     ensures { Appends (block_encoding block_type ++ vec_encoding catch_encoding catches.now) (⊤ × IsEncodableVec (λ _. ⊤) catches.now) sink.old sink.new result }
 {
     (block_type, catches).encode(sink)
@@ -275,7 +275,7 @@ fn encode_try_table<A: Allocator>(
 
 /// Appends the index of a type, and handle clauses.
 #[inline(never)]
-fn encode_resume<A: Allocator>(index: u32, handles: &[Handle], sink: &mut Vec<u8, A>) -> R<()>
+fn encode_resume<A: Allocator>(index: u32, handles: &[Handle], sink: &mut Vec<u8, A>) -> Result<()>
     ensures { Appends (unsigned_encoding index ++ vec_encoding handle_encoding handles.now) (⊤ × IsEncodableVec (λ _. ⊤) handles.now) sink.old sink.new result }
 {
     (index, handles).encode(sink)
@@ -288,7 +288,7 @@ fn encode_resume_throw<A: Allocator>(
     tag: u32,
     handles: &[Handle],
     sink: &mut Vec<u8, A>,
-) -> R<()>
+) -> Result<()>
     ensures { Appends (unsigned_encoding index ++ (unsigned_encoding tag ++ vec_encoding handle_encoding handles.now)) (⊤ × ⊤ × IsEncodableVec (λ _. ⊤) handles.now) sink.old sink.new result }
 {
     (index, tag, handles).encode(sink)
@@ -296,7 +296,7 @@ fn encode_resume_throw<A: Allocator>(
 
 /// Appends the flags, the label, and the two heap types of a cast.
 #[inline(never)]
-fn encode_cast<A: Allocator>(label: u32, from: RefType, to: RefType, sink: &mut Vec<u8, A>) -> R<()>
+fn encode_cast<A: Allocator>(label: u32, from: RefType, to: RefType, sink: &mut Vec<u8, A>) -> Result<()>
     ensures { Appends (cast_flag_of from to ∷ [] ++ (unsigned_encoding label ++ (heap_encoding from.heap_type ++ heap_encoding to.heap_type))) (⊤ × ⊤ × (⊤ × ⊤)) sink.old sink.new result }
 {
     (cast_flag(from, to), label, (from.heap_type, to.heap_type)).encode(sink)
@@ -440,7 +440,7 @@ impl<'a, A: Allocator> Instruction<'a, A> {
     }
 
     /// Appends the immediates.
-    fn encode_arguments<B: Allocator>(&self, sink: &mut Vec<u8, B>) -> R<()>
+    fn encode_arguments<B: Allocator>(&self, sink: &mut Vec<u8, B>) -> Result<()>
         ensures { Appends (arguments_encoding (row_of self.now).arguments) (arguments_encodable (row_of self.now).arguments) sink.old sink.new result }
     {
         match self {
@@ -660,7 +660,7 @@ impl<'a, A: Allocator> Instruction<'a, A> {
 // number of arms.
 impl<'a, A: Allocator + Copy> Instruction<'a, A> {
     /// Returns a copy. Owned lists are copied with their own allocator.
-    pub fn clone(&self) -> R<Self>
+    pub fn clone(&self) -> Result<Self>
         ensures ok { IfOk result (λ i. row_of i ≡ row_of self.now) }
         ensures err { result ≢ Err Refused.TooLong }
     {
@@ -712,7 +712,7 @@ impl<'a, A: Allocator + Copy> Instruction<'a, A> {
 
     /// Returns a copy of an instruction that accesses variables, table elements or memory; or of a
     /// later group.
-    fn clone_access(&self) -> R<Self>
+    fn clone_access(&self) -> Result<Self>
         ensures ok { IfOk result (λ i. row_of i ≡ row_of self.now) }
         ensures err { result ≢ Err Refused.TooLong }
     {
@@ -755,7 +755,7 @@ impl<'a, A: Allocator + Copy> Instruction<'a, A> {
 
     /// Returns a copy of a constant, or of an instruction on references or continuations; or of a
     /// later group.
-    fn clone_reference(&self) -> R<Self>
+    fn clone_reference(&self) -> Result<Self>
         ensures ok { IfOk result (λ i. row_of i ≡ row_of self.now) }
         ensures err { result ≢ Err Refused.TooLong }
     {
@@ -815,7 +815,7 @@ impl<'a, A: Allocator + Copy> Instruction<'a, A> {
     }
 
     /// Returns a copy of an instruction on structs or arrays, or of a cast; or of a later group.
-    fn clone_aggregate(&self) -> R<Self>
+    fn clone_aggregate(&self) -> Result<Self>
         ensures ok { IfOk result (λ i. row_of i ≡ row_of self.now) }
         ensures err { result ≢ Err Refused.TooLong }
     {
@@ -950,7 +950,7 @@ impl<'a, A: Allocator + Copy> Instruction<'a, A> {
 
     /// Returns a copy of an instruction on whole segments, tables or memories, or of a case of a
     /// nested enum.
-    fn clone_bulk(&self) -> R<Self>
+    fn clone_bulk(&self) -> Result<Self>
         ensures ok { IfOk result (λ i. row_of i ≡ row_of self.now) }
         ensures err { result ≢ Err Refused.TooLong }
     {
@@ -1002,7 +1002,7 @@ impl<'a, A: Allocator> Encode for Instruction<'a, A> {
     ghost decoding = { DecodesInstruction };
 
     #[tactic(auto, using(crate::proofs::InstructionLaws::decodes))]
-    fn encode<B: Allocator>(&self, sink: &mut Vec<u8, B>) -> R<()> {
+    fn encode<B: Allocator>(&self, sink: &mut Vec<u8, B>) -> Result<()> {
         let start = sink.len();
         self.op().encode(sink)?;
         if let Err(refused) = self.encode_arguments(sink) {

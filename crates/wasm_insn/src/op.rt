@@ -3,7 +3,7 @@ ghost use Rattle.std.specs.Prelude.{⊤};
 ghost use Rattle.wasm_insn.specs.Opcodes.{op_encoding};
 
 use std::alloc::Allocator;
-use wasm_base::{Encode, R};
+use wasm_base::{Encode, Result};
 
 /// An opcode: a byte, or a prefix and a number.
 #[derive(Clone, Copy, PartialEq, Eq, Hash, Debug)]
@@ -69,7 +69,7 @@ impl Encode for Op {
     ghost encodable = { λ _. ⊤ };
 
     #[inline(always)]
-    fn encode<A: Allocator>(&self, sink: &mut Vec<u8, A>) -> R<()> {
+    fn encode<A: Allocator>(&self, sink: &mut Vec<u8, A>) -> Result<()> {
         match *self {
             Op::Byte(byte) => byte.encode(sink),
             Op::Prefixed(prefix, number) => (prefix, number).encode(sink),

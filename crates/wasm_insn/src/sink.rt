@@ -10,7 +10,7 @@ use crate::op::Op;
 use crate::vector_immediate::{VectorImmediate, vector_bytes};
 use std::alloc::Allocator;
 use std::slice;
-use wasm_base::{CowSlice, Encode, HeapType, R, Refused, ValType, encode_vec};
+use wasm_base::{CowSlice, Encode, HeapType, Refused, Result, ValType, encode_vec};
 use wasm_immediates::{BlockType, Ieee32, Ieee64, MemArg};
 
 /// A buffer to which instructions are appended.
@@ -23,7 +23,7 @@ pub trait Buffer {
     ghost has_spare_capacity: { Self → ℕ → Type 0 } = { λ _ _. ⊥ };
 
     /// Appends the encoding of the value. On an error, the bytes are unchanged.
-    fn append<E: Encode>(&mut self, value: &E) -> R<()>
+    fn append<E: Encode>(&mut self, value: &E) -> Result<()>
         ensures { Writes (E.encoding value.now) (E.encodable value.now) (has_spare_capacity self.old (length (E.encoding value.now))) (written self.old) (written self.new) result };
 
     /// Appends a value, the elements as a vector, and another value. On an error, the bytes are
@@ -34,7 +34,7 @@ pub trait Buffer {
         before: &S,
         elements: V,
         after: &U,
-    ) -> R<()>
+    ) -> Result<()>
     where
         V::IntoIter: ExactSizeIterator + Drop,
         requires { HasKnownLength V.into_iter_gives V.IntoIter.can_next V.IntoIter.next_gives V.IntoIter.remaining elements }
@@ -47,7 +47,7 @@ impl<A: Allocator> Buffer for Vec<u8, A> {
 
     ghost has_spare_capacity = { λ bytes n. vec_len bytes + n ≤ vec_capacity bytes };
 
-    fn append<E: Encode>(&mut self, value: &E) -> R<()> {
+    fn append<E: Encode>(&mut self, value: &E) -> Result<()> {
         value.encode(self)
     }
 
@@ -56,7 +56,7 @@ impl<A: Allocator> Buffer for Vec<u8, A> {
         before: &S,
         elements: V,
         after: &U,
-    ) -> R<()>
+    ) -> Result<()>
     where
         V::IntoIter: ExactSizeIterator + Drop,
     {
@@ -99,7 +99,7 @@ impl<'a, B: Buffer> InstructionSink<'a, B> {
     }
 
     /// Appends one encoded instruction. Each call but `br_table` uses it.
-    fn emit<E: Encode>(&mut self, value: &E) -> R<()>
+    fn emit<E: Encode>(&mut self, value: &E) -> Result<()>
         ensures same_reference { self.new.sink.ghost_name ≡ self.old.sink.ghost_name }
         ensures writes { Writes (E.encoding value.now) (E.encodable value.now) (B.has_spare_capacity self.old.sink.now (length (E.encoding value.now))) (B.written self.old.sink.now) (B.written self.new.sink.now) result }
     {
@@ -107,7 +107,7 @@ impl<'a, B: Buffer> InstructionSink<'a, B> {
     }
 
     /// Appends an opcode.
-    pub fn op(&mut self, op: Op) -> R<()>
+    pub fn op(&mut self, op: Op) -> Result<()>
         ensures same_reference { self.new.sink.ghost_name ≡ self.old.sink.ghost_name }
         ensures writes { Writes (op_encoding op) ⊤ (B.has_spare_capacity self.old.sink.now (length (op_encoding op))) (B.written self.old.sink.now) (B.written self.new.sink.now) result }
     {
@@ -115,7 +115,7 @@ impl<'a, B: Buffer> InstructionSink<'a, B> {
     }
 
     /// Appends the encoding of `Unreachable`.
-    pub fn unreachable(&mut self) -> R<()>
+    pub fn unreachable(&mut self) -> Result<()>
         ensures same_reference { self.new.sink.ghost_name ≡ self.old.sink.ghost_name }
         ensures writes { WritesInstruction B.written B.has_spare_capacity Instruction.Unreachable self.old.sink.now self.new.sink.now result }
     {
@@ -123,7 +123,7 @@ impl<'a, B: Buffer> InstructionSink<'a, B> {
     }
 
     /// Appends the encoding of `Nop`.
-    pub fn nop(&mut self) -> R<()>
+    pub fn nop(&mut self) -> Result<()>
         ensures same_reference { self.new.sink.ghost_name ≡ self.old.sink.ghost_name }
         ensures writes { WritesInstruction B.written B.has_spare_capacity Instruction.Nop self.old.sink.now self.new.sink.now result }
     {
@@ -131,7 +131,7 @@ impl<'a, B: Buffer> InstructionSink<'a, B> {
     }
 
     /// Appends the encoding of `Block`.
-    pub fn block(&mut self, block_type: BlockType) -> R<()>
+    pub fn block(&mut self, block_type: BlockType) -> Result<()>
         ensures same_reference { self.new.sink.ghost_name ≡ self.old.sink.ghost_name }
         ensures writes { WritesInstruction B.written B.has_spare_capacity (Instruction.Block block_type) self.old.sink.now self.new.sink.now result }
     {
@@ -139,7 +139,7 @@ impl<'a, B: Buffer> InstructionSink<'a, B> {
     }
 
     /// Appends the encoding of `Loop`.
-    pub fn loop_(&mut self, block_type: BlockType) -> R<()>
+    pub fn loop_(&mut self, block_type: BlockType) -> Result<()>
         ensures same_reference { self.new.sink.ghost_name ≡ self.old.sink.ghost_name }
         ensures writes { WritesInstruction B.written B.has_spare_capacity (Instruction.Loop block_type) self.old.sink.now self.new.sink.now result }
     {
@@ -147,7 +147,7 @@ impl<'a, B: Buffer> InstructionSink<'a, B> {
     }
 
     /// Appends the encoding of `If`.
-    pub fn if_(&mut self, block_type: BlockType) -> R<()>
+    pub fn if_(&mut self, block_type: BlockType) -> Result<()>
         ensures same_reference { self.new.sink.ghost_name ≡ self.old.sink.ghost_name }
         ensures writes { WritesInstruction B.written B.has_spare_capacity (Instruction.If block_type) self.old.sink.now self.new.sink.now result }
     {
@@ -155,7 +155,7 @@ impl<'a, B: Buffer> InstructionSink<'a, B> {
     }
 
     /// Appends the encoding of `Else`.
-    pub fn else_(&mut self) -> R<()>
+    pub fn else_(&mut self) -> Result<()>
         ensures same_reference { self.new.sink.ghost_name ≡ self.old.sink.ghost_name }
         ensures writes { WritesInstruction B.written B.has_spare_capacity Instruction.Else self.old.sink.now self.new.sink.now result }
     {
@@ -163,7 +163,7 @@ impl<'a, B: Buffer> InstructionSink<'a, B> {
     }
 
     /// Appends the encoding of `End`.
-    pub fn end(&mut self) -> R<()>
+    pub fn end(&mut self) -> Result<()>
         ensures same_reference { self.new.sink.ghost_name ≡ self.old.sink.ghost_name }
         ensures writes { WritesInstruction B.written B.has_spare_capacity Instruction.End self.old.sink.now self.new.sink.now result }
     {
@@ -171,7 +171,7 @@ impl<'a, B: Buffer> InstructionSink<'a, B> {
     }
 
     /// Appends the encoding of `Br`.
-    pub fn br(&mut self, label: u32) -> R<()>
+    pub fn br(&mut self, label: u32) -> Result<()>
         ensures same_reference { self.new.sink.ghost_name ≡ self.old.sink.ghost_name }
         ensures writes { WritesInstruction B.written B.has_spare_capacity (Instruction.Br label) self.old.sink.now self.new.sink.now result }
     {
@@ -179,7 +179,7 @@ impl<'a, B: Buffer> InstructionSink<'a, B> {
     }
 
     /// Appends the encoding of `BrIf`.
-    pub fn br_if(&mut self, label: u32) -> R<()>
+    pub fn br_if(&mut self, label: u32) -> Result<()>
         ensures same_reference { self.new.sink.ghost_name ≡ self.old.sink.ghost_name }
         ensures writes { WritesInstruction B.written B.has_spare_capacity (Instruction.BrIf label) self.old.sink.now self.new.sink.now result }
     {
@@ -187,7 +187,7 @@ impl<'a, B: Buffer> InstructionSink<'a, B> {
     }
 
     /// Appends the encoding of `BrTable`, with these labels and this default label.
-    pub fn br_table<V: IntoIterator<Item = u32>>(&mut self, labels: V, default: u32) -> R<()>
+    pub fn br_table<V: IntoIterator<Item = u32>>(&mut self, labels: V, default: u32) -> Result<()>
     where
         V::IntoIter: ExactSizeIterator + Drop,
         requires { HasKnownLength V.into_iter_gives V.IntoIter.can_next V.IntoIter.next_gives V.IntoIter.remaining labels }
@@ -198,7 +198,7 @@ impl<'a, B: Buffer> InstructionSink<'a, B> {
     }
 
     /// Appends the encoding of `Return`.
-    pub fn return_(&mut self) -> R<()>
+    pub fn return_(&mut self) -> Result<()>
         ensures same_reference { self.new.sink.ghost_name ≡ self.old.sink.ghost_name }
         ensures writes { WritesInstruction B.written B.has_spare_capacity Instruction.Return self.old.sink.now self.new.sink.now result }
     {
@@ -206,7 +206,7 @@ impl<'a, B: Buffer> InstructionSink<'a, B> {
     }
 
     /// Appends the encoding of `Call`.
-    pub fn call(&mut self, function_index: u32) -> R<()>
+    pub fn call(&mut self, function_index: u32) -> Result<()>
         ensures same_reference { self.new.sink.ghost_name ≡ self.old.sink.ghost_name }
         ensures writes { WritesInstruction B.written B.has_spare_capacity (Instruction.Call function_index) self.old.sink.now self.new.sink.now result }
     {
@@ -214,7 +214,7 @@ impl<'a, B: Buffer> InstructionSink<'a, B> {
     }
 
     /// Appends the encoding of `CallIndirect`.
-    pub fn call_indirect(&mut self, table_index: u32, type_index: u32) -> R<()>
+    pub fn call_indirect(&mut self, table_index: u32, type_index: u32) -> Result<()>
         ensures same_reference { self.new.sink.ghost_name ≡ self.old.sink.ghost_name }
         ensures writes { WritesInstruction B.written B.has_spare_capacity (Instruction.CallIndirect type_index table_index) self.old.sink.now self.new.sink.now result }
     {
@@ -222,7 +222,7 @@ impl<'a, B: Buffer> InstructionSink<'a, B> {
     }
 
     /// Appends the encoding of `Drop`.
-    pub fn drop_(&mut self) -> R<()>
+    pub fn drop_(&mut self) -> Result<()>
         ensures same_reference { self.new.sink.ghost_name ≡ self.old.sink.ghost_name }
         ensures writes { WritesInstruction B.written B.has_spare_capacity Instruction.Drop self.old.sink.now self.new.sink.now result }
     {
@@ -230,7 +230,7 @@ impl<'a, B: Buffer> InstructionSink<'a, B> {
     }
 
     /// Appends the encoding of `Select`.
-    pub fn select(&mut self) -> R<()>
+    pub fn select(&mut self) -> Result<()>
         ensures same_reference { self.new.sink.ghost_name ≡ self.old.sink.ghost_name }
         ensures writes { WritesInstruction B.written B.has_spare_capacity Instruction.Select self.old.sink.now self.new.sink.now result }
     {
@@ -238,7 +238,7 @@ impl<'a, B: Buffer> InstructionSink<'a, B> {
     }
 
     /// Appends the encoding of `TypedSelect`.
-    pub fn typed_select(&mut self, ty: ValType) -> R<()>
+    pub fn typed_select(&mut self, ty: ValType) -> Result<()>
         ensures same_reference { self.new.sink.ghost_name ≡ self.old.sink.ghost_name }
         ensures writes { WritesInstruction B.written B.has_spare_capacity (Instruction.TypedSelect ty) self.old.sink.now self.new.sink.now result }
     {
@@ -246,7 +246,7 @@ impl<'a, B: Buffer> InstructionSink<'a, B> {
     }
 
     /// Appends the encoding of `TypedSelectMulti`.
-    pub fn typed_select_multi(&mut self, types: &[ValType]) -> R<()>
+    pub fn typed_select_multi(&mut self, types: &[ValType]) -> Result<()>
         ensures same_reference { self.new.sink.ghost_name ≡ self.old.sink.ghost_name }
         ensures writes { WritesInstruction B.written B.has_spare_capacity (Instruction.TypedSelectMulti (CowSlice.Borrowed types.entry)) self.old.sink.now self.new.sink.now result }
     {
@@ -254,7 +254,7 @@ impl<'a, B: Buffer> InstructionSink<'a, B> {
     }
 
     /// Appends the encoding of `LocalGet`.
-    pub fn local_get(&mut self, index: u32) -> R<()>
+    pub fn local_get(&mut self, index: u32) -> Result<()>
         ensures same_reference { self.new.sink.ghost_name ≡ self.old.sink.ghost_name }
         ensures writes { WritesInstruction B.written B.has_spare_capacity (Instruction.LocalGet index) self.old.sink.now self.new.sink.now result }
     {
@@ -262,7 +262,7 @@ impl<'a, B: Buffer> InstructionSink<'a, B> {
     }
 
     /// Appends the encoding of `LocalSet`.
-    pub fn local_set(&mut self, index: u32) -> R<()>
+    pub fn local_set(&mut self, index: u32) -> Result<()>
         ensures same_reference { self.new.sink.ghost_name ≡ self.old.sink.ghost_name }
         ensures writes { WritesInstruction B.written B.has_spare_capacity (Instruction.LocalSet index) self.old.sink.now self.new.sink.now result }
     {
@@ -270,7 +270,7 @@ impl<'a, B: Buffer> InstructionSink<'a, B> {
     }
 
     /// Appends the encoding of `LocalTee`.
-    pub fn local_tee(&mut self, index: u32) -> R<()>
+    pub fn local_tee(&mut self, index: u32) -> Result<()>
         ensures same_reference { self.new.sink.ghost_name ≡ self.old.sink.ghost_name }
         ensures writes { WritesInstruction B.written B.has_spare_capacity (Instruction.LocalTee index) self.old.sink.now self.new.sink.now result }
     {
@@ -278,7 +278,7 @@ impl<'a, B: Buffer> InstructionSink<'a, B> {
     }
 
     /// Appends the encoding of `GlobalGet`.
-    pub fn global_get(&mut self, index: u32) -> R<()>
+    pub fn global_get(&mut self, index: u32) -> Result<()>
         ensures same_reference { self.new.sink.ghost_name ≡ self.old.sink.ghost_name }
         ensures writes { WritesInstruction B.written B.has_spare_capacity (Instruction.GlobalGet index) self.old.sink.now self.new.sink.now result }
     {
@@ -286,7 +286,7 @@ impl<'a, B: Buffer> InstructionSink<'a, B> {
     }
 
     /// Appends the encoding of `GlobalSet`.
-    pub fn global_set(&mut self, index: u32) -> R<()>
+    pub fn global_set(&mut self, index: u32) -> Result<()>
         ensures same_reference { self.new.sink.ghost_name ≡ self.old.sink.ghost_name }
         ensures writes { WritesInstruction B.written B.has_spare_capacity (Instruction.GlobalSet index) self.old.sink.now self.new.sink.now result }
     {
@@ -294,7 +294,7 @@ impl<'a, B: Buffer> InstructionSink<'a, B> {
     }
 
     /// Appends the encoding of `I32Load`.
-    pub fn i32_load(&mut self, memarg: MemArg) -> R<()>
+    pub fn i32_load(&mut self, memarg: MemArg) -> Result<()>
         ensures same_reference { self.new.sink.ghost_name ≡ self.old.sink.ghost_name }
         ensures writes { WritesInstruction B.written B.has_spare_capacity (Instruction.I32Load memarg) self.old.sink.now self.new.sink.now result }
     {
@@ -302,7 +302,7 @@ impl<'a, B: Buffer> InstructionSink<'a, B> {
     }
 
     /// Appends the encoding of `I32Store`.
-    pub fn i32_store(&mut self, memarg: MemArg) -> R<()>
+    pub fn i32_store(&mut self, memarg: MemArg) -> Result<()>
         ensures same_reference { self.new.sink.ghost_name ≡ self.old.sink.ghost_name }
         ensures writes { WritesInstruction B.written B.has_spare_capacity (Instruction.I32Store memarg) self.old.sink.now self.new.sink.now result }
     {
@@ -310,7 +310,7 @@ impl<'a, B: Buffer> InstructionSink<'a, B> {
     }
 
     /// Appends the encoding of `MemorySize`.
-    pub fn memory_size(&mut self, memory: u32) -> R<()>
+    pub fn memory_size(&mut self, memory: u32) -> Result<()>
         ensures same_reference { self.new.sink.ghost_name ≡ self.old.sink.ghost_name }
         ensures writes { WritesInstruction B.written B.has_spare_capacity (Instruction.MemorySize memory) self.old.sink.now self.new.sink.now result }
     {
@@ -318,7 +318,7 @@ impl<'a, B: Buffer> InstructionSink<'a, B> {
     }
 
     /// Appends the encoding of `MemoryGrow`.
-    pub fn memory_grow(&mut self, memory: u32) -> R<()>
+    pub fn memory_grow(&mut self, memory: u32) -> Result<()>
         ensures same_reference { self.new.sink.ghost_name ≡ self.old.sink.ghost_name }
         ensures writes { WritesInstruction B.written B.has_spare_capacity (Instruction.MemoryGrow memory) self.old.sink.now self.new.sink.now result }
     {
@@ -326,7 +326,7 @@ impl<'a, B: Buffer> InstructionSink<'a, B> {
     }
 
     /// Appends the encoding of `I32Const`.
-    pub fn i32_const(&mut self, value: i32) -> R<()>
+    pub fn i32_const(&mut self, value: i32) -> Result<()>
         ensures same_reference { self.new.sink.ghost_name ≡ self.old.sink.ghost_name }
         ensures writes { WritesInstruction B.written B.has_spare_capacity (Instruction.I32Const value) self.old.sink.now self.new.sink.now result }
     {
@@ -334,7 +334,7 @@ impl<'a, B: Buffer> InstructionSink<'a, B> {
     }
 
     /// Appends the encoding of `I64Const`.
-    pub fn i64_const(&mut self, value: i64) -> R<()>
+    pub fn i64_const(&mut self, value: i64) -> Result<()>
         ensures same_reference { self.new.sink.ghost_name ≡ self.old.sink.ghost_name }
         ensures writes { WritesInstruction B.written B.has_spare_capacity (Instruction.I64Const value) self.old.sink.now self.new.sink.now result }
     {
@@ -342,7 +342,7 @@ impl<'a, B: Buffer> InstructionSink<'a, B> {
     }
 
     /// Appends the encoding of `F32Const`.
-    pub fn f32_const(&mut self, value: Ieee32) -> R<()>
+    pub fn f32_const(&mut self, value: Ieee32) -> Result<()>
         ensures same_reference { self.new.sink.ghost_name ≡ self.old.sink.ghost_name }
         ensures writes { WritesInstruction B.written B.has_spare_capacity (Instruction.F32Const value) self.old.sink.now self.new.sink.now result }
     {
@@ -350,7 +350,7 @@ impl<'a, B: Buffer> InstructionSink<'a, B> {
     }
 
     /// Appends the encoding of `F64Const`.
-    pub fn f64_const(&mut self, value: Ieee64) -> R<()>
+    pub fn f64_const(&mut self, value: Ieee64) -> Result<()>
         ensures same_reference { self.new.sink.ghost_name ≡ self.old.sink.ghost_name }
         ensures writes { WritesInstruction B.written B.has_spare_capacity (Instruction.F64Const value) self.old.sink.now self.new.sink.now result }
     {
@@ -358,7 +358,7 @@ impl<'a, B: Buffer> InstructionSink<'a, B> {
     }
 
     /// Appends the encoding of `V128Const`.
-    pub fn v128_const(&mut self, value: i128) -> R<()>
+    pub fn v128_const(&mut self, value: i128) -> Result<()>
         ensures same_reference { self.new.sink.ghost_name ≡ self.old.sink.ghost_name }
         ensures writes { WritesInstruction B.written B.has_spare_capacity (Instruction.VectorImmediate (VectorImmediate.V128Const value)) self.old.sink.now self.new.sink.now result }
     {
@@ -366,7 +366,7 @@ impl<'a, B: Buffer> InstructionSink<'a, B> {
     }
 
     /// Appends the encoding of `I32Eqz`.
-    pub fn i32_eqz(&mut self) -> R<()>
+    pub fn i32_eqz(&mut self) -> Result<()>
         ensures same_reference { self.new.sink.ghost_name ≡ self.old.sink.ghost_name }
         ensures writes { WritesInstruction B.written B.has_spare_capacity (Instruction.Numeric Numeric.I32Eqz) self.old.sink.now self.new.sink.now result }
     {
@@ -374,7 +374,7 @@ impl<'a, B: Buffer> InstructionSink<'a, B> {
     }
 
     /// Appends the encoding of `I32Add`.
-    pub fn i32_add(&mut self) -> R<()>
+    pub fn i32_add(&mut self) -> Result<()>
         ensures same_reference { self.new.sink.ghost_name ≡ self.old.sink.ghost_name }
         ensures writes { WritesInstruction B.written B.has_spare_capacity (Instruction.Numeric Numeric.I32Add) self.old.sink.now self.new.sink.now result }
     {
@@ -382,7 +382,7 @@ impl<'a, B: Buffer> InstructionSink<'a, B> {
     }
 
     /// Appends the encoding of `I32Sub`.
-    pub fn i32_sub(&mut self) -> R<()>
+    pub fn i32_sub(&mut self) -> Result<()>
         ensures same_reference { self.new.sink.ghost_name ≡ self.old.sink.ghost_name }
         ensures writes { WritesInstruction B.written B.has_spare_capacity (Instruction.Numeric Numeric.I32Sub) self.old.sink.now self.new.sink.now result }
     {
@@ -390,7 +390,7 @@ impl<'a, B: Buffer> InstructionSink<'a, B> {
     }
 
     /// Appends the encoding of `I32Mul`.
-    pub fn i32_mul(&mut self) -> R<()>
+    pub fn i32_mul(&mut self) -> Result<()>
         ensures same_reference { self.new.sink.ghost_name ≡ self.old.sink.ghost_name }
         ensures writes { WritesInstruction B.written B.has_spare_capacity (Instruction.Numeric Numeric.I32Mul) self.old.sink.now self.new.sink.now result }
     {
@@ -398,7 +398,7 @@ impl<'a, B: Buffer> InstructionSink<'a, B> {
     }
 
     /// Appends the encoding of `I64Add`.
-    pub fn i64_add(&mut self) -> R<()>
+    pub fn i64_add(&mut self) -> Result<()>
         ensures same_reference { self.new.sink.ghost_name ≡ self.old.sink.ghost_name }
         ensures writes { WritesInstruction B.written B.has_spare_capacity (Instruction.Numeric Numeric.I64Add) self.old.sink.now self.new.sink.now result }
     {
@@ -406,7 +406,7 @@ impl<'a, B: Buffer> InstructionSink<'a, B> {
     }
 
     /// Appends the encoding of `I64Sub`.
-    pub fn i64_sub(&mut self) -> R<()>
+    pub fn i64_sub(&mut self) -> Result<()>
         ensures same_reference { self.new.sink.ghost_name ≡ self.old.sink.ghost_name }
         ensures writes { WritesInstruction B.written B.has_spare_capacity (Instruction.Numeric Numeric.I64Sub) self.old.sink.now self.new.sink.now result }
     {
@@ -414,7 +414,7 @@ impl<'a, B: Buffer> InstructionSink<'a, B> {
     }
 
     /// Appends the encoding of `I64Mul`.
-    pub fn i64_mul(&mut self) -> R<()>
+    pub fn i64_mul(&mut self) -> Result<()>
         ensures same_reference { self.new.sink.ghost_name ≡ self.old.sink.ghost_name }
         ensures writes { WritesInstruction B.written B.has_spare_capacity (Instruction.Numeric Numeric.I64Mul) self.old.sink.now self.new.sink.now result }
     {
@@ -422,7 +422,7 @@ impl<'a, B: Buffer> InstructionSink<'a, B> {
     }
 
     /// Appends the encoding of `RefNull`.
-    pub fn ref_null(&mut self, ty: HeapType) -> R<()>
+    pub fn ref_null(&mut self, ty: HeapType) -> Result<()>
         ensures same_reference { self.new.sink.ghost_name ≡ self.old.sink.ghost_name }
         ensures writes { WritesInstruction B.written B.has_spare_capacity (Instruction.RefNull ty) self.old.sink.now self.new.sink.now result }
     {
@@ -430,7 +430,7 @@ impl<'a, B: Buffer> InstructionSink<'a, B> {
     }
 
     /// Appends the encoding of `RefIsNull`.
-    pub fn ref_is_null(&mut self) -> R<()>
+    pub fn ref_is_null(&mut self) -> Result<()>
         ensures same_reference { self.new.sink.ghost_name ≡ self.old.sink.ghost_name }
         ensures writes { WritesInstruction B.written B.has_spare_capacity Instruction.RefIsNull self.old.sink.now self.new.sink.now result }
     {
@@ -438,7 +438,7 @@ impl<'a, B: Buffer> InstructionSink<'a, B> {
     }
 
     /// Appends the encoding of `RefFunc`.
-    pub fn ref_func(&mut self, function_index: u32) -> R<()>
+    pub fn ref_func(&mut self, function_index: u32) -> Result<()>
         ensures same_reference { self.new.sink.ghost_name ≡ self.old.sink.ghost_name }
         ensures writes { WritesInstruction B.written B.has_spare_capacity (Instruction.RefFunc function_index) self.old.sink.now self.new.sink.now result }
     {

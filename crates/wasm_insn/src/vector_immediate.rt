@@ -7,7 +7,7 @@ ghost use Rattle.wasm_insn.specs.VectorImmediate.{vector_immediate_row};
 
 use crate::op::Op;
 use std::alloc::Allocator;
-use wasm_base::{Encode, R};
+use wasm_base::{Encode, Result};
 use wasm_immediates::{Lane, MemArg};
 
 /// Returns the bytes of a vector, little-endian.
@@ -109,7 +109,7 @@ impl VectorImmediate {
     }
 
     /// Appends the immediates.
-    pub(crate) fn encode_arguments<A: Allocator>(self, sink: &mut Vec<u8, A>) -> R<()>
+    pub(crate) fn encode_arguments<A: Allocator>(self, sink: &mut Vec<u8, A>) -> Result<()>
         ensures { Appends (arguments_encoding (vector_immediate_row self).arguments) (arguments_encodable (vector_immediate_row self).arguments) sink.old sink.new result }
     {
         match self {

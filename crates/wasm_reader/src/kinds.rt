@@ -8,7 +8,7 @@ ghost use Rattle.wasm_reader.specs.Kinds.{Contents, content, contents_of, kind_i
 
 use crate::counts::count_skipped;
 use std::alloc::{Allocator, Global};
-use wasm_base::{Encode, R};
+use wasm_base::{Encode, Result};
 use wasm_custom::{
     BranchHint, CoreFrame, LinkItem, NameItem, append_hints, append_instances, append_links,
     append_modules, append_names, append_process, append_producers, append_stack, read_hints,
@@ -323,7 +323,7 @@ pub(crate) fn read_number<'a, A: Allocator + Copy>(
 pub(crate) fn append_content<A: Allocator, B: Allocator>(
     items: Items<'_, A>,
     sink: &mut Vec<u8, B>,
-) -> R<()>
+) -> Result<()>
     ensures { OnOk result (AppendsMinimal (content (kind_in (contents_of items.entry))) (contents_of items.entry) sink.old.items sink.new.items) }
 {
     match items {

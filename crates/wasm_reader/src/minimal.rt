@@ -12,7 +12,7 @@ ghost use Rattle.wasm_reader.specs.Sections.{section, Shortens};
 
 use crate::kinds::{Items, SectionKind, append_content, read_content};
 use std::alloc::Allocator;
-use wasm_base::{Encode, R, encode_size_prefixed};
+use wasm_base::{Encode, Result, encode_size_prefixed};
 use wasm_reader_base::{ReadFault, Readable, Shorten};
 use wasm_reader_insn::shorten_body;
 

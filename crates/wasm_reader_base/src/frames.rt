@@ -9,7 +9,7 @@ use crate::fault::ReadFault;
 use crate::readable::{Readable, Layout};
 use crate::shorten::Shorten;
 use std::alloc::Allocator;
-use wasm_base::{Encode, R};
+use wasm_base::{Encode, Result};
 
 /// A size-prefixed value that occupies its payload to the last byte. Its own format determines its
 /// end too.
@@ -44,7 +44,7 @@ impl<'a, A: Allocator + Copy, T: Readable<'a, A>> Readable<'a, A> for SizePrefix
 
 /// Inserts the size of the bytes from `start` on before them, so that they become a size prefix and
 /// its payload.
-pub fn prefix_size_since<B: Allocator>(sink: &mut Vec<u8, B>, start: usize) -> R<()>
+pub fn prefix_size_since<B: Allocator>(sink: &mut Vec<u8, B>, start: usize) -> Result<()>
     requires { start ≤ vec_len sink.old }
     ensures sized { OnOk result (sink.new.items ≡ take start sink.old.items ++ size_prefixed_encoding (drop start sink.old.items)) }
     ensures was_encodable { OnOk result (HasEncodableSize (drop start sink.old.items)) }
@@ -59,7 +59,7 @@ pub fn prefix_size_since<B: Allocator>(sink: &mut Vec<u8, B>, start: usize) -> R
 
 /// Appends the minimal encoding of the value with its size prefix.
 #[tactic(auto, using(crate::proofs::MinimalEncodings::size_prefixed_appended, crate::proofs::DecodedValues::content_encoded, crate::proofs::DecodedValues::behind_encodable))]
-fn append_payload<T: Shorten, B: Allocator>(value: &T, sink: &mut Vec<u8, B>) -> R<()>
+fn append_payload<T: Shorten, B: Allocator>(value: &T, sink: &mut Vec<u8, B>) -> Result<()>
     ensures ok { OnOk result (AppendsMinimal (size_prefixed T.format) (T.view value.now) sink.old.items sink.new.items) }
     ensures front { IsFrontOf sink.old.items sink.new.items }
     ensures too_long { HasEncoding (size_prefixed T.format) (T.view value.now) → result ≢ Err TooLong }
@@ -71,7 +71,7 @@ fn append_payload<T: Shorten, B: Allocator>(value: &T, sink: &mut Vec<u8, B>) ->
 }
 
 impl<T: Shorten> Shorten for SizePrefixed<T> {
-    fn write_minimal<B: Allocator>(&self, sink: &mut Vec<u8, B>) -> R<()> {
+    fn write_minimal<B: Allocator>(&self, sink: &mut Vec<u8, B>) -> Result<()> {
         let SizePrefixed(value) = self;
         append_payload(value, sink)
     }

@@ -10,7 +10,7 @@ use crate::fault::ReadFault;
 use crate::readable::{Readable, Layout};
 use crate::shorten::Shorten;
 use std::alloc::Allocator;
-use wasm_base::{Encode, Groups, NoGroups, R, read_groups};
+use wasm_base::{Encode, Groups, NoGroups, Result, read_groups};
 
 /// Returns the number that the groups encode in two's complement.
 fn signed(groups: Groups) -> i128
@@ -279,7 +279,7 @@ pub(crate) fn read_index(bytes: &[u8]) -> Result<(u32, &[u8]), ReadFault>
 
 impl Shorten for u32 {
     #[tactic(auto, using(crate::proofs::DecodePlain::u32_appended))]
-    fn write_minimal<B: Allocator>(&self, sink: &mut Vec<u8, B>) -> R<()> {
+    fn write_minimal<B: Allocator>(&self, sink: &mut Vec<u8, B>) -> Result<()> {
         self.encode(sink)
     }
 }

@@ -7,7 +7,7 @@ use crate::fault::ReadFault;
 use crate::readable::{Readable, Layout};
 use crate::shorten::Shorten;
 use std::alloc::Allocator;
-use wasm_base::{Encode, R, encode_size_prefixed};
+use wasm_base::{Encode, Result, encode_size_prefixed};
 
 /// The payload of size-prefixed bytes.
 impl<'a> Layout for &'a [u8] {
@@ -61,14 +61,14 @@ impl<'a, A: Allocator + Copy> Readable<'a, A> for &'a str {
 
 impl Shorten for &[u8] {
     #[tactic(auto, using(crate::proofs::DecodePlain::bytes_appended, crate::proofs::DecodedValues::bytes_encodable))]
-    fn write_minimal<B: Allocator>(&self, sink: &mut Vec<u8, B>) -> R<()> {
+    fn write_minimal<B: Allocator>(&self, sink: &mut Vec<u8, B>) -> Result<()> {
         encode_size_prefixed(sink, self)
     }
 }
 
 impl Shorten for &str {
     #[tactic(auto, using(crate::proofs::DecodePlain::name_appended, crate::proofs::DecodedValues::name_encodable))]
-    fn write_minimal<B: Allocator>(&self, sink: &mut Vec<u8, B>) -> R<()> {
+    fn write_minimal<B: Allocator>(&self, sink: &mut Vec<u8, B>) -> Result<()> {
         self.encode(sink)
     }
 }

@@ -38,14 +38,6 @@ pub trait Skip<'a, A: Allocator + Copy> {
 pub struct Dropped<T>(PhantomData<T>);
 
 impl<'a, A: Allocator + Copy, T: Readable<'a, A>> Skip<'a, A> for Dropped<T> {
-    ghost Value = { T.Value };
-
-    ghost format = { T.format };
-
-    fn laws() {
-        T::laws();
-    }
-
     #[inline]
     fn skip(bytes: &'a [u8], alloc: A) -> Result<&'a [u8], ReadFault> {
         let (_value, rest) = T::read(bytes, alloc)?;
@@ -55,15 +47,6 @@ impl<'a, A: Allocator + Copy, T: Readable<'a, A>> Skip<'a, A> for Dropped<T> {
 
 /// One value, and then another.
 impl<'a, A: Allocator + Copy, P: Skip<'a, A>, Q: Skip<'a, A>> Skip<'a, A> for (P, Q) {
-    ghost Value = { P.Value × Q.Value };
-
-    ghost format = { pair P.format Q.format };
-
-    fn laws() {
-        P::laws();
-        Q::laws();
-    }
-
     #[tactic(auto, using(wasm_base::proofs::DecodingSteps::steps))]
     fn skip(bytes: &'a [u8], alloc: A) -> Result<&'a [u8], ReadFault> {
         let after = P::skip(bytes, alloc)?;

@@ -5,7 +5,7 @@ use crate::fault::ReadFault;
 use crate::readable::{Readable, Layout};
 use crate::shorten::Shorten;
 use std::alloc::Allocator;
-use wasm_base::R;
+use wasm_base::Result;
 
 /// One value, and then another.
 impl<T: Layout, U: Layout> Layout for (T, U) {
@@ -34,7 +34,7 @@ impl<'a, A: Allocator + Copy, T: Readable<'a, A>, U: Readable<'a, A>> Readable<'
 
 impl<T: Shorten, U: Shorten> Shorten for (T, U) {
     #[tactic(auto, using(crate::proofs::MinimalEncodings::pair_appended, crate::proofs::DecodedValues::left_encoded, crate::proofs::DecodedValues::right_encoded))]
-    fn write_minimal<B: Allocator>(&self, sink: &mut Vec<u8, B>) -> R<()> {
+    fn write_minimal<B: Allocator>(&self, sink: &mut Vec<u8, B>) -> Result<()> {
         self.0.write_minimal(sink)?;
         self.1.write_minimal(sink)
     }

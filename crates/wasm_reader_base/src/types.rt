@@ -15,7 +15,7 @@ use crate::leb128::read_index;
 use crate::readable::{Readable, Layout};
 use crate::shorten::Shorten;
 use std::alloc::Allocator;
-use wasm_base::{AbstractHeapType, Encode, HeapType, R, RefType, ValType};
+use wasm_base::{AbstractHeapType, Encode, HeapType, RefType, Result, ValType};
 
 /// Returns the abstract heap type of this byte.
 #[tactic(auto, using(crate::proofs::DecodeTypes::abstract_steps))]
@@ -216,7 +216,7 @@ impl<'a, A: Allocator + Copy> Readable<'a, A> for ValType {
 
 impl Shorten for ValType {
     #[tactic(auto, using(crate::proofs::DecodePlain::val_appended))]
-    fn write_minimal<B: Allocator>(&self, sink: &mut Vec<u8, B>) -> R<()> {
+    fn write_minimal<B: Allocator>(&self, sink: &mut Vec<u8, B>) -> Result<()> {
         self.encode(sink)
     }
 }

@@ -8,7 +8,7 @@ use crate::fault::ReadFault;
 use crate::readable::{Readable, Layout};
 use crate::shorten::Shorten;
 use std::alloc::Allocator;
-use wasm_base::{Encode, R};
+use wasm_base::{Encode, Result};
 
 /// A count, and that many members. Memory grows with the members that decode, and is not allocated
 /// by the count.
@@ -42,7 +42,7 @@ impl<'a, A: Allocator + Copy, T: Readable<'a, A>> Readable<'a, A> for Vec<T, A> 
 /// Writes the bytes that [`append_all`] appends. After an error, part of them may follow the old
 /// bytes.
 #[tactic(auto, using(crate::proofs::MinimalEncodings::members_start))]
-fn write_all<T: Shorten, B: Allocator>(items: &[T], sink: &mut Vec<u8, B>) -> R<()>
+fn write_all<T: Shorten, B: Allocator>(items: &[T], sink: &mut Vec<u8, B>) -> Result<()>
     ensures ok { OnOk result (AppendsMinimal (members T.format) (map T.view items.now) sink.old.items sink.new.items) }
     ensures front { IsFrontOf sink.old.items sink.new.items }
     ensures too_long { HasEncoding (members T.format) (map T.view items.now) → result ≢ Err TooLong }
@@ -55,7 +55,7 @@ fn write_all<T: Shorten, B: Allocator>(items: &[T], sink: &mut Vec<u8, B>) -> R<
 
 /// Appends the minimal encodings of the values, one after another. On an error, the sink is
 /// unchanged.
-pub fn append_all<T: Shorten, B: Allocator>(items: &[T], sink: &mut Vec<u8, B>) -> R<()>
+pub fn append_all<T: Shorten, B: Allocator>(items: &[T], sink: &mut Vec<u8, B>) -> Result<()>
     ensures ok { OnOk result (AppendsMinimal (members T.format) (map T.view items.now) sink.old.items sink.new.items) }
     ensures err { OnErr result (sink.new.items ≡ sink.old.items) }
     ensures too_long { HasEncoding (members T.format) (map T.view items.now) → result ≢ Err TooLong }
@@ -70,7 +70,7 @@ pub fn append_all<T: Shorten, B: Allocator>(items: &[T], sink: &mut Vec<u8, B>) 
 
 /// Writes the number of values, and the values.
 impl<T: Shorten, A: Allocator> Shorten for Vec<T, A> {
-    fn write_minimal<B: Allocator>(&self, sink: &mut Vec<u8, B>) -> R<()> {
+    fn write_minimal<B: Allocator>(&self, sink: &mut Vec<u8, B>) -> Result<()> {
         self.len().encode(sink)?;
         write_all(self, sink)
     }

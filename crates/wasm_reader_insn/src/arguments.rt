@@ -13,7 +13,7 @@ ghost use Rattle.wasm_reader_base.specs.Minimal.{IsFrontOf};
 ghost use Rattle.wasm_reader_base.specs.declared.fault.ReadFault.TheVariants.{Memory};
 
 use std::alloc::{Allocator, Global};
-use wasm_base::{Encode, HeapType, R, ValType};
+use wasm_base::{Encode, HeapType, Result, ValType};
 use wasm_insn::{BlockType, Catch, Handle, Ieee32, Ieee64, MemArg, Ordering, Part, Shape};
 use wasm_reader_base::{ReadFault, Readable};
 
@@ -457,7 +457,7 @@ pub(crate) fn read_arguments_into<'a, A: Allocator + Copy>(
 
 /// Appends the minimal encoding of the argument.
 #[tactic(auto, using(wasm_immediates::proofs::FixedBytes::vector_bytes, crate::proofs::DecodePlain::any_members))]
-fn append_argument<A: Allocator, B: Allocator>(arg: &Arg<A>, sink: &mut Vec<u8, B>) -> R<()>
+fn append_argument<A: Allocator, B: Allocator>(arg: &Arg<A>, sink: &mut Vec<u8, B>) -> Result<()>
     ensures ok { OnOk result (sink.new.items ≡ sink.old.items ++ argument_encoding (argument_view arg.now)) }
     ensures err { OnErr result (sink.new.items ≡ sink.old.items) }
     ensures too_long { IsWellFormedArgument (argument_view arg.now) → result ≢ Err TooLong }
@@ -487,7 +487,7 @@ fn append_argument<A: Allocator, B: Allocator>(arg: &Arg<A>, sink: &mut Vec<u8, 
 pub(crate) fn append_arguments<A: Allocator, B: Allocator>(
     args: &[Arg<A>],
     sink: &mut Vec<u8, B>,
-) -> R<()>
+) -> Result<()>
     ensures ok { OnOk result (sink.new.items ≡ sink.old.items ++ flat_map (λ a. argument_encoding (argument_view a)) args.now) }
     ensures front { IsFrontOf sink.old.items sink.new.items }
     ensures too_long { AreWellFormed (map argument_view args.now) → result ≢ Err TooLong }

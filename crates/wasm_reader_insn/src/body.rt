@@ -14,7 +14,7 @@ ghost use Rattle.wasm_reader_insn.specs.Arguments.{plain_view, body_view};
 use crate::instruction::{Plain, append_instruction};
 use crate::walk::Instructions;
 use std::alloc::{Allocator, Global};
-use wasm_base::{R, ValType};
+use wasm_base::{Result, ValType};
 use wasm_reader_base::{ReadFault, Readable, Shorten, Layout, prefix_size_since};
 
 /// The capacity of a new list allows for one instruction per this many bytes. The list grows if
@@ -50,7 +50,7 @@ pub fn read_code<'a, A: Allocator + Copy>(
 pub(crate) fn append_code<A: Allocator, B: Allocator>(
     code: &[Plain<A>],
     sink: &mut Vec<u8, B>,
-) -> R<()>
+) -> Result<()>
     ensures ok { OnOk result (AppendsMinimal (members (instruction table)) (map plain_view code.now) sink.old.items sink.new.items) }
     ensures front { IsFrontOf sink.old.items sink.new.items }
     ensures too_long { HasEncoding (members (instruction table)) (map plain_view code.now) → result ≢ Err TooLong }
@@ -106,7 +106,7 @@ impl<'a, A: Allocator + Copy> Readable<'a, A> for Body<A> {
 
 impl<A: Allocator> Shorten for Body<A> {
     #[tactic(auto, using(crate::proofs::MinimalLists::body_code_encoded))]
-    fn write_minimal<B: Allocator>(&self, sink: &mut Vec<u8, B>) -> R<()> {
+    fn write_minimal<B: Allocator>(&self, sink: &mut Vec<u8, B>) -> Result<()> {
         let start = sink.len();
         self.runs.write_minimal(sink)?;
         append_code(&self.code, sink)?;

@@ -7,7 +7,7 @@ ghost use Rattle.wasm_reader_insn.specs.Arguments.{plain_view};
 use crate::body::append_code;
 use crate::instruction::Plain;
 use std::alloc::{Allocator, Global};
-use wasm_base::R;
+use wasm_base::Result;
 use wasm_reader_base::{ReadFault, Readable, Shorten, Layout};
 
 /// The opcode of `End`.
@@ -49,7 +49,7 @@ impl<'a, A: Allocator + Copy> Readable<'a, A> for Expression<A> {
 
 impl<A: Allocator> Shorten for Expression<A> {
     #[tactic(auto, using(crate::proofs::MinimalLists::expression_appended, crate::proofs::MinimalLists::code_encoded))]
-    fn write_minimal<B: Allocator>(&self, sink: &mut Vec<u8, B>) -> R<()> {
+    fn write_minimal<B: Allocator>(&self, sink: &mut Vec<u8, B>) -> Result<()> {
         append_code(&self.0, sink)?;
         sink.push(END)?;
         Ok(())

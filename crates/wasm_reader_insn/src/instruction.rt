@@ -13,7 +13,7 @@ ghost use Rattle.wasm_reader_insn.specs.Arguments.{argument_view, plain_view};
 
 use crate::arguments::{Arg, append_arguments, read_arguments, read_arguments_into};
 use std::alloc::{Allocator, Global};
-use wasm_base::{Encode, R};
+use wasm_base::{Encode, Result};
 use wasm_insn::Op;
 use wasm_reader_base::{ReadFault, Readable, Shorten, Layout};
 
@@ -93,7 +93,7 @@ pub(crate) fn append_instruction<A: Allocator, B: Allocator>(
     op: Op,
     args: &[Arg<A>],
     sink: &mut Vec<u8, B>,
-) -> R<()>
+) -> Result<()>
     ensures ok { OnOk result (AppendsMinimal (instruction table) (record { op = op; arguments = map argument_view args.now }) sink.old.items sink.new.items) }
     ensures front { IsFrontOf sink.old.items sink.new.items }
     ensures too_long { HasEncoding (instruction table) (record { op = op; arguments = map argument_view args.now }) → result ≢ Err TooLong }
@@ -103,7 +103,7 @@ pub(crate) fn append_instruction<A: Allocator, B: Allocator>(
 }
 
 impl<A: Allocator> Shorten for Plain<A> {
-    fn write_minimal<B: Allocator>(&self, sink: &mut Vec<u8, B>) -> R<()> {
+    fn write_minimal<B: Allocator>(&self, sink: &mut Vec<u8, B>) -> Result<()> {
         append_instruction(self.op, &self.args, sink)
     }
 }

@@ -168,13 +168,6 @@ fn skip_body<'a, A: Allocator + Copy>(bytes: &'a [u8], alloc: A) -> Result<(), R
 
 /// Skips a body with its size prefix, as in a code section, and allocates nothing.
 impl<'a, A: Allocator + Copy> Skip<'a, A> for Body<A> {
-    ghost Value = { BodyModel };
-
-    ghost format = { size_prefixed body };
-
-    #[tactic(auto, using(wasm_code::proofs::BodyLaws::size_prefixed_body_unambiguous))]
-    fn laws() {}
-
     fn skip(bytes: &'a [u8], alloc: A) -> Result<&'a [u8], ReadFault> {
         let (sized, rest) = <&'a [u8] as Readable<'a, A>>::read(bytes, alloc)?;
         skip_body(sized, alloc)?;
@@ -184,13 +177,6 @@ impl<'a, A: Allocator + Copy> Skip<'a, A> for Body<A> {
 
 /// Skips a constant expression with its `End`, and allocates nothing.
 impl<'a, A: Allocator + Copy> Skip<'a, A> for Expression<A> {
-    ghost Value = { List PlainInstruction };
-
-    ghost format = { expression };
-
-    #[tactic(auto, using(wasm_code::proofs::ExpressionLaws::expression_unambiguous))]
-    fn laws() {}
-
     #[tactic(auto, using(wasm_insn::proofs::InstructionLaws::any_begins))]
     fn skip(bytes: &'a [u8], alloc: A) -> Result<&'a [u8], ReadFault> {
         let mut rest = bytes;

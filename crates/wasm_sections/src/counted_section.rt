@@ -10,7 +10,7 @@ ghost use Rattle.wasm_base.specs.declared.refused.Refused.TheVariants.{TooLong};
 
 use std::alloc::{Allocator, Global};
 use std::marker::{Model, PhantomData};
-use wasm_base::{Counted, Encode, EncodeOnce, Kind, Pieces, R, Section};
+use wasm_base::{Counted, Encode, EncodeOnce, Kind, Pieces, Result, Section};
 
 /// A kind of items that a section counts.
 pub trait ItemKind: Kind {
@@ -66,14 +66,14 @@ impl<K, A: Allocator> CountedSection<K, A> {
     }
 
     /// Adds the encoding of the record as an entry.
-    pub(crate) fn add_record<T: Encode>(&mut self, given: &T) -> R<()>
+    pub(crate) fn add_record<T: Encode>(&mut self, given: &T) -> Result<()>
         ensures { Adds (T.encoding given.now) (T.encodable given.now) self.old self.new result }
     {
         self.pieces.add_encoded(given)
     }
 
     /// Adds an encoding of the item as an entry, and consumes the item.
-    pub(crate) fn add_once<T: EncodeOnce + Drop>(&mut self, item: T) -> R<()>
+    pub(crate) fn add_once<T: EncodeOnce + Drop>(&mut self, item: T) -> Result<()>
         requires { T.lawful item }
         ensures { AddsOnce (T.gives item) (T.encodable item) self.old self.new result }
     {
@@ -81,7 +81,7 @@ impl<K, A: Allocator> CountedSection<K, A> {
     }
 
     /// Adds an entry that is already encoded.
-    pub(crate) fn add_piece(&mut self, piece: &[u8]) -> R<()>
+    pub(crate) fn add_piece(&mut self, piece: &[u8]) -> Result<()>
         ensures { Adds piece.now ⊤ self.old self.new result }
     {
         self.pieces.add(piece)
@@ -100,7 +100,7 @@ impl<K, A: Allocator + Copy> CountedSection<K, A> {
     }
 
     /// Returns a section of the same entries, in memory of its own.
-    pub fn clone(&self) -> R<Self>
+    pub fn clone(&self) -> Result<Self>
         ensures same { IfOk result (λ section. section ≡ self.now) }
         ensures memory { result ≢ Err TooLong }
     {
@@ -121,7 +121,7 @@ impl<K: ItemKind, A: Allocator> Encode for CountedSection<K, A> {
 
     ghost decoding = { λ section. DecodesBackBoth (counted_format K.kind.format) (ContainsItems K.kind section) (ContainsPadded K.kind.format section) (section_encoding section) };
 
-    fn encode<B: Allocator>(&self, sink: &mut Vec<u8, B>) -> R<()> {
+    fn encode<B: Allocator>(&self, sink: &mut Vec<u8, B>) -> Result<()> {
         K::laws();
         self.pieces.encode(sink)
     }
@@ -157,7 +157,7 @@ impl<K: ItemKind, T: RecordOf<K>, A: Allocator> Counted<T> for CountedSection<K,
 
     ghost item_encodable = { T.encodable };
 
-    fn add(&mut self, item: &T) -> R<()> {
+    fn add(&mut self, item: &T) -> Result<()> {
         self.add_record(item)
     }
 

@@ -16,7 +16,7 @@ ghost use Rattle.wasm_sections.specs.DataSegments.{data_items, DataItem, active,
 
 use crate::counted_section::{CountedSection, ItemKind};
 use std::alloc::{Allocator, Global};
-use wasm_base::{Encode, Kind, Lent, R, SectionId, bytes_of, encode_size_prefixed};
+use wasm_base::{Encode, Kind, Lent, Result, SectionId, bytes_of, encode_size_prefixed};
 use wasm_code::ConstExpr;
 use wasm_reader_base::{Dropped, Skip, ReadFault, Readable, Shorten, Layout, read_whole};
 use wasm_reader_insn::Expression;
@@ -57,7 +57,7 @@ pub struct DataSegment<'a, D, A: Allocator = Global> {
 
 impl<'a, A: Allocator> DataSegmentMode<'a, A> {
     /// Returns the same mode.
-    pub fn clone(&self) -> R<Self>
+    pub fn clone(&self) -> Result<Self>
         ensures same { IfOk result (λ mode. mode ≡ self.now) }
         ensures memory { result ≢ Err TooLong }
     {
@@ -76,7 +76,7 @@ impl<'a, A: Allocator> DataSegmentMode<'a, A> {
 
 impl<'a, D: Clone, A: Allocator> DataSegment<'a, D, A> {
     /// Returns the same segment: its mode, and a clone of its bytes.
-    pub fn clone(&self) -> R<Self>
+    pub fn clone(&self) -> Result<Self>
         ensures mode { IfOk result (λ segment. segment.mode ≡ self.now.mode) }
         ensures bytes { IfOk result (λ segment. D.is_clone self.now.bytes segment.bytes) }
         ensures memory { result ≢ Err TooLong }
@@ -122,7 +122,7 @@ impl<A: Allocator> DataSection<A> {
     pub fn segment<D: IntoIterator<Item = u8>, B: Allocator>(
         &mut self,
         segment: DataSegment<'_, D, B>,
-    ) -> R<()>
+    ) -> Result<()>
     where
         D::IntoIter: ExactSizeIterator + Drop,
         requires { HasKnownLength D.into_iter_gives D.IntoIter.can_next D.IntoIter.next_gives D.IntoIter.remaining segment.bytes }
@@ -145,7 +145,7 @@ impl<A: Allocator> DataSection<A> {
         memory_index: u32,
         offset: &ConstExpr<B>,
         bytes: D,
-    ) -> R<()>
+    ) -> Result<()>
     where
         D::IntoIter: ExactSizeIterator + Drop,
         requires { HasKnownLength D.into_iter_gives D.IntoIter.can_next D.IntoIter.next_gives D.IntoIter.remaining bytes }
@@ -160,7 +160,7 @@ impl<A: Allocator> DataSection<A> {
 
     /// Adds a segment whose bytes are copied to a memory by an instruction. If there are too many
     /// bytes, it returns `TooLong`.
-    pub fn passive<D: IntoIterator<Item = u8>>(&mut self, bytes: D) -> R<()>
+    pub fn passive<D: IntoIterator<Item = u8>>(&mut self, bytes: D) -> Result<()>
     where
         D::IntoIter: ExactSizeIterator + Drop,
         requires { HasKnownLength D.into_iter_gives D.IntoIter.can_next D.IntoIter.next_gives D.IntoIter.remaining bytes }
@@ -170,7 +170,7 @@ impl<A: Allocator> DataSection<A> {
     }
 
     /// Adds a segment that is already encoded. The call does not check that it is one.
-    pub fn raw(&mut self, segment: &[u8]) -> R<()>
+    pub fn raw(&mut self, segment: &[u8]) -> Result<()>
         ensures { Adds segment.now ⊤ self.old self.new result }
     {
         self.add_piece(segment)
@@ -181,7 +181,7 @@ impl<A: Allocator> DataSection<A> {
         &mut self,
         front: S,
         bytes: D,
-    ) -> R<()>
+    ) -> Result<()>
     where
         D::IntoIter: ExactSizeIterator + Drop,
         requires length { HasKnownLength D.into_iter_gives D.IntoIter.can_next D.IntoIter.next_gives D.IntoIter.remaining bytes }
@@ -323,7 +323,7 @@ fn append_placed<A: Allocator, B: Allocator>(
     offset: &Expression<A>,
     bytes: &[u8],
     sink: &mut Vec<u8, B>,
-) -> R<()>
+) -> Result<()>
     ensures ok { OnOk result (AppendsMinimal (pair expression (vec byte)) (instructions_view offset.now, bytes.now) sink.old.items sink.new.items) }
     ensures front { IsFrontOf sink.old.items sink.new.items }
     ensures too_long { HasEncoding (pair expression (vec byte)) (instructions_view offset.now, bytes.now) → result ≢ Err TooLong }
@@ -339,7 +339,7 @@ fn append_active<A: Allocator, B: Allocator>(
     offset: &Expression<A>,
     bytes: &[u8],
     sink: &mut Vec<u8, B>,
-) -> R<()>
+) -> Result<()>
     ensures ok { OnOk result (AppendsMinimal data_item (active memory (instructions_view offset.now) bytes.now) sink.old.items sink.new.items) }
     ensures front { IsFrontOf sink.old.items sink.new.items }
     ensures too_long { HasEncoding data_item (active memory (instructions_view offset.now) bytes.now) → result ≢ Err TooLong }
@@ -354,7 +354,7 @@ fn append_active<A: Allocator, B: Allocator>(
 
 impl<'a, A: Allocator> Shorten for Segment<'a, A> {
     #[tactic(auto, using(crate::proofs::DataLaws::passive_appended, crate::proofs::DataLaws::passive_encodable))]
-    fn write_minimal<B: Allocator>(&self, sink: &mut Vec<u8, B>) -> R<()> {
+    fn write_minimal<B: Allocator>(&self, sink: &mut Vec<u8, B>) -> Result<()> {
         match self {
             Segment::Active {
                 memory,
@@ -370,15 +370,6 @@ impl<'a, A: Allocator> Shorten for Segment<'a, A> {
 }
 
 impl<'a, A: Allocator + Copy> Skip<'a, A> for Segment<'a, A> {
-    ghost Value = { DataItem };
-
-    ghost format = { data_item };
-
-    #[tactic(auto, using(crate::proofs::DataLaws::data_unambiguous))]
-    fn laws()
-        ensures { Unambiguous data_item }
-    {}
-
     #[tactic(auto, using(crate::proofs::DataLaws::segment_steps))]
     fn skip(bytes: &'a [u8], alloc: A) -> Result<&'a [u8], ReadFault> {
         let (flag, rest) = <u32 as Readable<'a, A>>::read(bytes, alloc)?;

@@ -10,7 +10,7 @@ ghost use Rattle.wasm_code.specs.Expressions.{expression_encoding};
 use crate::counted_section::{CountedSection, ItemKind};
 use crate::flags::where_set;
 use std::alloc::{Allocator, Global};
-use wasm_base::{AbstractHeapType, CowSlice, Encode, HeapType, Kind, Lent, R, RefType, SectionId};
+use wasm_base::{AbstractHeapType, CowSlice, Encode, HeapType, Kind, Lent, RefType, Result, SectionId};
 use wasm_code::ConstExpr;
 
 /// The element section: segments of references that a module copies to tables.
@@ -65,7 +65,7 @@ pub struct ElementSegment<'a, A: Allocator = Global> {
 fn clone_each<A: Allocator + Copy>(
     alloc: A,
     expressions: &[ConstExpr<A>],
-) -> R<Vec<ConstExpr<A>, A>>
+) -> Result<Vec<ConstExpr<A>, A>>
     ensures same { IfOk result (λ v. v.items ≡ expressions.now) }
     ensures memory { result ≢ Err TooLong }
 {
@@ -81,7 +81,7 @@ impl<'a, A: Allocator + Copy> Elements<'a, A> {
     ghost use Rattle.wasm_sections.specs.GivenElements.{list_in};
 
     /// Returns the same references, and copies owned ones into memory of their own.
-    pub fn clone(&self) -> R<Self>
+    pub fn clone(&self) -> Result<Self>
         ensures same { IfOk result (λ elements. list_in elements ≡ list_in self.now) }
         ensures memory { result ≢ Err TooLong }
     {
@@ -101,7 +101,7 @@ impl<'a, A: Allocator + Copy> Elements<'a, A> {
 
 impl<'a, A: Allocator> ElementMode<'a, A> {
     /// Returns the same mode.
-    pub fn clone(&self) -> R<Self>
+    pub fn clone(&self) -> Result<Self>
         ensures same { IfOk result (λ mode. mode ≡ self.now) }
         ensures memory { result ≢ Err TooLong }
     {
@@ -120,7 +120,7 @@ impl<'a, A: Allocator + Copy> ElementSegment<'a, A> {
     ghost use Rattle.wasm_sections.specs.GivenElements.{segment_in};
 
     /// Returns the same segment, and copies owned references into memory of their own.
-    pub fn clone(&self) -> R<Self>
+    pub fn clone(&self) -> Result<Self>
         ensures same { IfOk result (λ segment. segment_in segment ≡ segment_in self.now) }
         ensures memory { result ≢ Err TooLong }
     {
@@ -207,7 +207,7 @@ impl<A: Allocator> Encode for ExplicitKind<'_, '_, A> {
 
     ghost encodable = { λ t. AreEncodableElements (list_in t.elements.now) };
 
-    fn encode<B: Allocator>(&self, sink: &mut Vec<u8, B>) -> R<()> {
+    fn encode<B: Allocator>(&self, sink: &mut Vec<u8, B>) -> Result<()> {
         match (self.elements, self.explicit) {
             (Elements::Functions(functions), true) => {
                 (FUNCTIONS, functions.as_slice()).encode(sink)
@@ -229,7 +229,7 @@ impl<A: Allocator> Encode for ElementSegment<'_, A> {
 
     ghost encodable = { λ s. AreEncodableElements (list_in s.elements) };
 
-    fn encode<B: Allocator>(&self, sink: &mut Vec<u8, B>) -> R<()> {
+    fn encode<B: Allocator>(&self, sink: &mut Vec<u8, B>) -> Result<()> {
         let flag = self.elements.flag();
         let elements = &self.elements;
         match &self.mode {
@@ -316,7 +316,7 @@ impl<A: Allocator> ElementSection<A> {
     ghost use Rattle.wasm_sections.specs.GivenElements.{given_encoding, list_in};
 
     /// Adds a segment.
-    pub fn segment<B: Allocator>(&mut self, segment: ElementSegment<'_, B>) -> R<()>
+    pub fn segment<B: Allocator>(&mut self, segment: ElementSegment<'_, B>) -> Result<()>
         ensures { Adds (given_encoding segment.entry) (AreEncodableElements (list_in segment.entry.elements)) self.old self.new result }
     {
         self.add_record(&segment)
@@ -328,7 +328,7 @@ impl<A: Allocator> ElementSection<A> {
         table: Option<u32>,
         offset: &'a ConstExpr<B>,
         elements: Elements<'a, B>,
-    ) -> R<()>
+    ) -> Result<()>
         ensures { Adds (given_encoding (record { mode = modes.Active table offset.entry; elements = elements.entry })) (AreEncodableElements (list_in elements.entry)) self.old self.new result }
     {
         self.segment(ElementSegment {
@@ -338,7 +338,7 @@ impl<A: Allocator> ElementSection<A> {
     }
 
     /// Adds a segment whose references are copied to a table by an instruction.
-    pub fn passive<B: Allocator>(&mut self, elements: Elements<'_, B>) -> R<()>
+    pub fn passive<B: Allocator>(&mut self, elements: Elements<'_, B>) -> Result<()>
         ensures { Adds (given_encoding (record { mode = modes.Passive; elements = elements.entry })) (AreEncodableElements (list_in elements.entry)) self.old self.new result }
     {
         self.segment(ElementSegment {
@@ -348,7 +348,7 @@ impl<A: Allocator> ElementSection<A> {
     }
 
     /// Adds a segment that declares that code may refer to its functions.
-    pub fn declared<B: Allocator>(&mut self, elements: Elements<'_, B>) -> R<()>
+    pub fn declared<B: Allocator>(&mut self, elements: Elements<'_, B>) -> Result<()>
         ensures { Adds (given_encoding (record { mode = modes.Declared; elements = elements.entry })) (AreEncodableElements (list_in elements.entry)) self.old self.new result }
     {
         self.segment(ElementSegment {
@@ -358,7 +358,7 @@ impl<A: Allocator> ElementSection<A> {
     }
 
     /// Adds a segment that is already encoded. The call does not check that it is one.
-    pub fn raw(&mut self, segment: &[u8]) -> R<()>
+    pub fn raw(&mut self, segment: &[u8]) -> Result<()>
         ensures { Adds segment.now ⊤ self.old self.new result }
     {
         self.add_piece(segment)

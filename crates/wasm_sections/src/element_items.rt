@@ -11,7 +11,7 @@ ghost use Rattle.wasm_sections.specs.Constants.{instructions_view};
 ghost use Rattle.wasm_sections.specs.Elements.{ElementItem, ElementFlag as FlagModel, flag_code, flag_of, active, functions, expressions, are_expressions, has_kind, segment_mode, elements_as, element, element_flag_view, segment_mode_view, list_view, element_view, SegmentMode, ElementList as ListModel};
 
 use std::alloc::{Allocator, Global};
-use wasm_base::{Encode, R, RefType};
+use wasm_base::{Encode, RefType, Result};
 use wasm_reader_base::{Dropped, Skip, ReadFault, Readable, Shorten, Layout, skip_many};
 use wasm_reader_insn::Expression;
 
@@ -220,7 +220,7 @@ fn append_functions<A: Allocator, B: Allocator>(
     explicit: bool,
     indices: &Vec<u32, A>,
     sink: &mut Vec<u8, B>,
-) -> R<()>
+) -> Result<()>
     ensures ok { OnOk result (AppendsMinimal (elements_as explicit false) (functions indices.now.items) sink.old.items sink.new.items) }
     ensures front { IsFrontOf sink.old.items sink.new.items }
     ensures too_long { HasEncoding (elements_as explicit false) (functions indices.now.items) → result ≢ Err TooLong }
@@ -239,7 +239,7 @@ fn append_expressions<A: Allocator, B: Allocator>(
     ty: RefType,
     elements: &Vec<Expression<A>, A>,
     sink: &mut Vec<u8, B>,
-) -> R<()>
+) -> Result<()>
     ensures ok { OnOk result (AppendsMinimal (elements_as explicit true) (expressions ty (map instructions_view elements.now.items)) sink.old.items sink.new.items) }
     ensures front { IsFrontOf sink.old.items sink.new.items }
     ensures too_long { HasEncoding (elements_as explicit true) (expressions ty (map instructions_view elements.now.items)) → result ≢ Err TooLong }
@@ -257,7 +257,7 @@ fn append_active<A: Allocator, B: Allocator>(
     table: Option<u32>,
     offset: &Expression<A>,
     sink: &mut Vec<u8, B>,
-) -> R<()>
+) -> Result<()>
     ensures ok { OnOk result (AppendsMinimal (segment_mode (record { not_active = false; second = is_given table; expressions = false })) (active table (instructions_view offset.now)) sink.old.items sink.new.items) }
     ensures front { IsFrontOf sink.old.items sink.new.items }
     ensures too_long { HasEncoding (segment_mode (record { not_active = false; second = is_given table; expressions = false })) (active table (instructions_view offset.now)) → result ≢ Err TooLong }
@@ -292,7 +292,7 @@ impl<A: Allocator> ElementItem<A> {
 
     /// Appends the table and the offset, as the mode needs them.
     #[tactic(auto, using(crate::proofs::ElementLaws::passive_appended, crate::proofs::ElementLaws::declared_appended))]
-    fn append_segment_mode<B: Allocator>(&self, sink: &mut Vec<u8, B>) -> R<()>
+    fn append_segment_mode<B: Allocator>(&self, sink: &mut Vec<u8, B>) -> Result<()>
         ensures ok { OnOk result (AppendsMinimal (segment_mode (flag_of (element_view self.now))) (segment_mode_view self.now.mode) sink.old.items sink.new.items) }
         ensures front { IsFrontOf sink.old.items sink.new.items }
         ensures too_long { HasEncoding (segment_mode (flag_of (element_view self.now))) (segment_mode_view self.now.mode) → result ≢ Err TooLong }
@@ -310,7 +310,7 @@ fn append_elements<A: Allocator, B: Allocator>(
     explicit: bool,
     elements: &ElementList<A>,
     sink: &mut Vec<u8, B>,
-) -> R<()>
+) -> Result<()>
     ensures ok { OnOk result (AppendsMinimal (elements_as explicit (are_expressions (list_view elements.now))) (list_view elements.now) sink.old.items sink.new.items) }
     ensures front { IsFrontOf sink.old.items sink.new.items }
     ensures too_long { HasEncoding (elements_as explicit (are_expressions (list_view elements.now))) (list_view elements.now) → result ≢ Err TooLong }
@@ -323,7 +323,7 @@ fn append_elements<A: Allocator, B: Allocator>(
 
 impl<A: Allocator> Shorten for ElementItem<A> {
     #[tactic(auto, using(crate::proofs::ElementLaws::segment_mode_encoded, crate::proofs::ElementLaws::elements_encoded))]
-    fn write_minimal<B: Allocator>(&self, sink: &mut Vec<u8, B>) -> R<()> {
+    fn write_minimal<B: Allocator>(&self, sink: &mut Vec<u8, B>) -> Result<()> {
         let flag = self.flag();
         flag.code().encode(sink)?;
         self.append_segment_mode(sink)?;
@@ -413,13 +413,6 @@ fn skip_elements<'a, A: Allocator + Copy>(
 }
 
 impl<'a, A: Allocator + Copy> Skip<'a, A> for ElementItem<A> {
-    ghost Value = { ElementItem (List Plain) };
-
-    ghost format = { element };
-
-    #[tactic(auto, using(crate::proofs::ElementLaws::element_unambiguous))]
-    fn laws() {}
-
     #[tactic(auto, using(crate::proofs::ElementLaws::element_steps))]
     fn skip(bytes: &'a [u8], alloc: A) -> Result<&'a [u8], ReadFault> {
         let (flag, rest) = <ElementFlag as Readable<'a, A>>::read(bytes, alloc)?;

@@ -11,7 +11,7 @@ ghost use Rattle.wasm_sections.specs.declared.export.ExportKind.{ExportKind as K
 
 use crate::counted_section::{CountedSection, ItemKind, RecordOf};
 use std::alloc::{Allocator, Global};
-use wasm_base::{Encode, Kind, R, SectionId};
+use wasm_base::{Encode, Kind, Result, SectionId};
 use wasm_reader_base::{ReadFault, Readable, Layout};
 
 /// The export section: the items that a module exports.
@@ -52,7 +52,7 @@ impl Encode for ExportKind {
     ghost encodable = { λ _. ⊤ };
 
     #[inline]
-    fn encode<A: Allocator>(&self, sink: &mut Vec<u8, A>) -> R<()> {
+    fn encode<A: Allocator>(&self, sink: &mut Vec<u8, A>) -> Result<()> {
         (*self as u8).encode(sink)
     }
 }
@@ -64,7 +64,7 @@ impl Encode for Export<'_> {
     ghost encodable = { IsEncodableExport };
 
     #[inline]
-    fn encode<A: Allocator>(&self, sink: &mut Vec<u8, A>) -> R<()> {
+    fn encode<A: Allocator>(&self, sink: &mut Vec<u8, A>) -> Result<()> {
         (self.name, self.kind, self.index).encode(sink)
     }
 }
@@ -95,7 +95,7 @@ impl RecordOf<ExportItems> for Export<'_> {}
 
 impl<A: Allocator> ExportSection<A> {
     /// Adds an export.
-    pub fn export(&mut self, name: &str, kind: ExportKind, index: u32) -> R<()>
+    pub fn export(&mut self, name: &str, kind: ExportKind, index: u32) -> Result<()>
         ensures { Adds (size_prefixed_encoding name.now ++ (kind_code kind ∷ [] ++ unsigned_encoding index)) (HasEncodableSize name.now) self.old self.new result }
     {
         self.add_record(&Export { name, kind, index })

@@ -6,7 +6,7 @@ ghost use Rattle.wasm_sections.specs.Functions.{function_items};
 
 use crate::counted_section::{CountedSection, ItemKind, RecordOf};
 use std::alloc::{Allocator, Global};
-use wasm_base::{Encode, Kind, R, SectionId};
+use wasm_base::{Encode, Kind, Result, SectionId};
 
 /// The function section: the types of the functions that a module defines, in the order of their
 /// bodies.
@@ -59,7 +59,7 @@ impl Encode for TypeIndex {
 
     #[tactic(auto, using(crate::proofs::FunctionLaws::two_bytes))]
     #[inline]
-    fn encode<A: Allocator>(&self, sink: &mut Vec<u8, A>) -> R<()> {
+    fn encode<A: Allocator>(&self, sink: &mut Vec<u8, A>) -> Result<()> {
         let index = self.index;
         if index < 0x80 {
             return index.encode(sink);
@@ -75,7 +75,7 @@ impl Encode for TypeIndex {
 
 impl<A: Allocator> FunctionSection<A> {
     /// Adds a function of the type of this index.
-    pub fn function(&mut self, type_index: u32) -> R<()>
+    pub fn function(&mut self, type_index: u32) -> Result<()>
         ensures { Adds (unsigned_encoding type_index) ⊤ self.old self.new result }
     {
         self.add_record(&TypeIndex { index: type_index })

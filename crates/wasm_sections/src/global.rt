@@ -9,7 +9,7 @@ ghost use Rattle.wasm_sections.specs.declared.global.GlobalType.{GlobalType as T
 use crate::counted_section::{CountedSection, ItemKind};
 use crate::flags::where_set;
 use std::alloc::{Allocator, Global};
-use wasm_base::{Encode, Kind, Lent, R, SectionId, ValType};
+use wasm_base::{Encode, Kind, Lent, Result, SectionId, ValType};
 use wasm_code::ConstExpr;
 use wasm_reader_base::{Dropped, Skip, ReadFault, Readable, Shorten, Layout};
 use wasm_reader_insn::Expression;
@@ -55,7 +55,7 @@ impl Encode for GlobalType {
     ghost encodable = { λ _. ⊤ };
 
     #[inline]
-    fn encode<A: Allocator>(&self, sink: &mut Vec<u8, A>) -> R<()> {
+    fn encode<A: Allocator>(&self, sink: &mut Vec<u8, A>) -> Result<()> {
         (self.val_type, self.flags()).encode(sink)
     }
 }
@@ -84,14 +84,14 @@ impl ItemKind for GlobalItems {
 
 impl<A: Allocator> GlobalSection<A> {
     /// Adds a global of this type, initialized by the expression.
-    pub fn global<B: Allocator>(&mut self, global_type: GlobalType, init: &ConstExpr<B>) -> R<()>
+    pub fn global<B: Allocator>(&mut self, global_type: GlobalType, init: &ConstExpr<B>) -> Result<()>
         ensures { Adds (global_encoding global_type ++ expression_encoding init.now) ⊤ self.old self.new result }
     {
         self.add_record(&(global_type, Lent(init)))
     }
 
     /// Adds a global that is already encoded. The call does not check that it is one.
-    pub fn raw(&mut self, global: &[u8]) -> R<()>
+    pub fn raw(&mut self, global: &[u8]) -> Result<()>
         ensures { Adds global.now ⊤ self.old self.new result }
     {
         self.add_piece(global)
@@ -187,20 +187,13 @@ impl<'a, A: Allocator + Copy> Readable<'a, A> for GlobalItem<A> {
 
 impl<A: Allocator> Shorten for GlobalItem<A> {
     #[tactic(auto, using(crate::proofs::GlobalLaws::global_appended, crate::proofs::GlobalLaws::init_encoded))]
-    fn write_minimal<B: Allocator>(&self, sink: &mut Vec<u8, B>) -> R<()> {
+    fn write_minimal<B: Allocator>(&self, sink: &mut Vec<u8, B>) -> Result<()> {
         self.global_type.encode(sink)?;
         self.init.write_minimal(sink)
     }
 }
 
 impl<'a, A: Allocator + Copy> Skip<'a, A> for GlobalItem<A> {
-    ghost Value = { GlobalModel };
-
-    ghost format = { global_item };
-
-    #[tactic(auto, using(crate::proofs::GlobalLaws::global_item_unambiguous))]
-    fn laws() {}
-
     #[tactic(auto, using(crate::proofs::GlobalLaws::item_steps))]
     fn skip(bytes: &'a [u8], alloc: A) -> Result<&'a [u8], ReadFault> {
         let rest = <(Dropped<GlobalType>, Expression<A>) as Skip<'a, A>>::skip(bytes, alloc)?;

@@ -19,10 +19,7 @@ use crate::memory::MemoryType;
 use crate::table::TableType;
 use crate::tag::TagType;
 use std::alloc::{Allocator, Global};
-use wasm_base::{
-    CORE_FUNCTION_EXACT_SORT, CORE_FUNCTION_SORT, CORE_GLOBAL_SORT, CORE_MEMORY_SORT,
-    CORE_TABLE_SORT, CORE_TAG_SORT, CowSlice, Encode, Kind, R, SectionId,
-};
+use wasm_base::{CORE_FUNCTION_EXACT_SORT, CORE_FUNCTION_SORT, CORE_GLOBAL_SORT, CORE_MEMORY_SORT, CORE_TABLE_SORT, CORE_TAG_SORT, CowSlice, Encode, Kind, Result, SectionId};
 use wasm_reader_base::{Dropped, Skip, ReadFault, Readable, Layout, skip_many, read_whole};
 
 /// The import section: the items that a module imports.
@@ -91,7 +88,7 @@ impl Encode for EntityType {
     ghost encodable = { λ _. ⊤ };
 
     #[inline]
-    fn encode<A: Allocator>(&self, sink: &mut Vec<u8, A>) -> R<()> {
+    fn encode<A: Allocator>(&self, sink: &mut Vec<u8, A>) -> Result<()> {
         match *self {
             EntityType::Function(index) => (CORE_FUNCTION_SORT, index).encode(sink),
             EntityType::Table(ty) => (CORE_TABLE_SORT, ty).encode(sink),
@@ -138,7 +135,7 @@ pub enum Imports<'a, A: Allocator = Global> {
 
 impl<A: Allocator + Copy> Imports<'_, A> {
     /// Returns the same imports, and copies an owned list.
-    pub fn clone(&self) -> R<Self>
+    pub fn clone(&self) -> Result<Self>
         ensures same { IfOk result (λ imports. imports_item imports ≡ imports_item self.now) }
         ensures memory { result ≢ Err TooLong }
     {
@@ -164,7 +161,7 @@ impl Encode for Import<'_> {
     ghost encodable = { λ import. IsEncodableImport (import_item import) };
 
     #[inline]
-    fn encode<A: Allocator>(&self, sink: &mut Vec<u8, A>) -> R<()> {
+    fn encode<A: Allocator>(&self, sink: &mut Vec<u8, A>) -> Result<()> {
         (self.module, self.name, self.ty).encode(sink)
     }
 }
@@ -176,7 +173,7 @@ impl Encode for ImportCompact<'_> {
     ghost encodable = { λ import. HasEncodableSize import.name.now };
 
     #[inline]
-    fn encode<A: Allocator>(&self, sink: &mut Vec<u8, A>) -> R<()> {
+    fn encode<A: Allocator>(&self, sink: &mut Vec<u8, A>) -> Result<()> {
         (self.name, self.ty).encode(sink)
     }
 }
@@ -189,7 +186,7 @@ impl<A: Allocator> Encode for Imports<'_, A> {
     ghost encodable = { λ imports. IsEncodableImport (imports_item imports) };
 
     #[inline]
-    fn encode<B: Allocator>(&self, sink: &mut Vec<u8, B>) -> R<()> {
+    fn encode<B: Allocator>(&self, sink: &mut Vec<u8, B>) -> Result<()> {
         match self {
             Imports::Single(import) => import.encode(sink),
             Imports::Compact1 { module, items } => {
@@ -228,14 +225,14 @@ impl RecordOf<ImportItems> for Import<'_> {}
 
 impl<A: Allocator> ImportSection<A> {
     /// Adds an import.
-    pub fn import(&mut self, module: &str, name: &str, ty: EntityType) -> R<()>
+    pub fn import(&mut self, module: &str, name: &str, ty: EntityType) -> Result<()>
         ensures { Adds (size_prefixed_encoding «module».now ++ (size_prefixed_encoding name.now ++ entity_encoding ty)) (HasEncodableSize «module».now × HasEncodableSize name.now) self.old self.new result }
     {
         self.add_record(&Import { module, name, ty })
     }
 
     /// Adds an import or a group of imports, as one entry.
-    pub fn imports(&mut self, imports: Imports<'_, A>) -> R<()>
+    pub fn imports(&mut self, imports: Imports<'_, A>) -> Result<()>
         ensures { Adds (import_encoding (imports_item imports.entry)) (IsEncodableImport (imports_item imports.entry)) self.old self.new result }
     {
         self.add_record(&imports)
@@ -389,7 +386,7 @@ pub fn read_imports<'a, A: Allocator + Copy + 'a>(
 fn write_imports<A: Allocator, B: Allocator>(
     imports: &[Imports<'_, A>],
     sink: &mut Vec<u8, B>,
-) -> R<()>
+) -> Result<()>
     ensures ok { OnOk result (AppendsMinimal (vec import_format) (map imports_item imports.now) sink.old.items sink.new.items) }
     ensures front { IsFrontOf sink.old.items sink.new.items }
     ensures too_long { HasEncoding (vec import_format) (map imports_item imports.now) → result ≢ Err TooLong }
@@ -406,7 +403,7 @@ fn write_imports<A: Allocator, B: Allocator>(
 pub fn append_imports<A: Allocator, B: Allocator>(
     imports: &[Imports<'_, A>],
     sink: &mut Vec<u8, B>,
-) -> R<()>
+) -> Result<()>
     ensures ok { OnOk result (AppendsMinimal (vec import_format) (map imports_item imports.now) sink.old.items sink.new.items) }
     ensures err { OnErr result (sink.new.items ≡ sink.old.items) }
     ensures too_long { HasEncoding (vec import_format) (map imports_item imports.now) → result ≢ Err TooLong }
@@ -424,13 +421,6 @@ pub fn append_imports<A: Allocator, B: Allocator>(
 pub struct SkippedImports;
 
 impl<'a, A: Allocator + Copy> Skip<'a, A> for SkippedImports {
-    ghost Value = { ImportItem };
-
-    ghost format = { import_format };
-
-    #[tactic(auto, using(crate::proofs::ImportLaws::import_unambiguous))]
-    fn laws() {}
-
     #[tactic(auto, using(crate::proofs::ImportLaws::import_steps))]
     fn skip(bytes: &'a [u8], alloc: A) -> Result<&'a [u8], ReadFault> {
         let (_module, rest) = <&'a str as Readable<'a, A>>::read(bytes, alloc)?;

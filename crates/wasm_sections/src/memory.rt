@@ -8,7 +8,7 @@ ghost use Rattle.wasm_sections.specs.declared.memory.MemoryType.{MemoryType as M
 use crate::counted_section::{CountedSection, ItemKind, RecordOf};
 use crate::flags::where_set;
 use std::alloc::{Allocator, Global};
-use wasm_base::{Encode, Kind, Optional, R, SectionId};
+use wasm_base::{Encode, Kind, Optional, Result, SectionId};
 use wasm_reader_base::{ReadFault, Readable, Layout, read_optional};
 
 /// The memory section: the memories that a module defines.
@@ -76,7 +76,7 @@ impl Encode for MemoryType {
     ghost encodable = { λ _. ⊤ };
 
     #[inline]
-    fn encode<A: Allocator>(&self, sink: &mut Vec<u8, A>) -> R<()> {
+    fn encode<A: Allocator>(&self, sink: &mut Vec<u8, A>) -> Result<()> {
         let maximum = Optional(self.maximum);
         let page_size = Optional(self.page_size_log2);
         (self.flags(), self.minimum, (maximum, page_size)).encode(sink)
@@ -109,7 +109,7 @@ impl RecordOf<MemoryItems> for MemoryType {}
 
 impl<A: Allocator> MemorySection<A> {
     /// Adds a memory of this type.
-    pub fn memory(&mut self, memory_type: MemoryType) -> R<()>
+    pub fn memory(&mut self, memory_type: MemoryType) -> Result<()>
         ensures { Adds (memory_encoding memory_type) ⊤ self.old self.new result }
     {
         self.add_record(&memory_type)

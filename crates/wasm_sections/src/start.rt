@@ -6,7 +6,7 @@ ghost use Rattle.wasm_base.specs.Numbers.{unsigned_encoding};
 ghost use Rattle.wasm_base.specs.Encodings.{size_prefixed_encoding, HasEncodableSize};
 
 use std::alloc::Allocator;
-use wasm_base::{Encode, R, Section, SectionId, begin_size_prefixed, encoding_size};
+use wasm_base::{Encode, Result, Section, SectionId, begin_size_prefixed, encoding_size};
 
 /// The start section: the function that runs when a module is instantiated.
 ///
@@ -31,7 +31,7 @@ pub struct DataCountSection {
 }
 
 /// Appends the number with its size prefix, which decode to this number alone.
-fn encode_number<A: Allocator>(sink: &mut Vec<u8, A>, number: u32) -> R<()>
+fn encode_number<A: Allocator>(sink: &mut Vec<u8, A>, number: u32) -> Result<()>
     ensures appends { Appends (size_prefixed_encoding (unsigned_encoding number)) (HasEncodableSize (unsigned_encoding number)) sink.old sink.new result }
     ensures read { OnOk result (DecodesBack (size_prefixed u32_format) (λ said. said ≡ number) (size_prefixed_encoding (unsigned_encoding number))) }
 {
@@ -48,7 +48,7 @@ impl Encode for StartSection {
 
     ghost decoding = { λ s. DecodesBack (size_prefixed u32_format) (λ index. index ≡ s.function_index) (size_prefixed_encoding (unsigned_encoding s.function_index)) };
 
-    fn encode<A: Allocator>(&self, sink: &mut Vec<u8, A>) -> R<()> {
+    fn encode<A: Allocator>(&self, sink: &mut Vec<u8, A>) -> Result<()> {
         encode_number(sink, self.function_index)
     }
 }
@@ -85,7 +85,7 @@ impl Encode for DataCountSection {
 
     ghost decoding = { λ s. DecodesBack (size_prefixed u32_format) (λ count. count ≡ s.count) (size_prefixed_encoding (unsigned_encoding s.count)) };
 
-    fn encode<A: Allocator>(&self, sink: &mut Vec<u8, A>) -> R<()> {
+    fn encode<A: Allocator>(&self, sink: &mut Vec<u8, A>) -> Result<()> {
         encode_number(sink, self.count)
     }
 }

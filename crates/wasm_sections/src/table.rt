@@ -10,7 +10,7 @@ use crate::counted_section::{CountedSection, ItemKind, RecordOf};
 use crate::flags::where_set;
 use crate::memory::Flags;
 use std::alloc::{Allocator, Global};
-use wasm_base::{Encode, Kind, Lent, Optional, R, RefType, SectionId, ValType};
+use wasm_base::{Encode, Kind, Lent, Optional, RefType, Result, SectionId, ValType};
 use wasm_code::ConstExpr;
 use wasm_reader_base::{Dropped, Skip, ReadFault, Readable, Shorten, Layout, read_optional};
 use wasm_reader_insn::Expression;
@@ -73,7 +73,7 @@ impl Encode for TableType {
     ghost encodable = { λ _. ⊤ };
 
     #[inline]
-    fn encode<A: Allocator>(&self, sink: &mut Vec<u8, A>) -> R<()> {
+    fn encode<A: Allocator>(&self, sink: &mut Vec<u8, A>) -> Result<()> {
         let limits = (self.flags(), self.minimum, Optional(self.maximum));
         (self.element_type, limits).encode(sink)
     }
@@ -105,7 +105,7 @@ impl RecordOf<TableItems> for TableType {}
 
 impl<A: Allocator> TableSection<A> {
     /// Adds a table of this type, whose elements are initially null.
-    pub fn table(&mut self, table_type: TableType) -> R<()>
+    pub fn table(&mut self, table_type: TableType) -> Result<()>
         ensures { Adds (table_encoding table_type) ⊤ self.old self.new result }
     {
         self.add_record(&table_type)
@@ -116,7 +116,7 @@ impl<A: Allocator> TableSection<A> {
         &mut self,
         table_type: TableType,
         init: &ConstExpr<B>,
-    ) -> R<()>
+    ) -> Result<()>
         ensures { Adds (before_init ++ (table_encoding table_type ++ expression_encoding init.now)) ⊤ self.old self.new result }
     {
         self.add_record(&([0x40u8, 0x00], table_type, Lent(init)))
@@ -234,7 +234,7 @@ impl<'a, A: Allocator + Copy> Readable<'a, A> for TableItem<A> {
 
 impl<A: Allocator> Shorten for TableItem<A> {
     #[tactic(auto, using(crate::proofs::TableLaws::table_appended, crate::proofs::TableLaws::table_init_appended, crate::proofs::TableLaws::init_encoded))]
-    fn write_minimal<B: Allocator>(&self, sink: &mut Vec<u8, B>) -> R<()> {
+    fn write_minimal<B: Allocator>(&self, sink: &mut Vec<u8, B>) -> Result<()> {
         let Some(init) = &self.init else {
             return self.table_type.encode(sink);
         };
@@ -245,13 +245,6 @@ impl<A: Allocator> Shorten for TableItem<A> {
 }
 
 impl<'a, A: Allocator + Copy> Skip<'a, A> for TableItem<A> {
-    ghost Value = { TableModel };
-
-    ghost format = { table_item };
-
-    #[tactic(auto, using(crate::proofs::TableLaws::table_item_unambiguous))]
-    fn laws() {}
-
     #[tactic(auto, using(crate::proofs::TableLaws::table_steps))]
     fn skip(bytes: &'a [u8], alloc: A) -> Result<&'a [u8], ReadFault> {
         let (first, rest) = <u8 as Readable<'a, A>>::read(bytes, alloc)?;

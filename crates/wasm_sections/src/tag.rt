@@ -8,7 +8,7 @@ ghost use Rattle.wasm_sections.specs.declared.tag.TagType.{TagType as Tag};
 
 use crate::counted_section::{CountedSection, ItemKind, RecordOf};
 use std::alloc::{Allocator, Global};
-use wasm_base::{Encode, Kind, R, SectionId};
+use wasm_base::{Encode, Kind, Result, SectionId};
 use wasm_reader_base::{ReadFault, Readable, Layout};
 
 /// The tag section: the tags that a module defines.
@@ -57,7 +57,7 @@ impl Encode for TagType {
     ghost encodable = { λ _. ⊤ };
 
     #[inline]
-    fn encode<A: Allocator>(&self, sink: &mut Vec<u8, A>) -> R<()> {
+    fn encode<A: Allocator>(&self, sink: &mut Vec<u8, A>) -> Result<()> {
         (self.kind.byte(), self.func_type_idx).encode(sink)
     }
 }
@@ -88,7 +88,7 @@ impl RecordOf<TagItems> for TagType {}
 
 impl<A: Allocator> TagSection<A> {
     /// Adds a tag of this type.
-    pub fn tag(&mut self, tag_type: TagType) -> R<()>
+    pub fn tag(&mut self, tag_type: TagType) -> Result<()>
         ensures { Adds (tag_encoding tag_type) ⊤ self.old self.new result }
     {
         self.add_record(&tag_type)

@@ -40,7 +40,7 @@ use crate::fault::{RecipeCause, RecipeFault};
 use crate::words::Words;
 use hex::FromHexError;
 use std::alloc::Allocator;
-use wasm_base::{Encode, Module, Pieces, R, RawSection, SectionId, ValType};
+use wasm_base::{Encode, Module, Pieces, RawSection, Result, SectionId, ValType};
 use wasm_code::{CodeSection, ConstExpr, Function};
 use wasm_custom::NameSection;
 use wasm_sections::{
@@ -132,7 +132,7 @@ fn export_kind(word: &str) -> Option<ExportKind>
 fn put_counted<K: ItemKind, A: Allocator, B: Allocator>(
     section: &CountedSection<K, A>,
     target: &mut Module<B>,
-) -> R<()>
+) -> Result<()>
     ensures { Puts (section_of K.section_id section.now) (IsEncodableSection section.now) target.old target.new result }
 {
     if section.is_empty() {
@@ -142,7 +142,7 @@ fn put_counted<K: ItemKind, A: Allocator, B: Allocator>(
 }
 
 /// Returns a function without locals, with these instructions.
-fn function_of<A: Allocator>(alloc: A, instructions: Vec<u8, A>) -> R<Function<A>>
+fn function_of<A: Allocator>(alloc: A, instructions: Vec<u8, A>) -> Result<Function<A>>
     ensures ok { IfOk result (λ function. function ≡ 0 ∷ instructions.items) }
     ensures memory { result ≢ Err refusals.TooLong }
 {
@@ -156,7 +156,7 @@ fn add_data<A: Allocator>(
     segments: &mut DataSection<A>,
     offset: &ConstExpr<A>,
     bytes: Vec<u8, A>,
-) -> R<()>
+) -> Result<()>
     ensures { Adds (active_encoding 0 offset.now bytes.items) (HasEncodableSize bytes.items) segments.old segments.new result }
 {
     segments.active(0, offset, bytes)
@@ -320,7 +320,7 @@ impl<A: Allocator + Copy> Recipe<A> {
     }
 
     /// Appends the type section to the module: the number of types, and the types.
-    fn put_types(&self, alloc: A, target: &mut Module<A>) -> R<()>
+    fn put_types(&self, alloc: A, target: &mut Module<A>) -> Result<()>
         ensures { Puts (section_of 1 self.now.types) (IsEncodableSection self.now.types) target.old target.new result }
     {
         if self.types.is_empty() {
@@ -335,7 +335,7 @@ impl<A: Allocator + Copy> Recipe<A> {
         })
     }
 
-    fn put_start(&self, target: &mut Module<A>) -> R<()>
+    fn put_start(&self, target: &mut Module<A>) -> Result<()>
         ensures { Puts (start_of (start_items self.now.start)) (All HasEncodableSize (start_items self.now.start)) target.old target.new result }
     {
         match self.start {
@@ -344,7 +344,7 @@ impl<A: Allocator + Copy> Recipe<A> {
         }
     }
 
-    fn put_code(&self, target: &mut Module<A>) -> R<()>
+    fn put_code(&self, target: &mut Module<A>) -> Result<()>
         ensures { Puts (section_of 10 self.now.code) (IsEncodableSection self.now.code) target.old target.new result }
     {
         if self.code.is_empty() {
@@ -353,7 +353,7 @@ impl<A: Allocator + Copy> Recipe<A> {
         target.section(&self.code)
     }
 
-    fn put_names(&self, target: &mut Module<A>) -> R<()>
+    fn put_names(&self, target: &mut Module<A>) -> Result<()>
         ensures { Puts (names_of self.now.names) (AreEncodableNames self.now.names) target.old target.new result }
     {
         match self.names.len() {
@@ -363,7 +363,7 @@ impl<A: Allocator + Copy> Recipe<A> {
     }
 
     /// Appends the sections to the module, in the order of the standard.
-    fn put_sections(&self, alloc: A, target: &mut Module<A>) -> R<()>
+    fn put_sections(&self, alloc: A, target: &mut Module<A>) -> Result<()>
         ensures { Puts (listed self.now) (AreEncodableSections self.now) target.old target.new result }
     {
         self.put_types(alloc, target)?;
@@ -378,7 +378,7 @@ impl<A: Allocator + Copy> Recipe<A> {
     }
 
     /// Returns the module of the sections.
-    fn finish(&self, alloc: A) -> R<Vec<u8, A>>
+    fn finish(&self, alloc: A) -> Result<Vec<u8, A>>
         ensures ok { IfOk result (λ bytes. bytes.items ≡ module_encoding (listed self.now)) }
         ensures was_encodable { OnOk result (AreEncodableSections self.now) }
         ensures too_long { AreEncodableSections self.now → result ≢ Err refusals.TooLong }

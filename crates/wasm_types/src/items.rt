@@ -11,7 +11,7 @@ ghost use Rattle.wasm_types.specs.Items.{sub_view, IsEncodableSubItem, entry_vie
 use crate::shapes::read_composite_after;
 use crate::types::CompositeType;
 use std::alloc::{Allocator, Global};
-use wasm_base::{Encode, Lent, R};
+use wasm_base::{Encode, Lent, Result};
 use wasm_reader_base::{ReadFault, Readable, Layout};
 
 /// A decoded subtype: its supertypes, and whether it is final, so that it can have no subtypes.
@@ -137,7 +137,7 @@ impl<A: Allocator> Encode for SubItem<A> {
     ghost encodable = { IsEncodableSubItem };
 
     #[tactic(auto, using(crate::proofs::MinimalTypes::before_steps))]
-    fn encode<B: Allocator>(&self, sink: &mut Vec<u8, B>) -> R<()> {
+    fn encode<B: Allocator>(&self, sink: &mut Vec<u8, B>) -> Result<()> {
         if !self.is_final {
             return (
                 0x50u8,
@@ -166,7 +166,7 @@ impl<A: Allocator> Encode for TypeEntry<A> {
 
     ghost encodable = { IsEncodableEntry };
 
-    fn encode<B: Allocator>(&self, sink: &mut Vec<u8, B>) -> R<()> {
+    fn encode<B: Allocator>(&self, sink: &mut Vec<u8, B>) -> Result<()> {
         match self {
             TypeEntry::Single(sub) => sub.encode(sink),
             TypeEntry::Group(subs) => (0x4Eu8, subs.as_slice()).encode(sink),

@@ -20,7 +20,7 @@ use crate::items::TypeEntry;
 use crate::types::{ARRAY, ContType, FUNC, FieldType, FuncType, STRUCT, StorageType, SubType};
 use std::alloc::{Allocator, Global};
 use std::marker::Model;
-use wasm_base::{Encode, Kind, Pieces, R, Section, SectionId, ValType, vec_of};
+use wasm_base::{Encode, Kind, Pieces, Result, Section, SectionId, ValType, vec_of};
 use wasm_reader_base::{ReadFault, read_whole};
 
 /// The type section: the types that a module defines, modelled as the bytes of each entry.
@@ -103,7 +103,7 @@ impl<A: Allocator + Copy> TypeSection<A> {
     }
 
     /// Returns a section of the same entries, in memory of its own.
-    pub fn clone(&self) -> R<Self>
+    pub fn clone(&self) -> Result<Self>
         ensures same { IfOk result (λ section. section ≡ self.now) }
         ensures memory { result ≢ Err TooLong }
     {
@@ -123,7 +123,7 @@ impl<A: Allocator> Encode for TypeSection<A> {
 
     ghost decoding = { λ section. DecodesBackBoth (counted_format type_item) (ContainsTypes section) (ContainsPadded type_item section) (section_encoding section) };
 
-    fn encode<B: Allocator>(&self, sink: &mut Vec<u8, B>) -> R<()> {
+    fn encode<B: Allocator>(&self, sink: &mut Vec<u8, B>) -> Result<()> {
         TypeItems::laws();
         self.pieces.encode(sink)
     }
@@ -164,7 +164,7 @@ impl<'a, A: Allocator> CoreTypeEncoder<'a, A> {
     ghost use Rattle.wasm_types.specs.Given.{sub_in, shape_in, IsEncodableShape, group_encoding};
 
     /// Adds a function type.
-    pub fn func_type<B: Allocator>(self, ty: &FuncType<B>) -> R<()>
+    pub fn func_type<B: Allocator>(self, ty: &FuncType<B>) -> Result<()>
         ensures { Adds (func_encoding ty.now.params.items ty.now.results.items) (IsEncodableVec (λ _. ⊤) ty.now.params.items × IsEncodableVec (λ _. ⊤) ty.now.results.items) self.entry.section.now self.exit.0.now result }
     {
         let section = self.section;
@@ -172,7 +172,7 @@ impl<'a, A: Allocator> CoreTypeEncoder<'a, A> {
     }
 
     /// Adds an array type.
-    pub fn array(self, ty: &StorageType, mutable: bool) -> R<()>
+    pub fn array(self, ty: &StorageType, mutable: bool) -> Result<()>
         ensures { Adds (0x5E ∷ field_encoding (record { element_type = ty.now; mutable = mutable })) ⊤ self.entry.section.now self.exit.0.now result }
     {
         let element = FieldType {
@@ -184,7 +184,7 @@ impl<'a, A: Allocator> CoreTypeEncoder<'a, A> {
     }
 
     /// Adds a continuation type.
-    pub fn cont(self, ty: &ContType) -> R<()>
+    pub fn cont(self, ty: &ContType) -> Result<()>
         ensures { Adds (cont_encoding ty.now.0) ⊤ self.entry.section.now self.exit.0.now result }
     {
         let section = self.section;
@@ -192,7 +192,7 @@ impl<'a, A: Allocator> CoreTypeEncoder<'a, A> {
     }
 
     /// Adds a subtype.
-    pub fn subtype<B: Allocator>(self, ty: &SubType<B>) -> R<()>
+    pub fn subtype<B: Allocator>(self, ty: &SubType<B>) -> Result<()>
         ensures { Adds (sub_encoding (sub_in ty.now)) (IsEncodableShape (shape_in ty.now.composite_type.inner)) self.entry.section.now self.exit.0.now result }
     {
         let section = self.section;
@@ -205,7 +205,7 @@ impl<'a, A: Allocator> CoreTypeEncoder<'a, A> {
         self,
         params: P,
         results: Q,
-    ) -> R<()>
+    ) -> Result<()>
     where
         P::IntoIter: ExactSizeIterator + Drop,
         Q::IntoIter: ExactSizeIterator + Drop,
@@ -221,7 +221,7 @@ impl<'a, A: Allocator> CoreTypeEncoder<'a, A> {
 
     /// Adds a structure type of these fields. If there are too many, it returns `TooLong` and
     /// requests none.
-    pub fn struct_<F: IntoIterator<Item = FieldType>>(self, fields: F) -> R<()>
+    pub fn struct_<F: IntoIterator<Item = FieldType>>(self, fields: F) -> Result<()>
     where
         F::IntoIter: ExactSizeIterator + Drop,
         requires { HasKnownLength F.into_iter_gives F.IntoIter.can_next F.IntoIter.next_gives F.IntoIter.remaining fields }
@@ -234,7 +234,7 @@ impl<'a, A: Allocator> CoreTypeEncoder<'a, A> {
 
     /// Adds a recursion group: subtypes that may refer to one another. If there are too many, it
     /// returns `TooLong` and requests none.
-    pub fn rec<T: IntoIterator<Item = SubType<B>>, B: Allocator>(self, types: T) -> R<()>
+    pub fn rec<T: IntoIterator<Item = SubType<B>>, B: Allocator>(self, types: T) -> Result<()>
     where
         T::IntoIter: ExactSizeIterator + Drop,
         requires { HasKnownLength T.into_iter_gives T.IntoIter.can_next T.IntoIter.next_gives T.IntoIter.remaining types }
@@ -271,7 +271,7 @@ pub fn read_types<'a, A: Allocator + Copy>(
 pub fn append_types<A: Allocator, B: Allocator>(
     types: &[TypeEntry<A>],
     sink: &mut Vec<u8, B>,
-) -> R<()>
+) -> Result<()>
     ensures ok { OnOk result (AppendsMinimal (vec type_item) (map entry_view types.now) sink.old.items sink.new.items) }
     ensures err { OnErr result (sink.new.items ≡ sink.old.items) }
     ensures too_long { HasEncoding (vec type_item) (map entry_view types.now) → result ≢ Err TooLong }

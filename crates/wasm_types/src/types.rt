@@ -19,7 +19,7 @@ ghost use Rattle.wasm_types.specs.RecTypes.{
 
 use std::alloc::{Allocator, Global};
 use std::slice;
-use wasm_base::{Encode, Lent, R, ValType};
+use wasm_base::{Encode, Lent, Result, ValType};
 
 /// The type of the content of a field or an element: a value, or a packed integer.
 #[derive(Clone, Copy, PartialEq, Eq, Hash, Debug)]
@@ -94,7 +94,7 @@ impl<A: Allocator + Copy> FuncType<A> {
         alloc: A,
         params: P,
         results: Q,
-    ) -> R<Self>
+    ) -> Result<Self>
     where
         P::IntoIter: Drop,
         Q: Drop,
@@ -115,7 +115,7 @@ impl<A: Allocator + Copy> FuncType<A> {
 fn collected<A: Allocator, P: IntoIterator<Item = ValType>>(
     alloc: A,
     types: P,
-) -> R<Vec<ValType, A>>
+) -> Result<Vec<ValType, A>>
 where
     P::IntoIter: Drop,
     requires { (it : P.IntoIter) → P.into_iter_gives types it → P.IntoIter.can_next it × IsFinite (P.IntoIter.remaining it) }
@@ -154,7 +154,7 @@ impl<A: Allocator> FuncType<A> {
 }
 
 /// Returns the same items, in memory of their own.
-fn copied<T: Copy, A: Allocator + Copy>(items: &Vec<T, A>) -> R<Vec<T, A>>
+fn copied<T: Copy, A: Allocator + Copy>(items: &Vec<T, A>) -> Result<Vec<T, A>>
     ensures same { IfOk result (λ copies. copies.items ≡ items.now.items) }
     ensures memory { result ≢ Err TooLong }
 {
@@ -165,7 +165,7 @@ impl<A: Allocator + Copy> FuncType<A> {
     ghost use Rattle.wasm_types.specs.Given.{func_in};
 
     /// Returns the same type, in memory of its own.
-    pub fn clone(&self) -> R<Self>
+    pub fn clone(&self) -> Result<Self>
         ensures same { IfOk result (λ f. func_in f ≡ func_in self.now) }
         ensures memory { result ≢ Err TooLong }
     {
@@ -178,7 +178,7 @@ impl<A: Allocator + Copy> FuncType<A> {
 
 impl<A: Allocator + Copy> StructType<A> {
     /// Returns the same type, in memory of its own.
-    pub fn clone(&self) -> R<Self>
+    pub fn clone(&self) -> Result<Self>
         ensures same { IfOk result (λ s. s.fields.items ≡ self.now.fields.items) }
         ensures memory { result ≢ Err TooLong }
     {
@@ -192,7 +192,7 @@ impl<A: Allocator + Copy> CompositeInnerType<A> {
     ghost use Rattle.wasm_types.specs.Given.{shape_in};
 
     /// Returns the same type, in memory of its own.
-    pub fn clone(&self) -> R<Self>
+    pub fn clone(&self) -> Result<Self>
         ensures same { IfOk result (λ inner. shape_in inner ≡ shape_in self.now) }
         ensures memory { result ≢ Err TooLong }
     {
@@ -209,7 +209,7 @@ impl<A: Allocator + Copy> CompositeType<A> {
     ghost use Rattle.wasm_types.specs.Given.{composite_in};
 
     /// Returns the same type, in memory of its own.
-    pub fn clone(&self) -> R<Self>
+    pub fn clone(&self) -> Result<Self>
         ensures same { IfOk result (λ c. composite_in c ≡ composite_in self.now) }
         ensures memory { result ≢ Err TooLong }
     {
@@ -226,7 +226,7 @@ impl<A: Allocator + Copy> SubType<A> {
     ghost use Rattle.wasm_types.specs.Given.{sub_in};
 
     /// Returns the same type, in memory of its own.
-    pub fn clone(&self) -> R<Self>
+    pub fn clone(&self) -> Result<Self>
         ensures same { IfOk result (λ s. sub_in s ≡ sub_in self.now) }
         ensures memory { result ≢ Err TooLong }
     {
@@ -244,7 +244,7 @@ impl Encode for StorageType {
 
     ghost encodable = { λ _. ⊤ };
 
-    fn encode<A: Allocator>(&self, sink: &mut Vec<u8, A>) -> R<()> {
+    fn encode<A: Allocator>(&self, sink: &mut Vec<u8, A>) -> Result<()> {
         match *self {
             StorageType::I8 => 0x78u8.encode(sink),
             StorageType::I16 => 0x77u8.encode(sink),
@@ -267,7 +267,7 @@ impl Encode for FieldType {
 
     ghost encodable = { λ _. ⊤ };
 
-    fn encode<A: Allocator>(&self, sink: &mut Vec<u8, A>) -> R<()> {
+    fn encode<A: Allocator>(&self, sink: &mut Vec<u8, A>) -> Result<()> {
         (self.element_type, mutability(self.mutable)).encode(sink)
     }
 }
@@ -287,7 +287,7 @@ impl Encode for ArrayType {
 
     ghost encodable = { λ _. ⊤ };
 
-    fn encode<A: Allocator>(&self, sink: &mut Vec<u8, A>) -> R<()> {
+    fn encode<A: Allocator>(&self, sink: &mut Vec<u8, A>) -> Result<()> {
         (ARRAY, self.0).encode(sink)
     }
 }
@@ -298,7 +298,7 @@ impl Encode for ContType {
 
     ghost encodable = { λ _. ⊤ };
 
-    fn encode<A: Allocator>(&self, sink: &mut Vec<u8, A>) -> R<()> {
+    fn encode<A: Allocator>(&self, sink: &mut Vec<u8, A>) -> Result<()> {
         (CONT, i64::from(self.0)).encode(sink)
     }
 }
@@ -309,7 +309,7 @@ impl<A: Allocator> Encode for FuncType<A> {
 
     ghost encodable = { λ f. IsEncodableVec (λ _. ⊤) f.params.items × IsEncodableVec (λ _. ⊤) f.results.items };
 
-    fn encode<B: Allocator>(&self, sink: &mut Vec<u8, B>) -> R<()> {
+    fn encode<B: Allocator>(&self, sink: &mut Vec<u8, B>) -> Result<()> {
         (FUNC, self.params.as_slice(), self.results.as_slice()).encode(sink)
     }
 }
@@ -320,7 +320,7 @@ impl<A: Allocator> Encode for StructType<A> {
 
     ghost encodable = { λ s. IsEncodableVec (λ _. ⊤) s.fields.items };
 
-    fn encode<B: Allocator>(&self, sink: &mut Vec<u8, B>) -> R<()> {
+    fn encode<B: Allocator>(&self, sink: &mut Vec<u8, B>) -> Result<()> {
         (STRUCT, self.fields.as_slice()).encode(sink)
     }
 }
@@ -333,7 +333,7 @@ impl<A: Allocator> Encode for CompositeInnerType<A> {
 
     ghost encodable = { λ c. IsEncodableShape (shape_in c) };
 
-    fn encode<B: Allocator>(&self, sink: &mut Vec<u8, B>) -> R<()> {
+    fn encode<B: Allocator>(&self, sink: &mut Vec<u8, B>) -> Result<()> {
         match self {
             CompositeInnerType::Func(func) => func.encode(sink),
             CompositeInnerType::Array(array) => array.encode(sink),
@@ -352,7 +352,7 @@ impl Encode for Shared {
 
     ghost encodable = { λ _. ⊤ };
 
-    fn encode<A: Allocator>(&self, sink: &mut Vec<u8, A>) -> R<()> {
+    fn encode<A: Allocator>(&self, sink: &mut Vec<u8, A>) -> Result<()> {
         if self.0 { 0x65u8.encode(sink) } else { Ok(()) }
     }
 }
@@ -369,7 +369,7 @@ impl Encode for Marked {
 
     ghost encodable = { λ _. ⊤ };
 
-    fn encode<A: Allocator>(&self, sink: &mut Vec<u8, A>) -> R<()> {
+    fn encode<A: Allocator>(&self, sink: &mut Vec<u8, A>) -> Result<()> {
         match self.index {
             Some(index) => (self.byte, index).encode(sink),
             None => Ok(()),
@@ -385,7 +385,7 @@ impl<A: Allocator> Encode for CompositeType<A> {
 
     ghost encodable = { λ c. IsEncodableShape (shape_in c.inner) };
 
-    fn encode<B: Allocator>(&self, sink: &mut Vec<u8, B>) -> R<()> {
+    fn encode<B: Allocator>(&self, sink: &mut Vec<u8, B>) -> Result<()> {
         let describes = Marked {
             byte: 0x4C,
             index: self.describes,
@@ -419,7 +419,7 @@ impl Encode for Before {
 
     ghost encodable = { λ _. ⊤ };
 
-    fn encode<A: Allocator>(&self, sink: &mut Vec<u8, A>) -> R<()> {
+    fn encode<A: Allocator>(&self, sink: &mut Vec<u8, A>) -> Result<()> {
         let byte: u8 = if self.is_final { 0x4F } else { 0x50 };
         match &self.supertype_idx {
             Some(index) => (byte, slice::from_ref(index)).encode(sink),
@@ -440,7 +440,7 @@ impl<A: Allocator> Encode for SubType<A> {
 
     ghost encodable = { λ s. IsEncodableShape (shape_in s.composite_type.inner) };
 
-    fn encode<B: Allocator>(&self, sink: &mut Vec<u8, B>) -> R<()> {
+    fn encode<B: Allocator>(&self, sink: &mut Vec<u8, B>) -> Result<()> {
         let before = Before {
             is_final: self.is_final,
             supertype_idx: self.supertype_idx,
