@@ -17,7 +17,7 @@ use wasm_custom::{
 use wasm_reader_base::{Dropped, ReadFault, Readable, Shorten, read_whole};
 use wasm_reader_insn::Body;
 use wasm_sections::{
-    ElementItem, Export, GlobalItem, Imports, MemoryType, SkippedImports, Segment, TableItem,
+    ElementItem, Export, GlobalItem, Imports, MemoryType, Segment, TableItem,
     TagType, append_imports, read_imports, read_segments,
 };
 use wasm_types::{TypeEntry, append_types, read_types};
@@ -303,7 +303,7 @@ pub(crate) fn read_number<'a, A: Allocator + Copy>(
         SectionKind::Exports => count_skipped::<'a, Dropped<Export<'a>>, A>(bytes, alloc),
         SectionKind::Functions => count_skipped::<'a, Dropped<u32>, A>(bytes, alloc),
         SectionKind::Globals => count_skipped::<'a, GlobalItem<A>, A>(bytes, alloc),
-        SectionKind::Imports => count_skipped::<'a, SkippedImports, A>(bytes, alloc),
+        SectionKind::Imports => count_skipped::<'a, Imports<'a, A>, A>(bytes, alloc),
         SectionKind::Memories => count_skipped::<'a, Dropped<MemoryType>, A>(bytes, alloc),
         SectionKind::Tables => count_skipped::<'a, TableItem<A>, A>(bytes, alloc),
         SectionKind::Tags => count_skipped::<'a, Dropped<TagType>, A>(bytes, alloc),

@@ -6,36 +6,36 @@ ghost use Rattle.wasm_base.specs.Decoding.{Unambiguous, Decodes, Rejects};
 ghost use Rattle.wasm_reader_base.specs.declared.fault.ReadFault.TheVariants.{Memory};
 
 use crate::fault::ReadFault;
-use crate::readable::Readable;
+use crate::readable::{Layout, Readable};
 use std::alloc::Allocator;
-use std::marker::PhantomData;
 
 /// A value at the front of bytes, as for [`Readable`], that is skipped to reach the remaining
 /// bytes.
-pub trait Skip<'a, A: Allocator + Copy> {
-    // The value, without its location in memory.
-    ghost Value: { Type 0 };
-
-    // The format: which bytes encode which value.
-    ghost format: { Mode → List ℕ → Value → Type 0 };
-
-    /// Proves that the format is unambiguous: one value decodes from the front, whatever follows.
-    /// The function does nothing.
-    fn laws()
-        ensures { Unambiguous format };
-
+pub trait Skip<'a, A: Allocator + Copy>: Layout {
     /// Skips the value at the front, padded numbers included, and returns the remaining bytes.
     ///
     /// # Errors
     ///
     /// Any error but `Memory` means that no such value is at the front.
     fn skip(bytes: &'a [u8], alloc: A) -> Result<&'a [u8], ReadFault>
-        ensures found { IfOk result (λ rest. (x : Value) × Decodes format padded bytes.now x rest.now) }
-        ensures none { IfErr result (λ e. e ≢ Memory → Rejects format padded bytes.now) };
+        ensures found { IfOk result (λ rest. (x : Self.Value) × Decodes Self.format padded bytes.now x rest.now) }
+        ensures none { IfErr result (λ e. e ≢ Memory → Rejects Self.format padded bytes.now) };
 }
 
 /// A value that is decoded, and dropped at once.
-pub struct Dropped<T>(PhantomData<T>);
+pub struct Dropped<T>(T);
+
+impl<T: Layout> Layout for Dropped<T> {
+    ghost Value = { T.Value };
+
+    ghost format = { T.format };
+
+    ghost view = { λ dropped. T.view dropped.0 };
+
+    fn laws() {
+        T::laws();
+    }
+}
 
 impl<'a, A: Allocator + Copy, T: Readable<'a, A>> Skip<'a, A> for Dropped<T> {
     #[inline]

@@ -416,11 +416,7 @@ pub fn append_imports<A: Allocator, B: Allocator>(
     written
 }
 
-/// An import or a group of imports that is skipped.
-#[derive(Debug)]
-pub struct SkippedImports;
-
-impl<'a, A: Allocator + Copy> Skip<'a, A> for SkippedImports {
+impl<'a, A: Allocator + Copy> Skip<'a, A> for Imports<'a, A> {
     #[tactic(auto, using(crate::proofs::ImportLaws::import_steps))]
     fn skip(bytes: &'a [u8], alloc: A) -> Result<&'a [u8], ReadFault> {
         let (_module, rest) = <&'a str as Readable<'a, A>>::read(bytes, alloc)?;

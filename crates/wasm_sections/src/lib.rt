@@ -29,7 +29,7 @@ pub use export::{Export, ExportItems, ExportKind, ExportSection};
 pub use function::{FunctionItems, FunctionSection};
 pub use global::{GlobalItem, GlobalItems, GlobalSection, GlobalType};
 pub use import::{
-    EntityType, Import, ImportCompact, ImportItems, ImportSection, Imports, SkippedImports,
+    EntityType, Import, ImportCompact, ImportItems, ImportSection, Imports,
     append_imports, read_imports,
 };
 pub use memory::{MemoryItems, MemorySection, MemoryType};

@@ -1,7 +1,7 @@
 use Rattle.std.proofs.Common.{rules}
 use Rattle.wasm_reader_base.proofs.Faults.{fault_stays}
 use Rattle.wasm_sections.proofs.ImportLaws.{import_no_module, single_no_name, single_no_type, single_decodes, named_decodes, named_none, alike_decodes, alike_no_type, alike_no_names, group_unknown}
-use Rattle.wasm_sections.proofs.import.SkippedImportsSkip.skip.Goals as goal
+use Rattle.wasm_sections.proofs.import.ImportsSkip.skip.Goals as goal
 
 pub returns-in_err-_module-clause-none : goal.returns-in_err-_module-clause-none
 returns-in_err-_module-clause-none g c = fault_stays c.from_residual.result _ c.from_residual.ensures.1 λ n. import_no_module c.args.bytes.now (c.in_err-_module.ensures.none n)
