@@ -35,14 +35,18 @@ pub fn copied_data_mode<'a, A: Allocator>(
 }
 
 /// Returns the same mode of an element segment.
-pub fn copied_element_mode<'a, A: Allocator>(offset: &ElementMode<'a, A>) -> Result<ElementMode<'a, A>>
+pub fn copied_element_mode<'a, A: Allocator>(
+    offset: &ElementMode<'a, A>,
+) -> Result<ElementMode<'a, A>>
     ensures { IfOk result (λ copy. copy ≡ offset.now) }
 {
     offset.clone()
 }
 
 /// Returns references to the same functions, or by the same expressions.
-pub fn copied_elements<'a, A: Allocator + Copy>(elements: &Elements<'a, A>) -> Result<Elements<'a, A>>
+pub fn copied_elements<'a, A: Allocator + Copy>(
+    elements: &Elements<'a, A>,
+) -> Result<Elements<'a, A>>
     ensures { IfOk result (λ copy. list_in copy ≡ list_in elements.now) }
 {
     elements.clone()

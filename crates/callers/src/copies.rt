@@ -67,14 +67,18 @@ pub fn copied_structure<A: Allocator + Copy>(structure: &StructType<A>) -> Resul
 }
 
 /// Returns the same function, array, structure or continuation.
-pub fn copied_shape<A: Allocator + Copy>(shape: &CompositeInnerType<A>) -> Result<CompositeInnerType<A>>
+pub fn copied_shape<A: Allocator + Copy>(
+    shape: &CompositeInnerType<A>,
+) -> Result<CompositeInnerType<A>>
     ensures { IfOk result (λ copy. shape_in copy ≡ shape_in shape.now) }
 {
     shape.clone()
 }
 
 /// Returns the same composite type.
-pub fn copied_composite<A: Allocator + Copy>(composite: &CompositeType<A>) -> Result<CompositeType<A>>
+pub fn copied_composite<A: Allocator + Copy>(
+    composite: &CompositeType<A>,
+) -> Result<CompositeType<A>>
     ensures { IfOk result (λ copy. composite_in copy ≡ composite_in composite.now) }
 {
     composite.clone()

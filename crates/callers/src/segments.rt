@@ -12,7 +12,9 @@ pub fn copy_of_array<'a>(segment: &DataSegment<'a, [u8; 3]>) -> Result<DataSegme
 }
 
 /// Returns a copy of a segment whose bytes are a slice.
-pub fn copy_of_slice<'a, 'b>(segment: &DataSegment<'a, &'b [u8]>) -> Result<DataSegment<'a, &'b [u8]>>
+pub fn copy_of_slice<'a, 'b>(
+    segment: &DataSegment<'a, &'b [u8]>,
+) -> Result<DataSegment<'a, &'b [u8]>>
     ensures { IfOk result (λ copy. copy ≡ segment.now) }
 {
     segment.clone()

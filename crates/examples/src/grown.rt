@@ -43,7 +43,10 @@ pub fn grow_by_each<A: Allocator>(
 }
 
 /// Appends an import section of one import that the caller passes.
-pub fn encode_given_import<A: Allocator + Copy>(sink: &mut Vec<u8, A>, import: &Import<'_>) -> Result<()>
+pub fn encode_given_import<A: Allocator + Copy>(
+    sink: &mut Vec<u8, A>,
+    import: &Import<'_>,
+) -> Result<()>
     ensures { OnOk result (GainsDecoding (counted_format import_format) (import_item import.now ∷ []) sink.old.items sink.new.items) }
 {
     plain_name(import.module);
@@ -55,7 +58,10 @@ pub fn encode_given_import<A: Allocator + Copy>(sink: &mut Vec<u8, A>, import: &
 }
 
 /// Appends a memory section of the memories of a list.
-pub fn encode_memories<A: Allocator + Copy>(sink: &mut Vec<u8, A>, memories: &[MemoryType]) -> Result<()>
+pub fn encode_memories<A: Allocator + Copy>(
+    sink: &mut Vec<u8, A>,
+    memories: &[MemoryType],
+) -> Result<()>
     ensures { OnOk result (GainsDecoding (counted_format memory_type) memories.now sink.old.items sink.new.items) }
 {
     plain_memories(memories);

@@ -91,7 +91,10 @@ fn emit_statement<A: Allocator>(function: &mut Function<A>, statement: &Statemen
 
 /// Adds the instructions of statements, one after another.
 #[cycle(statement)]
-fn emit_statements<A: Allocator>(function: &mut Function<A>, statements: &[Statement<'_>]) -> Result<()>
+fn emit_statements<A: Allocator>(
+    function: &mut Function<A>,
+    statements: &[Statement<'_>],
+) -> Result<()>
     ensures { OnOk result (GainsOperations (flat_map statement_operations statements.now) function.old function.new) }
 {
     for statement in statements {

@@ -46,7 +46,10 @@ pub fn encode_import<A: Allocator + Copy>(
 
 /// Appends an export section of the exports of a list. The first call proves that they are
 /// well-formed.
-pub fn encode_exports<A: Allocator + Copy>(sink: &mut Vec<u8, A>, exports: &[Export<'_>]) -> Result<()>
+pub fn encode_exports<A: Allocator + Copy>(
+    sink: &mut Vec<u8, A>,
+    exports: &[Export<'_>],
+) -> Result<()>
     ensures { OnOk result (GainsDecoding (counted_format export) (map item_of exports.now) sink.old.items sink.new.items) }
 {
     plain_exports(exports);

@@ -24,7 +24,11 @@ use wasm_reader::{Items, SectionKind};
 use wasm_reader_base::ReadFault;
 
 /// Appends a name section: the name of the module, and bytes of an id that no call has.
-fn write_more_names<A: Allocator + Copy>(sink: &mut Vec<u8, A>, name: &str, more: &[u8]) -> Result<()>
+fn write_more_names<A: Allocator + Copy>(
+    sink: &mut Vec<u8, A>,
+    name: &str,
+    more: &[u8],
+) -> Result<()>
     ensures { OnOk result (GainsDecoding (size_prefixed name_payload) (name_and_more name.now more.now) sink.old.items sink.new.items) }
 {
     let mut section = NameSection::new(*sink.allocator());

@@ -136,7 +136,11 @@ pub fn both_or_neither<T: Shorten, U: Shorten, A: Allocator>(
 }
 
 /// Appends a name section: the names of the module and of its first function.
-pub fn write_names<A: Allocator + Copy>(sink: &mut Vec<u8, A>, name: &str, function: &str) -> Result<()>
+pub fn write_names<A: Allocator + Copy>(
+    sink: &mut Vec<u8, A>,
+    name: &str,
+    function: &str,
+) -> Result<()>
     ensures { OnOk result (GainsDecoding (size_prefixed name_payload) (Module name.now ∷ Map 1 ((0, function.now) ∷ []) ∷ []) sink.old.items sink.new.items) }
 {
     let mut functions = NameMap::new(*sink.allocator());

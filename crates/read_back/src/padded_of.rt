@@ -80,7 +80,11 @@ fn names<A: Allocator + Copy>(alloc: A) -> Result<NameSection<A>>
 }
 
 /// Returns a module of these sections.
-pub fn padded_entries<A: Allocator + Copy>(alloc: A, memory: u32, bytes: &[u8]) -> Result<Vec<u8, A>>
+pub fn padded_entries<A: Allocator + Copy>(
+    alloc: A,
+    memory: u32,
+    bytes: &[u8],
+) -> Result<Vec<u8, A>>
     ensures { IfOk result (λ made. DecodesSections (padded_sections memory bytes.now) made.items) }
 {
     let mut built = Module::new(alloc)?;

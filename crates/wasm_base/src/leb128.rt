@@ -94,7 +94,12 @@ const MOST_GROUPS: usize = 10;
 /// counted first, and two groups are written without a loop.
 #[tactic(auto, using(crate::proofs::NumberEncodings::most_groups))]
 #[inline(always)]
-fn append_groups<A: Allocator>(sink: &mut Vec<u8, A>, negative: bool, limit: u64, n: u64) -> Result<()>
+fn append_groups<A: Allocator>(
+    sink: &mut Vec<u8, A>,
+    negative: bool,
+    limit: u64,
+    n: u64,
+) -> Result<()>
     requires limit { 0x40 ≤ limit × limit ≤ 0x80 }
     requires several { limit ≤ n }
     ensures { Appends (groups_encoding negative limit n) ⊤ sink.old sink.new result }

@@ -28,7 +28,7 @@ mod vectors;
 pub use counted::{Counted, add_all};
 pub use cow::{CowSlice, CowStr};
 pub use encode::Encode;
-pub use frames::{begin_size_prefixed, encode_size_prefixed, encode_section};
+pub use frames::{begin_size_prefixed, encode_section, encode_size_prefixed};
 pub use kind::Kind;
 pub use leb128::{Groups, NoGroups, encoding_size, read_groups};
 pub use modules::Module;

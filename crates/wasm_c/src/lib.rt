@@ -8,9 +8,9 @@
 
 mod causes;
 mod listing;
+mod minimal;
 mod outlining;
 mod recipes;
-mod minimal;
 #[cfg(test)]
 mod tests;
 mod whole;

@@ -2,9 +2,9 @@
 use crate::NO_ANSWER;
 use crate::causes::{dz_cause, dz_recipe_cause};
 use crate::listing::{DzSection, dz_list, number_of as fault_number};
+use crate::minimal::dz_shorten;
 use crate::outlining::{DzOutlined, dz_outline};
 use crate::recipes::{dz_assemble, number_of as cause_number};
-use crate::minimal::dz_shorten;
 use crate::whole::dz_shorten_module;
 use std::alloc::Global;
 use std::process::Abort;
@@ -106,7 +106,15 @@ fn check_text(
 fn minimal_encodings(rt: HostRuntime) {
     let alloc = rt.alloc();
     let padded_of: &[u8] = &[0x86, 0x00, 0x01, 0x85, 0x80, 0x80, 0x80, 0x00, 0x99];
-    check_text(&rt, alloc, 5, padded_of, &mut [9; 4], (3, 8, 0), &[2, 1, 5, 9]);
+    check_text(
+        &rt,
+        alloc,
+        5,
+        padded_of,
+        &mut [9; 4],
+        (3, 8, 0),
+        &[2, 1, 5, 9],
+    );
     check_text(&rt, alloc, 5, padded_of, &mut [9; 2], (3, 8, 0), &[9; 2]);
     check_text(
         &rt,

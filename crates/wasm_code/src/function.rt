@@ -112,7 +112,10 @@ impl<A: Allocator> Function<A> {
 impl<A: Allocator + Copy> Function<A> {
     /// Returns a function with locals of these types: `new` of their runs. Neighbours of one type
     /// form one run.
-    pub fn new_with_locals_types<I: IntoIterator<Item = ValType>>(alloc: A, locals: I) -> Result<Self>
+    pub fn new_with_locals_types<I: IntoIterator<Item = ValType>>(
+        alloc: A,
+        locals: I,
+    ) -> Result<Self>
     where
         I::IntoIter: Drop,
         requires { (it : I.IntoIter) → I.into_iter_gives locals it → I.IntoIter.can_next it × IsFinite (I.IntoIter.remaining it) }

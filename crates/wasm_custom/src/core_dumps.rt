@@ -16,7 +16,7 @@ ghost use Rattle.wasm_custom.specs.Entries.{entries_encoding};
 ghost use Rattle.wasm_reader_base.specs.Minimal.{AppendsMinimal, IsFrontOf, HasEncoding};
 ghost use Rattle.wasm_reader_base.specs.declared.fault.ReadFault.TheVariants.{Memory};
 
-use crate::counted::{ItemsAs, DecodesItems, append_counted, read_counted};
+use crate::counted::{DecodesItems, ItemsAs, append_counted, read_counted};
 use crate::custom_section::{CustomSection, begin_custom};
 use crate::entries::{CustomEntries, CustomKind};
 use crate::marked::{MarkedName, read_marked};
@@ -341,7 +341,8 @@ impl<A: Allocator> ItemsAs<(u32, Vec<u32, A>, Vec<u32, A>)> for InstanceItems {
     }
 }
 
-impl<'a, A: Allocator + Copy> DecodesItems<'a, (u32, Vec<u32, A>, Vec<u32, A>), A> for InstanceItems {
+impl<'a, A: Allocator + Copy> DecodesItems<'a, (u32, Vec<u32, A>, Vec<u32, A>), A>
+    for InstanceItems {
     #[tactic(auto, using(crate::proofs::CoreDumpLaws::instance_steps))]
     fn read_item(
         bytes: &'a [u8],

@@ -25,7 +25,7 @@ use crate::named::after_name;
 use std::alloc::{Allocator, Global};
 use std::marker::Model;
 use wasm_base::{CowSlice, CowStr, Encode, Pieces, Result, Section, SectionId, vec_of};
-use wasm_reader_base::{ReadFault, Readable, Shorten, Layout, read_whole};
+use wasm_reader_base::{Layout, ReadFault, Readable, Shorten, read_whole};
 
 /// The `corestack` section of a thread, modelled as the bytes before its stack frames and the bytes
 /// of each frame. The former are the byte 00 and the name of the thread.

@@ -6,7 +6,7 @@ ghost use Rattle.wasm_custom.specs.declared.core_values.CoreDumpValue.{CoreDumpV
 use std::alloc::Allocator;
 use wasm_base::{Encode, Result};
 use wasm_immediates::{Ieee32, Ieee64};
-use wasm_reader_base::{ReadFault, Readable, Layout};
+use wasm_reader_base::{Layout, ReadFault, Readable};
 
 /// A value of a local or of the stack, or none if it was optimized away.
 #[derive(Clone, Copy, Debug)]

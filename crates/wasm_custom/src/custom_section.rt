@@ -8,11 +8,18 @@ ghost use Rattle.wasm_base.specs.Encodings.{longest, size_prefixed_encoding};
 ghost use Rattle.wasm_custom.specs.Customs.{named_encoding, IsEncodableNamed};
 
 use std::alloc::{Allocator, Global};
-use wasm_base::{CowSlice, CowStr, Encode, Refused, Result, Section, SectionId, begin_size_prefixed, encoding_size};
+use wasm_base::{
+    CowSlice, CowStr, Encode, Refused, Result, Section, SectionId, begin_size_prefixed,
+    encoding_size,
+};
 
 /// Appends the size prefix and the name of a custom section, and reserves spare capacity for `size`
 /// bytes of data that the caller appends next.
-pub(crate) fn begin_custom<A: Allocator>(sink: &mut Vec<u8, A>, name: &str, size: usize) -> Result<()>
+pub(crate) fn begin_custom<A: Allocator>(
+    sink: &mut Vec<u8, A>,
+    name: &str,
+    size: usize,
+) -> Result<()>
     ensures ok { OnOk result (sink.new.items ≡ sink.old.items ++ (unsigned_encoding (length (size_prefixed_encoding name.now) + size) ++ size_prefixed_encoding name.now)) }
     ensures reserved { OnOk result (vec_len sink.new + size ≤ vec_capacity sink.new) }
     ensures err { OnErr result (sink.new.items ≡ sink.old.items) }

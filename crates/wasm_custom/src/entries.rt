@@ -14,7 +14,9 @@ ghost use Rattle.wasm_custom.specs.Entries.{count_encoding, entries_encoding, en
 use crate::custom_section::{CustomSection, begin_custom};
 use std::alloc::{Allocator, Global};
 use std::marker::{Model, PhantomData};
-use wasm_base::{CowSlice, CowStr, Encode, EncodeOnce, Kind, Pieces, Result, Section, SectionId, encoding_size};
+use wasm_base::{
+    CowSlice, CowStr, Encode, EncodeOnce, Kind, Pieces, Result, Section, SectionId, encoding_size,
+};
 
 /// A kind of custom section: its items, its name, the bytes before its entries, and whether the
 /// entries are counted.

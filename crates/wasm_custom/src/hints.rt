@@ -12,12 +12,12 @@ ghost use Rattle.wasm_base.specs.declared.refused.Refused.TheVariants.{TooLong};
 ghost use Rattle.wasm_reader_base.specs.Minimal.{AppendsMinimal, HasEncoding};
 ghost use Rattle.wasm_reader_base.specs.declared.fault.ReadFault.TheVariants.{Memory};
 
-use crate::counted::{ItemsAs, DecodesItems, append_counted, read_counted};
+use crate::counted::{DecodesItems, ItemsAs, append_counted, read_counted};
 use crate::entries::{CustomEntries, CustomKind};
 use crate::marked::read_marked;
 use std::alloc::{Allocator, Global};
 use wasm_base::{Encode, Kind, Result, vec_of};
-use wasm_reader_base::{ReadFault, Readable, Shorten, Layout};
+use wasm_reader_base::{Layout, ReadFault, Readable, Shorten};
 
 /// The branch hint section: which branches are likely to be taken, as a list of hints for each
 /// function. It belongs before the code section.
@@ -170,7 +170,10 @@ impl<A: Allocator> ItemsAs<(u32, Vec<BranchHint, A>)> for HintItems {
     fn unique() {}
 
     #[tactic(auto, using(crate::proofs::HintLaws::function_appended, crate::proofs::HintLaws::of_branches_encodable))]
-    fn append_item<B: Allocator>(item: &(u32, Vec<BranchHint, A>), sink: &mut Vec<u8, B>) -> Result<()> {
+    fn append_item<B: Allocator>(
+        item: &(u32, Vec<BranchHint, A>),
+        sink: &mut Vec<u8, B>,
+    ) -> Result<()> {
         let (func, of_branches) = item;
         func.write_minimal(sink)?;
         of_branches.as_slice().encode(sink)

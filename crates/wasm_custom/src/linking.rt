@@ -20,7 +20,8 @@ use crate::symbols::{Symbol, SymbolTable};
 use std::alloc::{Allocator, Global};
 use wasm_base::{Encode, Kind, Result};
 use wasm_reader_base::{
-    SizePrefixed, ReadFault, Readable, Shorten, Layout, append_all, prefix_size_since, read_to_end, read_whole,
+    Layout, ReadFault, Readable, Shorten, SizePrefixed, append_all, prefix_size_since, read_to_end,
+    read_whole,
 };
 
 /// The linking section: the symbols and target of a module for a linker, in version 2 of the
@@ -129,7 +130,9 @@ impl<'a, A: Allocator + Copy + 'a> Readable<'a, A> for LinkItem<'a, A> {
                 Ok((LinkItem::Symbols(symbols), rest))
             }
             9 => {
-                let (SizePrefixed(name), rest) = <SizePrefixed<&'a str> as Readable<'a, A>>::read(rest, alloc)?;
+                let (SizePrefixed(name), rest) = <SizePrefixed<&'a str> as Readable<'a, A>>::read(
+                    rest, alloc,
+                )?;
                 Ok((LinkItem::Arch(name), rest))
             }
             _ => Err(ReadFault::UnknownTag),
@@ -191,7 +194,10 @@ impl<'a, A: Allocator> Shorten for LinkItem<'a, A> {
 /// Writes the bytes that [`append_links`] appends. After an error, part of them may follow the old
 /// bytes.
 #[tactic(auto, using(crate::proofs::LinkLaws::links_appended, crate::proofs::LinkLaws::links_encoded))]
-fn write_links<A: Allocator, B: Allocator>(items: &[LinkItem<'_, A>], sink: &mut Vec<u8, B>) -> Result<()>
+fn write_links<A: Allocator, B: Allocator>(
+    items: &[LinkItem<'_, A>],
+    sink: &mut Vec<u8, B>,
+) -> Result<()>
     ensures ok { OnOk result (AppendsMinimal linking_payload (map link_view items.now) sink.old.items sink.new.items) }
     ensures front { IsFrontOf sink.old.items sink.new.items }
     ensures too_long { HasEncoding linking_payload (map link_view items.now) → result ≢ Err TooLong }

@@ -7,7 +7,7 @@ ghost use Rattle.wasm_custom.specs.CoreDumps.{marked_name};
 ghost use Rattle.wasm_reader_base.specs.declared.fault.ReadFault.TheVariants.{Memory};
 
 use std::alloc::Allocator;
-use wasm_reader_base::{ReadFault, Readable, Layout};
+use wasm_reader_base::{Layout, ReadFault, Readable};
 
 /// Decodes the byte `mark` and the value after it, and returns the value with the remaining bytes.
 #[tactic(auto, using(crate::proofs::DecodeMarked::marked_steps))]

@@ -23,7 +23,7 @@ use crate::subsections::{RawContent, Subsection};
 use std::alloc::{Allocator, Global};
 use wasm_base::{CowSlice, CowStr, Encode, Kind, Lent, Result};
 use wasm_reader_base::{
-    ReadFault, Readable, Shorten, Layout, append_all, prefix_size_since, read_to_end, read_whole,
+    Layout, ReadFault, Readable, Shorten, append_all, prefix_size_since, read_to_end, read_whole,
 };
 
 /// A name map: indices and their names. The calls check neither their order nor whether an index is
@@ -448,7 +448,10 @@ impl<'a, A: Allocator> Shorten for NameItem<'a, A> {
 /// Writes the bytes that [`append_names`] appends. After an error, part of them may follow the old
 /// bytes.
 #[tactic(auto, using(crate::proofs::NameLaws::names_appended, crate::proofs::NameLaws::names_encoded))]
-fn write_names<A: Allocator, B: Allocator>(items: &[NameItem<'_, A>], sink: &mut Vec<u8, B>) -> Result<()>
+fn write_names<A: Allocator, B: Allocator>(
+    items: &[NameItem<'_, A>],
+    sink: &mut Vec<u8, B>,
+) -> Result<()>
     ensures ok { OnOk result (AppendsMinimal name_payload (map name_item_view items.now) sink.old.items sink.new.items) }
     ensures front { IsFrontOf sink.old.items sink.new.items }
     ensures too_long { HasEncoding name_payload (map name_item_view items.now) → result ≢ Err TooLong }

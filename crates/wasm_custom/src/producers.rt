@@ -12,7 +12,7 @@ ghost use Rattle.wasm_base.specs.declared.refused.Refused.TheVariants.{TooLong};
 ghost use Rattle.wasm_reader_base.specs.Minimal.{AppendsMinimal, HasEncoding};
 ghost use Rattle.wasm_reader_base.specs.declared.fault.ReadFault.TheVariants.{Memory};
 
-use crate::counted::{ItemsAs, DecodesItems, append_counted, read_counted};
+use crate::counted::{DecodesItems, ItemsAs, append_counted, read_counted};
 use crate::entries::{CustomEntries, CustomKind};
 use crate::lists::{CountedList, ListKind};
 use std::alloc::{Allocator, Global};

@@ -16,7 +16,7 @@ use crate::lists::{CountedList, ListKind};
 use std::alloc::{Allocator, Global};
 use wasm_base::laws::plain_name;
 use wasm_base::{Encode, Optional, Result};
-use wasm_reader_base::{ReadFault, Readable, Shorten, Layout, read_optional};
+use wasm_reader_base::{Layout, ReadFault, Readable, Shorten, read_optional};
 
 /// A symbol table: the symbols of a module, in the order in which they are added. It is encoded as
 /// subsection 8 of a linking section.
@@ -142,7 +142,13 @@ const _: () = prove!(<SymbolTable>::WASM_SYM_NO_STRIP == 0x80);
 
 impl<A: Allocator> SymbolTable<A> {
     /// Adds a symbol with an index.
-    fn indexed(&mut self, kind: SymbolKind, flags: u32, index: u32, name: Option<&str>) -> Result<()>
+    fn indexed(
+        &mut self,
+        kind: SymbolKind,
+        flags: u32,
+        index: u32,
+        name: Option<&str>,
+    ) -> Result<()>
         ensures { Adds (indexed_encoding kind flags index (optional_encoding (λ n. size_prefixed_encoding n.now) name.entry)) (IfSome name.entry (λ n. HasEncodableSize n.now)) self.old self.new result }
     {
         given_name(name);

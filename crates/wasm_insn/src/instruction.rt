@@ -296,7 +296,12 @@ fn encode_resume_throw<A: Allocator>(
 
 /// Appends the flags, the label, and the two heap types of a cast.
 #[inline(never)]
-fn encode_cast<A: Allocator>(label: u32, from: RefType, to: RefType, sink: &mut Vec<u8, A>) -> Result<()>
+fn encode_cast<A: Allocator>(
+    label: u32,
+    from: RefType,
+    to: RefType,
+    sink: &mut Vec<u8, A>,
+) -> Result<()>
     ensures { Appends (cast_flag_of from to ∷ [] ++ (unsigned_encoding label ++ (heap_encoding from.heap_type ++ heap_encoding to.heap_type))) (⊤ × ⊤ × (⊤ × ⊤)) sink.old sink.new result }
 {
     (cast_flag(from, to), label, (from.heap_type, to.heap_type)).encode(sink)

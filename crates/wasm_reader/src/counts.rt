@@ -6,7 +6,7 @@ ghost use Rattle.wasm_base.specs.Numbers.{padded};
 ghost use Rattle.wasm_reader_base.specs.declared.fault.ReadFault.TheVariants.{Memory};
 
 use std::alloc::Allocator;
-use wasm_reader_base::{Skip, ReadFault, skip_many};
+use wasm_reader_base::{ReadFault, Skip, skip_many};
 
 /// Skips the members of a vector that occupies all of the bytes, and returns their number.
 pub(crate) fn count_skipped<'a, P: Skip<'a, A>, A: Allocator + Copy>(

@@ -17,8 +17,8 @@ use wasm_custom::{
 use wasm_reader_base::{Dropped, ReadFault, Readable, Shorten, read_whole};
 use wasm_reader_insn::Body;
 use wasm_sections::{
-    ElementItem, Export, GlobalItem, Imports, MemoryType, Segment, TableItem,
-    TagType, append_imports, read_imports, read_segments,
+    ElementItem, Export, GlobalItem, Imports, MemoryType, Segment, TableItem, TagType,
+    append_imports, read_imports, read_segments,
 };
 use wasm_types::{TypeEntry, append_types, read_types};
 

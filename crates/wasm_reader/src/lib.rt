@@ -9,18 +9,18 @@
 mod counts;
 mod kinds;
 pub mod laws;
+mod minimal;
 mod modules;
 mod outlines;
 mod section;
-mod minimal;
 mod standing;
 mod whole;
 
 pub use kinds::{Items, SectionKind};
+pub use minimal::shorten;
 pub use modules::{Listed, list_module};
 pub use outlines::{Outlined, outline};
 pub use section::read_section;
-pub use minimal::shorten;
 pub use wasm_custom::{CoreFrame, LinkItem, NameItem, Symbol};
 pub use wasm_reader_base::ReadFault;
 pub use wasm_reader_insn::{Arg, Body, Expression, Plain};

@@ -33,8 +33,8 @@ ghost use Rattle.wasm_reader.specs.Shortening.{
   Explains,
 };
 
-use crate::modules::{HEADER, read_header};
 use crate::minimal::shorten;
+use crate::modules::{HEADER, read_header};
 use crate::standing::{Standing, read_standing};
 use std::alloc::{AllocError, Allocator};
 use wasm_reader_base::ReadFault;

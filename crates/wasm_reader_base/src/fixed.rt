@@ -4,7 +4,7 @@ ghost use Rattle.wasm_base.specs.Formats.{byte, little_endian, raw_bytes};
 ghost use Rattle.wasm_immediates.specs.ImmediateFormats.{vector_format};
 
 use crate::fault::ReadFault;
-use crate::readable::{Readable, Layout};
+use crate::readable::{Layout, Readable};
 use std::alloc::Allocator;
 use wasm_immediates::{Ieee32, Ieee64};
 

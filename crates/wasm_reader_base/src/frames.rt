@@ -6,7 +6,7 @@ ghost use Rattle.wasm_base.specs.declared.refused.Refused.TheVariants.{TooLong};
 ghost use Rattle.wasm_reader_base.specs.Minimal.{AppendsMinimal, IsFrontOf, HasEncoding};
 
 use crate::fault::ReadFault;
-use crate::readable::{Readable, Layout};
+use crate::readable::{Layout, Readable};
 use crate::shorten::Shorten;
 use std::alloc::Allocator;
 use wasm_base::{Encode, Result};

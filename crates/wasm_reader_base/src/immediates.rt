@@ -16,7 +16,7 @@ ghost use Rattle.wasm_reader_base.specs.declared.fault.ReadFault.TheVariants.{Me
 use crate::fault::ReadFault;
 use crate::leb128::read_index;
 use crate::optional::read_optional;
-use crate::readable::{Readable, Layout};
+use crate::readable::{Layout, Readable};
 use crate::types::read_val_after;
 use std::alloc::Allocator;
 use wasm_immediates::{BlockType, Catch, Handle, MemArg, MemArgOrdering, MemArgTarget, Ordering};

@@ -7,7 +7,7 @@ ghost use Rattle.wasm_base.specs.Decoding.{Decodes, Rejects};
 ghost use Rattle.wasm_reader_base.specs.declared.fault.ReadFault.TheVariants.{Memory};
 
 use crate::fault::ReadFault;
-use crate::readable::{Readable, Layout};
+use crate::readable::{Layout, Readable};
 use crate::shorten::Shorten;
 use std::alloc::Allocator;
 use wasm_base::{Encode, Groups, NoGroups, Result, read_groups};

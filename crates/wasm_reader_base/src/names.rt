@@ -4,7 +4,7 @@ ghost use Rattle.wasm_base.specs.Formats.{size_prefixed, any_bytes, name};
 ghost use Rattle.wasm_base.specs.Decoding.{Unambiguous};
 
 use crate::fault::ReadFault;
-use crate::readable::{Readable, Layout};
+use crate::readable::{Layout, Readable};
 use crate::shorten::Shorten;
 use std::alloc::Allocator;
 use wasm_base::{Encode, Result, encode_size_prefixed};

@@ -2,7 +2,7 @@
 ghost use Rattle.wasm_base.specs.Formats.{pair};
 
 use crate::fault::ReadFault;
-use crate::readable::{Readable, Layout};
+use crate::readable::{Layout, Readable};
 use crate::shorten::Shorten;
 use std::alloc::Allocator;
 use wasm_base::Result;

@@ -12,7 +12,7 @@ ghost use Rattle.wasm_reader_base.specs.declared.fault.ReadFault.TheVariants.{Me
 
 use crate::fault::ReadFault;
 use crate::leb128::read_index;
-use crate::readable::{Readable, Layout};
+use crate::readable::{Layout, Readable};
 use crate::shorten::Shorten;
 use std::alloc::Allocator;
 use wasm_base::{AbstractHeapType, Encode, HeapType, RefType, Result, ValType};

@@ -15,7 +15,7 @@ use crate::instruction::{Plain, append_instruction};
 use crate::walk::Instructions;
 use std::alloc::{Allocator, Global};
 use wasm_base::{Result, ValType};
-use wasm_reader_base::{ReadFault, Readable, Shorten, Layout, prefix_size_since};
+use wasm_reader_base::{Layout, ReadFault, Readable, Shorten, prefix_size_since};
 
 /// The capacity of a new list allows for one instruction per this many bytes. The list grows if
 /// they are shorter.

@@ -8,7 +8,7 @@ use crate::body::append_code;
 use crate::instruction::Plain;
 use std::alloc::{Allocator, Global};
 use wasm_base::Result;
-use wasm_reader_base::{ReadFault, Readable, Shorten, Layout};
+use wasm_reader_base::{Layout, ReadFault, Readable, Shorten};
 
 /// The opcode of `End`.
 pub(crate) const END: u8 = 0x0B;

@@ -15,7 +15,7 @@ use crate::arguments::{Arg, append_arguments, read_arguments, read_arguments_int
 use std::alloc::{Allocator, Global};
 use wasm_base::{Encode, Result};
 use wasm_insn::Op;
-use wasm_reader_base::{ReadFault, Readable, Shorten, Layout};
+use wasm_reader_base::{Layout, ReadFault, Readable, Shorten};
 
 /// An instruction in normal form: its opcode, and an argument for each immediate of the opcode's
 /// shape.

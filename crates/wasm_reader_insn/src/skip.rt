@@ -21,7 +21,7 @@ use crate::instruction::read_op;
 use std::alloc::Allocator;
 use wasm_base::ValType;
 use wasm_insn::{Catch, Handle, Part, Shape};
-use wasm_reader_base::{Dropped, Skip, ReadFault, Readable, skip_many};
+use wasm_reader_base::{Dropped, ReadFault, Readable, Skip, skip_many};
 
 /// Skips one argument, and returns the remaining bytes. Lists are skipped member by member.
 fn skip_part<'a, A: Allocator + Copy>(

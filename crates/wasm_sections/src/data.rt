@@ -18,7 +18,7 @@ use crate::counted_section::{CountedSection, ItemKind};
 use std::alloc::{Allocator, Global};
 use wasm_base::{Encode, Kind, Lent, Result, SectionId, bytes_of, encode_size_prefixed};
 use wasm_code::ConstExpr;
-use wasm_reader_base::{Dropped, Skip, ReadFault, Readable, Shorten, Layout, read_whole};
+use wasm_reader_base::{Dropped, Layout, ReadFault, Readable, Shorten, Skip, read_whole};
 use wasm_reader_insn::Expression;
 
 /// The data section: segments of bytes that a module copies to memories.
@@ -375,9 +375,7 @@ impl<'a, A: Allocator + Copy> Skip<'a, A> for Segment<'a, A> {
         let (flag, rest) = <u32 as Readable<'a, A>>::read(bytes, alloc)?;
         match flag {
             0 => {
-                let rest = <(Expression<A>, Dropped<Bytes<'a>>) as Skip<'a, A>>::skip(
-                    rest, alloc,
-                )?;
+                let rest = <(Expression<A>, Dropped<Bytes<'a>>) as Skip<'a, A>>::skip(rest, alloc)?;
                 Ok(rest)
             }
             1 => {
@@ -389,9 +387,7 @@ impl<'a, A: Allocator + Copy> Skip<'a, A> for Segment<'a, A> {
                 if memory == 0 {
                     return Err(ReadFault::UnknownTag);
                 }
-                let rest = <(Expression<A>, Dropped<Bytes<'a>>) as Skip<'a, A>>::skip(
-                    rest, alloc,
-                )?;
+                let rest = <(Expression<A>, Dropped<Bytes<'a>>) as Skip<'a, A>>::skip(rest, alloc)?;
                 Ok(rest)
             }
             _ => Err(ReadFault::UnknownTag),

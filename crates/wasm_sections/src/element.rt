@@ -10,7 +10,9 @@ ghost use Rattle.wasm_code.specs.Expressions.{expression_encoding};
 use crate::counted_section::{CountedSection, ItemKind};
 use crate::flags::where_set;
 use std::alloc::{Allocator, Global};
-use wasm_base::{AbstractHeapType, CowSlice, Encode, HeapType, Kind, Lent, RefType, Result, SectionId};
+use wasm_base::{
+    AbstractHeapType, CowSlice, Encode, HeapType, Kind, Lent, RefType, Result, SectionId,
+};
 use wasm_code::ConstExpr;
 
 /// The element section: segments of references that a module copies to tables.

@@ -12,7 +12,7 @@ ghost use Rattle.wasm_sections.specs.Elements.{ElementItem, ElementFlag as FlagM
 
 use std::alloc::{Allocator, Global};
 use wasm_base::{Encode, RefType, Result};
-use wasm_reader_base::{Dropped, Skip, ReadFault, Readable, Shorten, Layout, skip_many};
+use wasm_reader_base::{Dropped, Layout, ReadFault, Readable, Shorten, Skip, skip_many};
 use wasm_reader_insn::Expression;
 
 /// The flag of an element segment, as its bits.

@@ -12,7 +12,7 @@ ghost use Rattle.wasm_sections.specs.declared.export.ExportKind.{ExportKind as K
 use crate::counted_section::{CountedSection, ItemKind, RecordOf};
 use std::alloc::{Allocator, Global};
 use wasm_base::{Encode, Kind, Result, SectionId};
-use wasm_reader_base::{ReadFault, Readable, Layout};
+use wasm_reader_base::{Layout, ReadFault, Readable};
 
 /// The export section: the items that a module exports.
 ///

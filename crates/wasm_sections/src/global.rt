@@ -11,7 +11,7 @@ use crate::flags::where_set;
 use std::alloc::{Allocator, Global};
 use wasm_base::{Encode, Kind, Lent, Result, SectionId, ValType};
 use wasm_code::ConstExpr;
-use wasm_reader_base::{Dropped, Skip, ReadFault, Readable, Shorten, Layout};
+use wasm_reader_base::{Dropped, Layout, ReadFault, Readable, Shorten, Skip};
 use wasm_reader_insn::Expression;
 
 /// The global section: the globals that a module defines.
@@ -84,7 +84,11 @@ impl ItemKind for GlobalItems {
 
 impl<A: Allocator> GlobalSection<A> {
     /// Adds a global of this type, initialized by the expression.
-    pub fn global<B: Allocator>(&mut self, global_type: GlobalType, init: &ConstExpr<B>) -> Result<()>
+    pub fn global<B: Allocator>(
+        &mut self,
+        global_type: GlobalType,
+        init: &ConstExpr<B>,
+    ) -> Result<()>
         ensures { Adds (global_encoding global_type ++ expression_encoding init.now) ⊤ self.old self.new result }
     {
         self.add_record(&(global_type, Lent(init)))

@@ -19,8 +19,11 @@ use crate::memory::MemoryType;
 use crate::table::TableType;
 use crate::tag::TagType;
 use std::alloc::{Allocator, Global};
-use wasm_base::{CORE_FUNCTION_EXACT_SORT, CORE_FUNCTION_SORT, CORE_GLOBAL_SORT, CORE_MEMORY_SORT, CORE_TABLE_SORT, CORE_TAG_SORT, CowSlice, Encode, Kind, Result, SectionId};
-use wasm_reader_base::{Dropped, Skip, ReadFault, Readable, Layout, skip_many, read_whole};
+use wasm_base::{
+    CORE_FUNCTION_EXACT_SORT, CORE_FUNCTION_SORT, CORE_GLOBAL_SORT, CORE_MEMORY_SORT,
+    CORE_TABLE_SORT, CORE_TAG_SORT, CowSlice, Encode, Kind, Result, SectionId,
+};
+use wasm_reader_base::{Dropped, Layout, ReadFault, Readable, Skip, read_whole, skip_many};
 
 /// The import section: the items that a module imports.
 ///

@@ -29,8 +29,8 @@ pub use export::{Export, ExportItems, ExportKind, ExportSection};
 pub use function::{FunctionItems, FunctionSection};
 pub use global::{GlobalItem, GlobalItems, GlobalSection, GlobalType};
 pub use import::{
-    EntityType, Import, ImportCompact, ImportItems, ImportSection, Imports,
-    append_imports, read_imports,
+    EntityType, Import, ImportCompact, ImportItems, ImportSection, Imports, append_imports,
+    read_imports,
 };
 pub use memory::{MemoryItems, MemorySection, MemoryType};
 pub use start::{DataCountSection, StartSection};

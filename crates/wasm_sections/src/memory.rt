@@ -9,7 +9,7 @@ use crate::counted_section::{CountedSection, ItemKind, RecordOf};
 use crate::flags::where_set;
 use std::alloc::{Allocator, Global};
 use wasm_base::{Encode, Kind, Optional, Result, SectionId};
-use wasm_reader_base::{ReadFault, Readable, Layout, read_optional};
+use wasm_reader_base::{Layout, ReadFault, Readable, read_optional};
 
 /// The memory section: the memories that a module defines.
 ///

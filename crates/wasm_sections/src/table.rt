@@ -12,7 +12,7 @@ use crate::memory::Flags;
 use std::alloc::{Allocator, Global};
 use wasm_base::{Encode, Kind, Lent, Optional, RefType, Result, SectionId, ValType};
 use wasm_code::ConstExpr;
-use wasm_reader_base::{Dropped, Skip, ReadFault, Readable, Shorten, Layout, read_optional};
+use wasm_reader_base::{Dropped, Layout, ReadFault, Readable, Shorten, Skip, read_optional};
 use wasm_reader_insn::Expression;
 
 /// The table section: the tables that a module defines.

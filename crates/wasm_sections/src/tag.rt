@@ -9,7 +9,7 @@ ghost use Rattle.wasm_sections.specs.declared.tag.TagType.{TagType as Tag};
 use crate::counted_section::{CountedSection, ItemKind, RecordOf};
 use std::alloc::{Allocator, Global};
 use wasm_base::{Encode, Kind, Result, SectionId};
-use wasm_reader_base::{ReadFault, Readable, Layout};
+use wasm_reader_base::{Layout, ReadFault, Readable};
 
 /// The tag section: the tags that a module defines.
 ///

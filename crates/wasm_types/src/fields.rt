@@ -11,7 +11,7 @@ ghost use Rattle.wasm_types.specs.declared.types.StorageType.{StorageType as Sto
 use crate::types::{FieldType, StorageType};
 use std::alloc::Allocator;
 use wasm_base::{ValType, read_groups};
-use wasm_reader_base::{ReadFault, Readable, Layout};
+use wasm_reader_base::{Layout, ReadFault, Readable};
 
 /// Decodes an index, encoded as a signed number of 33 bits.
 #[tactic(auto, using(wasm_reader_base::proofs::DecodeNumbers::index_steps))]

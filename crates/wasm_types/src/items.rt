@@ -12,7 +12,7 @@ use crate::shapes::read_composite_after;
 use crate::types::CompositeType;
 use std::alloc::{Allocator, Global};
 use wasm_base::{Encode, Lent, Result};
-use wasm_reader_base::{ReadFault, Readable, Layout};
+use wasm_reader_base::{Layout, ReadFault, Readable};
 
 /// A decoded subtype: its supertypes, and whether it is final, so that it can have no subtypes.
 #[derive(Drop, Debug)]
