@@ -34,7 +34,7 @@ pub fn place_after<A: Allocator + Copy>(
     ensures { IfOk result (λ offset. (front more : List ℕ) (x : Body) → body padded front x → length x.code ≡ count → bytes.now ≡ front ++ more → offset ≡ length front) }
 {
     let (_runs, mut instructions) = Instructions::of_body(bytes, alloc)?;
-    laws::places();
+    laws::offsets();
     for _taken in 0..count {
         let Some(_step) = instructions.next()? else {
             return Err(ReadFault::Ended);

@@ -2,6 +2,7 @@
 #![tactic(auto, using(wasm_base::proofs::KnownLengths::drained_array))]
 
 mod adding;
+mod alone;
 mod bodies;
 mod compiled;
 mod filled;
@@ -11,14 +12,14 @@ mod large;
 mod lowering;
 mod names;
 mod object;
-mod padded_of;
+mod padded;
 mod recursion;
 mod sums;
 mod trees;
-mod unique;
 mod whole;
 
 pub use adding::adding_module;
+pub use alone::{encode_exports, encode_group, encode_import, encode_local, encode_reference};
 pub use compiled::compiled_module;
 pub use filled::filled_module;
 pub use first::first_module;
@@ -27,11 +28,8 @@ pub use large::large_module;
 pub use lowering::{Operation, Operator, compile, lower};
 pub use names::named_module;
 pub use object::object_module;
-pub use padded_of::{
-    encode_padded_body, encode_padded_globals, encode_padded_names, padded_module,
-};
+pub use padded::{encode_padded_body, encode_padded_globals, encode_padded_names, padded_module};
 pub use recursion::{choice, factorial};
 pub use sums::{encode_sum, encode_sum_and_padded};
 pub use trees::{Expr, Statement, compile_tree};
-pub use unique::{encode_exports, encode_group, encode_import, encode_local, encode_reference};
 pub use whole::whole_module;

@@ -54,7 +54,7 @@ pub fn handed_module<A: Allocator + Copy>(
 /// and padded.
 pub fn code_of<A: Allocator + Copy>(alloc: A, functions: &[Function<A>]) -> Result<CodeSection<A>>
     ensures plain { IfOk result (λ section. (bodies : List Body) → AllZip IsWellFormedBody functions.now bodies → EncodesBodies section bodies) }
-    ensures padded_of { IfOk result (λ section. (bodies : List Body) → AllZip IsPaddedBody functions.now bodies → EncodesBodiesPadded section bodies) }
+    ensures padded { IfOk result (λ section. (bodies : List Body) → AllZip IsPaddedBody functions.now bodies → EncodesBodiesPadded section bodies) }
 {
     let mut section = CodeSection::new(alloc);
     match add_all(&mut section, functions) {

@@ -105,22 +105,22 @@ fn check_text(
 #[test]
 fn minimal_encodings(rt: HostRuntime) {
     let alloc = rt.alloc();
-    let padded_of: &[u8] = &[0x86, 0x00, 0x01, 0x85, 0x80, 0x80, 0x80, 0x00, 0x99];
+    let padded: &[u8] = &[0x86, 0x00, 0x01, 0x85, 0x80, 0x80, 0x80, 0x00, 0x99];
     check_text(
         &rt,
         alloc,
         5,
-        padded_of,
+        padded,
         &mut [9; 4],
         (3, 8, 0),
         &[2, 1, 5, 9],
     );
-    check_text(&rt, alloc, 5, padded_of, &mut [9; 2], (3, 8, 0), &[9; 2]);
+    check_text(&rt, alloc, 5, padded, &mut [9; 2], (3, 8, 0), &[9; 2]);
     check_text(
         &rt,
         alloc,
         21,
-        padded_of,
+        padded,
         &mut [9; 8],
         (7, 8, 0),
         &[6, 1, 0x85, 0x80, 0x80, 0x80, 0, 9],
@@ -140,12 +140,12 @@ fn minimal_encodings(rt: HostRuntime) {
 #[test]
 fn no_section_stands(rt: HostRuntime) {
     let alloc = rt.alloc();
-    let padded_of: &[u8] = &[0x86, 0x00, 0x01, 0x85, 0x80, 0x80, 0x80, 0x00, 0x99];
+    let padded: &[u8] = &[0x86, 0x00, 0x01, 0x85, 0x80, 0x80, 0x80, 0x00, 0x99];
     check_text(
         &rt,
         alloc,
         5,
-        &padded_of[..7],
+        &padded[..7],
         &mut [9; 3],
         (NO_ANSWER, 0, 1),
         &[9; 3],
@@ -163,7 +163,7 @@ fn no_section_stands(rt: HostRuntime) {
         &rt,
         alloc,
         u32::MAX,
-        padded_of,
+        padded,
         &mut [9; 3],
         (NO_ANSWER, 0, 9),
         &[9; 3],

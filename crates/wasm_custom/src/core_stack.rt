@@ -132,7 +132,7 @@ impl<A: Allocator> Section for CoreDumpStackSection<A> {
     ghost use Rattle.wasm_base.specs.SectionId.{number_of};
     ghost use Rattle.wasm_base.specs.declared.section_id.SectionId.TheVariants as ids;
     ghost use Rattle.wasm_custom.specs.CoreStacks.{StackFrame, stack_name, stack_section, SaysStack};
-    ghost use Rattle.wasm_custom.specs.Customs.{NamedPayload, named_framed};
+    ghost use Rattle.wasm_custom.specs.Customs.{NamedPayload, named_sized};
     ghost use Rattle.wasm_custom.specs.Entries.{entries_encoding};
 
     ghost id_of = { λ _. number_of ids.Custom };
@@ -149,7 +149,7 @@ impl<A: Allocator> Section for CoreDumpStackSection<A> {
         SectionId::Custom.into()
     }
 
-    ghost framed = { λ s bytes encodable pays. named_framed stack_name (entries_encoding s.0 true s.1) bytes encodable pays };
+    ghost sized = { λ s bytes encodable pays. named_sized stack_name (entries_encoding s.0 true s.1) bytes encodable pays };
 
     ghost decodes_back = { λ s promised. promised };
 }

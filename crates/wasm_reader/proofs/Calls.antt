@@ -42,7 +42,7 @@ pub padded_stands : (kind : SectionKind) {bytes rest : List ℕ} {x : Contents} 
 padded_stands kind {rest = rest} {x = x} n r = n.none x rest r
 
 -- The minimizer appends the minimal encoding of these items.
-pub shortens_padded : {kind : SectionKind} {padded_of rest bytes : List ℕ} {x : Contents} {n : ℕ} {old new : List ℕ} → Shortens kind padded_of n old new → Decodes (section kind) padded padded_of x rest → section kind minimal bytes x → new ≡ old ++ bytes
+pub shortens_padded : {kind : SectionKind} {padded_bytes rest bytes : List ℕ} {x : Contents} {n : ℕ} {old new : List ℕ} → Shortens kind padded_bytes n old new → Decodes (section kind) padded padded_bytes x rest → section kind minimal bytes x → new ≡ old ++ bytes
 shortens_padded {kind = kind} {bytes = bytes} {x = x} {old = old} h r s =
     h.appended ∙ ap (λ t. old ++ t) ((section_unambiguous kind).encodings.one builders h.encoding bytes x (subst (λ z. section kind minimal h.encoding z) (decodes_padded h.takes r) h.encodes) s)
 

@@ -18,7 +18,6 @@ pub(crate) fn count_skipped<'a, P: Skip<'a, A>, A: Allocator + Copy>(
 {
     let (count, rest) = skip_many::<'a, P, A>(bytes, alloc)?;
     P::laws();
-    P::laws();
     if rest.is_empty() {
         Ok(Some(count))
     } else {

@@ -5,7 +5,6 @@ ghost use Rattle.wasm_base.specs.declared.refused.Refused.TheVariants.{TooLong};
 ghost use Rattle.wasm_code.specs.Expressions.{expression_encoding};
 ghost use Rattle.wasm_immediates.specs.Immediates.{where_set};
 ghost use Rattle.wasm_sections.specs.Elements.{element_items, is_funcref, needs_table, settled_table, are_expressions, elements_encoding, AreEncodableElements};
-ghost use Rattle.wasm_code.specs.Expressions.{expression_encoding};
 
 use crate::counted_section::{CountedSection, ItemKind};
 use crate::flags::where_set;
@@ -196,13 +195,13 @@ const FUNCTIONS: u8 = 0x00;
 
 /// References, and whether their type is explicit in the encoding.
 #[derive(Drop)]
-struct ExplicitKind<'a, 'b, A: Allocator> {
+struct TypedElements<'a, 'b, A: Allocator> {
     explicit: bool,
     elements: &'b Elements<'a, A>,
 }
 
 /// Encodes the type if it is explicit, and the references.
-impl<A: Allocator> Encode for ExplicitKind<'_, '_, A> {
+impl<A: Allocator> Encode for TypedElements<'_, '_, A> {
     ghost use Rattle.wasm_sections.specs.GivenElements.{list_in};
 
     ghost encoding = { λ t. elements_encoding expression_encoding t.explicit (list_in t.elements.now) };
@@ -233,51 +232,23 @@ impl<A: Allocator> Encode for ElementSegment<'_, A> {
 
     fn encode<B: Allocator>(&self, sink: &mut Vec<u8, B>) -> Result<()> {
         let flag = self.elements.flag();
-        let elements = &self.elements;
+        let typed = TypedElements {
+            explicit: true,
+            elements: &self.elements,
+        };
         match &self.mode {
-            ElementMode::Passive => {
-                (
-                    flag + PASSIVE,
-                    ExplicitKind {
-                        explicit: true,
-                        elements,
-                    },
-                )
-                    .encode(sink)
-            }
-            ElementMode::Declared => {
-                (
-                    flag + DECLARED,
-                    ExplicitKind {
-                        explicit: true,
-                        elements,
-                    },
-                )
-                    .encode(sink)
-            }
+            ElementMode::Passive => (flag + PASSIVE, typed).encode(sink),
+            ElementMode::Declared => (flag + DECLARED, typed).encode(sink),
             ElementMode::Active { table, offset } => {
-                match named_table(*table, elements.needs_table()) {
-                    Some(table) => {
-                        let segment_mode = (table, Lent(*offset));
-                        (
-                            flag + WITH_TABLE,
-                            segment_mode,
-                            ExplicitKind {
-                                explicit: true,
-                                elements,
-                            },
-                        )
-                            .encode(sink)
-                    }
-                    None => (
-                        flag,
-                        Lent(*offset),
-                        ExplicitKind {
+                match named_table(*table, self.elements.needs_table()) {
+                    Some(table) => (flag + WITH_TABLE, (table, Lent(*offset)), typed).encode(sink),
+                    None => {
+                        let untyped = TypedElements {
                             explicit: false,
-                            elements,
-                        },
-                    )
-                        .encode(sink),
+                            elements: &self.elements,
+                        };
+                        (flag, Lent(*offset), untyped).encode(sink)
+                    }
                 }
             }
         }

@@ -186,11 +186,10 @@ fn read_elements<'a, A: Allocator + Copy>(
     ensures none { IfErr result (λ e. e ≢ Memory → Rejects (elements_as explicit of_expressions) padded bytes.now) }
 {
     if of_expressions {
-        let (elements, rest) = read_expressions(explicit, bytes, alloc)?;
-        return Ok((elements, rest));
+        read_expressions(explicit, bytes, alloc)
+    } else {
+        read_functions(explicit, bytes, alloc)
     }
-    let (elements, rest) = read_functions(explicit, bytes, alloc)?;
-    Ok((elements, rest))
 }
 
 impl<A: Allocator> Layout for ElementItem<A> {
@@ -405,11 +404,10 @@ fn skip_elements<'a, A: Allocator + Copy>(
     ensures none { IfErr result (λ e. e ≢ Memory → Rejects (elements_as explicit of_expressions) padded bytes.now) }
 {
     if of_expressions {
-        let rest = skip_expressions(explicit, bytes, alloc)?;
-        return Ok(rest);
+        skip_expressions(explicit, bytes, alloc)
+    } else {
+        skip_functions(explicit, bytes, alloc)
     }
-    let rest = skip_functions(explicit, bytes, alloc)?;
-    Ok(rest)
 }
 
 impl<'a, A: Allocator + Copy> Skip<'a, A> for ElementItem<A> {

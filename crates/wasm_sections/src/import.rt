@@ -314,16 +314,10 @@ impl<'a, A: Allocator + Copy> Readable<'a, A> for ImportCompact<'a> {
 fn group_kind(bytes: &[u8]) -> Option<(u8, &[u8])>
     ensures { MatchOption result (Rejects (prefixed (0x00 ∷ []) group) padded bytes.now) (λ x. (bytes.now ≡ 0x00 ∷ x.0 ∷ x.1.now) × (0x7E ≤ x.0)) }
 {
-    let [first, kind, rest @ ..] = bytes else {
-        return None;
-    };
-    if *first != 0x00 {
-        return None;
+    match bytes {
+        [0x00, kind @ 0x7E.., rest @ ..] => Some((*kind, rest)),
+        _ => None,
     }
-    if *kind < 0x7E {
-        return None;
-    }
-    Some((*kind, rest))
 }
 
 impl<'a, A: Allocator> Layout for Imports<'a, A> {

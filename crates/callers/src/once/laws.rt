@@ -75,7 +75,7 @@ fn custom_sections(_rt: HostRuntime) {
 
 #[test]
 fn readers(_rt: HostRuntime) {
-    wasm_reader_insn::laws::places();
+    wasm_reader_insn::laws::offsets();
     wasm_reader::laws::encodings();
     wasm_reader::laws::modules();
     wasm_reader::laws::shortened()

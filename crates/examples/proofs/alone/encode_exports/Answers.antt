@@ -1,0 +1,10 @@
+-- Written by tools/answers.
+use Rattle.wasm_base.proofs.Calls.{each, adds_items, encodes_items}
+use Rattle.wasm_sections.proofs.Calls.{new_exports}
+use Rattle.wasm_sections.specs.Exports.{IsExport}
+use Rattle.examples.proofs.alone.encode_exports.Goals as goal
+
+pub returns-in-Ok : goal.returns-in-Ok
+returns-in-Ok g c =
+    let s1 = adds_items (new_exports c.new-section.ensures) c.in-Ok.ensures.ok (each IsExport c.args.exports.now c.plain_exports.ensures) in
+    encodes_items c.encode.ensures.appends c.encode.ensures.read s1

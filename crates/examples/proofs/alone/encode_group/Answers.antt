@@ -1,0 +1,11 @@
+-- Written by tools/answers.
+use Rattle.std.proofs.Common.{arith}
+use Rattle.wasm_base.proofs.Calls.{encodes_items}
+use Rattle.wasm_sections.proofs.Calls.{new_imports, adds_alike}
+use Rattle.wasm_sections.specs.declared.import.EntityType.TheVariants.{Function}
+use Rattle.examples.proofs.alone.encode_group.Goals as goal
+
+pub returns : goal.returns
+returns g c =
+    let s1 = adds_alike (new_imports c.new-section.ensures) c.args.from.now (Function c.args.index) c.args.names.now c.in_ok-imports.ensures.ok c.in_ok-imports.ensures.was_encodable c.utf8.from (omega (arith, c.ranges.index.encodable)) c.plain_names.ensures in
+    encodes_items c.encode.ensures.appends c.encode.ensures.read s1

@@ -1,0 +1,23 @@
+-- Written by tools/answers.
+use Rattle.std.proofs.Common.{[], ◌∷◌, arith, refl, pos, neg_ℤ}
+use Rattle.std.proofs.lemmas.Int.{ints}
+use Rattle.std.specs.declared.alloc.Global.{Global}
+use Rattle.wasm_base.proofs.Calls.{contains_padded, encodes_items_padded}
+use Rattle.wasm_base.specs.Formats.{s32}
+use Rattle.wasm_base.specs.Numbers.{padded}
+use Rattle.wasm_code.proofs.Calls.{padded_i32_const, raw_constant}
+use Rattle.wasm_code.specs.Expressions.{normal_row}
+use Rattle.wasm_insn.specs.declared.instruction.Instruction.TheVariants.{I32Const}
+use Rattle.wasm_sections.proofs.Calls.{new_globals, adds_global_padded}
+use Rattle.wasm_sections.proofs.GlobalLaws.{globals_section}
+use Rattle.examples.specs.Padded.{number}
+use Rattle.examples.proofs.padded.encode_padded_globals.Goals as goal
+
+pub returns : goal.returns
+returns g c =
+    let n1 : s32 padded (0xFF ∷ 0xFF ∷ 0xFF ∷ 0xFF ∷ 0x7F ∷ []) (neg_ℤ (pos 1)) = record { groups = (omega arith, omega arith, (omega arith, omega arith, (omega arith, omega arith, (omega arith, omega arith, omega arith)))); total = refl; above = omega (arith, ints); below = omega (arith, ints); size = omega arith } in
+    let e1 = raw_constant c.in_ok-init.ensures.ok (normal_row {A = Global} (I32Const (neg_ℤ (pos 1))) ∷ []) (padded_i32_const (0xFF ∷ 0xFF ∷ 0xFF ∷ 0xFF ∷ 0x7F ∷ []) (neg_ℤ (pos 1)) n1) in
+    let s1 = adds_global_padded (contains_padded globals_section.held_padded (new_globals c.new-section.ensures)) (number (neg_ℤ (pos 1))) _ c.in_ok-global.ensures.ok tt e1 in
+    let n2 : s32 padded (0x80 ∷ 0x00 ∷ []) (pos 0) = record { groups = (omega arith, omega arith, omega arith); total = refl; above = omega (arith, ints); below = omega (arith, ints); size = omega arith } in
+    let s2 = adds_global_padded s1 (number (pos 0)) (0x41 ∷ 0x80 ∷ 0x00 ∷ []) c.in_ok-raw.ensures.ok tt (padded_i32_const (0x80 ∷ 0x00 ∷ []) (pos 0) n2) in
+    encodes_items_padded globals_section.held_padded c.encode.ensures.appends c.encode.ensures.read s2
