@@ -21,7 +21,7 @@ RUST_MARKS = (
 # A number after a dot is the field of a tuple, and has no fraction.
 KINDS = {
     COMMENT: r"//[^\n]*|/\*.*?\*/",
-    LITERAL: r"""b?r(?P<hashes>\#*)".*?"(?P=hashes)|b?"(?:[^"\\]|\\.)*"|b?'(?:\\(?:u\{[^}]*\}|x..|.)|[^'\\\n])'""",
+    LITERAL: r"""b?r"[^"]*"|b?r\#".*?"\#|b?r\#\#".*?"\#\#|b?"(?:[^"\\]|\\.)*"|b?'(?:\\(?:u\{[^}]*\}|x..|.)|[^'\\\n])'""",
     LIFETIME: r"'[^\W\d]\w*",
     NUMBER: r"(?<=\.)\d\w*|\d\w*(?:\.\d\w*)?",
     WORD: r"[^\W\d]\w*",
@@ -43,17 +43,27 @@ class Token:
         return self.kind in (SPACE, COMMENT)
 
 
+def kinds(marks: tuple[str, ...]) -> dict[str, str]:
+    """Returns the expression of each kind, none of which has a group."""
+    joined = [re.escape(it) for it in sorted(marks, key=len, reverse=True)]
+    return {**KINDS, MARK: "|".join([*joined, "."])}
+
+
+@functools.lru_cache(maxsize=None)
+def pattern_of_kinds(marks: tuple[str, ...]) -> re.Pattern[str]:
+    """Returns the expression of a token, with a group for each kind."""
+    return re.compile("|".join(f"(?P<{kind}>{it})" for kind, it in kinds(marks).items()), re.S)
+
+
 @functools.lru_cache(maxsize=None)
 def pattern(marks: tuple[str, ...]) -> re.Pattern[str]:
-    """Returns the expression of a token, with a group for each kind."""
-    joined = [re.escape(it) for it in sorted(marks, key=len, reverse=True)]
-    kinds = {**KINDS, MARK: "|".join([*joined, "."])}
-    return re.compile("|".join(f"(?P<{kind}>{it})" for kind, it in kinds.items()), re.S)
+    """Returns the expression of a token without groups, which is faster."""
+    return re.compile("|".join(kinds(marks).values()), re.S)
 
 
 def tokens_of(text: str, marks: tuple[str, ...] = ()) -> list[Token]:
     """Returns all tokens of a text."""
-    return [Token(it.group(), str(it.lastgroup), it.start()) for it in pattern(marks).finditer(text)]
+    return [Token(it.group(), str(it.lastgroup), it.start()) for it in pattern_of_kinds(marks).finditer(text)]
 
 
 def solid_tokens(text: str, marks: tuple[str, ...] = ()) -> list[Token]:
@@ -63,12 +73,12 @@ def solid_tokens(text: str, marks: tuple[str, ...] = ()) -> list[Token]:
 
 def words_of(text: str, marks: tuple[str, ...] = ()) -> list[str]:
     """Returns the texts of all tokens."""
-    return [it.group() for it in pattern(marks).finditer(text)]
+    return pattern(marks).findall(text)
 
 
 def solid_words(text: str, marks: tuple[str, ...] = ()) -> list[str]:
     """Returns the texts of the tokens but spaces and comments."""
-    return [it.text for it in solid_tokens(text, marks)]
+    return [it for it in words_of(text, marks) if not is_blank(it)]
 
 
 def is_comment(token: str) -> bool:
