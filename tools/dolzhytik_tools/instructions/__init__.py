@@ -1,0 +1,1 @@
+"""tools/instructions: writes the code, definitions and test rows that follow from the table of instructions."""

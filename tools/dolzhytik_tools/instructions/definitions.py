@@ -1,0 +1,78 @@
+"""The parts of specs/ that follow from the table: numbers, rows and a value of each case."""
+from __future__ import annotations
+
+from .layouts import ARGUMENTS, NUMBER
+from .table import INSTRUCTION, NESTED, Case, Enum
+
+
+def variants_used(enum: Enum, cases: list[Case]) -> str:
+    names = [it.name for it in cases] + [it.name for it in NESTED if enum == INSTRUCTION]
+    return f"use Rattle.wasm_insn.specs.declared.{enum.module}.{enum.name}.TheVariants.{{{', '.join(names)}}}\n"
+
+
+def bare_definition(enum: Enum, cases: list[Case]) -> str:
+    """Returns the definition of the numbers of an enum without fields."""
+    number = f"{enum.module}_number"
+    says = "the op of a case" if enum.prefix is None else "the number of a case after the prefix"
+    return f"""-- The numbers of the instructions of `{enum.name}`.
+use Rattle.std.specs.Prelude.{{ℕ}}
+use Rattle.wasm_insn.specs.declared.{enum.module}.{enum.name}.{{{enum.name}}}
+{variants_used(enum, cases)}
+-- {says}
+abbrev pub {number} : {enum.name} → ℕ
+""" + "".join(f"{number} {it.name} = {it.digits}\n" for it in cases)
+
+
+def arguments_of(case: Case) -> tuple[str, ...]:
+    """Returns the arguments of the row of a case."""
+    if case.given.arguments:
+        return tuple(it.format(*case.letters) for it in case.given.arguments)
+    return tuple(part.argument.format(letter) for part, letter in zip(case.given.parts, case.letters))
+
+
+def rows(name: str, cases: list[Case]) -> str:
+    """Returns the equation of the row of each case."""
+    text = ""
+    for it in cases:
+        of = f"({it.name} {' '.join(it.letters)})" if it.letters else it.name
+        op = f"Byte {it.digits}" if it.prefix is None else f"Prefixed 0x{it.prefix:02X} {it.digits}"
+        text += f"{name} {of} = record {{ op = {op}; arguments = {' ∷ '.join([*arguments_of(it), '[]'])} }}\n"
+    return text
+
+
+def nested_rows(enum: Enum) -> str:
+    """Returns the equation of the row of an enum within `Instruction`."""
+    if not enum.is_bare:
+        return f"row_of ({enum.name} i) = {enum.module}_row i\n"
+    op = "Byte" if enum.prefix is None else f"Prefixed 0x{enum.prefix:02X}"
+    return f"row_of ({enum.name} i) = record {{ op = {op} ({enum.module}_number i); arguments = [] }}\n"
+
+
+def row_definition(enum: Enum, cases: list[Case]) -> str:
+    """Returns the definition of the rows of an enum with fields."""
+    words = {word for case in cases for word in case.given.words}
+    return f"""-- The rows of the instructions of `{enum.name}`.
+use Rattle.std.specs.Prelude.{{[], ◌∷◌}}
+use Rattle.wasm_insn.specs.declared.{enum.module}.{enum.name}.{{{enum.name}}}
+{variants_used(enum, cases)}use Rattle.wasm_insn.specs.declared.op.Op.TheVariants.{{Prefixed}}
+use Rattle.wasm_insn.specs.Arguments.{{{', '.join(it for it in ARGUMENTS if it in words)}}}
+use Rattle.wasm_insn.specs.Plain.{{Plain}}
+
+-- the op and the arguments of a case
+abbrev pub {enum.module}_row : {enum.name} → Plain
+""" + rows(f"{enum.module}_row", cases)
+
+
+def all_cases(cases: list[Case]) -> str:
+    """Returns a value of each case, in the order of the table. The second index of a case differs from
+    its first one."""
+    text = ""
+    for it in cases:
+        fields = " ".join("given.second_index" if part == NUMBER and NUMBER in it.given.parts[:i] else f"given.{part.given}" for i, part in enumerate(it.given.parts))
+        value = f"{it.name} {fields}".strip()
+        if it.enum == INSTRUCTION:
+            text += f"    cases.{value} ∷\n"
+        else:
+            of = f"{it.enum.module}.{value}"
+            text += f"    cases.{it.enum.name} {f'({of})' if fields else of} ∷\n"
+    return text

@@ -1,0 +1,102 @@
+"""Writes or compares the generated files below rust/."""
+from __future__ import annotations
+
+import functools
+import pathlib
+import sys
+from collections.abc import Iterator, Sequence
+
+from .. import widths
+from ..errors import Stop
+from ..repository import TOP, text_of
+from .asks import asks
+from .context import sources
+from .tables import LIBRARIES
+from .written import written
+
+ASKS_HEAD = '| call | asks |\n|---|---|\n'
+
+
+def generated(top: pathlib.Path = TOP) -> dict[str, str]:
+    """Returns the text of each generated file, by its path below rust/."""
+    files, rows = {}, []
+    for it in sources(top):
+        file = written(it)
+        files[it.crate.target(it.relative)] = file.text
+        if it.crate.name in LIBRARIES:
+            rows += asks(it.crate, file.source)
+    files['src/asks.md'] = ASKS_HEAD + ''.join(rows)
+    check_widths(files)
+    return files
+
+
+@functools.lru_cache(maxsize=None)
+def table_of_widths() -> widths.Table:
+    """Returns the table of arithmetic and casts."""
+    return widths.table(TOP / 'tools/widths.tsv')
+
+
+def check_widths(files: dict[str, str]) -> None:
+    """Stops at arithmetic or a cast of a library that the table lacks, and at a row that no file has."""
+    libraries = {path[4:]: text for path, text in files.items() if path.startswith('src/') and path.endswith('.rs')}
+    found = {widths.Row(path, *row): None for path, text in libraries.items() for row in widths.Expressions(text).rows()}
+    known = table_of_widths()
+    for row in [*found, *known]:
+        if row not in known:
+            raise Stop(f'tools/widths.tsv lacks rust/src/{row.file}, {row.function}: {row.expression}')
+        if row not in found:
+            raise Stop(f'tools/widths.tsv has a row that no file has: {row.file}, {row.function}: {row.expression}')
+
+
+def stale(files: dict[str, str], top: pathlib.Path = TOP) -> Iterator[str]:
+    """Yields the paths below rust/ of files that the tool wrote, and would not write today."""
+    rust = top / 'rust'
+    for path in sorted(rust.rglob('*.rs')):
+        relative = path.relative_to(rust)
+        if 'target' in relative.parts or 'out' in relative.parts or str(relative) in files:
+            continue
+        if text_of(path).startswith('// Written by tools/to-rust'):
+            yield str(relative)
+
+
+def is_same(path: pathlib.Path, text: str) -> bool:
+    """Returns whether a file has this text."""
+    return path.is_file() and text_of(path) == text
+
+
+def write(top: pathlib.Path = TOP) -> None:
+    """Writes the files that differ, and removes those that are left over."""
+    files = generated(top)
+    for path in stale(files, top):
+        (top / 'rust' / path).unlink()
+    for path, text in files.items():
+        target = top / 'rust' / path
+        target.parent.mkdir(parents=True, exist_ok=True)
+        if not is_same(target, text):
+            target.write_text(text, encoding='utf-8')
+    print(f'to-rust: {len(files)} files')
+
+
+def check(top: pathlib.Path = TOP) -> int:
+    """Reports the files that differ, and returns the exit status."""
+    files = generated(top)
+    wrong = list(stale(files, top))
+    wrong += [path for path, text in files.items() if not is_same(top / 'rust' / path, text)]
+    for path in wrong:
+        print(f'to-rust: rust/{path} is not what is written')
+    return 1 if wrong else 0
+
+
+def main(words: Sequence[str], usage: str) -> int:
+    """Runs the command. `usage` is the head of its script."""
+    if words not in ([], ['--check']):
+        print(usage.split('\n\n')[1], file=sys.stderr)
+        return 2
+    try:
+        if words:
+            return check()
+        write()
+    except Stop as stop:
+        print(f'to-rust: {stop}', file=sys.stderr)
+        return 2
+    return 0

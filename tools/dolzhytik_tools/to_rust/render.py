@@ -1,0 +1,101 @@
+"""The text of a changed source: its tokens, edits, and documentation before the items."""
+from __future__ import annotations
+
+from typing import Union
+
+from .source import Notes, Source
+
+
+def documentation(notes: Notes) -> list[str]:
+    """Returns the lines of documentation of clauses."""
+    lines = []
+    for heading in ('Asks', 'Proved', 'Defined'):
+        if heading in notes:
+            code = '\n'.join(notes[heading]).split('\n')
+            lines += ['///', f'/// # {heading}', '///', '/// ```text'] + [f'/// {line}'.rstrip() for line in code] + ['/// ```']
+    return lines
+
+
+class Gap:
+    """Erased tokens."""
+
+
+# A token, or a gap.
+Part = Union[str, type]
+
+
+def rendered(source: Source) -> str:
+    """Returns the text."""
+    spans = {it.first: it for it in source.edits if it.first < it.end}
+    inserted = {it.first: it.text for it in source.edits if it.first == it.end}
+    parts = []
+    place = 0
+    while place < len(source.tokens):
+        if place in source.notes:
+            parts += noted(source.notes[place], parts)
+        if place in inserted:
+            parts.append(inserted[place])
+        if place in spans:
+            parts.append(spans[place].text or Gap)
+            place = spans[place].end
+        else:
+            parts.append(source.tokens[place])
+            place += 1
+    return ''.join(joined(parts))
+
+
+def noted(notes: Notes, parts: list[Part]) -> list[str]:
+    """Returns documentation, which follows what is there already, and the space before the item."""
+    before = [part for part in parts[-4:] if part is not Gap]
+    space = parts[-1] if parts and parts[-1] is not Gap and parts[-1].isspace() else '\n'
+    indent = space[space.rfind('\n'):]
+    lines = documentation(notes)
+    has_docs = any(part.startswith('///') for part in before[-2:])
+    out = []
+    for line in lines if has_docs else lines[1:]:
+        out += [line, indent]
+    return out
+
+
+def joined(parts: list[Part]) -> list[str]:
+    """Returns the parts, without the spaces that erased tokens leave."""
+    out = []
+    at = 0
+    while at < len(parts):
+        end = at
+        while end < len(parts) and (parts[end] is Gap or parts[end].isspace()):
+            end += 1
+        if Gap in parts[at:end]:
+            spaces = [part for part in parts[at:end] if part is not Gap]
+            out.append(space_between(out, spaces, parts[end] if end < len(parts) else ''))
+            at = end
+        else:
+            out.append(parts[at])
+            at += 1
+    return out
+
+
+def space_between(out: list[str], spaces: list[str], following: str) -> str:
+    """Returns the space in place of the spaces around erased tokens."""
+    before = out[-1] if out else ''
+    lines = sum(space.count('\n') for space in spaces)
+    if not lines:
+        return ' ' if any(spaces) and following not in (',', ';', ')', '>') else ''
+    last = spaces[-1] if '\n' in spaces[-1] else spaces[0]
+    indent = last[last.rfind('\n'):]
+    if following == '{':
+        return indent if has_where(out) else ' '
+    if following == ';' or not before:
+        return ''
+    if following == '}':
+        return '' if before == '{' else indent
+    blank = any(space.count('\n') > 1 for space in spaces) and before != '{'
+    return ('\n' if blank else '') + indent
+
+
+def has_where(out: list[str]) -> bool:
+    """Returns whether the signature that ends here has a `where`."""
+    for part in reversed(out):
+        if part in ('where', 'fn', 'impl', 'trait'):
+            return part == 'where'
+    return False

@@ -1,0 +1,28 @@
+"""The changes of a source, in their order."""
+from .attributes import erase_attributes
+from .bounds import erase_drop_bounds, erase_runtime
+from .ghosts import erase_clauses, erase_ghosts, erase_models, turn_proved_constants
+from .modules import need_features, share_modules, skip_layout, turn_border, turn_places
+from .paths import turn_links, turn_paths
+from .sinks import turn_pairs, turn_sinks
+from .uses import turn_uses
+
+STEPS = [
+    erase_ghosts,
+    erase_models,
+    erase_clauses,
+    turn_proved_constants,
+    erase_attributes,
+    erase_drop_bounds,
+    erase_runtime,
+    turn_places,
+    need_features,
+    turn_pairs,
+    turn_sinks,
+    turn_uses,
+    turn_paths,
+    turn_links,
+    share_modules,
+    turn_border,
+    skip_layout,
+]

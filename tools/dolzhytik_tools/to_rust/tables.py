@@ -1,0 +1,133 @@
+"""What the generator of Rust erases and changes, and where each crate goes. Each entry has its reason."""
+from __future__ import annotations
+
+from dataclasses import dataclass
+
+
+@dataclass(frozen=True)
+class Place:
+    """Tokens that are in a file exactly once, and the tokens in their place."""
+
+    path: str
+    old: str
+    new: str
+
+
+@dataclass(frozen=True)
+class Feature:
+    """An item that is in a file exactly once, and the feature that it needs."""
+
+    path: str
+    item: str
+    feature: str
+
+# The libraries, and the module of the package that each becomes. A module within another is declared there. All but `reader` are
+# private in the package.
+LIBRARIES = {
+    'wasm_base': 'base',
+    'wasm_immediates': 'immediates',
+    'wasm_types': 'types',
+    'wasm_insn': 'insn',
+    'wasm_code': 'code',
+    'wasm_sections': 'sections',
+    'wasm_custom': 'custom',
+    'wasm_reader_base': 'reader::base',
+    'wasm_reader_insn': 'reader::insn',
+    'wasm_reader': 'reader',
+    'wasm_tool': 'recipe',
+}
+# The public modules of a library, where that is not `fallible`, and of its laws, where that is not a
+# module of `fallible::laws`.
+PUBLIC = {
+    'wasm_reader_base': 'reader',
+    'wasm_reader_insn': 'reader',
+    'wasm_reader': 'reader',
+    'wasm_tool': 'fallible::recipe',
+}
+PUBLIC_LAWS = {'wasm_reader': 'reader::laws', 'wasm_reader_insn': 'reader::laws::insn'}
+# Hand-written pages below rust/src: each is before the documentation of a library's module.
+PAGES = {'wasm_reader': 'reader.md'}
+# The libraries whose private items the root of the package uses, such as the first bytes of segments.
+BELOW_ROOT = {'wasm_types', 'wasm_code', 'wasm_sections'}
+# Crates of tests, under tests/: each becomes a test program of its own, under rust/tests.
+TESTS = [
+    'wasm_insn_tests',
+    'wasm_types_tests',
+    'wasm_sections_tests',
+    'wasm_custom_tests',
+    'wasm_reader_tests',
+    'wasm_reader_sections_tests',
+    'wasm_tool_tests',
+]
+# Crates whose functions C calls, and the package of each. Its border is written by hand, and its
+# functions are in a module `calls`.
+BORDERS = {'wasm_c': 'c', 'wasm_bench': 'bench'}
+# The crates that tests share, and the worked callers.
+BESIDE_TESTS = ['test_support', 'examples', 'callers', 'read_back']
+# Sources whose Rust is written by hand: an allocator of Rattle has more methods than one of the
+# package.
+BY_HAND = {'test_support/lib.rt', 'test_support/memory.rt', 'test_support/tests.rt'}
+# Attributes that stay, and those of the prover and the formatter.
+KEPT_ATTRIBUTES = {'test', 'cfg', 'inline', 'cold', 'repr'}
+ERASED_ATTRIBUTES = {'tactic', 'rattlefmt', 'cycle'}
+# Derived traits of Rattle: every value can be dropped in Rust, and `errors` implements errors.
+ERASED_DERIVES = {'Drop', 'Error'}
+KEPT_DERIVES = {'Clone', 'Copy', 'PartialEq', 'Eq', 'Hash', 'Debug'}
+# Paths of std: of Rust's std, of its core, of the package, of the host of tests, and erased ones.
+KEPT_STD = {
+    'std::io::Error',
+    'std::io::ErrorKind',
+    'std::io::Result',
+    'std::io::Read',
+    'std::io::Write',
+}
+CORE_STD = {
+    'std::cell::Cell',
+    'std::default::Default',
+    'std::marker::PhantomData',
+    'std::slice',
+}
+TURNED_STD = {
+    'std::alloc::AllocError': 'alloc::AllocError',
+    'std::alloc::AllocFailed': 'alloc::AllocFailed',
+    'std::alloc::Allocator': 'alloc::Allocator',
+    'std::alloc::Global': 'alloc::Global',
+    'hex::FromHexError': 'hex::FromHexError',
+}
+HOST_STD = {'std::process::Abort': 'crate::host::Abort'}
+ERASED_STD = {'std::marker::Model', 'thiserror::Error'}
+# Single replacements, mostly of calls that fail in Rattle's std and cannot in Rust's.
+PLACES = [
+    # These can be called in a constant.
+    Place('wasm_immediates/src/floats.rt', 'fn new(bits: u32)', 'const fn new(bits: u32)'),
+    Place('wasm_immediates/src/floats.rt', 'fn bits(self) -> u32', 'const fn bits(self) -> u32'),
+    Place('wasm_immediates/src/floats.rt', 'fn new(bits: u64)', 'const fn new(bits: u64)'),
+    Place('wasm_immediates/src/floats.rt', 'fn bits(self) -> u64', 'const fn bits(self) -> u64'),
+    Place('wasm_sections/src/memory.rt', 'fn page_size_log2(&self)', 'const fn page_size_log2(&self)'),
+    Place('wasm_sections/src/memory.rt', 'fn page_size(&self)', 'const fn page_size(&self)'),
+    # A clone of an allocator cannot fail.
+    Place('wasm_base/src/modules.rt', 'self.bytes.allocator().clone()?', 'self.bytes.allocator().clone()'),
+    # A vector with `Clone` is std's.
+    Place('callers/src/segments.rt', "segment: &DataSegment<'a, Vec<u8>>", "segment: &DataSegment<'a, std::vec::Vec<u8>>"),
+    Place('callers/src/segments.rt', "-> R<DataSegment<'a, Vec<u8>>>", "-> R<DataSegment<'a, std::vec::Vec<u8>>>"),
+    # The caller's bytes have their own `Clone`.
+    Place('wasm_sections/src/data.rt', 'self.bytes.clone()?', 'self.bytes.clone()'),
+    # The proof saves the bounds check of bytes that are copied 16 at a time. Rust copies a run of any
+    # length as a whole.
+    Place('wasm_base/src/once.rt', 'append_blocks(sink, &mut items, len);', ''),
+    # A type argument of a trait has a size.
+    Place('wasm_sections_tests/src/section_refusals.rtt', 'trait SectionCalls: ItemKind {', 'trait SectionCalls: ItemKind + Sized {'),
+    Place('wasm_custom_tests/src/refusals.rtt', 'trait SectionCalls: CustomKind {', 'trait SectionCalls: CustomKind + Sized {'),
+    Place('wasm_custom_tests/src/refusals.rtt', 'trait ListCalls: ListKind {', 'trait ListCalls: ListKind + Sized {'),
+]
+# Items that need a feature of the package.
+FEATURES = [
+    # The program uses std::io, and its listing returns the program's errors.
+    Feature('wasm_tool/src/lib.rt', 'mod program;', 'programs'),
+    Feature('wasm_tool/src/lib.rt', 'pub use program::run;', 'programs'),
+    Feature('wasm_tool/src/lib.rt', 'mod listing;', 'programs'),
+]
+# The first words of items, besides modules.
+ITEMS = {'const', 'enum', 'fn', 'impl', 'macro_rules', 'static', 'struct', 'trait', 'type', 'use'}
+# Words that must not be left in Rust.
+PROVERS_WORDS = {'ghost', 'requires', 'ensures', 'invariant', 'decreases', 'measure', 'tactic', 'prove', 'Model', 'HostRuntime', 'ghost_name', 'unsafe', 'extern'}
